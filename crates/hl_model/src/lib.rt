@@ -1,0 +1,21 @@
+//! The words of the epoch framework and the page allocator: sizes, steps, replies and faults. Beside them,
+//! in `specs/`, what each reply and each quantity is for any list of steps, and in `laws` what holds of every
+//! such list.
+//!
+//! After FASTER (Chandramouli, Prasaad, Kossmann, Levandoski, Hunter, Barnett, SIGMOD 2018): the current and
+//! the safe epoch, actions stored by a bump, and the offsets of the HybridLog.
+#![tactic(auto)]
+
+mod action;
+mod address;
+mod fault;
+mod params;
+mod step;
+mod view;
+
+pub use action::{Kind, Tag, Tagged, Waiting};
+pub use address::{cell_of, page_of};
+pub use fault::Fault;
+pub use params::Params;
+pub use step::{Reply, Step};
+pub use view::{Six, View};

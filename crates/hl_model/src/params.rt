@@ -1,0 +1,76 @@
+ghost use Rattle.std.specs.Prelude.{◌≡◌, ◌↔◌, IsSome, IfSome};
+ghost use Rattle.hl_model.specs.Sizes.{Sizes, AreInRange};
+
+use std::marker::Model;
+
+/// The sizes of an allocator, fixed when it opens. Each value is in range: that is in its type.
+#[derive(Clone, Copy, Debug, PartialEq, Eq)]
+pub struct Params {
+    p: u64,
+    f: u64,
+    s: u64,
+    d: u64,
+}
+
+impl Model for Params {
+    ghost use Rattle.hl_model.specs.Sizes.{Sizes, AreInRange};
+
+    ghost Value = { Sizes };
+
+    ghost view = { λ a. record { page = a.p; frames = a.f; slots = a.s; drain = a.d } };
+
+    ghost invariant = { λ a. AreInRange (record { page = a.p; frames = a.f; slots = a.s; drain = a.d }) };
+
+    ghost inverse = { λ s. record { p = s.page; f = s.frames; s = s.slots; d = s.drain } };
+}
+
+impl Params {
+    /// The sizes, where each is in range: p words a page, a power of two from 4 to 4,096; f frames, 2 to 256;
+    /// s thread slots, 1 to 64; d places in the drain list, 1 to 64. None otherwise.
+    pub fn checked(p: u64, f: u64, s: u64, d: u64) -> Option<Params>
+        ensures in_range { IsSome result ↔ AreInRange (record { page = p; frames = f; slots = s; drain = d }) }
+        ensures value { IfSome result (λ sizes. sizes ≡ record { page = p; frames = f; slots = s; drain = d }) }
+    {
+        let page = 4 <= p && p <= 4096 && p.is_power_of_two();
+        let frames = 2 <= f && f <= 256;
+        let slots = 1 <= s && s <= 64;
+        let drain = 1 <= d && d <= 64;
+        if page && frames && slots && drain {
+            Some(Params { p, f, s, d })
+        } else {
+            None
+        }
+    }
+
+    /// The words of a page, P: a power of two from 4 to 4,096.
+    pub fn page(self) -> u64
+        ensures value { result ≡ self.page }
+        ensures in_range { AreInRange self }
+    {
+        self.p
+    }
+
+    /// The number of frames, F: 2 to 256.
+    pub fn frames(self) -> u64
+        ensures value { result ≡ self.frames }
+        ensures in_range { AreInRange self }
+    {
+        self.f
+    }
+
+    /// The number of thread slots, S: 1 to 64.
+    pub fn slots(self) -> u64
+        ensures value { result ≡ self.slots }
+        ensures in_range { AreInRange self }
+    {
+        self.s
+    }
+
+    /// The places of the drain list, D: 1 to 64.
+    pub fn drain(self) -> u64
+        ensures value { result ≡ self.drain }
+        ensures in_range { AreInRange self }
+    {
+        self.d
+    }
+}
