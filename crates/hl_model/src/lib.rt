@@ -12,6 +12,7 @@ mod fault;
 mod params;
 mod step;
 mod view;
+pub mod worked;
 
 pub use action::{Kind, Tag, Tagged, Waiting};
 pub use address::{cell_of, page_of};

@@ -1,0 +1,72 @@
+-- The drain list, looked up in one flat list of steps (FASTER's actions, stored by a bump of the epoch).
+use Rattle.std.specs.Prelude.{ℕ, ◌+◌, ◌-◌, ◌==◌, nat_le, Bool, true, false, ◌&&◌, not, Option, Some, None, List, [], ◌∷◌, take, drop, filter, find, count_by}
+use Rattle.std.specs.List.{list_any}
+use Rattle.hl_model.specs.declared.action.Kind.{Kind}
+use Rattle.hl_model.specs.declared.action.Kind.TheVariants.{User}
+use Rattle.hl_model.specs.declared.action.Waiting.{Waiting}
+use Rattle.hl_model.specs.declared.step.Step.{Step}
+use Rattle.hl_model.specs.declared.step.Step.TheVariants.{Bump, Take, Done}
+use Rattle.hl_model.specs.Lists.{gather}
+use Rattle.hl_model.specs.Epochs.{is_bump, current_epoch}
+
+-- a step that takes an action
+abbrev pub is_take : Step → Bool
+is_take Take = true
+is_take _ = false
+
+-- a step that says that some action is done
+abbrev pub is_done : Step → Bool
+is_done (Done ticket) = true
+is_done _ = false
+
+-- a step that says that the action of this ticket is done
+abbrev pub finishes : ℕ → Step → Bool
+finishes c (Done ticket) = ticket == c
+finishes c _ = false
+
+-- how many bumps, takes and dones
+unfoldable pub bumps : List Step → ℕ
+bumps A = count_by is_bump A
+
+unfoldable pub takes : List Step → ℕ
+takes A = count_by is_take A
+
+unfoldable pub dones : List Step → ℕ
+dones A = count_by is_done A
+
+-- the action that a step stores: a bump's ticket is the current epoch before it, so the j-th bump has ticket j
+abbrev pub action_of : List Step → Step → List Waiting
+action_of before (Bump tag) = record { ticket = current_epoch before; kind = User tag } ∷ []
+action_of before _ = []
+
+-- all actions ever stored, oldest first
+unfoldable pub actions : List Step → List Waiting
+actions A = gather action_of A
+
+-- the action of ticket c is done
+unfoldable pub is_finished : ℕ → List Step → Bool
+is_finished c A = list_any (finishes c) A
+
+-- the pending actions: all but the first m, where m is the number of takes
+unfoldable pub pending : List Step → List Waiting
+pending A = drop (takes A) (actions A)
+
+-- the ticket that the next take names
+abbrev pub front : List Step → ℕ
+front A = takes A + 1
+
+-- the actions taken and not done: those of the first m whose ticket no done names
+unfoldable pub taken : List Step → List Waiting
+taken A = filter (λ w. not (is_finished w.ticket A)) (take (takes A) (actions A))
+
+-- ticket c is that of an action taken and not done
+unfoldable pub is_taken : ℕ → List Step → Bool
+is_taken c A = nat_le 1 c && nat_le c (takes A) && not (is_finished c A)
+
+-- a list of d places is full: bumps less dones are d
+unfoldable pub is_full : ℕ → List Step → Bool
+is_full d A = nat_le d (bumps A - dones A)
+
+-- the action of ticket c
+unfoldable pub action_at : ℕ → List Step → Option Waiting
+action_at c A = find (λ w. w.ticket == c) (actions A)

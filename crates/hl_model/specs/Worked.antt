@@ -1,0 +1,56 @@
+-- Worked examples: lists of steps, and what the definitions make of them, written by hand.
+use Rattle.std.specs.Prelude.{ℕ, ◌≡◌, Result, Ok, Err, List, [], ◌∷◌, length}
+use Rattle.hl_model.specs.declared.action.Kind.TheVariants.{User}
+use Rattle.hl_model.specs.declared.action.Waiting.{Waiting}
+use Rattle.hl_model.specs.declared.fault.Fault.{Fault}
+use Rattle.hl_model.specs.declared.fault.Fault.TheVariants.{NotProtected, DrainFull, Empty, NotReady}
+use Rattle.hl_model.specs.declared.step.Reply.{Reply}
+use Rattle.hl_model.specs.declared.step.Reply.TheVariants.{Entered, Left, Ticket, Taken, Ran}
+use Rattle.hl_model.specs.declared.step.Step.{Step}
+use Rattle.hl_model.specs.declared.step.Step.TheVariants.{Acquire, Refresh, Release, Bump, Take, Done}
+use Rattle.hl_model.specs.declared.view.View.{View}
+use Rattle.hl_model.specs.Sizes.{Sizes}
+use Rattle.hl_model.specs.Epochs.{current_epoch, safe_epoch}
+use Rattle.hl_model.specs.Actions.{pending, taken}
+use Rattle.hl_model.specs.Replies.{good, replies}
+
+-- pages of 4 words, 2 frames, 2 slots, 2 places in the drain list
+abbrev pub small : Sizes
+small = record { page = 4; frames = 2; slots = 2; drain = 2 }
+
+-- the view of a log where nothing was allocated
+abbrev pub at_start : View
+at_start = record { read_only = 0; head = 0; tail = 0 }
+
+-- the job of this tag, stored under this ticket
+abbrev pub job : ℕ → ℕ → Waiting
+job c tag = record { ticket = c; kind = User tag }
+
+-- what a list gives: its replies, and the current epoch, the safe one and both parts of the drain list after it
+pub record Gives (sizes : Sizes) (L : List Step) (told : List (Result Reply Fault)) (epoch safe : ℕ) (waiting running : List Waiting) : Type 0 where
+  pub told_is : replies sizes L ≡ told
+  pub epoch_is : current_epoch (good sizes L) ≡ epoch
+  pub safe_is : safe_epoch sizes.slots (good sizes L) ≡ safe
+  pub waiting_is : pending (good sizes L) ≡ waiting
+  pub running_is : taken (good sizes L) ≡ running
+
+-- an action waits until the one thread that was protected at its bump refreshed
+abbrev pub FirstAction : Type 0
+FirstAction = Gives small
+    (Acquire 0 ∷ Bump 7 ∷ Take ∷ Refresh 0 ∷ Take ∷ Done 1 ∷ Take ∷ [])
+    (Ok (Entered 1 at_start) ∷ Ok (Ticket 1) ∷ Err (NotReady 1 0) ∷ Ok (Entered 2 at_start) ∷ Ok (Taken 1) ∷ Ok (Ran 7) ∷ Err Empty ∷ [])
+    2 1 [] []
+
+-- with nobody protected an action may be taken at once
+abbrev pub NobodyProtected : Type 0
+NobodyProtected = Gives small
+    (Bump 3 ∷ Take ∷ Done 1 ∷ Release 0 ∷ [])
+    (Ok (Ticket 1) ∷ Ok (Taken 1) ∷ Ok (Ran 3) ∷ Err NotProtected ∷ [])
+    2 1 [] []
+
+-- a full drain list refuses a bump, and the epoch stays; a place is free once an action is done
+abbrev pub FullDrainList : Type 0
+FullDrainList = Gives small
+    (Acquire 0 ∷ Bump 1 ∷ Bump 2 ∷ Bump 3 ∷ Refresh 0 ∷ Take ∷ Bump 3 ∷ Done 1 ∷ Bump 3 ∷ Take ∷ Done 2 ∷ [])
+    (Ok (Entered 1 at_start) ∷ Ok (Ticket 1) ∷ Ok (Ticket 2) ∷ Err DrainFull ∷ Ok (Entered 3 at_start) ∷ Ok (Taken 1) ∷ Err DrainFull ∷ Ok (Ran 1) ∷ Ok (Ticket 3) ∷ Ok (Taken 2) ∷ Ok (Ran 2) ∷ [])
+    4 2 (job 3 3 ∷ []) []
