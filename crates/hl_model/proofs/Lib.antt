@@ -1,0 +1,3 @@
+pub mod EpochLaws
+pub mod ListLaws
+pub mod RowLaws
