@@ -1,3 +1,5 @@
+pub mod AcceptedLaws
+pub mod ActionLaws
 pub mod EpochLaws
 pub mod ListLaws
 pub mod RowLaws
