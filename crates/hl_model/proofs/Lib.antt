@@ -3,3 +3,4 @@ pub mod ActionLaws
 pub mod EpochLaws
 pub mod ListLaws
 pub mod RowLaws
+pub mod TicketLaws
