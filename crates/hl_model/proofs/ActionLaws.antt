@@ -112,7 +112,7 @@ filter_twice : {X : Type 0} (p q : X → Bool) (xs : List X) → filter (λ x. q
 filter_twice p q [] = refl
 filter_twice p q (x ∷ xs) = keeps_once p q x (filter (λ y. q y && p y) xs) (filter p xs) (filter_twice p q xs) (p x) (q x) refl refl
 
-or_false : (b : Bool) → (b || false) ≡ b
+pub or_false : (b : Bool) → (b || false) ≡ b
 or_false true = refl
 or_false false = refl
 
@@ -122,8 +122,8 @@ not_or true false = refl
 not_or false true = refl
 not_or false false = refl
 
--- the takes before a step that is no take
-takes-stay : (A : List Step) (s : Step) → is_take s ≡ false → takes (A ++ s ∷ []) ≡ takes A
+-- a step that is no take leaves the number of takes
+pub takes-stay : (A : List Step) (s : Step) → is_take s ≡ false → takes (A ++ s ∷ []) ≡ takes A
 takes-stay A s no_take = takes-push A s ∙ ap (λ b. takes A + cond b 1 0) no_take ∙ add-zero (takes A)
 
 -- the same ticket is done as before a step that finishes none

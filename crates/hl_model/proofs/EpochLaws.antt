@@ -117,7 +117,7 @@ pub current_epoch-first : (A : List Step) → 1 ≤ current_epoch A
 unfolding current_epoch
 current_epoch-first A = omega arith
 
-slot_epoch-nil : (t : ℕ) → slot_epoch t [] ≡ None
+pub slot_epoch-nil : (t : ℕ) → slot_epoch t [] ≡ None
 unfolding slot_epoch is_protected mark until_last
 slot_epoch-nil t = refl
 

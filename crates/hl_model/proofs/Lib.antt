@@ -1,5 +1,6 @@
 pub mod AcceptedLaws
 pub mod ActionLaws
+pub mod DrainLaws
 pub mod EpochLaws
 pub mod ListLaws
 pub mod RowLaws

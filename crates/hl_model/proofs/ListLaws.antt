@@ -14,6 +14,15 @@ pub count_by-push : {X : Type 0} (p : X → Bool) (xs : List X) (y : X) → coun
 count_by-push p xs y =
     sum_by-append (λ x. cond (p x) 1 0) xs (y ∷ []) ∙ ap (λ n. count_by p xs + n) (zero-add (cond (p y) 1 0))
 
+-- one counts where it passes
+pub one_where : (b : Bool) → b ≡ true → cond {A = ℕ} b 1 0 ≡ 1
+one_where true h = refl
+one_where false h = cc
+
+pub none_where : (b : Bool) → b ≡ false → cond {A = ℕ} b 1 0 ≡ 0
+none_where true h = cc
+none_where false h = refl
+
 place_core : (any y x : Bool) (n m : ℕ) → cond (any || y) (cond y (n + 1) m + 1) (cond x 1 0) ≡ cond y (suc n + 1) (cond any (m + 1) (cond x 1 0))
 place_core true true x n m = omega arith
 place_core true false x n m = refl
