@@ -45,8 +45,8 @@ extended-length sizes A s =
 pub good-length : (sizes : Sizes) (L : List Step) → length (good sizes L) ≤ length L
 good-length sizes = by_pushing (λ L. length (good sizes L) ≤ length L) none
     (λ L s h. let one : length (good sizes (L ++ s ∷ [])) ≤ length (good sizes L) + 1
-                  = subst (λ (X : List Step). length X ≤ length (good sizes L) + 1) (sym (good-push sizes L s)) (extended-length sizes (good sizes L) s) in
-              omega (arith, length_push L s))
+    = subst (λ (X : List Step). length X ≤ length (good sizes L) + 1) (sym (good-push sizes L s)) (extended-length sizes (good sizes L) s) in
+    omega (arith, length_push L s))
   where
     none : length (good sizes []) ≤ 0
     none = omega (arith, ap length (good-nil sizes))
@@ -61,6 +61,7 @@ IsAccepted-parts sizes A s a = by_fault (fault_of sizes (good sizes A) s) refl
   where
     whole : extended sizes (good sizes A) s ≡ A ++ s ∷ []
     whole = sym (good-push sizes A s) ∙ a
+
     by_fault : (o : Option Fault) → fault_of sizes (good sizes A) s ≡ o → IsAccepted sizes A × (fault_of sizes A s ≡ None)
     by_fault None h =
         let same : good sizes A ≡ A = append_cancel_right (good sizes A) A (s ∷ []) (sym (extended-none sizes (good sizes A) s h) ∙ whole) in
@@ -81,6 +82,7 @@ IsAccepted-good sizes = by_pushing (λ L. IsAccepted sizes (good sizes L)) none 
   where
     none : IsAccepted sizes (good sizes [])
     none = ap (good sizes) (good-nil sizes)
+
     step : (L : List Step) (s : Step) → IsAccepted sizes (good sizes L) → IsAccepted sizes (good sizes (L ++ s ∷ []))
     step L s a = by_fault (fault_of sizes (good sizes L) s) refl
       where

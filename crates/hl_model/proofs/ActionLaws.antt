@@ -78,12 +78,14 @@ tickets-actions = by_pushing (λ A. map (λ w. w.ticket) (actions A) ≡ range_w
   where
     none : map (λ w. w.ticket) (actions []) ≡ range_with_len 1 (bumps [])
     none = ap (map (λ w. w.ticket)) actions-nil ∙ sym (ap (range_with_len 1) bumps-nil)
+
     more : (A : List Step) (b : Bool) → range_with_len 1 (bumps A) ++ cond b (current_epoch A ∷ []) [] ≡ range_with_len 1 (bumps A + cond b 1 0)
     more A true =
         let one_more : bumps A + 1 ≡ suc (bumps A) = omega arith in
         let next : current_epoch A ≡ 1 + bumps A = omega (arith, current_epoch-bumps A) in
         ap (λ x. range_with_len 1 (bumps A) ++ x ∷ []) next ∙ sym (ap (range_with_len 1) one_more ∙ range-push 1 (bumps A))
     more A false = append-nil (range_with_len 1 (bumps A)) ∙ sym (ap (range_with_len 1) (add-zero (bumps A)))
+
     step : (A : List Step) (s : Step) → map (λ w. w.ticket) (actions A) ≡ range_with_len 1 (bumps A) → map (λ w. w.ticket) (actions (A ++ s ∷ [])) ≡ range_with_len 1 (bumps (A ++ s ∷ []))
     step A s h =
         ap (map (λ w. w.ticket)) (actions-push A s) ∙ map-append (λ w. w.ticket) (actions A) (action_of A s)

@@ -93,6 +93,7 @@ takes-le-bumps sizes = accepted_has sizes (λ A. takes A ≤ bumps A) none step
   where
     none : takes [] ≤ bumps []
     none = omega (arith, takes-nil)
+
     step : (A : List Step) (s : Step) → IsAccepted sizes A → fault_of sizes A s ≡ None → takes A ≤ bumps A → takes (A ++ s ∷ []) ≤ bumps (A ++ s ∷ [])
     step A s a h le = by_test (is_take s) refl
       where
@@ -108,6 +109,7 @@ finished-taken sizes c = accepted_has sizes (λ A. is_finished c A ≡ true → 
   where
     none : is_finished c [] ≡ true → (1 ≤ c) × (c ≤ takes [])
     none h = let no : is_finished c [] ≡ false = is_finished-nil c in cc
+
     step : (A : List Step) (s : Step) → IsAccepted sizes A → fault_of sizes A s ≡ None → (is_finished c A ≡ true → (1 ≤ c) × (c ≤ takes A)) → is_finished c (A ++ s ∷ []) ≡ true → (1 ≤ c) × (c ≤ takes (A ++ s ∷ []))
     step A s a h before now = by_part (or_cases (is_finished c A) (finishes c s) (sym (is_finished-push c A s) ∙ now))
       where
@@ -200,6 +202,7 @@ taken-dones sizes = accepted_has sizes (λ A. length (taken A) + dones A ≡ tak
   where
     none : length (taken []) + dones [] ≡ takes []
     none = omega (arith, ap length taken-nil, dones-nil, takes-nil)
+
     step : (A : List Step) (s : Step) → IsAccepted sizes A → fault_of sizes A s ≡ None → length (taken A) + dones A ≡ takes A → length (taken (A ++ s ∷ [])) + dones (A ++ s ∷ []) ≡ takes (A ++ s ∷ [])
     step A s a h before = by_test (is_take s) (is_done s) refl refl
       where
@@ -233,6 +236,7 @@ bumps-dones sizes = accepted_has sizes (λ A. bumps A - dones A ≤ sizes.drain)
   where
     none : bumps [] - dones [] ≤ sizes.drain
     none = omega (arith, bumps-nil, dones-nil)
+
     step : (A : List Step) (s : Step) → IsAccepted sizes A → fault_of sizes A s ≡ None → bumps A - dones A ≤ sizes.drain → bumps (A ++ s ∷ []) - dones (A ++ s ∷ []) ≤ sizes.drain
     step A s a h before = by_test (is_bump s) refl
       where
@@ -256,6 +260,7 @@ takes-safe sizes = accepted_has sizes (λ A. takes A ≤ safe_epoch sizes.slots 
   where
     none : takes [] ≤ safe_epoch sizes.slots []
     none = omega (arith, takes-nil)
+
     step : (A : List Step) (s : Step) → IsAccepted sizes A → fault_of sizes A s ≡ None → takes A ≤ safe_epoch sizes.slots A → takes (A ++ s ∷ []) ≤ safe_epoch sizes.slots (A ++ s ∷ [])
     step A s a h before = by_test (is_take s) refl
       where

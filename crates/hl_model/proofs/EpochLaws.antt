@@ -131,6 +131,7 @@ slot_epoch-range t = by_pushing (λ A. (e : ℕ) → slot_epoch t A ≡ Some e �
   where
     none : (e : ℕ) → slot_epoch t [] ≡ Some e → (1 ≤ e) × (e ≤ current_epoch [])
     none e h = let nobody : slot_epoch t [] ≡ None = slot_epoch-nil t in cc
+
     step : (A : List Step) (s : Step) → ((e : ℕ) → slot_epoch t A ≡ Some e → (1 ≤ e) × (e ≤ current_epoch A)) → (e : ℕ) → slot_epoch t (A ++ s ∷ []) ≡ Some e → (1 ≤ e) × (e ≤ current_epoch (A ++ s ∷ []))
     step A s h e is = by_cases (enters t s) (leaves t s) (sym (slot_epoch-push t A s) ∙ is)
       where
@@ -148,7 +149,7 @@ pub safe_epoch-current : (n : ℕ) (A : List Step) → safe_epoch n A < current_
 unfolding safe_epoch safe_among slot_epochs
 safe_epoch-current n A =
     let least : least_or (current_epoch A) (epochs_held n A) ≤ current_epoch A
-        = least_or-default (current_epoch A) (epochs_held n A) (each-all (λ x. x ≤ current_epoch A) (λ t. slot_epoch t A) 0 n (λ t e low high is. (slot_epoch-range t A e is).1)) in
+    = least_or-default (current_epoch A) (epochs_held n A) (each-all (λ x. x ≤ current_epoch A) (λ t. slot_epoch t A) 0 n (λ t e low high is. (slot_epoch-range t A e is).1)) in
     omega (arith, current_epoch-first A)
 
 -- the safe epoch is below that of each protected slot
@@ -156,7 +157,7 @@ pub safe_epoch-below : (n : ℕ) (A : List Step) (t e : ℕ) → t < n → slot_
 unfolding safe_epoch safe_among slot_epochs
 safe_epoch-below n A t e h is =
     let least : least_or (current_epoch A) (epochs_held n A) ≤ e
-        = all-each (λ x. least_or (current_epoch A) (epochs_held n A) ≤ x) (λ t. slot_epoch t A) 0 n (least_or-le (current_epoch A) (epochs_held n A)) t e (omega arith) (omega arith) is in
+    = all-each (λ x. least_or (current_epoch A) (epochs_held n A) ≤ x) (λ t. slot_epoch t A) 0 n (least_or-le (current_epoch A) (epochs_held n A)) t e (omega arith) (omega arith) is in
     omega (arith, (slot_epoch-range t A e is).0)
 
 -- what is below the current epoch and those of all protected slots is safe
@@ -164,7 +165,7 @@ pub safe_epoch-greatest : (n : ℕ) (A : List Step) (c : ℕ) → c < current_ep
 unfolding safe_epoch safe_among slot_epochs
 safe_epoch-greatest n A c h each =
     let least : c < least_or (current_epoch A) (epochs_held n A)
-        = least_or-above c (current_epoch A) (epochs_held n A) h (each-all (λ x. c < x) (λ t. slot_epoch t A) 0 n (λ t e low high is. each t e (omega arith) is)) in
+    = least_or-above c (current_epoch A) (epochs_held n A) h (each-all (λ x. c < x) (λ t. slot_epoch t A) 0 n (λ t e low high is. each t e (omega arith) is)) in
     omega arith
 
 -- the safe epoch never falls

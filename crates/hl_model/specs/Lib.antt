@@ -1,6 +1,7 @@
 pub mod Actions
 pub mod Epochs
 pub mod Faults
+pub mod Laws
 pub mod Lists
 pub mod Offsets
 pub mod Replies

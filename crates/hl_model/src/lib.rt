@@ -9,6 +9,7 @@
 mod action;
 mod address;
 mod fault;
+pub mod laws;
 mod params;
 mod step;
 mod view;

@@ -5,17 +5,14 @@ ghost use Rattle.hl_model.specs.Worked.{FirstAction, NobodyProtected, FullDrainL
 /// An action waits until the one thread that was protected at its bump refreshed.
 pub fn first_action()
     ensures { FirstAction }
-{
-}
+{}
 
 /// With nobody protected an action may be taken at once.
 pub fn nobody_protected()
     ensures { NobodyProtected }
-{
-}
+{}
 
 /// A full drain list refuses a bump, and the epoch stays.
 pub fn full_drain_list()
     ensures { FullDrainList }
-{
-}
+{}

@@ -1,0 +1,191 @@
+-- The laws of every list of steps.
+use Rattle.std.proofs.Common.{leb, ap₂, ◌≡◌, ℕ, zero, suc, ◌+◌, ◌-◌, ◌<◌, ◌≤◌, ◌↔◌, Bool, true, false, cond, ◌||◌, is_some, List, [], ◌∷◌, ◌++◌, length, take, drop, refl, sym, ap, ◌∙◌, subst, arith, append_assoc, append-nil, add-zero, inl, inr, ◌⊎◌}
+use Rattle.std.specs.Prelude.{◌==◌, Option, Some, None, Result, Ok, Err}
+use Rattle.std.specs.List.{list_any, count_by, sum_by, range_with_len}
+use Rattle.std.proofs.lemmas.Bool.{both_ways, false_from_ne_true, leb-false, eqb-true, cases_lt, or_parts, true_from_ne_false}
+use Rattle.std.proofs.lemmas.List.{take-append-drop, take-append-le}
+use Rattle.std.proofs.Math.Seq.{take-append-add}
+use Rattle.hl_model.specs.declared.action.Kind.{Kind}
+use Rattle.hl_model.specs.declared.action.Kind.TheVariants.{User, Settle, Close}
+use Rattle.std.proofs.lemmas.List.Sums.{sum_by-append}
+use Rattle.hl_model.specs.declared.fault.Fault.{Fault}
+use Rattle.hl_model.specs.declared.fault.Fault.TheVariants.{NoSlot, Occupied}
+use Rattle.hl_model.specs.declared.step.Reply.{Reply}
+use Rattle.hl_model.specs.declared.step.Reply.TheVariants.{Taken}
+use Rattle.hl_model.specs.declared.step.Step.{Step}
+use Rattle.hl_model.specs.declared.step.Step.TheVariants.{Acquire, Refresh, Release, Bump, Take, Done}
+use Rattle.hl_model.specs.Sizes.{Sizes}
+use Rattle.hl_model.specs.Lists.{until_last, gather, gather_after}
+use Rattle.hl_model.specs.Epochs.{is_bump, enters, leaves, current_epoch, mark, is_protected, up_to_mark, epoch_of, slot_epoch, safe_epoch}
+use Rattle.hl_model.specs.Actions.{is_take, bumps, takes, front, pending, action_at}
+use Rattle.hl_model.specs.Replies.{done_answer, kind_or_none, fault_of, reply_of, unless_fault, answer_of, IsAccepted}
+use Rattle.hl_model.specs.Laws.{EpochsAreInOrder, SafeIsGreatest, MarkAfterBump, ticket_told, tickets_told, TakesCountUp, moves_on, TakenAfterAllMovedOn}
+use Rattle.hl_model.proofs.ListLaws.{list_any-push, until_last-push, gather-push, by_pushing, one_where, none_where}
+use Rattle.hl_model.proofs.AcceptedLaws.{IsAccepted-front, IsAccepted-parts, accepted_has}
+use Rattle.hl_model.proofs.EpochLaws.{current_epoch-push, enters-is_bump, slot_epoch-stays, slot_epoch-range, is_protected-slot_epoch, epoch_of-slot_epoch, safe_epoch-below, safe_epoch-greatest}
+use Rattle.hl_model.proofs.ActionLaws.{range-push, current_epoch-bumps, takes-push, takes-stay}
+use Rattle.hl_model.proofs.DrainLaws.{two_faults, take_fault-none, protected-slot}
+
+-- a protected slot has an epoch
+pub slot_epoch-protected : (t : ℕ) (A : List Step) → is_protected t A ≡ true → slot_epoch t A ≡ Some (epoch_of t A)
+unfolding slot_epoch
+slot_epoch-protected t A h = ap (λ b. cond b (Some (epoch_of t A)) None) h
+
+pub epochs_are_in_order : EpochsAreInOrder
+epochs_are_in_order sizes A t a h =
+    let seated : slot_epoch t A ≡ Some (epoch_of t A) = slot_epoch-protected t A h in
+    (safe_epoch-below sizes.slots A t (epoch_of t A) (protected-slot sizes t A a (epoch_of t A) seated) seated, (slot_epoch-range t A (epoch_of t A) seated).1)
+
+pub safe_is_greatest : SafeIsGreatest
+safe_is_greatest slots A c h each =
+    safe_epoch-greatest slots A c h
+    (λ t e lt is. subst (λ (n : ℕ). c < n) (epoch_of-slot_epoch t A e is) (each t lt (is_protected-slot_epoch t A ∙ ap is_some is)))
+
+-- some element passes: there is a last one
+last_of_some : {X : Type 0} (p : X → Bool) (xs : List X) → list_any p xs ≡ true → 0 < until_last p xs
+unfolding until_last
+last_of_some p [] h = cc
+last_of_some p (x ∷ xs) h = by_test (list_any p xs) (p x) h
+  where
+    by_test : (any b : Bool) → (b || any) ≡ true → 0 < cond any (until_last p xs + 1) (cond b 1 0)
+    by_test true b k = omega arith
+    by_test false true k = omega arith
+    by_test false false k = cc
+
+last_first : {A : Type 0} (p : A → Bool) (s : A) (Y : List A) (any b : Bool) → list_any p Y ≡ any → cond any (until_last p Y + 1) (cond b 1 0) ≡ 1 → b ≡ true
+last_first p s Y true b e k = absurd (omega (arith, k, last_of_some p Y e))
+last_first p s Y false true e k = refl
+last_first p s Y false false e k = absurd (omega (arith, k))
+
+last_later : (any b : Bool) (n k : ℕ) (P : Type 0) → (n ≡ k + 1 → P) → cond any (n + 1) (cond b 1 0) ≡ suc k + 1 → P
+last_later true b n k P later h = later (omega (arith, h))
+last_later false true n k P later h = absurd (omega (arith, h))
+last_later false false n k P later h = absurd (omega (arith, h))
+
+-- the last place holds an element that passes
+last_passes : {A : Type 0} (p : A → Bool) (X : List A) (s : A) (Y : List A) → until_last p (X ++ s ∷ Y) ≡ length X + 1 → p s ≡ true
+unfolding until_last
+last_passes p [] s Y h = last_first p s Y (list_any p Y) (p s) refl h
+last_passes p (x ∷ X) s Y h =
+    last_later (list_any p (X ++ s ∷ Y)) (p x) (until_last p (X ++ s ∷ Y)) (length X) (p s ≡ true) (last_passes p X s Y) h
+
+count_front : {A : Type 0} (p : A → Bool) (k : ℕ) (X : List A) → count_by p (take k X) ≤ count_by p X
+count_front p k X =
+    omega (arith, sum_by-append (λ x. cond (p x) 1 0) (take k X) (drop k X), ap (count_by p) (take-append-drop k X))
+
+-- a front that stops before the bump has no more bumps than what is before it
+epoch_before : (X Y : List Step) (m : ℕ) → m ≤ length X → current_epoch (take m (X ++ Y)) ≤ bumps X + 1
+unfolding current_epoch bumps
+epoch_before X Y m le = omega (arith, count_front is_bump m X, ap (count_by is_bump) (take-append-le m X Y le))
+
+-- a front that goes past the bump has it and all before it
+epoch_past : (X : List Step) (s : Step) (Y : List Step) (k : ℕ) → is_bump s ≡ true → bumps X + 2 ≤ current_epoch (take (length X + suc k) (X ++ s ∷ Y))
+unfolding current_epoch bumps
+epoch_past X s Y k e =
+    omega (
+      arith,
+      ap (count_by is_bump) (take-append-add X (s ∷ Y) (suc k)),
+      sum_by-append (λ x. cond (is_bump x) 1 0) X (s ∷ take k Y),
+      sum_by-append (λ x. cond (is_bump x) 1 0) (s ∷ []) (take k Y),
+      one_where (is_bump s) e,
+    )
+
+bump-enters : (t : ℕ) (s : Step) → is_bump s ≡ true → enters t s ≡ true → ⊥
+bump-enters t s b e = let no : is_bump s ≡ false = enters-is_bump t s e in cc
+
+bump-leaves : (t : ℕ) (s : Step) → is_bump s ≡ true → leaves t s ≡ false
+bump-leaves t (Bump tag) b = refl
+bump-leaves t _ b = cc
+
+pub mark_after_bump : MarkAfterBump
+unfolding epoch_of up_to_mark mark
+mark_after_bump X s Y t b h = by_order (cases_lt (length X) (mark t (X ++ s ∷ Y)))
+  where
+    by_order : ((length X < mark t (X ++ s ∷ Y)) ⊎ (mark t (X ++ s ∷ Y) ≤ length X)) → (bumps X + 1 < current_epoch (take (mark t (X ++ s ∷ Y)) (X ++ s ∷ Y))) ↔ (length X + 1 < mark t (X ++ s ∷ Y))
+    by_order (inl lt) =
+        let apart : (mark t (X ++ s ∷ Y) ≡ length X + 1) → ⊥ = λ e. bump-enters t s b (last_passes (enters t) X s Y e) in
+        let far : length X + suc (mark t (X ++ s ∷ Y) - length X - 1) ≡ mark t (X ++ s ∷ Y) = omega arith in
+        let late : bumps X + 2 ≤ current_epoch (take (mark t (X ++ s ∷ Y)) (X ++ s ∷ Y))
+        = subst (λ (n : ℕ). bumps X + 2 ≤ current_epoch (take n (X ++ s ∷ Y))) far (epoch_past X s Y (mark t (X ++ s ∷ Y) - length X - 1) b) in
+        (λ k. omega (arith, apart), λ k. omega arith)
+    by_order (inr le) =
+        let early : current_epoch (take (mark t (X ++ s ∷ Y)) (X ++ s ∷ Y)) ≤ bumps X + 1 = epoch_before X (s ∷ Y) (mark t (X ++ s ∷ Y)) le in
+        (λ k. absurd (omega arith), λ k. absurd (omega arith))
+
+done_told : (B : List Step) (k : Kind) → ticket_told (Ok (done_answer B k)) ≡ []
+done_told B (User tag) = refl
+done_told B (Settle x) = refl
+done_told B (Close x) = refl
+
+-- an accepted take is told how many there are, and no other step is told a ticket as taken
+told : (sizes : Sizes) (A : List Step) (s : Step) → fault_of sizes A s ≡ None → ticket_told (reply_of sizes A s) ≡ cond (is_take s) (takes (A ++ s ∷ []) ∷ []) []
+told sizes A Take h = ap (λ o. ticket_told (unless_fault o (answer_of (A ++ Take ∷ []) Take))) h
+told sizes A (Done c) h = ap (λ o. ticket_told (unless_fault o (answer_of (A ++ Done c ∷ []) (Done c)))) h ∙ done_told (A ++ Done c ∷ []) (kind_or_none (action_at c (A ++ Done c ∷ [])))
+told sizes A s h = ap (λ o. ticket_told (unless_fault o (answer_of (A ++ s ∷ []) s))) h
+
+takes-nil : takes [] ≡ 0
+unfolding takes
+takes-nil = refl
+
+tickets_told-push : (sizes : Sizes) (A : List Step) (s : Step) → tickets_told sizes (A ++ s ∷ []) ≡ tickets_told sizes A ++ ticket_told (reply_of sizes A s)
+unfolding tickets_told
+tickets_told-push sizes A s = gather-push (λ before x. ticket_told (reply_of sizes before x)) A s
+
+tickets_told-nil : (sizes : Sizes) → tickets_told sizes [] ≡ []
+unfolding tickets_told gather gather_after
+tickets_told-nil sizes = refl
+
+-- one more number where the step takes
+counted_up : (A : List Step) (s : Step) (b : Bool) → is_take s ≡ b → range_with_len 1 (takes A) ++ cond b (takes (A ++ s ∷ []) ∷ []) [] ≡ range_with_len 1 (takes (A ++ s ∷ []))
+counted_up A s true e =
+    let more : takes (A ++ s ∷ []) ≡ suc (takes A) = omega (arith, takes-push A s, one_where (is_take s) e) in
+    let next : suc (takes A) ≡ 1 + takes A = omega arith in
+    rw more (ap (λ n. range_with_len 1 (takes A) ++ n ∷ []) next ∙ sym (range-push 1 (takes A)))
+counted_up A s false e = append-nil (range_with_len 1 (takes A)) ∙ sym (ap (range_with_len 1) (takes-stay A s e))
+
+pub takes_count_up : TakesCountUp
+takes_count_up sizes = accepted_has sizes (λ A. tickets_told sizes A ≡ range_with_len 1 (takes A))
+    (tickets_told-nil sizes ∙ sym (ap (range_with_len 1) takes-nil))
+    (λ A s a h before. tickets_told-push sizes A s ∙ ap₂ (λ xs ys. xs ++ ys) before (told sizes A s h) ∙ counted_up A s (is_take s) refl)
+
+-- a protected slot that doesn't move on at an accepted step stays as it is
+stays_seated : (sizes : Sizes) (W : List Step) (t : ℕ) (s : Step) → moves_on t s ≡ false → fault_of sizes W s ≡ None → is_protected t W ≡ true → (enters t s ≡ false) × (leaves t s ≡ false)
+stays_seated sizes W t (Acquire u) m h p =
+    let free : is_protected u W ≡ false = (two_faults (leb sizes.slots u) (is_protected u W) NoSlot Occupied h).1 in
+    (false_from_ne_true (enters t (Acquire u)) (λ e. both_ways (is_protected t W) (ap (λ x. is_protected x W) (sym (eqb-true u t e)) ∙ free) p), refl)
+stays_seated sizes W t (Refresh u) m h p = (m, refl)
+stays_seated sizes W t (Release u) m h p = (refl, m)
+stays_seated sizes W t _ m h p = (refl, refl)
+
+-- a slot that is protected before a bump and doesn't move on after it keeps its epoch
+keeps_epoch : (sizes : Sizes) (X : List Step) (s : Step) (t e : ℕ) → is_bump s ≡ true → slot_epoch t X ≡ Some e → (Y : List Step) → IsAccepted sizes (X ++ s ∷ Y) → list_any (moves_on t) Y ≡ false → slot_epoch t (X ++ s ∷ Y) ≡ Some e
+keeps_epoch sizes X s t e b seated = by_pushing (λ Y. IsAccepted sizes (X ++ s ∷ Y) → list_any (moves_on t) Y ≡ false → slot_epoch t (X ++ s ∷ Y) ≡ Some e) none step
+  where
+    none : IsAccepted sizes (X ++ s ∷ []) → list_any (moves_on t) [] ≡ false → slot_epoch t (X ++ s ∷ []) ≡ Some e
+    none a m = slot_epoch-stays t X s (false_from_ne_true (enters t s) (bump-enters t s b)) (bump-leaves t s b) ∙ seated
+
+    step : (Y : List Step) (r : Step) → (IsAccepted sizes (X ++ s ∷ Y) → list_any (moves_on t) Y ≡ false → slot_epoch t (X ++ s ∷ Y) ≡ Some e) → IsAccepted sizes (X ++ s ∷ (Y ++ r ∷ [])) → list_any (moves_on t) (Y ++ r ∷ []) ≡ false → slot_epoch t (X ++ s ∷ (Y ++ r ∷ [])) ≡ Some e
+    step Y r before a m =
+        let whole : (X ++ s ∷ Y) ++ r ∷ [] ≡ X ++ s ∷ (Y ++ r ∷ []) = append_assoc X (s ∷ Y) (r ∷ []) in
+        let parts : IsAccepted sizes (X ++ s ∷ Y) × (fault_of sizes (X ++ s ∷ Y) r ≡ None) = IsAccepted-parts sizes (X ++ s ∷ Y) r (subst (IsAccepted sizes) (sym whole) a) in
+        let quiet : (list_any (moves_on t) Y ≡ false) × (moves_on t r ≡ false) = or_parts (list_any (moves_on t) Y) (moves_on t r) (sym (list_any-push (moves_on t) Y r) ∙ m) in
+        let held : slot_epoch t (X ++ s ∷ Y) ≡ Some e = before parts.0 quiet.0 in
+        let still : (enters t r ≡ false) × (leaves t r ≡ false) = stays_seated sizes (X ++ s ∷ Y) t r quiet.1 parts.1 (is_protected-slot_epoch t (X ++ s ∷ Y) ∙ ap is_some held) in
+        ap (slot_epoch t) (sym whole) ∙ slot_epoch-stays t (X ++ s ∷ Y) r still.0 still.1 ∙ held
+
+pub taken_after_all_moved_on : TakenAfterAllMovedOn
+taken_after_all_moved_on sizes X s Y Z t a b f p = true_from_ne_false (list_any (moves_on t) Y) early
+  where
+    accepted : IsAccepted sizes ((X ++ s ∷ Y) ++ Take ∷ [])
+    accepted = IsAccepted-front sizes ((X ++ s ∷ Y) ++ Take ∷ []) Z (subst (IsAccepted sizes) (sym (append_assoc (X ++ s ∷ Y) (Take ∷ []) Z)) a)
+
+    parts : IsAccepted sizes (X ++ s ∷ Y) × (fault_of sizes (X ++ s ∷ Y) Take ≡ None)
+    parts = IsAccepted-parts sizes (X ++ s ∷ Y) Take accepted
+
+    early : list_any (moves_on t) Y ≡ false → ⊥
+    early m =
+        let before : slot_epoch t X ≡ Some (epoch_of t X) = slot_epoch-protected t X p in
+        let held : slot_epoch t (X ++ s ∷ Y) ≡ Some (epoch_of t X) = keeps_epoch sizes X s t (epoch_of t X) b before Y parts.0 m in
+        let low : safe_epoch sizes.slots (X ++ s ∷ Y) < epoch_of t X = safe_epoch-below sizes.slots (X ++ s ∷ Y) t (epoch_of t X) (protected-slot sizes t (X ++ s ∷ Y) parts.0 (epoch_of t X) held) held in
+        let ready : (0 < length (pending (X ++ s ∷ Y))) × (takes (X ++ s ∷ Y) + 1 ≤ safe_epoch sizes.slots (X ++ s ∷ Y)) = take_fault-none sizes (X ++ s ∷ Y) parts.1 in
+        omega (arith, low, ready.1, f, (slot_epoch-range t X (epoch_of t X) before).1, current_epoch-bumps X)
