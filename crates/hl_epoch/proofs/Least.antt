@@ -1,5 +1,5 @@
 -- The least epoch of a row of slots, where one slot changes.
-use Rattle.std.proofs.Common.{◌≡◌, ℕ, zero, suc, ◌+◌, ◌≤◌, min, fold, Option, Some, None, List, [], ◌∷◌, ◌⊎◌, inl, inr, set, get_or, unwrap_or, refl, sym, ◌∙◌, ap, arith}
+use Rattle.std.proofs.Common.{◌≡◌, ℕ, zero, suc, ◌+◌, ◌≤◌, min, fold, Option, Some, None, List, [], ◌∷◌, ◌⊎◌, inl, inr, set, get_or, unwrap_or, refl, ◌∙◌, ap, arith}
 use Rattle.std.specs.List.{filter_map, reduce}
 use Rattle.hl_model.specs.Lists.{least_or}
 
@@ -60,7 +60,7 @@ least_or-set_none d xs t most =
 pub least_or-set_some : (d : ℕ) (xs : List (Option ℕ)) (t : ℕ) → AreAtMost d xs → least_or d (protected xs) ≤ least_or d (protected (set xs t (Some d)))
 least_or-set_some d xs t most =
     least_or-greatest _ d (set xs t (Some d)) (least_or-most d xs most)
-        (λ u epoch e. elim (get_or-set_some xs t u d epoch e) [ inl was ↦ least_or-at d xs u epoch was | inr same ↦ omega (arith, least_or-most d xs most) ])
+    (λ u epoch e. elim (get_or-set_some xs t u d epoch e) [ inl was ↦ least_or-at d xs u epoch was | inr same ↦ omega (arith, least_or-most d xs most) ])
 
 -- it does not fall where the greatest epoch rises
 pub least_or-rise : (d : ℕ) (xs : List (Option ℕ)) → AreAtMost d xs → least_or d (protected xs) ≤ least_or (d + 1) (protected xs)

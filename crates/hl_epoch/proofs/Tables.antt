@@ -1,5 +1,5 @@
 -- Each call makes a table of a table, and none lowers the safe epoch.
-use Rattle.std.proofs.Common.{◌≡◌, ℕ, zero, suc, ◌+◌, ◌-◌, ◌^◌, ◌<◌, ◌≤◌, Option, Some, None, List, [], ◌∷◌, ◌⊎◌, inl, inr, set, get_or, length, replicate, length-set, refl, ap, ◌∙◌, arith}
+use Rattle.std.proofs.Common.{◌≡◌, ℕ, zero, suc, ◌+◌, ◌-◌, ◌^◌, ◌<◌, ◌≤◌, Option, Some, None, List, [], inl, inr, get_or, length, replicate, length-set, refl, ap, arith}
 use Rattle.std.proofs.lemmas.List.{length-replicate}
 use Rattle.hl_model.specs.Epochs.{Table, safe_among}
 use Rattle.hl_model.specs.Lists.{least_or}
@@ -61,29 +61,29 @@ IsTable-from_range T current_least current_most slots_least slots_most drain_lea
   safe_most = below_current T in_range current_least;
   above_safe = below_epochs T in_range;
   at_most_current = λ t epoch e. (in_range t epoch e).1;
-  lag_most = lag_most
+  lag_most = lag_most;
 }
 
 -- a table is one where a slot enters the current epoch
 pub IsTable-entered : (t : ℕ) (T : Table) → IsTable T → IsTable (entered t T)
 IsTable-entered t T is =
     IsTable-from_range (entered t T) is.current_least is.current_most (simp length-set is.slots_least) (simp length-set is.slots_most) is.drain_least is.drain_most
-        (λ u epoch e. elim (get_or-set_some T.epochs t u T.current epoch e) [ inl was ↦ AreInRange-from_table T is u epoch was | inr same ↦ (omega (arith, is.current_least), omega arith) ])
-        (omega (arith, safe_of-entered t T is, is.lag_most))
+    (λ u epoch e. elim (get_or-set_some T.epochs t u T.current epoch e) [ inl was ↦ AreInRange-from_table T is u epoch was | inr same ↦ (omega (arith, is.current_least), omega arith) ])
+    (omega (arith, safe_of-entered t T is, is.lag_most))
 
 -- and where a slot is left
 pub IsTable-left : (t : ℕ) (T : Table) → IsTable T → IsTable (left t T)
 IsTable-left t T is =
     IsTable-from_range (left t T) is.current_least is.current_most (simp length-set is.slots_least) (simp length-set is.slots_most) is.drain_least is.drain_most
-        (λ u epoch e. AreInRange-from_table T is u epoch (get_or-set_none T.epochs t u epoch e))
-        (omega (arith, safe_of-left t T is, is.lag_most))
+    (λ u epoch e. AreInRange-from_table T is u epoch (get_or-set_none T.epochs t u epoch e))
+    (omega (arith, safe_of-left t T is, is.lag_most))
 
 -- and where the current epoch rises, with room for one more epoch that is not safe
 pub IsTable-bumped : (T : Table) → IsTable T → T.current < 2 ^ 62 → T.current - 1 - safe_of T < T.drain → IsTable (bumped T)
 IsTable-bumped T is below lag =
     IsTable-from_range (bumped T) (omega arith) (omega arith) is.slots_least is.slots_most is.drain_least is.drain_most
-        (λ u epoch e. (omega (arith, is.above_safe u epoch e), omega (arith, is.at_most_current u epoch e)))
-        (omega (arith, safe_of-bumped T is))
+    (λ u epoch e. (omega (arith, is.above_safe u epoch e), omega (arith, is.at_most_current u epoch e)))
+    (omega (arith, safe_of-bumped T is))
 
 -- slots of which none is protected
 abbrev nobody : ℕ → List (Option ℕ)
@@ -109,5 +109,5 @@ safe_of-opened slots drain current = ap (λ epochs. least_or current epochs - 1)
 pub IsTable-opened : (slots drain current : ℕ) → 1 ≤ slots → slots ≤ 64 → 1 ≤ drain → drain ≤ 64 → 1 ≤ current → current ≤ 2 ^ 62 → IsTable (opened slots drain current)
 IsTable-opened slots drain current slots_least slots_most drain_least drain_most current_least current_most =
     IsTable-from_range (opened slots drain current) current_least current_most (simp length-replicate slots_least) (simp length-replicate slots_most) drain_least drain_most
-        (λ t epoch e. absurd (cc (get_or-nobody slots t)))
-        (omega (arith, safe_of-opened slots drain current))
+    (λ t epoch e. absurd (cc (get_or-nobody slots t)))
+    (omega (arith, safe_of-opened slots drain current))

@@ -3,9 +3,8 @@ ghost use Rattle.hl_model.specs.Epochs.{Table};
 ghost use Rattle.hl_epoch.specs.Faults.{acquire_fault, seat_fault, bump_fault, answered, after};
 ghost use Rattle.hl_epoch.specs.Table.{epoch_at, safe_of, opened, entered, left, bumped, IsTable};
 
-use std::alloc::Global;
-
 use hl_model::Fault;
+use std::alloc::Global;
 
 /// A table of epochs: S slots, each protected with an epoch or not, the current epoch, and D, the places of
 /// the drain list of whoever bumps. Once it is made, no call takes memory. A refused call changes nothing.
@@ -30,9 +29,7 @@ pub trait Epochs: Sized {
     /// Faults: `NoSlot` where t is S or more, `Occupied` where the slot is protected.
     fn acquire(&mut self, t: u64) -> Result<(), Fault>
         ensures answer { result ≡ answered (acquire_fault t (table self.old)) tt }
-        ensures effect {
-            table self.new ≡ after (acquire_fault t (table self.old)) (table self.old) (entered t (table self.old))
-        }
+        ensures effect { let old = table self.old in table self.new ≡ after (acquire_fault t old) old (entered t old) }
         ensures valid { IsTable (table self.new) };
 
     /// Moves the protected slot t on to the current epoch.
@@ -40,9 +37,7 @@ pub trait Epochs: Sized {
     /// Faults: `NoSlot` where t is S or more, `NotProtected` where the slot is not protected.
     fn refresh(&mut self, t: u64) -> Result<(), Fault>
         ensures answer { result ≡ answered (seat_fault t (table self.old)) tt }
-        ensures effect {
-            table self.new ≡ after (seat_fault t (table self.old)) (table self.old) (entered t (table self.old))
-        }
+        ensures effect { let old = table self.old in table self.new ≡ after (seat_fault t old) old (entered t old) }
         ensures valid { IsTable (table self.new) };
 
     /// Ends the protection of slot t.
@@ -50,9 +45,7 @@ pub trait Epochs: Sized {
     /// Faults: `NoSlot` where t is S or more, `NotProtected` where the slot is not protected.
     fn release(&mut self, t: u64) -> Result<(), Fault>
         ensures answer { result ≡ answered (seat_fault t (table self.old)) tt }
-        ensures effect {
-            table self.new ≡ after (seat_fault t (table self.old)) (table self.old) (left t (table self.old))
-        }
+        ensures effect { let old = table self.old in table self.new ≡ after (seat_fault t old) old (left t old) }
         ensures valid { IsTable (table self.new) };
 
     /// Raises the current epoch by one, and gives the epoch that ended: the ticket of the caller's action.
@@ -60,11 +53,9 @@ pub trait Epochs: Sized {
     ///
     /// Fault: `EpochsSpent` where the current epoch is the last, 2^62.
     fn bump(&mut self) -> Result<u64, Fault>
-        requires { (table self.old).current - 1 - safe_of (table self.old) < (table self.old).drain }
-        ensures answer { result ≡ answered (bump_fault (table self.old)) (table self.old).current }
-        ensures effect {
-            table self.new ≡ after (bump_fault (table self.old)) (table self.old) (bumped (table self.old))
-        }
+        requires { let old = table self.old in old.current - 1 - safe_of old < old.drain }
+        ensures answer { let old = table self.old in result ≡ answered (bump_fault old) old.current }
+        ensures effect { let old = table self.old in table self.new ≡ after (bump_fault old) old (bumped old) }
         ensures valid { IsTable (table self.new) };
 
     /// The current epoch: 1 to 2^62.

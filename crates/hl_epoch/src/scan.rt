@@ -1,12 +1,12 @@
 ghost use Rattle.std.specs.Prelude.{◌≡◌, ℕ, ◌+◌, ◌^◌, ◌≤◌, IfOk, IfErr};
 ghost use Rattle.hl_model.specs.Epochs.{Table};
+ghost use Rattle.hl_epoch.specs.Faults.{seat_fault, answered};
 ghost use Rattle.hl_epoch.specs.Table.{safe_of, opened, IsTable};
-
-use std::alloc::Global;
-use std::marker::Model;
 
 use crate::epochs::Epochs;
 use hl_model::Fault;
+use std::alloc::Global;
+use std::marker::Model;
 
 /// No epoch comes after it.
 const EPOCH_LAST: u64 = 1 << 62;
@@ -54,6 +54,17 @@ impl ScanTable {
         }
     }
 
+    // The place of slot t in the row, if the slot is protected.
+    fn seat(&self, t: u64) -> Result<usize, Fault>
+        ensures { result ≡ answered (seat_fault t self.now) t }
+    {
+        match self.epochs.get(t as usize) {
+            None => Err(Fault::NoSlot),
+            Some(None) => Err(Fault::NotProtected),
+            Some(Some(_)) => Ok(t as usize),
+        }
+    }
+
     // The least epoch of a protected slot, or the current one where nobody is protected.
     fn least(&self) -> u64
         ensures value { result ≡ safe_of self.now + 1 }
@@ -73,31 +84,24 @@ impl Epochs for ScanTable {
 
     fn acquire(&mut self, t: u64) -> Result<(), Fault> {
         match self.epochs.get(t as usize) {
-            None => return Err(Fault::NoSlot),
-            Some(Some(_)) => return Err(Fault::Occupied),
-            Some(None) => {}
+            None => Err(Fault::NoSlot),
+            Some(Some(_)) => Err(Fault::Occupied),
+            Some(None) => {
+                self.epochs[t as usize] = Some(self.current);
+                Ok(())
+            }
         }
-        self.epochs[t as usize] = Some(self.current);
-        Ok(())
     }
 
     fn refresh(&mut self, t: u64) -> Result<(), Fault> {
-        match self.epochs.get(t as usize) {
-            None => return Err(Fault::NoSlot),
-            Some(None) => return Err(Fault::NotProtected),
-            Some(Some(_)) => {}
-        }
-        self.epochs[t as usize] = Some(self.current);
+        let seat = self.seat(t)?;
+        self.epochs[seat] = Some(self.current);
         Ok(())
     }
 
     fn release(&mut self, t: u64) -> Result<(), Fault> {
-        match self.epochs.get(t as usize) {
-            None => return Err(Fault::NoSlot),
-            Some(None) => return Err(Fault::NotProtected),
-            Some(Some(_)) => {}
-        }
-        self.epochs[t as usize] = None;
+        let seat = self.seat(t)?;
+        self.epochs[seat] = None;
         Ok(())
     }
 
