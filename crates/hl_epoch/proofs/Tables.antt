@@ -21,12 +21,12 @@ pub safe_of-entered : (t : ℕ) (T : Table) → IsTable T → safe_of T ≤ safe
 unfolding safe_among
 safe_of-entered t T is = omega (arith, least_or-set_some T.current T.epochs t is.at_most_current)
 
--- nor where a slot is left
+-- the safe epoch does not fall where a slot is left
 pub safe_of-left : (t : ℕ) (T : Table) → IsTable T → safe_of T ≤ safe_of (left t T)
 unfolding safe_among
 safe_of-left t T is = omega (arith, least_or-set_none T.current T.epochs t is.at_most_current)
 
--- nor where the current epoch rises
+-- the safe epoch does not fall where the current one rises
 pub safe_of-bumped : (T : Table) → IsTable T → safe_of T ≤ safe_of (bumped T)
 unfolding safe_among
 safe_of-bumped T is = omega (arith, least_or-rise T.current T.epochs is.at_most_current)
@@ -49,7 +49,7 @@ below_current : (T : Table) → AreInRange T → 1 ≤ T.current → safe_of T <
 unfolding safe_among
 below_current T in_range least = omega (arith, least_or-most T.current T.epochs (λ t epoch e. (in_range t epoch e).1))
 
--- what makes a table
+-- a table, from ranges of its parts
 IsTable-from_range : (T : Table) → 1 ≤ T.current → T.current ≤ 2 ^ 62 → 1 ≤ length T.epochs → length T.epochs ≤ 64 → 1 ≤ T.drain → T.drain ≤ 64 → AreInRange T → T.current - 1 - safe_of T ≤ T.drain → IsTable T
 IsTable-from_range T current_least current_most slots_least slots_most drain_least drain_most in_range lag_most = record {
   current_least = current_least;
@@ -64,21 +64,21 @@ IsTable-from_range T current_least current_most slots_least slots_most drain_lea
   lag_most = lag_most;
 }
 
--- a table is one where a slot enters the current epoch
+-- where a slot enters the current epoch the table stays one
 pub IsTable-entered : (t : ℕ) (T : Table) → IsTable T → IsTable (entered t T)
 IsTable-entered t T is =
     IsTable-from_range (entered t T) is.current_least is.current_most (simp length-set is.slots_least) (simp length-set is.slots_most) is.drain_least is.drain_most
     (λ u epoch e. elim (get_or-set_some T.epochs t u T.current epoch e) [ inl was ↦ AreInRange-from_table T is u epoch was | inr same ↦ (omega (arith, is.current_least), omega arith) ])
     (omega (arith, safe_of-entered t T is, is.lag_most))
 
--- and where a slot is left
+-- where a slot is left the table stays one
 pub IsTable-left : (t : ℕ) (T : Table) → IsTable T → IsTable (left t T)
 IsTable-left t T is =
     IsTable-from_range (left t T) is.current_least is.current_most (simp length-set is.slots_least) (simp length-set is.slots_most) is.drain_least is.drain_most
     (λ u epoch e. AreInRange-from_table T is u epoch (get_or-set_none T.epochs t u epoch e))
     (omega (arith, safe_of-left t T is, is.lag_most))
 
--- and where the current epoch rises, with room for one more epoch that is not safe
+-- where the current epoch rises, and one more may have ended and not be safe, the table stays one
 pub IsTable-bumped : (T : Table) → IsTable T → T.current < 2 ^ 62 → T.current - 1 - safe_of T < T.drain → IsTable (bumped T)
 IsTable-bumped T is below lag =
     IsTable-from_range (bumped T) (omega arith) (omega arith) is.slots_least is.slots_most is.drain_least is.drain_most
@@ -89,12 +89,12 @@ IsTable-bumped T is below lag =
 abbrev nobody : ℕ → List (Option ℕ)
 nobody slots = replicate slots None
 
--- they have no epochs
+-- slots of which none is protected have no epochs
 protected-nobody : (slots : ℕ) → protected (nobody slots) ≡ []
 protected-nobody zero = refl
 protected-nobody (suc slots) = protected-nobody slots
 
--- none of them has one
+-- of slots of which none is protected each has no epoch
 get_or-nobody : (slots t : ℕ) → get_or (nobody slots) t None ≡ None
 get_or-nobody zero t = refl
 get_or-nobody (suc slots) zero = refl
@@ -105,7 +105,7 @@ pub safe_of-opened : (slots drain current : ℕ) → safe_of (opened slots drain
 unfolding safe_among least_or
 safe_of-opened slots drain current = ap (λ epochs. least_or current epochs - 1) (protected-nobody slots)
 
--- a table is one as it opens
+-- a table in which nobody is protected
 pub IsTable-opened : (slots drain current : ℕ) → 1 ≤ slots → slots ≤ 64 → 1 ≤ drain → drain ≤ 64 → 1 ≤ current → current ≤ 2 ^ 62 → IsTable (opened slots drain current)
 IsTable-opened slots drain current slots_least slots_most drain_least drain_most current_least current_most =
     IsTable-from_range (opened slots drain current) current_least current_most (simp length-replicate slots_least) (simp length-replicate slots_most) drain_least drain_most

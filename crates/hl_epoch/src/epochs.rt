@@ -12,7 +12,8 @@ pub trait Epochs: Sized {
     /// What the table knows.
     ghost table: { Self → Table };
 
-    /// A table at epoch 1 with this many slots, none protected, for a drain list of `drain` places.
+    /// A table at epoch 1 with this many slots, none protected, for a drain list of `drain` places. Both
+    /// are 1 to 64.
     ///
     /// Fault: `OutOfMemory` where memory is refused.
     fn make(alloc: Global, slots: u64, drain: u64) -> Result<Self, Fault>

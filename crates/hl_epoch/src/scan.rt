@@ -29,8 +29,8 @@ impl Model for ScanTable {
 }
 
 impl ScanTable {
-    /// A table that goes on at this current epoch, 1 to 2^62, with nobody protected. `slots` and `drain` as for
-    /// `make`, which is this at epoch 1.
+    /// A table that goes on at this current epoch, 1 to 2^62, with this many slots, none protected, for a drain
+    /// list of `drain` places. Both are 1 to 64. At epoch 1 it is what `make` gives.
     ///
     /// Fault: `OutOfMemory` where memory is refused.
     pub fn resume(alloc: Global, slots: u64, drain: u64, current: u64) -> Result<ScanTable, Fault>
