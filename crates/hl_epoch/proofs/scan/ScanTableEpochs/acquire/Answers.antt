@@ -1,0 +1,8 @@
+use Rattle.hl_epoch.proofs.Tables.{IsTable-entered}
+use Rattle.hl_epoch.proofs.scan.ScanTableEpochs.acquire.Goals as goal
+
+pub invariant_of-self : goal.invariant_of-self
+invariant_of-self c = IsTable-entered _ _ c.self.invariant
+
+pub returns-in-Some-None-clause-valid : goal.returns-in-Some-None-clause-valid
+returns-in-Some-None-clause-valid c = IsTable-entered _ _ c.self.invariant

@@ -1,0 +1,9 @@
+use Rattle.std.proofs.Common.{rules}
+use Rattle.hl_epoch.proofs.Tables.{IsTable-bumped}
+use Rattle.hl_epoch.proofs.scan.ScanTableEpochs.bump.Goals as goal
+
+pub invariant_of-self : goal.invariant_of-self
+invariant_of-self c = IsTable-bumped _ c.self.invariant (search rules) (search rules)
+
+pub returns-clause-valid : goal.returns-clause-valid
+returns-clause-valid c = IsTable-bumped _ c.self.invariant (search rules) (search rules)

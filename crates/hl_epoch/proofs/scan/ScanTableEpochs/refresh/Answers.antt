@@ -1,0 +1,8 @@
+use Rattle.hl_epoch.proofs.Tables.{IsTable-entered}
+use Rattle.hl_epoch.proofs.scan.ScanTableEpochs.refresh.Goals as goal
+
+pub invariant_of-self : goal.invariant_of-self
+invariant_of-self c = IsTable-entered _ _ c.self.invariant
+
+pub returns-clause-valid : goal.returns-clause-valid
+returns-clause-valid c = IsTable-entered _ _ c.self.invariant

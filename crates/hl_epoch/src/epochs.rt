@@ -1,0 +1,76 @@
+ghost use Rattle.std.specs.Prelude.{◌≡◌, ℕ, ◌-◌, ◌<◌, ◌≤◌, IfOk, IfErr};
+ghost use Rattle.hl_model.specs.Epochs.{Table};
+ghost use Rattle.hl_epoch.specs.Faults.{acquire_fault, seat_fault, bump_fault, answered, after};
+ghost use Rattle.hl_epoch.specs.Table.{epoch_at, safe_of, opened, entered, left, bumped, IsTable};
+
+use hl_model::Fault;
+use std::alloc::Global;
+
+/// A table of epochs: S slots, each protected with an epoch or not, the current epoch, and D, the places of
+/// the drain list of whoever bumps. Once it is made, no call takes memory. A refused call changes nothing.
+pub trait Epochs: Sized {
+    /// What the table knows.
+    ghost table: { Self → Table };
+
+    /// A table at epoch 1 with this many slots, none protected, for a drain list of `drain` places. Both
+    /// are 1 to 64.
+    ///
+    /// Fault: `OutOfMemory` where memory is refused.
+    fn make(alloc: Global, slots: u64, drain: u64) -> Result<Self, Fault>
+        requires slots_least { 1 ≤ slots }
+        requires slots_most { slots ≤ 64 }
+        requires drain_least { 1 ≤ drain }
+        requires drain_most { drain ≤ 64 }
+        ensures ok { IfOk result (λ made. table made ≡ opened slots drain 1) }
+        ensures err { IfErr result (λ fault. fault ≡ Fault.OutOfMemory) }
+        ensures valid { IfOk result (λ made. IsTable (table made)) };
+
+    /// Protects slot t, at the current epoch.
+    ///
+    /// Faults: `NoSlot` where t is S or more, `Occupied` where the slot is protected.
+    fn acquire(&mut self, t: u64) -> Result<(), Fault>
+        ensures answer { result ≡ answered (acquire_fault t (table self.old)) tt }
+        ensures effect { let old = table self.old in table self.new ≡ after (acquire_fault t old) old (entered t old) }
+        ensures valid { IsTable (table self.new) };
+
+    /// Moves the protected slot t on to the current epoch.
+    ///
+    /// Faults: `NoSlot` where t is S or more, `NotProtected` where the slot is not protected.
+    fn refresh(&mut self, t: u64) -> Result<(), Fault>
+        ensures answer { result ≡ answered (seat_fault t (table self.old)) tt }
+        ensures effect { let old = table self.old in table self.new ≡ after (seat_fault t old) old (entered t old) }
+        ensures valid { IsTable (table self.new) };
+
+    /// Ends the protection of slot t.
+    ///
+    /// Faults: `NoSlot` where t is S or more, `NotProtected` where the slot is not protected.
+    fn release(&mut self, t: u64) -> Result<(), Fault>
+        ensures answer { result ≡ answered (seat_fault t (table self.old)) tt }
+        ensures effect { let old = table self.old in table self.new ≡ after (seat_fault t old) old (left t old) }
+        ensures valid { IsTable (table self.new) };
+
+    /// Raises the current epoch by one, and gives the epoch that ended: the ticket of the caller's action.
+    /// It wants fewer than D epochs that have ended and are not safe, which a drain list with room shows.
+    ///
+    /// Fault: `EpochsSpent` where the current epoch is the last, 2^62.
+    fn bump(&mut self) -> Result<u64, Fault>
+        requires { let old = table self.old in old.current - 1 - safe_of old < old.drain }
+        ensures answer { let old = table self.old in result ≡ answered (bump_fault old) old.current }
+        ensures effect { let old = table self.old in table self.new ≡ after (bump_fault old) old (bumped old) }
+        ensures valid { IsTable (table self.new) };
+
+    /// The current epoch: 1 to 2^62.
+    fn current(&self) -> u64
+        ensures value { result ≡ (table self.now).current }
+        ensures valid { IsTable (table self.now) };
+
+    /// The safe epoch: every protected slot's epoch is above it. It is below the current one, by D + 1 at most.
+    fn safe(&self) -> u64
+        ensures value { result ≡ safe_of (table self.now) }
+        ensures valid { IsTable (table self.now) };
+
+    /// The epoch of slot t. None where the slot is not protected, or t is S or more.
+    fn epoch_of(&self, t: u64) -> Option<u64>
+        ensures value { result ≡ epoch_at t (table self.now) }
+        ensures valid { IsTable (table self.now) };
+}

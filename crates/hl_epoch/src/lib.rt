@@ -1,0 +1,56 @@
+//! The table of epochs: which threads are protected, since which epoch, and up to which epoch all is safe.
+//!
+//! # Slots
+//!
+//! A thread is known by its slot, a number below S. It acquires the slot before it uses what is shared,
+//! refreshes it from time to time, and releases it when it has done. In between the slot is protected, and
+//! has an epoch. Which thread has which slot is for the caller to settle: the table answers that a slot
+//! does not exist, is protected already, or is not protected, and knows nothing of threads.
+//!
+//! # Epochs
+//!
+//! One number is common to all, the current epoch E. It begins at 1, and each bump raises it by one, up to
+//! 2^62. An acquire and a refresh make E the slot's own epoch, E_t. It witnesses that the slot's thread has
+//! entered since the bump that made E_t current. What the thread read before it entered it may not use
+//! again: that is the caller's part.
+//!
+//! # The safe epoch
+//!
+//! An epoch c is safe where every protected slot's epoch is above c: each of these threads has entered since
+//! the bump that ended c, and a thread without a protected slot uses nothing. The safe epoch is the greatest
+//! of the safe ones: the least E_t less 1, or E - 1 where nobody is protected. It witnesses that what was put
+//! out of reach before the bump that ended it is used by nobody any more. It is exact after every call, it
+//! never falls, and always `safe < E_t <= E`, as in FASTER (Chandramouli, Prasaad, Kossmann, Levandoski,
+//! Hunter, Barnett, SIGMOD 2018, the section on its epoch protection framework).
+//!
+//! # Bumps and the drain list
+//!
+//! A bump ends an epoch c, and its caller stores an action with c as its ticket, to be taken once c is safe.
+//! The list of such actions, the drain list, is the caller's and has D places. It keeps each action until its
+//! ticket is safe, so the epochs that have ended and are not safe are at most the actions in it. A bump wants
+//! room for one more, `current - 1 - safe < D`, and a caller whose list has room knows that there is. So
+//! the slots' epochs are among the D + 1 numbers up to the current one, and a table may count threads by
+//! epoch in a ring of D + 1 places in place of a scan of its slots.
+//!
+//! # What a contract sees
+//!
+//! [`Epochs`] is the table as callers use it. Its clauses see a plain record: the current epoch, each slot's
+//! epoch, and D. Each answer and each change is an equation on that record, and beside it each call tells what
+//! is true of every table (`IsTable`). [`ScanTable`] is a row of slots, scanned for the least epoch.
+//!
+//! # Where this differs from FASTER's LightEpoch
+//!
+//! - A table has one owner: calls that change it take `&mut self`, and whoever shares it keeps it under a
+//!   lock. LightEpoch's threads write their own entries with no lock.
+//! - A refresh sets the slot's epoch, and runs no action. LightEpoch's runs the actions that have become ready,
+//!   from a drain list of its own; here the list, and taking from it, are the caller's.
+//! - The safe epoch is computed when it is asked for, and is exact. LightEpoch stores one, which may lag.
+//! - The caller names the slot. LightEpoch looks for a free entry for the thread.
+//! - The current epoch has a last value, at which a bump is refused.
+#![tactic(auto)]
+
+mod epochs;
+mod scan;
+
+pub use epochs::Epochs;
+pub use scan::ScanTable;

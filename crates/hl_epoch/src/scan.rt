@@ -1,0 +1,131 @@
+ghost use Rattle.std.specs.Prelude.{◌≡◌, ℕ, ◌+◌, ◌^◌, ◌≤◌, IfOk, IfErr};
+ghost use Rattle.hl_model.specs.Epochs.{Table};
+ghost use Rattle.hl_epoch.specs.Faults.{seat_fault, answered};
+ghost use Rattle.hl_epoch.specs.Table.{safe_of, opened, IsTable};
+
+use crate::epochs::Epochs;
+use hl_model::Fault;
+use std::alloc::Global;
+use std::marker::Model;
+
+/// No epoch comes after it.
+const EPOCH_LAST: u64 = 1 << 62;
+
+/// A table of epochs that is a row of slots. A call on a slot takes the same time whatever S is; `safe` looks
+/// at each slot.
+#[derive(Drop)]
+pub struct ScanTable {
+    current: u64,
+    epochs: Vec<Option<u64>>,
+    drain: u64,
+}
+
+impl Model for ScanTable {
+    ghost Value = { Table };
+
+    ghost view = { λ a. record { current = a.current; epochs = a.epochs.items; drain = a.drain } };
+
+    ghost invariant = { λ a. IsTable (record { current = a.current; epochs = a.epochs.items; drain = a.drain }) };
+}
+
+impl ScanTable {
+    /// A table that goes on at this current epoch, 1 to 2^62, with this many slots, none protected, for a drain
+    /// list of `drain` places. Both are 1 to 64. At epoch 1 it is what `make` gives.
+    ///
+    /// Fault: `OutOfMemory` where memory is refused.
+    pub fn resume(alloc: Global, slots: u64, drain: u64, current: u64) -> Result<ScanTable, Fault>
+        requires slots_least { 1 ≤ slots }
+        requires slots_most { slots ≤ 64 }
+        requires drain_least { 1 ≤ drain }
+        requires drain_most { drain ≤ 64 }
+        requires current_least { 1 ≤ current }
+        requires current_most { current ≤ 2 ^ 62 }
+        ensures ok { IfOk result (λ made. made ≡ opened slots drain current) }
+        ensures err { IfErr result (λ fault. fault ≡ Fault.OutOfMemory) }
+        ensures valid { IfOk result IsTable }
+    {
+        match vec![in alloc; None; slots as usize] {
+            Ok(epochs) => Ok(ScanTable {
+                current,
+                epochs,
+                drain,
+            }),
+            Err(_) => Err(Fault::OutOfMemory),
+        }
+    }
+
+    // The place of slot t in the row, if the slot is protected.
+    fn seat(&self, t: u64) -> Result<usize, Fault>
+        ensures { result ≡ answered (seat_fault t self.now) t }
+    {
+        match self.epochs.get(t as usize) {
+            None => Err(Fault::NoSlot),
+            Some(None) => Err(Fault::NotProtected),
+            Some(Some(_)) => Ok(t as usize),
+        }
+    }
+
+    // The least epoch of a protected slot, or the current one where nobody is protected.
+    fn least(&self) -> u64
+        ensures value { result ≡ safe_of self.now + 1 }
+        ensures valid { IsTable self.now }
+    {
+        let epochs = self.epochs.iter().filter_map(|epoch| *epoch);
+        epochs.min().unwrap_or(self.current)
+    }
+}
+
+impl Epochs for ScanTable {
+    ghost table = { λ t. t };
+
+    fn make(alloc: Global, slots: u64, drain: u64) -> Result<ScanTable, Fault> {
+        ScanTable::resume(alloc, slots, drain, 1)
+    }
+
+    fn acquire(&mut self, t: u64) -> Result<(), Fault> {
+        match self.epochs.get(t as usize) {
+            None => Err(Fault::NoSlot),
+            Some(Some(_)) => Err(Fault::Occupied),
+            Some(None) => {
+                self.epochs[t as usize] = Some(self.current);
+                Ok(())
+            }
+        }
+    }
+
+    fn refresh(&mut self, t: u64) -> Result<(), Fault> {
+        let seat = self.seat(t)?;
+        self.epochs[seat] = Some(self.current);
+        Ok(())
+    }
+
+    fn release(&mut self, t: u64) -> Result<(), Fault> {
+        let seat = self.seat(t)?;
+        self.epochs[seat] = None;
+        Ok(())
+    }
+
+    fn bump(&mut self) -> Result<u64, Fault> {
+        let ended = self.current;
+        if ended == EPOCH_LAST {
+            return Err(Fault::EpochsSpent);
+        }
+        self.current = ended + 1;
+        Ok(ended)
+    }
+
+    fn current(&self) -> u64 {
+        self.current
+    }
+
+    fn safe(&self) -> u64 {
+        self.least() - 1
+    }
+
+    fn epoch_of(&self, t: u64) -> Option<u64> {
+        *self.epochs.get(t as usize)?
+    }
+}
+
+#[cfg(test)]
+mod tests;
