@@ -121,6 +121,10 @@ pub slot_epoch-nil : (t : ℕ) → slot_epoch t [] ≡ None
 unfolding slot_epoch is_protected mark until_last
 slot_epoch-nil t = refl
 
+pub current_epoch-nil : current_epoch [] ≡ 1
+unfolding current_epoch
+current_epoch-nil = refl
+
 -- the current epoch never falls
 pub current_epoch-grows : (A : List Step) (s : Step) → current_epoch A ≤ current_epoch (A ++ s ∷ [])
 current_epoch-grows A s = omega (arith, current_epoch-push A s)

@@ -1,8 +1,8 @@
 -- The laws of every list of steps.
 use Rattle.std.proofs.Common.{leb, ap₂, ◌≡◌, ℕ, zero, suc, ◌+◌, ◌-◌, ◌<◌, ◌≤◌, ◌↔◌, Bool, true, false, cond, ◌||◌, is_some, List, [], ◌∷◌, ◌++◌, length, take, drop, refl, sym, ap, ◌∙◌, subst, arith, append_assoc, append-nil, add-zero, inl, inr, ◌⊎◌}
 use Rattle.std.specs.Prelude.{◌==◌, Option, Some, None, Result, Ok, Err}
-use Rattle.std.specs.List.{list_any, count_by, sum_by, range_with_len}
-use Rattle.std.proofs.lemmas.Bool.{both_ways, false_from_ne_true, leb-false, eqb-true, cases_lt, or_parts, true_from_ne_false}
+use Rattle.std.specs.List.{find, list_any, count_by, sum_by, range_with_len}
+use Rattle.std.proofs.lemmas.Bool.{eqb-false, both_ways, false_from_ne_true, leb-false, eqb-true, cases_lt, or_parts, true_from_ne_false}
 use Rattle.std.proofs.lemmas.List.{take-append-drop, take-append-le}
 use Rattle.std.proofs.Math.Seq.{take-append-add}
 use Rattle.hl_model.specs.declared.action.Kind.{Kind}
@@ -17,14 +17,14 @@ use Rattle.hl_model.specs.declared.step.Step.TheVariants.{Acquire, Refresh, Rele
 use Rattle.hl_model.specs.Sizes.{Sizes}
 use Rattle.hl_model.specs.Lists.{until_last, gather, gather_after}
 use Rattle.hl_model.specs.Epochs.{is_bump, enters, leaves, current_epoch, mark, is_protected, up_to_mark, epoch_of, slot_epoch, safe_epoch}
-use Rattle.hl_model.specs.Actions.{is_take, bumps, takes, front, pending, action_at}
-use Rattle.hl_model.specs.Replies.{done_answer, kind_or_none, fault_of, reply_of, unless_fault, answer_of, IsAccepted}
-use Rattle.hl_model.specs.Laws.{EpochsAreInOrder, SafeIsGreatest, MarkAfterBump, ticket_told, tickets_told, TakesCountUp, moves_on, TakenAfterAllMovedOn}
+use Rattle.hl_model.specs.Actions.{is_take, bumps, takes, dones, front, actions, pending, taken, action_at}
+use Rattle.hl_model.specs.Replies.{epoch_last, done_answer, kind_or_none, fault_of, reply_of, unless_fault, answer_of, IsAccepted}
+use Rattle.hl_model.specs.Laws.{AcceptedMeetsNoFault, CurrentIsAtMostLast, DrainListHoldsThem, TicketsCountUp, TakenAreThoseListed, EpochsAreInOrder, SafeIsGreatest, MarkAfterBump, ticket_told, tickets_told, TakesCountUp, moves_on, TakenAfterAllMovedOn}
 use Rattle.hl_model.proofs.ListLaws.{list_any-push, until_last-push, gather-push, by_pushing, one_where, none_where}
 use Rattle.hl_model.proofs.AcceptedLaws.{IsAccepted-front, IsAccepted-parts, accepted_has}
-use Rattle.hl_model.proofs.EpochLaws.{current_epoch-push, enters-is_bump, slot_epoch-stays, slot_epoch-range, is_protected-slot_epoch, epoch_of-slot_epoch, safe_epoch-below, safe_epoch-greatest}
-use Rattle.hl_model.proofs.ActionLaws.{range-push, current_epoch-bumps, takes-push, takes-stay}
-use Rattle.hl_model.proofs.DrainLaws.{two_faults, take_fault-none, protected-slot}
+use Rattle.hl_model.proofs.EpochLaws.{current_epoch-nil, safe_epoch-current, current_epoch-push, enters-is_bump, slot_epoch-stays, slot_epoch-range, is_protected-slot_epoch, epoch_of-slot_epoch, safe_epoch-below, safe_epoch-greatest}
+use Rattle.hl_model.proofs.ActionLaws.{tickets-actions, tickets-pending, range-push, current_epoch-bumps, takes-push, takes-stay}
+use Rattle.hl_model.proofs.DrainLaws.{bump_fault-none, bump-none, length-both, bumps-dones, is_taken-found, two_faults, take_fault-none, protected-slot}
 
 -- a protected slot has an epoch
 pub slot_epoch-protected : (t : ℕ) (A : List Step) → is_protected t A ≡ true → slot_epoch t A ≡ Some (epoch_of t A)
@@ -37,9 +37,56 @@ epochs_are_in_order sizes A t a h =
     (safe_epoch-below sizes.slots A t (epoch_of t A) (protected-slot sizes t A a (epoch_of t A) seated) seated, (slot_epoch-range t A (epoch_of t A) seated).1)
 
 pub safe_is_greatest : SafeIsGreatest
-safe_is_greatest slots A c h each =
-    safe_epoch-greatest slots A c h
-    (λ t e lt is. subst (λ (n : ℕ). c < n) (epoch_of-slot_epoch t A e is) (each t lt (is_protected-slot_epoch t A ∙ ap is_some is)))
+safe_is_greatest slots A c = (below, greatest)
+  where
+    below : c ≤ safe_epoch slots A → (c < current_epoch A) × ((t : ℕ) → t < slots → is_protected t A ≡ true → c < epoch_of t A)
+    below h = (omega (arith, safe_epoch-current slots A), λ t lt p. omega (arith, safe_epoch-below slots A t (epoch_of t A) lt (slot_epoch-protected t A p)))
+
+    greatest : (c < current_epoch A) × ((t : ℕ) → t < slots → is_protected t A ≡ true → c < epoch_of t A) → c ≤ safe_epoch slots A
+    greatest h =
+        safe_epoch-greatest slots A c h.0
+        (λ t e lt is. subst (λ (n : ℕ). c < n) (epoch_of-slot_epoch t A e is) (h.1 t lt (is_protected-slot_epoch t A ∙ ap is_some is)))
+
+pub accepted_meets_no_fault : AcceptedMeetsNoFault
+accepted_meets_no_fault sizes A s B a =
+    (IsAccepted-parts sizes A s (IsAccepted-front sizes (A ++ s ∷ []) B (subst (IsAccepted sizes) (sym (append_assoc A (s ∷ []) B)) a))).1
+
+pub current_is_at_most_last : CurrentIsAtMostLast
+current_is_at_most_last sizes = accepted_has sizes (λ A. current_epoch A ≤ epoch_last) none step
+  where
+    none : current_epoch [] ≤ epoch_last
+    none = omega (arith, current_epoch-nil)
+
+    step : (A : List Step) (s : Step) → IsAccepted sizes A → fault_of sizes A s ≡ None → current_epoch A ≤ epoch_last → current_epoch (A ++ s ∷ []) ≤ epoch_last
+    step A s a h before = by_test (is_bump s) refl
+      where
+        by_test : (b : Bool) → is_bump s ≡ b → current_epoch (A ++ s ∷ []) ≤ epoch_last
+        by_test true e =
+            omega (arith, before, eqb-false (current_epoch A) epoch_last (bump_fault-none sizes A (bump-none sizes A s e h)).1, current_epoch-push A s, one_where (is_bump s) e)
+        by_test false e = omega (arith, before, current_epoch-push A s, none_where (is_bump s) e)
+
+pub drain_list_holds_them : DrainListHoldsThem
+drain_list_holds_them sizes A a = (length-both sizes A a, omega (arith, length-both sizes A a, bumps-dones sizes A a))
+
+drop-range : (m a n : ℕ) → drop m (range_with_len a n) ≡ range_with_len (a + m) (n - m)
+drop-range zero a n = let same : a + zero ≡ a = omega arith in let all : n - zero ≡ n = omega arith in rw (same, all) refl
+drop-range (suc m) a zero = let none : zero - suc m ≡ zero = omega arith in rw none refl
+drop-range (suc m) a (suc n) =
+    let first : a + suc m ≡ (a + 1) + m = omega arith in
+    let rest : suc n - suc m ≡ n - m = omega arith in
+    rw (first, rest) (drop-range m (a + 1) n)
+
+pub tickets_count_up : TicketsCountUp
+tickets_count_up A =
+    let next : 1 + takes A ≡ takes A + 1 = omega arith in
+    (tickets-actions A, tickets-pending A ∙ drop-range (takes A) 1 (bumps A) ∙ ap (λ n. range_with_len n (bumps A - takes A)) next)
+
+found-any : {X : Type 0} (p : X → Bool) (xs : List X) → list_any p xs ≡ is_some (find p xs)
+found-any p [] = refl
+found-any p (x ∷ xs) = elim (p x) as (λ b. (b || list_any p xs) ≡ is_some (cond b (Some x) (find p xs))) [ true ↦ refl | false ↦ found-any p xs ]
+
+pub taken_are_those_listed : TakenAreThoseListed
+taken_are_those_listed sizes A c a = sym (found-any (λ w. w.ticket == c) (taken A) ∙ is_taken-found sizes c A a)
 
 -- some element passes: there is a last one
 last_of_some : {X : Type 0} (p : X → Bool) (xs : List X) → list_any p xs ≡ true → 0 < until_last p xs

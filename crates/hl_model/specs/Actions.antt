@@ -51,7 +51,7 @@ is_finished c A = list_any (finishes c) A
 unfoldable pub pending : List Step → List Waiting
 pending A = drop (takes A) (actions A)
 
--- the ticket that the next take names
+-- the ticket of the oldest pending action, if there is one: the next take names it
 abbrev pub front : List Step → ℕ
 front A = takes A + 1
 

@@ -30,7 +30,7 @@ current_epoch A = 1 + count_by is_bump A
 unfoldable pub mark : ℕ → List Step → ℕ
 mark t A = until_last (enters t) A
 
--- slot t is protected: of its acquires, refreshes and releases the last is no release
+-- slot t is protected: the last of its acquires, refreshes and releases is there, and is no release
 unfoldable pub is_protected : ℕ → List Step → Bool
 is_protected t A = nat_lt (until_last (leaves t) A) (mark t A)
 

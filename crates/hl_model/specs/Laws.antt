@@ -1,5 +1,5 @@
 -- What holds of every list of steps, in the subject's own words. Each statement is the contract of a function of the module laws.
-use Rattle.std.specs.Prelude.{ℕ, ◌≡◌, ◌↔◌, ◌+◌, ◌-◌, ◌<◌, ◌≤◌, ◌==◌, Bool, true, false, Result, Ok, Err, List, [], ◌∷◌, ◌++◌, length}
+use Rattle.std.specs.Prelude.{map, None, ℕ, ◌≡◌, ◌↔◌, ◌+◌, ◌-◌, ◌<◌, ◌≤◌, ◌==◌, Bool, true, false, Result, Ok, Err, List, [], ◌∷◌, ◌++◌, length}
 use Rattle.std.specs.List.{list_any, range_with_len}
 use Rattle.hl_model.specs.declared.fault.Fault.{Fault}
 use Rattle.hl_model.specs.declared.step.Reply.{Reply}
@@ -9,8 +9,8 @@ use Rattle.hl_model.specs.declared.step.Step.TheVariants.{Refresh, Release, Take
 use Rattle.hl_model.specs.Lists.{gather}
 use Rattle.hl_model.specs.Sizes.{Sizes}
 use Rattle.hl_model.specs.Epochs.{is_bump, current_epoch, mark, is_protected, epoch_of, safe_epoch}
-use Rattle.hl_model.specs.Actions.{bumps, takes, front}
-use Rattle.hl_model.specs.Replies.{reply_of, good, IsAccepted}
+use Rattle.hl_model.specs.Actions.{bumps, takes, dones, front, actions, pending, taken, is_taken}
+use Rattle.hl_model.specs.Replies.{epoch_last, fault_of, reply_of, extended, good, IsAccepted}
 
 -- the accepted steps of a list are an accepted list
 abbrev pub AcceptedStepsAreAccepted : Type 0
@@ -20,6 +20,18 @@ AcceptedStepsAreAccepted = (sizes : Sizes) (L : List Step) → IsAccepted sizes 
 abbrev pub BeginningsAreAccepted : Type 0
 BeginningsAreAccepted = (sizes : Sizes) (A B : List Step) → IsAccepted sizes (A ++ B) → IsAccepted sizes A
 
+-- a list's last step is accepted after the accepted steps before it, or not at all
+abbrev pub GoodByItsLastStep : Type 0
+GoodByItsLastStep = (sizes : Sizes) (L : List Step) (s : Step) → good sizes (L ++ s ∷ []) ≡ extended sizes (good sizes L) s
+
+-- a step of an accepted list meets no fault after those before it
+abbrev pub AcceptedMeetsNoFault : Type 0
+AcceptedMeetsNoFault = (sizes : Sizes) (A : List Step) (s : Step) (B : List Step) → IsAccepted sizes (A ++ s ∷ B) → fault_of sizes A s ≡ None
+
+-- the current epoch is at most the last
+abbrev pub CurrentIsAtMostLast : Type 0
+CurrentIsAtMostLast = (sizes : Sizes) (A : List Step) → IsAccepted sizes A → current_epoch A ≤ epoch_last
+
 -- safe < E_t ≤ E for each protected slot t of an accepted list
 abbrev pub EpochsAreInOrder : Type 0
 EpochsAreInOrder = (sizes : Sizes) (A : List Step) (t : ℕ) → IsAccepted sizes A → is_protected t A ≡ true → (safe_epoch sizes.slots A < epoch_of t A) × (epoch_of t A ≤ current_epoch A)
@@ -28,9 +40,9 @@ EpochsAreInOrder = (sizes : Sizes) (A : List Step) (t : ℕ) → IsAccepted size
 abbrev pub SafeNeverFalls : Type 0
 SafeNeverFalls = (slots : ℕ) (A B : List Step) → safe_epoch slots A ≤ safe_epoch slots (A ++ B)
 
--- an epoch is safe where it is below the current one and below the epoch of each protected slot
+-- the safe epoch is the greatest number below the current epoch and below the epoch of each protected slot
 abbrev pub SafeIsGreatest : Type 0
-SafeIsGreatest = (slots : ℕ) (A : List Step) (c : ℕ) → c < current_epoch A → ((t : ℕ) → t < slots → is_protected t A ≡ true → c < epoch_of t A) → c ≤ safe_epoch slots A
+SafeIsGreatest = (slots : ℕ) (A : List Step) (c : ℕ) → (c ≤ safe_epoch slots A) ↔ ((c < current_epoch A) × ((t : ℕ) → t < slots → is_protected t A ≡ true → c < epoch_of t A))
 
 -- the epoch of a protected slot exceeds the ticket of a bump exactly where its mark lies after the bump
 abbrev pub MarkAfterBump : Type 0
@@ -39,6 +51,22 @@ MarkAfterBump = (X : List Step) (s : Step) (Y : List Step) (t : ℕ) → is_bump
 -- the epochs that ended above the safe one are at most the places of the drain list
 abbrev pub EpochsFitTheDrainList : Type 0
 EpochsFitTheDrainList = (sizes : Sizes) (A : List Step) → IsAccepted sizes A → current_epoch A - 1 - safe_epoch sizes.slots A ≤ sizes.drain
+
+-- pending and taken actions are the bumps less the dones, and at most the places of the drain list
+abbrev pub DrainListHoldsThem : Type 0
+DrainListHoldsThem = (sizes : Sizes) (A : List Step) → IsAccepted sizes A → (length (pending A) + length (taken A) ≡ bumps A - dones A) × (length (pending A) + length (taken A) ≤ sizes.drain)
+
+-- the tickets of all actions are 1, 2, 3 and so on, and those of the pending ones go on from the front
+abbrev pub TicketsCountUp : Type 0
+TicketsCountUp = (A : List Step) → (map (λ w. w.ticket) (actions A) ≡ range_with_len 1 (bumps A)) × (map (λ w. w.ticket) (pending A) ≡ range_with_len (front A) (bumps A - takes A))
+
+-- a ticket is taken and not done exactly where a taken action has it
+abbrev pub TakenAreThoseListed : Type 0
+TakenAreThoseListed = (sizes : Sizes) (A : List Step) (c : ℕ) → IsAccepted sizes A → is_taken c A ≡ list_any (λ w. w.ticket == c) (taken A)
+
+-- each ticket taken is safe
+abbrev pub TakenAreSafe : Type 0
+TakenAreSafe = (sizes : Sizes) (A : List Step) → IsAccepted sizes A → takes A ≤ safe_epoch sizes.slots A
 
 -- the ticket that a take was answered
 abbrev pub ticket_told : Result Reply Fault → List ℕ

@@ -3,7 +3,7 @@ use Rattle.std.specs.Prelude.{ℕ, ◌≡◌, Result, Ok, Err, List, [], ◌∷�
 use Rattle.hl_model.specs.declared.action.Kind.TheVariants.{User}
 use Rattle.hl_model.specs.declared.action.Waiting.{Waiting}
 use Rattle.hl_model.specs.declared.fault.Fault.{Fault}
-use Rattle.hl_model.specs.declared.fault.Fault.TheVariants.{NotProtected, DrainFull, Empty, NotReady}
+use Rattle.hl_model.specs.declared.fault.Fault.TheVariants.{NoSlot, Occupied, NotProtected, DrainFull, Empty, NotReady, NotTaken}
 use Rattle.hl_model.specs.declared.step.Reply.{Reply}
 use Rattle.hl_model.specs.declared.step.Reply.TheVariants.{Entered, Left, Ticket, Taken, Ran}
 use Rattle.hl_model.specs.declared.step.Step.{Step}
@@ -54,3 +54,14 @@ FullDrainList = Gives small
     (Acquire 0 ∷ Bump 1 ∷ Bump 2 ∷ Bump 3 ∷ Refresh 0 ∷ Take ∷ Bump 3 ∷ Done 1 ∷ Bump 3 ∷ Take ∷ Done 2 ∷ [])
     (Ok (Entered 1 at_start) ∷ Ok (Ticket 1) ∷ Ok (Ticket 2) ∷ Err DrainFull ∷ Ok (Entered 3 at_start) ∷ Ok (Taken 1) ∷ Err DrainFull ∷ Ok (Ran 1) ∷ Ok (Ticket 3) ∷ Ok (Taken 2) ∷ Ok (Ran 2) ∷ [])
     4 2 (job 3 3 ∷ []) []
+
+-- two threads: slots that there are not, refusals, an action that waits for the slower thread, dones of tickets that are not taken
+abbrev pub TwoThreads : Type 0
+TwoThreads = Gives small
+    (Acquire 0 ∷ Acquire 1 ∷ Acquire 0 ∷ Acquire 2 ∷ Refresh 2 ∷ Release 2 ∷ Bump 9 ∷ Bump 8 ∷ Done 1 ∷ Refresh 0 ∷ Take ∷ Release 1 ∷ Refresh 1 ∷ Take ∷ Take ∷ Done 2 ∷ Done 0 ∷ Done 2 ∷ Done 3 ∷ Acquire 1 ∷ [])
+    (Ok (Entered 1 at_start) ∷ Ok (Entered 1 at_start) ∷ Err Occupied ∷ Err NoSlot ∷ Err NoSlot ∷ Err NoSlot ∷ Ok (Ticket 1) ∷ Ok (Ticket 2) ∷ Err NotTaken ∷ Ok (Entered 3 at_start) ∷ Err (NotReady 1 0) ∷ Ok Left ∷ Err NotProtected ∷ Ok (Taken 1) ∷ Ok (Taken 2) ∷ Ok (Ran 8) ∷ Err NotTaken ∷ Err NotTaken ∷ Err NotTaken ∷ Ok (Entered 3 at_start) ∷ [])
+    3 2 [] (job 1 9 ∷ [])
+
+-- actions wait in the order of their bumps
+abbrev pub BothWait : Type 0
+BothWait = Gives small (Acquire 1 ∷ Bump 9 ∷ Bump 8 ∷ []) (Ok (Entered 1 at_start) ∷ Ok (Ticket 1) ∷ Ok (Ticket 2) ∷ []) 3 0 (job 1 9 ∷ job 2 8 ∷ []) []

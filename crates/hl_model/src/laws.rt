@@ -1,7 +1,7 @@
 //! What holds of every list of steps, each law the contract of a function that does nothing: the definitions
 //! alone carry them, so they hold of whatever meets the definitions.
 
-ghost use Rattle.hl_model.specs.Laws.{AcceptedStepsAreAccepted, BeginningsAreAccepted, EpochsAreInOrder, SafeNeverFalls, SafeIsGreatest, MarkAfterBump, EpochsFitTheDrainList, TakesCountUp, TakenAfterAllMovedOn};
+ghost use Rattle.hl_model.specs.Laws.{AcceptedMeetsNoFault, GoodByItsLastStep, CurrentIsAtMostLast, DrainListHoldsThem, TicketsCountUp, TakenAreThoseListed, TakenAreSafe, AcceptedStepsAreAccepted, BeginningsAreAccepted, EpochsAreInOrder, SafeNeverFalls, SafeIsGreatest, MarkAfterBump, EpochsFitTheDrainList, TakesCountUp, TakenAfterAllMovedOn};
 
 /// The accepted steps of any list are an accepted list.
 pub fn accepted_steps_are_accepted()
@@ -23,7 +23,7 @@ pub fn safe_never_falls()
     ensures { SafeNeverFalls }
 {}
 
-/// The safe epoch is the greatest below the current epoch and below those of all protected slots.
+/// The safe epoch is the greatest number below the current epoch and below those of all protected slots.
 pub fn safe_is_greatest()
     ensures { SafeIsGreatest }
 {}
@@ -46,4 +46,39 @@ pub fn takes_count_up()
 /// Where an action is taken, each slot that was protected before its bump has refreshed or left between the two.
 pub fn taken_after_all_moved_on()
     ensures { TakenAfterAllMovedOn }
+{}
+
+/// A step of an accepted list meets no fault after those before it.
+pub fn accepted_meets_no_fault()
+    ensures { AcceptedMeetsNoFault }
+{}
+
+/// A list's last step is accepted after the accepted steps before it, or not at all.
+pub fn good_by_its_last_step()
+    ensures { GoodByItsLastStep }
+{}
+
+/// The current epoch of an accepted list is at most 2^62.
+pub fn current_is_at_most_last()
+    ensures { CurrentIsAtMostLast }
+{}
+
+/// Pending and taken actions are the bumps less the dones, and at most the places of the drain list.
+pub fn drain_list_holds_them()
+    ensures { DrainListHoldsThem }
+{}
+
+/// The j-th bump's action has ticket j, and the pending ones go on from the front.
+pub fn tickets_count_up()
+    ensures { TicketsCountUp }
+{}
+
+/// A ticket is taken and not done exactly where a taken action has it.
+pub fn taken_are_those_listed()
+    ensures { TakenAreThoseListed }
+{}
+
+/// Each ticket taken is at most the safe epoch.
+pub fn taken_are_safe()
+    ensures { TakenAreSafe }
 {}
