@@ -13,7 +13,7 @@ use Rattle.hl_model.specs.Sizes.{Sizes}
 use Rattle.hl_model.specs.Lists.{gather, gather_after}
 use Rattle.hl_model.specs.Epochs.{is_bump, enters, leaves, current_epoch, is_protected, slot_epoch, safe_epoch}
 use Rattle.hl_model.specs.Actions.{is_take, is_done, finishes, bumps, takes, dones, front, actions, is_finished, pending, taken, is_taken, is_full, action_at}
-use Rattle.hl_model.specs.Replies.{epoch_last, fault_of, free_fault, seat_fault, bump_fault, take_fault, IsAccepted}
+use Rattle.hl_model.specs.Replies.{epoch_last, fault_of, acquire_fault, protected_fault, bump_fault, take_fault, IsAccepted}
 use Rattle.hl_model.proofs.ListLaws.{one_where, none_where}
 use Rattle.hl_model.proofs.AcceptedLaws.{accepted_has}
 use Rattle.hl_model.proofs.ActionLaws.{bumps-push, takes-push, takes-stay, dones-push, current_epoch-bumps, length-actions, is_finished-push, tickets-actions, length-pending, taken-stores, taken-take, taken-done, ticket-front}
@@ -226,9 +226,9 @@ pub bump-none : (sizes : Sizes) (A : List Step) (s : Step) → is_bump s ≡ tru
 bump-none sizes A (Bump tag) e h = h
 bump-none sizes A _ e h = cc
 
-not_full : (d : ℕ) (A : List Step) → is_full d A ≡ false → bumps A - dones A < d
+not_full : (d : ℕ) (A : List Step) → is_full d A ≡ false → (bumps A - dones A ≡ d → ⊥)
 unfolding is_full
-not_full d A h = leb-false d (bumps A - dones A) h
+not_full d A h = eqb-false (bumps A - dones A) d h
 
 -- the drain list has no more actions than places
 pub bumps-dones : (sizes : Sizes) (A : List Step) → IsAccepted sizes A → bumps A - dones A ≤ sizes.drain
@@ -242,17 +242,17 @@ bumps-dones sizes = accepted_has sizes (λ A. bumps A - dones A ≤ sizes.drain)
       where
         by_test : (b : Bool) → is_bump s ≡ b → bumps (A ++ s ∷ []) - dones (A ++ s ∷ []) ≤ sizes.drain
         by_test true e =
-            omega (arith, not_full sizes.drain A (bump_fault-none sizes A (bump-none sizes A s e h)).0, bumps-push A s, one_where (is_bump s) e, dones-push A s)
+            omega (arith, before, not_full sizes.drain A (bump_fault-none sizes A (bump-none sizes A s e h)).0, bumps-push A s, one_where (is_bump s) e, dones-push A s)
         by_test false e = omega (arith, before, bumps-push A s, none_where (is_bump s) e, dones-push A s)
 
 -- pending and taken actions are bumps less dones
 pub length-both : (sizes : Sizes) (A : List Step) → IsAccepted sizes A → length (pending A) + length (taken A) ≡ bumps A - dones A
 length-both sizes A a = omega (arith, length-pending A, taken-dones sizes A a, takes-le-bumps sizes A a)
 
--- the list is full where both parts have as many as there are places
-pub is_full-both : (sizes : Sizes) (d : ℕ) (A : List Step) → IsAccepted sizes A → is_full d A ≡ leb d (length (pending A) + length (taken A))
+-- the list is full where its two parts have as many actions as it has places
+pub is_full-both : (sizes : Sizes) (d : ℕ) (A : List Step) → IsAccepted sizes A → is_full d A ≡ (length (pending A) + length (taken A) == d)
 unfolding is_full
-is_full-both sizes d A a = ap (leb d) (sym (length-both sizes A a))
+is_full-both sizes d A a = ap (λ n. n == d) (sym (length-both sizes A a))
 
 -- what was taken is safe
 pub takes-safe : (sizes : Sizes) (A : List Step) → IsAccepted sizes A → takes A ≤ safe_epoch sizes.slots A
@@ -278,10 +278,10 @@ epochs-pending sizes A a = omega (arith, current_epoch-bumps A, takes-safe sizes
 pub epochs-drain : (sizes : Sizes) (A : List Step) → IsAccepted sizes A → current_epoch A - 1 - safe_epoch sizes.slots A ≤ sizes.drain
 epochs-drain sizes A a = omega (arith, epochs-pending sizes A a, length-both sizes A a, bumps-dones sizes A a)
 
-seat_fault-none : (b p : Bool) (f g : Fault) → cond b (Some f) (cond p None (Some g)) ≡ None → (b ≡ false) × (p ≡ true)
-seat_fault-none true p f g h = cc
-seat_fault-none false true f g h = (refl, refl)
-seat_fault-none false false f g h = cc
+protected_fault-none : (b p : Bool) (f g : Fault) → cond b (Some f) (cond p None (Some g)) ≡ None → (b ≡ false) × (p ≡ true)
+protected_fault-none true p f g h = cc
+protected_fault-none false true f g h = (refl, refl)
+protected_fault-none false false f g h = cc
 
 -- a step by which a slot enters names one that there is
 pub enters-slot : (sizes : Sizes) (A : List Step) (t : ℕ) (s : Step) → enters t s ≡ true → fault_of sizes A s ≡ None → t < sizes.slots
@@ -289,7 +289,7 @@ enters-slot sizes A t (Acquire u) e h =
     let tests : (leb sizes.slots u ≡ false) × (is_protected u A ≡ false) = two_faults (leb sizes.slots u) (is_protected u A) NoSlot Occupied h in
     omega (arith, leb-false sizes.slots u tests.0, eqb-true u t e)
 enters-slot sizes A t (Refresh u) e h =
-    let tests : (leb sizes.slots u ≡ false) × (is_protected u A ≡ true) = seat_fault-none (leb sizes.slots u) (is_protected u A) NoSlot NotProtected h in
+    let tests : (leb sizes.slots u ≡ false) × (is_protected u A ≡ true) = protected_fault-none (leb sizes.slots u) (is_protected u A) NoSlot NotProtected h in
     omega (arith, leb-false sizes.slots u tests.0, eqb-true u t e)
 enters-slot sizes A t _ e h = cc
 

@@ -18,7 +18,7 @@ use Rattle.hl_model.specs.Sizes.{Sizes}
 use Rattle.hl_model.specs.Lists.{until_last, gather, gather_after}
 use Rattle.hl_model.specs.Epochs.{is_bump, enters, leaves, current_epoch, mark, is_protected, up_to_mark, epoch_of, slot_epoch, safe_epoch}
 use Rattle.hl_model.specs.Actions.{is_take, bumps, takes, dones, front, actions, pending, taken, action_at}
-use Rattle.hl_model.specs.Replies.{epoch_last, done_answer, kind_or_none, fault_of, reply_of, unless_fault, answer_of, IsAccepted}
+use Rattle.hl_model.specs.Replies.{epoch_last, done_answer, kind_or_job_0, fault_of, reply_of, unless_fault, answer_of, IsAccepted}
 use Rattle.hl_model.specs.Laws.{AcceptedMeetsNoFault, CurrentIsAtMostLast, DrainListHoldsThem, TicketsCountUp, TakenAreThoseListed, EpochsAreInOrder, SafeIsGreatest, MarkAfterBump, ticket_told, tickets_told, TakesCountUp, moves_on, TakenAfterAllMovedOn}
 use Rattle.hl_model.proofs.ListLaws.{list_any-push, until_last-push, gather-push, by_pushing, one_where, none_where}
 use Rattle.hl_model.proofs.AcceptedLaws.{IsAccepted-front, IsAccepted-parts, accepted_has}
@@ -166,9 +166,9 @@ done_told B (Close x) = refl
 
 -- an accepted take is told how many there are, and no other step is told a ticket as taken
 told : (sizes : Sizes) (A : List Step) (s : Step) → fault_of sizes A s ≡ None → ticket_told (reply_of sizes A s) ≡ cond (is_take s) (takes (A ++ s ∷ []) ∷ []) []
-told sizes A Take h = ap (λ o. ticket_told (unless_fault o (answer_of (A ++ Take ∷ []) Take))) h
-told sizes A (Done c) h = ap (λ o. ticket_told (unless_fault o (answer_of (A ++ Done c ∷ []) (Done c)))) h ∙ done_told (A ++ Done c ∷ []) (kind_or_none (action_at c (A ++ Done c ∷ [])))
-told sizes A s h = ap (λ o. ticket_told (unless_fault o (answer_of (A ++ s ∷ []) s))) h
+told sizes A Take h = ap (λ o. ticket_told (unless_fault o (answer_of sizes (A ++ Take ∷ []) Take))) h
+told sizes A (Done c) h = ap (λ o. ticket_told (unless_fault o (answer_of sizes (A ++ Done c ∷ []) (Done c)))) h ∙ done_told (A ++ Done c ∷ []) (kind_or_job_0 (action_at c (A ++ Done c ∷ [])))
+told sizes A s h = ap (λ o. ticket_told (unless_fault o (answer_of sizes (A ++ s ∷ []) s))) h
 
 takes-nil : takes [] ≡ 0
 unfolding takes

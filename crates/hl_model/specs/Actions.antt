@@ -65,7 +65,7 @@ is_taken c A = nat_le 1 c && nat_le c (takes A) && not (is_finished c A)
 
 -- a list of d places is full: bumps less dones are d
 unfoldable pub is_full : ℕ → List Step → Bool
-is_full d A = nat_le d (bumps A - dones A)
+is_full d A = bumps A - dones A == d
 
 -- the action of ticket c
 unfoldable pub action_at : ℕ → List Step → Option Waiting

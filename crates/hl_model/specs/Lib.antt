@@ -5,5 +5,7 @@ pub mod Laws
 pub mod Lists
 pub mod Offsets
 pub mod Replies
+pub mod Settled
 pub mod Sizes
+pub mod Views
 pub mod Worked

@@ -13,19 +13,20 @@ use Rattle.hl_model.specs.Lists.{gather}
 use Rattle.hl_model.specs.Sizes.{Sizes}
 use Rattle.hl_model.specs.Epochs.{current_epoch, is_protected, epoch_of, safe_epoch}
 use Rattle.hl_model.specs.Actions.{takes, bumps, front, pending, is_taken, is_full, action_at}
-use Rattle.hl_model.specs.Offsets.{view_of, safe_read_only, closed}
+use Rattle.hl_model.specs.Settled.{safe_read_only, closed}
+use Rattle.hl_model.specs.Views.{view_of}
 
 -- the greatest epoch
 abbrev pub epoch_last : ℕ
 epoch_last = 2 ^ 62
 
--- the fault of a step that wants slot t unprotected
-abbrev pub free_fault : Sizes → List Step → ℕ → Option Fault
-free_fault sizes A t = if nat_le sizes.slots t then Some NoSlot else if is_protected t A then Some Occupied else None
+-- the fault of a step that wants slot t unprotected: there is no such slot, or it is protected
+abbrev pub acquire_fault : Sizes → List Step → ℕ → Option Fault
+acquire_fault sizes A t = if nat_le sizes.slots t then Some NoSlot else if is_protected t A then Some Occupied else None
 
 -- the fault of a step that wants slot t protected
-abbrev pub seat_fault : Sizes → List Step → ℕ → Option Fault
-seat_fault sizes A t = if nat_le sizes.slots t then Some NoSlot else if is_protected t A then None else Some NotProtected
+abbrev pub protected_fault : Sizes → List Step → ℕ → Option Fault
+protected_fault sizes A t = if nat_le sizes.slots t then Some NoSlot else if is_protected t A then None else Some NotProtected
 
 -- the fault of a step that stores an action
 abbrev pub bump_fault : Sizes → List Step → Option Fault
@@ -40,9 +41,9 @@ take_fault sizes A =
 
 -- the fault that a step meets after the list A, the first that holds
 abbrev pub fault_of : Sizes → List Step → Step → Option Fault
-fault_of sizes A (Acquire t) = free_fault sizes A t
-fault_of sizes A (Refresh t) = seat_fault sizes A t
-fault_of sizes A (Release t) = seat_fault sizes A t
+fault_of sizes A (Acquire t) = acquire_fault sizes A t
+fault_of sizes A (Refresh t) = protected_fault sizes A t
+fault_of sizes A (Release t) = protected_fault sizes A t
 fault_of sizes A (Bump tag) = bump_fault sizes A
 fault_of sizes A Take = take_fault sizes A
 fault_of sizes A (Done ticket) = if is_taken ticket A then None else Some NotTaken
@@ -54,18 +55,18 @@ done_answer B (Settle x) = Settled (safe_read_only B)
 done_answer B (Close x) = Closed (closed B)
 
 -- the kind of the action, and a job of tag 0 where there is none, which no accepted done names
-abbrev pub kind_or_none : Option Waiting → Kind
-kind_or_none None = User 0
-kind_or_none (Some w) = w.kind
+abbrev pub kind_or_job_0 : Option Waiting → Kind
+kind_or_job_0 None = User 0
+kind_or_job_0 (Some w) = w.kind
 
 -- the answer to an accepted step, where B is the list with the step
-abbrev pub answer_of : List Step → Step → Reply
-answer_of B (Acquire t) = Entered (epoch_of t B) (view_of t B)
-answer_of B (Refresh t) = Entered (epoch_of t B) (view_of t B)
-answer_of B (Release t) = Left
-answer_of B (Bump tag) = Ticket (bumps B)
-answer_of B Take = Taken (takes B)
-answer_of B (Done ticket) = done_answer B (kind_or_none (action_at ticket B))
+abbrev pub answer_of : Sizes → List Step → Step → Reply
+answer_of sizes B (Acquire t) = Entered (epoch_of t B) (view_of sizes t B)
+answer_of sizes B (Refresh t) = Entered (epoch_of t B) (view_of sizes t B)
+answer_of sizes B (Release t) = Left
+answer_of sizes B (Bump tag) = Ticket (bumps B)
+answer_of sizes B Take = Taken (takes B)
+answer_of sizes B (Done ticket) = done_answer B (kind_or_job_0 (action_at ticket B))
 
 -- a fault if there is one, else the answer
 abbrev pub unless_fault : {X : Type 0} → Option Fault → X → Result X Fault
@@ -74,7 +75,7 @@ unless_fault (Some fault) x = Err fault
 
 -- the reply to a step after the list A
 abbrev pub reply_of : Sizes → List Step → Step → Result Reply Fault
-reply_of sizes A s = unless_fault (fault_of sizes A s) (answer_of (A ++ s ∷ []) s)
+reply_of sizes A s = unless_fault (fault_of sizes A s) (answer_of sizes (A ++ s ∷ []) s)
 
 -- the list with the step, where it is accepted
 abbrev pub extended : Sizes → List Step → Step → List Step
