@@ -1,0 +1,3 @@
+pub mod DrainLaws
+pub mod Rising
+pub mod Places

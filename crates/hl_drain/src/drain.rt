@@ -1,0 +1,156 @@
+ghost use Rattle.std.specs.Prelude.{◌≡◌, ◌↔◌, ◌<◌, ◌≤◌, ◌==◌, [], map, position, All, IsTrue, IfOk, IfErr, OnErr};
+
+use crate::action::Action;
+use arrayvec::ArrayVec;
+use hl_model::{Fault, Kind, Tagged, Waiting};
+use std::alloc::Global;
+use std::marker::Model;
+
+/// A drain list: the pending actions and the taken ones, each oldest first.
+#[derive(Drop)]
+pub struct Drain<J> {
+    limit: usize,
+    // Both rows have room for `limit` entries from the start.
+    pending: Vec<(u64, Action<J>)>,
+    taken: Vec<Waiting>,
+}
+
+impl<J> Model for Drain<J> {
+    ghost use Rattle.hl_drain.specs.Lists.{Lists};
+
+    ghost Value = { Lists J };
+
+    ghost use Rattle.hl_drain.specs.Rows.{lists_of, IsKept};
+
+    ghost view = { lists_of };
+
+    ghost invariant = { IsKept };
+}
+
+impl<J> Drain<J> {
+    ghost use Rattle.hl_drain.specs.Lists.{IsDrain, count_of, tickets, put_answer, after_put, has_ticket, done_answer, after_done};
+
+    /// An empty list for at most `d` actions, 1 to 64.
+    ///
+    /// `OutOfMemory` where memory for them was refused.
+    pub fn open(alloc: Global, d: u64) -> Result<Drain<J>, Fault>
+        requires least { 1 ≤ d }
+        requires most { d ≤ 64 }
+        ensures ok { IfOk result (λ drain. drain ≡ record { limit = d; pending = []; taken = [] }) }
+        ensures err { IfErr result (λ fault. fault ≡ Fault.OutOfMemory) }
+    {
+        let limit = d as usize;
+        // The row of actions comes last: where it is refused, none is left to be dropped, and `J` may forbid that.
+        let taken = Vec::with_capacity(alloc, limit).map_err(|_| Fault::OutOfMemory)?;
+        let pending = Vec::with_capacity(alloc, limit).map_err(|_| Fault::OutOfMemory)?;
+        Ok(Drain {
+            limit,
+            pending,
+            taken,
+        })
+    }
+
+    /// Stores an action as the last pending one. Its ticket, an epoch, is above all tickets in the list.
+    ///
+    /// `DrainFull`, with the action handed back, where pending and taken actions together are as many as the limit.
+    pub fn put(&mut self, ticket: u64, action: Action<J>) -> Result<(), (Fault, Action<J>)>
+        requires { All (λ earlier. earlier < ticket) (tickets self.old) }
+        ensures answer { result ≡ put_answer self.old action }
+        ensures lists { self.new ≡ after_put self.old ticket action }
+        ensures refused { OnErr result (self.new ≡ self.old) }
+        ensures known { IsDrain self.new }
+    {
+        if !self.has_room() {
+            return Err((Fault::DrainFull, action));
+        }
+        self.pending.push_reserved((ticket, action));
+        Ok(())
+    }
+
+    /// The taken action of this ticket, an epoch, was carried out: it leaves the list. The answer is its kind.
+    ///
+    /// `NotTaken` where no taken action has the ticket: it is pending, or done, or was never stored.
+    pub fn done(&mut self, ticket: u64) -> Result<Kind, Fault>
+        ensures answer { result ≡ done_answer self.old ticket }
+        ensures lists { self.new ≡ after_done self.old ticket }
+        ensures refused { OnErr result (self.new ≡ self.old) }
+        ensures known { IsDrain self.new }
+    {
+        let Some(place) = self.place_of(ticket) else {
+            return Err(Fault::NotTaken);
+        };
+        Ok(self.taken.remove(place).kind)
+    }
+
+    /// The taken actions that aren't done, oldest first.
+    pub fn taken(&self) -> ArrayVec<Waiting, 64>
+        ensures list { result.items ≡ self.now.taken }
+        ensures known { IsDrain self.now }
+    {
+        let mut row = ArrayVec::new();
+        for waiting in &self.taken {
+            row.push(*waiting);
+        }
+        row
+    }
+
+    /// Whether a put would be taken: fewer actions are pending and taken than the limit.
+    pub fn has_room(&self) -> bool
+        ensures room { IsTrue result ↔ (count_of self.now < self.now.limit) }
+        ensures known { IsDrain self.now }
+    {
+        self.pending.len() + self.taken.len() < self.limit
+    }
+
+    /// The place of the taken action of this ticket, if there is one.
+    fn place_of(&self, ticket: u64) -> Option<usize>
+        ensures place { result ≡ position (has_ticket ticket) self.now.taken }
+        ensures known { IsDrain self.now }
+    {
+        self.taken
+            .iter()
+            .position(|waiting| waiting.ticket == ticket)
+    }
+}
+
+impl<J: Tagged> Drain<J> {
+    ghost use Rattle.hl_drain.specs.Actions.{waiting_of};
+    ghost use Rattle.hl_drain.specs.Lists.{IsDrain, take_answer, after_take};
+
+    /// Takes the oldest pending action, with its ticket, where that is at most the safe epoch. The list goes on
+    /// to know it as taken.
+    ///
+    /// `Empty` where none is pending. `NotReady`, with the oldest ticket and the safe epoch, where it is above.
+    pub fn take(&mut self, safe: u64) -> Result<(u64, Action<J>), Fault>
+        ensures answer { result ≡ take_answer self.old safe }
+        ensures lists { self.new ≡ after_take J.tag result self.old }
+        ensures refused { OnErr result (self.new ≡ self.old) }
+        ensures known { IsDrain self.new }
+    {
+        let Some(oldest) = self.pending.first() else {
+            return Err(Fault::Empty);
+        };
+        let front = oldest.0;
+        if front > safe {
+            return Err(Fault::NotReady { front, safe });
+        }
+        let (ticket, action) = self.pending.remove(0);
+        self.taken.push_reserved(action.waiting(ticket));
+        Ok((ticket, action))
+    }
+
+    /// The pending actions, oldest first.
+    pub fn pending(&self) -> ArrayVec<Waiting, 64>
+        ensures list { result.items ≡ map (waiting_of J.tag) self.now.pending }
+        ensures known { IsDrain self.now }
+    {
+        let mut row = ArrayVec::new();
+        for (ticket, action) in &self.pending {
+            row.push(action.waiting(*ticket));
+        }
+        row
+    }
+}
+
+#[cfg(test)]
+mod tests;
