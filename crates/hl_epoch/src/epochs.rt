@@ -1,6 +1,6 @@
 ghost use Rattle.std.specs.Prelude.{◌≡◌, ℕ, ◌-◌, ◌<◌, ◌≤◌, IfOk, IfErr};
 ghost use Rattle.hl_model.specs.Epochs.{Table};
-ghost use Rattle.hl_epoch.specs.Faults.{acquire_fault, seat_fault, bump_fault, answered, after};
+ghost use Rattle.hl_epoch.specs.Faults.{acquire_fault, protected_fault, bump_fault, answered, after};
 ghost use Rattle.hl_epoch.specs.Table.{epoch_at, safe_of, opened, entered, left, bumped, IsTable};
 
 use hl_model::Fault;
@@ -37,16 +37,16 @@ pub trait Epochs: Sized {
     ///
     /// Faults: `NoSlot` where t is S or more, `NotProtected` where the slot is not protected.
     fn refresh(&mut self, t: u64) -> Result<(), Fault>
-        ensures answer { result ≡ answered (seat_fault t (table self.old)) tt }
-        ensures effect { let old = table self.old in table self.new ≡ after (seat_fault t old) old (entered t old) }
+        ensures answer { result ≡ answered (protected_fault t (table self.old)) tt }
+        ensures effect { let old = table self.old in table self.new ≡ after (protected_fault t old) old (entered t old) }
         ensures valid { IsTable (table self.new) };
 
     /// Ends the protection of slot t.
     ///
     /// Faults: `NoSlot` where t is S or more, `NotProtected` where the slot is not protected.
     fn release(&mut self, t: u64) -> Result<(), Fault>
-        ensures answer { result ≡ answered (seat_fault t (table self.old)) tt }
-        ensures effect { let old = table self.old in table self.new ≡ after (seat_fault t old) old (left t old) }
+        ensures answer { result ≡ answered (protected_fault t (table self.old)) tt }
+        ensures effect { let old = table self.old in table self.new ≡ after (protected_fault t old) old (left t old) }
         ensures valid { IsTable (table self.new) };
 
     /// Raises the current epoch by one, and gives the epoch that ended: the ticket of the caller's action.

@@ -1,6 +1,6 @@
 ghost use Rattle.std.specs.Prelude.{◌≡◌, ℕ, ◌+◌, ◌^◌, ◌≤◌, IfOk, IfErr};
 ghost use Rattle.hl_model.specs.Epochs.{Table};
-ghost use Rattle.hl_epoch.specs.Faults.{seat_fault, answered};
+ghost use Rattle.hl_epoch.specs.Faults.{protected_fault, answered};
 ghost use Rattle.hl_epoch.specs.Table.{safe_of, opened, IsTable};
 
 use crate::epochs::Epochs;
@@ -55,8 +55,8 @@ impl ScanTable {
     }
 
     // The place of slot t in the row, if the slot is protected.
-    fn seat(&self, t: u64) -> Result<usize, Fault>
-        ensures { result ≡ answered (seat_fault t self.now) t }
+    fn place_of(&self, t: u64) -> Result<usize, Fault>
+        ensures { result ≡ answered (protected_fault t self.now) t }
     {
         match self.epochs.get(t as usize) {
             None => Err(Fault::NoSlot),
@@ -94,14 +94,14 @@ impl Epochs for ScanTable {
     }
 
     fn refresh(&mut self, t: u64) -> Result<(), Fault> {
-        let seat = self.seat(t)?;
-        self.epochs[seat] = Some(self.current);
+        let place = self.place_of(t)?;
+        self.epochs[place] = Some(self.current);
         Ok(())
     }
 
     fn release(&mut self, t: u64) -> Result<(), Fault> {
-        let seat = self.seat(t)?;
-        self.epochs[seat] = None;
+        let place = self.place_of(t)?;
+        self.epochs[place] = None;
         Ok(())
     }
 

@@ -1,0 +1,132 @@
+-- How long a word with numbers is, and that no LF stands in it.
+use Rattle.std.proofs.Common.{◌≡◌, ℕ, ◌+◌, ◌^◌, ◌<◌, ◌≤◌, ◌≢◌, ◌==◌, Bool, true, not, List, [], ◌∷◌, length, codes, decimal, ap, arith, lit<, length-append, refl}
+use Rattle.std.specs.List.{All, flat_map, list_all}
+use Rattle.std.proofs.lemmas.Bool.{and_parts, not-true, eqb-false}
+use Rattle.std.proofs.lemmas.Fmt.{length-decimal-le, decimal_by_steps}
+use Rattle.std.proofs.lemmas.List.{append-nil}
+use Rattle.std.proofs.lemmas.List.Elements.{All-nil, All-cons, All-append, All-push, All-head, All-tail}
+use Rattle.hl_model.specs.Sizes.{Sizes, AreInRange}
+use Rattle.hl_model.specs.declared.step.Step.{Step}
+use Rattle.hl_model.specs.declared.step.Step.TheVariants.{Acquire, Refresh, Release, Bump, Take, Done}
+use Rattle.hl_line.specs.declared.line.Line.{Line}
+use Rattle.hl_line.specs.declared.line.Line.TheVariants.{Config, Step as Makes, Status, Pending}
+use Rattle.hl_line.specs.Lines.{spaced, worded, step_spelling, spelling, StepFits, Fits}
+
+-- a number of 64 bits has at most 20 digits
+pub decimal_short : (n : ℕ) → n < 2 ^ 64 → length (decimal n) ≤ 20
+decimal_short n h = length-decimal-le 20 n (lit< tt) (omega arith) h
+
+-- a word alone
+pub word_length : (word : List ℕ) → length (worded word []) ≡ length word
+unfolding worded
+word_length word = ap length (append-nil word)
+
+-- a word and a number
+pub number_length : (word : List ℕ) (n : ℕ) → n < 2 ^ 64 → length (worded word (n ∷ [])) ≤ length word + 21
+unfolding worded
+number_length word n h =
+    let d = decimal_short n h in
+    omega (arith, length-append word (flat_map spaced (n ∷ [])), length-append (decimal n) [])
+
+-- a word and the three numbers of a view
+pub view_length : (word : List ℕ) (a b c : ℕ) → a < 2 ^ 64 → b < 2 ^ 64 → c < 2 ^ 64 → length (worded word (a ∷ b ∷ c ∷ [])) ≤ length word + 63
+unfolding worded
+view_length word a b c ha hb hc =
+    let da = decimal_short a ha in
+    let db = decimal_short b hb in
+    let dc = decimal_short c hc in
+    omega (arith, length-append word (flat_map spaced (a ∷ b ∷ c ∷ [])), length-append (decimal a) (flat_map spaced (b ∷ c ∷ [])), length-append (decimal b) (flat_map spaced (c ∷ [])), length-append (decimal c) [])
+
+-- the sizes of a `config`, of at most four digits each
+pub config_length : (word : List ℕ) (s : Sizes) → AreInRange s → length (worded word (s.page ∷ s.frames ∷ s.slots ∷ s.drain ∷ [])) ≤ length word + 20
+unfolding worded
+config_length word s h =
+    let dp = length-decimal-le 4 s.page (lit< tt) (omega arith) (omega arith) in
+    let df = length-decimal-le 4 s.frames (lit< tt) (omega arith) (omega arith) in
+    let ds = length-decimal-le 4 s.slots (lit< tt) (omega arith) (omega arith) in
+    let dd = length-decimal-le 4 s.drain (lit< tt) (omega arith) (omega arith) in
+    omega (arith, length-append word (flat_map spaced (s.page ∷ s.frames ∷ s.slots ∷ s.drain ∷ [])), length-append (decimal s.page) (flat_map spaced (s.frames ∷ s.slots ∷ s.drain ∷ [])), length-append (decimal s.frames) (flat_map spaced (s.slots ∷ s.drain ∷ [])), length-append (decimal s.slots) (flat_map spaced (s.drain ∷ [])), length-append (decimal s.drain) [])
+
+step_short : (s : Step) → StepFits s → length (step_spelling s) ≤ 80
+step_short (Acquire t) h = omega (arith, number_length (codes "acquire") t h)
+step_short (Refresh t) h = omega (arith, number_length (codes "refresh") t h)
+step_short (Release t) h = omega (arith, number_length (codes "release") t h)
+step_short (Bump tag) h = omega (arith, number_length (codes "bump") tag h)
+step_short Take h = omega (arith, word_length (codes "take"))
+step_short (Done ticket) h = omega (arith, number_length (codes "done") ticket h)
+
+-- a spelling has at most 80 bytes
+pub spelling_short : (l : Line) → Fits l → length (spelling l) ≤ 80
+spelling_short (Config sizes) h = omega (arith, config_length (codes "config") sizes h)
+spelling_short (Makes step) h = step_short step h
+spelling_short Status h = omega (arith, word_length (codes "status"))
+spelling_short Pending h = omega (arith, word_length (codes "pending"))
+
+-- no byte of these is an LF
+abbrev NoLineFeed : List ℕ → Type 0
+NoLineFeed s = All (λ (b : ℕ). b ≢ 10) s
+
+-- a number of 64 bits, for `All`
+abbrev FitsWord : ℕ → Type 0
+FitsWord n = n < 2 ^ 64
+
+-- no byte of a word is an LF, by a test
+abbrev is_free : List ℕ → Bool
+is_free s = list_all (λ b. not (b == 10)) s
+
+word_free : (word : List ℕ) → is_free word ≡ true → NoLineFeed word
+word_free [] h = All-nil (λ (b : ℕ). b ≢ 10)
+word_free (b ∷ bs) h =
+    let both = and_parts (not (b == 10)) (is_free bs) h in
+    All-cons (λ (b : ℕ). b ≢ 10) b bs (eqb-false b 10 (not-true (b == 10) both.0)) (word_free bs both.1)
+
+decimal_free : (n : ℕ) → n < 2 ^ 64 → NoLineFeed (decimal n)
+decimal_free n h =
+    decimal_by_steps (λ (n : ℕ) (ds : List ℕ). NoLineFeed ds)
+    (λ n low. All-cons (λ (b : ℕ). b ≢ 10) (48 + n) [] (λ e. absurd (omega arith)) (All-nil (λ (b : ℕ). b ≢ 10)))
+    (λ n ds high before. All-push (λ (b : ℕ). b ≢ 10) ds _ before (λ e. absurd (omega arith)))
+    n h
+
+numbers_free : (numbers : List ℕ) → All FitsWord numbers → NoLineFeed (flat_map spaced numbers)
+numbers_free [] h = All-nil (λ (b : ℕ). b ≢ 10)
+numbers_free (n ∷ ns) h =
+    All-append (λ (b : ℕ). b ≢ 10) (spaced n) (flat_map spaced ns)
+    (All-cons (λ (b : ℕ). b ≢ 10) 32 (decimal n) (λ e. absurd (omega arith)) (decimal_free n (All-head FitsWord n ns h)))
+    (numbers_free ns (All-tail FitsWord n ns h))
+
+-- no LF stands in a word with numbers, where none stands in the word
+worded_free : (word numbers : List ℕ) → is_free word ≡ true → All FitsWord numbers → NoLineFeed (worded word numbers)
+unfolding worded
+worded_free word numbers w h =
+    All-append (λ (b : ℕ). b ≢ 10) word (flat_map spaced numbers) (word_free word w) (numbers_free numbers h)
+
+none_fit : All FitsWord []
+none_fit = All-nil FitsWord
+
+one_fits : (n : ℕ) → n < 2 ^ 64 → All FitsWord (n ∷ [])
+one_fits n h = All-cons FitsWord n [] h none_fit
+
+step_free : (s : Step) → StepFits s → NoLineFeed (step_spelling s)
+step_free (Acquire t) h = worded_free (codes "acquire") (t ∷ []) refl (one_fits t h)
+step_free (Refresh t) h = worded_free (codes "refresh") (t ∷ []) refl (one_fits t h)
+step_free (Release t) h = worded_free (codes "release") (t ∷ []) refl (one_fits t h)
+step_free (Bump tag) h = worded_free (codes "bump") (tag ∷ []) refl (one_fits tag h)
+step_free Take h = worded_free (codes "take") [] refl none_fit
+step_free (Done ticket) h = worded_free (codes "done") (ticket ∷ []) refl (one_fits ticket h)
+
+more_fit : (n : ℕ) (ns : List ℕ) → n < 2 ^ 64 → All FitsWord ns → All FitsWord (n ∷ ns)
+more_fit n ns h hs = All-cons FitsWord n ns h hs
+
+config_free : (s : Sizes) → AreInRange s → NoLineFeed (worded (codes "config") (s.page ∷ s.frames ∷ s.slots ∷ s.drain ∷ []))
+config_free s h =
+    let drain = one_fits s.drain (omega arith) in
+    let slots = more_fit s.slots (s.drain ∷ []) (omega arith) drain in
+    let frames = more_fit s.frames (s.slots ∷ s.drain ∷ []) (omega arith) slots in
+    worded_free (codes "config") (s.page ∷ s.frames ∷ s.slots ∷ s.drain ∷ []) refl (more_fit s.page (s.frames ∷ s.slots ∷ s.drain ∷ []) (omega arith) frames)
+
+-- no byte of a spelling is an LF
+pub spelling_free : (l : Line) → Fits l → All (λ b. b ≢ 10) (spelling l)
+spelling_free (Config sizes) h = config_free sizes h
+spelling_free (Makes step) h = step_free step h
+spelling_free Status h = worded_free (codes "status") [] refl none_fit
+spelling_free Pending h = worded_free (codes "pending") [] refl none_fit

@@ -1,0 +1,33 @@
+ghost use Rattle.std.specs.Prelude.{◌≡◌};
+ghost use Rattle.hl_line.specs.Replies.{reply_text};
+
+use crate::print::{append, spelled};
+use arrayvec::ArrayString;
+use hl_model::Reply;
+
+/// The line that answers an accepted step, without an LF.
+pub fn print_reply(reply: &Reply) -> ArrayString<160>
+    ensures { result.bytes ≡ reply_text reply.now }
+{
+    spelled_reply(*reply)
+}
+
+#[tactic(auto, using(crate::proofs::Texts::word_length, crate::proofs::Texts::number_length, crate::proofs::Texts::view_length))]
+fn spelled_reply(reply: Reply) -> ArrayString<160>
+    ensures { result.bytes ≡ reply_text reply }
+{
+    match reply {
+        Reply::Entered { epoch, view } => {
+            let mut text = spelled("epoch", &[epoch]);
+            append(&mut text, " view", &[view.read_only, view.head, view.tail]);
+            text
+        }
+        Reply::Left => spelled("left", &[]),
+        Reply::Ticket(ticket) => spelled("ticket", &[ticket]),
+        Reply::Taken(ticket) => spelled("taken", &[ticket]),
+        Reply::Ran(tag) => spelled("ran", &[tag]),
+        Reply::Answer(answer) => spelled("answer", &[answer]),
+        Reply::Settled(address) => spelled("safe_read_only", &[address]),
+        Reply::Closed(address) => spelled("closed", &[address]),
+    }
+}
