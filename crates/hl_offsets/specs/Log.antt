@@ -1,0 +1,79 @@
+-- The offsets of a log: what is true of all of them, and what each call makes of them.
+use Rattle.std.specs.Prelude.{◌≡◌, ℕ, ◌+◌, ◌%◌, ◌^◌, ◌≤◌, max, IsTrue}
+use Rattle.std.specs.Int.{is_power_of_two}
+use Rattle.hl_model.specs.declared.view.Six.{Six}
+use Rattle.hl_offsets.specs.Place.{place_of}
+
+-- the words of a page, and the offsets, each an address
+pub record Log : Type 0 where
+  pub page : ℕ
+  pub closed : ℕ
+  pub head : ℕ
+  pub safe_read_only : ℕ
+  pub read_only : ℕ
+  pub tail : ℕ
+
+-- what is true of every log
+pub record IsLog (log : Log) : Type 0 where
+  pub page_least : 4 ≤ log.page
+  pub page_most : log.page ≤ 4096
+  pub page_power : IsTrue (is_power_of_two log.page)
+  pub closed_whole : log.closed % log.page ≡ 0
+  pub head_whole : log.head % log.page ≡ 0
+  pub closed_most : log.closed ≤ log.head
+  pub head_most : log.head ≤ log.safe_read_only
+  pub safe_read_only_most : log.safe_read_only ≤ log.read_only
+  pub read_only_most : log.read_only ≤ log.tail
+  pub tail_most : log.tail ≤ 2 ^ 48
+
+-- what is true of six offsets, where a page has this many words
+pub record AreSix (page : ℕ) (six : Six) : Type 0 where
+  pub closed_whole : six.closed % page ≡ 0
+  pub head_whole : six.head % page ≡ 0
+  pub flushed_whole : six.flushed % page ≡ 0
+  pub closed_most : six.closed ≤ six.head
+  pub head_most : six.head ≤ six.flushed
+  pub flushed_most : six.flushed ≤ six.safe_read_only
+  pub safe_read_only_most : six.safe_read_only ≤ six.read_only
+  pub read_only_most : six.read_only ≤ six.tail
+  pub tail_most : six.tail ≤ 2 ^ 48
+
+-- no offset is lower than it was
+pub record NoneFalls (old new : Log) : Type 0 where
+  pub closed_least : old.closed ≤ new.closed
+  pub head_least : old.head ≤ new.head
+  pub safe_read_only_least : old.safe_read_only ≤ new.safe_read_only
+  pub read_only_least : old.read_only ≤ new.read_only
+  pub tail_least : old.tail ≤ new.tail
+
+-- nothing is allocated yet
+abbrev pub started : ℕ → Log
+started page = record { page = page; closed = 0; head = 0; safe_read_only = 0; read_only = 0; tail = 0 }
+
+-- the offsets of the six but the flushed one
+abbrev pub resumed : ℕ → Six → Log
+resumed page six = record { page = page; closed = six.closed; head = six.head; safe_read_only = six.safe_read_only; read_only = six.read_only; tail = six.tail }
+
+-- the read-only offset is x
+abbrev pub raised : ℕ → Log → Log
+raised x log = record log { read_only = x }
+
+-- the head is x
+abbrev pub shifted : ℕ → Log → Log
+shifted x log = record log { head = x }
+
+-- the safe read-only offset is x, where that is more
+abbrev pub settled : ℕ → Log → Log
+settled x log = record log { safe_read_only = max log.safe_read_only x }
+
+-- the closed offset is x, where that is more
+abbrev pub closed_up_to : ℕ → Log → Log
+closed_up_to x log = record log { closed = max log.closed x }
+
+-- a record of n words is the last one
+abbrev pub allocated : ℕ → Log → Log
+allocated n log = record log { tail = place_of log.page log.tail n + n }
+
+-- the offsets with this flushed one among them
+abbrev pub six_of : Log → ℕ → Six
+six_of log flushed = record { closed = log.closed; head = log.head; flushed = flushed; safe_read_only = log.safe_read_only; read_only = log.read_only; tail = log.tail }

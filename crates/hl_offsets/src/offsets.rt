@@ -1,0 +1,249 @@
+ghost use Rattle.std.specs.Prelude.{◌≡◌, ℕ, ◌+◌, ◌%◌, ◌≤◌, max, IfOk};
+ghost use Rattle.hl_model.specs.Replies.{unless_fault};
+ghost use Rattle.hl_offsets.specs.Faults.{raise_fault, shift_fault, allocate_fault, after};
+ghost use Rattle.hl_offsets.specs.Log.{Log, IsLog, AreSix, NoneFalls, started, resumed, raised, shifted, settled, closed_up_to, allocated, six_of};
+ghost use Rattle.hl_offsets.specs.Place.{place_of, IsOnOnePage};
+
+use hl_model::{Fault, Params, Six};
+use std::marker::Model;
+
+/// The words that addresses can name: no record ends above it.
+const SPACE: u64 = 1 << 48;
+
+/// The offsets of one log, each an address, in words.
+#[derive(Clone, Copy, Debug, PartialEq, Eq)]
+pub struct Offsets {
+    page: u64,
+    closed: u64,
+    head: u64,
+    safe_read_only: u64,
+    read_only: u64,
+    tail: u64,
+}
+
+impl Model for Offsets {
+    ghost Value = { Log };
+
+    ghost view = { λ a. record { page = a.page; closed = a.closed; head = a.head; safe_read_only = a.safe_read_only; read_only = a.read_only; tail = a.tail } };
+
+    ghost invariant = { λ a. IsLog (record { page = a.page; closed = a.closed; head = a.head; safe_read_only = a.safe_read_only; read_only = a.read_only; tail = a.tail }) };
+
+    ghost inverse = { λ log. record { page = log.page; closed = log.closed; head = log.head; safe_read_only = log.safe_read_only; read_only = log.read_only; tail = log.tail } };
+}
+
+impl Offsets {
+    /// The offsets of an empty log, with pages of `params.page()` words: each is 0.
+    pub fn new(params: Params) -> Offsets
+        ensures value { result ≡ started params.page }
+        ensures valid { IsLog result }
+    {
+        Offsets {
+            page: params.page(),
+            closed: 0,
+            head: 0,
+            safe_read_only: 0,
+            read_only: 0,
+            tail: 0,
+        }
+    }
+
+    /// The offsets of a log that goes on from these six. They are in order, the closed, the head and the flushed
+    /// offset are multiples of P, and the tail is at most 2^48. The flushed offset is not kept.
+    pub fn resume(params: Params, six: Six) -> Offsets
+        requires { AreSix params.page six }
+        ensures value { result ≡ resumed params.page six }
+        ensures valid { IsLog result }
+    {
+        Offsets {
+            page: params.page(),
+            closed: six.closed,
+            head: six.head,
+            safe_read_only: six.safe_read_only,
+            read_only: six.read_only,
+            tail: six.tail,
+        }
+    }
+
+    /// Moves the read-only offset up to x, at most to the tail. From then on whoever has seen it does not write
+    /// below x.
+    ///
+    /// Faults: `NotAbove` where x is at most the read-only offset, `AboveTail` where x is above the tail.
+    pub fn raise(&mut self, x: u64) -> Result<(), Fault>
+        ensures answer { let old = self.old in result ≡ unless_fault (raise_fault old.read_only old.tail x) tt }
+        ensures effect { let old = self.old
+            in self.new ≡ after (raise_fault old.read_only old.tail x) old (raised x old) }
+        ensures rising { NoneFalls self.old self.new }
+        ensures valid { IsLog self.new }
+    {
+        if x <= self.read_only {
+            return Err(Fault::NotAbove);
+        }
+        if x > self.tail {
+            return Err(Fault::AboveTail);
+        }
+        self.read_only = x;
+        Ok(())
+    }
+
+    /// Moves the head up to x, where a page begins, at most to the flushed offset: what leaves memory has been
+    /// written. `flushed` is at most the safe read-only offset.
+    ///
+    /// Faults: `NotAbove` where x is at most the head, `NotPage` where x is no multiple of P, `AboveFlushed`
+    /// where x is above `flushed`.
+    pub fn shift(&mut self, x: u64, flushed: u64) -> Result<(), Fault>
+        requires { flushed ≤ self.old.safe_read_only }
+        ensures answer { let old = self.old in result ≡ unless_fault (shift_fault old.page old.head flushed x) tt }
+        ensures effect { let old = self.old
+            in self.new ≡ after (shift_fault old.page old.head flushed x) old (shifted x old) }
+        ensures below_flushed { self.old.head ≤ flushed → self.new.head ≤ flushed }
+        ensures rising { NoneFalls self.old self.new }
+        ensures valid { IsLog self.new }
+    {
+        if x <= self.head {
+            return Err(Fault::NotAbove);
+        }
+        if x % self.page != 0 {
+            return Err(Fault::NotPage);
+        }
+        if x > flushed {
+            return Err(Fault::AboveFlushed);
+        }
+        self.head = x;
+        Ok(())
+    }
+
+    /// Tells that nobody writes below x any more, x having been the read-only offset at some time. The safe
+    /// read-only offset becomes the greater of itself and x, and is the answer.
+    pub fn settle(&mut self, x: u64) -> u64
+        requires { x ≤ self.old.read_only }
+        ensures answer { result ≡ max self.old.safe_read_only x }
+        ensures effect { self.new ≡ settled x self.old }
+        ensures rising { NoneFalls self.old self.new }
+        ensures valid { IsLog self.new }
+    {
+        self.safe_read_only = self.safe_read_only.max(x);
+        self.safe_read_only
+    }
+
+    /// Tells that nobody reads below x any more, x having been the head at some time. The closed offset becomes
+    /// the greater of itself and x, and is the answer.
+    pub fn close(&mut self, x: u64) -> u64
+        requires whole { x % self.old.page ≡ 0 }
+        requires most { x ≤ self.old.head }
+        ensures answer { result ≡ max self.old.closed x }
+        ensures effect { self.new ≡ closed_up_to x self.old }
+        ensures rising { NoneFalls self.old self.new }
+        ensures valid { IsLog self.new }
+    {
+        self.closed = self.closed.max(x);
+        self.closed
+    }
+
+    /// Places a record of n words, 1 to P, at the tail, or at the start of the next page where the tail's page
+    /// has fewer than n words left. Gives the address of its first word; the tail comes after its last one.
+    ///
+    /// Faults: `Size` where n is 0 or above P, `SpaceSpent` where the record would end above 2^48.
+    pub fn allocate(&mut self, n: u64) -> Result<u64, Fault>
+        ensures answer { let old = self.old
+            in result ≡ unless_fault (allocate_fault old.page old.tail n) (place_of old.page old.tail n) }
+        ensures effect { let old = self.old
+            in self.new ≡ after (allocate_fault old.page old.tail n) old (allocated n old) }
+        ensures above_tail { IfOk result (λ place. self.old.tail ≤ place) }
+        ensures one_page { IfOk result (IsOnOnePage self.old.page n) }
+
+        // A lower place at or above the tail has the record on two pages.
+        ensures lowest { let old = self.old
+            in IfOk result (λ place. (a : ℕ) → old.tail ≤ a → IsOnOnePage old.page n a → place ≤ a) }
+        ensures rising { NoneFalls self.old self.new }
+        ensures valid { IsLog self.new }
+    {
+        let place = self.place(n)?;
+        self.tail = place + n;
+        Ok(place)
+    }
+
+    /// Where `allocate` would place a record of n words, or the fault that it would meet. Changes nothing.
+    pub fn place(&self, n: u64) -> Result<u64, Fault>
+        ensures answer { let now = self.now
+            in result ≡ unless_fault (allocate_fault now.page now.tail n) (place_of now.page now.tail n) }
+        ensures above_tail { IfOk result (λ place. self.now.tail ≤ place) }
+        ensures one_page { IfOk result (IsOnOnePage self.now.page n) }
+        ensures lowest { let now = self.now
+            in IfOk result (λ place. (a : ℕ) → now.tail ≤ a → IsOnOnePage now.page n a → place ≤ a) }
+        ensures valid { IsLog self.now }
+    {
+        if n == 0 || n > self.page {
+            return Err(Fault::Size);
+        }
+        let place = if self.tail % self.page + n <= self.page {
+            self.tail
+        } else {
+            (self.tail / self.page + 1) * self.page
+        };
+        if place + n > SPACE {
+            return Err(Fault::SpaceSpent);
+        }
+        Ok(place)
+    }
+
+    /// The closed offset: nobody reads below it.
+    pub fn closed(&self) -> u64
+        ensures value { result ≡ self.now.closed }
+        ensures valid { IsLog self.now }
+    {
+        self.closed
+    }
+
+    /// The head: pages below it are leaving memory, or have left it.
+    pub fn head(&self) -> u64
+        ensures value { result ≡ self.now.head }
+        ensures valid { IsLog self.now }
+    {
+        self.head
+    }
+
+    /// The safe read-only offset: nobody writes below it.
+    pub fn safe_read_only(&self) -> u64
+        ensures value { result ≡ self.now.safe_read_only }
+        ensures valid { IsLog self.now }
+    {
+        self.safe_read_only
+    }
+
+    /// The read-only offset: whoever has seen it does not write below it.
+    pub fn read_only(&self) -> u64
+        ensures value { result ≡ self.now.read_only }
+        ensures valid { IsLog self.now }
+    {
+        self.read_only
+    }
+
+    /// The tail: the next record is placed here, or at the start of the next page.
+    pub fn tail(&self) -> u64
+        ensures value { result ≡ self.now.tail }
+        ensures valid { IsLog self.now }
+    {
+        self.tail
+    }
+
+    /// The offsets, with the caller's flushed offset among them. They are in order where it is a multiple of P
+    /// between the head and the safe read-only offset.
+    pub fn six(&self, flushed: u64) -> Six
+        ensures value { result ≡ six_of self.now flushed }
+        ensures in_order { let now = self.now
+            in now.head ≤ flushed → flushed ≤ now.safe_read_only → flushed % now.page ≡ 0 → AreSix now.page result }
+        ensures valid { IsLog self.now }
+    {
+        Six {
+            closed: self.closed,
+            head: self.head,
+            flushed,
+            safe_read_only: self.safe_read_only,
+            read_only: self.read_only,
+            tail: self.tail,
+        }
+    }
+}
+
+#[cfg(test)]
+mod tests;

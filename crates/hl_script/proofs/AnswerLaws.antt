@@ -1,0 +1,51 @@
+-- What the answers to steps and queries show.
+use Rattle.std.proofs.Common.{◌≡◌, ℕ, ◌+◌, Bool, true, false, cond, is_none, is_ok, List, [], ◌∷◌, ◌++◌, length, map, refl, sym, ap, ap₂, ◌∙◌, subst}
+use Rattle.std.specs.Prelude.{Option, Some, None, Result, Ok, Err}
+use Rattle.std.specs.Io.KnownBytes.{Appends}
+use Rattle.hl_model.specs.declared.action.Tag.{Tag}
+use Rattle.hl_model.specs.declared.fault.Fault.{Fault}
+use Rattle.hl_model.specs.declared.step.Reply.{Reply}
+use Rattle.hl_model.specs.declared.step.Step.{Step}
+use Rattle.hl_model.specs.declared.view.Six.{Six}
+use Rattle.hl_model.specs.Sizes.{Sizes}
+use Rattle.hl_model.specs.Epochs.{Table, current_epoch, safe_epoch}
+use Rattle.hl_model.specs.Actions.{pending, taken}
+use Rattle.hl_model.specs.Settled.{six}
+use Rattle.hl_model.specs.Replies.{answer_of, unless_fault}
+use Rattle.hl_epoch.specs.Table.{safe_of}
+use Rattle.hl_drain.specs.Actions.{waiting_of}
+use Rattle.hl_drain.specs.Lists.{Lists}
+use Rattle.hl_script.specs.declared.machine.Broken.{Broken}
+use Rattle.hl_script.specs.declared.machine.Broken.TheVariants.{OutOfMemory as NoMemory, Stream}
+use Rattle.hl_script.specs.Answers.{line_fault, line_reply, shown, result_text, quantities_text, status_text, pending_text}
+use Rattle.hl_script.specs.Text.{below}
+use Rattle.hl_script.specs.Engine.{Puts}
+use Rattle.hl_script.specs.Shown.{number, Shows, Stepped, StepAnswers}
+use Rattle.hl_script.proofs.TakeLaws.{safe_shown}
+
+accepted_told : (o : Option Fault) (x : Reply) (r : Result Reply Fault) → r ≡ unless_fault o x → is_ok r ≡ is_none o
+accepted_told None x r h = ap is_ok h
+accepted_told (Some f) x r h = ap is_ok h
+
+-- a step's answer was written
+pub step_answered : (tags : ℕ) (sizes : Sizes) (A : List Step) (step : Step) (table : Table) (drain : Lists Tag) (row : List Bool) (result : Result Reply Fault) (old new : Option (List ℕ)) (counted : Bool) → Stepped tags sizes A step table drain row result → Appends old new (result_text result ++ 10 ∷ []) → counted ≡ is_ok result → StepAnswers tags sizes A step table drain row old new (Ok counted)
+step_answered tags sizes A step table drain row result old new counted st a c = (
+  subst (λ r. Appends old new (result_text r ++ 10 ∷ [])) st.reply a,
+  st.shows,
+  c ∙ accepted_told (line_fault (below tags) sizes A step) (shown step (answer_of sizes (A ++ step ∷ []) step)) result st.reply,
+)
+
+-- or its first bytes
+pub step_broken : (tags : ℕ) (sizes : Sizes) (A : List Step) (step : Step) (table : Table) (drain : Lists Tag) (row : List Bool) (result : Result Reply Fault) (old new : Option (List ℕ)) (e : Broken) → Stepped tags sizes A step table drain row result → Puts {A = Unit {0}} old new (result_text result ++ 10 ∷ []) (Err e) → StepAnswers tags sizes A step table drain row old new (Err e)
+step_broken tags sizes A step table drain row result old new NoMemory st p = p
+step_broken tags sizes A step table drain row result old new Stream st p = subst (λ r. Puts {A = Unit {0}} old new (result_text r ++ 10 ∷ []) (Err Stream)) st.reply p
+
+abbrev all_zero : Six
+all_zero = record { closed = 0; head = 0; flushed = 0; safe_read_only = 0; read_only = 0; tail = 0 }
+
+-- the quantities that are shown
+pub status_shown : (tags : ℕ) (sizes : Sizes) (A : List Step) (table : Table) (drain : Lists Tag) (row : List Bool) (epoch safe waits runs : ℕ) → Shows tags sizes A table drain row → epoch ≡ table.current → safe ≡ safe_of table → waits ≡ length (map (waiting_of number) drain.pending) → runs ≡ length drain.taken → quantities_text epoch safe waits runs all_zero ≡ status_text sizes A
+unfolding status_text
+status_shown tags sizes A table drain row epoch safe waits runs sh e s p t =
+    ap₂ (λ x y. quantities_text x y waits runs all_zero) (e ∙ ap (λ (z : Table). z.current) sh.table_is) (s ∙ safe_shown tags sizes A table drain row sh)
+    ∙ ap₂ (λ x y. quantities_text (current_epoch A) (safe_epoch sizes.slots A) x y all_zero) (p ∙ ap length sh.pending_is) (t ∙ ap length sh.taken_is)

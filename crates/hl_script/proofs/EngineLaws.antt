@@ -1,0 +1,208 @@
+-- What the parts of a run make of where it stands.
+use Rattle.std.proofs.Common.{◌≡◌, ◌≢◌, ℕ, ◌+◌, ◌<◌, ◌≤◌, Bool, true, false, cond, not, eqb, List, [], ◌∷◌, ◌++◌, length, take, drop, refl, sym, ap, ◌∙◌, subst, append_assoc, append-nil, arith}
+use Rattle.std.specs.Prelude.{Option, Some, None, Result, Ok, Err}
+use Rattle.std.specs.Io.KnownBytes.{Appends, Consumes, IsAtEnd, Keeps}
+use Rattle.std.proofs.lemmas.Bool.{eqb-true, false≢true}
+use Rattle.std.proofs.lemmas.List.{length_push}
+use Rattle.hl_line.specs.declared.line.Line.{Line}
+use Rattle.hl_line.specs.Reading.{line_of}
+use Rattle.hl_script.specs.declared.machine.Broken.{Broken}
+use Rattle.hl_script.specs.declared.progress.Progress.{Progress}
+use Rattle.hl_script.specs.declared.stop.Stop.{Stop}
+use Rattle.hl_script.specs.declared.stop.Stop.TheVariants.{BadLine, OutOfMemory, Reader, Writer}
+use Rattle.hl_script.specs.Cut.{whole_lines}
+use Rattle.hl_script.specs.Lines.{script, bad_line, allowed, may_stand}
+use Rattle.hl_script.specs.Answers.{accepted, accepted_after, is_accepted, sizes_of}
+use Rattle.hl_script.specs.Text.{answers, bad_text, text, count_of}
+use Rattle.hl_script.specs.Outcomes.{WroteAll, WroteBad, WroteUpTo, AppendsFront, Stopped, Settled}
+use Rattle.hl_script.specs.Engine.{answered, Answered, Refuses, Reached, Faces, Stood, At, JudgedGood, Judged, Fed, Ended, Ran}
+use Rattle.hl_script.proofs.KnownLaws.{Appends-nothing, Appends-more, Consumes-more, front-more, front-longer, at_end_left}
+use Rattle.hl_script.proofs.LineLaws.{IsBad, faces_bad, faces_good}
+use Rattle.hl_script.proofs.ReachLaws.{IsGood, reached_start, reached_byte, reached_end, reached_long, reached_last, reached_line, reached_whole, reached_done, reached_last_line}
+use Rattle.hl_script.proofs.TextLaws.{answers-nil, answers-push, answers-front, accepted-length}
+
+-- the text of bytes with a bad line
+text_bad : (has : ℕ → Bool) (bytes : List ℕ) (before : List Line) → IsBad bytes before → text has bytes ≡ answers has before ++ bad_text (Some (length before + 1))
+unfolding text
+text_bad has bytes before b = ap (λ z. answers has z ++ bad_text (bad_line bytes)) b.lines ∙ ap (λ z. answers has before ++ bad_text z) b.number
+
+-- the text of bytes with none
+text_good : (has : ℕ → Bool) (bytes : List ℕ) (lines : List Line) → IsGood bytes lines → text has bytes ≡ answers has lines
+unfolding text
+text_good has bytes lines g = ap (λ z. answers has z ++ bad_text (bad_line bytes)) g.lines ∙ ap (λ z. answers has lines ++ bad_text z) g.number ∙ append-nil (answers has lines)
+
+-- the text begins with the answers to the first good lines
+text_front : (has : ℕ → Bool) (bytes : List ℕ) (lines others : List Line) → script bytes ≡ lines ++ others → (rest : List ℕ) × (text has bytes ≡ answers has lines ++ rest)
+unfolding text
+text_front has bytes lines others e =
+    let front = answers-front has lines others in
+    (front.0 ++ bad_text (bad_line bytes), ap (λ z. answers has z ++ bad_text (bad_line bytes)) e ∙ ap (λ z. z ++ bad_text (bad_line bytes)) front.1 ∙ append_assoc (answers has lines) front.0 (bad_text (bad_line bytes)))
+
+-- a line that was allowed may stand there
+pub allowed_stands : (before : List Line) (found : Option Line) (line : Line) → allowed before found ≡ Some line → may_stand before line ≡ true
+allowed_stands before None line h = cc
+allowed_stands before (Some other) line h = by_test (may_stand before other) refl h
+  where
+    by_test : (b : Bool) → may_stand before other ≡ b → cond b (Some other) None ≡ Some line → may_stand before line ≡ true
+    by_test true is h = let same : other ≡ line = cc in ap (may_stand before) (sym same) ∙ is
+    by_test false is h = cc
+
+-- a bad line was told
+pub refused : (has : ℕ → Bool) (lacks : Line → Bool) (from mid to : Option (List ℕ)) (before : List Line) (bytes : List ℕ) (n : ℕ) (stop : Stop) → Appends from mid (answers has before) → Refuses mid to n stop → n ≡ length before + 1 → IsBad bytes before → Stopped has lacks from to stop bytes
+refused has lacks from mid to before bytes n (BadLine m) a r e b = record {
+  wrote = subst (Appends from to) (sym (text_bad has bytes before b))
+      (Appends-more from mid to (answers has before) (bad_text (Some (length before + 1))) a (subst (λ k. Appends mid to (bad_text (Some k))) e r.1));
+  bad = b.number ∙ ap (λ k. Some k) (sym e ∙ sym r.0);
+}
+refused has lacks from mid to before bytes n OutOfMemory a r e b = absurd r
+refused has lacks from mid to before bytes n Reader a r e b = absurd r
+refused has lacks from mid to before bytes n Writer a r e b =
+    subst (AppendsFront from to) (sym (text_bad has bytes before b))
+    (front-more from mid to (answers has before) (bad_text (Some (length before + 1))) a (subst (λ k. AppendsFront mid to (bad_text (Some k))) e r))
+
+-- memory was refused at a line
+pub lacked : (has : ℕ → Bool) (lacks : Line → Bool) (from mid to : Option (List ℕ)) (before : List Line) (bytes raw : List ℕ) (line : Line) → Appends from mid (answers has before) → Appends mid to [] → lacks line ≡ true → Faces bytes before raw → allowed before (line_of raw) ≡ Some line → WroteUpTo has lacks from to bytes
+lacked has lacks from mid to before bytes raw line a b l f h = record {
+  lines = before;
+  line = line;
+  others = (faces_good bytes before raw line f h).0;
+  good = (faces_good bytes before raw line f h).1;
+  stands = allowed_stands before (line_of raw) line h;
+  lacking = l;
+  wrote = subst (Appends from to) (append-nil (answers has before)) (Appends-more from mid to (answers has before) [] a b);
+}
+
+-- a write failed in an answer
+pub broken : (has : ℕ → Bool) (from mid to : Option (List ℕ)) (before : List Line) (bytes raw : List ℕ) (line : Line) → Appends from mid (answers has before) → AppendsFront mid to (answered has before line) → Faces bytes before raw → allowed before (line_of raw) ≡ Some line → AppendsFront from to (text has bytes)
+broken has from mid to before bytes raw line a b f h =
+    let good = faces_good bytes before raw line f h in
+    let front = text_front has bytes (before ++ line ∷ []) good.0 (good.1 ∙ sym (append_assoc before (line ∷ []) good.0)) in
+    front-longer from to (answers has before ++ answered has before line) front.0 (text has bytes)
+    (front-more from mid to (answers has before) (answered has before line) a b)
+    (front.1 ∙ ap (λ z. z ++ front.0) (answers-push has before line))
+
+-- a line was answered
+pub judged : (stands : (ℕ → Bool) → List Line → Type 0) (has : ℕ → Bool) (before : List Line) (raw : List ℕ) (line : Line) (from mid to : Option (List ℕ)) (counted : Bool) (old new : Progress) → Appends from mid (answers has before) → old.lines ≡ length before → old.steps ≡ length (accepted has before) → allowed before (line_of raw) ≡ Some line → Answered stands has before line mid to counted → new.lines ≡ old.lines + 1 → new.steps ≡ old.steps + cond counted 1 0 → new.line.items ≡ [] → JudgedGood stands has before raw from to new
+judged stands has before raw line from mid to counted old new a l s h answer nl ns ni = record {
+  line = line;
+  allows = h;
+  standing = answer.standing;
+  lines = omega (arith, nl, l, length_push before line);
+  steps = ns ∙ ap (λ n. n + cond counted 1 0) s ∙ ap (λ b. length (accepted has before) + cond b 1 0) answer.counts ∙ sym (accepted-length has before line);
+  next = ni;
+  wrote = subst (Appends from to) (sym (answers-push has before line)) (Appends-more from mid to (answers has before) (answered has before line) a answer.wrote);
+}
+
+-- a line ended at an LF
+pub fed_end : (old stands : (ℕ → Bool) → List Line → Type 0) (lacks : Line → Bool) (has : ℕ → Bool) (done : List ℕ) (before : List Line) (from mid to : Option (List ℕ)) (p q : Progress) (result : Result Unit Stop) → At old has done before from mid p → Judged stands lacks has before p.line.items from to q result → Fed stands lacks has (done ++ 10 ∷ []) from to q result
+fed_end old stands lacks has done before from mid to p q (Ok fed) at j = (
+  before ++ j.line ∷ [],
+  record {
+    standing = j.standing;
+    stood = record {
+      reached = subst (Reached (done ++ 10 ∷ []) (before ++ j.line ∷ [])) (sym j.next) (reached_line done before p.line.items j.line at.stood.reached j.allows);
+      lines = j.lines;
+      steps = j.steps;
+    };
+    wrote = j.wrote;
+  },
+)
+fed_end old stands lacks has done before from mid to p q (Err stop) at j =
+    λ more. j ((done ++ 10 ∷ []) ++ more) (subst (λ z. Faces z before p.line.items) (sym (append_assoc done (10 ∷ []) more)) (reached_end done before p.line.items more at.stood.reached))
+
+-- the 81st byte of a line
+pub fed_long : (stands : (ℕ → Bool) → List Line → Type 0) (lacks : Line → Bool) (has : ℕ → Bool) (done : List ℕ) (before : List Line) (b : ℕ) (from mid to : Option (List ℕ)) (p : Progress) (stop : Stop) → At stands has done before from mid p → length p.line.items ≡ 80 → b ≢ 10 → Refuses mid to (p.lines + 1) stop → (more : List ℕ) → Stopped has lacks from to stop ((done ++ b ∷ []) ++ more)
+fed_long stands lacks has done before b from mid to p stop at long ne r more =
+    let far = reached_long done before p.line.items more b at.stood.reached long ne in
+    let faces : Faces ((done ++ b ∷ []) ++ more) before far.0 = subst (λ z. Faces z before far.0) (sym (append_assoc done (b ∷ []) more)) far.1 in
+    refused has lacks from mid to before ((done ++ b ∷ []) ++ more) (p.lines + 1) stop at.wrote r (ap (λ n. n + 1) at.stood.lines) (faces_bad ((done ++ b ∷ []) ++ more) before far.0 faces (ap (allowed before) far.2))
+
+-- a byte of a line
+pub fed_byte : (stands : (ℕ → Bool) → List Line → Type 0) (has : ℕ → Bool) (done : List ℕ) (before : List Line) (b : ℕ) (from to : Option (List ℕ)) (p q : Progress) → At stands has done before from to p → b ≢ 10 → q.lines ≡ p.lines → q.steps ≡ p.steps → q.line.items ≡ p.line.items ++ b ∷ [] → (before : List Line) × At stands has (done ++ b ∷ []) before from to q
+fed_byte stands has done before b from to p q at ne l s i = (
+  before,
+  record {
+    standing = at.standing;
+    stood = record {
+      reached = subst (Reached (done ++ b ∷ []) before) (sym i) (reached_byte done before p.line.items b at.stood.reached ne);
+      lines = l ∙ at.stood.lines;
+      steps = s ∙ at.stood.steps;
+    };
+    wrote = at.wrote;
+  },
+)
+
+-- a stop is one whatever follows
+pub fed_stop : (has : ℕ → Bool) (lacks : Line → Bool) (from to : Option (List ℕ)) (stop : Stop) (done all rest : List ℕ) → all ≡ done ++ rest → ((more : List ℕ) → Stopped has lacks from to stop (done ++ more)) → (more : List ℕ) → Stopped has lacks from to stop (all ++ more)
+fed_stop has lacks from to stop done all rest e h more =
+    subst (Stopped has lacks from to stop) (sym (append_assoc done rest more) ∙ ap (λ z. z ++ more) (sym e)) (h (rest ++ more))
+
+-- the input ended behind an LF, or before its first byte
+pub ended_done : (stands : (ℕ → Bool) → List Line → Type 0) (has : ℕ → Bool) (done : List ℕ) (before : List Line) (from to : Option (List ℕ)) (p : Progress) (count : Option ℕ) → At stands has done before from to p → p.line.items ≡ [] → count ≡ count_of has before → stands has (script done) × WroteAll has from to done × (count ≡ count_of has (script done))
+ended_done stands has done before from to p count at e c =
+    let good : IsGood done before = reached_done done before (subst (Reached done before) e at.stood.reached) in (
+      subst (stands has) (sym good.lines) at.standing,
+      record { wrote = subst (Appends from to) (sym (text_good has done before good)) at.wrote; good = good.number },
+      c ∙ ap (count_of has) (sym good.lines),
+    )
+
+-- the input ended in a good line
+pub ended_line : (old stands : (ℕ → Bool) → List Line → Type 0) (has : ℕ → Bool) (done : List ℕ) (before : List Line) (from mid to : Option (List ℕ)) (p q : Progress) (count : Option ℕ) → At old has done before from mid p → p.line.items ≢ [] → (j : JudgedGood stands has before p.line.items from to q) → count ≡ count_of has (before ++ j.line ∷ []) → stands has (script done) × WroteAll has from to done × (count ≡ count_of has (script done))
+ended_line old stands has done before from mid to p q count at ne j c =
+    let good : IsGood done (before ++ j.line ∷ []) = reached_last_line done before p.line.items j.line at.stood.reached ne j.allows in (
+      subst (stands has) (sym good.lines) j.standing,
+      record { wrote = subst (Appends from to) (sym (text_good has done (before ++ j.line ∷ []) good)) j.wrote; good = good.number },
+      c ∙ ap (count_of has) (sym good.lines),
+    )
+
+-- the input ended in a bad line, or a line that was not answered
+pub ended_stop : (old stands : (ℕ → Bool) → List Line → Type 0) (lacks : Line → Bool) (has : ℕ → Bool) (done : List ℕ) (before : List Line) (from mid to : Option (List ℕ)) (p q : Progress) (stop : Stop) → At old has done before from mid p → p.line.items ≢ [] → Judged stands lacks has before p.line.items from to q (Err stop) → Stopped has lacks from to stop done
+ended_stop old stands lacks has done before from mid to p q stop at ne j = j done (reached_last done before p.line.items at.stood.reached ne)
+
+-- a read failed, or no more are made
+pub ran_out : (stands : (ℕ → Bool) → List Line → Type 0) (has : ℕ → Bool) (done : List ℕ) (before : List Line) (from to : Option (List ℕ)) (p : Progress) → At stands has done before from to p → WroteAll has from to (whole_lines done)
+ran_out stands has done before from to p at =
+    let good : IsGood (whole_lines done) before = reached_whole done before p.line.items at.stood.reached in
+    record { wrote = subst (Appends from to) (sym (text_good has (whole_lines done) before good)) at.wrote; good = good.number }
+
+-- a run stopped at a line, an error that is no failed read
+pub ran_stopped : (stands : (ℕ → Bool) → List Line → Type 0) (lacks : Line → Bool) (has : ℕ → Bool) (given left from to : Option (List ℕ)) (stop : Stop) (input : List ℕ) → Consumes given left input → Stopped has lacks from to stop input → ((more : List ℕ) → left ≡ Some more → Stopped has lacks from to stop (input ++ more)) → Ran stands lacks has given left from to (Err stop)
+ran_stopped stands lacks has given left from to (BadLine n) input c s m = (input, c, record { given = s; with_left = m })
+ran_stopped stands lacks has given left from to OutOfMemory input c s m = (input, c, record { given = s; with_left = m })
+ran_stopped stands lacks has given left from to Reader input c s m = absurd s
+ran_stopped stands lacks has given left from to Writer input c s m = (input, c, record { given = s; with_left = m })
+
+-- a run stopped in the middle of its input
+pub ran_within : (stands : (ℕ → Bool) → List Line → Type 0) (lacks : Line → Bool) (has : ℕ → Bool) (given left from to : Option (List ℕ)) (stop : Stop) (input : List ℕ) → Consumes given left input → ((more : List ℕ) → Stopped has lacks from to stop (input ++ more)) → Ran stands lacks has given left from to (Err stop)
+ran_within stands lacks has given left from to stop input c s =
+    ran_stopped stands lacks has given left from to stop input c (subst (Stopped has lacks from to stop) (append-nil input) (s [])) (λ more is. s more)
+
+-- a run came to the end of its input
+pub ran_ended : (stands : (ℕ → Bool) → List Line → Type 0) (lacks : Line → Bool) (has : ℕ → Bool) (given left from to : Option (List ℕ)) (result : Result (Option ℕ) Stop) (input : List ℕ) → Consumes given left input → IsAtEnd left → Ended stands lacks has input from to result → Ran stands lacks has given left from to result
+ran_ended stands lacks has given left from to (Ok count) input c e h = (input, c, e, h.0, h.1, h.2)
+ran_ended stands lacks has given left from to (Err stop) input c e h =
+    ran_stopped stands lacks has given left from to stop input c h (λ more is. subst (λ z. Stopped has lacks from to stop (input ++ z)) (sym (at_end_left left more e is)) (subst (Stopped has lacks from to stop) (sym (append-nil input)) h))
+
+-- a line of no bytes
+pub empty_line : (xs : List ℕ) → eqb (length xs) 0 ≡ true → xs ≡ []
+empty_line [] h = refl
+empty_line (x ∷ xs) h = absurd (omega (arith, eqb-true (length (x ∷ xs)) 0 h))
+
+-- a line of some
+pub some_line : (xs : List ℕ) → eqb (length xs) 0 ≡ false → xs ≢ []
+some_line [] h e = absurd (false≢true (sym h))
+some_line (x ∷ xs) h e = cc
+
+-- before the first read
+pub at_start : (stands : (ℕ → Bool) → List Line → Type 0) (has : ℕ → Bool) (known : Option (List ℕ)) (p : Progress) → stands has [] → p.lines ≡ 0 → p.steps ≡ 0 → p.line.items ≡ [] → At stands has [] [] known known p
+unfolding accepted accepted_after
+at_start stands has known p standing l s i = record {
+  standing = standing;
+  stood = record { reached = subst (Reached [] []) (sym i) reached_start; lines = l; steps = s };
+  wrote = subst (Appends known known) (sym (answers-nil has)) (Appends-nothing known);
+}
+
+-- a read that gave no byte
+pub read_none : (given mid left : Option (List ℕ)) (done xs : List ℕ) (n : ℕ) → Consumes given mid done → Consumes mid left (take n xs) → n ≡ 0 → Consumes given left done
+read_none given mid left done xs n a b zero =
+    subst (Consumes given left) (ap (λ k. done ++ take k xs) zero ∙ append-nil done) (Consumes-more given mid left done (take n xs) a b)

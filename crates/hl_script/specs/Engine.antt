@@ -1,0 +1,111 @@
+-- Where a run stands in its input, and how its parts leave it. No definition of the text rests on these.
+use Rattle.std.specs.Prelude.{◌≡◌, ℕ, ◌+◌, ◌==◌, Bool, true, false, Option, Some, None, Result, Ok, Err, List, [], ◌∷◌, ◌++◌, length}
+use Rattle.std.specs.List.{list_any}
+use Rattle.std.specs.Io.KnownBytes.{Appends, Consumes, IsAtEnd}
+use Rattle.hl_model.specs.Lists.{until_last}
+use Rattle.hl_line.specs.declared.line.Line.{Line}
+use Rattle.hl_line.specs.Reading.{line_of}
+use Rattle.hl_script.specs.declared.machine.Broken.{Broken}
+use Rattle.hl_script.specs.declared.machine.Broken.TheVariants.{OutOfMemory as NoMemory, Stream}
+use Rattle.hl_script.specs.declared.progress.Progress.{Progress}
+use Rattle.hl_script.specs.declared.stop.Stop.{Stop}
+use Rattle.hl_script.specs.declared.stop.Stop.TheVariants.{BadLine, OutOfMemory, Reader, Writer}
+use Rattle.hl_script.specs.Cut.{cut, whole_lines}
+use Rattle.hl_script.specs.Lines.{script, good_lines, allowed}
+use Rattle.hl_script.specs.Answers.{reply_line, accepted, is_accepted, sizes_of}
+use Rattle.hl_script.specs.Text.{answers, bad_text, count_of}
+use Rattle.hl_script.specs.Outcomes.{WroteAll, AppendsFront, Stopped, Settled}
+
+-- the byte that ends a line
+abbrev pub is_end : ℕ → Bool
+is_end b = b == 10
+
+-- what a line is answered after those before it, with the LF
+abbrev pub answered : (ℕ → Bool) → List Line → Line → List ℕ
+answered has before line = reply_line has before line ++ 10 ∷ []
+
+-- these bytes were appended, or the first of them where a write failed
+abbrev pub Puts : {A : Type 0} → Option (List ℕ) → Option (List ℕ) → List ℕ → Result A Broken → Type 0
+Puts old new bytes (Ok value) = Appends old new bytes
+Puts old new bytes (Err NoMemory) = ⊥
+Puts old new bytes (Err Stream) = AppendsFront old new bytes
+
+-- a machine that stood at the lines before answered one more
+pub record Answered (stands : (ℕ → Bool) → List Line → Type 0) (has : ℕ → Bool) (before : List Line) (line : Line) (old new : Option (List ℕ)) (counted : Bool) : Type 0 where
+  pub wrote : Appends old new (answered has before line)
+  pub standing : stands has (before ++ line ∷ [])
+  pub counts : counted ≡ is_accepted has (sizes_of before) (accepted has before) line
+
+-- what a machine that stood at the lines before made of one more
+abbrev pub Answers : ((ℕ → Bool) → List Line → Type 0) → (Line → Bool) → (ℕ → Bool) → List Line → Line → Option (List ℕ) → Option (List ℕ) → Result Bool Broken → Type 0
+Answers stands lacks has before line old new (Ok counted) = Answered stands has before line old new counted
+Answers stands lacks has before line old new (Err NoMemory) = Appends old new [] × (lacks line ≡ true)
+Answers stands lacks has before line old new (Err Stream) = AppendsFront old new (answered has before line)
+
+-- a line n that is no step was told, or the first bytes of that
+abbrev pub Refuses : Option (List ℕ) → Option (List ℕ) → ℕ → Stop → Type 0
+Refuses old new n (BadLine m) = (m ≡ n) × Appends old new (bad_text (Some n))
+Refuses old new n Writer = AppendsFront old new (bad_text (Some n))
+Refuses old new n _ = ⊥
+
+-- these bytes are the whole lines before, all of them good, and the beginning of a line
+pub record Reached (done : List ℕ) (before : List Line) (line : List ℕ) : Type 0 where
+  pub whole : List ℕ
+  pub parts : done ≡ whole ++ line
+  pub closed : (more : List ℕ) → cut (whole ++ more) ≡ cut whole ++ cut more
+  pub good : script whole ≡ before
+  pub all : length (cut whole) ≡ length before
+  pub ended : until_last is_end whole ≡ length whole
+  pub no_end : list_any is_end line ≡ false
+
+-- these bytes begin with the lines before, all of them good, and then have this one
+pub record Faces (bytes : List ℕ) (before : List Line) (line : List ℕ) : Type 0 where
+  pub front : List (List ℕ)
+  pub others : List (List ℕ)
+  pub cuts : cut bytes ≡ front ++ line ∷ others
+  pub good : good_lines [] front ≡ before
+  pub all : length front ≡ length before
+
+-- what is kept of the bytes so far
+pub record Stood (has : ℕ → Bool) (done : List ℕ) (before : List Line) (progress : Progress) : Type 0 where
+  pub reached : Reached done before progress.line.items
+  pub lines : progress.lines ≡ length before
+  pub steps : progress.steps ≡ length (accepted has before)
+
+-- a run has come so far in its input: its machine, what it keeps, and what was written since it began
+pub record At (stands : (ℕ → Bool) → List Line → Type 0) (has : ℕ → Bool) (done : List ℕ) (before : List Line) (from to : Option (List ℕ)) (progress : Progress) : Type 0 where
+  pub standing : stands has before
+  pub stood : Stood has done before progress
+  pub wrote : Appends from to (answers has before)
+
+-- a whole line was answered, and the next begins
+pub record JudgedGood (stands : (ℕ → Bool) → List Line → Type 0) (has : ℕ → Bool) (before : List Line) (bytes : List ℕ) (from to : Option (List ℕ)) (progress : Progress) : Type 0 where
+  pub line : Line
+  pub allows : allowed before (line_of bytes) ≡ Some line
+  pub standing : stands has (before ++ line ∷ [])
+  pub lines : progress.lines ≡ length (before ++ line ∷ [])
+  pub steps : progress.steps ≡ length (accepted has (before ++ line ∷ []))
+  pub next : progress.line.items ≡ []
+  pub wrote : Appends from to (answers has (before ++ line ∷ []))
+
+-- what a whole line led to
+abbrev pub Judged : ((ℕ → Bool) → List Line → Type 0) → (Line → Bool) → (ℕ → Bool) → List Line → List ℕ → Option (List ℕ) → Option (List ℕ) → Progress → Result Unit Stop → Type 0
+Judged stands lacks has before line from to progress (Ok done) = JudgedGood stands has before line from to progress
+Judged stands lacks has before line from to progress (Err stop) = (bytes : List ℕ) → Faces bytes before line → Stopped has lacks from to stop bytes
+
+-- what further bytes led to: a stop is one whatever follows them
+abbrev pub Fed : ((ℕ → Bool) → List Line → Type 0) → (Line → Bool) → (ℕ → Bool) → List ℕ → Option (List ℕ) → Option (List ℕ) → Progress → Result Unit Stop → Type 0
+Fed stands lacks has done from to progress (Ok fed) = (before : List Line) × At stands has done before from to progress
+Fed stands lacks has done from to progress (Err stop) = (more : List ℕ) → Stopped has lacks from to stop (done ++ more)
+
+-- what the end of the input led to
+abbrev pub Ended : ((ℕ → Bool) → List Line → Type 0) → (Line → Bool) → (ℕ → Bool) → List ℕ → Option (List ℕ) → Option (List ℕ) → Result (Option ℕ) Stop → Type 0
+Ended stands lacks has done from to (Ok count) = stands has (script done) × WroteAll has from to done × (count ≡ count_of has (script done))
+Ended stands lacks has done from to (Err stop) = Stopped has lacks from to stop done
+
+-- what a run led to
+abbrev pub Ran : ((ℕ → Bool) → List Line → Type 0) → (Line → Bool) → (ℕ → Bool) → Option (List ℕ) → Option (List ℕ) → Option (List ℕ) → Option (List ℕ) → Result (Option ℕ) Stop → Type 0
+Ran stands lacks has given left from to (Ok count) =
+    (input : List ℕ) × Consumes given left input × IsAtEnd left × stands has (script input) × WroteAll has from to input × (count ≡ count_of has (script input))
+Ran stands lacks has given left from to (Err Reader) = (input : List ℕ) × Consumes given left input × WroteAll has from to (whole_lines input)
+Ran stands lacks has given left from to (Err stop) = (input : List ℕ) × Consumes given left input × Settled left (Stopped has lacks from to stop) input

@@ -1,0 +1,69 @@
+-- What a run over a reader and a writer has done when it ends.
+use Rattle.std.specs.Prelude.{◌≡◌, ⊤, ℕ, ◌+◌, Bool, true, ◌⊎◌, Option, Some, None, Result, Ok, Err, List, [], ◌∷◌, ◌++◌}
+use Rattle.std.specs.Io.KnownBytes.{Appends, Consumes, IsAtEnd}
+use Rattle.hl_line.specs.declared.line.Line.{Line}
+use Rattle.hl_script.specs.declared.stop.Stop.{Stop}
+use Rattle.hl_script.specs.declared.stop.Stop.TheVariants.{BadLine, OutOfMemory, Reader, Writer}
+use Rattle.hl_script.specs.Cut.{whole_lines}
+use Rattle.hl_model.specs.declared.fault.Fault.{Fault}
+use Rattle.hl_model.specs.declared.fault.Fault.TheVariants.{BadLine as BadLineFault, OutOfMemory as OutOfMemoryFault, Stream as StreamFault}
+use Rattle.hl_script.specs.Lines.{is_config, may_stand, script, bad_line}
+use Rattle.hl_script.specs.Text.{answers, text, count_of}
+
+-- the writer took the text of these bytes, and none of their lines is bad
+pub record WroteAll (has : ℕ → Bool) (before after : Option (List ℕ)) (bytes : List ℕ) : Type 0 where
+  pub wrote : Appends before after (text has bytes)
+  pub good : bad_line bytes ≡ None
+
+-- the writer took the text of these bytes, whose first bad line is line n
+pub record WroteBad (has : ℕ → Bool) (before after : Option (List ℕ)) (n : ℕ) (bytes : List ℕ) : Type 0 where
+  pub wrote : Appends before after (text has bytes)
+  pub bad : bad_line bytes ≡ Some n
+
+-- the writer took the beginning of these bytes
+pub record AppendsFront (before after : Option (List ℕ)) (bytes : List ℕ) : Type 0 where
+  pub front : List ℕ
+  pub rest : List ℕ
+  pub wrote : Appends before after front
+  pub is_front : front ++ rest ≡ bytes
+
+-- the writer took the answers to the lines before this one, at which memory was refused
+pub record WroteUpTo (has : ℕ → Bool) (lacks : Line → Bool) (before after : Option (List ℕ)) (bytes : List ℕ) : Type 0 where
+  pub lines : List Line
+  pub line : Line
+  pub others : List Line
+  pub good : script bytes ≡ lines ++ line ∷ others
+  pub stands : may_stand lines line ≡ true
+  pub lacking : lacks line ≡ true
+  pub wrote : Appends before after (answers has lines)
+
+-- what was written where a run stopped in these bytes, but for a failed read
+abbrev pub Stopped : (ℕ → Bool) → (Line → Bool) → Option (List ℕ) → Option (List ℕ) → Stop → List ℕ → Type 0
+Stopped has lacks before after (BadLine n) bytes = WroteBad has before after n bytes
+Stopped has lacks before after OutOfMemory bytes = WroteUpTo has lacks before after bytes
+Stopped has lacks before after Reader bytes = ⊥
+Stopped has lacks before after Writer bytes = AppendsFront before after (text has bytes)
+
+-- a fact of the bytes that the reader gave, which is also one of these and all that it has left
+pub record Settled (left : Option (List ℕ)) (P : List ℕ → Type 0) (input : List ℕ) : Type 0 where
+  pub given : P input
+  pub with_left : (more : List ℕ) → left ≡ Some more → P (input ++ more)
+
+-- the writer took the beginning of the text of these bytes
+abbrev pub WroteFront : (ℕ → Bool) → Option (List ℕ) → Option (List ℕ) → List ℕ → Type 0
+WroteFront has before after bytes = AppendsFront before after (text has bytes)
+
+-- memory was refused at line 1 of these bytes, a config, and nothing was written
+pub record LackedAtConfig (before after : Option (List ℕ)) (bytes : List ℕ) : Type 0 where
+  pub line : Line
+  pub others : List Line
+  pub first : script bytes ≡ line ∷ others
+  pub config : is_config line ≡ true
+  pub nothing : Appends before after []
+
+-- the faults that a run may answer
+abbrev pub IsRunFault : Fault → Type 0
+IsRunFault (BadLineFault n) = ⊤
+IsRunFault OutOfMemoryFault = ⊤
+IsRunFault StreamFault = ⊤
+IsRunFault _ = ⊥

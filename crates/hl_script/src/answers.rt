@@ -1,0 +1,102 @@
+ghost use Rattle.std.specs.Prelude.{◌≡◌, ◌+◌, ◌≤◌, ◌++◌, ◌∷◌, [], length};
+ghost use Rattle.arrayvec.specs.ArrayString.{array_string_len};
+ghost use Rattle.hl_script.specs.Answers.{named, quantities_text, waiting_text, pending_text, result_text};
+ghost use Rattle.hl_script.specs.Engine.{Puts};
+
+use crate::machine::Broken;
+use crate::put::put;
+use arrayvec::ArrayString;
+use hl_line::{print_fault, print_reply};
+use hl_model::{Fault, Kind, Reply, Six, Waiting};
+use itoa::Buffer;
+use std::io::Write;
+
+/// Writes a text and an LF.
+///
+/// `Stream` where a write failed or took no byte; the first of the bytes were written.
+pub(crate) fn put_line<W: Write>(out: &mut W, text: &str) -> Result<(), Broken>
+    ensures { Puts (W.contents out.old) (W.contents out.new) (text.now ++ 10 ∷ []) result }
+{
+    put(out, text.as_bytes())?;
+    put(out, b"\n")
+}
+
+/// Appends a space, a name, a space and a number.
+#[tactic(auto, unfolding(crate::specs::Answers::named))]
+pub(crate) fn add_named(text: &mut ArrayString<320>, name: &str, number: u64)
+    requires { array_string_len text.old + length name.now + 22 ≤ 320 }
+    ensures bytes { text.new.bytes ≡ text.old.bytes ++ named name.now number }
+    ensures short { array_string_len text.new ≤ array_string_len text.old + length name.now + 22 }
+{
+    text.push_str(" ");
+    text.push_str(name);
+    text.push_str(" ");
+    text.push_str(Buffer::new().format(number));
+}
+
+/// The quantities by their names.
+#[tactic(auto, unfolding(crate::specs::Answers::quantities_text))]
+pub(crate) fn print_quantities(
+    epoch: u64,
+    safe: u64,
+    pending: u64,
+    taken: u64,
+    six: Six,
+) -> ArrayString<320>
+    ensures { result.bytes ≡ quantities_text epoch safe pending taken six }
+{
+    let mut text = ArrayString::new();
+    text.push_str("status");
+    add_named(&mut text, "epoch", epoch);
+    add_named(&mut text, "safe", safe);
+    add_named(&mut text, "pending", pending);
+    add_named(&mut text, "taken", taken);
+    add_named(&mut text, "closed", six.closed);
+    add_named(&mut text, "head", six.head);
+    add_named(&mut text, "flushed", six.flushed);
+    add_named(&mut text, "safe_read_only", six.safe_read_only);
+    add_named(&mut text, "read_only", six.read_only);
+    add_named(&mut text, "tail", six.tail);
+    text
+}
+
+/// An answer to a step, or the fault.
+pub(crate) fn print_result(given: &Result<Reply, Fault>) -> ArrayString<160>
+    ensures { result.bytes ≡ result_text given.now }
+{
+    match given {
+        Ok(reply) => print_reply(reply),
+        Err(fault) => print_fault(fault),
+    }
+}
+
+/// Appends a space, an action's ticket, and what it does.
+#[tactic(auto, unfolding(crate::specs::Answers::waiting_text))]
+fn add_waiting(text: &mut ArrayString<4096>, waiting: &Waiting)
+    requires { array_string_len text.old + 50 ≤ 4096 }
+    ensures bytes { text.new.bytes ≡ text.old.bytes ++ waiting_text waiting.now }
+    ensures short { array_string_len text.new ≤ array_string_len text.old + 50 }
+{
+    text.push_str(" ");
+    text.push_str(Buffer::new().format(waiting.ticket));
+    let (kind, number) = match waiting.kind {
+        Kind::User(tag) => (":user:", tag),
+        Kind::Settle(address) => (":settle:", address),
+        Kind::Close(address) => (":close:", address),
+    };
+    text.push_str(kind);
+    text.push_str(Buffer::new().format(number));
+}
+
+/// The word `pending` and these actions, at most 64.
+pub(crate) fn print_pending(waiting: &[Waiting]) -> ArrayString<4096>
+    requires { length waiting.now ≤ 64 }
+    ensures { result.bytes ≡ pending_text waiting.now }
+{
+    let mut text = ArrayString::new();
+    text.push_str("pending");
+    for action in waiting {
+        add_waiting(&mut text, action);
+    }
+    text
+}

@@ -1,0 +1,154 @@
+ghost use Rattle.std.specs.Prelude.{◌≡◌, ℕ, ◌+◌, ◌^◌, ◌<◌, ◌≤◌, Bool, Option, List, [], ◌∷◌, ◌++◌, length};
+ghost use Rattle.hl_line.specs.declared.line.Line.{Line};
+ghost use Rattle.hl_script.specs.Text.{answers};
+ghost use Rattle.hl_script.specs.Engine.{Refuses, At, Judged, Fed, Ended, Ran};
+
+use crate::machine::{Broken, Machine};
+use crate::progress::Progress;
+use crate::put::put;
+use crate::stop::Stop;
+use arrayvec::ArrayString;
+use itoa::Buffer;
+use std::io::{Read, Write};
+
+/// How many bytes a read may give.
+const CHUNK: usize = 4096;
+
+/// How many reads a run may make.
+const TURNS: u64 = 1 << 32;
+
+/// Tells that line n is no step. The answer is `BadLine` with this number, or `Writer`.
+fn refuse<W: Write>(n: u64, out: &mut W) -> Stop
+    ensures { Refuses (W.contents out.old) (W.contents out.new) n result }
+{
+    let mut text: ArrayString<64> = ArrayString::new();
+    text.push_str("line ");
+    text.push_str(Buffer::new().format(n));
+    text.push_str(": not a step\n");
+    match put(out, text.as_str().as_bytes()) {
+        Ok(()) => Stop::BadLine { n },
+        Err(_) => Stop::Writer,
+    }
+}
+
+/// Has the machine answer the line so far, which has ended here, and begins the next.
+fn judge<M: Machine, W: Write>(
+    machine: &mut M,
+    progress: &mut Progress,
+    out: &mut W,
+) -> Result<(), Stop>
+    requires standing { (has : ℕ → Bool) × (done : List ℕ) × (before : List Line) × (from : Option (List ℕ)) × At (M.stands machine.old) has done before from (W.contents out.old) progress.old }
+    requires lines { progress.old.lines < 2 ^ 63 }
+    requires steps { progress.old.steps < 2 ^ 63 }
+    ensures judged { (has : ℕ → Bool) (done : List ℕ) (before : List Line) (from : Option (List ℕ))
+        → At (M.stands machine.old) has done before from (W.contents out.old) progress.old
+        → Judged (M.stands machine.new) M.lacks has before progress.old.line.items from (W.contents out.new) progress.new result }
+    ensures lines { progress.new.lines ≤ progress.old.lines + 1 }
+    ensures steps { progress.new.steps ≤ progress.old.steps + 1 }
+{
+    let Some(line) = progress.ended_line() else {
+        return Err(refuse(progress.lines + 1, out));
+    };
+    match machine.answer(&line, out) {
+        Ok(accepted) => {
+            progress.lines += 1;
+            progress.steps += u64::from(accepted);
+            progress.line.clear();
+            Ok(())
+        }
+        Err(Broken::OutOfMemory) => Err(Stop::OutOfMemory),
+        Err(Broken::Stream) => Err(Stop::Writer),
+    }
+}
+
+/// Goes on by one byte. A line is judged at its LF, and refused at its 81st byte.
+fn take_byte<M: Machine, W: Write>(
+    machine: &mut M,
+    progress: &mut Progress,
+    byte: u8,
+    out: &mut W,
+) -> Result<(), Stop>
+    requires standing { (has : ℕ → Bool) × (done : List ℕ) × (before : List Line) × (from : Option (List ℕ)) × At (M.stands machine.old) has done before from (W.contents out.old) progress.old }
+    requires lines { progress.old.lines < 2 ^ 63 }
+    requires steps { progress.old.steps < 2 ^ 63 }
+    ensures fed { (has : ℕ → Bool) (done : List ℕ) (before : List Line) (from : Option (List ℕ))
+        → At (M.stands machine.old) has done before from (W.contents out.old) progress.old
+        → Fed (M.stands machine.new) M.lacks has (done ++ byte ∷ []) from (W.contents out.new) progress.new result }
+    ensures lines { progress.new.lines ≤ progress.old.lines + 1 }
+    ensures steps { progress.new.steps ≤ progress.old.steps + 1 }
+{
+    if byte == b'\n' {
+        return judge(machine, progress, out);
+    }
+    if progress.line.is_full() {
+        return Err(refuse(progress.lines + 1, out));
+    }
+    progress.line.push(byte);
+    Ok(())
+}
+
+/// Goes on by the bytes of one read.
+fn take_bytes<M: Machine, W: Write>(
+    machine: &mut M,
+    progress: &mut Progress,
+    bytes: &[u8],
+    out: &mut W,
+) -> Result<(), Stop>
+    requires standing { (has : ℕ → Bool) × (done : List ℕ) × (before : List Line) × (from : Option (List ℕ)) × At (M.stands machine.old) has done before from (W.contents out.old) progress.old }
+    requires lines { progress.old.lines + length bytes.now < 2 ^ 63 }
+    requires steps { progress.old.steps + length bytes.now < 2 ^ 63 }
+    ensures fed { (has : ℕ → Bool) (done : List ℕ) (before : List Line) (from : Option (List ℕ))
+        → At (M.stands machine.old) has done before from (W.contents out.old) progress.old
+        → Fed (M.stands machine.new) M.lacks has (done ++ bytes.now) from (W.contents out.new) progress.new result }
+    ensures lines { progress.new.lines ≤ progress.old.lines + length bytes.now }
+    ensures steps { progress.new.steps ≤ progress.old.steps + length bytes.now }
+{
+    for byte in bytes {
+        take_byte(machine, progress, *byte, out)?;
+    }
+    Ok(())
+}
+
+/// The input has ended: what follows its last LF is a line too where it isn't empty. The answer is how many
+/// steps were accepted, None where there was no line.
+fn finish<M: Machine, W: Write>(
+    machine: &mut M,
+    progress: &mut Progress,
+    out: &mut W,
+) -> Result<Option<u64>, Stop>
+    requires standing { (has : ℕ → Bool) × (done : List ℕ) × (before : List Line) × (from : Option (List ℕ)) × At (M.stands machine.old) has done before from (W.contents out.old) progress.old }
+    requires lines { progress.old.lines < 2 ^ 63 }
+    requires steps { progress.old.steps < 2 ^ 63 }
+    ensures { (has : ℕ → Bool) (done : List ℕ) (before : List Line) (from : Option (List ℕ))
+        → At (M.stands machine.old) has done before from (W.contents out.old) progress.old
+        → Ended (M.stands machine.new) M.lacks has done from (W.contents out.new) result }
+{
+    if progress.line.is_empty() {
+        return Ok(progress.count());
+    }
+    judge(machine, progress, out)?;
+    Ok(progress.count())
+}
+
+/// Has a machine answer the lines that a reader gives, and writes the answers. It makes at most 2^32 reads, and
+/// no read or write after one that failed. The answer is how many steps were accepted, None for no line.
+pub(crate) fn run<M: Machine, R: Read, W: Write>(
+    machine: &mut M,
+    reader: &mut R,
+    out: &mut W,
+) -> Result<Option<u64>, Stop>
+    requires { (has : ℕ → Bool) × M.stands machine.old has [] }
+    ensures { (has : ℕ → Bool) → M.stands machine.old has []
+        → Ran (M.stands machine.new) M.lacks has (R.remaining reader.old) (R.remaining reader.new) (W.contents out.old) (W.contents out.new) result }
+{
+    let mut progress = Progress::new();
+    let mut buffer = [0; CHUNK];
+    for _turn in 0..TURNS {
+        match reader.read(&mut buffer) {
+            Ok(0) => return finish(machine, &mut progress, out),
+            Ok(count) => take_bytes(machine, &mut progress, &buffer[..count], out)?,
+            Err(_) => return Err(Stop::Reader),
+        }
+    }
+    Err(Stop::Reader)
+}

@@ -1,0 +1,191 @@
+use super::run_tags;
+use hl_model::Fault;
+use std::io;
+use std::io::{Read, Write};
+use std::test::Fail;
+
+/// Gives one byte a read, and fails after `left` of them.
+#[derive(Drop)]
+struct SlowReader<'a> {
+    bytes: &'a [u8],
+    left: usize,
+}
+
+impl<'a> Read for SlowReader<'a> {
+    fn read(&mut self, buf: &mut [u8]) -> io::Result<usize> {
+        if self.left == 0 {
+            return Err(io::Error::from(io::ErrorKind::Other));
+        }
+        match (buf.first_mut(), self.bytes.first()) {
+            (Some(place), Some(byte)) => *place = *byte,
+            _ => return Ok(0),
+        }
+        self.left -= 1;
+        self.bytes = &self.bytes[1..];
+        Ok(1)
+    }
+}
+
+/// Takes one byte a write, and after `left` of them none, or fails.
+#[derive(Drop)]
+struct SmallWriter {
+    taken: Vec<u8>,
+    left: usize,
+    fails: bool,
+    calls_after: usize,
+}
+
+impl Write for SmallWriter {
+    fn write(&mut self, buf: &[u8]) -> io::Result<usize> {
+        if self.left == 0 {
+            self.calls_after = self.calls_after.saturating_add(1);
+            return if self.fails {
+                Err(io::Error::from(io::ErrorKind::Interrupted))
+            } else {
+                Ok(0)
+            };
+        }
+        let Some(byte) = buf.first() else {
+            return Ok(0);
+        };
+        match self.taken.push(*byte) {
+            Ok(()) => {
+                self.left -= 1;
+                Ok(1)
+            }
+            Err(_) => Err(io::Error::from(io::ErrorKind::OutOfMemory)),
+        }
+    }
+
+    fn flush(&mut self) -> io::Result<()> {
+        Ok(())
+    }
+}
+
+const FIRST_ACTION: &str =
+    "config 4 2 2 2\nacquire 0\nbump 7\ntake\nrefresh 0\ntake\ndone 1\ntake\nstatus\n";
+
+const FIRST_ACTION_TEXT: &str =
+    "opened\nepoch 1 view 0 0 0\nticket 1\nfault 8 NotReady front 1 safe 0\nepoch 2 view 0 0 0\ntaken 1\nanswer 8\nfault 7 Empty\nstatus epoch 2 safe 1 pending 0 taken 0 closed 0 head 0 flushed 0 safe_read_only 0 read_only 0 tail 0\n";
+
+const BAD_LINE: &str = "config 4 2 2 2\nacquire 0\nacquir 0\n";
+
+const BAD_LINE_TEXT: &str = "opened\nepoch 1 view 0 0 0\nline 3: not a step\n";
+
+/// Counts the bytes that it takes, and keeps none.
+#[derive(Drop)]
+struct CountingWriter {
+    bytes: usize,
+}
+
+impl Write for CountingWriter {
+    fn write(&mut self, buf: &[u8]) -> io::Result<usize> {
+        self.bytes = self.bytes.saturating_add(buf.len());
+        Ok(buf.len())
+    }
+
+    fn flush(&mut self) -> io::Result<()> {
+        Ok(())
+    }
+}
+
+#[test]
+fn writes_nothing_where_memory_is_refused(rt: HostRuntime) {
+    let mut reader = FIRST_ACTION.as_bytes();
+    let mut writer = CountingWriter { bytes: 0 };
+    match run_tags(rt.alloc(), &mut reader, &mut writer, 8) {
+        Err(Fault::OutOfMemory) => assert_eq!(rt; writer.bytes, 0),
+        answer => {
+            assert_eq!(rt; answer, Ok(Some(5)));
+            assert_eq!(rt; writer.bytes, FIRST_ACTION_TEXT.len());
+        }
+    }
+}
+
+#[test]
+fn writes_the_worked_texts(rt: HostRuntime) -> Result<(), Fail> {
+    let cases = [
+        ("", "", Ok(None)),
+        (FIRST_ACTION, FIRST_ACTION_TEXT, Ok(Some(5))),
+        (
+            "config 4 2 2 2\nbump 3\ntake\ndone 1\nrelease 0\n",
+            "opened\nticket 1\ntaken 1\nanswer 4\nfault 3 NotProtected\n",
+            Ok(Some(3)),
+        ),
+        (
+            "config 4 2 2 2\nacquire 0\nbump 1\nbump 2\nbump 3\nrefresh 0\ntake\nbump 3\ndone 1\nbump 3\ntake\ndone 2\nbump 3\npending\n",
+            "opened\nepoch 1 view 0 0 0\nticket 1\nticket 2\nfault 5 DrainFull\nepoch 3 view 0 0 0\ntaken 1\nfault 5 DrainFull\nanswer 2\nticket 3\ntaken 2\nanswer 4\nfault 24 NoJob\npending 3:user:3\n",
+            Ok(Some(9)),
+        ),
+        (BAD_LINE, BAD_LINE_TEXT, Err(Fault::BadLine { n: 3 })),
+        (
+            "config 6 2 2 2\n",
+            "line 1: not a step\n",
+            Err(Fault::BadLine { n: 1 }),
+        ),
+        (
+            "config 4 2 2 2\nacquire 0",
+            "opened\nepoch 1 view 0 0 0\n",
+            Ok(Some(1)),
+        ),
+    ];
+    for (script, text, result) in cases {
+        let mut reader = script.as_bytes();
+        let mut writer = Vec::new(rt.alloc());
+        let answer = run_tags(rt.alloc(), &mut reader, &mut writer, 8);
+        assert_eq!(rt; answer, result, "{script}");
+        assert!(rt; writer.as_slice() == text.as_bytes(), "{script}");
+    }
+    Ok(())
+}
+
+#[test]
+fn reads_one_byte_at_a_time(rt: HostRuntime) -> Result<(), Fail> {
+    let mut reader = SlowReader {
+        bytes: FIRST_ACTION.as_bytes(),
+        left: 1000,
+    };
+    let mut writer = Vec::new(rt.alloc());
+    assert_eq!(rt;
+        run_tags(rt.alloc(), &mut reader, &mut writer, 8),
+        Ok(Some(5))
+    );
+    assert!(rt; writer.as_slice() == FIRST_ACTION_TEXT.as_bytes());
+    Ok(())
+}
+
+#[test]
+fn answers_whole_lines_before_a_failed_read(rt: HostRuntime) -> Result<(), Fail> {
+    // The read fails in the line `bump 7`.
+    let mut reader = SlowReader {
+        bytes: FIRST_ACTION.as_bytes(),
+        left: 28,
+    };
+    let mut writer = Vec::new(rt.alloc());
+    assert_eq!(rt;
+        run_tags(rt.alloc(), &mut reader, &mut writer, 8),
+        Err(Fault::Stream)
+    );
+    assert!(rt; writer.as_slice() == b"opened\nepoch 1 view 0 0 0\n".as_slice());
+    Ok(())
+}
+
+#[test]
+fn stops_at_a_write_that_fails_or_takes_nothing(rt: HostRuntime) -> Result<(), Fail> {
+    for fails in [true, false] {
+        let mut reader = FIRST_ACTION.as_bytes();
+        let mut writer = SmallWriter {
+            taken: Vec::new(rt.alloc()),
+            left: 12,
+            fails,
+            calls_after: 0,
+        };
+        assert_eq!(rt;
+            run_tags(rt.alloc(), &mut reader, &mut writer, 8),
+            Err(Fault::Stream)
+        );
+        assert!(rt; writer.taken.as_slice() == b"opened\nepoch".as_slice());
+        assert_eq!(rt; writer.calls_after, 1);
+    }
+    Ok(())
+}

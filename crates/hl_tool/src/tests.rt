@@ -1,0 +1,119 @@
+use crate::command::command;
+use std::process::Abort;
+use std::test::Fail;
+
+// Runs the program on words and a script, and wants this output and status, and nothing said to the user.
+fn expect(rt: &(impl Abort + AllocGlobal), script: &str, output: &str, status: u8) {
+    let mut reader = script.as_bytes();
+    let mut writer = Vec::new(rt.alloc());
+    let mut errors = Vec::new(rt.alloc());
+    let words = ["hl_tool", "run"];
+    let ended = command(
+        rt,
+        rt.alloc(),
+        &words,
+        &mut reader,
+        &mut writer,
+        &mut errors,
+    );
+    assert_eq!(rt;
+        String::from_utf8_lossy(rt.alloc(), &writer)
+            .expect(rt, "memory")
+            .as_str(),
+        output
+    );
+    assert!(rt; errors.is_empty());
+    assert_eq!(rt; ended, status);
+}
+
+#[test]
+fn no_line_gives_no_text(rt: HostRuntime) {
+    expect(&rt, "", "", 0);
+}
+
+#[test]
+fn first_action(rt: HostRuntime) {
+    let script = "config 4 2 2 2\nacquire 0\nbump 7\ntake\nrefresh 0\ntake\ndone 1\ntake\nstatus\n";
+    let output =
+        "opened\nepoch 1 view 0 0 0\nticket 1\nfault 8 NotReady front 1 safe 0\nepoch 2 view 0 0 0\ntaken 1\nanswer 8\nfault 7 Empty\nstatus epoch 2 safe 1 pending 0 taken 0 closed 0 head 0 flushed 0 safe_read_only 0 read_only 0 tail 0\n";
+    expect(&rt, script, output, 0);
+}
+
+#[test]
+fn nobody_protected(rt: HostRuntime) {
+    let script = "config 4 2 2 2\nbump 3\ntake\ndone 1\nrelease 0\n";
+    let output = "opened\nticket 1\ntaken 1\nanswer 4\nfault 3 NotProtected\n";
+    expect(&rt, script, output, 0);
+}
+
+#[test]
+fn full_drain_list(rt: HostRuntime) {
+    let script =
+        "config 4 2 2 2\nacquire 0\nbump 1\nbump 2\nbump 3\nrefresh 0\ntake\nbump 3\ndone 1\nbump 3\ntake\ndone 2\nbump 3\npending\n";
+    let output =
+        "opened\nepoch 1 view 0 0 0\nticket 1\nticket 2\nfault 5 DrainFull\nepoch 3 view 0 0 0\ntaken 1\nfault 5 DrainFull\nanswer 2\nticket 3\ntaken 2\nanswer 4\nfault 24 NoJob\npending 3:user:3\n";
+    expect(&rt, script, output, 0);
+}
+
+#[test]
+fn a_bad_line_ends_the_text(rt: HostRuntime) {
+    let good = "opened\nepoch 1 view 0 0 0\n";
+    expect(&rt, "config 4 2 2 2\nacquire 0", good, 0);
+    expect(
+        &rt,
+        "config 4 2 2 2\nacquire 0\nacquir 0\n",
+        "opened\nepoch 1 view 0 0 0\nline 3: not a step\n",
+        2,
+    );
+    expect(&rt, "config 6 2 2 2\n", "line 1: not a step\n", 2);
+    // No job has tag 1000.
+    expect(
+        &rt,
+        "config 4 2 2 2\nbump 999\nbump 1000\n",
+        "opened\nticket 1\nfault 24 NoJob\n",
+        0,
+    );
+}
+
+#[test]
+fn refuses_other_words(rt: HostRuntime) -> Result<(), Fail> {
+    for words in [
+        ["hl_tool", "walk"].as_slice(),
+        ["hl_tool"].as_slice(),
+        ["hl_tool", "run", "fast"].as_slice(),
+    ] {
+        let mut reader = b"config 4 2 2 2\n".as_slice();
+        let mut writer = Vec::new(rt.alloc());
+        let mut errors = Vec::new(rt.alloc());
+        let status = command(
+            &rt,
+            rt.alloc(),
+            words,
+            &mut reader,
+            &mut writer,
+            &mut errors,
+        );
+        assert_eq!(rt; status, 2);
+        assert!(rt; writer.is_empty());
+        assert!(rt; !errors.is_empty());
+    }
+    Ok(())
+}
+
+#[test]
+fn helps(rt: HostRuntime) {
+    let mut reader = b"".as_slice();
+    let mut writer = Vec::new(rt.alloc());
+    let mut errors = Vec::new(rt.alloc());
+    let status = command(
+        &rt,
+        rt.alloc(),
+        &["hl_tool", "--help"],
+        &mut reader,
+        &mut writer,
+        &mut errors,
+    );
+    assert_eq!(rt; status, 0);
+    assert!(rt; !writer.is_empty());
+    assert!(rt; errors.is_empty());
+}
