@@ -1,15 +1,15 @@
 -- What the drain list becomes when one step is put behind the list.
-use Rattle.std.proofs.Common.{ap₂, add-zero, ◌≡◌, ℕ, zero, suc, ◌+◌, ◌-◌, ◌<◌, ◌≤◌, Bool, true, false, cond, not, ◌&&◌, ◌||◌, eqb, leb, is_some, List, [], ◌∷◌, ◌++◌, length, take, drop, map, get_or, refl, sym, ap, ◌∙◌, subst, arith, append_assoc, append-nil, zero-add, length-append, length-drop}
-use Rattle.std.specs.Prelude.{◌==◌, Option, Some, None}
-use Rattle.std.specs.List.{drop-map, list_any, count_by, filter, find, range_with_len}
-use Rattle.std.proofs.lemmas.List.{length_push, map-append, take-append-le, drop-append-le}
+use Rattle.std.proofs.Common.{ap₂, add-zero, ◌≡◌, ℕ, zero, suc, ◌+◌, ◌-◌, ◌≤◌, Bool, true, false, cond, not, ◌&&◌, ◌||◌, List, [], ◌∷◌, ◌++◌, length, take, drop, map, refl, sym, ap, ◌∙◌, arith, append-nil, length-append, length-drop}
+use Rattle.std.specs.Prelude.{◌==◌}
+use Rattle.std.specs.List.{drop-map, filter, range_with_len}
+use Rattle.std.proofs.lemmas.List.{map-append, take-append-le, drop-append-le}
 use Rattle.std.proofs.lemmas.List.Elements.{filter-append}
 use Rattle.hl_model.specs.declared.action.Waiting.{Waiting}
 use Rattle.hl_model.specs.declared.step.Step.{Step}
 use Rattle.hl_model.specs.declared.step.Step.TheVariants.{Bump, Take, Done}
 use Rattle.hl_model.specs.Lists.{gather, gather_after}
 use Rattle.hl_model.specs.Epochs.{is_bump, current_epoch}
-use Rattle.hl_model.specs.Actions.{is_take, is_done, finishes, bumps, takes, dones, action_of, actions, is_finished, pending, taken, is_taken, is_full, action_at}
+use Rattle.hl_model.specs.Actions.{is_take, is_done, finishes, bumps, takes, dones, action_of, actions, is_finished, pending, taken}
 use Rattle.hl_model.proofs.ListLaws.{count_by-push, list_any-push, gather-push, by_pushing}
 
 pub bumps-push : (A : List Step) (s : Step) → bumps (A ++ s ∷ []) ≡ bumps A + cond (is_bump s) 1 0

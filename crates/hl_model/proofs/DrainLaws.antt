@@ -1,23 +1,23 @@
 -- What holds of the drain list of every accepted list.
-use Rattle.std.proofs.Common.{◌≡◌, ℕ, zero, suc, ◌+◌, ◌-◌, ◌<◌, ◌≤◌, Bool, true, false, cond, not, ◌&&◌, ◌||◌, eqb, leb, ltb, is_some, is_none, List, [], ◌∷◌, ◌++◌, length, take, map, refl, sym, ap, ap₂, ◌∙◌, subst, arith, le_trans, le_refl, inl, inr, ◌⊎◌}
+use Rattle.std.proofs.Common.{◌≡◌, ℕ, zero, suc, ◌+◌, ◌-◌, ◌<◌, ◌≤◌, Bool, true, false, cond, not, ◌&&◌, leb, ltb, is_some, List, [], ◌∷◌, ◌++◌, length, take, refl, sym, ap, ◌∙◌, subst, arith, inl, inr, ◌⊎◌}
 use Rattle.std.specs.Prelude.{◌==◌, Option, Some, None}
-use Rattle.std.specs.List.{filter, find, range_with_len}
-use Rattle.std.proofs.lemmas.Bool.{eqb-true, eqb-false, ltb-true, ltb-false, leb-true, leb-false, le-leb, lt-leb, lt-ltb, le-ltb, and_parts, and_right, not-true, or_cases, false_from_ne_true, cases_lt}
+use Rattle.std.specs.List.{filter}
+use Rattle.std.proofs.lemmas.Bool.{eqb-true, eqb-false, ltb-false, leb-true, leb-false, le-leb, lt-leb, lt-ltb, le-ltb, and_parts, and_right, not-true, or_cases, false_from_ne_true, cases_lt}
 use Rattle.std.proofs.lemmas.List.{length_push}
 use Rattle.hl_model.specs.declared.action.Waiting.{Waiting}
 use Rattle.hl_model.specs.declared.fault.Fault.{Fault}
 use Rattle.hl_model.specs.declared.fault.Fault.TheVariants.{NoSlot, Occupied, NotProtected, DrainFull, EpochsSpent, Empty, NotReady, NotTaken}
 use Rattle.hl_model.specs.declared.step.Step.{Step}
-use Rattle.hl_model.specs.declared.step.Step.TheVariants.{Acquire, Refresh, Release, Bump, Take, Done}
+use Rattle.hl_model.specs.declared.step.Step.TheVariants.{Acquire, Refresh, Bump, Take, Done}
 use Rattle.hl_model.specs.Sizes.{Sizes}
 use Rattle.hl_model.specs.Lists.{gather, gather_after}
 use Rattle.hl_model.specs.Epochs.{is_bump, enters, leaves, current_epoch, is_protected, slot_epoch, safe_epoch}
-use Rattle.hl_model.specs.Actions.{is_take, is_done, finishes, bumps, takes, dones, front, actions, is_finished, pending, taken, is_taken, is_full, action_at}
-use Rattle.hl_model.specs.Replies.{epoch_last, fault_of, acquire_fault, protected_fault, bump_fault, take_fault, IsAccepted}
+use Rattle.hl_model.specs.Actions.{is_take, is_done, finishes, bumps, takes, dones, actions, is_finished, pending, taken, is_taken, is_full, action_at}
+use Rattle.hl_model.specs.Replies.{epoch_last, fault_of, bump_fault, IsAccepted}
 use Rattle.hl_model.proofs.ListLaws.{one_where, none_where}
 use Rattle.hl_model.proofs.AcceptedLaws.{accepted_has}
-use Rattle.hl_model.proofs.ActionLaws.{bumps-push, takes-push, takes-stay, dones-push, current_epoch-bumps, length-actions, is_finished-push, tickets-actions, length-pending, taken-stores, taken-take, taken-done, ticket-front}
-use Rattle.hl_model.proofs.EpochLaws.{slot_epoch-push, slot_epoch-nil, is_protected-slot_epoch, safe_epoch-push, safe_epoch-current}
+use Rattle.hl_model.proofs.ActionLaws.{bumps-push, takes-push, takes-stay, dones-push, current_epoch-bumps, is_finished-push, tickets-actions, length-pending, taken-stores, taken-take, taken-done, ticket-front}
+use Rattle.hl_model.proofs.EpochLaws.{slot_epoch-push, slot_epoch-nil, safe_epoch-push}
 use Rattle.hl_model.proofs.TicketLaws.{of_ticket, Rising, Rising-range, Rising-take, Rising-filter, length-removed, of_ticket-filter, of_ticket-take, of_ticket-some, of_ticket-below}
 
 -- no fault of two: neither test holds

@@ -1,7 +1,7 @@
 -- What the epochs become when one step is put behind the list, and what holds of them in every list.
-use Rattle.std.proofs.Common.{subst, append-nil, append_assoc, le_trans, le_refl, eq-eqb, ne_eqb, get_or, ◌≢◌, ◌≡◌, ℕ, zero, suc, ◌+◌, ◌-◌, ◌<◌, ◌≤◌, Bool, true, false, cond, ◌||◌, ltb, List, [], ◌∷◌, ◌++◌, length, take, refl, sym, ap, ◌∙◌, arith, take_all, lt-ltb, le-ltb, is_some, IfSome, map, set}
+use Rattle.std.proofs.Common.{subst, append-nil, append_assoc, le_trans, le_refl, eq-eqb, ne_eqb, get_or, ◌≢◌, ◌≡◌, ℕ, ◌+◌, ◌<◌, ◌≤◌, Bool, true, false, cond, ltb, List, [], ◌∷◌, ◌++◌, length, take, refl, sym, ap, ◌∙◌, arith, take_all, lt-ltb, le-ltb, is_some, map, set}
 use Rattle.std.specs.Prelude.{Option, Some, None}
-use Rattle.std.specs.List.{list_any, AllByRecursion, filter_map, range_with_len}
+use Rattle.std.specs.List.{filter_map, range_with_len}
 use Rattle.std.proofs.lemmas.List.{length_push, take-append-le}
 use Rattle.std.proofs.lemmas.Bool.{cond-true, cond-false}
 use Rattle.hl_model.specs.declared.step.Step.{Step}

@@ -1,26 +1,23 @@
 -- The laws of every list of steps.
-use Rattle.std.proofs.Common.{leb, ap₂, ◌≡◌, ℕ, zero, suc, ◌+◌, ◌-◌, ◌<◌, ◌≤◌, ◌↔◌, Bool, true, false, cond, ◌||◌, is_some, List, [], ◌∷◌, ◌++◌, length, take, drop, refl, sym, ap, ◌∙◌, subst, arith, append_assoc, append-nil, add-zero, inl, inr, ◌⊎◌}
-use Rattle.std.specs.Prelude.{◌==◌, Option, Some, None, Result, Ok, Err}
-use Rattle.std.specs.List.{find, list_any, count_by, sum_by, range_with_len}
-use Rattle.std.proofs.lemmas.Bool.{eqb-false, both_ways, false_from_ne_true, leb-false, eqb-true, cases_lt, or_parts, true_from_ne_false}
+use Rattle.std.proofs.Common.{leb, ap₂, ◌≡◌, ℕ, zero, suc, ◌+◌, ◌-◌, ◌<◌, ◌≤◌, ◌↔◌, Bool, true, false, cond, ◌||◌, is_some, List, [], ◌∷◌, ◌++◌, length, take, drop, refl, sym, ap, ◌∙◌, subst, arith, append_assoc, append-nil, inl, inr, ◌⊎◌}
+use Rattle.std.specs.Prelude.{◌==◌, Some, None, Ok}
+use Rattle.std.specs.List.{find, list_any, count_by, range_with_len}
+use Rattle.std.proofs.lemmas.Bool.{eqb-false, both_ways, false_from_ne_true, eqb-true, cases_lt, or_parts, true_from_ne_false}
 use Rattle.std.proofs.lemmas.List.{take-append-drop, take-append-le}
 use Rattle.std.proofs.Math.Seq.{take-append-add}
 use Rattle.hl_model.specs.declared.action.Kind.{Kind}
 use Rattle.hl_model.specs.declared.action.Kind.TheVariants.{User, Settle, Close}
 use Rattle.std.proofs.lemmas.List.Sums.{sum_by-append}
-use Rattle.hl_model.specs.declared.fault.Fault.{Fault}
 use Rattle.hl_model.specs.declared.fault.Fault.TheVariants.{NoSlot, Occupied}
-use Rattle.hl_model.specs.declared.step.Reply.{Reply}
-use Rattle.hl_model.specs.declared.step.Reply.TheVariants.{Taken}
 use Rattle.hl_model.specs.declared.step.Step.{Step}
 use Rattle.hl_model.specs.declared.step.Step.TheVariants.{Acquire, Refresh, Release, Bump, Take, Done}
 use Rattle.hl_model.specs.Sizes.{Sizes}
 use Rattle.hl_model.specs.Lists.{until_last, gather, gather_after}
 use Rattle.hl_model.specs.Epochs.{is_bump, enters, leaves, current_epoch, mark, is_protected, up_to_mark, epoch_of, slot_epoch, safe_epoch}
-use Rattle.hl_model.specs.Actions.{is_take, bumps, takes, dones, front, actions, pending, taken, action_at}
+use Rattle.hl_model.specs.Actions.{is_take, bumps, takes, pending, taken, action_at}
 use Rattle.hl_model.specs.Replies.{epoch_last, done_answer, kind_or_job_0, fault_of, reply_of, unless_fault, answer_of, IsAccepted}
 use Rattle.hl_model.specs.Laws.{AcceptedMeetsNoFault, CurrentIsAtMostLast, DrainListHoldsThem, TicketsCountUp, TakenAreThoseListed, EpochsAreInOrder, SafeIsGreatest, MarkAfterBump, ticket_told, tickets_told, TakesCountUp, moves_on, TakenAfterAllMovedOn}
-use Rattle.hl_model.proofs.ListLaws.{list_any-push, until_last-push, gather-push, by_pushing, one_where, none_where}
+use Rattle.hl_model.proofs.ListLaws.{list_any-push, gather-push, by_pushing, one_where, none_where}
 use Rattle.hl_model.proofs.AcceptedLaws.{IsAccepted-front, IsAccepted-parts, accepted_has}
 use Rattle.hl_model.proofs.EpochLaws.{current_epoch-nil, safe_epoch-current, current_epoch-push, enters-is_bump, slot_epoch-stays, slot_epoch-range, is_protected-slot_epoch, epoch_of-slot_epoch, safe_epoch-below, safe_epoch-greatest}
 use Rattle.hl_model.proofs.ActionLaws.{tickets-actions, tickets-pending, range-push, current_epoch-bumps, takes-push, takes-stay}

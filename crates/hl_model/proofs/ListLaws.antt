@@ -1,6 +1,6 @@
 -- Laws of the ways in which the definitions look back, each for one element more at the end.
-use Rattle.std.proofs.Common.{◌≡◌, ℕ, zero, suc, ◌+◌, ◌-◌, ◌<◌, ◌≤◌, Bool, true, false, cond, ◌||◌, min, List, [], ◌∷◌, ◌++◌, length, take, refl, sym, ap, ◌∙◌, arith, append_assoc, append-nil, zero-add, le_trans, subst}
-use Rattle.std.specs.List.{list_any, sum_by, count_by, AllByRecursion}
+use Rattle.std.proofs.Common.{◌≡◌, ℕ, suc, ◌+◌, ◌<◌, ◌≤◌, Bool, true, false, cond, ◌||◌, min, List, [], ◌∷◌, ◌++◌, length, refl, sym, ap, ◌∙◌, arith, append_assoc, append-nil, zero-add, le_trans, subst}
+use Rattle.std.specs.List.{list_any, count_by, AllByRecursion}
 use Rattle.std.proofs.lemmas.List.Sums.{sum_by-append}
 use Rattle.hl_model.specs.Lists.{until_last, gather_after, gather, least_or}
 

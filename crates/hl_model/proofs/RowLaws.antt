@@ -1,5 +1,5 @@
 -- Laws of what is told of each of n slots, in order.
-use Rattle.std.proofs.Common.{subst, ◌⊎◌, ◌≡◌, ℕ, zero, suc, ◌+◌, ◌-◌, ◌<◌, ◌≤◌, ◌≢◌, List, [], ◌∷◌, length, get_or, refl, sym, ap, ◌∙◌, arith, map, set, length-set, get_or-set_same, get_or-set_other, zero-add, inl, inr, ⊎_elim, add-one}
+use Rattle.std.proofs.Common.{subst, ◌⊎◌, ◌≡◌, ℕ, zero, suc, ◌+◌, ◌<◌, ◌≤◌, ◌≢◌, List, get_or, refl, sym, ap, ◌∙◌, arith, map, set, length-set, get_or-set_same, get_or-set_other, zero-add, inl, inr}
 use Rattle.std.specs.Prelude.{Option, Some, None}
 use Rattle.std.specs.List.{AllByRecursion, filter_map, cons_option, range_with_len}
 use Rattle.std.proofs.lemmas.List.{same_lists}

@@ -1,8 +1,8 @@
 -- Lists of actions whose tickets rise: what a look-up, a filter and a front of them have.
-use Rattle.std.proofs.Common.{eq-eqb, ◌≡◌, ℕ, zero, suc, ◌+◌, ◌-◌, ◌<◌, ◌≤◌, Bool, true, false, cond, not, ◌&&◌, eqb, leb, ltb, is_some, List, [], ◌∷◌, ◌++◌, length, take, map, refl, sym, ap, ap₂, ◌∙◌, subst, arith, eqb-true, ne_eqb, lt_of_le_of_lt, le_refl, le_of_lt}
-use Rattle.std.specs.Prelude.{◌==◌, Option, Some, None}
-use Rattle.std.specs.List.{filter, find, range_with_len, AllByRecursion}
-use Rattle.std.proofs.lemmas.Bool.{eqb-false, ltb-true, lt-ltb, le-ltb, le-leb, lt-leb, cases_lt}
+use Rattle.std.proofs.Common.{eq-eqb, ◌≡◌, ℕ, zero, suc, ◌+◌, ◌<◌, ◌≤◌, Bool, true, false, cond, not, ltb, is_some, List, [], ◌∷◌, length, take, map, refl, sym, ap, ◌∙◌, arith, eqb-true, ne_eqb, lt_of_le_of_lt, le_refl, le_of_lt}
+use Rattle.std.specs.Prelude.{◌==◌, Option, None}
+use Rattle.std.specs.List.{filter, find, range_with_len}
+use Rattle.std.proofs.lemmas.Bool.{eqb-false, ltb-true, lt-ltb}
 use Rattle.hl_model.specs.declared.action.Waiting.{Waiting}
 
 -- the action of ticket c, among some

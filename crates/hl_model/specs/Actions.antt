@@ -1,7 +1,6 @@
 -- The drain list, looked up in one flat list of steps (FASTER's actions, stored by a bump of the epoch).
-use Rattle.std.specs.Prelude.{ℕ, ◌+◌, ◌-◌, ◌==◌, nat_le, Bool, true, false, ◌&&◌, not, Option, Some, None, List, [], ◌∷◌, take, drop, filter, find, count_by}
+use Rattle.std.specs.Prelude.{ℕ, ◌+◌, ◌-◌, ◌==◌, nat_le, Bool, true, false, ◌&&◌, not, Option, List, [], ◌∷◌, take, drop, filter, find, count_by}
 use Rattle.std.specs.List.{list_any}
-use Rattle.hl_model.specs.declared.action.Kind.{Kind}
 use Rattle.hl_model.specs.declared.action.Kind.TheVariants.{User}
 use Rattle.hl_model.specs.declared.action.Waiting.{Waiting}
 use Rattle.hl_model.specs.declared.step.Step.{Step}

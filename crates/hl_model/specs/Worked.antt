@@ -1,5 +1,5 @@
 -- Worked examples: lists of steps, and what the definitions make of them, written by hand.
-use Rattle.std.specs.Prelude.{ℕ, ◌≡◌, Result, Ok, Err, List, [], ◌∷◌, length}
+use Rattle.std.specs.Prelude.{ℕ, ◌≡◌, Result, Ok, Err, List, [], ◌∷◌}
 use Rattle.hl_model.specs.declared.action.Kind.TheVariants.{User}
 use Rattle.hl_model.specs.declared.action.Waiting.{Waiting}
 use Rattle.hl_model.specs.declared.fault.Fault.{Fault}
