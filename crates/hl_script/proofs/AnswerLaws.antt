@@ -1,5 +1,5 @@
 -- What the answers to steps and queries show.
-use Rattle.std.proofs.Common.{◌≡◌, ℕ, ◌+◌, Bool, true, false, cond, is_none, is_ok, List, [], ◌∷◌, ◌++◌, length, map, refl, sym, ap, ap₂, ◌∙◌, subst}
+use Rattle.std.proofs.Common.{◌≡◌, ℕ, Bool, is_none, is_ok, List, [], ◌∷◌, ◌++◌, length, map, ap, ap₂, ◌∙◌, subst}
 use Rattle.std.specs.Prelude.{Option, Some, None, Result, Ok, Err}
 use Rattle.std.specs.Io.KnownBytes.{Appends}
 use Rattle.hl_model.specs.declared.action.Tag.{Tag}
@@ -9,15 +9,13 @@ use Rattle.hl_model.specs.declared.step.Step.{Step}
 use Rattle.hl_model.specs.declared.view.Six.{Six}
 use Rattle.hl_model.specs.Sizes.{Sizes}
 use Rattle.hl_model.specs.Epochs.{Table, current_epoch, safe_epoch}
-use Rattle.hl_model.specs.Actions.{pending, taken}
-use Rattle.hl_model.specs.Settled.{six}
 use Rattle.hl_model.specs.Replies.{answer_of, unless_fault}
 use Rattle.hl_epoch.specs.Table.{safe_of}
 use Rattle.hl_drain.specs.Actions.{waiting_of}
 use Rattle.hl_drain.specs.Lists.{Lists}
 use Rattle.hl_script.specs.declared.machine.Broken.{Broken}
 use Rattle.hl_script.specs.declared.machine.Broken.TheVariants.{OutOfMemory as NoMemory, Stream}
-use Rattle.hl_script.specs.Answers.{line_fault, line_reply, shown, result_text, quantities_text, status_text, pending_text}
+use Rattle.hl_script.specs.Answers.{line_fault, shown, result_text, quantities_text, status_text}
 use Rattle.hl_script.specs.Text.{below}
 use Rattle.hl_script.specs.Engine.{Puts}
 use Rattle.hl_script.specs.Shown.{number, Shows, Stepped, StepAnswers}

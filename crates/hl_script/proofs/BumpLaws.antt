@@ -1,8 +1,8 @@
 -- What is shown after a bump.
-use Rattle.std.proofs.Common.{◌≡◌, ◌≢◌, ℕ, zero, suc, ◌+◌, ◌-◌, ◌<◌, ◌≤◌, Bool, true, false, cond, not, ◌||◌, eqb, leb, ltb, is_none, ◌⊎◌, inl, inr, List, [], ◌∷◌, ◌++◌, length, map, take, drop, get_or, set, refl, sym, ap, ap₂, ◌∙◌, subst, arith, append-nil, eq-eqb, ne_eqb}
-use Rattle.std.specs.Prelude.{Option, Some, None, Result, Ok, Err, All}
+use Rattle.std.proofs.Common.{◌≡◌, ◌≢◌, ℕ, zero, suc, ◌+◌, ◌-◌, ◌<◌, ◌≤◌, Bool, true, false, cond, not, ◌||◌, eqb, ltb, ◌⊎◌, inl, inr, List, [], ◌∷◌, ◌++◌, length, map, take, drop, get_or, set, refl, sym, ap, ap₂, ◌∙◌, subst, arith, eq-eqb, ne_eqb}
+use Rattle.std.specs.Prelude.{Some, None, Ok, Err, All}
 use Rattle.std.specs.List.{list_any, filter, range_with_len, AllByRecursion}
-use Rattle.std.proofs.lemmas.Bool.{leb-false, ltb-true, ltb-false, lt-ltb, le-ltb, le-leb, lt-leb, eqb-true, cases_lt}
+use Rattle.std.proofs.lemmas.Bool.{ltb-true, lt-ltb, le-ltb, le-leb, lt-leb, cases_lt}
 use Rattle.std.proofs.lemmas.List.{map-append, get_or_past, length-map}
 use Rattle.std.proofs.lemmas.List.Elements.{All-from_recursion}
 use Rattle.std.proofs.lemmas.List.FromFn.{length-map-range_with_len}
@@ -17,7 +17,7 @@ use Rattle.hl_model.specs.declared.step.Step.TheVariants.{Bump}
 use Rattle.hl_model.specs.Sizes.{Sizes}
 use Rattle.hl_model.specs.Epochs.{Table, table_of, current_epoch, slot_epochs, safe_epoch, safe_among}
 use Rattle.hl_model.specs.Actions.{actions, pending, taken, takes, bumps, is_finished, is_full}
-use Rattle.hl_model.specs.Replies.{fault_of, bump_fault, epoch_last, answer_of}
+use Rattle.hl_model.specs.Replies.{bump_fault, epoch_last}
 use Rattle.hl_model.proofs.ListLaws.{list_any-push}
 use Rattle.hl_model.proofs.RowLaws.{row_at, rows_set}
 use Rattle.hl_model.proofs.AcceptedLaws.{IsAccepted-push}
@@ -29,8 +29,8 @@ use Rattle.hl_epoch.specs.Table.{bumped, safe_of}
 use Rattle.hl_drain.specs.declared.action.Action.{Action}
 use Rattle.hl_drain.specs.declared.action.Action.TheVariants.{User}
 use Rattle.hl_drain.specs.Actions.{waiting_of}
-use Rattle.hl_drain.specs.Lists.{Lists, count_of, tickets, is_full as no_room, after_put}
-use Rattle.hl_script.specs.Answers.{bears, lacks_job, line_fault, shown}
+use Rattle.hl_drain.specs.Lists.{Lists, count_of, tickets, after_put}
+use Rattle.hl_script.specs.Answers.{bears, lacks_job, line_fault}
 use Rattle.hl_script.specs.Text.{below}
 use Rattle.hl_script.specs.Shown.{number, tag_of, tags_left, Shows, Stepped}
 use Rattle.hl_script.proofs.ShownLaws.{answered_err, answered_ok, refused_step, accepted_step, make}

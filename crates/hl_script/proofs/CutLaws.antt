@@ -1,9 +1,9 @@
 -- How a script is cut where a line ends and where none does.
-use Rattle.std.proofs.Common.{◌≡◌, ◌≢◌, ℕ, ◌+◌, ◌<◌, ◌≤◌, Bool, true, false, cond, ◌||◌, eqb, List, [], ◌∷◌, ◌++◌, length, take, refl, sym, ap, ◌∙◌, append_assoc, append-nil, arith, length-append}
+use Rattle.std.proofs.Common.{◌≡◌, ℕ, ◌+◌, Bool, true, false, cond, ◌||◌, List, [], ◌∷◌, ◌++◌, length, refl, sym, ap, ◌∙◌, append_assoc, append-nil}
 use Rattle.std.specs.List.{list_any}
 use Rattle.hl_model.specs.Lists.{until_last}
 use Rattle.hl_model.proofs.ListLaws.{until_last-push}
-use Rattle.hl_script.specs.Cut.{cut, longer, whole_lines}
+use Rattle.hl_script.specs.Cut.{cut, longer}
 use Rattle.hl_script.specs.Engine.{is_end}
 
 -- of two tests that are not met together neither is met

@@ -1,21 +1,20 @@
 -- What the parts of a run make of where it stands.
-use Rattle.std.proofs.Common.{◌≡◌, ◌≢◌, ℕ, ◌+◌, ◌<◌, ◌≤◌, Bool, true, false, cond, not, eqb, List, [], ◌∷◌, ◌++◌, length, take, drop, refl, sym, ap, ◌∙◌, subst, append_assoc, append-nil, arith}
+use Rattle.std.proofs.Common.{◌≡◌, ◌≢◌, ℕ, ◌+◌, Bool, true, false, cond, eqb, List, [], ◌∷◌, ◌++◌, length, take, refl, sym, ap, ◌∙◌, subst, append_assoc, append-nil, arith}
 use Rattle.std.specs.Prelude.{Option, Some, None, Result, Ok, Err}
-use Rattle.std.specs.Io.KnownBytes.{Appends, Consumes, IsAtEnd, Keeps}
+use Rattle.std.specs.Io.KnownBytes.{Appends, Consumes, IsAtEnd}
 use Rattle.std.proofs.lemmas.Bool.{eqb-true, false≢true}
 use Rattle.std.proofs.lemmas.List.{length_push}
 use Rattle.hl_line.specs.declared.line.Line.{Line}
 use Rattle.hl_line.specs.Reading.{line_of}
-use Rattle.hl_script.specs.declared.machine.Broken.{Broken}
 use Rattle.hl_script.specs.declared.progress.Progress.{Progress}
 use Rattle.hl_script.specs.declared.stop.Stop.{Stop}
 use Rattle.hl_script.specs.declared.stop.Stop.TheVariants.{BadLine, OutOfMemory, Reader, Writer}
 use Rattle.hl_script.specs.Cut.{whole_lines}
 use Rattle.hl_script.specs.Lines.{script, bad_line, allowed, may_stand}
-use Rattle.hl_script.specs.Answers.{accepted, accepted_after, is_accepted, sizes_of}
+use Rattle.hl_script.specs.Answers.{accepted, accepted_after}
 use Rattle.hl_script.specs.Text.{answers, bad_text, text, count_of}
-use Rattle.hl_script.specs.Outcomes.{WroteAll, WroteBad, WroteUpTo, AppendsFront, Stopped, Settled}
-use Rattle.hl_script.specs.Engine.{answered, Answered, Refuses, Reached, Faces, Stood, At, JudgedGood, Judged, Fed, Ended, Ran}
+use Rattle.hl_script.specs.Outcomes.{WroteAll, WroteUpTo, AppendsFront, Stopped}
+use Rattle.hl_script.specs.Engine.{answered, Answered, Refuses, Reached, Faces, At, JudgedGood, Judged, Fed, Ended, Ran}
 use Rattle.hl_script.proofs.KnownLaws.{Appends-nothing, Appends-more, Consumes-more, front-more, front-longer, at_end_left}
 use Rattle.hl_script.proofs.LineLaws.{IsBad, faces_bad, faces_good}
 use Rattle.hl_script.proofs.ReachLaws.{IsGood, reached_start, reached_byte, reached_end, reached_long, reached_last, reached_line, reached_whole, reached_done, reached_last_line}

@@ -1,5 +1,5 @@
 -- The answers of a table of epochs and a drain list to the lines of a script.
-use Rattle.std.proofs.Common.{◌≡◌, ℕ, ◌+◌, Bool, true, false, cond, not, eqb, List, [], ◌∷◌, ◌++◌, length, refl, sym, ap, ◌∙◌, subst, arith, ne_eqb}
+use Rattle.std.proofs.Common.{◌≡◌, ℕ, Bool, true, false, cond, not, List, [], ◌∷◌, ◌++◌, length, refl, sym, ap, ◌∙◌, subst, arith, ne_eqb}
 use Rattle.std.specs.Prelude.{Option, Some, None, Result, Ok, Err, codes}
 use Rattle.std.specs.Io.KnownBytes.{Appends}
 use Rattle.hl_model.specs.declared.action.Tag.{Tag}
@@ -16,7 +16,7 @@ use Rattle.hl_script.specs.declared.opened.Opened.{Opened}
 use Rattle.hl_script.specs.Lines.{is_config, may_stand}
 use Rattle.hl_script.specs.Answers.{sizes_of, with_line, accepted, accepted_after, status_text, pending_text}
 use Rattle.hl_script.specs.Text.{below}
-use Rattle.hl_script.specs.Engine.{answered, Answered, Answers}
+use Rattle.hl_script.specs.Engine.{Answered, Answers}
 use Rattle.hl_script.specs.Shown.{Shows, StepAnswers, ShowsLines}
 use Rattle.hl_script.specs.Machine.{Stands}
 use Rattle.hl_script.proofs.TextLaws.{sizes_of-push, accepted-push}

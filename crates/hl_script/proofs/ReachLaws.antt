@@ -1,6 +1,6 @@
 -- How far a run has come in its input: one byte more, one line more, and the end.
-use Rattle.std.proofs.Common.{◌≡◌, ◌≢◌, ℕ, suc, ◌+◌, ◌<◌, ◌≤◌, Bool, true, false, cond, ◌||◌, eqb, List, [], ◌∷◌, ◌++◌, length, take, refl, sym, ap, ◌∙◌, subst, append_assoc, append-nil, arith, length-append, ne_eqb, eq-eqb}
-use Rattle.std.specs.Prelude.{Option, Some, None}
+use Rattle.std.proofs.Common.{◌≡◌, ◌≢◌, ℕ, ◌+◌, false, cond, ◌||◌, List, [], ◌∷◌, ◌++◌, length, take, refl, sym, ap, ◌∙◌, subst, append_assoc, append-nil, arith, length-append, ne_eqb, eq-eqb}
+use Rattle.std.specs.Prelude.{Some, None}
 use Rattle.std.specs.List.{list_any}
 use Rattle.std.proofs.lemmas.List.{length_push}
 use Rattle.std.proofs.Math.Seq.{take-append_seam}
@@ -13,7 +13,7 @@ use Rattle.hl_script.specs.Cut.{cut, whole_lines}
 use Rattle.hl_script.specs.Lines.{allowed, good_lines, script, bad_line}
 use Rattle.hl_script.specs.Engine.{is_end, Reached, Faces}
 use Rattle.hl_script.proofs.CutLaws.{cut-nil, cut-line, cut-begun, cut-last, until_last-none}
-use Rattle.hl_script.proofs.LineLaws.{good-nil, good-bad, good-line, good-append}
+use Rattle.hl_script.proofs.LineLaws.{good-nil, good-line, good-append}
 
 -- before the first byte
 pub reached_start : Reached [] [] []

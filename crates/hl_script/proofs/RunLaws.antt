@@ -1,10 +1,10 @@
 -- What the outcome of the engine is to a caller.
-use Rattle.std.proofs.Common.{◌≡◌, ℕ, Bool, true, List, [], ◌∷◌, ◌++◌, refl, sym, ap, ◌∙◌, subst}
-use Rattle.std.specs.Prelude.{Option, Some, None}
+use Rattle.std.proofs.Common.{◌≡◌, ℕ, Bool, List, [], ◌∷◌, ◌++◌, ap, ◌∙◌, subst}
+use Rattle.std.specs.Prelude.{Option}
 use Rattle.std.specs.Io.KnownBytes.{Appends}
 use Rattle.hl_line.specs.declared.line.Line.{Line}
-use Rattle.hl_script.specs.declared.stop.Stop.TheVariants.{BadLine, OutOfMemory, Writer}
-use Rattle.hl_script.specs.Lines.{is_config, script}
+use Rattle.hl_script.specs.declared.stop.Stop.TheVariants.{BadLine, Writer}
+use Rattle.hl_script.specs.Lines.{is_config}
 use Rattle.hl_script.specs.Text.{answers}
 use Rattle.hl_script.specs.Outcomes.{WroteBad, WroteFront, WroteUpTo, LackedAtConfig, Stopped, Settled}
 use Rattle.hl_script.proofs.MachineLaws.{config_first}

@@ -1,10 +1,9 @@
 -- What is shown after a refused step, an accepted one, and one that moves a slot alone.
-use Rattle.std.proofs.Common.{◌≡◌, ◌≢◌, ℕ, suc, ◌+◌, ◌-◌, ◌<◌, ◌≤◌, Bool, true, false, cond, not, ◌||◌, eqb, leb, ltb, is_none, is_some, List, [], ◌∷◌, ◌++◌, length, map, get_or, set, refl, sym, ap, ap₂, ◌∙◌, subst, arith, append-nil, add-zero, eq-eqb}
-use Rattle.std.specs.Prelude.{Option, Some, None, Result, Ok, Err}
-use Rattle.std.specs.List.{list_any, range_with_len, AllByRecursion}
-use Rattle.std.proofs.lemmas.Bool.{leb-false, false_from_ne_true}
+use Rattle.std.proofs.Common.{◌≡◌, ℕ, ◌+◌, ◌≤◌, Bool, true, false, cond, not, ◌||◌, leb, is_none, is_some, List, [], ◌∷◌, ◌++◌, get_or, set, refl, sym, ap, ap₂, ◌∙◌, subst, append-nil, add-zero, eq-eqb}
+use Rattle.std.specs.Prelude.{Option, Some, None, Ok, Err}
+use Rattle.std.specs.List.{list_any, AllByRecursion}
+use Rattle.std.proofs.lemmas.Bool.{leb-false}
 use Rattle.hl_model.specs.declared.action.Tag.{Tag}
-use Rattle.hl_model.specs.declared.action.Waiting.{Waiting}
 use Rattle.hl_model.specs.declared.fault.Fault.{Fault}
 use Rattle.hl_model.specs.declared.fault.Fault.TheVariants.{NoSlot, Occupied, NotProtected}
 use Rattle.hl_model.specs.declared.step.Reply.{Reply}
@@ -13,9 +12,9 @@ use Rattle.hl_model.specs.declared.step.Step.{Step}
 use Rattle.hl_model.specs.declared.step.Step.TheVariants.{Acquire, Refresh, Release}
 use Rattle.hl_model.specs.declared.view.View.{View}
 use Rattle.hl_model.specs.Sizes.{Sizes}
-use Rattle.hl_model.specs.Epochs.{Table, table_of, is_bump, enters, leaves, current_epoch, slot_epoch, slot_epochs, is_protected, epoch_of}
-use Rattle.hl_model.specs.Actions.{is_take, finishes, action_of, actions, pending, taken, takes, bumps}
-use Rattle.hl_model.specs.Replies.{fault_of, acquire_fault, protected_fault, answer_of, unless_fault, IsAccepted}
+use Rattle.hl_model.specs.Epochs.{Table, table_of, is_bump, enters, current_epoch, slot_epochs, is_protected, epoch_of}
+use Rattle.hl_model.specs.Actions.{is_take, finishes, action_of, actions, pending}
+use Rattle.hl_model.specs.Replies.{fault_of, acquire_fault, protected_fault, answer_of, unless_fault}
 use Rattle.hl_model.proofs.ListLaws.{list_any-push}
 use Rattle.hl_model.proofs.RowLaws.{rows_same}
 use Rattle.hl_model.proofs.AcceptedLaws.{IsAccepted-push}
@@ -23,9 +22,9 @@ use Rattle.hl_model.proofs.ActionLaws.{actions-push, pending-stores, taken-store
 use Rattle.hl_model.proofs.DrainLaws.{takes-le-bumps}
 use Rattle.hl_model.proofs.EpochLaws.{current_epoch-push, slot_epoch-enters, slot_epochs-acquire, slot_epochs-refresh, slot_epochs-release, length-slot_epochs, slot_epochs-at, is_protected-slot_epoch, epoch_of-slot_epoch}
 use Rattle.hl_epoch.specs.Faults.{acquire_fault as free_row_fault, protected_fault as row_fault, answered, after}
-use Rattle.hl_epoch.specs.Table.{epoch_at, entered, left}
+use Rattle.hl_epoch.specs.Table.{entered, left}
 use Rattle.hl_drain.specs.Lists.{Lists}
-use Rattle.hl_script.specs.Answers.{bears, line_fault, line_reply, shown}
+use Rattle.hl_script.specs.Answers.{bears, line_fault, shown}
 use Rattle.hl_script.specs.Text.{below}
 use Rattle.hl_script.specs.Shown.{tag_of, tags_left, Shows, Stepped}
 

@@ -1,6 +1,6 @@
 -- What is shown after a take and a done, and before the first step.
-use Rattle.std.proofs.Common.{◌≡◌, ◌≢◌, ℕ, zero, suc, ◌+◌, ◌-◌, ◌<◌, ◌≤◌, Bool, true, false, cond, not, ◌||◌, eqb, leb, ltb, is_some, List, [], ◌∷◌, ◌++◌, length, map, drop, get_or, refl, sym, ap, ap₂, ◌∙◌, subst, arith, append-nil, eq-eqb, ne_eqb, replicate}
-use Rattle.std.specs.Prelude.{◌==◌, Option, Some, None, Result, Ok, Err}
+use Rattle.std.proofs.Common.{◌≡◌, ◌≢◌, ℕ, zero, suc, ◌+◌, ◌<◌, ◌≤◌, Bool, true, false, cond, not, eqb, leb, ltb, is_some, List, [], ◌∷◌, ◌++◌, length, map, drop, refl, sym, ap, ap₂, ◌∙◌, subst, arith, append-nil, eq-eqb, ne_eqb, replicate}
+use Rattle.std.specs.Prelude.{◌==◌, Option, Some, None, Ok, Err}
 use Rattle.std.specs.List.{list_any, filter, find, range_with_len, AllByRecursion}
 use Rattle.std.proofs.lemmas.Bool.{leb-true, leb-false, le-ltb, lt-ltb, eqb-true, eqb-false}
 use Rattle.hl_model.specs.declared.action.Kind.{Kind}
@@ -14,10 +14,10 @@ use Rattle.hl_model.specs.declared.step.Reply.TheVariants.{Taken, Answer, Settle
 use Rattle.hl_model.specs.declared.step.Step.{Step}
 use Rattle.hl_model.specs.declared.step.Step.TheVariants.{Take, Done}
 use Rattle.hl_model.specs.Sizes.{Sizes}
-use Rattle.hl_model.specs.Lists.{gather, gather_after, until_last}
-use Rattle.hl_model.specs.Epochs.{Table, table_of, is_bump, current_epoch, slot_epochs, slot_epoch, safe_epoch, safe_among}
-use Rattle.hl_model.specs.Actions.{actions, pending, taken, takes, bumps, is_taken, action_at}
-use Rattle.hl_model.specs.Replies.{fault_of, take_fault, answer_of, done_answer, kind_or_job_0, epoch_last, good, good_after, IsAccepted}
+use Rattle.hl_model.specs.Lists.{gather, gather_after}
+use Rattle.hl_model.specs.Epochs.{Table, table_of, is_bump, current_epoch, slot_epochs, slot_epoch, safe_epoch}
+use Rattle.hl_model.specs.Actions.{actions, pending, taken, takes, is_taken, action_at}
+use Rattle.hl_model.specs.Replies.{fault_of, take_fault, answer_of, done_answer, kind_or_job_0, IsAccepted}
 use Rattle.hl_model.proofs.AcceptedLaws.{IsAccepted-push, accepted_has, good-nil}
 use Rattle.hl_model.proofs.ActionLaws.{actions-push, takes-push, current_epoch-bumps, pending-take, pending-done, taken-done, ticket-front}
 use Rattle.hl_model.proofs.DrainLaws.{takes-le-bumps, taken-next, of_ticket-taken, is_taken-parts, bump-none, bump_fault-none, is_taken-found}
@@ -26,8 +26,7 @@ use Rattle.hl_epoch.specs.Table.{safe_of, opened}
 use Rattle.hl_drain.specs.declared.action.Action.{Action}
 use Rattle.hl_drain.specs.Actions.{waiting_of}
 use Rattle.hl_drain.specs.Lists.{Lists, has_ticket as holds, kind_or_fault, taken_from, after_take, after_done}
-use Rattle.hl_script.specs.Answers.{bears, line_fault, shown}
-use Rattle.hl_script.specs.Text.{below}
+use Rattle.hl_script.specs.Answers.{bears, shown}
 use Rattle.hl_script.specs.Shown.{number, tag_of, tags_left, Shows, Stepped}
 use Rattle.hl_script.proofs.ShownLaws.{refused_step, accepted_step, tags_left-stay, current-stays, make}
 

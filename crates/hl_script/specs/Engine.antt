@@ -1,5 +1,5 @@
 -- Where a run stands in its input, and how its parts leave it. No definition of the text rests on these.
-use Rattle.std.specs.Prelude.{◌≡◌, ℕ, ◌+◌, ◌==◌, Bool, true, false, Option, Some, None, Result, Ok, Err, List, [], ◌∷◌, ◌++◌, length}
+use Rattle.std.specs.Prelude.{◌≡◌, ℕ, ◌==◌, Bool, true, false, Option, Some, Result, Ok, Err, List, [], ◌∷◌, ◌++◌, length}
 use Rattle.std.specs.List.{list_any}
 use Rattle.std.specs.Io.KnownBytes.{Appends, Consumes, IsAtEnd}
 use Rattle.hl_model.specs.Lists.{until_last}
@@ -9,7 +9,7 @@ use Rattle.hl_script.specs.declared.machine.Broken.{Broken}
 use Rattle.hl_script.specs.declared.machine.Broken.TheVariants.{OutOfMemory as NoMemory, Stream}
 use Rattle.hl_script.specs.declared.progress.Progress.{Progress}
 use Rattle.hl_script.specs.declared.stop.Stop.{Stop}
-use Rattle.hl_script.specs.declared.stop.Stop.TheVariants.{BadLine, OutOfMemory, Reader, Writer}
+use Rattle.hl_script.specs.declared.stop.Stop.TheVariants.{BadLine, Reader, Writer}
 use Rattle.hl_script.specs.Cut.{cut, whole_lines}
 use Rattle.hl_script.specs.Lines.{script, good_lines, allowed}
 use Rattle.hl_script.specs.Answers.{reply_line, accepted, is_accepted, sizes_of}

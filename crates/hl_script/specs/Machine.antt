@@ -1,10 +1,8 @@
 -- When a table of epochs and a drain list of tags stand at the lines of a script.
-use Rattle.std.specs.Prelude.{◌≡◌, ℕ, ◌^◌, ◌≤◌, Bool, true, false, Option, Some, None, List, []}
+use Rattle.std.specs.Prelude.{◌≡◌, ℕ, ◌^◌, ◌≤◌, Bool, Option, Some, None, List, []}
 use Rattle.hl_model.specs.Epochs.{Table}
 use Rattle.hl_line.specs.declared.line.Line.{Line}
-use Rattle.hl_line.specs.declared.line.Line.TheVariants.{Config}
 use Rattle.hl_script.specs.declared.opened.Opened.{Opened}
-use Rattle.hl_script.specs.Lines.{is_config}
 use Rattle.hl_script.specs.Text.{below}
 use Rattle.hl_script.specs.Shown.{ShowsLines}
 

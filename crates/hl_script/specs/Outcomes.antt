@@ -1,14 +1,13 @@
 -- What a run over a reader and a writer has done when it ends.
-use Rattle.std.specs.Prelude.{◌≡◌, ⊤, ℕ, ◌+◌, Bool, true, ◌⊎◌, Option, Some, None, Result, Ok, Err, List, [], ◌∷◌, ◌++◌}
-use Rattle.std.specs.Io.KnownBytes.{Appends, Consumes, IsAtEnd}
+use Rattle.std.specs.Prelude.{◌≡◌, ⊤, ℕ, Bool, true, Option, Some, None, List, [], ◌∷◌, ◌++◌}
+use Rattle.std.specs.Io.KnownBytes.{Appends}
 use Rattle.hl_line.specs.declared.line.Line.{Line}
 use Rattle.hl_script.specs.declared.stop.Stop.{Stop}
 use Rattle.hl_script.specs.declared.stop.Stop.TheVariants.{BadLine, OutOfMemory, Reader, Writer}
-use Rattle.hl_script.specs.Cut.{whole_lines}
 use Rattle.hl_model.specs.declared.fault.Fault.{Fault}
 use Rattle.hl_model.specs.declared.fault.Fault.TheVariants.{BadLine as BadLineFault, OutOfMemory as OutOfMemoryFault, Stream as StreamFault}
 use Rattle.hl_script.specs.Lines.{is_config, may_stand, script, bad_line}
-use Rattle.hl_script.specs.Text.{answers, text, count_of}
+use Rattle.hl_script.specs.Text.{answers, text}
 
 -- the writer took the text of these bytes, and none of their lines is bad
 pub record WroteAll (has : ℕ → Bool) (before after : Option (List ℕ)) (bytes : List ℕ) : Type 0 where

@@ -1,3 +1,5 @@
+ghost use Rattle.std.specs.Prelude.{◌≡◌, ◌≤◌};
+
 use clap::error::ErrorKind;
 use clap::{Command, Error};
 use hl_line::print_fault;
@@ -30,7 +32,9 @@ pub fn command<T, S: AsStr, R: Read, W: Write, E: Write>(
     reader: &mut R,
     writer: &mut W,
     errors: &mut E,
-) -> u8 {
+) -> u8
+    ensures { result ≤ 2 }
+{
     match chosen(alloc, words) {
         Ok(()) => run(alloc, reader, writer, errors),
         Err(error) => answer(&error, writer, errors),
@@ -55,7 +59,9 @@ fn program<'a>(alloc: Global) -> Result<Command<'a>, AllocError> {
 }
 
 /// Tells the user why the words gave no command: help was wanted, or they were refused.
-fn answer<W: Write, E: Write>(error: &Error, writer: &mut W, errors: &mut E) -> u8 {
+fn answer<W: Write, E: Write>(error: &Error, writer: &mut W, errors: &mut E) -> u8
+    ensures { result ≤ 2 }
+{
     if error.kind() == ErrorKind::OutOfMemory {
         failed(Fault::OutOfMemory, errors)
     } else if error.use_stderr() {
@@ -73,7 +79,9 @@ fn run<R: Read, W: Write, E: Write>(
     reader: &mut R,
     writer: &mut W,
     errors: &mut E,
-) -> u8 {
+) -> u8
+    ensures { result ≤ 2 }
+{
     let ended = run_tags(alloc, reader, writer, TAGS);
     let flushed = writer.flush();
     match ended {
@@ -86,7 +94,9 @@ fn run<R: Read, W: Write, E: Write>(
 }
 
 /// Writes the fault's line. Where that fails too there is nobody left to tell.
-fn failed<E: Write>(fault: Fault, errors: &mut E) -> u8 {
+fn failed<E: Write>(fault: Fault, errors: &mut E) -> u8
+    ensures { result ≡ FAILED }
+{
     let _ = errors.write_all(print_fault(&fault).as_bytes());
     let _ = errors.write_all(b"\n");
     FAILED

@@ -1,7 +1,6 @@
 use Rattle.std.proofs.Common.{◌≡◌, ◌+◌, Bool, true, false, cond, refl, sym, ap, ◌∙◌}
 use mir.Val.{bool_byte}
 use Rattle.hl_line.specs.Reading.{line_of}
-use Rattle.hl_script.specs.Lines.{allowed}
 use Rattle.hl_script.proofs.LineLaws.{faces_bad}
 use Rattle.hl_script.proofs.EngineLaws.{refused, lacked, broken, judged, allowed_stands}
 use Rattle.hl_script.proofs.engine.judge.Goals as goal

@@ -1,4 +1,4 @@
-use Rattle.std.proofs.Common.{rules, ◌≡◌, ◌+◌, [], ◌∷◌, ◌++◌, length, take, refl, sym, ap, ◌∙◌, subst, arith}
+use Rattle.std.proofs.Common.{rules, [], ◌++◌, take, arith}
 use Rattle.std.proofs.lemmas.Result.{err_from_is_err_and}
 use Rattle.hl_script.proofs.KnownLaws.{Consumes-nothing, Consumes-more, Consumes-kept}
 use Rattle.hl_script.proofs.EngineLaws.{at_start, read_none, ran_ended, ran_within, ran_out}

@@ -1,5 +1,4 @@
-use Rattle.std.proofs.Common.{◌≡◌, ℕ, ◌+◌, ◌*◌, ◌≤◌, Bool, List, [], ◌++◌}
-use Rattle.std.specs.Prelude.{Option}
+use Rattle.std.proofs.Common.{ℕ, ◌*◌, ◌≤◌, Bool, List, []}
 use Rattle.std.specs.Io.KnownBytes.{Consumes}
 use Rattle.hl_line.specs.declared.line.Line.{Line}
 use Rattle.hl_script.specs.Engine.{At}

@@ -1,4 +1,4 @@
-use Rattle.std.proofs.Common.{◌≡◌, ℕ, ◌+◌, ◌≤◌, Bool, List, ◌++◌, take}
+use Rattle.std.proofs.Common.{ℕ, ◌+◌, ◌≤◌, Bool, List, ◌++◌, take}
 use Rattle.std.specs.Prelude.{Option}
 use Rattle.hl_line.specs.declared.line.Line.{Line}
 use Rattle.hl_script.specs.Engine.{At}

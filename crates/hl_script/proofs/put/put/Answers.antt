@@ -1,4 +1,4 @@
-use Rattle.std.proofs.Common.{arith, ◌+◌, ◌-◌, length, drop, take, [], length-drop, length-take}
+use Rattle.std.proofs.Common.{arith, ◌+◌, ◌-◌, length, drop, take, length-drop, length-take}
 use Rattle.hl_script.proofs.KnownLaws.{Appends-kept, write_more, write_front}
 use Rattle.hl_script.proofs.put.put.Goals as goal
 

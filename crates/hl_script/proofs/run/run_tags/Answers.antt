@@ -1,4 +1,4 @@
-use Rattle.std.proofs.Common.{◌≡◌, ℕ, refl, subst, inl, inr}
+use Rattle.std.proofs.Common.{◌≡◌, refl, subst, inl, inr}
 use Rattle.hl_script.specs.Lines.{is_config}
 use Rattle.hl_script.specs.Text.{below}
 use Rattle.hl_script.specs.Outcomes.{WroteBad, Settled}

@@ -1,7 +1,5 @@
 use Rattle.std.proofs.Common.{[], ◌∷◌, ◌++◌, subst}
-use Rattle.std.specs.Prelude.{Some, None}
 use Rattle.std.specs.Io.KnownBytes.{Appends}
-use Rattle.hl_script.specs.Machine.{Stands}
 use Rattle.hl_script.proofs.MachineLaws.{config_answered, step_answers, status_answered, pending_answered}
 use Rattle.hl_script.proofs.table_and_drain.TableAndDrainMachine.answer.Goals as goal
 
