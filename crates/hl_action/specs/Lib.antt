@@ -1,0 +1,3 @@
+pub mod Firings
+pub mod Jobs
+pub mod Shelves
