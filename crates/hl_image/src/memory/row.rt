@@ -1,0 +1,59 @@
+ghost use Rattle.std.specs.Prelude.{◌≡◌, ◌≤◌, Some, None, length, IfOk, IfErr};
+ghost use Rattle.std.specs.Option.{option_copied};
+
+use hl_model::Fault;
+use std::alloc::Global;
+use std::marker::Model;
+
+/// The place of one page: as many bytes as an image has, and whether they are one.
+#[derive(Drop)]
+pub(crate) struct Row {
+    bytes: Vec<u8>,
+    is_written: bool,
+}
+
+impl Model for Row {
+    ghost use Rattle.hl_image.specs.Pages.{Place};
+
+    ghost Value = { Place };
+
+    ghost use Rattle.hl_image.specs.Places.{place_of};
+
+    ghost view = { place_of };
+}
+
+impl Row {
+    /// A row for `size` bytes, without an image.
+    ///
+    /// Fault: `OutOfMemory` where memory is refused.
+    pub(crate) fn open(alloc: Global, size: usize) -> Result<Row, Fault>
+        ensures ok { IfOk result (λ row. row ≡ record { size = size; image = None }) }
+        ensures err { IfErr result (λ fault. fault ≡ Fault.OutOfMemory) }
+    {
+        let bytes = vec![in alloc; 0; size].map_err(|_| Fault::OutOfMemory)?;
+        Ok(Row {
+            bytes,
+            is_written: false,
+        })
+    }
+
+    /// Takes these bytes for its image.
+    pub(crate) fn store(&mut self, bytes: &[u8])
+        requires { length bytes.now ≡ self.old.size }
+        ensures { self.new ≡ record { size = self.old.size; image = Some bytes.now } }
+    {
+        self.bytes.copy_from_slice(bytes);
+        self.is_written = true;
+    }
+
+    /// Its image, once one was stored.
+    pub(crate) fn image(&self) -> Option<&[u8]>
+        ensures { option_copied result ≡ self.now.image }
+    {
+        if self.is_written {
+            Some(&self.bytes)
+        } else {
+            None
+        }
+    }
+}
