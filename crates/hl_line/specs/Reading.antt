@@ -12,7 +12,7 @@ use Rattle.hl_line.specs.Lines.{spelling}
 abbrev pub first_word : List ℕ → List ℕ
 first_word s = before_first (λ b. b == 32) s
 
--- the bytes after the first space
+-- the bytes after the first space; none where there is no space
 abbrev pub other_words : List ℕ → List ℕ
 other_words s = after_first (λ b. b == 32) s
 

@@ -1,6 +1,6 @@
 -- The laws of every list of steps.
-use Rattle.std.proofs.Common.{leb, ap₂, ◌≡◌, ℕ, zero, suc, ◌+◌, ◌-◌, ◌<◌, ◌≤◌, ◌↔◌, Bool, true, false, cond, ◌||◌, is_some, List, [], ◌∷◌, ◌++◌, length, take, drop, refl, sym, ap, ◌∙◌, subst, arith, append_assoc, append-nil, inl, inr, ◌⊎◌}
-use Rattle.std.specs.Prelude.{◌==◌, Some, None, Ok}
+use Rattle.std.proofs.Common.{set, leb, ap₂, ◌≡◌, ℕ, zero, suc, ◌+◌, ◌-◌, ◌<◌, ◌≤◌, ◌↔◌, Bool, true, false, cond, ◌||◌, is_some, List, [], ◌∷◌, ◌++◌, length, take, drop, refl, sym, ap, ◌∙◌, subst, arith, append_assoc, append-nil, inl, inr, ◌⊎◌}
+use Rattle.std.specs.Prelude.{◌==◌, Option, Some, None, Ok}
 use Rattle.std.specs.List.{find, list_any, count_by, range_with_len}
 use Rattle.std.proofs.lemmas.Bool.{eqb-false, both_ways, false_from_ne_true, eqb-true, cases_lt, or_parts, true_from_ne_false}
 use Rattle.std.proofs.lemmas.List.{take-append-drop, take-append-le}
@@ -13,13 +13,13 @@ use Rattle.hl_model.specs.declared.step.Step.{Step}
 use Rattle.hl_model.specs.declared.step.Step.TheVariants.{Acquire, Refresh, Release, Bump, Take, Done}
 use Rattle.hl_model.specs.Sizes.{Sizes}
 use Rattle.hl_model.specs.Lists.{until_last, gather, gather_after}
-use Rattle.hl_model.specs.Epochs.{is_bump, enters, leaves, current_epoch, mark, is_protected, up_to_mark, epoch_of, slot_epoch, safe_epoch}
+use Rattle.hl_model.specs.Epochs.{table_of, slot_epochs, is_bump, enters, leaves, current_epoch, mark, is_protected, up_to_mark, epoch_of, slot_epoch, safe_epoch}
 use Rattle.hl_model.specs.Actions.{is_take, bumps, takes, pending, taken, action_at}
 use Rattle.hl_model.specs.Replies.{epoch_last, done_answer, kind_or_job_0, fault_of, reply_of, unless_fault, answer_of, IsAccepted}
-use Rattle.hl_model.specs.Laws.{AcceptedMeetsNoFault, CurrentIsAtMostLast, DrainListHoldsThem, TicketsCountUp, TakenAreThoseListed, EpochsAreInOrder, SafeIsGreatest, MarkAfterBump, ticket_told, tickets_told, TakesCountUp, moves_on, TakenAfterAllMovedOn}
+use Rattle.hl_model.specs.Laws.{TablesFollow, AcceptedMeetsNoFault, CurrentIsAtMostLast, DrainListHoldsThem, TicketsCountUp, TakenAreThoseListed, EpochsAreInOrder, SafeIsGreatest, MarkAfterBump, ticket_told, tickets_told, TakesCountUp, moves_on, TakenAfterAllMovedOn}
 use Rattle.hl_model.proofs.ListLaws.{list_any-push, gather-push, by_pushing, one_where, none_where}
 use Rattle.hl_model.proofs.AcceptedLaws.{IsAccepted-front, IsAccepted-parts, accepted_has}
-use Rattle.hl_model.proofs.EpochLaws.{current_epoch-nil, safe_epoch-current, current_epoch-push, enters-is_bump, slot_epoch-stays, slot_epoch-range, is_protected-slot_epoch, epoch_of-slot_epoch, safe_epoch-below, safe_epoch-greatest}
+use Rattle.hl_model.proofs.EpochLaws.{slot_epochs-acquire, slot_epochs-refresh, slot_epochs-release, slot_epochs-stay, current_epoch-nil, safe_epoch-current, current_epoch-push, enters-is_bump, slot_epoch-stays, slot_epoch-range, is_protected-slot_epoch, epoch_of-slot_epoch, safe_epoch-below, safe_epoch-greatest}
 use Rattle.hl_model.proofs.ActionLaws.{tickets-actions, tickets-pending, range-push, current_epoch-bumps, takes-push, takes-stay}
 use Rattle.hl_model.proofs.DrainLaws.{bump_fault-none, bump-none, length-both, bumps-dones, is_taken-found, two_faults, take_fault-none, protected-slot}
 
@@ -233,3 +233,20 @@ taken_after_all_moved_on sizes X s Y Z t a b f p = true_from_ne_false (list_any 
         let low : safe_epoch sizes.slots (X ++ s ∷ Y) < epoch_of t X = safe_epoch-below sizes.slots (X ++ s ∷ Y) t (epoch_of t X) (protected-slot sizes t (X ++ s ∷ Y) parts.0 (epoch_of t X) held) held in
         let ready : (0 < length (pending (X ++ s ∷ Y))) × (takes (X ++ s ∷ Y) + 1 ≤ safe_epoch sizes.slots (X ++ s ∷ Y)) = take_fault-none sizes (X ++ s ∷ Y) parts.1 in
         omega (arith, low, ready.1, f, (slot_epoch-range t X (epoch_of t X) before).1, current_epoch-bumps X)
+
+-- a table whose epochs and current epoch are these
+table_at : (sizes : Sizes) (A B : List Step) (current : ℕ) (epochs : List (Option ℕ)) → current_epoch B ≡ current → slot_epochs sizes.slots B ≡ epochs → table_of sizes B ≡ record (table_of sizes A) { current = current; epochs = epochs }
+table_at sizes A B current epochs c e = ap₂ (λ n es. record (table_of sizes A) { current = n; epochs = es }) c e
+
+current-stay : (A : List Step) (s : Step) → is_bump s ≡ false → current_epoch (A ++ s ∷ []) ≡ current_epoch A
+current-stay A s h = omega (arith, current_epoch-push A s, none_where (is_bump s) h)
+
+pub tables_follow : TablesFollow
+tables_follow sizes A = record {
+  acquire = λ t. table_at sizes A (A ++ Acquire t ∷ []) (current_epoch A) (set (slot_epochs sizes.slots A) t (Some (current_epoch A))) (current-stay A (Acquire t) refl) (slot_epochs-acquire sizes.slots A t);
+  refresh = λ t. table_at sizes A (A ++ Refresh t ∷ []) (current_epoch A) (set (slot_epochs sizes.slots A) t (Some (current_epoch A))) (current-stay A (Refresh t) refl) (slot_epochs-refresh sizes.slots A t);
+  release = λ t. table_at sizes A (A ++ Release t ∷ []) (current_epoch A) (set (slot_epochs sizes.slots A) t None) (current-stay A (Release t) refl) (slot_epochs-release sizes.slots A t);
+  bump = λ tag. table_at sizes A (A ++ Bump tag ∷ []) (current_epoch A + 1) (slot_epochs sizes.slots A) (current_epoch-push A (Bump tag)) (slot_epochs-stay sizes.slots A (Bump tag) (λ t. refl) (λ t. refl));
+  take = table_at sizes A (A ++ Take ∷ []) (current_epoch A) (slot_epochs sizes.slots A) (current-stay A Take refl) (slot_epochs-stay sizes.slots A Take (λ t. refl) (λ t. refl));
+  done = λ c. table_at sizes A (A ++ Done c ∷ []) (current_epoch A) (slot_epochs sizes.slots A) (current-stay A (Done c) refl) (slot_epochs-stay sizes.slots A (Done c) (λ t. refl) (λ t. refl));
+}

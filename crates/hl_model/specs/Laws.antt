@@ -1,14 +1,14 @@
 -- What holds of every list of steps, in the subject's own words. Each statement is the contract of a function of the module laws.
-use Rattle.std.specs.Prelude.{map, None, ℕ, ◌≡◌, ◌↔◌, ◌+◌, ◌-◌, ◌<◌, ◌≤◌, ◌==◌, Bool, true, false, Result, Ok, List, [], ◌∷◌, ◌++◌, length}
+use Rattle.std.specs.Prelude.{map, Some, None, slice_set, ℕ, ◌≡◌, ◌↔◌, ◌+◌, ◌-◌, ◌<◌, ◌≤◌, ◌==◌, Bool, true, false, Result, Ok, List, [], ◌∷◌, ◌++◌, length}
 use Rattle.std.specs.List.{list_any, range_with_len}
 use Rattle.hl_model.specs.declared.fault.Fault.{Fault}
 use Rattle.hl_model.specs.declared.step.Reply.{Reply}
 use Rattle.hl_model.specs.declared.step.Reply.TheVariants.{Taken}
 use Rattle.hl_model.specs.declared.step.Step.{Step}
-use Rattle.hl_model.specs.declared.step.Step.TheVariants.{Refresh, Release, Take}
+use Rattle.hl_model.specs.declared.step.Step.TheVariants.{Acquire, Refresh, Release, Bump, Take, Done}
 use Rattle.hl_model.specs.Lists.{gather}
 use Rattle.hl_model.specs.Sizes.{Sizes}
-use Rattle.hl_model.specs.Epochs.{is_bump, current_epoch, mark, is_protected, epoch_of, safe_epoch}
+use Rattle.hl_model.specs.Epochs.{table_of, slot_epochs, is_bump, current_epoch, mark, is_protected, epoch_of, safe_epoch}
 use Rattle.hl_model.specs.Actions.{bumps, takes, dones, front, actions, pending, taken, is_taken}
 use Rattle.hl_model.specs.Replies.{epoch_last, fault_of, reply_of, extended, good, IsAccepted}
 
@@ -67,6 +67,19 @@ TakenAreThoseListed = (sizes : Sizes) (A : List Step) (c : ℕ) → IsAccepted s
 -- each ticket taken is safe
 abbrev pub TakenAreSafe : Type 0
 TakenAreSafe = (sizes : Sizes) (A : List Step) → IsAccepted sizes A → takes A ≤ safe_epoch sizes.slots A
+
+-- what each step makes of the table of a list: an acquire and a refresh set the slot's epoch to the current one, a release ends it, a bump raises the current one, and no other step changes anything
+pub record TablesMove (sizes : Sizes) (A : List Step) : Type 0 where
+  pub acquire : (t : ℕ) → table_of sizes (A ++ Acquire t ∷ []) ≡ record (table_of sizes A) { epochs = slice_set (slot_epochs sizes.slots A) t (Some (current_epoch A)) }
+  pub refresh : (t : ℕ) → table_of sizes (A ++ Refresh t ∷ []) ≡ record (table_of sizes A) { epochs = slice_set (slot_epochs sizes.slots A) t (Some (current_epoch A)) }
+  pub release : (t : ℕ) → table_of sizes (A ++ Release t ∷ []) ≡ record (table_of sizes A) { epochs = slice_set (slot_epochs sizes.slots A) t None }
+  pub bump : (tag : ℕ) → table_of sizes (A ++ Bump tag ∷ []) ≡ record (table_of sizes A) { current = current_epoch A + 1 }
+  pub take : table_of sizes (A ++ Take ∷ []) ≡ table_of sizes A
+  pub done : (c : ℕ) → table_of sizes (A ++ Done c ∷ []) ≡ table_of sizes A
+
+-- so does each step after every list
+abbrev pub TablesFollow : Type 0
+TablesFollow = (sizes : Sizes) (A : List Step) → TablesMove sizes A
 
 -- the ticket that a take was answered
 abbrev pub ticket_told : Result Reply Fault → List ℕ

@@ -1,7 +1,7 @@
 //! What holds of every list of steps, each law the contract of a function that does nothing: the definitions
 //! alone carry them, so they hold of whatever meets the definitions.
 
-ghost use Rattle.hl_model.specs.Laws.{AcceptedMeetsNoFault, GoodByItsLastStep, CurrentIsAtMostLast, DrainListHoldsThem, TicketsCountUp, TakenAreThoseListed, TakenAreSafe, AcceptedStepsAreAccepted, BeginningsAreAccepted, EpochsAreInOrder, SafeNeverFalls, SafeIsGreatest, MarkAfterBump, EpochsFitTheDrainList, TakesCountUp, TakenAfterAllMovedOn};
+ghost use Rattle.hl_model.specs.Laws.{TablesFollow, AcceptedMeetsNoFault, GoodByItsLastStep, CurrentIsAtMostLast, DrainListHoldsThem, TicketsCountUp, TakenAreThoseListed, TakenAreSafe, AcceptedStepsAreAccepted, BeginningsAreAccepted, EpochsAreInOrder, SafeNeverFalls, SafeIsGreatest, MarkAfterBump, EpochsFitTheDrainList, TakesCountUp, TakenAfterAllMovedOn};
 
 /// The accepted steps of any list are an accepted list.
 pub fn accepted_steps_are_accepted()
@@ -81,4 +81,10 @@ pub fn taken_are_those_listed()
 /// Each ticket taken is at most the safe epoch.
 pub fn taken_are_safe()
     ensures { TakenAreSafe }
+{}
+
+/// What each step makes of the table of a list, whatever list it comes after: a table of epochs that does so, call
+/// by call, is at its list.
+pub fn tables_follow()
+    ensures { TablesFollow }
 {}
