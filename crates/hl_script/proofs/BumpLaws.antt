@@ -1,13 +1,12 @@
 -- What is shown after a bump.
-use Rattle.std.proofs.Common.{◌≡◌, ◌≢◌, ℕ, zero, suc, ◌+◌, ◌-◌, ◌<◌, ◌≤◌, Bool, true, false, cond, not, ◌||◌, eqb, ltb, ◌⊎◌, inl, inr, List, [], ◌∷◌, ◌++◌, length, map, take, drop, get_or, set, refl, sym, ap, ap₂, ◌∙◌, subst, arith, eq-eqb, ne_eqb}
-use Rattle.std.specs.Prelude.{Some, None, Ok, Err, All}
+use Rattle.std.proofs.Common.{◌≡◌, ℕ, zero, suc, ◌+◌, ◌-◌, ◌<◌, ◌≤◌, Bool, true, false, cond, not, ◌||◌, eqb, is_some, ◌⊎◌, inl, inr, List, [], ◌∷◌, ◌++◌, length, map, take, drop, get_or, set, get_or-set_same, get_or-set_other, length-set, refl, sym, ap, ap₂, ◌∙◌, subst, arith, ne_eqb}
+use Rattle.std.specs.Prelude.{Option, Some, None, Ok, Err, All}
 use Rattle.std.specs.List.{list_any, filter, range_with_len, AllByRecursion}
-use Rattle.std.proofs.lemmas.Bool.{ltb-true, lt-ltb, le-ltb, cases_lt}
+use Rattle.std.proofs.lemmas.Bool.{eq-eqb, ne_eqb, eqb-true, eqb-false, cases_lt}
 use Rattle.std.proofs.lemmas.List.{map-append, get_or_past, length-map}
 use Rattle.std.proofs.lemmas.List.Elements.{All-from_recursion}
-use Rattle.std.proofs.lemmas.List.FromFn.{length-map-range_with_len}
 use Rattle.hl_model.specs.declared.action.Kind.TheVariants.{User as UserKind}
-use Rattle.hl_model.specs.declared.action.Tag.{Tag}
+use Rattle.hl_action.specs.Jobs.{KeptRecord}
 use Rattle.hl_model.specs.declared.action.Waiting.{Waiting}
 use Rattle.hl_model.specs.declared.fault.Fault.{Fault}
 use Rattle.hl_model.specs.declared.fault.Fault.TheVariants.{DrainFull, EpochsSpent, NoJob}
@@ -19,9 +18,8 @@ use Rattle.hl_model.specs.Epochs.{Table, table_of, current_epoch, slot_epochs, s
 use Rattle.hl_model.specs.Actions.{actions, pending, taken, takes, bumps, is_finished, is_full}
 use Rattle.hl_model.specs.Replies.{bump_fault, epoch_last}
 use Rattle.hl_model.proofs.ListLaws.{list_any-push}
-use Rattle.hl_model.proofs.RowLaws.{row_at, rows_set}
 use Rattle.hl_model.proofs.AcceptedLaws.{IsAccepted-push}
-use Rattle.hl_model.proofs.ActionLaws.{actions-push, bumps-push, current_epoch-bumps, tickets-actions, pending-stores, taken-stores}
+use Rattle.hl_model.proofs.ActionLaws.{bumps-push, current_epoch-bumps, tickets-actions, pending-stores, taken-stores}
 use Rattle.hl_model.proofs.DrainLaws.{takes-le-bumps, length-both, bumps-dones, is_full-both, epochs-pending}
 use Rattle.hl_model.proofs.EpochLaws.{current_epoch-push, slot_epochs-stay}
 use Rattle.hl_epoch.specs.Faults.{bump_fault as spent_fault, answered, after}
@@ -29,14 +27,12 @@ use Rattle.hl_epoch.specs.Table.{bumped, safe_of}
 use Rattle.hl_drain.specs.declared.action.Action.{Action}
 use Rattle.hl_drain.specs.declared.action.Action.TheVariants.{User}
 use Rattle.hl_drain.specs.Actions.{waiting_of}
-use Rattle.hl_drain.specs.Lists.{Lists, count_of, tickets, after_put}
+use Rattle.hl_drain.specs.Lists.{Lists, IsDrain, count_of, tickets, after_put}
 use Rattle.hl_script.specs.Answers.{bears, lacks_job, line_fault}
-use Rattle.hl_script.specs.Text.{below}
-use Rattle.hl_script.specs.Shown.{number, tag_of, tags_left, Shows, Stepped}
-use Rattle.hl_script.proofs.ShownLaws.{answered_err, answered_ok, refused_step, accepted_step, make}
-
-abbrev most : ℕ
-most = 4611686018427387904
+use Rattle.hl_script.specs.Held.{Row, taken_key}
+use Rattle.hl_script.specs.Text.{tags_on}
+use Rattle.hl_script.specs.Shown.{job_tag, Shows, Stepped}
+use Rattle.hl_script.proofs.ShownLaws.{or_none, answered_err, answered_ok, refused_step, accepted_step, make}
 
 -- what holds of each holds of those that pass, of the first and of the others
 all_filter : {X : Type 0} (P : X → Type 0) (p : X → Bool) (xs : List X) → AllByRecursion P xs → AllByRecursion P (filter p xs)
@@ -81,13 +77,13 @@ taken_below : (A : List Step) → AllByRecursion (λ w. w.ticket < current_epoch
 unfolding taken
 taken_below A = all_filter (λ w. w.ticket < current_epoch A) (λ w. not (is_finished w.ticket A)) (take (takes A) (actions A)) (all_take (λ w. w.ticket < current_epoch A) (takes A) (actions A) (tickets_below A))
 
-waiting_tickets : (entries : List (ℕ × Action Tag)) → map (λ w. w.ticket) (map (waiting_of number) entries) ≡ map (λ e. e.0) entries
+waiting_tickets : {F : Type 0} (entries : List (ℕ × Action (KeptRecord F))) → map (λ w. w.ticket) (map (waiting_of job_tag) entries) ≡ map (λ e. e.0) entries
 waiting_tickets [] = refl
 waiting_tickets (e ∷ es) = ap (λ z. e.0 ∷ z) (waiting_tickets es)
 
 -- a bump may store its action under the current epoch
-pub put_fits : (tags : ℕ) (sizes : Sizes) (A : List Step) (table : Table) (drain : Lists Tag) (row : List Bool) (ticket : ℕ) → Shows tags sizes A table drain row → ticket ≡ table.current → All (λ earlier. earlier < ticket) (tickets drain)
-put_fits tags sizes A table drain row ticket sh e =
+pub put_fits : {F : Type 0} (has : ℕ → Bool) (sizes : Sizes) (A : List Step) (table : Table) (drain : Lists (KeptRecord F)) (shelf : List (Option (KeptRecord F))) (held : Row F) (ticket : ℕ) → Shows has sizes A table drain shelf held → ticket ≡ table.current → All (λ earlier. earlier < ticket) (tickets drain)
+put_fits has sizes A table drain shelf held ticket sh e =
     let now : current_epoch A ≡ ticket = sym (e ∙ ap (λ (z : Table). z.current) sh.table_is) in
     let held : AllByRecursion (λ t. t < current_epoch A) (map (λ w. w.ticket) drain.taken) = subst (λ ws. AllByRecursion (λ t. t < current_epoch A) (map (λ w. w.ticket) ws)) (sym sh.taken_is) (all_tickets (current_epoch A) (taken A) (taken_below A)) in
     let waits : AllByRecursion (λ t. t < current_epoch A) (map (λ e. e.0) drain.pending) =
@@ -96,116 +92,113 @@ put_fits tags sizes A table drain row ticket sh e =
     (All-from_recursion (λ earlier. earlier < current_epoch A) (tickets drain) (all_append (λ t. t < current_epoch A) (map (λ w. w.ticket) drain.taken) (map (λ e. e.0) drain.pending) held waits))
 
 -- how many actions there are
-count_is : (tags : ℕ) (sizes : Sizes) (A : List Step) (table : Table) (drain : Lists Tag) (row : List Bool) → Shows tags sizes A table drain row → (length drain.pending ≡ length (pending A)) × (length drain.taken ≡ length (taken A))
-count_is tags sizes A table drain row sh = (sym (length-map drain.pending (waiting_of number)) ∙ ap length sh.pending_is, ap length sh.taken_is)
+count_is : {F : Type 0} (has : ℕ → Bool) (sizes : Sizes) (A : List Step) (table : Table) (drain : Lists (KeptRecord F)) (shelf : List (Option (KeptRecord F))) (held : Row F) → Shows has sizes A table drain shelf held → (length drain.pending ≡ length (pending A)) × (length drain.taken ≡ length (taken A))
+count_is has sizes A table drain shelf held sh = (sym (length-map drain.pending (waiting_of job_tag)) ∙ ap length sh.pending_is, ap length sh.taken_is)
 
 -- with room for one action, fewer epochs than places have ended and aren't safe
-pub bump_fits : (tags : ℕ) (sizes : Sizes) (A : List Step) (table : Table) (drain : Lists Tag) (row : List Bool) → Shows tags sizes A table drain row → count_of drain < drain.limit → table.current - 1 - safe_of table < table.drain
+pub bump_fits : {F : Type 0} (has : ℕ → Bool) (sizes : Sizes) (A : List Step) (table : Table) (drain : Lists (KeptRecord F)) (shelf : List (Option (KeptRecord F))) (held : Row F) → Shows has sizes A table drain shelf held → count_of drain < drain.limit → table.current - 1 - safe_of table < table.drain
 unfolding safe_epoch
-bump_fits tags sizes A table drain row sh room =
+bump_fits has sizes A table drain shelf held sh room =
     let lag : current_epoch A - 1 - safe_among (current_epoch A) (slot_epochs sizes.slots A) ≤ length (pending A) = epochs-pending sizes A sh.accepted in
-    let counts = count_is tags sizes A table drain row sh in
+    let counts = count_is has sizes A table drain shelf held sh in
     subst (λ (z : Table). z.current - 1 - safe_of z < z.drain) (sym sh.table_is) (omega (arith, lag, counts.0, counts.1, room, sh.limit_is))
-
--- a tag that is left, as the row tells
-pub left_shown : (tags : ℕ) (A : List Step) (tag : ℕ) → get_or (tags_left tags A) tag false ≡ not (lacks_job (below tags) A (Bump tag))
-unfolding tags_left
-left_shown tags A tag = by_order (cases_lt tag tags)
-  where
-    row : List Bool
-    row = map (λ t. not (list_any (bears t) A)) (range_with_len 0 tags)
-
-    by_order : (tag < tags) ⊎ (tags ≤ tag) → get_or row tag false ≡ not (not (ltb tag tags) || list_any (bears tag) A)
-    by_order (inl lt) = row_at (λ t. not (list_any (bears t) A)) tags tag false lt ∙ sym (ap (λ b. not (not b || list_any (bears tag) A)) (lt-ltb tag tags lt))
-    by_order (inr ge) = get_or_past row tag false (omega (arith, length-map-range_with_len (λ t. not (list_any (bears t) A)) 0 tags)) ∙ sym (ap (λ b. not (not b || list_any (bears tag) A)) (le-ltb tag tags ge))
 
 not_not : (b c : Bool) → b ≡ not c → (b ≡ false → c ≡ true) × (b ≡ true → c ≡ false)
 not_not b true h = ((λ e. refl), (λ e. cc))
 not_not b false h = ((λ e. cc), (λ e. refl))
 
-lacks : (tags : ℕ) (A : List Step) (tag : ℕ) (row : List Bool) (b : Bool) → row ≡ tags_left tags A → b ≡ get_or row tag false → b ≡ not (lacks_job (below tags) A (Bump tag))
-lacks tags A tag row b r e = e ∙ ap (λ z. get_or z tag false) r ∙ left_shown tags A tag
+-- a bump of a tag whose job isn't there
+pub bump_no_job : {F : Type 0} (has : ℕ → Bool) (sizes : Sizes) (A : List Step) (tag : ℕ) (is_there : Bool) (table : Table) (drain : Lists (KeptRecord F)) (shelf : List (Option (KeptRecord F))) (held : Row F) → Shows has sizes A table drain shelf held → is_there ≡ tags_on shelf tag → is_there ≡ false → Stepped has sizes A (Bump tag) table drain shelf held (Err NoJob)
+bump_no_job has sizes A tag is_there table drain shelf held sh e h =
+    let lack = (not_not is_there (lacks_job has A (Bump tag)) (e ∙ sh.left_is tag)).0 h in
+    refused_step has sizes A (Bump tag) NoJob table drain shelf held sh (ap (λ b. cond b (Some NoJob) (bump_fault sizes A)) lack)
 
--- a bump of a tag that isn't left
-pub bump_no_job : (tags : ℕ) (sizes : Sizes) (A : List Step) (tag : ℕ) (is_left : Bool) (table : Table) (drain : Lists Tag) (row : List Bool) → Shows tags sizes A table drain row → is_left ≡ get_or row tag false → is_left ≡ false → Stepped tags sizes A (Bump tag) table drain row (Err NoJob)
-bump_no_job tags sizes A tag is_left table drain row sh e h =
-    let lack = (not_not is_left (lacks_job (below tags) A (Bump tag)) (lacks tags A tag row is_left sh.left_is e)).0 h in
-    refused_step tags sizes A (Bump tag) NoJob table drain row sh (ap (λ b. cond b (Some NoJob) (bump_fault sizes A)) lack)
-
--- the fault of a bump whose tag is left
-has_job : (tags : ℕ) (sizes : Sizes) (A : List Step) (tag : ℕ) (is_left : Bool) (row : List Bool) → row ≡ tags_left tags A → is_left ≡ get_or row tag false → is_left ≡ true → (lacks_job (below tags) A (Bump tag) ≡ false) × (line_fault (below tags) sizes A (Bump tag) ≡ bump_fault sizes A)
-has_job tags sizes A tag is_left row r e h =
-    let have = (not_not is_left (lacks_job (below tags) A (Bump tag)) (lacks tags A tag row is_left r e)).1 h in
-    (have, ap (λ b. cond b (Some NoJob) (bump_fault sizes A)) have)
+-- the fault of a bump whose job is there
+has_job : {F : Type 0} (has : ℕ → Bool) (sizes : Sizes) (A : List Step) (tag : ℕ) (is_there : Bool) (shelf : List (Option (KeptRecord F))) → ((tag : ℕ) → tags_on shelf tag ≡ not (lacks_job has A (Bump tag))) → is_there ≡ tags_on shelf tag → is_there ≡ true → line_fault has sizes A (Bump tag) ≡ bump_fault sizes A
+has_job has sizes A tag is_there shelf left e h =
+    ap (λ b. cond b (Some NoJob) (bump_fault sizes A)) ((not_not is_there (lacks_job has A (Bump tag)) (e ∙ left tag)).1 h)
 
 -- a bump of a full list
-pub bump_full : (tags : ℕ) (sizes : Sizes) (A : List Step) (tag : ℕ) (is_left : Bool) (table : Table) (drain : Lists Tag) (row : List Bool) → Shows tags sizes A table drain row → is_left ≡ get_or row tag false → is_left ≡ true → drain.limit ≤ count_of drain → Stepped tags sizes A (Bump tag) table drain row (Err DrainFull)
-bump_full tags sizes A tag is_left table drain row sh e h le =
-    let counts = count_is tags sizes A table drain row sh in
+pub bump_full : {F : Type 0} (has : ℕ → Bool) (sizes : Sizes) (A : List Step) (tag : ℕ) (is_there : Bool) (table : Table) (drain : Lists (KeptRecord F)) (shelf : List (Option (KeptRecord F))) (held : Row F) → Shows has sizes A table drain shelf held → is_there ≡ tags_on shelf tag → is_there ≡ true → drain.limit ≤ count_of drain → Stepped has sizes A (Bump tag) table drain shelf held (Err DrainFull)
+bump_full has sizes A tag is_there table drain shelf held sh e h le =
+    let counts = count_is has sizes A table drain shelf held sh in
     let full : is_full sizes.drain A ≡ true = is_full-both sizes sizes.drain A sh.accepted ∙ eq-eqb (length (pending A) + length (taken A)) sizes.drain (omega (arith, le, sh.limit_is, counts.0, counts.1, length-both sizes A sh.accepted, bumps-dones sizes A sh.accepted)) in
-    refused_step tags sizes A (Bump tag) DrainFull table drain row sh
-    ((has_job tags sizes A tag is_left row sh.left_is e h).1 ∙ ap (λ b. cond b (Some DrainFull) (cond (eqb (current_epoch A) epoch_last) (Some EpochsSpent) None)) full)
+    refused_step has sizes A (Bump tag) DrainFull table drain shelf held sh
+    (has_job has sizes A tag is_there shelf sh.left_is e h ∙ ap (λ b. cond b (Some DrainFull) (cond (eqb (current_epoch A) epoch_last) (Some EpochsSpent) None)) full)
 
 -- a list with room isn't full
-room_not_full : (tags : ℕ) (sizes : Sizes) (A : List Step) (table : Table) (drain : Lists Tag) (row : List Bool) → Shows tags sizes A table drain row → count_of drain < drain.limit → is_full sizes.drain A ≡ false
-room_not_full tags sizes A table drain row sh room =
-    let counts = count_is tags sizes A table drain row sh in
+room_not_full : {F : Type 0} (has : ℕ → Bool) (sizes : Sizes) (A : List Step) (table : Table) (drain : Lists (KeptRecord F)) (shelf : List (Option (KeptRecord F))) (held : Row F) → Shows has sizes A table drain shelf held → count_of drain < drain.limit → is_full sizes.drain A ≡ false
+room_not_full has sizes A table drain shelf held sh room =
+    let counts = count_is has sizes A table drain shelf held sh in
     is_full-both sizes sizes.drain A sh.accepted ∙ ne_eqb (length (pending A) + length (taken A)) sizes.drain (λ e. omega (arith, e, room, sh.limit_is, counts.0, counts.1))
 
--- the fault of a bump with a tag and room
-open_fault : (tags : ℕ) (sizes : Sizes) (A : List Step) (tag : ℕ) (is_left : Bool) (table : Table) (drain : Lists Tag) (row : List Bool) → Shows tags sizes A table drain row → is_left ≡ get_or row tag false → is_left ≡ true → count_of drain < drain.limit → (line_fault (below tags) sizes A (Bump tag) ≡ spent_fault table) × (bump_fault sizes A ≡ spent_fault table)
-open_fault tags sizes A tag is_left table drain row sh e h room =
+-- the fault of a bump with a job and room
+open_fault : {F : Type 0} (has : ℕ → Bool) (sizes : Sizes) (A : List Step) (tag : ℕ) (is_there : Bool) (table : Table) (drain : Lists (KeptRecord F)) (shelf : List (Option (KeptRecord F))) (held : Row F) → Shows has sizes A table drain shelf held → is_there ≡ tags_on shelf tag → is_there ≡ true → count_of drain < drain.limit → (line_fault has sizes A (Bump tag) ≡ spent_fault table) × (bump_fault sizes A ≡ spent_fault table)
+open_fault has sizes A tag is_there table drain shelf held sh e h room =
     let same : bump_fault sizes A ≡ spent_fault table =
-    ap (λ b. cond b (Some DrainFull) (cond (eqb (current_epoch A) epoch_last) (Some EpochsSpent) None)) (room_not_full tags sizes A table drain row sh room)
+    ap (λ b. cond b (Some DrainFull) (cond (eqb (current_epoch A) epoch_last) (Some EpochsSpent) None)) (room_not_full has sizes A table drain shelf held sh room)
     ∙ sym (ap spent_fault sh.table_is) in
-    ((has_job tags sizes A tag is_left row sh.left_is e h).1 ∙ same, same)
+    (has_job has sizes A tag is_there shelf sh.left_is e h ∙ same, same)
 
--- a bump of the last epoch
-pub bump_spent : (tags : ℕ) (sizes : Sizes) (A : List Step) (tag : ℕ) (is_left : Bool) (f : Fault) (old new : Table) (drain : Lists Tag) (row : List Bool) → Shows tags sizes A old drain row → is_left ≡ get_or row tag false → is_left ≡ true → count_of drain < drain.limit → Err f ≡ answered (spent_fault old) old.current → new ≡ after (spent_fault old) old (bumped old) → Stepped tags sizes A (Bump tag) new drain row (Err f)
-bump_spent tags sizes A tag is_left f old new drain row sh e h room a eff =
+-- a bump of the last epoch: the shelf is as it was
+pub bump_spent : {F : Type 0} (has : ℕ → Bool) (sizes : Sizes) (A : List Step) (tag : ℕ) (is_there : Bool) (f : Fault) (old new : Table) (drain : Lists (KeptRecord F)) (shelf : List (Option (KeptRecord F))) (held : Row F) → Shows has sizes A old drain shelf held → is_there ≡ tags_on shelf tag → is_there ≡ true → count_of drain < drain.limit → Err f ≡ answered (spent_fault old) old.current → new ≡ after (spent_fault old) old (bumped old) → Stepped has sizes A (Bump tag) new drain shelf held (Err f)
+bump_spent has sizes A tag is_there f old new drain shelf held sh e h room a eff =
     let some : spent_fault old ≡ Some f = answered_err (spent_fault old) f old.current a in
     let same : new ≡ old = eff ∙ ap (λ p. after p old (bumped old)) some in
-    refused_step tags sizes A (Bump tag) f new drain row (subst (λ z. Shows tags sizes A z drain row) (sym same) sh)
-    ((open_fault tags sizes A tag is_left old drain row sh e h room).0 ∙ some)
+    refused_step has sizes A (Bump tag) f new drain shelf held (subst (λ z. Shows has sizes A z drain shelf held) (sym same) sh)
+    ((open_fault has sizes A tag is_there old drain shelf held sh e h room).0 ∙ some)
 
--- the row without a tag
-left_bumped : (tags : ℕ) (A : List Step) (tag : ℕ) → set (tags_left tags A) tag false ≡ tags_left tags (A ++ Bump tag ∷ [])
-unfolding tags_left
-left_bumped tags A tag = sym (rows_set (λ t. not (list_any (bears t) (A ++ Bump tag ∷ []))) (λ t. not (list_any (bears t) A)) tags tag false here others)
+-- a job that is there is found
+pub job_gone : {X : Type 0} (b : Bool) (o : Option X) → b ≡ is_some o → b ≡ true → None ≡ o → ⊥
+job_gone b None e h none = cc
+job_gone b (Some x) e h none = cc
+
+-- a place that was emptied is empty, also past the end
+emptied : {X : Type 0} (xs : List (Option X)) (i : ℕ) → get_or (set xs i None) i None ≡ None
+emptied xs i = by_order (cases_lt i (length xs))
   where
-    or_true : (a b : Bool) → b ≡ true → (a || b) ≡ true
-    or_true true b h = refl
-    or_true false b h = h
+    by_order : (i < length xs) ⊎ (length xs ≤ i) → get_or (set xs i None) i None ≡ None
+    by_order (inl lt) = get_or-set_same xs i None None lt
+    by_order (inr ge) = get_or_past (set xs i None) i None (omega (arith, length-set xs i None))
 
-    or_none : (a b : Bool) → b ≡ false → (a || b) ≡ a
-    or_none true b h = refl
-    or_none false b h = h
+or_true : (a b : Bool) → b ≡ true → (a || b) ≡ true
+or_true true b h = refl
+or_true false b h = h
 
-    here : not (list_any (bears tag) (A ++ Bump tag ∷ [])) ≡ false
-    here = ap not (list_any-push (bears tag) A (Bump tag) ∙ or_true (list_any (bears tag) A) (eqb tag tag) (eq-eqb tag tag refl))
+-- the jobs that are left without the one of a tag
+left_bumped : {F : Type 0} (has : ℕ → Bool) (A : List Step) (tag : ℕ) (shelf : List (Option (KeptRecord F))) → ((t : ℕ) → tags_on shelf t ≡ not (lacks_job has A (Bump t))) → (t : ℕ) → tags_on (set shelf tag None) t ≡ not (lacks_job has (A ++ Bump tag ∷ []) (Bump t))
+left_bumped has A tag shelf left t = by_test (eqb tag t) refl
+  where
+    by_test : (b : Bool) → eqb tag t ≡ b → tags_on (set shelf tag None) t ≡ not (lacks_job has (A ++ Bump tag ∷ []) (Bump t))
+    by_test true h =
+        let same : tag ≡ t = eqb-true tag t h in
+        let borne : list_any (bears t) (A ++ Bump tag ∷ []) ≡ true = list_any-push (bears t) A (Bump tag) ∙ or_true (list_any (bears t) A) (eqb tag t) h in
+        subst (λ n. tags_on (set shelf n None) t ≡ false) (sym same) (ap is_some (emptied shelf t))
+        ∙ sym (ap not (ap (λ b. not (has t) || b) borne ∙ or_true (not (has t)) true refl))
+    by_test false h =
+        ap is_some (get_or-set_other shelf tag t None None (λ e. eqb-false tag t h (sym e))) ∙ left t
+        ∙ sym (ap (λ b. not (not (has t) || b)) (list_any-push (bears t) A (Bump tag) ∙ or_none (list_any (bears t) A) (eqb tag t) h))
 
-    others : (t : ℕ) → t ≢ tag → not (list_any (bears t) (A ++ Bump tag ∷ [])) ≡ not (list_any (bears t) A)
-    others t ne = ap not (list_any-push (bears t) A (Bump tag) ∙ or_none (list_any (bears t) A) (eqb tag t) (ne_eqb tag t (λ e. ne (sym e))))
-
--- an accepted bump
-pub bump_ok : (tags : ℕ) (sizes : Sizes) (A : List Step) (tag : ℕ) (is_left : Bool) (ticket : ℕ) (old new : Table) (drain drain_new : Lists Tag) (row : List Bool) → Shows tags sizes A old drain row → is_left ≡ get_or row tag false → is_left ≡ true → count_of drain < drain.limit → Ok ticket ≡ answered (spent_fault old) old.current → new ≡ after (spent_fault old) old (bumped old) → drain_new ≡ after_put drain ticket (User (record { 0 = tag })) → Stepped tags sizes A (Bump tag) new drain_new (set row tag false) (Ok (Ticket ticket))
-bump_ok tags sizes A tag is_left ticket old new drain drain_new row sh e h room a eff put =
-    accepted_step tags sizes A (Bump tag) (Ticket ticket) new drain_new (set row tag false) (faults.0 ∙ free) reply (record {
+-- an accepted bump: its job leaves the shelf for the list
+pub bump_ok : {F : Type 0} (has : ℕ → Bool) (sizes : Sizes) (A : List Step) (tag : ℕ) (is_there : Bool) (ticket : ℕ) (kept : KeptRecord F) (old new : Table) (drain drain_new : Lists (KeptRecord F)) (shelf shelf_new : List (Option (KeptRecord F))) (held : Row F) → Shows has sizes A old drain shelf held → is_there ≡ tags_on shelf tag → is_there ≡ true → count_of drain < drain.limit → Ok ticket ≡ answered (spent_fault old) old.current → new ≡ after (spent_fault old) old (bumped old) → shelf_new ≡ set shelf tag None → kept.tag ≡ tag → drain_new ≡ after_put drain ticket (User kept) → IsDrain drain_new → Stepped has sizes A (Bump tag) new drain_new shelf_new held (Ok (Ticket ticket))
+bump_ok {F = F} has sizes A tag is_there ticket kept old new drain drain_new shelf shelf_new held sh e h room a eff emptied_is own put known =
+    accepted_step has sizes A (Bump tag) (Ticket ticket) new drain_new shelf_new held (faults.0 ∙ free) reply (record {
       table_is = table;
-      limit_is = ap (λ (z : Lists Tag). z.limit) stored ∙ sh.limit_is;
-      pending_is = ap (λ (z : Lists Tag). map (waiting_of number) z.pending) stored ∙ map-append (waiting_of number) drain.pending ((ticket, User (record { 0 = tag })) ∷ [])
-          ∙ ap₂ (λ xs (n : ℕ). xs ++ record { ticket = n; kind = UserKind tag } ∷ []) sh.pending_is is
+      limit_is = ap (λ (z : Lists (KeptRecord F)). z.limit) stored ∙ sh.limit_is;
+      pending_is = ap (λ (z : Lists (KeptRecord F)). map (waiting_of job_tag) z.pending) stored ∙ map-append (waiting_of job_tag) drain.pending ((ticket, User kept) ∷ [])
+          ∙ ap₂ (λ xs (n : ℕ). xs ++ record { ticket = n; kind = UserKind kept.tag } ∷ []) sh.pending_is is
+          ∙ ap (λ (n : ℕ). pending A ++ record { ticket = current_epoch A; kind = UserKind n } ∷ []) own
           ∙ sym (pending-stores A (Bump tag) (takes-le-bumps sizes A sh.accepted) refl);
-      taken_is = ap (λ (z : Lists Tag). z.taken) stored ∙ sh.taken_is ∙ sym (taken-stores A (Bump tag) (takes-le-bumps sizes A sh.accepted) refl (λ c. refl));
-      left_is = ap (λ z. set z tag false) sh.left_is ∙ left_bumped tags A tag;
+      taken_is = ap (λ (z : Lists (KeptRecord F)). z.taken) stored ∙ sh.taken_is ∙ sym (taken-stores A (Bump tag) (takes-le-bumps sizes A sh.accepted) refl (λ c. refl));
+      ordered = known;
+      left_is = λ t. ap (λ z. tags_on z t) emptied_is ∙ left_bumped has A tag shelf sh.left_is t;
+      held_is = sh.held_is ∙ sym (ap (λ (z : Lists (KeptRecord F)). map taken_key z.taken) stored);
+      room = sh.room;
       accepted = IsAccepted-push sizes A (Bump tag) sh.accepted (faults.1 ∙ free);
-      tags_most = sh.tags_most;
-      small = subst (AllByRecursion (λ waiting. tag_of waiting.kind ≤ most)) (sym (actions-push A (Bump tag)))
-          (all_append (λ waiting. tag_of waiting.kind ≤ most) (actions A) (record { ticket = current_epoch A; kind = UserKind tag } ∷ []) sh.small (omega (arith, within, sh.tags_most), tt));
     })
   where
-    faults : (line_fault (below tags) sizes A (Bump tag) ≡ spent_fault old) × (bump_fault sizes A ≡ spent_fault old)
-    faults = open_fault tags sizes A tag is_left old drain row sh e h room
+    faults : (line_fault has sizes A (Bump tag) ≡ spent_fault old) × (bump_fault sizes A ≡ spent_fault old)
+    faults = open_fault has sizes A tag is_there old drain shelf held sh e h room
 
     both : (spent_fault old ≡ None) × (ticket ≡ old.current)
     both = answered_ok (spent_fault old) ticket old.current a
@@ -220,15 +213,8 @@ bump_ok tags sizes A tag is_left ticket old new drain drain_new row sh e h room 
     table = eff ∙ ap (λ p. after p old (bumped old)) free ∙ ap bumped sh.table_is
         ∙ ap₂ (make sizes.drain) (sym (current_epoch-push A (Bump tag))) (sym (slot_epochs-stay sizes.slots A (Bump tag) (λ t. refl) (λ t. refl)))
 
-    stored : drain_new ≡ record drain { pending = drain.pending ++ (ticket, User (record { 0 = tag })) ∷ [] }
-    stored = put ∙ ap (λ b. cond b drain (record drain { pending = drain.pending ++ (ticket, User (record { 0 = tag })) ∷ [] })) (ne_eqb (count_of drain) drain.limit (λ q. absurd (omega (arith, q, room))))
+    stored : drain_new ≡ record drain { pending = drain.pending ++ (ticket, User kept) ∷ [] }
+    stored = put ∙ ap (λ b. cond b drain (record drain { pending = drain.pending ++ (ticket, User kept) ∷ [] })) (ne_eqb (count_of drain) drain.limit (λ q. absurd (omega (arith, q, room))))
 
     reply : Ticket (bumps (A ++ Bump tag ∷ [])) ≡ Ticket ticket
     reply = ap (λ n. Ticket n) (omega (arith, bumps-push A (Bump tag), is, current_epoch-bumps A))
-
-    within : tag < tags
-    within = in_set (ltb tag tags) (list_any (bears tag) A) refl (has_job tags sizes A tag is_left row sh.left_is e h).0
-      where
-        in_set : (b c : Bool) → ltb tag tags ≡ b → (not b || c) ≡ false → tag < tags
-        in_set true c q r = ltb-true tag tags q
-        in_set false c q r = cc

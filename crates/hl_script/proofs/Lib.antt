@@ -2,6 +2,7 @@ pub mod AnswerLaws
 pub mod BumpLaws
 pub mod CutLaws
 pub mod EngineLaws
+pub mod HeldLaws
 pub mod KnownLaws
 pub mod LineLaws
 pub mod MachineLaws

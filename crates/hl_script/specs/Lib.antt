@@ -1,6 +1,7 @@
 pub mod Answers
 pub mod Cut
 pub mod Engine
+pub mod Held
 pub mod Lines
 pub mod Machine
 pub mod Outcomes

@@ -6,8 +6,11 @@
 //! that have a job: `text` of `specs/Text.antt`, by the definitions of hl_model. It is read in this order: how a
 //! script is cut (`Cut`), which lines are good (`Lines`), what each is answered (`Answers`), the text (`Text`).
 //!
-//! [`run_tags`] writes the text. A job is its tag alone, and answers its tag + its ticket; each tag has one job, so
-//! a bump whose tag an accepted bump bore is refused with `NoJob`.
+//! [`run_text`] writes the text. It is handed the jobs on a shelf, one for a tag. An accepted bump takes the job of
+//! its tag from the shelf, so a second bump of that tag is refused with `NoJob`, and a refused bump leaves its job
+//! there. A take holds the job with its firing, the ticket and the epoch that is safe then; the done of that ticket
+//! runs it, once, and shows what it answered. Whatever code a job is, its type promises [`Sum`]: it answers its tag +
+//! its ticket. That is why the text is a function of the tags, and not of the jobs.
 //!
 //! # The parts
 //!
@@ -16,8 +19,11 @@
 //! | `engine` | cuts, judges, has each line answered, and stops: at a bad line, at the end, at a fault of a stream |
 //! | `progress` | what is kept between two bytes: two counts, and a line of at most 80 bytes |
 //! | `machine` | the trait of what answers a line; a machine need not keep the lines that it answered |
-//! | `table_and_drain` | a machine over a table of epochs and a drain list; it takes memory at the config alone |
+//! | `table_and_drain` | a machine over a table of epochs and a drain list of jobs; it takes memory at the config alone |
 //! | `opened` | its steps and queries, from the config on |
+//! | `held` | the row of the taken actions that aren't done, in step with the drain list's |
+//! | `undone` | one of these: a must-spend `Ready`, given up where the run ends first |
+//! | `sum` | the promise of the jobs |
 //! | `answers` | the texts of answers |
 //! | `put` | writes all of some bytes, and makes no write after one that failed |
 //!
@@ -27,15 +33,20 @@
 
 mod answers;
 mod engine;
+mod held;
 mod machine;
 mod opened;
 mod progress;
 mod put;
 mod run;
 mod stop;
+mod sum;
 mod table_and_drain;
+mod undone;
 
-pub use run::run_tags;
+pub use hl_line::{Line, print_fault, print_line, print_reply, read_line};
+pub use run::{Finished, run_text};
+pub use sum::Sum;
 
 #[cfg(test)]
 mod tests;

@@ -1,50 +1,65 @@
-ghost use Rattle.std.specs.Prelude.{◌≡◌, ℕ, List, ◌≤◌, ◌^◌, false, [], slice_index_or, IfOk, IfErr};
+ghost use Rattle.std.specs.Prelude.{◌≡◌, ℕ, Bool, List, [], IfOk, IfErr};
 ghost use Rattle.hl_model.specs.declared.step.Step.TheVariants.{Acquire as ACQUIRE, Refresh as REFRESH, Release as RELEASE, Bump as BUMP, Take as TAKE, Done as DONE};
 ghost use Rattle.hl_model.specs.declared.step.Step.{Step};
 ghost use Rattle.hl_model.specs.Sizes.{Sizes};
 ghost use Rattle.hl_model.specs.Actions.{pending};
 ghost use Rattle.hl_script.specs.Answers.{status_text, pending_text};
+ghost use Rattle.hl_script.specs.Held.{job_in, told_of};
+ghost use Rattle.hl_script.specs.Text.{tags_on};
 ghost use Rattle.hl_script.specs.Shown.{Shows, IsShown, Made, StepAnswers};
 
 use crate::answers::{print_pending, print_quantities, print_result, put_line};
+use crate::held::Held;
 use crate::machine::Broken;
+use crate::sum::Sum;
 use arrayvec::ArrayString;
+use hl_action::{Firing, Kept, Ready, Shelf, Task};
 use hl_drain::{Action, Drain};
 use hl_epoch::Epochs;
-use hl_model::{Fault, Kind, Params, Reply, Six, Step, Tag, View};
+use hl_model::{Fault, Kind, Params, Reply, Six, Step, View};
 use std::alloc::Global;
 use std::io::Write;
 
-/// What the steps of a script act on: a table of epochs, a drain list of tags, and which tags are left.
+// What names the origin of a taken action. A run has one drain list alone.
+const ORIGIN: u64 = 0;
+
+/// What the steps of a script act on: a table of epochs, a drain list of jobs, the jobs that no accepted bump
+/// took, and the taken actions that aren't done.
 #[derive(Drop)]
-pub(crate) struct Opened<E> {
+pub(crate) struct Opened<E, F: Task> {
     pub(crate) table: E,
-    pub(crate) drain: Drain<Tag>,
-    /// For each tag whether no accepted bump bore it.
-    pub(crate) left: Vec<bool>,
+    pub(crate) drain: Drain<Kept<F, Sum>>,
+    pub(crate) shelf: Shelf<F, Sum>,
+    pub(crate) held: Held<F>,
 }
 
-impl<E: Epochs + Drop> Opened<E> {
-    /// Epoch 1, no slot protected, no action, and the tags 0 to `tags` - 1.
+impl<E: Epochs + Drop, F: Task> Opened<E, F> {
+    /// Epoch 1, no slot protected, no action, and all jobs on the shelf.
     ///
     /// `OutOfMemory` where memory was refused.
-    pub(crate) fn open(alloc: Global, sizes: Params, tags: u64) -> Result<Opened<E>, Fault>
-        requires { tags ≤ 2 ^ 62 }
-        ensures ok { IfOk result (λ opened. Shows tags sizes [] (E.table opened.table) opened.drain opened.left.items) }
+    pub(crate) fn open(
+        alloc: Global,
+        sizes: Params,
+        shelf: Shelf<F, Sum>,
+    ) -> Result<Opened<E, F>, Fault>
+        ensures ok { IfOk result (λ opened. Shows (tags_on shelf) sizes [] (E.table opened.table) opened.drain opened.shelf opened.held) }
         ensures err { IfErr result (λ fault. fault ≡ Fault.OutOfMemory) }
     {
         let table = E::make(alloc, sizes.slots(), sizes.drain())?;
         let drain = Drain::open(alloc, sizes.drain())?;
-        let Ok(left) = vec![in alloc; true; tags as usize] else {
-            return Err(Fault::OutOfMemory);
-        };
-        Ok(Opened { table, drain, left })
+        let held = Held::open(alloc, sizes.drain())?;
+        Ok(Opened {
+            table,
+            drain,
+            shelf,
+            held,
+        })
     }
 
-    /// Makes a step. A bump of a tag that isn't left is refused with `NoJob`, before all other faults.
+    /// Makes a step. A bump of a tag whose job isn't on the shelf is refused with `NoJob`, before all other faults.
     pub(crate) fn step(&mut self, step: Step) -> Result<Reply, Fault>
-        requires { IsShown (E.table self.old.table) self.old.drain self.old.left.items }
-        ensures { Made step (E.table self.old.table) self.old.drain self.old.left.items (E.table self.new.table) self.new.drain self.new.left.items result }
+        requires { IsShown (E.table self.old.table) self.old.drain self.old.shelf self.old.held }
+        ensures { Made step (E.table self.old.table) self.old.drain self.old.shelf self.old.held (E.table self.new.table) self.new.drain self.new.shelf self.new.held result }
     {
         match step {
             Step::Acquire { t } => self.acquire(t),
@@ -60,9 +75,9 @@ impl<E: Epochs + Drop> Opened<E> {
     ///
     /// `Stream` where a write failed or took no byte; the first bytes of the answer were written.
     pub(crate) fn answer_step<W: Write>(&mut self, step: Step, out: &mut W) -> Result<bool, Broken>
-        requires { IsShown (E.table self.old.table) self.old.drain self.old.left.items }
-        ensures { (tags : ℕ) (sizes : Sizes) (A : List Step) → Shows tags sizes A (E.table self.old.table) self.old.drain self.old.left.items
-            → StepAnswers tags sizes A step (E.table self.new.table) self.new.drain self.new.left.items (W.contents out.old) (W.contents out.new) result }
+        requires { IsShown (E.table self.old.table) self.old.drain self.old.shelf self.old.held }
+        ensures { (has : ℕ → Bool) (sizes : Sizes) (A : List Step) → Shows has sizes A (E.table self.old.table) self.old.drain self.old.shelf self.old.held
+            → StepAnswers has sizes A step (E.table self.new.table) self.new.drain self.new.shelf self.new.held (W.contents out.old) (W.contents out.new) result }
     {
         let result = self.step(step);
         put_line(out, print_result(&result).as_str())?;
@@ -71,7 +86,7 @@ impl<E: Epochs + Drop> Opened<E> {
 
     /// The answer to a query of the quantities.
     pub(crate) fn status(&self) -> ArrayString<320>
-        ensures { (tags : ℕ) (sizes : Sizes) (A : List Step) → Shows tags sizes A (E.table self.now.table) self.now.drain self.now.left.items
+        ensures { (has : ℕ → Bool) (sizes : Sizes) (A : List Step) → Shows has sizes A (E.table self.now.table) self.now.drain self.now.shelf self.now.held
             → result.bytes ≡ status_text sizes A }
     {
         let six = Six {
@@ -89,28 +104,28 @@ impl<E: Epochs + Drop> Opened<E> {
 
     /// The answer to a query of the pending actions.
     pub(crate) fn pending(&self) -> ArrayString<4096>
-        ensures { (tags : ℕ) (sizes : Sizes) (A : List Step) → Shows tags sizes A (E.table self.now.table) self.now.drain self.now.left.items
+        ensures { (has : ℕ → Bool) (sizes : Sizes) (A : List Step) → Shows has sizes A (E.table self.now.table) self.now.drain self.now.shelf self.now.held
             → result.bytes ≡ pending_text (pending A) }
     {
         print_pending(self.drain.pending().as_slice())
     }
 
     fn acquire(&mut self, t: u64) -> Result<Reply, Fault>
-        ensures { Made (ACQUIRE t) (E.table self.old.table) self.old.drain self.old.left.items (E.table self.new.table) self.new.drain self.new.left.items result }
+        ensures { Made (ACQUIRE t) (E.table self.old.table) self.old.drain self.old.shelf self.old.held (E.table self.new.table) self.new.drain self.new.shelf self.new.held result }
     {
         self.table.acquire(t)?;
         Ok(self.entered())
     }
 
     fn refresh(&mut self, t: u64) -> Result<Reply, Fault>
-        ensures { Made (REFRESH t) (E.table self.old.table) self.old.drain self.old.left.items (E.table self.new.table) self.new.drain self.new.left.items result }
+        ensures { Made (REFRESH t) (E.table self.old.table) self.old.drain self.old.shelf self.old.held (E.table self.new.table) self.new.drain self.new.shelf self.new.held result }
     {
         self.table.refresh(t)?;
         Ok(self.entered())
     }
 
     fn release(&mut self, t: u64) -> Result<Reply, Fault>
-        ensures { Made (RELEASE t) (E.table self.old.table) self.old.drain self.old.left.items (E.table self.new.table) self.new.drain self.new.left.items result }
+        ensures { Made (RELEASE t) (E.table self.old.table) self.old.drain self.old.shelf self.old.held (E.table self.new.table) self.new.drain self.new.shelf self.new.held result }
     {
         self.table.release(t)?;
         Ok(Reply::Left)
@@ -130,52 +145,70 @@ impl<E: Epochs + Drop> Opened<E> {
         }
     }
 
+    /// The shelf is tried first, then the list's room, then the epoch.
     fn bump(&mut self, tag: u64) -> Result<Reply, Fault>
-        requires { IsShown (E.table self.old.table) self.old.drain self.old.left.items }
-        ensures { Made (BUMP tag) (E.table self.old.table) self.old.drain self.old.left.items (E.table self.new.table) self.new.drain self.new.left.items result }
+        requires { IsShown (E.table self.old.table) self.old.drain self.old.shelf self.old.held }
+        ensures { Made (BUMP tag) (E.table self.old.table) self.old.drain self.old.shelf self.old.held (E.table self.new.table) self.new.drain self.new.shelf self.new.held result }
     {
-        if !self.is_left(tag) {
+        if !self.shelf.has(tag) {
             return Err(Fault::NoJob);
         }
         if !self.drain.has_room() {
             return Err(Fault::DrainFull);
         }
         let ticket = self.table.bump()?;
-        match self.drain.put(ticket, Action::User(Tag(tag))) {
+        // The job leaves the shelf only now: a refused bump leaves it there.
+        let Some(kept) = self.shelf.take(tag) else {
+            return Err(Fault::NoJob);
+        };
+        match self.drain.put(ticket, Action::User(kept)) {
             Ok(()) => {}
             Err((fault, _)) => return Err(fault),
         }
-        self.left[tag as usize] = false;
         Ok(Reply::Ticket(ticket))
     }
 
-    /// Whether no accepted bump bore the tag. False where there is no such tag.
-    fn is_left(&self, tag: u64) -> bool
-        ensures { result ≡ slice_index_or self.now.left.items tag false }
-    {
-        match self.left.get(tag as usize) {
-            Some(is_left) => *is_left,
-            None => false,
-        }
-    }
-
+    /// Takes the oldest pending action, and holds it with its firing until its done.
     fn take(&mut self) -> Result<Reply, Fault>
-        ensures { Made TAKE (E.table self.old.table) self.old.drain self.old.left.items (E.table self.new.table) self.new.drain self.new.left.items result }
+        requires { IsShown (E.table self.old.table) self.old.drain self.old.shelf self.old.held }
+        ensures { Made TAKE (E.table self.old.table) self.old.drain self.old.shelf self.old.held (E.table self.new.table) self.new.drain self.new.shelf self.new.held result }
     {
         let safe = self.table.safe();
-        let (ticket, _) = self.drain.take(safe)?;
+        let (ticket, action) = self.drain.take(safe)?;
+        let firing = Firing::new(ticket, safe);
+        self.held.push(Ready::of(ORIGIN, firing, job_of(action)));
         Ok(Reply::Taken(ticket))
     }
 
-    /// A job answers its tag + its ticket.
+    /// Runs the job of a taken action: its answer is the reply.
     fn done(&mut self, ticket: u64) -> Result<Reply, Fault>
-        requires { IsShown (E.table self.old.table) self.old.drain self.old.left.items }
-        ensures { Made (DONE ticket) (E.table self.old.table) self.old.drain self.old.left.items (E.table self.new.table) self.new.drain self.new.left.items result }
+        ensures { Made (DONE ticket) (E.table self.old.table) self.old.drain self.old.shelf self.old.held (E.table self.new.table) self.new.drain self.new.shelf self.new.held result }
     {
-        Ok(match self.drain.done(ticket)? {
-            Kind::User(tag) => Reply::Answer(tag + ticket),
-            Kind::Settle(_) => Reply::Settled(0),
+        let kind = self.drain.done(ticket)?;
+        Ok(told(self.held.run(ticket), kind))
+    }
+}
+
+/// The job of a drain list's action. A settle and a close have none.
+fn job_of<J: Drop>(action: Action<J>) -> Option<J>
+    ensures { result ≡ job_in action }
+{
+    match action {
+        Action::User(job) => Some(job),
+        Action::Settle(_) => None,
+        Action::Close(_) => None,
+    }
+}
+
+/// The reply to a done, told what the job answered. No offset has risen: all are 0.
+fn told(answer: Option<u64>, kind: Kind) -> Reply
+    ensures { result ≡ told_of answer kind }
+{
+    match answer {
+        Some(answer) => Reply::Answer(answer),
+        None => match kind {
             Kind::Close(_) => Reply::Closed(0),
-        })
+            _ => Reply::Settled(0),
+        },
     }
 }

@@ -1,34 +1,38 @@
-ghost use Rattle.std.specs.Prelude.{◌≡◌, ◌≤◌, ◌^◌};
 ghost use Rattle.hl_script.specs.Lines.{is_config};
 ghost use Rattle.hl_script.specs.Machine.{Stands};
 
 use crate::answers::put_line;
 use crate::machine::{Broken, Machine};
 use crate::opened::Opened;
+use crate::sum::Sum;
+use hl_action::{Shelf, Task};
 use hl_epoch::Epochs;
 use hl_line::Line;
 use std::alloc::Global;
 use std::io::Write;
 
-/// Answers a script by a table of epochs and a drain list of tags. It takes memory at the config alone.
+/// Answers a script by a table of epochs and a drain list of stored jobs. It takes memory at the config alone.
 #[derive(Drop)]
-pub(crate) struct TableAndDrain<E> {
+pub(crate) struct TableAndDrain<E, F: Task> {
     pub(crate) alloc: Global,
-    /// The script has the jobs of the tags below this number.
-    pub(crate) tags: u64,
+    /// The script's jobs. None from the config on.
+    pub(crate) shelf: Option<Shelf<F, Sum>>,
     /// None before the config.
-    pub(crate) opened: Option<Opened<E>>,
+    pub(crate) opened: Option<Opened<E, F>>,
 }
 
-impl<E: Epochs + Drop> Machine for TableAndDrain<E> {
-    ghost stands = { λ machine has before. Stands E.table machine.tags machine.opened has before };
+impl<E: Epochs + Drop, F: Task> Machine for TableAndDrain<E, F> {
+    ghost stands = { λ machine has before. Stands E.table machine.shelf machine.opened has before };
 
     ghost lacks = { is_config };
 
     fn answer<W: Write>(&mut self, line: &Line, out: &mut W) -> Result<bool, Broken> {
         match *line {
             Line::Config(sizes) => {
-                let Ok(opened) = Opened::open(self.alloc, sizes, self.tags) else {
+                let Some(shelf) = self.shelf.take() else {
+                    return Err(Broken::OutOfMemory);
+                };
+                let Ok(opened) = Opened::open(self.alloc, sizes, shelf) else {
                     return Err(Broken::OutOfMemory);
                 };
                 self.opened = Some(opened);

@@ -1,8 +1,49 @@
-use super::run_tags;
+ghost use Rattle.std.specs.Prelude.{◌≡◌, ◌+◌, ◌<◌, ◌≤◌, ◌^◌};
+
+use super::{Sum, run_text};
+use hl_action::{Firing, Kept, Shelf, Task};
 use hl_model::Fault;
+use std::alloc::Global;
 use std::io;
 use std::io::{Read, Write};
 use std::test::Fail;
+
+/// A job that answers its tag + its ticket.
+#[derive(Drop)]
+struct AddTicket {
+    tag: u64,
+}
+
+impl Task for AddTicket {
+    ghost can = { λ job firing. job.tag + firing.ticket < 2 ^ 64 };
+
+    ghost gives = { λ job firing answer. answer ≡ job.tag + firing.ticket };
+
+    fn call(self, firing: Firing) -> u64 {
+        self.tag + firing.ticket()
+    }
+}
+
+/// A shelf with a job for each tag below n.
+fn shelf_of(alloc: Global, n: u64) -> Result<Shelf<AddTicket, Sum>, Fault>
+    requires { n ≤ 1000 }
+{
+    let mut shelf = Shelf::open(alloc, n)?;
+    for tag in 0..n {
+        shelf.put(Kept::new(tag, AddTicket { tag }));
+    }
+    Ok(shelf)
+}
+
+/// Runs a script with the tags 0 to 7, and gives the number of accepted steps.
+fn run_jobs<R: Read, W: Write>(
+    alloc: Global,
+    reader: &mut R,
+    writer: &mut W,
+) -> Result<Option<u64>, Fault> {
+    let ended = run_text(alloc, reader, writer, shelf_of(alloc, 8)?)?;
+    Ok(ended.map(|end| end.accepted))
+}
 
 /// Gives one byte a read, and fails after `left` of them.
 #[derive(Drop)]
@@ -93,7 +134,7 @@ impl Write for CountingWriter {
 fn writes_nothing_where_memory_is_refused(rt: HostRuntime) {
     let mut reader = FIRST_ACTION.as_bytes();
     let mut writer = CountingWriter { bytes: 0 };
-    match run_tags(rt.alloc(), &mut reader, &mut writer, 8) {
+    match run_jobs(rt.alloc(), &mut reader, &mut writer) {
         Err(Fault::OutOfMemory) => assert_eq!(rt; writer.bytes, 0),
         answer => {
             assert_eq!(rt; answer, Ok(Some(5)));
@@ -117,6 +158,12 @@ fn writes_the_worked_texts(rt: HostRuntime) -> Result<(), Fail> {
             "opened\nepoch 1 view 0 0 0\nticket 1\nticket 2\nfault 5 DrainFull\nepoch 3 view 0 0 0\ntaken 1\nfault 5 DrainFull\nanswer 2\nticket 3\ntaken 2\nanswer 4\nfault 24 NoJob\npending 3:user:3\n",
             Ok(Some(9)),
         ),
+        // Each done runs the job of its own ticket, in whatever order they come. No job has tag 8.
+        (
+            "config 4 2 2 3\nbump 5\nbump 2\nbump 8\ntake\ntake\ndone 2\ndone 2\ndone 1\n",
+            "opened\nticket 1\nticket 2\nfault 24 NoJob\ntaken 1\ntaken 2\nanswer 4\nfault 9 NotTaken\nanswer 6\n",
+            Ok(Some(6)),
+        ),
         (BAD_LINE, BAD_LINE_TEXT, Err(Fault::BadLine { n: 3 })),
         (
             "config 6 2 2 2\n",
@@ -132,7 +179,7 @@ fn writes_the_worked_texts(rt: HostRuntime) -> Result<(), Fail> {
     for (script, text, result) in cases {
         let mut reader = script.as_bytes();
         let mut writer = Vec::new(rt.alloc());
-        let answer = run_tags(rt.alloc(), &mut reader, &mut writer, 8);
+        let answer = run_jobs(rt.alloc(), &mut reader, &mut writer);
         assert_eq!(rt; answer, result, "{script}");
         assert!(rt; writer.as_slice() == text.as_bytes(), "{script}");
     }
@@ -146,10 +193,7 @@ fn reads_one_byte_at_a_time(rt: HostRuntime) -> Result<(), Fail> {
         left: 1000,
     };
     let mut writer = Vec::new(rt.alloc());
-    assert_eq!(rt;
-        run_tags(rt.alloc(), &mut reader, &mut writer, 8),
-        Ok(Some(5))
-    );
+    assert_eq!(rt; run_jobs(rt.alloc(), &mut reader, &mut writer), Ok(Some(5)));
     assert!(rt; writer.as_slice() == FIRST_ACTION_TEXT.as_bytes());
     Ok(())
 }
@@ -163,7 +207,7 @@ fn answers_whole_lines_before_a_failed_read(rt: HostRuntime) -> Result<(), Fail>
     };
     let mut writer = Vec::new(rt.alloc());
     assert_eq!(rt;
-        run_tags(rt.alloc(), &mut reader, &mut writer, 8),
+        run_jobs(rt.alloc(), &mut reader, &mut writer),
         Err(Fault::Stream)
     );
     assert!(rt; writer.as_slice() == b"opened\nepoch 1 view 0 0 0\n".as_slice());
@@ -181,7 +225,7 @@ fn stops_at_a_write_that_fails_or_takes_nothing(rt: HostRuntime) -> Result<(), F
             calls_after: 0,
         };
         assert_eq!(rt;
-            run_tags(rt.alloc(), &mut reader, &mut writer, 8),
+            run_jobs(rt.alloc(), &mut reader, &mut writer),
             Err(Fault::Stream)
         );
         assert!(rt; writer.taken.as_slice() == b"opened\nepoch".as_slice());

@@ -1,10 +1,12 @@
-ghost use Rattle.std.specs.Prelude.{◌≡◌, ◌≤◌};
+ghost use Rattle.std.specs.Prelude.{◌≡◌, ℕ, ◌+◌, ◌<◌, ◌≤◌};
+ghost use Rattle.hl_action.specs.Jobs.{CanBeCalled, AnswersKeep};
 
 use clap::error::ErrorKind;
 use clap::{Command, Error};
+use hl_action::{Call, Firing, Kept, Shelf, Task};
 use hl_line::print_fault;
 use hl_model::Fault;
-use hl_script::run_tags;
+use hl_script::{Finished, Sum, run_text};
 use std::alloc::{AllocError, Global};
 use std::convert::AsStr;
 use std::io::{Read, Write};
@@ -82,7 +84,9 @@ fn run<R: Read, W: Write, E: Write>(
 ) -> u8
     ensures { result ≤ 2 }
 {
-    let ended = run_tags(alloc, reader, writer, TAGS);
+    let ended = serve(alloc, reader, writer, |tag: u64| {
+        Call(move |firing: Firing| tag.wrapping_add(firing.ticket()))
+    });
     let flushed = writer.flush();
     match ended {
         Ok(_) if flushed.is_err() => failed(Fault::Stream, errors),
@@ -91,6 +95,24 @@ fn run<R: Read, W: Write, E: Write>(
         Err(Fault::BadLine { .. }) => failed(Fault::Stream, errors),
         Err(fault) => failed(fault, errors),
     }
+}
+
+/// Puts a job that `make` makes on a shelf for each tag, and runs the script with them.
+fn serve<F: Task, M: Fn(u64) -> F, R: Read, W: Write>(
+    alloc: Global,
+    reader: &mut R,
+    writer: &mut W,
+    make: M,
+) -> Result<Option<Finished>, Fault>
+    requires callable { M.IsAlwaysCallable make }
+    requires jobs { (tag : ℕ) (job : F) → tag < 1000 → M.post make tag job → CanBeCalled (F.can job) }
+    requires answers { (tag : ℕ) (job : F) → tag < 1000 → M.post make tag job → AnswersKeep (F.gives job) (λ firing answer. answer ≡ tag + firing.ticket) }
+{
+    let mut shelf = Shelf::<F, Sum>::open(alloc, TAGS)?;
+    for tag in 0..TAGS {
+        shelf.put(Kept::new(tag, make(tag)));
+    }
+    run_text(alloc, reader, writer, shelf)
 }
 
 /// Writes the fault's line. Where that fails too there is nobody left to tell.

@@ -1,4 +1,6 @@
 use crate::command::command;
+use std::io;
+use std::io::{Read, Write};
 use std::process::Abort;
 use std::test::Fail;
 
@@ -116,4 +118,58 @@ fn helps(rt: HostRuntime) {
     assert_eq!(rt; status, 0);
     assert!(rt; !writer.is_empty());
     assert!(rt; errors.is_empty());
+}
+
+// A reader whose first read fails.
+#[derive(Drop)]
+struct NoReader;
+
+impl Read for NoReader {
+    fn read(&mut self, _buffer: &mut [u8]) -> io::Result<usize> {
+        Err(io::ErrorKind::ConnectionReset.into())
+    }
+}
+
+// A writer that takes nothing.
+#[derive(Drop)]
+struct FullWriter;
+
+impl Write for FullWriter {
+    fn write(&mut self, _bytes: &[u8]) -> io::Result<usize> {
+        Err(io::ErrorKind::StorageFull.into())
+    }
+
+    fn flush(&mut self) -> io::Result<()> {
+        Ok(())
+    }
+}
+
+#[test]
+fn a_stream_that_fails_ends_with_1(rt: HostRuntime) {
+    let words = ["hl_tool", "run"];
+    let mut writer = Vec::new(rt.alloc());
+    let mut errors = Vec::new(rt.alloc());
+    let status = command(
+        &rt,
+        rt.alloc(),
+        &words,
+        &mut NoReader,
+        &mut writer,
+        &mut errors,
+    );
+    assert_eq!(rt; status, 1);
+    assert!(rt; writer.is_empty());
+    assert_eq!(rt; errors.as_slice(), b"fault 31 Stream\n".as_slice());
+    let mut reader = b"config 4 2 2 2\n".as_slice();
+    let mut errors = Vec::new(rt.alloc());
+    let status = command(
+        &rt,
+        rt.alloc(),
+        &words,
+        &mut reader,
+        &mut FullWriter,
+        &mut errors,
+    );
+    assert_eq!(rt; status, 1);
+    assert_eq!(rt; errors.as_slice(), b"fault 31 Stream\n".as_slice());
 }

@@ -1,0 +1,36 @@
+-- The master's seat deals out riders one after another.
+use Rattle.std.proofs.Common.{◌≡◌, ℕ, zero, suc, ◌+◌, ◌-◌, ◌<◌, List, [], ◌∷◌, ◌++◌, replicate, take, drop, refl, sym, ap, ◌∙◌, arith}
+use Rattle.std.proofs.lemmas.List.{replicate_more}
+use Rattle.atomic_table.specs.Table.{Me}
+use Rattle.hl_words.specs.declared.view.SeatView.{SeatView}
+use Rattle.hl_words.specs.Views.{no_offsets, unused}
+use Rattle.hl_words.specs.Seats.{seat_of, rider_seat, left_seat, right_seat}
+use Rattle.hl_words.specs.States.{RiderState, first_rider, new_rider}
+
+-- a row of equal elements without its first
+shorter : {X : Type 0} (x : X) (m k : ℕ) → m ≡ k + 1 → drop 1 (replicate m x) ≡ replicate k x
+shorter x zero k e = absurd (omega arith)
+shorter x (suc m) k e = let same : m ≡ k = omega arith in ap (λ (j : ℕ). replicate j x) same
+
+first_one : (m k : ℕ) → m ≡ k + 1 → take 1 (replicate m unused) ≡ unused ∷ []
+first_one zero k e = absurd (omega arith)
+first_one (suc m) k e = refl
+
+module _ (n k : ℕ) (less : k < n) (me : Me (Unit {0}) SeatView) (is : me ≡ (seat_of no_offsets (replicate (n - k) unused), [])) where
+  -- the master's seat after one more
+  pub next_seat : (after : Me (Unit {0}) SeatView) → after ≡ (left_seat me.0, me.1) → after ≡ (seat_of no_offsets (replicate (n - (k + 1)) unused), [])
+  next_seat after e = e ∙ ap (λ (m : Me (Unit {0}) SeatView). (left_seat m.0, m.1)) is ∙ ap (λ l. (seat_of no_offsets l, [])) (shorter unused (n - k) (n - (k + 1)) (omega arith))
+
+  -- the seat that is dealt out
+  pub given_seat : (given : Me (Unit {0}) SeatView) → given ≡ (right_seat me.0, []) → given ≡ (rider_seat unused, [])
+  given_seat given e = e ∙ ap (λ (m : Me (Unit {0}) SeatView). (right_seat m.0, [])) is ∙ ap (λ l. (seat_of no_offsets l, [])) (first_one (n - k) (n - (k + 1)) (omega arith))
+
+  -- is that of a new rider
+  pub given_rider : (given : Me (Unit {0}) SeatView) → given ≡ (right_seat me.0, []) → given ≡ (rider_seat (first_rider given.0), [])
+  given_rider given e = let g = given_seat given e in g ∙ sym (ap (λ (m : Me (Unit {0}) SeatView). (rider_seat (first_rider m.0), [])) g)
+
+  pub more_riders : (given : Me (Unit {0}) SeatView) → given ≡ (right_seat me.0, []) → (riders after : List RiderState) → riders ≡ replicate k new_rider
+      → after ≡ riders ++ record { view = first_rider given.0; share = 0 } ∷ [] → after ≡ replicate (k + 1) new_rider
+  more_riders given e riders after old new =
+      let g = given_seat given e in
+      new ∙ ap (λ l. l ++ record { view = first_rider given.0; share = 0 } ∷ []) old ∙ ap (λ (m : Me (Unit {0}) SeatView). replicate k new_rider ++ record { view = first_rider m.0; share = 0 } ∷ []) g ∙ replicate_more k new_rider

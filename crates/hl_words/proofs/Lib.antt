@@ -1,0 +1,5 @@
+pub mod Cut
+pub mod Counts
+pub mod Counted
+pub mod Steps
+pub mod Dealing

@@ -1,0 +1,271 @@
+-- Each step of the table keeps its rule, whatever the table is when the step is taken.
+use Rattle.std.proofs.Common.{◌≡◌, ℕ, zero, suc, ◌+◌, ◌<◌, ◌≤◌, List, [], ◌∷◌, ◌++◌, length, set, replicate, Some, None, slice_get, refl, ap, sym, ◌∙◌, inl, subst, arith, append_assoc, length-append}
+use Rattle.std.specs.Prelude.{slice_index}
+use Rattle.std.specs.List.{AllByRecursion as Every}
+use Rattle.std.proofs.lemmas.List.{append-nil, length-set, set-get_or, length-replicate}
+use mathlib.Core.Option.{some, none, some-injective, some-ne-none}
+use lib.ListN.{get_elem?}
+use Rattle.atomic_table.specs.Table.{Me, step, keeps, Allows, Splits, Joins, opening, Final, Seen}
+use Rattle.hl_words.specs.declared.view.Touch.TheVariants.{Stored, Loaded}
+use Rattle.hl_words.specs.declared.view.OffsetWords.{OffsetWords}
+use Rattle.hl_words.specs.declared.view.RiderView.{RiderView}
+use Rattle.hl_words.specs.declared.view.SeatView.{SeatView}
+use Rattle.hl_words.specs.declared.view.Room.{Room}
+use Rattle.hl_words.specs.declared.which.Which.{Which}
+use Rattle.hl_words.specs.declared.which.Which.TheVariants.{ReadOnly, Head}
+use Rattle.hl_words.specs.Views.{no_offsets, offset_of, with_offset, unused, touched, with_loaded}
+use Rattle.hl_words.specs.Rule.{last_store, IsRuled, IsLawful}
+use Rattle.hl_words.specs.Seats.{seat_of, rider_seat, spent_seat, first_seat, riders_in, IsKept, Holds, Stores, Loads, Looks, Sets, left_seat, right_seat, joined_seat}
+use Rattle.hl_words.proofs.Cut.{every_back}
+use Rattle.hl_words.proofs.Counts.{More}
+use Rattle.hl_words.proofs.Counted.{IsCounted, Below, counted_from, ruled_from, to_front, from_front, after_store, after_load, after_look, after_set, place_of, found_offset}
+
+abbrev Nothing : Type 0
+Nothing = Unit {0}
+
+-- The riders of one seat stand between those of the others
+record Parted (views : List SeatView) (id : ℕ) (v : SeatView) : Type 0 where
+  front : List RiderView
+  back : List RiderView
+  before : riders_in views ≡ front ++ (v.riders ++ back)
+  after : (w : SeatView) → riders_in (set views id w) ≡ front ++ (w.riders ++ back)
+
+parted : (views : List SeatView) (id : ℕ) (v : SeatView) → get_elem? views id ≡ some v → Parted views id v
+parted [] id v e = absurd (some-ne-none v (sym e))
+parted (x ∷ xs) zero v e = record { front = []; back = riders_in xs; before = ap (λ (u : SeatView). u.riders ++ riders_in xs) (some-injective x v e); after = λ w. refl }
+parted (x ∷ xs) (suc id) v e =
+    let p = parted xs id v e in
+    record {
+      front = x.riders ++ p.front;
+      back = p.back;
+      before = ap (λ l. x.riders ++ l) p.before ∙ sym (append_assoc x.riders p.front (v.riders ++ p.back));
+      after = λ w. ap (λ l. x.riders ++ l) (p.after w) ∙ sym (append_assoc x.riders p.front (w.riders ++ p.back));
+    }
+
+-- the master's stores stay where a seat's do
+master_after : (views : List SeatView) (id : ℕ) (m v w : SeatView) → get_elem? views 0 ≡ some m → get_elem? views id ≡ some v → w.offsets ≡ v.offsets
+    → (u : SeatView) × (get_elem? (set views id w) 0 ≡ some u) × (u.offsets ≡ m.offsets)
+master_after [] id m v w e d same = absurd (some-ne-none m (sym e))
+master_after (x ∷ xs) zero m v w e d same = (w, refl, same ∙ ap (λ (u : SeatView). u.offsets) (sym (some-injective x v d) ∙ some-injective x m e))
+master_after (x ∷ xs) (suc id) m v w e d same = (m, e, refl)
+
+-- one rider's view and some words change
+rider_kept : (room : Room) (words after : List ℕ) (views : List SeatView) (id : ℕ) (r q : RiderView) → IsKept room words views → get_elem? views id ≡ some (rider_seat r) → length after ≡ length words
+    → ((front back : List RiderView) (last : OffsetWords) → IsCounted room.cells words last (front ++ r ∷ back) → IsCounted room.cells after last (front ++ q ∷ back))
+    → IsKept room after (set views id (rider_seat q))
+rider_kept room words after views id r q h at width move =
+    let p = parted views id (rider_seat r) at in
+    let m = master_after views id h.master (rider_seat r) (rider_seat q) h.seat at refl in
+    let now = p.after (rider_seat q) in
+    let counted = counted_from room.cells words h.master.offsets (p.front ++ r ∷ p.back) (subst (λ l. IsRuled room.cells words h.master.offsets l) p.before h.ruled) in
+    let moved = ruled_from room.cells after h.master.offsets (p.front ++ q ∷ p.back) (move p.front p.back h.master.offsets counted) in
+    record {
+      master = m.0;
+      seat = m.1;
+      width = width ∙ h.width;
+      count = ap length now ∙ length-append p.front (q ∷ p.back) ∙ sym (length-append p.front (r ∷ p.back)) ∙ sym (ap length p.before) ∙ h.count;
+      ruled = subst (λ l. IsRuled room.cells after m.0.offsets l) (sym now) (subst (λ o. IsRuled room.cells after o (p.front ++ q ∷ p.back)) (sym m.2) moved);
+    }
+
+-- what the rule says of the words and of one rider
+counted_at : (room : Room) (words : List ℕ) (views : List SeatView) (id : ℕ) (r : RiderView) → (h : IsKept room words views) → (at : get_elem? views id ≡ some (rider_seat r))
+    → IsCounted room.cells words h.master.offsets ((parted views id (rider_seat r) at).front ++ r ∷ (parted views id (rider_seat r) at).back)
+counted_at room words views id r h at =
+    let p = parted views id (rider_seat r) at in
+    counted_from room.cells words h.master.offsets (p.front ++ r ∷ p.back) (subst (λ l. IsRuled room.cells words h.master.offsets l) p.before h.ruled)
+
+module _ (room : Room) (slots : ℕ) (id : ℕ) where
+  pub stores_allowed : (me : Me Nothing SeatView) (r : RiderView) (c v : ℕ) → me ≡ (rider_seat r, []) → c < room.cells
+      → Allows (Holds room) slots id me c (λ _. v) (λ _. Stores (step slots c v 0 none) me v)
+  stores_allowed me r c v is less = subst (λ (m : Me Nothing SeatView). Allows (Holds room) slots id m c (λ _. v) (λ _. Stores (step slots c v 0 none) m v)) (sym is)
+      (λ s h homes at bound. (
+        rider_seat (touched (Stored c v) r),
+        keeps,
+        tt,
+        rider_kept room s.words (set s.words c v) s.views id r (touched (Stored c v) r) h at (length-set s.words c v) (λ front back last k. after_store front r back room.cells s.words last c v less h.width k),
+        refl,
+      ))
+
+  pub loads_allowed : (me : Me Nothing SeatView) (r : RiderView) (c : ℕ) → me ≡ (rider_seat r, []) → c < room.cells
+      → Allows (Holds room) slots id me c (λ n. n) (Loads (step slots c 0 0 none) me)
+  loads_allowed me r c is less = subst (λ (m : Me Nothing SeatView). Allows (Holds room) slots id m c (λ n. n) (Loads (step slots c 0 0 none) m)) (sym is)
+      (λ s h homes at bound. let q = touched (Loaded c (slice_index s.words c)) r in (
+        rider_seat q,
+        keeps,
+        tt,
+        subst (λ ws. IsKept room ws (set s.views id (rider_seat q))) (sym (set-get_or s.words c 0))
+            (rider_kept room s.words s.words s.views id r q h at refl (λ front back last k. after_load front r back room.cells s.words last c less k)),
+        refl,
+      ))
+
+  pub looks_allowed : (me : Me Nothing SeatView) (r : RiderView) (which : Which) (i : ℕ) → me ≡ (rider_seat r, []) → i ≡ place_of which room.cells
+      → Allows (Holds room) slots id me i (λ n. n) (Looks which (step slots i 0 0 none) me)
+  looks_allowed me r which i is place = subst (λ (m : Me Nothing SeatView). Allows (Holds room) slots id m i (λ n. n) (Looks which (step slots i 0 0 none) m)) (sym is)
+      (λ s h homes at bound.
+      let x = slice_index s.words i in
+      let q = with_loaded which x r in
+      let found : (last : OffsetWords) (riders : List RiderView) → IsCounted room.cells s.words last riders → x ≡ offset_of which last =
+      λ last riders k. ap (slice_index s.words) place ∙ found_offset which room.cells s.words last riders k in
+      let now = counted_at room s.words s.views id r h at in
+      let p = parted s.views id (rider_seat r) at in
+      let below = (every_back (Below h.master.offsets) p.front (r ∷ p.back) now.offset).0 in (
+        rider_seat q,
+        keeps,
+        tt,
+        subst (λ ws. IsKept room ws (set s.views id (rider_seat q))) (sym (set-get_or s.words i 0))
+            (rider_kept room s.words s.words s.views id r q h at refl (λ front back last k. after_look front r back room.cells s.words last which x (found last (front ++ r ∷ back) k) k)),
+        (refl, only x r (at_most which h.master.offsets r x (found h.master.offsets (p.front ++ r ∷ p.back) now) below)),
+      ))
+    where
+      at_most : (which : Which) (last : OffsetWords) (r : RiderView) (x : ℕ) → x ≡ offset_of which last → Below last r → offset_of which r.offsets ≤ x
+      at_most ReadOnly last r x e b = omega (arith, b.0)
+      at_most Head last r x e b = omega (arith, b.1)
+
+      only : (x : ℕ) (r : RiderView) → offset_of which r.offsets ≤ x → (i : ℕ) (q : RiderView) → slice_get (r ∷ []) i ≡ Some q → offset_of which q.offsets ≤ x
+      only x r le zero q e = let same : r ≡ q = cc e in subst (λ (p : RiderView). offset_of which p.offsets ≤ x) same le
+      only x r le (suc i) q e = absurd (cc e)
+
+module _ (room : Room) where
+  -- the master's steps are those of seat 0
+  pub sets_allowed : (slots id : ℕ) (me : Me Nothing SeatView) (last : OffsetWords) (which : Which) (i x : ℕ) → id ≡ 0 → me ≡ (seat_of last [], []) → i ≡ place_of which room.cells → offset_of which last ≤ x
+      → Allows (Holds room) slots id me i (λ _. x) (λ _. Sets which (step slots i x 0 none) me x)
+  sets_allowed slots id me last which i x first is place le =
+      subst (λ (k : ℕ). Allows (Holds room) slots k me i (λ _. x) (λ _. Sets which (step slots i x 0 none) me x)) (sym first)
+      (subst (λ (m : Me Nothing SeatView). Allows (Holds room) slots 0 m i (λ _. x) (λ _. Sets which (step slots i x 0 none) m x)) (sym is)
+      (λ s h homes at bound. (seat_of (with_offset which x last) [], keeps, tt, kept s.words s.views h at, refl)))
+    where
+      kept : (words : List ℕ) (views : List SeatView) → IsKept room words views → get_elem? views 0 ≡ some (seat_of last []) → IsKept room (set words i x) (set views 0 (seat_of (with_offset which x last) []))
+      kept words [] h at = absurd (some-ne-none (seat_of last []) (sym at))
+      kept words (v ∷ views) h at =
+          let same : v ≡ seat_of last [] = some-injective v (seat_of last []) at in
+          let mine : h.master ≡ seat_of last [] = sym (some-injective v h.master h.seat) ∙ same in
+          let flat : riders_in (v ∷ views) ≡ riders_in views = ap (λ (u : SeatView). u.riders ++ riders_in views) same in
+          let ruled = subst (λ l. IsRuled room.cells words last l) flat (subst (λ (u : SeatView). IsRuled room.cells words u.offsets (riders_in (v ∷ views))) mine h.ruled) in
+          let now = ruled_from room.cells (set words (place_of which room.cells) x) (with_offset which x last) (riders_in views) (after_set which room.cells words last (riders_in views) x h.width le (counted_from room.cells words last (riders_in views) ruled)) in
+          record {
+            master = seat_of (with_offset which x last) [];
+            seat = refl;
+            width = length-set words i x ∙ h.width;
+            count = sym (ap length flat) ∙ h.count;
+            ruled = subst (λ k. IsRuled room.cells (set words k x) (with_offset which x last) (riders_in views)) (sym place) now;
+          }
+
+  -- a rider is dealt out
+  pub deals : (id : ℕ) (v : SeatView) → id ≡ 0 → Splits (Holds room) id v (left_seat v) (right_seat v)
+  deals id v first = subst (λ (k : ℕ). Splits (Holds room) k v (left_seat v) (right_seat v)) (sym first) (λ s h at. kept s.words s.views v.offsets v.riders h at)
+    where
+      riders_in-push : (views : List SeatView) (w : SeatView) → riders_in (views ++ w ∷ []) ≡ riders_in views ++ w.riders
+      riders_in-push [] w = append-nil w.riders
+      riders_in-push (u ∷ us) w = ap (λ l. u.riders ++ l) (riders_in-push us w) ∙ sym (append_assoc u.riders (riders_in us) w.riders)
+
+      kept : (words : List ℕ) (views : List SeatView) (last : OffsetWords) (riders : List RiderView) → IsKept room words views → get_elem? views 0 ≡ some (seat_of last riders)
+          → IsKept room words (set views 0 (left_seat (seat_of last riders)) ++ right_seat (seat_of last riders) ∷ [])
+      kept words [] last riders h at = absurd (some-ne-none (seat_of last riders) (sym at))
+      kept words (u ∷ us) last riders h at = by_riders riders (some-injective u (seat_of last riders) at)
+        where
+          by_riders : (riders : List RiderView) → u ≡ seat_of last riders → IsKept room words (left_seat (seat_of last riders) ∷ (us ++ right_seat (seat_of last riders) ∷ []))
+          by_riders [] same =
+              let flat : riders_in (us ++ spent_seat ∷ []) ≡ riders_in (u ∷ us) = riders_in-push us spent_seat ∙ append-nil (riders_in us) ∙ sym (ap (λ (x : SeatView). x.riders ++ riders_in us) same) in
+              let mine : h.master ≡ seat_of last [] = sym (some-injective u h.master h.seat) ∙ same in
+              record {
+                master = seat_of last [];
+                seat = refl;
+                width = h.width;
+                count = ap length flat ∙ h.count;
+                ruled = subst (λ l. IsRuled room.cells words last l) (sym flat) (subst (λ (x : SeatView). IsRuled room.cells words x.offsets (riders_in (u ∷ us))) mine h.ruled);
+              }
+          by_riders (r ∷ rs) same =
+              let w = seat_of no_offsets (r ∷ []) in
+              let old : riders_in (u ∷ us) ≡ r ∷ (rs ++ riders_in us) = ap (λ (x : SeatView). x.riders ++ riders_in us) same in
+              let flat : rs ++ riders_in (us ++ w ∷ []) ≡ (rs ++ riders_in us) ++ r ∷ [] = ap (λ l. rs ++ l) (riders_in-push us w) ∙ sym (append_assoc rs (riders_in us) (r ∷ [])) in
+              let mine : h.master ≡ seat_of last (r ∷ rs) = sym (some-injective u h.master h.seat) ∙ same in
+              let ruled : IsRuled room.cells words last (r ∷ (rs ++ riders_in us)) = subst (λ l. IsRuled room.cells words last l) old (subst (λ (x : SeatView). IsRuled room.cells words x.offsets (riders_in (u ∷ us))) mine h.ruled) in
+              let full : IsRuled room.cells words last (r ∷ ((rs ++ riders_in us) ++ [])) = subst (λ l. IsRuled room.cells words last (r ∷ l)) (sym (append-nil (rs ++ riders_in us))) ruled in
+              let now = ruled_from room.cells words last ((rs ++ riders_in us) ++ r ∷ []) (from_front (rs ++ riders_in us) r [] room.cells words last (counted_from room.cells words last (r ∷ ((rs ++ riders_in us) ++ [])) full)) in
+              record {
+                master = seat_of last rs;
+                seat = refl;
+                width = h.width;
+                count = ap length flat ∙ omega (arith, length-append (rs ++ riders_in us) (r ∷ []), ap length old, h.count);
+                ruled = subst (λ l. IsRuled room.cells words last l) (sym flat) now;
+              }
+
+  -- and taken back in
+  pub joins : (id : ℕ) (v : SeatView) (other : ℕ) (w : SeatView) (r : RiderView) → id ≡ 0 → w ≡ rider_seat r → Joins (Holds room) id v other w (joined_seat v w) spent_seat
+  joins id v other w r first is =
+      subst (λ (k : ℕ). Joins (Holds room) k v other w (joined_seat v w) spent_seat) (sym first)
+      (subst (λ (x : SeatView). Joins (Holds room) 0 v other x (joined_seat v x) spent_seat) (sym is) (λ s h at apart there. kept s.words s.views other h at apart there))
+    where
+      kept : (words : List ℕ) (views : List SeatView) (other : ℕ) → IsKept room words views → get_elem? views 0 ≡ some v → ¬ (other ≡ 0) → get_elem? (set views 0 (joined_seat v (rider_seat r))) other ≡ some (rider_seat r)
+          → IsKept room words (set (set views 0 (joined_seat v (rider_seat r))) other spent_seat)
+      kept words [] other h at apart there = absurd (some-ne-none v (sym at))
+      kept words (u ∷ us) zero h at apart there = absurd (apart refl)
+      kept words (u ∷ us) (suc k) h at apart there =
+          let same : u ≡ v = some-injective u v at in
+          let p = parted us k (rider_seat r) there in
+          let gone : riders_in (set us k spent_seat) ≡ p.front ++ p.back = p.after spent_seat in
+          let old : riders_in (u ∷ us) ≡ (v.riders ++ p.front) ++ r ∷ p.back = ap (λ (x : SeatView). x.riders ++ riders_in us) same ∙ ap (λ l. v.riders ++ l) p.before ∙ sym (append_assoc v.riders p.front (r ∷ p.back)) in
+          let flat : r ∷ (v.riders ++ riders_in (set us k spent_seat)) ≡ r ∷ ((v.riders ++ p.front) ++ p.back) = ap (λ l. r ∷ l) (ap (λ l. v.riders ++ l) gone ∙ sym (append_assoc v.riders p.front p.back)) in
+          let mine : h.master ≡ v = sym (some-injective u h.master h.seat) ∙ same in
+          let ruled = subst (λ l. IsRuled room.cells words v.offsets l) old (subst (λ (x : SeatView). IsRuled room.cells words x.offsets (riders_in (u ∷ us))) mine h.ruled) in
+          let now = ruled_from room.cells words v.offsets (r ∷ ((v.riders ++ p.front) ++ p.back)) (to_front (v.riders ++ p.front) r p.back room.cells words v.offsets (counted_from room.cells words v.offsets ((v.riders ++ p.front) ++ r ∷ p.back) ruled)) in
+          record {
+            master = joined_seat v (rider_seat r);
+            seat = refl;
+            width = h.width;
+            count = ap length flat ∙ omega (arith, length-append (v.riders ++ p.front) p.back, length-append (v.riders ++ p.front) (r ∷ p.back), ap length old, h.count);
+            ruled = subst (λ l. IsRuled room.cells words v.offsets l) (sym flat) now;
+          }
+
+  -- at the end the master's seat stands for all riders
+  pub ends : (words : List ℕ) (slots : List Nothing) (last : OffsetWords) (riders : List RiderView) (id : ℕ) (v : SeatView) → id ≡ 0 → v ≡ seat_of last riders → length riders ≡ room.riders
+      → Final (Seen (Holds room) id v) words slots → IsRuled room.cells words last riders
+  ends words slots last riders id v first is all f =
+      let s = f.0 in
+      let at : get_elem? s.views 0 ≡ some (seat_of last riders) = ap (get_elem? s.views) (sym first) ∙ f.1.1 ∙ ap some is in
+      subst (λ ws. IsRuled room.cells ws last riders) f.2 (ruled_at s.words s.views f.1.0 at)
+    where
+      none_left : (xs ys : List RiderView) → length (xs ++ ys) ≡ length xs → xs ++ ys ≡ xs
+      none_left xs [] e = append-nil xs
+      none_left xs (y ∷ ys) e = absurd (omega (arith, length-append xs (y ∷ ys)))
+
+      ruled_at : (words : List ℕ) (views : List SeatView) → IsKept room words views → get_elem? views 0 ≡ some (seat_of last riders) → IsRuled room.cells words last riders
+      ruled_at words [] h at = absurd (some-ne-none (seat_of last riders) (sym at))
+      ruled_at words (u ∷ us) h at =
+          let same : u ≡ seat_of last riders = some-injective u (seat_of last riders) at in
+          let mine : h.master ≡ seat_of last riders = sym (some-injective u h.master h.seat) ∙ same in
+          let flat : riders_in (u ∷ us) ≡ riders ++ riders_in us = ap (λ (x : SeatView). x.riders ++ riders_in us) same in
+          let whole : riders ++ riders_in us ≡ riders = none_left riders (riders_in us) (sym (ap length flat) ∙ h.count ∙ sym all) in
+          subst (λ l. IsRuled room.cells words last l) (flat ∙ whole) (subst (λ (x : SeatView). IsRuled room.cells words x.offsets (riders_in (u ∷ us))) mine h.ruled)
+
+  -- nothing was done yet
+  pub begins : (words : List ℕ) → words ≡ replicate (room.cells + 2) 0 → Holds room (opening words [] (first_seat room))
+  begins words is = subst (λ ws. IsKept room ws (first_seat room ∷ [])) (sym is)
+      record {
+        master = first_seat room;
+        seat = refl;
+        width = length-replicate (room.cells + 2) 0;
+        count = ap length flat ∙ length-replicate room.riders unused;
+        ruled = subst (λ l. IsRuled room.cells (replicate (room.cells + 2) 0) no_offsets l) (sym flat) (ruled_from room.cells (replicate (room.cells + 2) 0) no_offsets (replicate room.riders unused) counted);
+      }
+    where
+      flat : replicate room.riders unused ++ [] ≡ replicate room.riders unused
+      flat = append-nil (replicate room.riders unused)
+
+      zeros : (n i : ℕ) → slice_index (replicate n 0) i ≡ 0
+      zeros zero i = refl
+      zeros (suc n) zero = refl
+      zeros (suc n) (suc i) = zeros n i
+
+      each : (P : RiderView → Type 0) → P unused → (n : ℕ) → Every P (replicate n unused)
+      each P p zero = tt
+      each P p (suc n) = (p, each P p n)
+
+      counted : IsCounted room.cells (replicate (room.cells + 2) 0) no_offsets (replicate room.riders unused)
+      counted = record {
+        cell = λ c less. inl (zeros (room.cells + 2) c, each (λ r. last_store c r.touches ≡ None) refl room.riders);
+        load = each (λ r. IsLawful (More (replicate room.riders unused) r) r.touches) tt room.riders;
+        read_only = zeros (room.cells + 2) room.cells;
+        head = zeros (room.cells + 2) (room.cells + 1);
+        offset = each (Below no_offsets) (omega arith, omega arith) room.riders;
+      }

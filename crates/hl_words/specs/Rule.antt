@@ -1,0 +1,49 @@
+-- The rule that cells, offset words, the master's stores and the riders' stores and loads meet between any two steps.
+use Rattle.std.specs.Prelude.{ℕ, ◌≡◌, ◌≢◌, ◌+◌, ◌<◌, ◌≤◌, ◌==◌, ◌⊎◌, if◌then◌else◌, List, [], ◌∷◌, Option, Some, None, slice_get, slice_index}
+use Rattle.std.specs.List.{Contains}
+use Rattle.hl_words.specs.declared.view.Touch.{Touch}
+use Rattle.hl_words.specs.declared.view.Touch.TheVariants.{Stored, Loaded}
+use Rattle.hl_words.specs.declared.view.OffsetWords.{OffsetWords}
+use Rattle.hl_words.specs.declared.view.RiderView.{RiderView}
+
+-- what these touches last stored into the cell; the newest stands first
+abbrev pub last_store : ℕ → List Touch → Option ℕ
+last_store c [] = None
+last_store c (Stored d v ∷ before) = if d == c then Some v else last_store c before
+last_store c (Loaded d v ∷ before) = last_store c before
+
+-- no store into the cell, and no load of it but of 0
+abbrev pub IsQuiet : ℕ → List Touch → Type 0
+IsQuiet c [] = Unit {0}
+IsQuiet c (Stored d v ∷ before) = (d ≢ c) × IsQuiet c before
+IsQuiet c (Loaded d v ∷ before) = (d ≡ c → v ≡ 0) × IsQuiet c before
+
+-- P holds of each rider's number and view; the riders are numbered from 0
+abbrev pub EachRider : (ℕ → RiderView → Type 0) → List RiderView → Type 0
+EachRider P riders = (i : ℕ) (r : RiderView) → slice_get riders i ≡ Some r → P i r
+
+-- P holds of some rider's number and view
+abbrev pub SomeRider : (ℕ → RiderView → Type 0) → List RiderView → Type 0
+SomeRider P riders = (i : ℕ) × (r : RiderView) × (slice_get riders i ≡ Some r) × P i r
+
+-- another rider than the i-th stored the value into the cell
+abbrev pub IsElsewhere : List RiderView → ℕ → ℕ → ℕ → Type 0
+IsElsewhere riders i c v = SomeRider (λ j r. (j ≢ i) × Contains r.touches (Stored c v)) riders
+
+-- each load is of the last store before it in the list, or of a value stored elsewhere, or of 0 where the list before it has no store and no load but of 0
+abbrev pub IsLawful : (ℕ → ℕ → Type 0) → List Touch → Type 0
+IsLawful Elsewhere [] = Unit {0}
+IsLawful Elsewhere (Stored c v ∷ before) = IsLawful Elsewhere before
+IsLawful Elsewhere (Loaded c v ∷ before) = ((last_store c before ≡ Some v) ⊎ (Elsewhere c v ⊎ ((v ≡ 0) × IsQuiet c before))) × IsLawful Elsewhere before
+
+-- the cell is 0 where no rider stored there, else it is some rider's last store there
+abbrev pub IsCell : List RiderView → ℕ → ℕ → Type 0
+IsCell riders c w = ((w ≡ 0) × EachRider (λ i r. last_store c r.touches ≡ None) riders) ⊎ SomeRider (λ i r. last_store c r.touches ≡ Some w) riders
+
+-- The rule on words, the master's last stores and the riders' views: first the cells, then the read-only word and the head word
+pub record IsRuled (cells : ℕ) (words : List ℕ) (last : OffsetWords) (riders : List RiderView) : Type 0 where
+  pub cell : (c : ℕ) → c < cells → IsCell riders c (slice_index words c)
+  pub load : EachRider (λ i r. IsLawful (IsElsewhere riders i) r.touches) riders
+  pub read_only : slice_index words cells ≡ last.read_only
+  pub head : slice_index words (cells + 1) ≡ last.head
+  pub offset : EachRider (λ i r. (r.offsets.read_only ≤ last.read_only) × (r.offsets.head ≤ last.head)) riders

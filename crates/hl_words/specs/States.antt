@@ -1,0 +1,58 @@
+-- What contracts see of a seed, of words, of a master and of a rider.
+use Rattle.std.specs.Prelude.{ℕ, ◌≡◌, ◌+◌, ◌^◌, ◌≤◌, List, [], slice_index_or}
+use Rattle.atomic_table.specs.Seated.{TableId}
+use Rattle.hl_words.specs.declared.view.OffsetWords.{OffsetWords}
+use Rattle.hl_words.specs.declared.view.RiderView.{RiderView}
+use Rattle.hl_words.specs.declared.view.SeatView.{SeatView}
+use Rattle.hl_words.specs.declared.view.Room.{Room}
+use Rattle.hl_words.specs.Views.{unused}
+use Rattle.hl_words.specs.Seats.{seat_of}
+use Rattle.atomic_table.specs.Table.{Me}
+
+-- a rider's stores and loads, and how many journal steps it entered
+pub record RiderState : Type 0 where
+  pub view : RiderView
+  pub share : ℕ
+
+-- the master's last stores of the offset words, and how many journal steps were entered in all
+pub record MasterState : Type 0 where
+  pub offsets : OffsetWords
+  pub total : ℕ
+
+-- how many cells and how many riders
+pub record WordsState : Type 0 where
+  pub cells : ℕ
+  pub riders : ℕ
+
+-- the same of a seed, with the names of its table and of its ledger
+pub record SeedState : Type 0 where
+  pub cells : ℕ
+  pub riders : ℕ
+  pub table : TableId
+  pub name : ℕ
+
+-- the seed whose ledger has this name and these parts, and whose table is this
+abbrev pub IsSeedOf : ℕ → ℕ → TableId → SeedState → Type 0
+IsSeedOf name parts table seed = (seed.name ≡ name) × (seed.riders ≡ parts) × (seed.table ≡ table)
+
+-- the view of the rider for whom a rider's seat stands
+abbrev pub first_rider : SeatView → RiderView
+first_rider v = slice_index_or v.riders 0 unused
+
+-- the table of a seed, or of words: its rule is that of this room, and it has the cells and two words more
+pub record IsTableOf (room : Room) (key : Room) (table : TableId) : Type 0 where
+  pub key_is : key ≡ room
+  pub words_are : table.words ≡ room.cells + 2
+  pub no_slot : table.slots ≡ 0
+  pub few : room.cells ≤ 2 ^ 20
+  pub some : 1 ≤ room.riders
+  pub at_most : room.riders ≤ 128
+
+-- the master's seat, which is the table's first and has no slot
+pub record IsMasterSeat (last : OffsetWords) (riders : List RiderView) (id : ℕ) (me : Me (Unit {0}) SeatView) : Type 0 where
+  pub first : id ≡ 0
+  pub knows : me ≡ (seat_of last riders, [])
+
+-- a rider before its first step
+abbrev pub new_rider : RiderState
+new_rider = record { view = unused; share = 0 }

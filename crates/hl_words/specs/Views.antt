@@ -1,0 +1,42 @@
+-- What a rider's view is after one more store or load, and the two offset words by name.
+use Rattle.std.specs.Prelude.{ℕ, [], ◌∷◌}
+use Rattle.hl_words.specs.declared.view.Touch.{Touch}
+use Rattle.hl_words.specs.declared.view.Touch.TheVariants.{Stored, Loaded}
+use Rattle.hl_words.specs.declared.view.OffsetWords.{OffsetWords}
+use Rattle.hl_words.specs.declared.view.RiderView.{RiderView}
+use Rattle.hl_words.specs.declared.which.Which.{Which}
+use Rattle.hl_words.specs.declared.which.Which.TheVariants.{ReadOnly, Head}
+
+-- both offset words before any store
+abbrev pub no_offsets : OffsetWords
+no_offsets = record { read_only = 0; head = 0 }
+
+-- the one of the two
+abbrev pub offset_of : Which → OffsetWords → ℕ
+offset_of ReadOnly o = o.read_only
+offset_of Head o = o.head
+
+-- the same with x for one of the two
+abbrev pub with_offset : Which → ℕ → OffsetWords → OffsetWords
+with_offset ReadOnly x o = record { read_only = x; head = o.head }
+with_offset Head x o = record { read_only = o.read_only; head = x }
+
+-- the view of a rider that did nothing
+abbrev pub unused : RiderView
+unused = record { touches = []; offsets = no_offsets }
+
+-- the view after one more touch, a store or a load of a cell
+abbrev pub touched : Touch → RiderView → RiderView
+touched e r = record { touches = e ∷ r.touches; offsets = r.offsets }
+
+-- the view after a store of the value into the cell
+abbrev pub stored : ℕ → ℕ → RiderView → RiderView
+stored cell value r = touched (Stored cell value) r
+
+-- the view after a load of the cell that gave the value
+abbrev pub loaded : ℕ → ℕ → RiderView → RiderView
+loaded cell value r = touched (Loaded cell value) r
+
+-- the view after a load of an offset word that gave x
+abbrev pub with_loaded : Which → ℕ → RiderView → RiderView
+with_loaded which x r = record { touches = r.touches; offsets = with_offset which x r.offsets }

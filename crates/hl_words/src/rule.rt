@@ -1,0 +1,91 @@
+//! The rule of the table on which the words stand, and its steps.
+use crate::view::{Room, SeatView};
+use atomic_table::{Join, Play, Split, TableRule};
+
+/// The rule that holds between any two steps.
+pub struct WordRule;
+
+impl TableRule<(), SeatView, Room> for WordRule {
+    ghost use Rattle.hl_words.specs.Seats.{Holds, first_seat};
+
+    ghost holds = { Holds };
+
+    ghost first = { first_seat };
+}
+
+/// A rider's store into a cell.
+pub struct StoreCell;
+
+impl Play<(), SeatView> for StoreCell {
+    ghost use Rattle.hl_words.specs.Seats.{Stores};
+
+    ghost then = { Stores };
+}
+
+/// A rider's load of a cell.
+pub struct LoadCell;
+
+impl Play<(), SeatView> for LoadCell {
+    ghost use Rattle.hl_words.specs.Seats.{Loads};
+
+    ghost then = { Loads };
+}
+
+/// A rider's load of the read-only word.
+pub struct LoadReadOnly;
+
+impl Play<(), SeatView> for LoadReadOnly {
+    ghost use Rattle.hl_words.specs.Seats.{Looks};
+    ghost use Rattle.hl_words.specs.declared.which.Which.TheVariants.{ReadOnly};
+
+    ghost then = { Looks ReadOnly };
+}
+
+/// A rider's load of the head word.
+pub struct LoadHead;
+
+impl Play<(), SeatView> for LoadHead {
+    ghost use Rattle.hl_words.specs.Seats.{Looks};
+    ghost use Rattle.hl_words.specs.declared.which.Which.TheVariants.{Head};
+
+    ghost then = { Looks Head };
+}
+
+/// The master's store of the read-only word.
+pub struct StoreReadOnly;
+
+impl Play<(), SeatView> for StoreReadOnly {
+    ghost use Rattle.hl_words.specs.Seats.{Sets};
+    ghost use Rattle.hl_words.specs.declared.which.Which.TheVariants.{ReadOnly};
+
+    ghost then = { Sets ReadOnly };
+}
+
+/// The master's store of the head word.
+pub struct StoreHead;
+
+impl Play<(), SeatView> for StoreHead {
+    ghost use Rattle.hl_words.specs.Seats.{Sets};
+    ghost use Rattle.hl_words.specs.declared.which.Which.TheVariants.{Head};
+
+    ghost then = { Sets Head };
+}
+
+/// How the master's seat deals a rider out, and takes one back in.
+pub struct Deal;
+
+impl Split<SeatView> for Deal {
+    ghost use Rattle.hl_words.specs.Seats.{left_seat, right_seat};
+
+    ghost left = { left_seat };
+
+    ghost right = { right_seat };
+}
+
+impl Join<SeatView> for Deal {
+    ghost use Rattle.hl_words.specs.Seats.{joined_seat, spent_seat};
+
+    ghost both = { joined_seat };
+
+    ghost spent = { spent_seat };
+}

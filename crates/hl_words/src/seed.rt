@@ -1,0 +1,86 @@
+ghost use Rattle.std.specs.Prelude.{◌≡◌, ◌+◌, ◌*◌, ◌^◌, ◌≤◌, [], IfOk, IfErr, replicate};
+ghost use Rattle.hl_model.specs.declared.fault.Fault.TheVariants.{OutOfMemory};
+ghost use Rattle.hl_words.specs.Seats.{first_seat};
+
+use crate::rule::WordRule;
+use crate::view::{Room, SeatView};
+use atomic_table::{Seat, Table};
+use hl_model::{Fault, Params};
+use std::alloc::{AllocError, Global};
+use std::marker::{Brand, Model};
+use std::sync::ledger::{Blank, Ledger};
+
+/// The table of the words.
+pub(crate) type WordTable = Table<(), SeatView, Room, WordRule, Global>;
+
+/// A seat at the table of the words.
+pub(crate) type WordSeat = Seat<(), SeatView>;
+
+/// Names the table and the ledger of one seed. What carries one realm is all of one seed.
+pub trait Realm: Ledger {
+    ghost use Rattle.atomic_table.specs.Seated.{TableId};
+
+    ghost table: { TableId };
+}
+
+impl Realm for Brand {
+    ghost use Rattle.std.specs.Prelude.{[]};
+
+    ghost table = { record { words = 0; slots = 0; views_name = 0; atom = 0; block = 0; offset = 0; slot_names = [] } };
+}
+
+/// Words that nobody has opened yet: the cells, the two offset words, and a ledger with a part for each rider. It is
+/// the one witness that its realm is new: it is used up by `Words::open`.
+#[derive(Drop)]
+pub struct Seed {
+    pub(crate) table: WordTable,
+    pub(crate) seat: WordSeat,
+    pub(crate) blank: Blank,
+    pub(crate) room: Room,
+}
+
+impl Model for Seed {
+    ghost use Rattle.std.specs.Prelude.{◌≡◌};
+    ghost use Rattle.hl_words.specs.States.{SeedState, IsTableOf, IsMasterSeat};
+    ghost use Rattle.hl_words.specs.Seats.{first_seat};
+    ghost use Rattle.hl_words.specs.Views.{no_offsets};
+
+    ghost Value = { SeedState };
+
+    ghost view = { λ s. record { cells = s.room.cells; riders = s.room.riders; table = s.table.shared.table_id; name = s.blank.name } };
+
+    ghost invariant = { λ s. IsTableOf s.room s.table.shared.key s.table.shared.table_id × IsMasterSeat no_offsets (first_seat s.room).riders s.seat.id s.seat.me × (s.seat.table_id ≡ s.table.shared.table_id) × (s.blank.parts ≡ s.room.riders) };
+}
+
+impl Seed {
+    /// Makes the words of an allocator of these sizes: F * P cells and two offset words, all 0, for 1 to 128 riders.
+    /// OutOfMemory where memory was refused; then nothing is made.
+    pub fn make(alloc: Global, params: Params, riders: usize) -> Result<Seed, Fault>
+        requires { (1 ≤ riders) × (riders ≤ 128) }
+        ensures cells { IfOk result (λ seed. seed.cells ≡ params.frames * params.page) }
+        ensures riders { IfOk result (λ seed. seed.riders ≡ riders) }
+        ensures memory { IfErr result (λ fault. fault ≡ OutOfMemory) }
+    {
+        let cells = params.frames() as usize * params.page() as usize;
+        let room = Room { cells, riders };
+        let Ok((table, seat)) = laid(alloc, room) else {
+            return Err(Fault::OutOfMemory);
+        };
+        Ok(Seed {
+            table,
+            seat,
+            blank: Blank::new(riders as u64),
+            room,
+        })
+    }
+}
+
+// The table, all 0, and its first seat.
+fn laid(alloc: Global, room: Room) -> Result<(WordTable, WordSeat), AllocError>
+    requires { room.cells ≤ 2 ^ 20 }
+    ensures table { IfOk result (λ t. (t.0.shared.key ≡ room) × (t.0.shared.table_id.words ≡ room.cells + 2) × (t.0.shared.table_id.slots ≡ 0)) }
+    ensures seat { IfOk result (λ t. (t.1.table_id ≡ t.0.shared.table_id) × (t.1.id ≡ 0) × (t.1.me ≡ (first_seat room, []))) }
+{
+    let words = vec![in alloc; 0u64; room.cells + 2]?;
+    Table::of_words(alloc, words.as_slice(), &room)
+}

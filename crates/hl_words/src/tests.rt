@@ -1,0 +1,102 @@
+ghost use Rattle.std.specs.Prelude.{◌≡◌, ◌+◌, ◌<◌, ◌≤◌, ◌^◌};
+ghost use Rattle.hl_words.specs.States.{IsSeedOf};
+
+use super::*;
+use hl_model::{Fault, Params};
+use std::alloc::Global;
+use std::marker::Brand;
+use std::process::Abort;
+use std::test::*;
+use std::thread::{Threads, join};
+
+/// Eight cells, and two riders.
+#[test]
+fn shared_words(rt: HostRuntime) -> Result<(), Fail> {
+    let params = Params::checked(4, 2, 2, 4).ok_or("sizes in range")?;
+    let seed = Seed::make(rt.alloc(), params, 2)?;
+    two_riders::<Brand, _>(&rt, rt.alloc(), seed)
+}
+
+fn two_riders<L: Realm + Send + Sync, R: Threads + Abort + Sync>(
+    rt: &R,
+    alloc: Global,
+    seed: Seed,
+) -> Result<(), Fail>
+    requires seed { IsSeedOf L.name L.parts L.table seed }
+    requires sizes { (seed.cells ≡ 8) × (seed.riders ≡ 2) }
+{
+    let (words, mut master, mut riders) = Words::<L>::open(alloc, seed)?;
+    let mut other = riders.pop().ok_or("a rider")?;
+    let mut rider = riders.pop().ok_or("a rider")?;
+    words.store_cell(&mut rider, 1, 5);
+    words.store_cell(&mut rider, 1, 6);
+    assert_eq!(rt; words.load_cell(&mut other, 1), 6);
+    assert_eq!(rt; words.load_cell(&mut rider, 1), 6);
+    words.store_offset(&mut master, Which::ReadOnly, 4);
+    words.store_offset(&mut master, Which::ReadOnly, 4);
+    words.store_offset(&mut master, Which::ReadOnly, 8);
+    assert_eq!(rt; words.load_offset(&mut other, Which::ReadOnly), 8);
+    assert_eq!(rt; words.load_offset(&mut other, Which::Head), 0);
+    master.enter(&mut rider, 3);
+    assert!(rt; rider.share() == 3 && master.total() == 3);
+    let (first, second) = join(
+        rt,
+        || -> (Rider<L>, bool)
+            requires { 2 < words.cells }
+        { store_and_load(&words, rider, 1000, 2000) },
+        || -> (Rider<L>, bool)
+            requires { 2 < words.cells }
+        { store_and_load(&words, other, 2000, 1000) },
+    );
+    assert!(rt; first.1 && second.1);
+    riders.push(first.0)?;
+    let Err((words, master, mut riders)) = words.close(master, riders) else {
+        panic!(rt; "a rider is missing")
+    };
+    assert!(rt; riders.len() == 1 && master.total() == 3);
+    riders.push(second.0)?;
+    assert!(rt; words.close(master, riders).is_ok());
+    Ok(())
+}
+
+// Stores 1,000 numbers from `own` on into cell 2 and loads after each: whether each load is of its own last store, or
+// of one of the 1,000 numbers from `other` on.
+fn store_and_load<L: Realm>(
+    words: &Words<L>,
+    mut rider: Rider<L>,
+    own: u64,
+    other: u64,
+) -> (Rider<L>, bool)
+    requires { (2 < words.now.cells) × (own ≤ 2000) × (other ≤ 2000) }
+{
+    let mut lawful = true;
+    for i in 0..1000 {
+        words.store_cell(&mut rider, 2, own + i);
+        let loaded = words.load_cell(&mut rider, 2);
+        lawful &= loaded == own + i || (other <= loaded && loaded < other + 1000);
+    }
+    (rider, lawful)
+}
+
+/// The greatest sizes: 256 frames of 4,096 words, for 128 riders.
+#[test]
+fn the_greatest_words_open(rt: HostRuntime) -> Result<(), Fail> {
+    let params = Params::checked(4096, 256, 64, 64).ok_or("sizes in range")?;
+    let seed = Seed::make(rt.alloc(), params, 128)?;
+    last_cell::<Brand, _>(&rt, rt.alloc(), seed)
+}
+
+fn last_cell<L: Realm, R: Abort>(rt: &R, alloc: Global, seed: Seed) -> Result<(), Fail>
+    requires seed { IsSeedOf L.name L.parts L.table seed }
+    requires sizes { seed.cells ≡ 2 ^ 20 }
+{
+    let (words, mut master, mut riders) = Words::<L>::open(alloc, seed)?;
+    assert_eq!(rt; riders.len(), 128);
+    let mut rider = riders.pop().ok_or("a rider")?;
+    words.store_cell(&mut rider, (1 << 20) - 1, u64::MAX);
+    words.store_offset(&mut master, Which::Head, 1 << 48);
+    assert_eq!(rt; words.load_cell(&mut rider, (1 << 20) - 1), u64::MAX);
+    assert_eq!(rt; words.load_offset(&mut rider, Which::Head), 1 << 48);
+    assert_eq!(rt; words.load_offset(&mut rider, Which::ReadOnly), 0);
+    Ok(())
+}

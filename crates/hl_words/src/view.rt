@@ -1,0 +1,40 @@
+//! What the seats of the table know. It exists in proofs alone: no value of these types is made.
+use std::collections::LinkedList;
+
+/// What a rider did to a cell.
+pub enum Touch {
+    /// It stored the value into the cell.
+    Stored { cell: u64, value: u64 },
+    /// It loaded the value from the cell.
+    Loaded { cell: u64, value: u64 },
+}
+
+/// A value of each offset word, in words of the log: the greatest that a rider loaded, or the last that the master
+/// stored.
+pub struct OffsetWords {
+    pub read_only: u64,
+    pub head: u64,
+}
+
+/// What a rider stored and loaded.
+pub struct RiderView {
+    /// Its stores into cells and its loads of cells, the newest first.
+    pub touches: LinkedList<Touch>,
+    /// The greatest value that it loaded of each offset word.
+    pub offsets: OffsetWords,
+}
+
+/// What one seat of the table knows: the master's knows its last stores of the offset words, and each seat the views
+/// of the riders that it stands for. A rider's seat stands for that rider alone. The master's stands for those that
+/// aren't dealt out yet, and at the end for all.
+pub struct SeatView {
+    pub offsets: OffsetWords,
+    pub riders: LinkedList<RiderView>,
+}
+
+/// What a table is told when it is made: how many cells and how many riders it has.
+#[derive(Clone, Copy)]
+pub struct Room {
+    pub cells: usize,
+    pub riders: usize,
+}

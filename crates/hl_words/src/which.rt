@@ -1,0 +1,8 @@
+/// One of the two offset words, which only the master stores.
+#[derive(Clone, Copy, Debug, PartialEq, Eq)]
+pub enum Which {
+    /// The read-only offset.
+    ReadOnly,
+    /// The head offset.
+    Head,
+}
