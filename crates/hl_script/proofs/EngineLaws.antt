@@ -1,5 +1,5 @@
 -- What the parts of a run make of where it stands.
-use Rattle.std.proofs.Common.{◌≡◌, ◌≢◌, ℕ, ◌+◌, Bool, true, false, cond, eqb, List, [], ◌∷◌, ◌++◌, length, take, refl, sym, ap, ◌∙◌, subst, append_assoc, append-nil, arith}
+use Rattle.std.proofs.Common.{◌≡◌, ◌≢◌, ◌≤◌, ℕ, ◌+◌, Bool, true, false, cond, eqb, List, [], ◌∷◌, ◌++◌, length, take, refl, sym, ap, ◌∙◌, subst, append_assoc, append-nil, arith}
 use Rattle.std.specs.Prelude.{Option, Some, None, Result, Ok, Err}
 use Rattle.std.specs.Io.KnownBytes.{Appends, Consumes, IsAtEnd}
 use Rattle.std.proofs.lemmas.Bool.{eqb-true, false≢true}
@@ -13,11 +13,11 @@ use Rattle.hl_script.specs.Cut.{whole_lines}
 use Rattle.hl_script.specs.Lines.{script, bad_line, allowed, may_stand}
 use Rattle.hl_script.specs.Answers.{accepted, accepted_after}
 use Rattle.hl_script.specs.Text.{answers, bad_text, text, count_of}
-use Rattle.hl_script.specs.Outcomes.{WroteAll, WroteUpTo, AppendsFront, Stopped}
+use Rattle.hl_script.specs.Outcomes.{WroteWholeLines, WroteAll, WroteUpTo, AppendsFront, Stopped}
 use Rattle.hl_script.specs.Engine.{answered, Answered, Refuses, Reached, Faces, At, JudgedGood, Judged, Fed, Ended, Ran}
 use Rattle.hl_script.proofs.KnownLaws.{Appends-nothing, Appends-more, Consumes-more, front-more, front-longer, at_end_left}
 use Rattle.hl_script.proofs.LineLaws.{IsBad, faces_bad, faces_good}
-use Rattle.hl_script.proofs.ReachLaws.{IsGood, reached_start, reached_byte, reached_end, reached_long, reached_last, reached_line, reached_whole, reached_done, reached_last_line}
+use Rattle.hl_script.proofs.ReachLaws.{IsGood, reached_start, reached_byte, reached_end, reached_long, reached_last, reached_line, reached_unfinished, reached_whole, reached_done, reached_last_line}
 use Rattle.hl_script.proofs.TextLaws.{answers-nil, answers-push, answers-front, accepted-length}
 
 -- the text of bytes with a bad line
@@ -100,6 +100,7 @@ fed_end old stands lacks has done before from mid to p q (Ok fed) at j = (
     standing = j.standing;
     stood = record {
       reached = subst (Reached (done ++ 10 ∷ []) (before ++ j.line ∷ [])) (sym j.next) (reached_line done before p.line.items j.line at.stood.reached j.allows);
+      short = omega (arith, ap length j.next);
       lines = j.lines;
       steps = j.steps;
     };
@@ -117,13 +118,14 @@ fed_long stands lacks has done before b from mid to p stop at long ne r more =
     refused has lacks from mid to before ((done ++ b ∷ []) ++ more) (p.lines + 1) stop at.wrote r (ap (λ n. n + 1) at.stood.lines) (faces_bad ((done ++ b ∷ []) ++ more) before far.0 faces (ap (allowed before) far.2))
 
 -- a byte of a line
-pub fed_byte : (stands : (ℕ → Bool) → List Line → Type 0) (has : ℕ → Bool) (done : List ℕ) (before : List Line) (b : ℕ) (from to : Option (List ℕ)) (p q : Progress) → At stands has done before from to p → b ≢ 10 → q.lines ≡ p.lines → q.steps ≡ p.steps → q.line.items ≡ p.line.items ++ b ∷ [] → (before : List Line) × At stands has (done ++ b ∷ []) before from to q
-fed_byte stands has done before b from to p q at ne l s i = (
+pub fed_byte : (stands : (ℕ → Bool) → List Line → Type 0) (has : ℕ → Bool) (done : List ℕ) (before : List Line) (b : ℕ) (from to : Option (List ℕ)) (p q : Progress) → At stands has done before from to p → b ≢ 10 → length p.line.items ≢ 80 → q.lines ≡ p.lines → q.steps ≡ p.steps → q.line.items ≡ p.line.items ++ b ∷ [] → (before : List Line) × At stands has (done ++ b ∷ []) before from to q
+fed_byte stands has done before b from to p q at ne room l s i = (
   before,
   record {
     standing = at.standing;
     stood = record {
       reached = subst (Reached (done ++ b ∷ []) before) (sym i) (reached_byte done before p.line.items b at.stood.reached ne);
+      short = omega (arith, ap length i, length_push p.line.items b, at.stood.short, room);
       lines = l ∙ at.stood.lines;
       steps = s ∙ at.stood.steps;
     };
@@ -159,10 +161,13 @@ pub ended_stop : (old stands : (ℕ → Bool) → List Line → Type 0) (lacks :
 ended_stop old stands lacks has done before from mid to p q stop at ne j = j done (reached_last done before p.line.items at.stood.reached ne)
 
 -- a read failed, or no more are made
-pub ran_out : (stands : (ℕ → Bool) → List Line → Type 0) (has : ℕ → Bool) (done : List ℕ) (before : List Line) (from to : Option (List ℕ)) (p : Progress) → At stands has done before from to p → WroteAll has from to (whole_lines done)
+pub ran_out : (stands : (ℕ → Bool) → List Line → Type 0) (has : ℕ → Bool) (done : List ℕ) (before : List Line) (from to : Option (List ℕ)) (p : Progress) → At stands has done before from to p → WroteWholeLines has from to done
 ran_out stands has done before from to p at =
     let good : IsGood (whole_lines done) before = reached_whole done before p.line.items at.stood.reached in
-    record { wrote = subst (Appends from to) (sym (text_good has (whole_lines done) before good)) at.wrote; good = good.number }
+    record {
+      whole = record { wrote = subst (Appends from to) (sym (text_good has (whole_lines done) before good)) at.wrote; good = good.number };
+      unfinished = subst (λ (l : List ℕ). length l ≤ 80) (sym (reached_unfinished done before p.line.items at.stood.reached)) at.stood.short;
+    }
 
 -- a run stopped at a line, an error that is no failed read
 pub ran_stopped : (stands : (ℕ → Bool) → List Line → Type 0) (lacks : Line → Bool) (has : ℕ → Bool) (given left from to : Option (List ℕ)) (stop : Stop) (input : List ℕ) → Consumes given left input → Stopped has lacks from to stop input → ((more : List ℕ) → left ≡ Some more → Stopped has lacks from to stop (input ++ more)) → Ran stands lacks has given left from to (Err stop)
@@ -197,7 +202,7 @@ pub at_start : (stands : (ℕ → Bool) → List Line → Type 0) (has : ℕ →
 unfolding accepted accepted_after
 at_start stands has known p standing l s i = record {
   standing = standing;
-  stood = record { reached = subst (Reached [] []) (sym i) reached_start; lines = l; steps = s };
+  stood = record { reached = subst (Reached [] []) (sym i) reached_start; short = omega (arith, ap length i); lines = l; steps = s };
   wrote = subst (Appends known known) (sym (answers-nil has)) (Appends-nothing known);
 }
 

@@ -1,15 +1,15 @@
 -- How far a run has come in its input: one byte more, one line more, and the end.
-use Rattle.std.proofs.Common.{◌≡◌, ◌≢◌, ℕ, ◌+◌, false, cond, ◌||◌, List, [], ◌∷◌, ◌++◌, length, take, refl, sym, ap, ◌∙◌, subst, append_assoc, append-nil, arith, length-append, ne_eqb, eq-eqb}
+use Rattle.std.proofs.Common.{◌≡◌, ◌≢◌, ℕ, ◌+◌, false, cond, ◌||◌, List, [], ◌∷◌, ◌++◌, length, take, drop, refl, sym, ap, ◌∙◌, subst, append_assoc, append-nil, arith, length-append, ne_eqb, eq-eqb}
 use Rattle.std.specs.Prelude.{Some, None}
 use Rattle.std.specs.List.{list_any}
 use Rattle.std.proofs.lemmas.List.{length_push}
-use Rattle.std.proofs.Math.Seq.{take-append_seam}
+use Rattle.std.proofs.Math.Seq.{take-append_seam, drop-append_seam}
 use Rattle.hl_model.specs.Lists.{until_last}
 use Rattle.hl_model.proofs.ListLaws.{until_last-push, list_any-push}
 use Rattle.hl_line.specs.declared.line.Line.{Line}
 use Rattle.hl_line.specs.Reading.{line_of}
 use Rattle.hl_line.proofs.Reading.{line_of-long}
-use Rattle.hl_script.specs.Cut.{cut, whole_lines}
+use Rattle.hl_script.specs.Cut.{cut, whole_lines, unfinished_line}
 use Rattle.hl_script.specs.Lines.{allowed, good_lines, script, bad_line}
 use Rattle.hl_script.specs.Engine.{is_end, Reached, Faces}
 use Rattle.hl_script.proofs.CutLaws.{cut-nil, cut-line, cut-begun, cut-last, until_last-none}
@@ -112,6 +112,14 @@ reached_whole done before line r = subst (λ z. IsGood z before) (sym whole) (al
         ap (λ z. take (until_last is_end z) z) r.parts
         ∙ ap (λ n. take n (r.whole ++ line)) (until_last-none r.whole line r.no_end ∙ r.ended)
         ∙ take-append_seam r.whole line
+
+-- what follows them
+pub reached_unfinished : (done : List ℕ) (before : List Line) (line : List ℕ) → Reached done before line → unfinished_line done ≡ line
+unfolding unfinished_line
+reached_unfinished done before line r =
+    ap (λ z. drop (until_last is_end z) z) r.parts
+    ∙ ap (λ n. drop n (r.whole ++ line)) (until_last-none r.whole line r.no_end ∙ r.ended)
+    ∙ drop-append_seam r.whole line
 
 -- the input ends behind an LF, or before its first byte
 pub reached_done : (done : List ℕ) (before : List Line) → Reached done before [] → IsGood done before

@@ -1,5 +1,5 @@
 -- Where a run stands in its input, and how its parts leave it. No definition of the text rests on these.
-use Rattle.std.specs.Prelude.{◌≡◌, ℕ, ◌==◌, Bool, true, false, Option, Some, Result, Ok, Err, List, [], ◌∷◌, ◌++◌, length}
+use Rattle.std.specs.Prelude.{◌≡◌, ◌≤◌, ℕ, ◌==◌, Bool, true, false, Option, Some, Result, Ok, Err, List, [], ◌∷◌, ◌++◌, length}
 use Rattle.std.specs.List.{list_any}
 use Rattle.std.specs.Io.KnownBytes.{Appends, Consumes, IsAtEnd}
 use Rattle.hl_model.specs.Lists.{until_last}
@@ -10,11 +10,11 @@ use Rattle.hl_script.specs.declared.machine.Broken.TheVariants.{OutOfMemory as N
 use Rattle.hl_script.specs.declared.progress.Progress.{Progress}
 use Rattle.hl_script.specs.declared.stop.Stop.{Stop}
 use Rattle.hl_script.specs.declared.stop.Stop.TheVariants.{BadLine, Reader, Writer}
-use Rattle.hl_script.specs.Cut.{cut, whole_lines}
+use Rattle.hl_script.specs.Cut.{cut}
 use Rattle.hl_script.specs.Lines.{script, good_lines, allowed}
 use Rattle.hl_script.specs.Answers.{reply_line, accepted, is_accepted, sizes_of}
 use Rattle.hl_script.specs.Text.{answers, bad_text, count_of}
-use Rattle.hl_script.specs.Outcomes.{WroteAll, AppendsFront, Stopped, Settled}
+use Rattle.hl_script.specs.Outcomes.{WroteWholeLines, WroteAll, AppendsFront, Stopped, Settled}
 
 -- the byte that ends a line
 abbrev pub is_end : ℕ → Bool
@@ -69,6 +69,7 @@ pub record Faces (bytes : List ℕ) (before : List Line) (line : List ℕ) : Typ
 -- what is kept of the bytes so far
 pub record Stood (has : ℕ → Bool) (done : List ℕ) (before : List Line) (progress : Progress) : Type 0 where
   pub reached : Reached done before progress.line.items
+  pub short : length progress.line.items ≤ 80
   pub lines : progress.lines ≡ length before
   pub steps : progress.steps ≡ length (accepted has before)
 
@@ -107,5 +108,5 @@ Ended stands lacks has done from to (Err stop) = Stopped has lacks from to stop 
 abbrev pub Ran : ((ℕ → Bool) → List Line → Type 0) → (Line → Bool) → (ℕ → Bool) → Option (List ℕ) → Option (List ℕ) → Option (List ℕ) → Option (List ℕ) → Result (Option ℕ) Stop → Type 0
 Ran stands lacks has given left from to (Ok count) =
     (input : List ℕ) × Consumes given left input × IsAtEnd left × stands has (script input) × WroteAll has from to input × (count ≡ count_of has (script input))
-Ran stands lacks has given left from to (Err Reader) = (input : List ℕ) × Consumes given left input × WroteAll has from to (whole_lines input)
+Ran stands lacks has given left from to (Err Reader) = (input : List ℕ) × Consumes given left input × WroteWholeLines has from to input
 Ran stands lacks has given left from to (Err stop) = (input : List ℕ) × Consumes given left input × Settled left (Stopped has lacks from to stop) input

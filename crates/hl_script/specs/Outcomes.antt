@@ -1,11 +1,12 @@
 -- What a run over a reader and a writer has done when it ends.
-use Rattle.std.specs.Prelude.{◌≡◌, ⊤, ℕ, Bool, true, Option, Some, None, List, [], ◌∷◌, ◌++◌}
+use Rattle.std.specs.Prelude.{◌≡◌, ◌≤◌, length, ⊤, ℕ, Bool, true, Option, Some, None, List, [], ◌∷◌, ◌++◌}
 use Rattle.std.specs.Io.KnownBytes.{Appends}
 use Rattle.hl_line.specs.declared.line.Line.{Line}
 use Rattle.hl_script.specs.declared.stop.Stop.{Stop}
 use Rattle.hl_script.specs.declared.stop.Stop.TheVariants.{BadLine, OutOfMemory, Reader, Writer}
 use Rattle.hl_model.specs.declared.fault.Fault.{Fault}
 use Rattle.hl_model.specs.declared.fault.Fault.TheVariants.{BadLine as BadLineFault, OutOfMemory as OutOfMemoryFault, Stream as StreamFault}
+use Rattle.hl_script.specs.Cut.{whole_lines, unfinished_line}
 use Rattle.hl_script.specs.Lines.{is_config, may_stand, script, bad_line}
 use Rattle.hl_script.specs.Text.{answers, text}
 
@@ -18,6 +19,11 @@ pub record WroteAll (has : ℕ → Bool) (before after : Option (List ℕ)) (byt
 pub record WroteBad (has : ℕ → Bool) (before after : Option (List ℕ)) (n : ℕ) (bytes : List ℕ) : Type 0 where
   pub wrote : Appends before after (text has bytes)
   pub bad : bad_line bytes ≡ Some n
+
+-- the writer took the text of the whole lines of these bytes, none of them bad, and the line that isn't whole is no longer than a line may be
+pub record WroteWholeLines (has : ℕ → Bool) (before after : Option (List ℕ)) (bytes : List ℕ) : Type 0 where
+  pub whole : WroteAll has before after (whole_lines bytes)
+  pub unfinished : length (unfinished_line bytes) ≤ 80
 
 -- the writer took the beginning of these bytes
 pub record AppendsFront (before after : Option (List ℕ)) (bytes : List ℕ) : Type 0 where
@@ -43,7 +49,7 @@ Stopped has lacks before after OutOfMemory bytes = WroteUpTo has lacks before af
 Stopped has lacks before after Reader bytes = ⊥
 Stopped has lacks before after Writer bytes = AppendsFront before after (text has bytes)
 
--- a fact of the bytes that the reader gave, which is also one of these and all that it has left
+-- a fact of the bytes that were consumed, and also of those together with all that the reader has left
 pub record Settled (left : Option (List ℕ)) (P : List ℕ → Type 0) (input : List ℕ) : Type 0 where
   pub given : P input
   pub with_left : (more : List ℕ) → left ≡ Some more → P (input ++ more)

@@ -1,9 +1,8 @@
 ghost use Rattle.std.specs.Prelude.{◌≡◌, ℕ, ◌⊎◌, Err, IfOk, IfErr, option_map, List, []};
 ghost use Rattle.std.specs.Io.KnownBytes.{Appends, Consumes, IsAtEnd};
-ghost use Rattle.hl_script.specs.Cut.{whole_lines};
 ghost use Rattle.hl_script.specs.Lines.{script, is_config};
 ghost use Rattle.hl_script.specs.Text.{tags_on, text, count_of};
-ghost use Rattle.hl_script.specs.Outcomes.{WroteAll, WroteBad, WroteFront, LackedAtConfig, Settled, IsRunFault};
+ghost use Rattle.hl_script.specs.Outcomes.{WroteAll, WroteWholeLines, WroteBad, WroteFront, LackedAtConfig, Settled, IsRunFault};
 
 use crate::engine::run;
 use crate::stop::Stop;
@@ -42,9 +41,9 @@ pub fn run_text<F: Task, R: Read, W: Write>(
     ensures bad_line { (n : ℕ) → result ≡ Err (Fault.BadLine n) → (input : List ℕ) × Consumes (R.remaining reader.old) (R.remaining reader.new) input
         × Settled (R.remaining reader.new) (WroteBad (tags_on shelf) (W.contents writer.old) (W.contents writer.new) n) input }
     ensures out_of_memory { result ≡ Err Fault.OutOfMemory → (input : List ℕ) × Consumes (R.remaining reader.old) (R.remaining reader.new) input
-        × LackedAtConfig (W.contents writer.old) (W.contents writer.new) input }
+        × Settled (R.remaining reader.new) (LackedAtConfig (W.contents writer.old) (W.contents writer.new)) input }
     ensures stream { result ≡ Err Fault.Stream → (input : List ℕ) × Consumes (R.remaining reader.old) (R.remaining reader.new) input
-        × (WroteAll (tags_on shelf) (W.contents writer.old) (W.contents writer.new) (whole_lines input)
+        × (WroteWholeLines (tags_on shelf) (W.contents writer.old) (W.contents writer.new) input
         ⊎ Settled (R.remaining reader.new) (WroteFront (tags_on shelf) (W.contents writer.old) (W.contents writer.new)) input) }
     ensures faults { IfErr result IsRunFault }
 {

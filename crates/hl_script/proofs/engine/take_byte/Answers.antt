@@ -1,5 +1,5 @@
 use Rattle.std.proofs.Common.{◌≡◌, [], ◌∷◌, ◌++◌, length, refl, sym, subst}
-use Rattle.std.proofs.lemmas.Bool.{eqb-true}
+use Rattle.std.proofs.lemmas.Bool.{eqb-true, eqb-false}
 use Rattle.hl_script.specs.Engine.{Fed}
 use Rattle.hl_script.proofs.EngineLaws.{fed_end, fed_long, fed_byte}
 use Rattle.hl_script.proofs.engine.take_byte.Goals as goal
@@ -15,4 +15,4 @@ returns-then-is_full-clause-fed g c = let full : length c.args.progress.now.line
 
 pub returns-clause-fed : goal.returns-clause-fed
 returns-clause-fed g c = λ has done before from at.
-    fed_byte (g.M.Machine.stands c.args.machine.now) has done before c.args.byte from (g.W.Write.contents c.args.out.now) c.args.progress.now (record { lines = c.args.progress.now.lines; steps = c.args.progress.now.steps; line = c.push.new.self }) at c.if-byte-eq10.false refl refl c.push.ensures.items
+    fed_byte (g.M.Machine.stands c.args.machine.now) has done before c.args.byte from (g.W.Write.contents c.args.out.now) c.args.progress.now (record { lines = c.args.progress.now.lines; steps = c.args.progress.now.steps; line = c.push.new.self }) at c.if-byte-eq10.false (eqb-false (length c.args.progress.now.line.items) 80 (sym c.if-is_full.ensures.value)) refl refl c.push.ensures.items

@@ -2,7 +2,7 @@ use Rattle.std.proofs.Common.{◌≡◌, ◌∙◌, refl, subst, inl, inr}
 use Rattle.hl_script.specs.Lines.{is_config}
 use Rattle.hl_script.specs.Text.{tags_on}
 use Rattle.hl_script.specs.Outcomes.{WroteBad, Settled}
-use Rattle.hl_script.proofs.RunLaws.{settled_bad, settled_front, lacked_first}
+use Rattle.hl_script.proofs.RunLaws.{settled_bad, settled_front, settled_lacked}
 use Rattle.hl_script.proofs.run.run_text.Goals as goal
 
 pub returns-in-Ok-clause-ok : goal.returns-in-Ok-clause-ok
@@ -23,7 +23,7 @@ returns-in-Err-BadLine-clause-bad_line g c = λ n e.
 pub returns-in-Err-OutOfMemory-clause-out_of_memory : goal.returns-in-Err-OutOfMemory-clause-out_of_memory
 returns-in-Err-OutOfMemory-clause-out_of_memory g c = λ e.
     let r = rw c.in-Err-OutOfMemory.field-0-is at (c.in-Err-OutOfMemory.ensures (tags_on c.args.shelf) (refl, refl)) in
-    (r.0, r.1, lacked_first (tags_on c.args.shelf) (g.W.Write.contents c.args.writer.now) (g.W.Write.contents c.run.new.out) r.0 r.2.given)
+    (r.0, r.1, settled_lacked (tags_on c.args.shelf) (g.R.Read.remaining c.run.new.reader) (g.W.Write.contents c.args.writer.now) (g.W.Write.contents c.run.new.out) r.0 r.2)
 
 pub returns-in-Err-Reader-clause-stream : goal.returns-in-Err-Reader-clause-stream
 returns-in-Err-Reader-clause-stream g c = λ e.

@@ -1,0 +1,3 @@
+pub mod Searches
+pub mod PageLaws
+pub mod RowLaws
