@@ -215,6 +215,27 @@ fn answers_whole_lines_before_a_failed_read(rt: HostRuntime) -> Result<(), Fail>
 }
 
 #[test]
+fn judges_a_line_at_its_81st_byte(rt: HostRuntime) -> Result<(), Fail> {
+    let script =
+        "config 4 2 2 2\naaaaaaaaaaaaaaaaaaaaaaaaaaaaaaaaaaaaaaaaaaaaaaaaaaaaaaaaaaaaaaaaaaaaaaaaaaaaaaaaaa";
+    // A line of 80 bytes may still end as some line; the 81st byte makes it none, whatever the next read does.
+    let cases = [
+        (95, "opened\n", Fault::Stream),
+        (96, "opened\nline 2: not a step\n", Fault::BadLine { n: 2 }),
+    ];
+    for (left, text, fault) in cases {
+        let mut reader = SlowReader {
+            bytes: script.as_bytes(),
+            left,
+        };
+        let mut writer = Vec::new(rt.alloc());
+        assert_eq!(rt; run_jobs(rt.alloc(), &mut reader, &mut writer), Err(fault));
+        assert!(rt; writer.as_slice() == text.as_bytes(), "{left}");
+    }
+    Ok(())
+}
+
+#[test]
 fn stops_at_a_write_that_fails_or_takes_nothing(rt: HostRuntime) -> Result<(), Fail> {
     for fails in [true, false] {
         let mut reader = FIRST_ACTION.as_bytes();
