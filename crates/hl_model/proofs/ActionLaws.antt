@@ -44,7 +44,8 @@ length-action_of : (A : List Step) (s : Step) → length (action_of A s) ≡ con
 length-action_of A (Bump tag) = refl
 length-action_of A _ = refl
 
-actions-nil : actions [] ≡ []
+-- no steps store nothing
+pub actions-nil : actions [] ≡ []
 unfolding actions gather gather_after
 actions-nil = refl
 
@@ -129,7 +130,7 @@ pub takes-stay : (A : List Step) (s : Step) → is_take s ≡ false → takes (A
 takes-stay A s no_take = takes-push A s ∙ ap (λ b. takes A + cond b 1 0) no_take ∙ add-zero (takes A)
 
 -- the same ticket is done as before a step that finishes none
-is_finished-stay : (c : ℕ) (A : List Step) (s : Step) → finishes c s ≡ false → is_finished c (A ++ s ∷ []) ≡ is_finished c A
+pub is_finished-stay : (c : ℕ) (A : List Step) (s : Step) → finishes c s ≡ false → is_finished c (A ++ s ∷ []) ≡ is_finished c A
 is_finished-stay c A s no_done = is_finished-push c A s ∙ ap (λ b. is_finished c A || b) no_done ∙ or_false (is_finished c A)
 
 -- what a step stores is pending, last

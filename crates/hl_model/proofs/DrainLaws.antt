@@ -177,7 +177,7 @@ is_done-only : (s : Step) → is_done s ≡ true → (c : ℕ) × (s ≡ Done c)
 is_done-only (Done ticket) h = (ticket, refl)
 is_done-only _ h = cc
 
-finishes-none : (c : ℕ) (s : Step) → is_done s ≡ false → finishes c s ≡ false
+pub finishes-none : (c : ℕ) (s : Step) → is_done s ≡ false → finishes c s ≡ false
 finishes-none c (Done ticket) h = cc
 finishes-none c _ h = refl
 

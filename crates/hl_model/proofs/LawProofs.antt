@@ -6,11 +6,11 @@ use Rattle.std.proofs.lemmas.Bool.{eqb-false, both_ways, false_from_ne_true, eqb
 use Rattle.std.proofs.lemmas.List.{take-append-drop, take-append-le}
 use Rattle.std.proofs.Math.Seq.{take-append-add}
 use Rattle.hl_model.specs.declared.action.Kind.{Kind}
-use Rattle.hl_model.specs.declared.action.Kind.TheVariants.{User, Settle, Close}
+use Rattle.hl_model.specs.declared.action.Kind.TheVariants.{User, Settle as Settling, Close as Closing}
 use Rattle.std.proofs.lemmas.List.Sums.{sum_by-append}
 use Rattle.hl_model.specs.declared.fault.Fault.TheVariants.{NoSlot, Occupied}
 use Rattle.hl_model.specs.declared.step.Step.{Step}
-use Rattle.hl_model.specs.declared.step.Step.TheVariants.{Acquire, Refresh, Release, Bump, Take, Done}
+use Rattle.hl_model.specs.declared.step.Step.TheVariants.{Acquire, Refresh, Release, Bump, Settle, Close, Take, Done}
 use Rattle.hl_model.specs.Sizes.{Sizes}
 use Rattle.hl_model.specs.Lists.{until_last, gather, gather_after}
 use Rattle.hl_model.specs.Epochs.{table_of, slot_epochs, is_bump, enters, leaves, current_epoch, mark, is_protected, up_to_mark, epoch_of, slot_epoch, safe_epoch}
@@ -158,14 +158,14 @@ mark_after_bump X s Y t b h = by_order (cases_lt (length X) (mark t (X ++ s ∷ 
 
 done_told : (B : List Step) (k : Kind) → ticket_told (Ok (done_answer B k)) ≡ []
 done_told B (User tag) = refl
-done_told B (Settle x) = refl
-done_told B (Close x) = refl
+done_told B (Settling x) = refl
+done_told B (Closing x) = refl
 
 -- an accepted take is told how many there are, and no other step is told a ticket as taken
 told : (sizes : Sizes) (A : List Step) (s : Step) → fault_of sizes A s ≡ None → ticket_told (reply_of sizes A s) ≡ cond (is_take s) (takes (A ++ s ∷ []) ∷ []) []
-told sizes A Take h = ap (λ o. ticket_told (unless_fault o (answer_of sizes (A ++ Take ∷ []) Take))) h
-told sizes A (Done c) h = ap (λ o. ticket_told (unless_fault o (answer_of sizes (A ++ Done c ∷ []) (Done c)))) h ∙ done_told (A ++ Done c ∷ []) (kind_or_job_0 (action_at c (A ++ Done c ∷ [])))
-told sizes A s h = ap (λ o. ticket_told (unless_fault o (answer_of sizes (A ++ s ∷ []) s))) h
+told sizes A Take h = ap (λ o. ticket_told (unless_fault o (answer_of sizes A (A ++ Take ∷ []) Take))) h
+told sizes A (Done c) h = ap (λ o. ticket_told (unless_fault o (answer_of sizes A (A ++ Done c ∷ []) (Done c)))) h ∙ done_told (A ++ Done c ∷ []) (kind_or_job_0 (action_at c (A ++ Done c ∷ [])))
+told sizes A s h = ap (λ o. ticket_told (unless_fault o (answer_of sizes A (A ++ s ∷ []) s))) h
 
 takes-nil : takes [] ≡ 0
 unfolding takes
@@ -247,6 +247,7 @@ tables_follow sizes A = record {
   refresh = λ t. table_at sizes A (A ++ Refresh t ∷ []) (current_epoch A) (set (slot_epochs sizes.slots A) t (Some (current_epoch A))) (current-stay A (Refresh t) refl) (slot_epochs-refresh sizes.slots A t);
   release = λ t. table_at sizes A (A ++ Release t ∷ []) (current_epoch A) (set (slot_epochs sizes.slots A) t None) (current-stay A (Release t) refl) (slot_epochs-release sizes.slots A t);
   bump = λ tag. table_at sizes A (A ++ Bump tag ∷ []) (current_epoch A + 1) (slot_epochs sizes.slots A) (current_epoch-push A (Bump tag)) (slot_epochs-stay sizes.slots A (Bump tag) (λ t. refl) (λ t. refl));
-  take = table_at sizes A (A ++ Take ∷ []) (current_epoch A) (slot_epochs sizes.slots A) (current-stay A Take refl) (slot_epochs-stay sizes.slots A Take (λ t. refl) (λ t. refl));
-  done = λ c. table_at sizes A (A ++ Done c ∷ []) (current_epoch A) (slot_epochs sizes.slots A) (current-stay A (Done c) refl) (slot_epochs-stay sizes.slots A (Done c) (λ t. refl) (λ t. refl));
+  settle = table_at sizes A (A ++ Settle ∷ []) (current_epoch A + 1) (slot_epochs sizes.slots A) (current_epoch-push A Settle) (slot_epochs-stay sizes.slots A Settle (λ t. refl) (λ t. refl));
+  close = table_at sizes A (A ++ Close ∷ []) (current_epoch A + 1) (slot_epochs sizes.slots A) (current_epoch-push A Close) (slot_epochs-stay sizes.slots A Close (λ t. refl) (λ t. refl));
+  others = λ s b e l. table_at sizes A (A ++ s ∷ []) (current_epoch A) (slot_epochs sizes.slots A) (current-stay A s b) (slot_epochs-stay sizes.slots A s e l);
 }

@@ -1,12 +1,13 @@
 -- The drain list, looked up in one flat list of steps (FASTER's actions, stored by a bump of the epoch).
 use Rattle.std.specs.Prelude.{ℕ, ◌+◌, ◌-◌, ◌==◌, nat_le, Bool, true, false, ◌&&◌, not, Option, List, [], ◌∷◌, take, drop, filter, find, count_by}
 use Rattle.std.specs.List.{list_any}
-use Rattle.hl_model.specs.declared.action.Kind.TheVariants.{User}
+use Rattle.hl_model.specs.declared.action.Kind.TheVariants.{User, Settle as Settling, Close as Closing}
 use Rattle.hl_model.specs.declared.action.Waiting.{Waiting}
 use Rattle.hl_model.specs.declared.step.Step.{Step}
-use Rattle.hl_model.specs.declared.step.Step.TheVariants.{Bump, Take, Done}
+use Rattle.hl_model.specs.declared.step.Step.TheVariants.{Bump, Settle, Close, Take, Done}
 use Rattle.hl_model.specs.Lists.{gather}
 use Rattle.hl_model.specs.Epochs.{is_bump, current_epoch}
+use Rattle.hl_model.specs.Offsets.{read_only, head}
 
 -- a step that takes an action
 abbrev pub is_take : Step → Bool
@@ -33,9 +34,11 @@ takes A = count_by is_take A
 unfoldable pub dones : List Step → ℕ
 dones A = count_by is_done A
 
--- the action that a step stores: a bump's ticket is the current epoch before it, so the j-th bump has ticket j
+-- the action that a step stores: a bump's ticket is the current epoch before it, so the j-th bump has ticket j; a settle stores the read-only offset before it, a close the head
 abbrev pub action_of : List Step → Step → List Waiting
 action_of before (Bump tag) = record { ticket = current_epoch before; kind = User tag } ∷ []
+action_of before Settle = record { ticket = current_epoch before; kind = Settling (read_only before) } ∷ []
+action_of before Close = record { ticket = current_epoch before; kind = Closing (head before) } ∷ []
 action_of before _ = []
 
 -- all actions ever stored, oldest first

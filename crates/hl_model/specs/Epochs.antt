@@ -2,13 +2,15 @@
 use Rattle.std.specs.Prelude.{ℕ, ◌+◌, ◌-◌, ◌==◌, nat_lt, Bool, true, false, if◌then◌else◌, Option, Some, None, List, take, map, count_by}
 use Rattle.std.specs.List.{filter_map, range_with_len}
 use Rattle.hl_model.specs.declared.step.Step.{Step}
-use Rattle.hl_model.specs.declared.step.Step.TheVariants.{Acquire, Refresh, Release, Bump}
+use Rattle.hl_model.specs.declared.step.Step.TheVariants.{Acquire, Refresh, Release, Bump, Settle, Close}
 use Rattle.hl_model.specs.Lists.{until_last, least_or}
 use Rattle.hl_model.specs.Sizes.{Sizes}
 
 -- a step that raises the current epoch
 abbrev pub is_bump : Step → Bool
 is_bump (Bump tag) = true
+is_bump Settle = true
+is_bump Close = true
 is_bump _ = false
 
 -- a step at which the thread of slot t takes the current epoch for its own

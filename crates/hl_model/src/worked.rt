@@ -1,6 +1,7 @@
 //! Worked examples as theorems: the definitions alone, computed by the checker, give what was written by hand.
 
 ghost use Rattle.hl_model.specs.Worked.{FirstAction, NobodyProtected, FullDrainList, TwoThreads, BothWait};
+ghost use Rattle.hl_model.specs.WorkedPages.{FuzzyRegion, SwappedDones, Looks, SkippedWord, RaisesAndShifts, OutOfOrderFlush, FailedFlush, StaleReader, WordsOfAPage};
 
 /// An action waits until the one thread that was protected at its bump refreshed.
 pub fn first_action()
@@ -25,4 +26,49 @@ pub fn two_threads()
 /// Actions wait in the order of their bumps.
 pub fn both_wait()
     ensures { BothWait }
+{}
+
+/// A thread writes below a read-only offset that it has not seen, until every thread has moved on.
+pub fn fuzzy_region()
+    ensures { FuzzyRegion }
+{}
+
+/// Dones in another order than their takes: the safe read-only offset never falls.
+pub fn swapped_dones()
+    ensures { SwappedDones }
+{}
+
+/// A look raises a view; a refresh brings what is.
+pub fn looks()
+    ensures { Looks }
+{}
+
+/// A record lies on one page: a word is skipped.
+pub fn skipped_word()
+    ensures { SkippedWord }
+{}
+
+/// Raises and shifts that are refused.
+pub fn raises_and_shifts()
+    ensures { RaisesAndShifts }
+{}
+
+/// Flushes acknowledged out of order.
+pub fn out_of_order_flush()
+    ensures { OutOfOrderFlush }
+{}
+
+/// A failed flush lets its page be taken again.
+pub fn failed_flush()
+    ensures { FailedFlush }
+{}
+
+/// A closed page's frame is not free before it is cleaned.
+pub fn stale_reader()
+    ensures { StaleReader }
+{}
+
+/// The words of a page are the last values written there.
+pub fn words_of_a_page()
+    ensures { WordsOfAPage }
 {}

@@ -1,0 +1,8 @@
+use Rattle.hl_model.proofs.HistoryLaws.{AreKept-begun}
+use Rattle.hl_model.proofs.plain.Plain.open.Goals as goal
+
+pub invariant_of-result : goal.invariant_of-result
+invariant_of-result c = AreKept-begun c.args.params _ _ _ c.frames-room.ensures.in_range c.in_ok-row.ensures.ok c.in_ok-row-2.ensures.ok c.in_ok-row-3.ensures.ok
+
+pub returns-clause-known : goal.returns-clause-known
+returns-clause-known c = (AreKept-begun c.args.params _ _ _ c.frames-room.ensures.in_range c.in_ok-row.ensures.ok c.in_ok-row-2.ensures.ok c.in_ok-row-3.ensures.ok).history

@@ -1,0 +1,20 @@
+use Rattle.std.proofs.Common.{arith, rules, ◌<◌, length, take}
+use Rattle.std.proofs.lemmas.List.{length-take}
+use Rattle.hl_model.proofs.ListLaws.{until_last-le}
+use Rattle.std.proofs.lemmas.Grind.{common_steps}
+use Rattle.hl_model.specs.declared.step.Step.TheVariants.{Acquire}
+use Rattle.hl_model.proofs.TurnLaws.{until_last-next, until_last-none}
+use Rattle.hl_model.specs.Views.{allocates}
+use Rattle.hl_model.proofs.plain.views.last_allocation.Goals as goal
+
+pub loop-i-init : goal.loop-i-init
+loop-i-init c = search (rules, until_last-none)
+
+pub loop-i-preserved : goal.loop-i-preserved
+loop-i-preserved c =
+    let within : c.loop-i.i < length c.args.steps.now = omega arith in
+    let e = until_last-next (allocates c.args.t) c.args.steps.now c.loop-i.i (Acquire 0) within in
+    grind (arith, common_steps)
+
+pub returns-clause-within : goal.returns-clause-within
+returns-clause-within c = omega (arith, until_last-le (allocates c.args.t) (take c.loop-i.i c.args.steps.now), length-take c.loop-i.i c.args.steps.now)

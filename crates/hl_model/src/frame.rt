@@ -1,0 +1,14 @@
+/// What a frame is at: its last entered page goes through these in turn, from being entered to being freed.
+#[derive(Clone, Copy, Debug, PartialEq, Eq)]
+pub enum FrameState {
+    /// The page may still be written.
+    Opened,
+    /// The page lies below the safe read-only offset: no thread writes it any more, and it may be flushed.
+    Sealed,
+    /// The page is flushed.
+    Flushed,
+    /// The page lies below the closed offset: no thread reads it any more, and it may be cleaned.
+    Closed,
+    /// No page was entered, or the last one is freed.
+    Free,
+}

@@ -1,0 +1,98 @@
+//! All quantities of a list of steps at once.
+
+ghost use Rattle.std.specs.Prelude.{◌≡◌, ◌^◌, ◌<◌, ◌≤◌, count_by, is_some, length};
+ghost use Rattle.hl_model.specs.Histories.{TailFits};
+ghost use Rattle.hl_model.specs.Actions.{pending, taken};
+ghost use Rattle.hl_model.specs.Epochs.{slot_epochs};
+ghost use Rattle.hl_model.specs.Offsets.{tail};
+ghost use Rattle.hl_model.specs.Pages.{flushed};
+ghost use Rattle.hl_model.specs.Replies.{IsAccepted};
+ghost use Rattle.hl_model.specs.States.{place_of};
+ghost use Rattle.hl_model.specs.Snapshots.{six, state_counts, frame_states, snapshot_of};
+
+use crate::frame::FrameState;
+use crate::params::Params;
+use crate::plain::actions::{bumps, closed, dones, safe_read_only, takes};
+use crate::plain::epochs::{current_epoch, is_protected, safe_epoch};
+use crate::plain::frames::frame_of;
+use crate::plain::offsets::{head, read_only, tail};
+use crate::plain::pages::flushed;
+use crate::snapshot::Snapshot;
+use crate::step::Step;
+use crate::view::Six;
+
+// How many slots are protected.
+fn protected(slots: u64, steps: &[Step]) -> u64
+    ensures { result ≡ count_by is_some (slot_epochs slots steps.now) }
+{
+    let mut count = 0;
+    for t in 0..slots {
+        if is_protected(t, steps) {
+            count += 1;
+        }
+    }
+    count
+}
+
+// The six offsets.
+fn six(params: Params, steps: &[Step]) -> Six
+    requires tail { TailFits params steps.now }
+    requires flushed { flushed params steps.now ≤ 2 ^ 48 }
+    ensures { result ≡ six params steps.now }
+{
+    Six {
+        closed: closed(steps),
+        head: head(steps),
+        flushed: flushed(params, steps),
+        safe_read_only: safe_read_only(steps),
+        read_only: read_only(steps),
+        tail: tail(params, steps),
+    }
+}
+
+// The place of a state among the counts of frames.
+fn place_of(state: FrameState) -> usize
+    ensures place { result ≡ place_of state }
+    ensures within { result < 5 }
+{
+    match state {
+        FrameState::Opened => 0,
+        FrameState::Sealed => 1,
+        FrameState::Flushed => 2,
+        FrameState::Closed => 3,
+        FrameState::Free => 4,
+    }
+}
+
+// How many frames are open, sealed, flushed, closed and free.
+fn counts(params: Params, steps: &[Step]) -> [u64; 5]
+    requires { TailFits params steps.now }
+    ensures { result ≡ state_counts (frame_states params steps.now) }
+{
+    let mut counts = [0; 5];
+    for f in 0..params.frames() {
+        counts[place_of(frame_of(params, f, steps).0)] += 1;
+    }
+    counts
+}
+
+/// All quantities of accepted steps.
+pub fn snapshot_of(params: Params, steps: &[Step]) -> Snapshot
+    requires accepted { IsAccepted params steps.now }
+    requires tail { TailFits params steps.now }
+    requires flushed { flushed params steps.now ≤ 2 ^ 48 }
+    ensures { result ≡ snapshot_of params steps.now }
+{
+    // Of the actions that are stored and not done, those that aren't pending are taken.
+    let pending = bumps(steps).saturating_sub(takes(steps));
+    let held = bumps(steps).saturating_sub(dones(steps));
+    Snapshot {
+        epoch: current_epoch(steps),
+        safe: safe_epoch(params.slots(), steps),
+        protected: protected(params.slots(), steps),
+        pending,
+        taken: held.saturating_sub(pending),
+        six: six(params, steps),
+        frames: counts(params, steps),
+    }
+}
