@@ -4,8 +4,7 @@ ghost use Rattle.hl_frames.specs.Answers.{opened, page_or, after_take, enter_ans
 ghost use Rattle.hl_frames.specs.IsFrames.{IsFrames};
 
 use crate::held::Held;
-use crate::state::FrameState;
-use hl_model::{Fault, Params};
+use hl_model::{Fault, FrameState, Params};
 use std::alloc::Global;
 use std::marker::Model;
 
@@ -213,8 +212,9 @@ impl Frames {
         self.entered
     }
 
-    // The least page below the safe read-only offset that is neither flushed nor in flight.
-    fn next_to_flush(&self, sro: u64) -> Option<u64>
+    /// The page that `flush_take` would take: the least one below the safe read-only offset, a word's address, that is
+    /// neither flushed nor in flight.
+    pub fn next_to_flush(&self, sro: u64) -> Option<u64>
         ensures page { result ≡ next_to_flush sro self.now }
         ensures known { IsFrames self.now }
     {
@@ -226,8 +226,9 @@ impl Frames {
         None
     }
 
-    // The least page below the closed offset that is neither freed nor being cleaned.
-    fn next_to_clean(&self, closed: u64) -> Option<u64>
+    /// The page that `clean_take` would take: the least one below the closed offset, a word's address, that is neither
+    /// freed nor being cleaned.
+    pub fn next_to_clean(&self, closed: u64) -> Option<u64>
         ensures page { result ≡ next_to_clean closed self.now }
         ensures known { IsFrames self.now }
     {
@@ -268,7 +269,8 @@ impl Frames {
         }
     }
 
-    fn is_in_flight(&self, page: u64) -> bool
+    /// Whether a page is in flight.
+    pub fn is_in_flight(&self, page: u64) -> bool
         ensures { result ≡ is_in_flight page self.now }
     {
         match self.held(self.place_of(page)) {
@@ -286,7 +288,8 @@ impl Frames {
         }
     }
 
-    fn is_cleaning(&self, page: u64) -> bool
+    /// Whether a page is being cleaned.
+    pub fn is_cleaning(&self, page: u64) -> bool
         ensures { result ≡ is_cleaning page self.now }
     {
         match self.held(self.place_of(page)) {

@@ -39,8 +39,6 @@
 
 mod frames;
 mod held;
-mod state;
 
 pub use frames::Frames;
 pub use held::Held;
-pub use state::FrameState;

@@ -1,8 +1,9 @@
 ghost use Rattle.std.specs.Prelude.{◌≡◌, ℕ, ◌+◌, ◌%◌, ◌≤◌, max, IfOk};
-ghost use Rattle.hl_model.specs.Replies.{unless_fault};
-ghost use Rattle.hl_offsets.specs.Faults.{raise_fault, shift_fault, allocate_fault, after};
+ghost use Rattle.hl_model.specs.Offsets.{place_of};
+ghost use Rattle.hl_model.specs.Replies.{raise_fault, shift_fault, size_fault, unless_fault};
+ghost use Rattle.hl_offsets.specs.Faults.{after};
 ghost use Rattle.hl_offsets.specs.Log.{Log, IsLog, AreSix, NoneFalls, started, resumed, raised, shifted, settled, closed_up_to, allocated, six_of};
-ghost use Rattle.hl_offsets.specs.Place.{place_of, IsOnOnePage};
+ghost use Rattle.hl_offsets.specs.Place.{IsOnOnePage};
 
 use hl_model::{Fault, Params, Six};
 use std::marker::Model;
@@ -145,9 +146,9 @@ impl Offsets {
     /// Faults: `Size` where n is 0 or above P, `SpaceSpent` where the record would end above 2^48.
     pub fn allocate(&mut self, n: u64) -> Result<u64, Fault>
         ensures answer { let old = self.old
-            in result ≡ unless_fault (allocate_fault old.page old.tail n) (place_of old.page old.tail n) }
+            in result ≡ unless_fault (size_fault old.page old.tail n) (place_of old.page old.tail n) }
         ensures effect { let old = self.old
-            in self.new ≡ after (allocate_fault old.page old.tail n) old (allocated n old) }
+            in self.new ≡ after (size_fault old.page old.tail n) old (allocated n old) }
         ensures above_tail { IfOk result (λ place. self.old.tail ≤ place) }
         ensures one_page { IfOk result (IsOnOnePage self.old.page n) }
 
@@ -165,7 +166,7 @@ impl Offsets {
     /// Where `allocate` would place a record of n words, or the fault that it would meet. Changes nothing.
     pub fn place(&self, n: u64) -> Result<u64, Fault>
         ensures answer { let now = self.now
-            in result ≡ unless_fault (allocate_fault now.page now.tail n) (place_of now.page now.tail n) }
+            in result ≡ unless_fault (size_fault now.page now.tail n) (place_of now.page now.tail n) }
         ensures above_tail { IfOk result (λ place. self.now.tail ≤ place) }
         ensures one_page { IfOk result (IsOnOnePage self.now.page n) }
         ensures lowest { let now = self.now
