@@ -1,11 +1,13 @@
 -- The line that some bytes spell: they are read loosely, and the spelling of what was read is compared with them.
-use Rattle.std.specs.Prelude.{ℕ, ◌+◌, ◌-◌, ◌*◌, ◌^◌, min, ◌==◌, nat_le, Bool, ◌&&◌, if◌then◌else◌, Option, Some, None, option_and_then, List, [], ◌∷◌, codes, fold, bytes_eq}
+use Rattle.std.specs.Prelude.{ℕ, ◌+◌, ◌-◌, ◌*◌, ◌^◌, min, ◌==◌, nat_le, Bool, ◌&&◌, if◌then◌else◌, Option, Some, None, option_map, option_and_then, List, [], ◌∷◌, ◌++◌, codes, fold, bytes_eq}
 use Rattle.std.specs.Int.{is_power_of_two}
 use Rattle.std.specs.List.{before_first, after_first}
-use Rattle.hl_model.specs.declared.step.Step.TheVariants.{Acquire, Refresh, Release, Bump, Take, Done}
+use Rattle.std.specs.Map.{lookup}
+use Rattle.hl_model.specs.declared.step.Step.{Step}
+use Rattle.hl_model.specs.declared.step.Step.TheVariants.{Acquire, Refresh, Release, Bump, Settle, Close, Take, Done, Raise, Shift, Allocate, Look, Write, Read, FlushTake, FlushDone, CleanTake, CleanDone}
 use Rattle.hl_model.specs.Sizes.{Sizes}
 use Rattle.hl_line.specs.declared.line.Line.{Line}
-use Rattle.hl_line.specs.declared.line.Line.TheVariants.{Config, Step as Makes, Status, Pending}
+use Rattle.hl_line.specs.declared.line.Line.TheVariants.{Config, Step as Makes, Status, Pending, Frames}
 use Rattle.hl_line.specs.Lines.{spelling}
 
 -- the bytes before the first space
@@ -37,27 +39,66 @@ unfoldable pub config_of : Sizes → Option Line
 config_of sizes = if are_in_range sizes then Some (Config sizes) else None
 
 -- what stands beside a word in a table
-abbrev pub beside : List ℕ → List (List ℕ × Option Line) → Option Line
-beside word [] = None
-beside word (row ∷ rows) = if bytes_eq word row.0 then row.1 else beside word rows
+abbrev pub beside : {A : Type 0} → List ℕ → List (List ℕ × A) → Option A
+beside word rows = lookup (bytes_eq word) rows
 
--- each keyword, and the line that it makes with as many of the numbers as it has
-abbrev pub keywords : ℕ → ℕ → ℕ → ℕ → List (List ℕ × Option Line)
-keywords a b c d =
-    (codes "config", config_of (record { page = a; frames = b; slots = c; drain = d }))
-    ∷ (codes "acquire", Some (Makes (Acquire a)))
-    ∷ (codes "refresh", Some (Makes (Refresh a)))
-    ∷ (codes "release", Some (Makes (Release a)))
-    ∷ (codes "bump", Some (Makes (Bump a)))
-    ∷ (codes "take", Some (Makes Take))
-    ∷ (codes "done", Some (Makes (Done a)))
-    ∷ (codes "status", Some Status)
-    ∷ (codes "pending", Some Pending)
+-- the keywords of the epochs and their actions, and the step that each makes with a number
+abbrev pub epoch_steps : ℕ → List (List ℕ × Step)
+epoch_steps a =
+    (codes "acquire", Acquire a)
+    ∷ (codes "refresh", Refresh a)
+    ∷ (codes "release", Release a)
+    ∷ (codes "bump", Bump a)
+    ∷ (codes "settle", Settle)
+    ∷ (codes "close", Close)
+    ∷ (codes "take", Take)
+    ∷ (codes "done", Done a)
     ∷ []
 
--- the line of a keyword with these numbers, if it is one
-unfoldable pub line_with : List ℕ → ℕ → ℕ → ℕ → ℕ → Option Line
-line_with word a b c d = beside word (keywords a b c d)
+-- the keywords of the offsets and the words, and the step that each makes with as many of the numbers as it has
+abbrev pub word_steps : ℕ → ℕ → ℕ → List (List ℕ × Step)
+word_steps a b c =
+    (codes "raise", Raise a)
+    ∷ (codes "shift", Shift a)
+    ∷ (codes "alloc", Allocate a b)
+    ∷ (codes "look", Look a b c)
+    ∷ (codes "write", Write a b c)
+    ∷ (codes "read", Read a b)
+    ∷ []
+
+-- what may follow `flush`, and the step that it makes; a flush went well where its last word is `ok`
+abbrev pub flush_steps : ℕ → List ℕ → List (List ℕ × Step)
+flush_steps page last =
+    (codes "take", FlushTake)
+    ∷ (codes "done", FlushDone page (bytes_eq last (codes "ok")))
+    ∷ []
+
+-- what may follow `clean`, and the step that it makes
+abbrev pub clean_steps : ℕ → List (List ℕ × Step)
+clean_steps page =
+    (codes "take", CleanTake)
+    ∷ (codes "done", CleanDone page)
+    ∷ []
+
+-- the step of a keyword with these words after it, if it is one
+unfoldable pub step_with : List ℕ → List ℕ → List ℕ → List ℕ → Option Step
+step_with keyword first second third =
+    let a = number_in first in
+    let b = number_in second in
+    let c = number_in third in
+    if bytes_eq keyword (codes "flush") then beside first (flush_steps b third)
+    else if bytes_eq keyword (codes "clean") then beside first (clean_steps b)
+    else beside keyword (epoch_steps a ++ word_steps a b c)
+
+-- the line of a keyword with these words after it, if it is one
+unfoldable pub line_with : List ℕ → List ℕ → List ℕ → List ℕ → List ℕ → Option Line
+line_with keyword first second third fourth =
+    let sizes : Sizes = record { page = number_in first; frames = number_in second; slots = number_in third; drain = number_in fourth } in
+    if bytes_eq keyword (codes "config") then config_of sizes
+    else if bytes_eq keyword (codes "status") then Some Status
+    else if bytes_eq keyword (codes "pending") then Some Pending
+    else if bytes_eq keyword (codes "frames") then Some Frames
+    else option_map Makes (step_with keyword first second third)
 
 -- what the bytes look like, read loosely
 unfoldable pub guess_of : List ℕ → Option Line
@@ -66,8 +107,7 @@ guess_of s =
     let second = other_words first in
     let third = other_words second in
     let fourth = other_words third in
-    let number : List ℕ → ℕ = λ rest. number_in (first_word rest) in
-    line_with (first_word s) (number first) (number second) (number third) (number fourth)
+    line_with (first_word s) (first_word first) (first_word second) (first_word third) (first_word fourth)
 
 -- the line that is spelled so, if there is one
 unfoldable pub line_of : List ℕ → Option Line

@@ -1,7 +1,7 @@
 -- The bytes of a reply's line, without its LF.
 use Rattle.std.specs.Prelude.{ℕ, List, [], ◌∷◌, ◌++◌, codes}
 use Rattle.hl_model.specs.declared.step.Reply.{Reply}
-use Rattle.hl_model.specs.declared.step.Reply.TheVariants.{Entered, Left, Ticket, Taken, Ran, Answer, Settled, Closed}
+use Rattle.hl_model.specs.declared.step.Reply.TheVariants.{Entered, Left, Ticket, Taken, Ran, Answer, Settled, Closed, Raised, Shifted, At, Looked, Written, Readable, Value, Page, Flushed, Freed}
 use Rattle.hl_model.specs.declared.fault.Fault.{Fault}
 use Rattle.hl_model.specs.declared.fault.Fault.TheVariants.{NoSlot, Occupied, NotProtected, Stale, DrainFull, EpochsSpent, Empty, NotReady, NotTaken, NotAbove, AboveTail, NotPage, AboveFlushed, Size, Busy, SpaceSpent, Below, Beyond, Evicted, NoneSealed, NotInFlight, NoneClosed, NotCleaning, NoJob, TouchesFull, Stranger, JournalFull, Device, OutOfMemory, BadLine, Stream}
 use Rattle.hl_model.specs.Faults.{number_of}
@@ -18,6 +18,16 @@ reply_text (Ran tag) = worded (codes "ran") (tag ∷ [])
 reply_text (Answer answer) = worded (codes "answer") (answer ∷ [])
 reply_text (Settled address) = worded (codes "safe_read_only") (address ∷ [])
 reply_text (Closed address) = worded (codes "closed") (address ∷ [])
+reply_text (Raised address) = worded (codes "read_only") (address ∷ [])
+reply_text (Shifted address) = worded (codes "head") (address ∷ [])
+reply_text (At address) = worded (codes "at") (address ∷ [])
+reply_text (Looked view) = worded (codes "view") (view.read_only ∷ view.head ∷ view.tail ∷ [])
+reply_text Written = worded (codes "written") []
+reply_text Readable = worded (codes "readable") []
+reply_text (Value word) = worded (codes "value") (word ∷ [])
+reply_text (Page page) = worded (codes "page") (page ∷ [])
+reply_text (Flushed address) = worded (codes "flushed") (address ∷ [])
+reply_text (Freed page) = worded (codes "freed") (page ∷ [])
 
 -- the name of a fault
 abbrev pub name_of : Fault → List ℕ

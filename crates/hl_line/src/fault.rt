@@ -2,7 +2,7 @@ ghost use Rattle.std.specs.Prelude.{◌≡◌, ◌++◌, ◌+◌, ◌≤◌, len
 ghost use Rattle.arrayvec.specs.ArrayString.{array_string_len};
 ghost use Rattle.hl_line.specs.Replies.{fault_text, name_of, fields_of};
 
-use crate::print::{append, spelled};
+use crate::text::{append, spelled};
 use arrayvec::ArrayString;
 use hl_model::Fault;
 

@@ -10,10 +10,24 @@
 //! | `refresh t` | it moves on to the current epoch |
 //! | `release t` | it is protected no longer |
 //! | `bump tag` | ends the current epoch, and stores the job of this tag |
+//! | `settle` | ends the current epoch, and stores the action that raises the safe read-only offset |
+//! | `close` | ends the current epoch, and stores the action that raises the closed offset |
 //! | `take` | takes the oldest pending action |
 //! | `done c` | the taken action of ticket c was carried out |
+//! | `raise x` | the read-only offset moves up to address x |
+//! | `shift x` | the head moves up to address x |
+//! | `alloc t n` | the thread of slot t allocates a record of n words |
+//! | `look t r h` | the thread of slot t sees the read-only offset r and the head h |
+//! | `write t a v` | the thread of slot t writes v to the word at address a |
+//! | `read t a` | the thread of slot t reads the word at address a |
+//! | `flush take` | takes the next page to flush |
+//! | `flush done p ok` | the flush of page p ended well |
+//! | `flush done p failed` | the flush of page p ended, but not well |
+//! | `clean take` | takes the next page to clean |
+//! | `clean done p` | the frame of page p was cleaned |
 //! | `status` | asks for the quantities |
 //! | `pending` | asks for the pending actions |
+//! | `frames` | asks for the state of each frame |
 //!
 //! One space stands between two words, and none at either end. A number is decimal ASCII: `0`, or a digit 1 to 9
 //! and digits, at most 18446744073709551615. Anything else is no line.
@@ -27,8 +41,11 @@ mod line;
 mod print;
 mod read;
 mod reply;
+mod steps;
 #[cfg(test)]
 mod tests;
+mod text;
+mod word;
 
 pub use fault::print_fault;
 pub use line::Line;

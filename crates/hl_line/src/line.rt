@@ -11,4 +11,6 @@ pub enum Line {
     Status,
     /// Asks for the pending actions, oldest first.
     Pending,
+    /// Asks for the state of each frame.
+    Frames,
 }

@@ -1,7 +1,7 @@
 ghost use Rattle.std.specs.Prelude.{◌≡◌};
 ghost use Rattle.hl_line.specs.Replies.{reply_text};
 
-use crate::print::{append, spelled};
+use crate::text::{append, spelled};
 use arrayvec::ArrayString;
 use hl_model::Reply;
 
@@ -12,7 +12,7 @@ pub fn print_reply(reply: &Reply) -> ArrayString<160>
     spelled_reply(*reply)
 }
 
-#[tactic(auto, using(crate::proofs::Texts::word_length, crate::proofs::Texts::number_length, crate::proofs::Texts::view_length))]
+#[tactic(auto, using(crate::proofs::Texts::word_length, crate::proofs::Texts::number_length, crate::proofs::Texts::triple_length))]
 fn spelled_reply(reply: Reply) -> ArrayString<160>
     ensures { result.bytes ≡ reply_text reply }
 {
@@ -29,5 +29,15 @@ fn spelled_reply(reply: Reply) -> ArrayString<160>
         Reply::Answer(answer) => spelled("answer", &[answer]),
         Reply::Settled(address) => spelled("safe_read_only", &[address]),
         Reply::Closed(address) => spelled("closed", &[address]),
+        Reply::Raised(address) => spelled("read_only", &[address]),
+        Reply::Shifted(address) => spelled("head", &[address]),
+        Reply::At(address) => spelled("at", &[address]),
+        Reply::Looked(view) => spelled("view", &[view.read_only, view.head, view.tail]),
+        Reply::Written => spelled("written", &[]),
+        Reply::Readable => spelled("readable", &[]),
+        Reply::Value(word) => spelled("value", &[word]),
+        Reply::Page(page) => spelled("page", &[page]),
+        Reply::Flushed(address) => spelled("flushed", &[address]),
+        Reply::Freed(page) => spelled("freed", &[page]),
     }
 }

@@ -1,7 +1,7 @@
 use Rattle.std.proofs.Common.{refl, rules}
 use Rattle.std.proofs.lemmas.Bool.{false≢true}
 use Rattle.hl_model.specs.Sizes.{Sizes}
-use Rattle.hl_line.proofs.Reading.{config_of-opened, config_of-out_of_range}
+use Rattle.hl_line.proofs.Fitting.{config_of-opened, config_of-out_of_range}
 use Rattle.hl_line.proofs.read.config.Goals as goal
 
 pub returns-in_err-sizes : goal.returns-in_err-sizes

@@ -1,5 +1,5 @@
 use Rattle.hl_line.proofs.Words.{cut_at, uncut}
-use Rattle.hl_line.proofs.read.cut.Goals as goal
+use Rattle.hl_line.proofs.word.cut.Goals as goal
 
 pub returns-in-Some-clause-front : goal.returns-in-Some-clause-front
 returns-in-Some-clause-front c = (cut_at c.args.bytes.now c.in-Some.end cc).0

@@ -1,7 +1,7 @@
 use Rattle.std.proofs.Common.{◌≡◌, ◌++◌, take}
 use Rattle.std.specs.List.{flat_map}
 use Rattle.hl_line.specs.Lines.{spaced}
-use Rattle.hl_line.proofs.print.append.Given as goal
+use Rattle.hl_line.proofs.text.append.Given as goal
 
 abbrev pub invariant-loop-number : goal.invariant-loop-number
 invariant-loop-number g l =

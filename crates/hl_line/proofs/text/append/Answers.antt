@@ -2,7 +2,7 @@ use Rattle.std.proofs.Common.{◌++◌, length, ap, arith, rules, take, length-a
 use Rattle.std.specs.List.{flat_map}
 use Rattle.std.proofs.lemmas.List.Folds.{length-flat_map-take}
 use Rattle.hl_line.specs.Lines.{spaced, worded}
-use Rattle.hl_line.proofs.print.append.Goals as goal
+use Rattle.hl_line.proofs.text.append.Goals as goal
 
 pub append_number-requires : goal.append_number-requires
 unfolding worded
