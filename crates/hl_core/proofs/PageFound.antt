@@ -1,0 +1,90 @@
+-- What the frames of a core answer, wherever it stands.
+use Rattle.std.proofs.Common.{◌≡◌, ℕ, ◌≤◌, ◌<◌, ◌/◌, Bool, cond, ltb, List, length, arith, sym, ap, ap₂, ◌∙◌, subst}
+use Rattle.std.specs.Prelude.{Option, Some, None}
+use Rattle.std.specs.Int.{div_ceil}
+use Rattle.hl_model.specs.declared.fault.Fault.TheVariants.{NoneSealed, NotInFlight, NoneClosed, NotCleaning}
+use Rattle.hl_model.specs.declared.frame.FrameState.{FrameState}
+use Rattle.hl_model.specs.declared.step.Step.{Step}
+use Rattle.hl_model.specs.declared.step.Step.TheVariants.{FlushTake, FlushDone, CleanTake, CleanDone}
+use Rattle.hl_model.specs.Offsets.{tail, is_entered}
+use Rattle.hl_model.specs.Settled.{closed}
+use Rattle.hl_model.specs.Pages.{is_in_flight, is_cleaning, next_to_flush, next_to_clean, flushed}
+use Rattle.hl_model.specs.Frames.{may_enter, frame_of}
+use Rattle.hl_model.specs.Replies.{fault_of, unless_fault, unless_page}
+use Rattle.hl_frames.specs.Pages.{Pages, pages_below, flushed_offset, is_in_flight as IN_FLIGHT, is_cleaning as CLEANING, may_enter as MAY_ENTER, next_to_flush as NEXT_TO_FLUSH, next_to_clean as NEXT_TO_CLEAN}
+use Rattle.hl_frames.specs.Answers.{state_of}
+use Rattle.hl_core.specs.Standing.{State, Stands, IsStanding, pages_entered}
+use Rattle.hl_core.proofs.PageRows.{length-frames}
+use Rattle.hl_core.proofs.PageMarks.{page_some, next_to_flush-is, next_to_clean-is, is_in_flight-is, is_cleaning-is, may_enter-is}
+use Rattle.hl_core.proofs.PageOffsets.{ceil-starts, sealed_within, closed_within, pages_of-flushed, frame_of-is}
+
+module _ {J : Type 0} (tag : J → ℕ) (core : State J) where
+  -- the page to flush
+  pub flush_found : (A : List Step) → Stands tag core A → NEXT_TO_FLUSH core.offsets.safe_read_only core.pages ≡ next_to_flush core.sizes A
+  flush_found A st = ap₂ NEXT_TO_FLUSH (ap (λ log. log.safe_read_only) st.offsets_is) st.pages_is ∙ next_to_flush-is core.sizes A st.in_range st.accepted
+
+  -- the page to clean
+  pub clean_found : (A : List Step) → Stands tag core A → NEXT_TO_CLEAN core.offsets.closed core.pages ≡ next_to_clean core.sizes A
+  clean_found A st = ap₂ NEXT_TO_CLEAN (ap (λ log. log.closed) st.offsets_is) st.pages_is ∙ next_to_clean-is core.sizes A st.in_range st.accepted
+
+  -- whether a page is in flight
+  pub flight_found : (A : List Step) (p : ℕ) → Stands tag core A → IN_FLIGHT p core.pages ≡ is_in_flight core.sizes p A
+  flight_found A p st = ap (IN_FLIGHT p) st.pages_is ∙ is_in_flight-is core.sizes A p st.in_range st.accepted
+
+  -- whether a page is being cleaned
+  pub cleaning_found : (A : List Step) (p : ℕ) → Stands tag core A → CLEANING p core.pages ≡ is_cleaning core.sizes p A
+  cleaning_found A p st = ap (CLEANING p) st.pages_is ∙ is_cleaning-is core.sizes A p st.in_range st.accepted
+
+  -- whether a page may be entered
+  pub enter_found : (A : List Step) (p : ℕ) → Stands tag core A → MAY_ENTER p core.pages ≡ may_enter core.sizes p A
+  enter_found A p st = ap (MAY_ENTER p) st.pages_is ∙ may_enter-is core.sizes A p st.in_range st.accepted
+
+  -- whether a page is entered
+  pub entered_found : (q x page n : ℕ) → x ≡ core.offsets.tail → page ≡ core.sizes.page → n ≡ div_ceil x page → (A : List Step) → Stands tag core A → ltb q n ≡ is_entered core.sizes q A
+  entered_found q x page n tail_is page_is is A st =
+      ap (ltb q) (is ∙ ap₂ div_ceil (tail_is ∙ ap (λ log. log.tail) st.offsets_is) page_is) ∙ ceil-starts (tail core.sizes A) core.sizes.page q (page_some core.sizes st.in_range)
+
+  -- the flushed offset
+  pub flushed_found : (A : List Step) → Stands tag core A → flushed_offset core.pages ≡ flushed core.sizes A
+  flushed_found A st = ap flushed_offset st.pages_is ∙ pages_of-flushed core.sizes A st.in_range st.accepted
+
+  -- what a frame is at
+  pub state_found : (A : List Step) (f : ℕ) → Stands tag core A → f < core.sizes.frames → state_of f core.offsets.safe_read_only core.offsets.closed core.pages ≡ frame_of core.sizes f A
+  state_found A f st h =
+      ap₂ (λ log pages. state_of f log.safe_read_only log.closed pages) st.offsets_is st.pages_is ∙ frame_of-is core.sizes A f st.in_range h
+
+  -- sealed pages are entered
+  pub sealed_fits : IsStanding tag core → pages_below core.offsets.safe_read_only core.pages ≤ core.pages.entered
+  sealed_fits (A, st) =
+      subst (λ (pages : Pages). pages_below core.offsets.safe_read_only pages ≤ pages.entered) (sym st.pages_is)
+      (subst (λ (n : ℕ). n / core.sizes.page ≤ pages_entered core.sizes A) (sym (ap (λ log. log.safe_read_only) st.offsets_is)) (sealed_within core.sizes A st.in_range st.accepted))
+
+  -- closed pages are flushed
+  pub closed_fits : IsStanding tag core → core.offsets.closed ≤ flushed_offset core.pages
+  closed_fits (A, st) =
+      subst (λ (n : ℕ). n ≤ flushed_offset core.pages) (sym (ap (λ log. log.closed) st.offsets_is))
+      (subst (λ (pages : Pages). closed A ≤ flushed_offset pages) (sym st.pages_is) (closed_within core.sizes A st.in_range st.accepted))
+
+  -- what a flush take would be answered
+  pub may_flush : (sro : ℕ) (o : Option ℕ) → sro ≡ core.offsets.safe_read_only → o ≡ NEXT_TO_FLUSH sro core.pages → (A : List Step) → Stands tag core A → unless_fault (unless_page NoneSealed o) (tt {0}) ≡ unless_fault (fault_of core.sizes A FlushTake) (tt {0})
+  may_flush sro o at is A st = ap (λ r. unless_fault (unless_page NoneSealed r) (tt {0})) (is ∙ ap (λ n. NEXT_TO_FLUSH n core.pages) at ∙ flush_found A st)
+
+  -- a clean take
+  pub may_clean : (end : ℕ) (o : Option ℕ) → end ≡ core.offsets.closed → o ≡ NEXT_TO_CLEAN end core.pages → (A : List Step) → Stands tag core A → unless_fault (unless_page NoneClosed o) (tt {0}) ≡ unless_fault (fault_of core.sizes A CleanTake) (tt {0})
+  may_clean end o at is A st = ap (λ r. unless_fault (unless_page NoneClosed r) (tt {0})) (is ∙ ap (λ n. NEXT_TO_CLEAN n core.pages) at ∙ clean_found A st)
+
+  -- the end of a flush
+  pub may_end_flush : (p : ℕ) (b : Bool) → b ≡ IN_FLIGHT p core.pages → (A : List Step) (ok : Bool) → Stands tag core A → unless_fault (cond b None (Some NotInFlight)) (tt {0}) ≡ unless_fault (fault_of core.sizes A (FlushDone p ok)) (tt {0})
+  may_end_flush p b is A ok st = ap (λ r. unless_fault (cond r None (Some NotInFlight)) (tt {0})) (is ∙ flight_found A p st)
+
+  -- the end of a cleaning
+  pub may_end_cleaning : (p : ℕ) (b : Bool) → b ≡ CLEANING p core.pages → (A : List Step) → Stands tag core A → unless_fault (cond b None (Some NotCleaning)) (tt {0}) ≡ unless_fault (fault_of core.sizes A (CleanDone p)) (tt {0})
+  may_end_cleaning p b is A st = ap (λ r. unless_fault (cond r None (Some NotCleaning)) (tt {0})) (is ∙ cleaning_found A p st)
+
+  -- each frame has its place
+  pub frame_fits : (f : ℕ) → IsStanding tag core → f < core.sizes.frames → f < length core.pages.frames
+  frame_fits f (A, st) h = omega (arith, h, ap (λ (pages : Pages). length pages.frames) st.pages_is, length-frames core.sizes A)
+
+  -- what a frame is said to be at
+  pub state_told : (f sro end : ℕ) (told : FrameState × Option ℕ) → f < core.sizes.frames → sro ≡ core.offsets.safe_read_only → end ≡ core.offsets.closed → told ≡ state_of f sro end core.pages → (A : List Step) → Stands tag core A → told ≡ frame_of core.sizes f A
+  state_told f sro end told h at_sro at_end is A st = is ∙ ap₂ (λ x y. state_of f x y core.pages) at_sro at_end ∙ state_found A f st h

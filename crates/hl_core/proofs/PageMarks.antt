@@ -1,0 +1,129 @@
+-- The frames of an accepted list know which pages are flushed, in flight, freed and being cleaned.
+use Rattle.std.proofs.Common.{◌≡◌, ℕ, ◌+◌, ◌-◌, ◌*◌, ◌/◌, ◌<◌, ◌≤◌, Bool, true, false, cond, not, ◌||◌, ltb, List, [], ◌∷◌, refl, sym, ap, ap₂, ◌∙◌, arith}
+use Rattle.std.specs.Prelude.{Some, find}
+use Rattle.std.specs.List.{range_with_len}
+use Rattle.std.proofs.lemmas.Bool.{lt-ltb, both_ways, false_from_ne_true}
+use Rattle.hl_model.specs.declared.step.Step.{Step}
+use Rattle.hl_model.specs.Sizes.{Sizes, AreInRange}
+use Rattle.hl_model.specs.Offsets.{tail, is_entered}
+use Rattle.hl_model.specs.Settled.{safe_read_only, closed}
+use Rattle.hl_model.specs.Pages.{is_flushed, is_in_flight, is_freed, is_cleaning, next_page, next_to_flush, next_to_clean}
+use Rattle.hl_model.specs.Frames.{may_enter}
+use Rattle.hl_model.specs.Laws.{AreInOrder}
+use Rattle.hl_model.specs.Replies.{IsAccepted}
+use Rattle.hl_model.proofs.PageFacts.{PagesKept, pages_kept}
+use Rattle.hl_model.proofs.OrderLaws.{offsets_are_in_order}
+use Rattle.hl_frames.specs.Pages.{is_unflushed, is_uncleaned, is_flushed as FLUSHED, is_in_flight as IN_FLIGHT, is_freed as FREED, is_cleaning as CLEANING, may_enter as MAY_ENTER, next_to_flush as NEXT_TO_FLUSH, next_to_clean as NEXT_TO_CLEAN}
+use Rattle.hl_core.specs.Standing.{pages_of}
+use Rattle.hl_core.proofs.PageRows.{length-frames, left_or_marked-is, is_marked-is}
+
+-- the sizes are not 0
+pub page_some : (sizes : Sizes) → AreInRange sizes → 0 < sizes.page
+page_some sizes range = omega (arith, range.page_least)
+
+-- nor are there no frames
+pub frames_some : (sizes : Sizes) → AreInRange sizes → 0 < sizes.frames
+frames_some sizes range = omega (arith, range.frames_least)
+
+-- what holds of the pages of an accepted list
+pub kept : (sizes : Sizes) (A : List Step) → AreInRange sizes → IsAccepted sizes A → PagesKept sizes A
+kept sizes A range a = pages_kept sizes A (page_some sizes range) (frames_some sizes range) a
+
+-- the offsets are in order
+pub in_order : (sizes : Sizes) (A : List Step) → AreInRange sizes → IsAccepted sizes A → AreInOrder sizes A
+in_order sizes A range a = offsets_are_in_order sizes A (page_some sizes range) a
+
+-- a page that ends at or below an address begins below it
+ends_entered : (page p end a : ℕ) → 0 < page → (p + 1) * page ≤ end → end ≤ a → p * page < a
+ends_entered page p end a some h le = let more : (p + 1) * page ≡ p * page + page = omega arith in omega arith
+
+-- sealed pages are entered
+pub sealed_entered : (sizes : Sizes) (A : List Step) (p : ℕ) → AreInRange sizes → IsAccepted sizes A → (p + 1) * sizes.page ≤ safe_read_only A → is_entered sizes p A ≡ true
+sealed_entered sizes A p range a h =
+    let order : AreInOrder sizes A = in_order sizes A range a in
+    lt-ltb (p * sizes.page) (tail sizes A) (ends_entered sizes.page p (safe_read_only A) (tail sizes A) (page_some sizes range) h (omega (arith, order.safe_read_only_most, order.read_only_most)))
+
+-- closed pages are sealed
+pub closed_sealed : (sizes : Sizes) (A : List Step) (p : ℕ) → AreInRange sizes → IsAccepted sizes A → (p + 1) * sizes.page ≤ closed A → (p + 1) * sizes.page ≤ safe_read_only A
+closed_sealed sizes A p range a h =
+    let order : AreInOrder sizes A = in_order sizes A range a in
+    omega (arith, order.closed_most, order.head_most, order.flushed_most)
+
+-- a page whose frame's next one is entered is freed
+pub left_freed : (sizes : Sizes) (A : List Step) (p : ℕ) → AreInRange sizes → IsAccepted sizes A → is_entered sizes (p + sizes.frames) A ≡ true → is_freed sizes p A ≡ true
+left_freed sizes A p range a e =
+    let same : p + sizes.frames - sizes.frames ≡ p = omega arith in
+    ap (λ q. is_freed sizes q A) (sym same) ∙ (kept sizes A range a).round_freed (p + sizes.frames) (omega arith) e
+
+-- and flushed
+pub left_flushed : (sizes : Sizes) (A : List Step) (p : ℕ) → AreInRange sizes → IsAccepted sizes A → is_entered sizes (p + sizes.frames) A ≡ true → is_flushed sizes p A ≡ true
+left_flushed sizes A p range a e = (kept sizes A range a).closed_flushed p ((kept sizes A range a).freed_closed p (left_freed sizes A p range a e))
+
+-- what makes a page sealed is told of none that isn't entered
+ahead : (sizes : Sizes) (A : List Step) (p : ℕ) (b : Bool) → AreInRange sizes → IsAccepted sizes A → (b ≡ true → (p + 1) * sizes.page ≤ safe_read_only A) → is_entered sizes p A ≡ false → b ≡ false
+ahead sizes A p b range a sealed e = false_from_ne_true b (λ t. both_ways (is_entered sizes p A) e (sealed_entered sizes A p range a (sealed t)))
+
+-- a page that isn't entered has no mark
+pub ahead_unflushed : (sizes : Sizes) (A : List Step) (p : ℕ) → AreInRange sizes → IsAccepted sizes A → is_entered sizes p A ≡ false → is_flushed sizes p A ≡ false
+ahead_unflushed sizes A p range a = ahead sizes A p (is_flushed sizes p A) range a ((kept sizes A range a).flushed_sealed p)
+
+-- nor is it in flight
+pub ahead_unflown : (sizes : Sizes) (A : List Step) (p : ℕ) → AreInRange sizes → IsAccepted sizes A → is_entered sizes p A ≡ false → is_in_flight sizes p A ≡ false
+ahead_unflown sizes A p range a = ahead sizes A p (is_in_flight sizes p A) range a ((kept sizes A range a).in_flight_sealed p)
+
+-- nor freed
+pub ahead_unfreed : (sizes : Sizes) (A : List Step) (p : ℕ) → AreInRange sizes → IsAccepted sizes A → is_entered sizes p A ≡ false → is_freed sizes p A ≡ false
+ahead_unfreed sizes A p range a = ahead sizes A p (is_freed sizes p A) range a (λ t. closed_sealed sizes A p range a ((kept sizes A range a).freed_closed p t))
+
+-- nor being cleaned
+pub ahead_uncleaned : (sizes : Sizes) (A : List Step) (p : ℕ) → AreInRange sizes → IsAccepted sizes A → is_entered sizes p A ≡ false → is_cleaning sizes p A ≡ false
+ahead_uncleaned sizes A p range a = ahead sizes A p (is_cleaning sizes p A) range a (λ t. closed_sealed sizes A p range a ((kept sizes A range a).cleaning_closed p t))
+
+-- flushed pages
+pub is_flushed-is : (sizes : Sizes) (A : List Step) (p : ℕ) → AreInRange sizes → IsAccepted sizes A → FLUSHED p (pages_of sizes A) ≡ is_flushed sizes p A
+is_flushed-is sizes A p range a =
+    left_or_marked-is sizes A p (λ held. held.flushed) (is_flushed sizes p A) range refl (left_flushed sizes A p range a) (ahead_unflushed sizes A p range a)
+
+-- freed pages
+pub is_freed-is : (sizes : Sizes) (A : List Step) (p : ℕ) → AreInRange sizes → IsAccepted sizes A → FREED p (pages_of sizes A) ≡ is_freed sizes p A
+is_freed-is sizes A p range a =
+    left_or_marked-is sizes A p (λ held. held.freed) (is_freed sizes p A) range refl (left_freed sizes A p range a) (ahead_unfreed sizes A p range a)
+
+-- pages in flight
+pub is_in_flight-is : (sizes : Sizes) (A : List Step) (p : ℕ) → AreInRange sizes → IsAccepted sizes A → IN_FLIGHT p (pages_of sizes A) ≡ is_in_flight sizes p A
+is_in_flight-is sizes A p range a =
+    is_marked-is sizes A p (λ held. held.in_flight) (is_in_flight sizes p A) range refl
+    (λ e. false_from_ne_true (is_in_flight sizes p A) (λ t. both_ways (is_flushed sizes p A) ((kept sizes A range a).in_flight_unflushed p t) (left_flushed sizes A p range a e)))
+    (ahead_unflown sizes A p range a)
+
+-- pages that are being cleaned
+pub is_cleaning-is : (sizes : Sizes) (A : List Step) (p : ℕ) → AreInRange sizes → IsAccepted sizes A → CLEANING p (pages_of sizes A) ≡ is_cleaning sizes p A
+is_cleaning-is sizes A p range a =
+    is_marked-is sizes A p (λ held. held.cleaning) (is_cleaning sizes p A) range refl
+    (λ e. false_from_ne_true (is_cleaning sizes p A) (λ t. both_ways (is_freed sizes p A) ((kept sizes A range a).cleaning_unfreed p t) (left_freed sizes A p range a e)))
+    (ahead_uncleaned sizes A p range a)
+
+-- what passes alike is found alike
+find_same : (f g : ℕ → Bool) (xs : List ℕ) → ((x : ℕ) → f x ≡ g x) → find f xs ≡ find g xs
+find_same f g [] same = refl
+find_same f g (x ∷ xs) same = ap₂ (λ b o. cond b (Some x) o) (same x) (find_same f g xs same)
+
+-- the page to flush
+pub next_to_flush-is : (sizes : Sizes) (A : List Step) → AreInRange sizes → IsAccepted sizes A → NEXT_TO_FLUSH (safe_read_only A) (pages_of sizes A) ≡ next_to_flush sizes A
+unfolding next_page
+next_to_flush-is sizes A range a =
+    find_same (is_unflushed (pages_of sizes A)) (λ p. not (is_flushed sizes p A || is_in_flight sizes p A)) (range_with_len 0 (safe_read_only A / sizes.page))
+    (λ p. ap₂ (λ b c. not (b || c)) (is_flushed-is sizes A p range a) (is_in_flight-is sizes A p range a))
+
+-- the page to clean
+pub next_to_clean-is : (sizes : Sizes) (A : List Step) → AreInRange sizes → IsAccepted sizes A → NEXT_TO_CLEAN (closed A) (pages_of sizes A) ≡ next_to_clean sizes A
+unfolding next_page
+next_to_clean-is sizes A range a =
+    find_same (is_uncleaned (pages_of sizes A)) (λ p. not (is_freed sizes p A || is_cleaning sizes p A)) (range_with_len 0 (closed A / sizes.page))
+    (λ p. ap₂ (λ b c. not (b || c)) (is_freed-is sizes A p range a) (is_cleaning-is sizes A p range a))
+
+-- whether a page may be entered
+pub may_enter-is : (sizes : Sizes) (A : List Step) (p : ℕ) → AreInRange sizes → IsAccepted sizes A → MAY_ENTER p (pages_of sizes A) ≡ may_enter sizes p A
+may_enter-is sizes A p range a =
+    ap (λ n. cond (ltb p n) true (FREED (p - n) (pages_of sizes A))) (length-frames sizes A)
+    ∙ ap (λ b. cond (ltb p sizes.frames) true b) (is_freed-is sizes A (p - sizes.frames) range a)

@@ -1,0 +1,194 @@
+-- The flushed offset, the pages up to an offset, and what each frame is at, by the frames of an accepted list.
+use Rattle.std.proofs.Common.{◌≡◌, ℕ, ◌+◌, ◌-◌, ◌*◌, ◌/◌, ◌%◌, ◌<◌, ◌≤◌, Bool, true, false, cond, ltb, leb, List, get_or, refl, sym, ap, ap₂, ◌∙◌, arith, inl, inr, ◌⊎◌}
+use Rattle.std.specs.Prelude.{Option, Some, None, option_map}
+use Rattle.std.specs.Int.{div_ceil}
+use Rattle.std.specs.List.{prefix_len, range_with_len}
+use Rattle.std.proofs.Math.Nat.{le-div_iff_mul-le, div-mul-le_self, div-add-mod, mod-lt, mul-le-mul_right, mul_comm}
+use Rattle.std.proofs.lemmas.Nat.{le-div}
+use Rattle.std.proofs.lemmas.Bool.{ltb-true, lt-ltb, le-ltb, le-leb, lt-leb, both_ways, cases_eq, cases_lt}
+use Rattle.std.proofs.lemmas.List.FromFn.{length-range_with_len, get_or-range_with_len}
+use Rattle.std.proofs.lemmas.List.Sums.{prefix_len-le-length, prefix_len_passes, prefix_len_stops}
+use Rattle.hl_model.specs.declared.frame.FrameState.{FrameState}
+use Rattle.hl_model.specs.declared.frame.FrameState.TheVariants.{Opened, Sealed, Flushed, Closed, Free}
+use Rattle.hl_model.specs.declared.step.Step.{Step}
+use Rattle.hl_model.specs.Sizes.{Sizes, AreInRange}
+use Rattle.hl_model.specs.Offsets.{tail, is_entered}
+use Rattle.hl_model.specs.Settled.{safe_read_only, closed}
+use Rattle.hl_model.specs.Pages.{is_flushed, is_freed, flushed_run, flushed}
+use Rattle.hl_model.specs.Frames.{last_entered, state_of_page, frame_of}
+use Rattle.hl_model.specs.Laws.{AreInOrder}
+use Rattle.hl_model.specs.Replies.{IsAccepted}
+use Rattle.hl_model.proofs.RunLaws.{flushed_run-is}
+use Rattle.hl_frames.specs.Pages.{pages_below, flushed_offset, is_flushed as FLUSHED, flushed_run as FLUSHED_RUN}
+use Rattle.hl_frames.specs.Answers.{state_in, state_of}
+use Rattle.hl_core.specs.Standing.{marked, pages_entered, pages_of}
+use Rattle.hl_core.proofs.PageRows.{frame_holds}
+use Rattle.hl_core.proofs.PageMarks.{page_some, in_order, is_flushed-is, ahead_unflushed}
+
+-- a page below the number of those that begin below an address begins there
+begins_before : (page end q : ℕ) → 0 < page → q < (end + page - 1) / page → q * page < end
+begins_before page end q some h =
+    let upper : q + 1 ≤ (end + page - 1) / page = omega arith in
+    let step : (q + 1) * page ≤ end + page - 1 = (le-div_iff_mul-le some).0 upper in
+    let more : (q + 1) * page ≡ q * page + page = omega arith in
+    omega arith
+
+-- and one that begins there is below the number
+counts_before : (page end q : ℕ) → 0 < page → q * page < end → q < (end + page - 1) / page
+counts_before page end q some h =
+    let more : (q + 1) * page ≡ q * page + page = omega arith in
+    let step : (q + 1) * page ≤ end + page - 1 = omega arith in
+    let upper : q + 1 ≤ (end + page - 1) / page = (le-div_iff_mul-le some).1 step in
+    omega arith
+
+-- no page at or above the number begins below the address
+ends_past : (x page q : ℕ) → 0 < page → div_ceil x page ≤ q → q * page < x → ⊥
+ends_past x page q some past lt = by_rest (cases_eq (x % page) 0)
+  where
+    by_rest : ((x % page ≡ 0) ⊎ (x % page ≡ 0 → ⊥)) → ⊥
+    by_rest (inl none) =
+        let step : x / page * page ≤ q * page = mul-le-mul_right page (omega arith) in
+        let swap : x / page * page ≡ page * (x / page) = mul_comm (x / page) page in
+        omega (arith, div-add-mod x page)
+    by_rest (inr some_rest) =
+        let step : (x / page + 1) * page ≤ q * page = mul-le-mul_right page (omega (arith, some_rest)) in
+        let more : (x / page + 1) * page ≡ x / page * page + page = omega arith in
+        let swap : x / page * page ≡ page * (x / page) = mul_comm (x / page) page in
+        omega (arith, div-add-mod x page, mod-lt x some)
+
+-- so many pages begin below an address, a part of one counted
+pub ceil-starts : (x page q : ℕ) → 0 < page → ltb q (div_ceil x page) ≡ ltb (q * page) x
+ceil-starts x page q some = by_order (cases_lt (q * page) x) (cases_lt q (x / page))
+  where
+    by_order : ((q * page < x) ⊎ (x ≤ q * page)) → ((q < x / page) ⊎ (x / page ≤ q)) → ltb q (div_ceil x page) ≡ ltb (q * page) x
+    by_order (inl lt) (inl less) = lt-ltb q (div_ceil x page) (omega arith) ∙ sym (lt-ltb (q * page) x lt)
+    by_order (inl lt) (inr more) = lt-ltb q (div_ceil x page) (by_end (cases_lt q (div_ceil x page))) ∙ sym (lt-ltb (q * page) x lt)
+      where
+        by_end : ((q < div_ceil x page) ⊎ (div_ceil x page ≤ q)) → q < div_ceil x page
+        by_end (inl here) = here
+        by_end (inr past) = absurd (ends_past x page q some past lt)
+    by_order (inr ge) (inl less) =
+        let upper : q + 1 ≤ x / page = omega arith in
+        let step : (q + 1) * page ≤ x = (le-div_iff_mul-le some).0 upper in
+        let more : (q + 1) * page ≡ q * page + page = omega arith in
+        absurd (omega arith)
+    by_order (inr ge) (inr more) = le-ltb q (div_ceil x page) (by_end (cases_lt q (div_ceil x page))) ∙ sym (le-ltb (q * page) x ge)
+      where
+        by_end : ((q < div_ceil x page) ⊎ (div_ceil x page ≤ q)) → div_ceil x page ≤ q
+        by_end (inr past) = past
+        by_end (inl here) =
+            let same : q ≡ x / page = omega arith in
+            let whole : q * page ≡ x / page * page = ap (λ n. n * page) same in
+            let swap : x / page * page ≡ page * (x / page) = mul_comm (x / page) page in
+            absurd (omega (arith, div-add-mod x page))
+
+-- the pages entered are those below their number
+pub below_entered : (sizes : Sizes) (A : List Step) (q : ℕ) → 0 < sizes.page → q < pages_entered sizes A → is_entered sizes q A ≡ true
+below_entered sizes A q some h = lt-ltb (q * sizes.page) (tail sizes A) (begins_before sizes.page (tail sizes A) q some h)
+
+-- and entered pages are below it
+pub entered_below : (sizes : Sizes) (A : List Step) (q : ℕ) → 0 < sizes.page → is_entered sizes q A ≡ true → q < pages_entered sizes A
+entered_below sizes A q some e = counts_before sizes.page (tail sizes A) q some (ltb-true (q * sizes.page) (tail sizes A) e)
+
+-- as a test
+pub is_entered-is : (sizes : Sizes) (A : List Step) (q : ℕ) → 0 < sizes.page → ltb q (pages_entered sizes A) ≡ is_entered sizes q A
+is_entered-is sizes A q some = by_order (cases_lt q (pages_entered sizes A))
+  where
+    by_order : ((q < pages_entered sizes A) ⊎ (pages_entered sizes A ≤ q)) → ltb q (pages_entered sizes A) ≡ is_entered sizes q A
+    by_order (inl lt) = lt-ltb q (pages_entered sizes A) lt ∙ sym (below_entered sizes A q some lt)
+    by_order (inr ge) =
+        le-ltb q (pages_entered sizes A) ge
+        ∙ sym (le-ltb (q * sizes.page) (tail sizes A) (by_start (cases_lt (q * sizes.page) (tail sizes A))))
+      where
+        by_start : ((q * sizes.page < tail sizes A) ⊎ (tail sizes A ≤ q * sizes.page)) → tail sizes A ≤ q * sizes.page
+        by_start (inl lt) = let upper : q < pages_entered sizes A = counts_before sizes.page (tail sizes A) q some lt in absurd (omega arith)
+        by_start (inr le) = le
+
+-- where the pages below a number are entered, and that one isn't, so many are entered
+pub pages_entered-is : (sizes : Sizes) (A : List Step) (n : ℕ) → 0 < sizes.page → ((p : ℕ) → p < n → is_entered sizes p A ≡ true) → is_entered sizes n A ≡ false → pages_entered sizes A ≡ n
+pages_entered-is sizes A n some each none = by_order (cases_lt (pages_entered sizes A) n) (cases_lt n (pages_entered sizes A))
+  where
+    by_order : ((pages_entered sizes A < n) ⊎ (n ≤ pages_entered sizes A)) → ((n < pages_entered sizes A) ⊎ (pages_entered sizes A ≤ n)) → pages_entered sizes A ≡ n
+    by_order (inl lt) other = let over : pages_entered sizes A < pages_entered sizes A = entered_below sizes A (pages_entered sizes A) some (each (pages_entered sizes A) lt) in absurd (omega arith)
+    by_order (inr ge) (inl gt) = absurd (both_ways (is_entered sizes n A) none (below_entered sizes A n some gt))
+    by_order (inr ge) (inr le) = omega arith
+
+-- fewer pages end at or below a lower address
+pages_more : (page a b : ℕ) → 0 < page → a ≤ b → a / page ≤ b / page
+pages_more page a b some le = le-div (a / page) b page some (omega (arith, div-mul-le_self a page))
+
+-- sealed pages are entered
+pub sealed_within : (sizes : Sizes) (A : List Step) → AreInRange sizes → IsAccepted sizes A → pages_below (safe_read_only A) (pages_of sizes A) ≤ pages_entered sizes A
+sealed_within sizes A range a =
+    let order : AreInOrder sizes A = in_order sizes A range a in
+    pages_more sizes.page (safe_read_only A) (tail sizes A + sizes.page - 1) (page_some sizes range)
+    (omega (arith, page_some sizes range, order.safe_read_only_most, order.read_only_most))
+
+-- the numbers of a run pass
+run_passes : (test : ℕ → Bool) (n k : ℕ) → k < prefix_len test (range_with_len 0 n) → test k ≡ true
+run_passes test n k h =
+    let within : k < n = omega (arith, prefix_len-le-length test (range_with_len 0 n), length-range_with_len 0 n) in
+    let there : get_or (range_with_len 0 n) k 0 ≡ k = omega (arith, get_or-range_with_len 0 n k 0 within) in
+    ap test (sym there) ∙ prefix_len_passes test (range_with_len 0 n) k 0 h
+
+-- the number behind a run fails
+run_fails : (test : ℕ → Bool) (n : ℕ) → test n ≡ false → test (prefix_len test (range_with_len 0 n)) ≡ false
+run_fails test n none = by_order (cases_lt (prefix_len test (range_with_len 0 n)) n)
+  where
+    by_order : ((prefix_len test (range_with_len 0 n) < n) ⊎ (n ≤ prefix_len test (range_with_len 0 n))) → test (prefix_len test (range_with_len 0 n)) ≡ false
+    by_order (inl lt) =
+        let there : get_or (range_with_len 0 n) (prefix_len test (range_with_len 0 n)) 0 ≡ prefix_len test (range_with_len 0 n) = omega (arith, get_or-range_with_len 0 n (prefix_len test (range_with_len 0 n)) 0 lt) in
+        ap test (sym there) ∙ prefix_len_stops test (range_with_len 0 n) 0 (omega (arith, length-range_with_len 0 n))
+    by_order (inr ge) =
+        let all : prefix_len test (range_with_len 0 n) ≡ n = omega (arith, prefix_len-le-length test (range_with_len 0 n), length-range_with_len 0 n) in
+        ap test all ∙ none
+
+-- the next page isn't entered
+pub unentered_end : (sizes : Sizes) (A : List Step) → 0 < sizes.page → is_entered sizes (pages_entered sizes A) A ≡ false
+unentered_end sizes A some = sym (is_entered-is sizes A (pages_entered sizes A) some) ∙ le-ltb (pages_entered sizes A) (pages_entered sizes A) (omega arith)
+
+-- the run of flushed pages
+pub flushed_run-same : (sizes : Sizes) (A : List Step) → AreInRange sizes → IsAccepted sizes A → FLUSHED_RUN (pages_of sizes A) ≡ flushed_run sizes A
+flushed_run-same sizes A range a =
+    sym (flushed_run-is sizes A (FLUSHED_RUN (pages_of sizes A))
+    (λ p h. sym (is_flushed-is sizes A p range a) ∙ run_passes (λ q. FLUSHED q (pages_of sizes A)) (pages_entered sizes A) p h)
+    (sym (is_flushed-is sizes A (FLUSHED_RUN (pages_of sizes A)) range a)
+    ∙ run_fails (λ q. FLUSHED q (pages_of sizes A)) (pages_entered sizes A)
+    (is_flushed-is sizes A (pages_entered sizes A) range a ∙ ahead_unflushed sizes A (pages_entered sizes A) range a (unentered_end sizes A (page_some sizes range)))))
+
+-- the flushed offset
+pub pages_of-flushed : (sizes : Sizes) (A : List Step) → AreInRange sizes → IsAccepted sizes A → flushed_offset (pages_of sizes A) ≡ flushed sizes A
+pages_of-flushed sizes A range a = ap (λ n. n * sizes.page) (flushed_run-same sizes A range a) ∙ mul_comm (flushed_run sizes A) sizes.page
+
+-- closed pages are flushed
+pub closed_within : (sizes : Sizes) (A : List Step) → AreInRange sizes → IsAccepted sizes A → closed A ≤ flushed_offset (pages_of sizes A)
+closed_within sizes A range a =
+    let order : AreInOrder sizes A = in_order sizes A range a in
+    omega (arith, pages_of-flushed sizes A range a, order.closed_most, order.head_most)
+
+-- a page is below the number of those that end at or below an address where it ends there
+ends_core : (page p a : ℕ) → 0 < page → ltb p (a / page) ≡ leb ((p + 1) * page) a
+ends_core page p a some = by_order (cases_lt p (a / page))
+  where
+    by_order : ((p < a / page) ⊎ (a / page ≤ p)) → ltb p (a / page) ≡ leb ((p + 1) * page) a
+    by_order (inl lt) =
+        let upper : p + 1 ≤ a / page = omega arith in
+        lt-ltb p (a / page) lt ∙ sym (le-leb ((p + 1) * page) a ((le-div_iff_mul-le some).0 upper))
+    by_order (inr ge) = le-ltb p (a / page) ge ∙ sym (lt-leb ((p + 1) * page) a (by_end (cases_lt a ((p + 1) * page))))
+      where
+        by_end : ((a < (p + 1) * page) ⊎ ((p + 1) * page ≤ a)) → a < (p + 1) * page
+        by_end (inl lt) = lt
+        by_end (inr le) = let upper : p + 1 ≤ a / page = (le-div_iff_mul-le some).1 le in absurd (omega arith)
+
+-- what a frame is at, told its last page
+state_same : (sizes : Sizes) (A : List Step) (o : Option ℕ) → 0 < sizes.page → state_in (safe_read_only A / sizes.page) (closed A / sizes.page) (option_map (marked sizes A) o) ≡ state_of_page sizes A o
+state_same sizes A None some = refl
+state_same sizes A (Some p) some =
+    ap₂ (λ (shut safe : Bool). cond {A = FrameState × Option ℕ} (is_freed sizes p A) (Free, None) (cond shut (Closed, Some p) (cond (is_flushed sizes p A) (Flushed, Some p) (cond safe (Sealed, Some p) (Opened, Some p)))))
+    (ends_core sizes.page p (closed A) some) (ends_core sizes.page p (safe_read_only A) some)
+
+-- what a frame is at
+pub frame_of-is : (sizes : Sizes) (A : List Step) (f : ℕ) → AreInRange sizes → f < sizes.frames → state_of f (safe_read_only A) (closed A) (pages_of sizes A) ≡ frame_of sizes f A
+frame_of-is sizes A f range h =
+    ap (λ o. state_in (safe_read_only A / sizes.page) (closed A / sizes.page) o) (frame_holds sizes A f h)
+    ∙ state_same sizes A (last_entered sizes f A) (page_some sizes range)

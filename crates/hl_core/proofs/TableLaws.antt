@@ -1,0 +1,64 @@
+-- What the table of a list answers, and what it is after a step.
+use Rattle.std.proofs.Common.{◌≡◌, ℕ, ◌+◌, Bool, true, false, cond, leb, is_some, List, [], ◌∷◌, ◌++◌, get_or, refl, sym, ap, ap₂, ◌∙◌, add-zero}
+use Rattle.std.specs.Prelude.{Option, Some, None, Ok, Err}
+use Rattle.std.proofs.lemmas.Bool.{leb-false}
+use Rattle.hl_model.specs.declared.fault.Fault.{Fault}
+use Rattle.hl_model.specs.declared.fault.Fault.TheVariants.{NoSlot, Occupied, NotProtected}
+use Rattle.hl_model.specs.declared.step.Step.{Step}
+use Rattle.hl_model.specs.Sizes.{Sizes}
+use Rattle.hl_model.specs.Epochs.{Table, table_of, is_bump, enters, leaves, current_epoch, slot_epochs, is_protected}
+use Rattle.hl_model.specs.Replies.{acquire_fault, protected_fault}
+use Rattle.hl_model.proofs.EpochLaws.{current_epoch-push, slot_epochs-stay, length-slot_epochs, slot_epochs-at, is_protected-slot_epoch}
+use Rattle.hl_epoch.specs.Faults.{acquire_fault as free_row_fault, protected_fault as row_fault, answered, after}
+
+-- an answer that is a fault
+pub answered_err : {X : Type 0} (o : Option Fault) (f : Fault) (x : X) → Err f ≡ answered o x → o ≡ Some f
+answered_err None f x h = cc
+answered_err (Some g) f x h = cc
+
+-- an answer that is none
+pub answered_ok : {X : Type 0} (o : Option Fault) (v x : X) → Ok v ≡ answered o x → (o ≡ None) × (v ≡ x)
+answered_ok None v x h = (refl, cc)
+answered_ok (Some g) v x h = cc
+
+-- a table that refuses stays as it was
+pub table_refuses : (o : Option Fault) (f : Fault) (old good new : Table) → Err f ≡ answered o (tt {0}) → new ≡ after o old good → (o ≡ Some f) × (new ≡ old)
+table_refuses o f old good new h e = let some : o ≡ Some f = answered_err o f (tt {0}) h in (some, e ∙ ap (λ p. after p old good) some)
+
+-- and moves where it accepts
+pub table_accepts : (o : Option Fault) (old good new : Table) → Ok (tt {0}) ≡ answered o (tt {0}) → new ≡ after o old good → (o ≡ None) × (new ≡ good)
+table_accepts o old good new h e = let none : o ≡ None = (answered_ok o (tt {0}) (tt {0}) h).0 in (none, e ∙ ap (λ p. after p old good) none)
+
+abbrev pub make : ℕ → ℕ → List (Option ℕ) → Table
+make drain current epochs = record { current = current; epochs = epochs; drain = drain }
+
+-- the current epoch stays where nothing is stored
+pub current-stays : (A : List Step) (s : Step) → is_bump s ≡ false → current_epoch (A ++ s ∷ []) ≡ current_epoch A
+current-stays A s h = current_epoch-push A s ∙ ap (λ b. current_epoch A + cond b 1 0) h ∙ add-zero (current_epoch A)
+
+-- the table after a step that sets one slot
+pub table_set : (sizes : Sizes) (A : List Step) (s : Step) (slots : List (Option ℕ)) → is_bump s ≡ false → slot_epochs sizes.slots (A ++ s ∷ []) ≡ slots → make sizes.drain (current_epoch A) slots ≡ table_of sizes (A ++ s ∷ [])
+table_set sizes A s slots h e = ap₂ (make sizes.drain) (sym (current-stays A s h)) (sym e)
+
+-- the table after a step that moves no slot and stores nothing
+pub table_stays : (sizes : Sizes) (A : List Step) (s : Step) (table : Table) → table ≡ table_of sizes A → is_bump s ≡ false → ((t : ℕ) → enters t s ≡ false) → ((t : ℕ) → leaves t s ≡ false) → table ≡ table_of sizes (A ++ s ∷ [])
+table_stays sizes A s table t no_bump e l = t ∙ ap₂ (make sizes.drain) (sym (current-stays A s no_bump)) (sym (slot_epochs-stay sizes.slots A s e l))
+
+protected_at : (sizes : Sizes) (A : List Step) (t : ℕ) → leb sizes.slots t ≡ false → is_some (get_or (slot_epochs sizes.slots A) t None) ≡ is_protected t A
+protected_at sizes A t h = ap is_some (slot_epochs-at sizes.slots A t None (leb-false sizes.slots t h)) ∙ sym (is_protected-slot_epoch t A)
+
+-- a table refuses an acquire as the definitions do
+pub acquire_fault-table : (sizes : Sizes) (A : List Step) (t : ℕ) → free_row_fault t (table_of sizes A) ≡ acquire_fault sizes A t
+acquire_fault-table sizes A t = ap (λ n. cond (leb n t) (Some NoSlot) (cond (is_some (get_or (slot_epochs sizes.slots A) t None)) (Some Occupied) None)) (length-slot_epochs sizes.slots A) ∙ by_test (leb sizes.slots t) refl
+  where
+    by_test : (b : Bool) → leb sizes.slots t ≡ b → cond (leb sizes.slots t) (Some NoSlot) (cond (is_some (get_or (slot_epochs sizes.slots A) t None)) (Some Occupied) None) ≡ cond (leb sizes.slots t) (Some NoSlot) (cond (is_protected t A) (Some Occupied) None)
+    by_test true h = ap (λ b. cond b (Some NoSlot) (cond (is_some (get_or (slot_epochs sizes.slots A) t None)) (Some Occupied) None)) h ∙ sym (ap (λ b. cond b (Some NoSlot) (cond (is_protected t A) (Some Occupied) None)) h)
+    by_test false h = ap (λ p. cond (leb sizes.slots t) (Some NoSlot) (cond p (Some Occupied) None)) (protected_at sizes A t h)
+
+-- and a refresh and a release
+pub protected_fault-table : (sizes : Sizes) (A : List Step) (t : ℕ) → row_fault t (table_of sizes A) ≡ protected_fault sizes A t
+protected_fault-table sizes A t = ap (λ n. cond (leb n t) (Some NoSlot) (cond (is_some (get_or (slot_epochs sizes.slots A) t None)) None (Some NotProtected))) (length-slot_epochs sizes.slots A) ∙ by_test (leb sizes.slots t) refl
+  where
+    by_test : (b : Bool) → leb sizes.slots t ≡ b → cond (leb sizes.slots t) (Some NoSlot) (cond (is_some (get_or (slot_epochs sizes.slots A) t None)) None (Some NotProtected)) ≡ cond (leb sizes.slots t) (Some NoSlot) (cond (is_protected t A) None (Some NotProtected))
+    by_test true h = ap (λ b. cond b (Some NoSlot) (cond (is_some (get_or (slot_epochs sizes.slots A) t None)) None (Some NotProtected))) h ∙ sym (ap (λ b. cond b (Some NoSlot) (cond (is_protected t A) None (Some NotProtected))) h)
+    by_test false h = ap (λ p. cond (leb sizes.slots t) (Some NoSlot) (cond p None (Some NotProtected))) (protected_at sizes A t h)

@@ -1,0 +1,18 @@
+use Rattle.std.proofs.Common.{sym}
+use Rattle.std.proofs.lemmas.Result.{err_from_is_err_and}
+use Rattle.hl_core.proofs.SlotStands.{still_stands}
+use Rattle.hl_core.proofs.PageSteps.{flush_done_err, flush_done_ok}
+use Rattle.hl_core.proofs.state.Core.flush_done.Goals as goal
+
+pub returns-in_err-flushed-clause-made : goal.returns-in_err-flushed-clause-made
+returns-in_err-flushed-clause-made g c =
+    let p = err_from_is_err_and c.from_residual.result c.from_residual.ensures.1 in
+    rw (p.1, p.2, sym c.self.view_is) (flush_done_err g.J.Tagged.tag _ c.args.page c.args.ok c.in_err-flushed.field-0.0 c.flush_done.new.self c.in_err-flushed.ensures.answer c.in_err-flushed.ensures.pages)
+
+pub invariant_of-self-2 : goal.invariant_of-self-2
+invariant_of-self-2 g c =
+    still_stands g.J.Tagged.tag _ _ _ _ c.self.invariant (flush_done_ok g.J.Tagged.tag _ c.args.page c.args.ok c.in_ok-flushed.flushed c.flush_done.new.self c.in_ok-flushed.ensures.answer c.in_ok-flushed.ensures.pages)
+
+pub returns-clause-made : goal.returns-clause-made
+returns-clause-made g c =
+    rw (sym c.self.view_is) (flush_done_ok g.J.Tagged.tag _ c.args.page c.args.ok c.in_ok-flushed.flushed c.flush_done.new.self c.in_ok-flushed.ensures.answer c.in_ok-flushed.ensures.pages)

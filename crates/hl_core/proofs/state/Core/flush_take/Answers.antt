@@ -1,0 +1,18 @@
+use Rattle.std.proofs.Common.{sym}
+use Rattle.std.proofs.lemmas.Result.{err_from_is_err_and}
+use Rattle.hl_core.proofs.SlotStands.{still_stands}
+use Rattle.hl_core.proofs.PageSteps.{flush_take_err, flush_take_ok}
+use Rattle.hl_core.proofs.state.Core.flush_take.Goals as goal
+
+pub returns-in_err-page-clause-made : goal.returns-in_err-page-clause-made
+returns-in_err-page-clause-made g c =
+    let p = err_from_is_err_and c.from_residual.result c.from_residual.ensures.1 in
+    rw (p.1, p.2, sym c.self.view_is) (flush_take_err g.J.Tagged.tag _ _ c.in_err-page.field-0.0 c.flush_take.new.self c.safe_read_only-safe_read_only.ensures.value c.in_err-page.ensures.answer c.in_err-page.ensures.pages)
+
+pub invariant_of-self-2 : goal.invariant_of-self-2
+invariant_of-self-2 g c =
+    still_stands g.J.Tagged.tag _ _ _ _ c.self.invariant (flush_take_ok g.J.Tagged.tag _ _ c.in_ok-page.page c.flush_take.new.self c.safe_read_only-safe_read_only.ensures.value c.in_ok-page.ensures.answer c.in_ok-page.ensures.pages)
+
+pub returns-clause-made : goal.returns-clause-made
+returns-clause-made g c =
+    rw (sym c.self.view_is) (flush_take_ok g.J.Tagged.tag _ _ c.in_ok-page.page c.flush_take.new.self c.safe_read_only-safe_read_only.ensures.value c.in_ok-page.ensures.answer c.in_ok-page.ensures.pages)

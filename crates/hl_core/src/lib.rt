@@ -1,0 +1,47 @@
+//! The core of the allocator: a state machine over steps, which keeps quantities and never the steps.
+//!
+//! After FASTER (Chandramouli, Prasaad, Kossmann, Levandoski, Hunter, Barnett, SIGMOD 2018): its epoch protection
+//! framework and the page allocator of its HybridLog. Threads are known by slots, words by addresses; a core has
+//! neither threads nor words. It may be put under any lock.
+//!
+//! # What it is made of
+//!
+//! | Part | What it knows |
+//! |---|---|
+//! | a table of epochs | the current epoch, and each slot's, if it is protected |
+//! | a row of views | what each protected slot saw of the offsets |
+//! | a drain list | the actions that wait, and those taken and not done |
+//! | offsets | five of the six, under their order |
+//! | frames | which pages are entered, in flight, flushed, being cleaned, freed; so the sixth offset |
+//!
+//! # One step
+//!
+//! [`Core::act`] makes a step: the faults are tried in their order, and a refused step leaves all as it was. A bump
+//! and a take are calls of their own ([`Core::bump`], [`Core::take`]), since a job goes in or comes out. Over bare
+//! tags [`Core::step`] makes every step, and [`Core::run`] a row of them. [`Core::check`] tells the fault that a step
+//! would meet.
+//!
+//! # Standing at a list
+//!
+//! A core stands at a list of accepted steps where its quantities are those that hl_model defines for the list:
+//! `Stands` in `specs/Standing.antt`. Each core stands at some list: that is in its type. Each call says: at
+//! whatever list the core stood, the reply is the definitions' reply after that list, and the core then stands at
+//! the list with the step, where it was accepted. It holds over every table that meets `Epochs`.
+//!
+//! No call after [`Core::open`] takes memory.
+#![tactic(auto)]
+
+mod act;
+mod actions;
+mod check;
+mod log;
+mod pages;
+mod queries;
+mod run;
+mod slots;
+mod state;
+
+pub use state::Core;
+
+#[cfg(test)]
+mod tests;

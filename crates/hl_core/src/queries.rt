@@ -1,0 +1,95 @@
+ghost use Rattle.std.specs.Prelude.{◌≡◌, ◌<◌, ◌≤◌, List, IfSome, count_by, is_some};
+ghost use Rattle.hl_model.specs.declared.step.Step.{Step};
+ghost use Rattle.hl_model.specs.Actions.{pending};
+ghost use Rattle.hl_model.specs.Views.{slot_view};
+ghost use Rattle.hl_model.specs.Frames.{frame_of};
+ghost use Rattle.hl_model.specs.Snapshots.{six, snapshot_of};
+ghost use Rattle.hl_offsets.specs.Log.{AreSix};
+ghost use Rattle.hl_core.specs.Standing.{Stands};
+
+use crate::state::Core;
+use arrayvec::ArrayVec;
+use hl_epoch::Epochs;
+use hl_model::{FrameState, Params, Six, Snapshot, Tagged, View, Waiting};
+
+impl<E: Epochs, J: Tagged> Core<E, J> {
+    /// The sizes that it was opened with.
+    pub fn params(&self) -> Params
+        ensures { result ≡ self.now.sizes }
+    {
+        self.params
+    }
+
+    /// The view of slot t. None where the slot isn't protected, or t is S or more.
+    pub fn view(&self, t: u64) -> Option<View>
+        ensures value { (A : List Step) → Stands J.tag self.now A → result ≡ slot_view self.now.sizes t A }
+        ensures bounded { let log = self.now.offsets
+            in IfSome result (λ view. (log.safe_read_only ≤ view.read_only) × (log.closed ≤ view.head)) }
+    {
+        *self.views.get(t as usize)?
+    }
+
+    /// The six offsets.
+    pub fn six(&self) -> Six
+        ensures value { (A : List Step) → Stands J.tag self.now A → result ≡ six self.now.sizes A }
+        ensures in_order { AreSix self.now.sizes.page result }
+    {
+        self.offsets.six(self.frames.flushed_until())
+    }
+
+    /// All quantities.
+    pub fn snapshot(&self) -> Snapshot
+        ensures { (A : List Step) → Stands J.tag self.now A → result ≡ snapshot_of self.now.sizes A }
+    {
+        Snapshot {
+            epoch: self.table.current(),
+            safe: self.table.safe(),
+            protected: self.protected(),
+            pending: self.drain.pending().len() as u64,
+            taken: self.drain.taken().len() as u64,
+            six: self.six(),
+            frames: self.frame_counts(),
+        }
+    }
+
+    /// The pending actions, oldest first.
+    pub fn pending(&self) -> ArrayVec<Waiting, 64>
+        ensures { (A : List Step) → Stands J.tag self.now A → result.items ≡ pending A }
+    {
+        self.drain.pending()
+    }
+
+    /// The state of frame f, which is below F, and its last entered page; None where it is free.
+    pub fn frame(&self, f: u64) -> (FrameState, Option<u64>)
+        requires { f < self.now.sizes.frames }
+        ensures { (A : List Step) → Stands J.tag self.now A → result ≡ frame_of self.now.sizes f A }
+    {
+        self.frames
+            .state(f, self.offsets.safe_read_only(), self.offsets.closed())
+    }
+
+    /// How many slots are protected.
+    fn protected(&self) -> u64
+        ensures { result ≡ count_by is_some self.now.views }
+    {
+        self.views.iter().filter(|view| view.is_some()).count() as u64
+    }
+
+    /// How many frames are open, sealed, flushed, closed and free.
+    fn frame_counts(&self) -> [u64; 5]
+        ensures { (A : List Step) → Stands J.tag self.now A → result ≡ (snapshot_of self.now.sizes A).frames }
+    {
+        let mut counts = [0; 5];
+        for f in 0..self.params.frames() {
+            let place = match self.frame(f).0 {
+                FrameState::Opened => 0,
+                FrameState::Sealed => 1,
+                FrameState::Flushed => 2,
+                FrameState::Closed => 3,
+                FrameState::Free => 4,
+            };
+            counts[place] += 1;
+        }
+        counts
+    }
+}

@@ -1,0 +1,75 @@
+ghost use Rattle.std.specs.Prelude.{◌≡◌, List, OnErr};
+ghost use Rattle.hl_model.specs.declared.step.Step.{Step};
+ghost use Rattle.hl_model.specs.declared.step.Step.TheVariants.{Acquire as ACQUIRE, Refresh as REFRESH, Release as RELEASE};
+ghost use Rattle.hl_model.specs.Views.{view_of};
+ghost use Rattle.hl_model.specs.Replies.{protected_fault, unless_fault};
+ghost use Rattle.hl_core.specs.Standing.{Stands};
+ghost use Rattle.hl_core.specs.Steps.{Made};
+
+use crate::state::Core;
+use hl_epoch::Epochs;
+use hl_model::{Fault, Reply, Tagged, View};
+
+impl<E: Epochs, J: Tagged> Core<E, J> {
+    /// Slot t becomes protected: its epoch and its view are those of now.
+    pub(crate) fn acquire(&mut self, t: u64) -> Result<Reply, Fault>
+        ensures made { Made J.tag self.old (ACQUIRE t) self.new result }
+        ensures refused { OnErr result (self.new ≡ self.old) }
+        ensures jobs { self.new.drain.pending ≡ self.old.drain.pending }
+        ensures sizes { self.new.sizes ≡ self.old.sizes }
+    {
+        let view = self.present();
+        self.table.acquire(t)?;
+        self.views[t as usize] = Some(view);
+        let epoch = self.table.current();
+        Ok(Reply::Entered { epoch, view })
+    }
+
+    /// Slot t moves on: its epoch and its view are those of now.
+    pub(crate) fn refresh(&mut self, t: u64) -> Result<Reply, Fault>
+        ensures made { Made J.tag self.old (REFRESH t) self.new result }
+        ensures refused { OnErr result (self.new ≡ self.old) }
+        ensures jobs { self.new.drain.pending ≡ self.old.drain.pending }
+        ensures sizes { self.new.sizes ≡ self.old.sizes }
+    {
+        let view = self.present();
+        self.table.refresh(t)?;
+        self.views[t as usize] = Some(view);
+        let epoch = self.table.current();
+        Ok(Reply::Entered { epoch, view })
+    }
+
+    /// Slot t is protected no longer.
+    pub(crate) fn release(&mut self, t: u64) -> Result<Reply, Fault>
+        ensures made { Made J.tag self.old (RELEASE t) self.new result }
+        ensures refused { OnErr result (self.new ≡ self.old) }
+        ensures jobs { self.new.drain.pending ≡ self.old.drain.pending }
+        ensures sizes { self.new.sizes ≡ self.old.sizes }
+    {
+        self.table.release(t)?;
+        self.views[t as usize] = None;
+        Ok(Reply::Left)
+    }
+
+    /// The view of a protected slot, or the fault of a slot that isn't.
+    pub(crate) fn seen(&self, t: u64) -> Result<View, Fault>
+        ensures { (A : List Step) → Stands J.tag self.now A → result ≡ unless_fault (protected_fault self.now.sizes A t) (view_of self.now.sizes t A) }
+    {
+        match self.views.get(t as usize) {
+            None => Err(Fault::NoSlot),
+            Some(None) => Err(Fault::NotProtected),
+            Some(Some(view)) => Ok(*view),
+        }
+    }
+
+    /// The view of whoever enters now.
+    fn present(&self) -> View
+        ensures { let log = self.now.offsets in result ≡ record { read_only = log.read_only; head = log.head; tail = log.tail } }
+    {
+        View {
+            read_only: self.offsets.read_only(),
+            head: self.offsets.head(),
+            tail: self.offsets.tail(),
+        }
+    }
+}

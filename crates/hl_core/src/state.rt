@@ -1,0 +1,80 @@
+ghost use Rattle.std.specs.Prelude.{◌≡◌, [], replicate, IfOk, IfErr};
+
+use hl_drain::Drain;
+use hl_epoch::Epochs;
+use hl_frames::Frames;
+use hl_model::{Fault, Params, Tagged, View};
+use hl_offsets::Offsets;
+use std::alloc::Global;
+use std::marker::Model;
+
+/// The quantities of an allocator over the table of epochs E, with jobs J in its drain list.
+#[derive(Drop)]
+pub struct Core<E: Epochs, J: Tagged> {
+    pub(crate) params: Params,
+    pub(crate) table: E,
+    // What each slot saw of the offsets, if it is protected.
+    pub(crate) views: Vec<Option<View>>,
+    pub(crate) drain: Drain<J>,
+    pub(crate) offsets: Offsets,
+    pub(crate) frames: Frames,
+}
+
+impl<E: Epochs, J: Tagged> Model for Core<E, J> {
+    ghost use Rattle.hl_core.specs.Standing.{State, IsStanding};
+
+    ghost Value = { State J };
+
+    ghost view = { λ a. record { sizes = a.params; table = E.table a.table; views = a.views.items; drain = a.drain; offsets = a.offsets; pages = a.frames } };
+
+    ghost invariant = { λ a. IsStanding J.tag (record { sizes = a.params; table = E.table a.table; views = a.views.items; drain = a.drain; offsets = a.offsets; pages = a.frames }) };
+}
+
+impl<E: Epochs + Drop, J: Tagged + Drop> Core<E, J> {
+    ghost use Rattle.hl_core.specs.Standing.{Stands};
+
+    /// A core at the empty list: epoch 1, no slot protected, no action, all offsets 0, all frames free.
+    ///
+    /// `OutOfMemory` where memory for its rows was refused.
+    pub fn open(alloc: Global, params: Params) -> Result<Core<E, J>, Fault>
+        ensures ok { IfOk result (λ core. Stands J.tag core [] × (core.sizes ≡ params)) }
+        ensures err { IfErr result (λ fault. fault ≡ Fault.OutOfMemory) }
+    {
+        let slots = params.slots();
+        let views = unprotected(alloc, slots as usize)?;
+        let frames = Frames::open(alloc, params)?;
+        let table = E::make(alloc, slots, params.drain())?;
+        let drain = Drain::open(alloc, params.drain())?;
+        Ok(Core {
+            params,
+            table,
+            views,
+            drain,
+            offsets: Offsets::new(params),
+            frames,
+        })
+    }
+
+    /// Its drain list: the actions that were never taken are in it, and the tickets of those taken and not done.
+    pub fn into_drain(self) -> Drain<J>
+        ensures { result ≡ self.drain }
+    {
+        let Core {
+            params: _,
+            table: _,
+            views: _,
+            drain,
+            offsets: _,
+            frames: _,
+        } = self;
+        drain
+    }
+}
+
+/// A row with a place for each slot, none of which is protected.
+fn unprotected(alloc: Global, slots: usize) -> Result<Vec<Option<View>>, Fault>
+    ensures ok { IfOk result (λ made. made.items ≡ replicate slots None) }
+    ensures err { IfErr result (λ fault. fault ≡ Fault.OutOfMemory) }
+{
+    vec![in alloc; None; slots].map_err(|_| Fault::OutOfMemory)
+}
