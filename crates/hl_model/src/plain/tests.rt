@@ -42,7 +42,9 @@ fn entered(epoch: u64, read_only: u64, head: u64, tail: u64) -> Result<Reply, Fa
     })
 }
 
-fn frames(plain: &Plain) -> [(FrameState, Option<u64>); 2] {
+// What the two frames are at.
+fn frames(rt: &impl Abort, plain: &Plain) -> [(FrameState, Option<u64>); 2] {
+    assert!(rt; plain.params().frames() == 2);
     [plain.frame(0), plain.frame(1)]
 }
 
@@ -89,7 +91,7 @@ fn a_write_in_the_fuzzy_region_is_judged_by_the_view(rt: HostRuntime) -> Result<
     ];
     run(&rt, &mut plain, &rows);
     assert_eq!(rt;
-        frames(&plain),
+        frames(&rt, &plain),
         [(FrameState::Sealed, Some(0)), (FrameState::Free, None)]
     );
     assert_eq!(rt; plain.view(1), Some(view(4, 0, 4)));
@@ -188,7 +190,7 @@ fn a_record_lies_on_one_page(rt: HostRuntime) -> Result<(), Fail> {
     ];
     run(&rt, &mut plain, &rows);
     assert_eq!(rt;
-        frames(&plain),
+        frames(&rt, &plain),
         [(FrameState::Opened, Some(0)), (FrameState::Opened, Some(1))]
     );
     assert_eq!(rt; plain.steps().len(), 4);
@@ -231,7 +233,7 @@ fn a_page_that_a_stale_reader_reaches_is_not_reused(rt: HostRuntime) -> Result<(
     ];
     run(&rt, &mut plain, &rows);
     assert_eq!(rt;
-        frames(&plain),
+        frames(&rt, &plain),
         [(FrameState::Closed, Some(0)), (FrameState::Sealed, Some(1))]
     );
     let rows = [
@@ -246,7 +248,7 @@ fn a_page_that_a_stale_reader_reaches_is_not_reused(rt: HostRuntime) -> Result<(
     ];
     run(&rt, &mut plain, &rows);
     assert_eq!(rt;
-        frames(&plain),
+        frames(&rt, &plain),
         [(FrameState::Opened, Some(2)), (FrameState::Sealed, Some(1))]
     );
     Ok(())
@@ -283,7 +285,7 @@ fn flushes_are_acknowledged_out_of_order(rt: HostRuntime) -> Result<(), Fail> {
     ];
     run(&rt, &mut plain, &rows);
     assert_eq!(rt;
-        frames(&plain),
+        frames(&rt, &plain),
         [
             (FrameState::Flushed, Some(0)),
             (FrameState::Flushed, Some(1))
