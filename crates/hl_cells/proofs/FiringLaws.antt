@@ -1,0 +1,147 @@
+-- The firings of taken actions, with one step more.
+use Rattle.std.proofs.Common.{◌≡◌, ℕ, ◌+◌, ◌<◌, Bool, true, false, cond, not, ◌||◌, ◌&&◌, List, [], ◌∷◌, ◌++◌, length, map, refl, sym, ap, ap₂, ◌∙◌, arith, append-nil}
+use Rattle.std.specs.Prelude.{◌==◌, None}
+use Rattle.std.specs.List.{filter}
+use Rattle.std.proofs.lemmas.List.{map-append}
+use Rattle.std.proofs.lemmas.List.Elements.{filter-append}
+use Rattle.hl_model.specs.declared.action.Waiting.{Waiting}
+use Rattle.hl_model.specs.declared.step.Step.{Step}
+use Rattle.hl_model.specs.declared.step.Step.TheVariants.{Take, Done}
+use Rattle.hl_model.specs.Lists.{gather, gather_after}
+use Rattle.hl_model.specs.Sizes.{Sizes}
+use Rattle.hl_model.specs.Epochs.{safe_epoch}
+use Rattle.hl_model.specs.Actions.{takes, taken, pending, actions, is_take, is_finished, finishes}
+use Rattle.hl_model.specs.Replies.{fault_of, IsAccepted}
+use Rattle.hl_model.proofs.ListLaws.{gather-push}
+use Rattle.hl_model.proofs.ActionLaws.{is_finished-push, is_finished-stay, taken-done, taken-stores, ticket-front}
+use Rattle.hl_model.proofs.AcceptedLaws.{accepted_has}
+use Rattle.hl_model.proofs.DrainLaws.{taken-next, finished-taken, take_fault-none, takes-le-bumps}
+use Rattle.hl_action.specs.Firings.{FiringRecord}
+use Rattle.hl_cells.specs.HeldActions.{firings, firing_of, undone_firings}
+
+-- a step's firings come behind those before
+pub firings-push : (sizes : Sizes) (A : List Step) (s : Step) → firings sizes (A ++ s ∷ []) ≡ firings sizes A ++ firing_of sizes A s
+unfolding firings
+firings-push sizes A s = gather-push (firing_of sizes) A s
+
+-- at first there are none
+pub firings-nil : (sizes : Sizes) → firings sizes [] ≡ []
+unfolding firings gather gather_after
+firings-nil sizes = refl
+
+-- a step that takes none has none
+firing_of-none : (sizes : Sizes) (A : List Step) (s : Step) → is_take s ≡ false → firing_of sizes A s ≡ []
+firing_of-none sizes A Take e = cc
+firing_of-none sizes A s e = refl
+
+-- and leaves the firings
+pub firings-stay : (sizes : Sizes) (A : List Step) (s : Step) → is_take s ≡ false → firings sizes (A ++ s ∷ []) ≡ firings sizes A
+firings-stay sizes A s e = firings-push sizes A s ∙ ap (λ z. firings sizes A ++ z) (firing_of-none sizes A s e) ∙ append-nil (firings sizes A)
+
+-- tests that agree leave the same
+filter_alike : {X : Type 0} (p q : X → Bool) (xs : List X) → ((x : X) → p x ≡ q x) → filter p xs ≡ filter q xs
+filter_alike p q [] h = refl
+filter_alike p q (x ∷ xs) h = ap₂ (λ b l. cond b (x ∷ l) l) (h x) (filter_alike p q xs h)
+
+-- at first none is undone
+pub undone-nil : (sizes : Sizes) → undone_firings sizes [] ≡ []
+unfolding undone_firings
+undone-nil sizes = ap (filter (λ (f : FiringRecord). not (is_finished f.ticket []))) (firings-nil sizes)
+
+-- a step that takes and ends none leaves the undone
+pub undone-stay : (sizes : Sizes) (A : List Step) (s : Step) → is_take s ≡ false → ((c : ℕ) → finishes c s ≡ false) → undone_firings sizes (A ++ s ∷ []) ≡ undone_firings sizes A
+unfolding undone_firings
+undone-stay sizes A s e h =
+    ap (filter (λ (f : FiringRecord). not (is_finished f.ticket (A ++ s ∷ [])))) (firings-stay sizes A s e)
+    ∙ filter_alike (λ (f : FiringRecord). not (is_finished f.ticket (A ++ s ∷ []))) (λ (f : FiringRecord). not (is_finished f.ticket A)) (firings sizes A) (λ f. ap not (is_finished-stay f.ticket A s (h f.ticket)))
+
+not_or : (a b : Bool) → not (a || b) ≡ (not b && not a)
+not_or true true = refl
+not_or true false = refl
+not_or false true = refl
+not_or false false = refl
+
+-- a filter by two tests is a filter by one and then by the other
+filter_twice : {X : Type 0} (p q : X → Bool) (xs : List X) → filter (λ x. q x && p x) xs ≡ filter q (filter p xs)
+filter_twice p q [] = refl
+filter_twice {X = X} p q (x ∷ xs) = by_tests (filter_twice p q xs) (p x) (q x) refl refl
+  where
+    by_tests : filter (λ x. q x && p x) xs ≡ filter q (filter p xs) → (b d : Bool) → p x ≡ b → q x ≡ d → filter (λ x. q x && p x) (x ∷ xs) ≡ filter q (filter p (x ∷ xs))
+    by_tests rest true true e h = rw (e, h) (ap (λ ys. x ∷ ys) rest)
+    by_tests rest true false e h = rw (e, h) rest
+    by_tests rest false true e h = rw (e, h) rest
+    by_tests rest false false e h = rw (e, h) rest
+
+-- no done names a ticket that is to come
+unfinished_next : (sizes : Sizes) (A : List Step) → IsAccepted sizes A → is_finished (takes A + 1) A ≡ false
+unfinished_next sizes A acc = by_test (is_finished (takes A + 1) A) refl
+  where
+    by_test : (b : Bool) → is_finished (takes A + 1) A ≡ b → is_finished (takes A + 1) A ≡ false
+    by_test true e = let known = finished-taken sizes (takes A + 1) A acc e in absurd (omega (arith, known.1))
+    by_test false e = e
+
+-- a take's firing is undone
+pub undone-take : (sizes : Sizes) (A : List Step) → IsAccepted sizes A → undone_firings sizes (A ++ Take ∷ []) ≡ undone_firings sizes A ++ record { ticket = takes A + 1; safe = safe_epoch sizes.slots A } ∷ []
+unfolding undone_firings
+undone-take sizes A acc =
+    filter_alike (λ (f : FiringRecord). not (is_finished f.ticket (A ++ Take ∷ []))) (λ (f : FiringRecord). not (is_finished f.ticket A)) (firings sizes (A ++ Take ∷ [])) (λ f. ap not (is_finished-stay f.ticket A Take refl))
+    ∙ ap (filter (λ (f : FiringRecord). not (is_finished f.ticket A))) (firings-push sizes A Take)
+    ∙ filter-append (λ (f : FiringRecord). not (is_finished f.ticket A)) (firings sizes A) (firing_of sizes A Take)
+    ∙ ap (λ (b : Bool). filter (λ (f : FiringRecord). not (is_finished f.ticket A)) (firings sizes A) ++ cond (not b) (firing_of sizes A Take) []) (unfinished_next sizes A acc)
+
+-- a done leaves the firings of other tickets
+pub undone-done : (sizes : Sizes) (A : List Step) (c : ℕ) → undone_firings sizes (A ++ Done c ∷ []) ≡ filter (λ f. not (c == f.ticket)) (undone_firings sizes A)
+unfolding undone_firings
+undone-done sizes A c =
+    filter_alike (λ (f : FiringRecord). not (is_finished f.ticket (A ++ Done c ∷ []))) (λ (f : FiringRecord). not (c == f.ticket) && not (is_finished f.ticket A)) (firings sizes (A ++ Done c ∷ []))
+    (λ f. ap not (is_finished-push f.ticket A (Done c)) ∙ not_or (is_finished f.ticket A) (c == f.ticket))
+    ∙ ap (filter (λ (f : FiringRecord). not (c == f.ticket) && not (is_finished f.ticket A))) (firings-stay sizes A (Done c) refl)
+    ∙ filter_twice (λ (f : FiringRecord). not (is_finished f.ticket A)) (λ (f : FiringRecord). not (c == f.ticket)) (firings sizes A)
+
+-- a filter by a key is one of the keys
+filter_keys : {X : Type 0} (key : X → ℕ) (p : ℕ → Bool) (xs : List X) → map key (filter (λ x. p (key x)) xs) ≡ filter p (map key xs)
+filter_keys key p [] = refl
+filter_keys key p (x ∷ xs) = by_test (filter_keys key p xs) (p (key x)) refl
+  where
+    by_test : map key (filter (λ x. p (key x)) xs) ≡ filter p (map key xs) → (b : Bool) → p (key x) ≡ b → map key (filter (λ x. p (key x)) (x ∷ xs)) ≡ filter p (map key (x ∷ xs))
+    by_test rest true e = rw e (ap (λ ys. key x ∷ ys) rest)
+    by_test rest false e = rw e rest
+
+-- a list that isn't empty has a first
+pub first_of : {X : Type 0} (xs : List X) → 0 < length xs → (x : X) × (ys : List X) × (xs ≡ x ∷ ys)
+first_of [] h = absurd (omega (arith, h))
+first_of (x ∷ xs) h = (x, xs, refl)
+
+-- the undone firings have the tickets of the taken actions
+same_tickets : Sizes → List Step → Type 0
+same_tickets sizes A = map (λ f. f.ticket) (undone_firings sizes A) ≡ map (λ w. w.ticket) (taken A)
+
+tickets-quiet : (sizes : Sizes) (A : List Step) (s : Step) → IsAccepted sizes A → is_take s ≡ false → ((c : ℕ) → finishes c s ≡ false) → same_tickets sizes A → same_tickets sizes (A ++ s ∷ [])
+unfolding same_tickets
+tickets-quiet sizes A s acc e h same =
+    ap (map (λ (f : FiringRecord). f.ticket)) (undone-stay sizes A s e h) ∙ same ∙ sym (ap (map (λ (w : Waiting). w.ticket)) (taken-stores A s (takes-le-bumps sizes A acc) e h))
+
+tickets-step : (sizes : Sizes) (A : List Step) (s : Step) → IsAccepted sizes A → fault_of sizes A s ≡ None → same_tickets sizes A → same_tickets sizes (A ++ s ∷ [])
+unfolding same_tickets
+tickets-step sizes A Take acc free same =
+    let first = first_of (pending A) (take_fault-none sizes A free).0 in
+    ap (map (λ (f : FiringRecord). f.ticket)) (undone-take sizes A acc)
+    ∙ map-append (λ (f : FiringRecord). f.ticket) (undone_firings sizes A) (record { ticket = takes A + 1; safe = safe_epoch sizes.slots A } ∷ [])
+    ∙ ap₂ (λ ns n. ns ++ n ∷ []) same (sym (ticket-front A first.0 first.1 first.2))
+    ∙ sym (map-append (λ (w : Waiting). w.ticket) (taken A) (first.0 ∷ []))
+    ∙ sym (ap (map (λ (w : Waiting). w.ticket)) (taken-next sizes A first.0 first.1 acc first.2))
+tickets-step sizes A (Done c) acc free same =
+    ap (map (λ (f : FiringRecord). f.ticket)) (undone-done sizes A c)
+    ∙ filter_keys (λ (f : FiringRecord). f.ticket) (λ n. not (c == n)) (undone_firings sizes A)
+    ∙ ap (filter (λ n. not (c == n))) same
+    ∙ sym (filter_keys (λ (w : Waiting). w.ticket) (λ n. not (c == n)) (taken A))
+    ∙ sym (ap (map (λ (w : Waiting). w.ticket)) (taken-done A c))
+tickets-step sizes A s acc free same = tickets-quiet sizes A s acc refl (λ c. refl) same
+
+taken-nil : taken [] ≡ []
+unfolding taken actions gather gather_after takes
+taken-nil = refl
+
+pub tickets-undone : (sizes : Sizes) (A : List Step) → IsAccepted sizes A → map (λ f. f.ticket) (undone_firings sizes A) ≡ map (λ w. w.ticket) (taken A)
+unfolding same_tickets
+tickets-undone sizes A acc = accepted_has sizes (λ A. same_tickets sizes A) (ap (map (λ (f : FiringRecord). f.ticket)) (undone-nil sizes) ∙ sym (ap (map (λ (w : Waiting). w.ticket)) taken-nil)) (tickets-step sizes) A acc

@@ -1,0 +1,6 @@
+pub mod CellLaws
+pub mod EngineMoves
+pub mod FiringLaws
+pub mod HeldRows
+pub mod HoldLaws
+pub mod ShownPages

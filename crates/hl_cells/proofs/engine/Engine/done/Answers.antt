@@ -1,0 +1,16 @@
+use Rattle.std.proofs.Common.{◌≡◌, sym, ap, ◌∙◌}
+use Rattle.hl_model.specs.declared.step.Step.TheVariants.{Done as DONE}
+use Rattle.hl_cells.proofs.EngineMoves.{moved_done, answer_or, stands_after}
+use Rattle.hl_cells.proofs.engine.Engine.done.Goals.{in-Some, in-None}
+use Rattle.hl_cells.proofs.engine.Engine.done.Goals as goal
+
+pub invariant_of-self-2 : goal.invariant_of-self-2
+invariant_of-self-2 g c =
+    stands_after g.P.Promise.keeps (record { core = c.self.inside.core; words = c.self.inside.words.items; held = c.self.inside.held }) _ (DONE c.args.ticket) (answer_or c.run.result c.in_ok-reply.reply) c.self.invariant
+    (λ A st. moved_done g.P.Promise.keeps (record { core = c.self.inside.core; words = c.self.inside.words.items; held = c.self.inside.held }) A c.args.ticket c.act.new.self c.run.new.self c.in_ok-reply.reply c.run.result st (c.in_ok-reply.ensures.made A st.core_stands) c.run.ensures.answered c.run.ensures.keeps c.run.ensures.others)
+
+pub returns-clause-moved : goal.returns-clause-moved
+returns-clause-moved g c =
+    let told : c.match-run.result ≡ answer_or c.run.result c.in_ok-reply.reply = elim c.match-run.branch [ in-Some w ↦ w.result-is ∙ sym (ap (λ o. answer_or o c.in_ok-reply.reply) w.in-Some.is) | in-None w ↦ w.result-is ∙ sym (ap (λ o. answer_or o c.in_ok-reply.reply) w.in-None.is) ] in
+    rw (told, sym c.self.view_is)
+    (λ A st. moved_done g.P.Promise.keeps (record { core = c.self.inside.core; words = c.self.inside.words.items; held = c.self.inside.held }) A c.args.ticket c.act.new.self c.run.new.self c.in_ok-reply.reply c.run.result st (c.in_ok-reply.ensures.made A st.core_stands) c.run.ensures.answered c.run.ensures.keeps c.run.ensures.others)

@@ -1,0 +1,4 @@
+pub mod CellWords
+pub mod EngineSteps
+pub mod Engines
+pub mod HeldActions

@@ -1,0 +1,58 @@
+ghost use Rattle.std.specs.Prelude.{◌≡◌, [], IfOk, IfErr};
+
+use crate::held::Held;
+use crate::row::zeros;
+use hl_action::{Kept, Promise, Task};
+use hl_core::Core;
+use hl_epoch::Epochs;
+use hl_model::{Fault, Params};
+use std::alloc::Global;
+use std::marker::Model;
+
+/// A core over the table of epochs E with jobs F, the F * P words of its frames, and the taken actions that aren't
+/// done. The answers of its jobs keep the promise P.
+pub struct Engine<E: Epochs, F: Task, P: Promise> {
+    pub(crate) core: Core<E, Kept<F, P>>,
+    // The words of the frames, one frame behind the other.
+    pub(crate) words: Vec<u64>,
+    pub(crate) held: Held<F, P>,
+}
+
+impl<E: Epochs, F: Task, P: Promise> Model for Engine<E, F, P> {
+    ghost use Rattle.hl_cells.specs.Engines.{Whole, IsEngine};
+
+    ghost Value = { Whole F };
+
+    ghost view = { λ a. record { core = a.core; words = a.words.items; held = a.held } };
+
+    ghost invariant = { λ a. IsEngine (record { core = a.core; words = a.words.items; held = a.held }) };
+}
+
+impl<E: Epochs + Drop, F: Task, P: Promise> Drop for Engine<E, F, P> {
+    fn drop(self) {
+        let Engine {
+            core: _,
+            words: _,
+            held: _,
+        } = self;
+    }
+}
+
+impl<E: Epochs + Drop, F: Task, P: Promise> Engine<E, F, P> {
+    ghost use Rattle.hl_cells.specs.Engines.{EngineStands};
+
+    /// An engine at the empty list: its core is one that was just opened, and all words are 0. No other call takes
+    /// memory.
+    ///
+    /// `OutOfMemory` where memory for its rows was refused.
+    pub fn open(alloc: Global, params: Params) -> Result<Engine<E, F, P>, Fault>
+        ensures ok { IfOk result (λ engine. EngineStands engine [] × (engine.core.sizes ≡ params)) }
+        ensures err { IfErr result (λ fault. fault ≡ Fault.OutOfMemory) }
+    {
+        let core = Core::open(alloc, params)?;
+        let cells = params.frames() * params.page();
+        let words = zeros(alloc, cells as usize)?;
+        let held = Held::open(alloc, params.drain())?;
+        Ok(Engine { core, words, held })
+    }
+}

@@ -1,0 +1,69 @@
+ghost use Rattle.std.specs.Prelude.{◌≡◌, ◌<◌, position, is_some, option_and_then, IfSome, IsSomeAnd, IfOk, IfErr, [], ◌∷◌, ◌++◌, length, remove};
+ghost use Rattle.std.specs.List.{find, position_or_len};
+ghost use Rattle.hl_cells.specs.HeldActions.{fires};
+
+use crate::undone::Undone;
+use hl_action::{Promise, Ready, Task};
+use hl_model::Fault;
+use std::alloc::Global;
+use std::marker::Model;
+
+/// The taken actions that aren't done, in the order of their takes.
+pub(crate) struct Held<F: Task, P: Promise> {
+    row: Vec<Undone<F, P>>,
+}
+
+impl<F: Task, P: Promise> Model for Held<F, P> {
+    ghost use Rattle.std.specs.Prelude.{vec_capacity};
+    ghost use Rattle.hl_cells.specs.HeldActions.{Row};
+
+    ghost Value = { Row F };
+
+    ghost view = { λ a. record { room = vec_capacity a.row; actions = a.row.items } };
+}
+
+impl<F: Task, P: Promise> Drop for Held<F, P> {
+    fn drop(self) {
+        let Held { row: _ } = self;
+    }
+}
+
+impl<F: Task, P: Promise> Held<F, P> {
+    /// A row with this many places, all free. No other call takes memory.
+    ///
+    /// `OutOfMemory` where the places were refused.
+    pub(crate) fn open(alloc: Global, places: u64) -> Result<Held<F, P>, Fault>
+        ensures ok { IfOk result (λ held. held ≡ record { room = places; actions = [] }) }
+        ensures err { IfErr result (λ fault. fault ≡ Fault.OutOfMemory) }
+    {
+        let row = Vec::with_capacity(alloc, places as usize).map_err(|_| Fault::OutOfMemory)?;
+        Ok(Held { row })
+    }
+
+    /// Holds one more action. There is a free place.
+    pub(crate) fn push(&mut self, ready: Ready<F, P>)
+        requires { length self.old.actions < self.old.room }
+        ensures { self.new ≡ record { room = self.old.room; actions = self.old.actions ++ ready ∷ [] } }
+    {
+        self.row.push_reserved(Undone::of(ready));
+    }
+
+    /// Runs the first action of this ticket, an epoch, and holds it no longer. Its job's answer keeps the promise
+    /// for its tag under its firing. None where it has no job, or there is no such action.
+    pub(crate) fn run(&mut self, ticket: u64) -> Option<u64>
+        ensures answered { is_some result ≡ is_some (option_and_then (λ ready. ready.kept) (find (fires ticket) self.old.actions)) }
+        ensures keeps { IfSome (find (fires ticket) self.old.actions) (λ ready.
+            IfSome ready.kept (λ kept. IsSomeAnd result (P.keeps kept.tag ready.firing))) }
+        ensures others { self.new ≡ record { room = self.old.room; actions = remove self.old.actions (position_or_len (fires ticket) self.old.actions) } }
+    {
+        let place = self.place_of(ticket)?;
+        self.row.remove(place).run()
+    }
+
+    /// The place of the first action of this ticket, if there is one.
+    fn place_of(&self, ticket: u64) -> Option<usize>
+        ensures { result ≡ position (fires ticket) self.now.actions }
+    {
+        self.row.iter().position(|undone| undone.ticket() == ticket)
+    }
+}

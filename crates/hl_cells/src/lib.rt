@@ -1,0 +1,41 @@
+//! An engine: a core with the words of its frames and the jobs of its actions.
+//!
+//! After FASTER (Chandramouli, Prasaad, Kossmann, Levandoski, Hunter, Barnett, SIGMOD 2018): the in-memory page
+//! frames of its HybridLog. A core knows addresses only; an engine keeps the words, F frames of P words, and runs
+//! the jobs that bumps stored.
+//!
+//! # Words
+//!
+//! Words are known by addresses, and kept by frames: page p lies in frame p mod F, so frames go round. A frame shows
+//! its last entered page, and zeros where it is free. A write sets the one cell of its address; a clean done zeroes
+//! one frame; no other step changes a cell. So a page that is entered has only zeros, whatever was in its frame.
+//!
+//! # Jobs
+//!
+//! A job goes in by [`Engine::bump`]. A take holds it with its firing, its ticket and the safe epoch of then; the
+//! done of its ticket runs it, and is answered with what it answers, which keeps the promise P for its tag.
+//!
+//! # Standing at a list
+//!
+//! An engine stands at a list of accepted steps where its core does, each cell holds the word of its address in the
+//! page that its frame shows, and the held actions are those taken and not done, with their firings: `EngineStands`
+//! in `specs/Engines.antt`. Each engine stands at some list: that is in its type. Each call says: at whatever list
+//! the engine stood, the answer is the definitions' reply after that list, and the engine then stands at the list
+//! with the step, where it was accepted.
+//!
+//! No call after [`Engine::open`] takes memory.
+#![tactic(auto)]
+
+mod actions;
+mod engine;
+mod held;
+mod queries;
+mod row;
+mod step;
+mod undone;
+mod words;
+
+pub use engine::Engine;
+
+#[cfg(test)]
+mod tests;

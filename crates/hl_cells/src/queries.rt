@@ -1,0 +1,62 @@
+ghost use Rattle.std.specs.Prelude.{◌≡◌, ◌<◌, ◌≤◌, List, IfSome};
+ghost use Rattle.hl_model.specs.declared.step.Step.{Step};
+ghost use Rattle.hl_model.specs.Actions.{pending};
+ghost use Rattle.hl_model.specs.Views.{slot_view};
+ghost use Rattle.hl_model.specs.Frames.{frame_of};
+ghost use Rattle.hl_model.specs.Snapshots.{six, snapshot_of};
+ghost use Rattle.hl_offsets.specs.Log.{AreSix};
+ghost use Rattle.hl_cells.specs.Engines.{EngineStands};
+
+use crate::engine::Engine;
+use arrayvec::ArrayVec;
+use hl_action::{Promise, Task};
+use hl_epoch::Epochs;
+use hl_model::{FrameState, Params, Six, Snapshot, View, Waiting};
+
+impl<E: Epochs, F: Task, P: Promise> Engine<E, F, P> {
+    /// The sizes that it was opened with.
+    pub fn params(&self) -> Params
+        ensures { result ≡ self.now.core.sizes }
+    {
+        self.core.params()
+    }
+
+    /// The view of slot t. None where the slot isn't protected, or t is S or more.
+    pub fn view(&self, t: u64) -> Option<View>
+        ensures value { (A : List Step) → EngineStands self.now A → result ≡ slot_view self.now.core.sizes t A }
+        ensures bounded { let log = self.now.core.offsets
+            in IfSome result (λ view. (log.safe_read_only ≤ view.read_only) × (log.closed ≤ view.head)) }
+    {
+        self.core.view(t)
+    }
+
+    /// The six offsets.
+    pub fn six(&self) -> Six
+        ensures value { (A : List Step) → EngineStands self.now A → result ≡ six self.now.core.sizes A }
+        ensures in_order { AreSix self.now.core.sizes.page result }
+    {
+        self.core.six()
+    }
+
+    /// All quantities.
+    pub fn snapshot(&self) -> Snapshot
+        ensures { (A : List Step) → EngineStands self.now A → result ≡ snapshot_of self.now.core.sizes A }
+    {
+        self.core.snapshot()
+    }
+
+    /// The pending actions, oldest first.
+    pub fn pending(&self) -> ArrayVec<Waiting, 64>
+        ensures { (A : List Step) → EngineStands self.now A → result.items ≡ pending A }
+    {
+        self.core.pending()
+    }
+
+    /// The state of frame f, which is below F, and its last entered page; None where it is free.
+    pub fn frame(&self, f: u64) -> (FrameState, Option<u64>)
+        requires { f < self.now.core.sizes.frames }
+        ensures { (A : List Step) → EngineStands self.now A → result ≡ frame_of self.now.core.sizes f A }
+    {
+        self.core.frame(f)
+    }
+}

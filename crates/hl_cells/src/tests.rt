@@ -1,0 +1,240 @@
+ghost use Rattle.std.specs.Prelude.{◌≡◌, ◌+◌, ◌<◌, ◌^◌, false, All};
+ghost use Rattle.hl_cells.specs.EngineSteps.{is_job_bump};
+
+use crate::Engine;
+use hl_action::{Firing, Kept, Promise, Task};
+use hl_epoch::ScanTable;
+use hl_model::{Fault, FrameState, Params, Reply, Step, Tagged, View};
+use std::alloc::Global;
+use std::test::Fail;
+
+// Each job answers its tag and the ticket that it is run under, added up.
+struct Sum;
+
+impl Promise for Sum {
+    ghost keeps = { λ tag firing answer. answer ≡ tag + firing.ticket };
+}
+
+#[derive(Drop)]
+struct AddTicket {
+    tag: u64,
+}
+
+impl Task for AddTicket {
+    ghost can = { λ job firing. job.tag + firing.ticket < 2 ^ 64 };
+
+    ghost gives = { λ job firing answer. answer ≡ job.tag + firing.ticket };
+
+    fn call(self, firing: Firing) -> u64 {
+        self.tag + firing.ticket()
+    }
+}
+
+type TestEngine = Engine<ScanTable, AddTicket, Sum>;
+
+fn job(tag: u64) -> Kept<AddTicket, Sum>
+    requires { tag < 1000 }
+{
+    Kept::new(tag, AddTicket { tag })
+}
+
+fn open(alloc: Global, p: u64, f: u64, s: u64, d: u64) -> Result<TestEngine, Fault> {
+    match Params::checked(p, f, s, d) {
+        Some(params) => Engine::open(alloc, params),
+        None => Err(Fault::Size),
+    }
+}
+
+fn entered(epoch: u64, read_only: u64, head: u64, tail: u64) -> Result<Reply, Fault> {
+    let view = View {
+        read_only,
+        head,
+        tail,
+    };
+    Ok(Reply::Entered { epoch, view })
+}
+
+// Makes these steps, and tells whether each was accepted.
+fn all_accepted(engine: &mut TestEngine, steps: &[Step]) -> bool
+    requires { All (λ step. is_job_bump step ≡ false) steps.now }
+{
+    let mut accepted = true;
+    for step in steps {
+        accepted = engine.step(step).is_ok() && accepted;
+    }
+    accepted
+}
+
+// A slow thread reads the first page until it moves on; the page's frame is used again only then, and shows 0.
+#[test]
+fn stale_reader_words(rt: HostRuntime) -> Result<(), Fail> {
+    let mut engine = open(rt.alloc(), 4, 2, 2, 4)?;
+    assert_eq!(rt; engine.step(&Step::Acquire { t: 0 }), entered(1, 0, 0, 0));
+    assert_eq!(rt;
+        engine.step(&Step::Allocate { t: 0, n: 4 }),
+        Ok(Reply::At(0))
+    );
+    assert_eq!(rt;
+        engine.step(&Step::Allocate { t: 0, n: 4 }),
+        Ok(Reply::At(4))
+    );
+    assert_eq!(rt;
+        engine.step(&Step::Write { t: 0, a: 0, v: 11 }),
+        Ok(Reply::Written)
+    );
+    assert_eq!(rt; engine.write(0, 1, 12), Ok(()));
+    assert_eq!(rt; engine.write(0, 2, 13), Ok(()));
+    assert_eq!(rt; engine.write(0, 3, 14), Ok(()));
+    assert_eq!(rt; engine.step(&Step::Acquire { t: 1 }), entered(1, 0, 0, 8));
+    assert_eq!(rt;
+        engine.step(&Step::Allocate { t: 0, n: 1 }),
+        Err(Fault::Busy { page: 2 })
+    );
+    assert_eq!(rt; engine.step(&Step::Raise { x: 8 }), Ok(Reply::Raised(8)));
+    assert_eq!(rt; engine.step(&Step::Settle), Ok(Reply::Ticket(1)));
+    assert_eq!(rt; engine.step(&Step::Refresh { t: 0 }), entered(2, 8, 0, 8));
+    assert_eq!(rt; engine.step(&Step::Refresh { t: 1 }), entered(2, 8, 0, 8));
+    assert_eq!(rt; engine.step(&Step::Take), Ok(Reply::Taken(1)));
+    assert_eq!(rt;
+        engine.step(&Step::Done { ticket: 1 }),
+        Ok(Reply::Settled(8))
+    );
+    assert_eq!(rt; engine.step(&Step::FlushTake), Ok(Reply::Page(0)));
+    let (_, shown) = engine.frame(0);
+    assert_eq!(rt; shown, Some(0));
+    assert_eq!(rt;
+        engine.step(&Step::FlushDone { page: 0, ok: true }),
+        Ok(Reply::Flushed(4))
+    );
+    assert_eq!(rt; engine.step(&Step::Shift { x: 4 }), Ok(Reply::Shifted(4)));
+    assert_eq!(rt; engine.step(&Step::Close), Ok(Reply::Ticket(2)));
+    assert_eq!(rt;
+        engine.step(&Step::Read { t: 1, a: 0 }),
+        Ok(Reply::Value(11))
+    );
+    assert_eq!(rt; engine.step(&Step::Refresh { t: 0 }), entered(3, 8, 4, 8));
+    assert_eq!(rt;
+        engine.step(&Step::Take),
+        Err(Fault::NotReady { front: 2, safe: 1 })
+    );
+    assert_eq!(rt;
+        engine.step(&Step::Allocate { t: 0, n: 1 }),
+        Err(Fault::Busy { page: 2 })
+    );
+    assert_eq!(rt; engine.step(&Step::Refresh { t: 1 }), entered(3, 8, 4, 8));
+    assert_eq!(rt; engine.step(&Step::Take), Ok(Reply::Taken(2)));
+    assert_eq!(rt;
+        engine.step(&Step::Done { ticket: 2 }),
+        Ok(Reply::Closed(4))
+    );
+    assert_eq!(rt; engine.read(1, 0), Err(Fault::Evicted { head: 4 }));
+    assert_eq!(rt;
+        engine.step(&Step::Allocate { t: 0, n: 1 }),
+        Err(Fault::Busy { page: 2 })
+    );
+    assert_eq!(rt; engine.snapshot().frames, [0, 1, 0, 1, 0]);
+    assert_eq!(rt; engine.step(&Step::CleanTake), Ok(Reply::Page(0)));
+    assert_eq!(rt;
+        engine.step(&Step::CleanDone { page: 0 }),
+        Ok(Reply::Freed(0))
+    );
+    assert_eq!(rt;
+        engine.step(&Step::Allocate { t: 0, n: 1 }),
+        Ok(Reply::At(8))
+    );
+    assert_eq!(rt; engine.read(0, 8), Ok(0));
+    assert_eq!(rt; engine.write(0, 8, 21), Ok(()));
+    assert_eq!(rt;
+        engine.step(&Step::Read { t: 0, a: 8 }),
+        Ok(Reply::Value(21))
+    );
+    assert_eq!(rt; engine.snapshot().frames, [1, 1, 0, 0, 0]);
+    Ok(())
+}
+
+#[test]
+fn a_job_answers_at_its_done(rt: HostRuntime) -> Result<(), Fail> {
+    let mut engine = open(rt.alloc(), 4, 2, 1, 2)?;
+    assert_eq!(rt; engine.bump(job(7)).ok(), Some(1));
+    assert_eq!(rt; engine.bump(job(9)).ok(), Some(2));
+    // The drain list has two places.
+    match engine.bump(job(5)) {
+        Ok(_) => assert!(rt; false),
+        Err((fault, kept)) => {
+            assert_eq!(rt; fault, Fault::DrainFull);
+            assert_eq!(rt; kept.tag(), 5);
+        }
+    }
+    assert_eq!(rt; engine.step(&Step::Settle), Err(Fault::DrainFull));
+    assert_eq!(rt; engine.step(&Step::Take), Ok(Reply::Taken(1)));
+    assert_eq!(rt; engine.step(&Step::Take), Ok(Reply::Taken(2)));
+    assert_eq!(rt;
+        engine.step(&Step::Done { ticket: 2 }),
+        Ok(Reply::Answer(11))
+    );
+    assert_eq!(rt;
+        engine.step(&Step::Done { ticket: 2 }),
+        Err(Fault::NotTaken)
+    );
+    assert_eq!(rt;
+        engine.step(&Step::Done { ticket: 1 }),
+        Ok(Reply::Answer(8))
+    );
+    assert_eq!(rt; engine.snapshot().taken, 0);
+    Ok(())
+}
+
+#[test]
+fn the_words_of_a_page(rt: HostRuntime) -> Result<(), Fail> {
+    let mut engine = open(rt.alloc(), 4, 2, 1, 2)?;
+    let steps = [
+        Step::Acquire { t: 0 },
+        Step::Allocate { t: 0, n: 4 },
+        Step::Allocate { t: 0, n: 2 },
+        Step::Write { t: 0, a: 3, v: 30 },
+        Step::Write { t: 0, a: 4, v: 40 },
+        Step::Write { t: 0, a: 5, v: 50 },
+        Step::Write { t: 0, a: 5, v: 51 },
+    ];
+    assert!(rt; all_accepted(&mut engine, &steps));
+    assert_eq!(rt; engine.write(0, 6, 60), Err(Fault::Beyond { tail: 6 }));
+    let (state, shown) = engine.frame(1);
+    assert_eq!(rt; state, FrameState::Opened);
+    match shown {
+        Some(page) => {
+            assert_eq!(rt; page, 1);
+            assert_eq!(rt; engine.page_words(page), [40, 51, 0, 0].as_slice());
+        }
+        None => assert!(rt; false),
+    }
+    match engine.frame(0).1 {
+        Some(page) => {
+            assert_eq!(rt; engine.page_words(page), [0, 0, 0, 30].as_slice());
+        }
+        None => assert!(rt; false),
+    }
+    Ok(())
+}
+
+// The greatest sizes: 256 frames of 4,096 words, 64 slots, 64 places.
+#[test]
+fn the_greatest_sizes(rt: HostRuntime) -> Result<(), Fail> {
+    let mut engine = open(rt.alloc(), 4096, 256, 64, 64)?;
+    assert_eq!(rt; engine.params().frames(), 256);
+    assert_eq!(rt; engine.step(&Step::Acquire { t: 63 }), entered(1, 0, 0, 0));
+    for page in 0..256 {
+        let at = Ok(Reply::At(page * 4096));
+        assert_eq!(rt; engine.step(&Step::Allocate { t: 63, n: 4096 }), at);
+    }
+    assert_eq!(rt;
+        engine.step(&Step::Allocate { t: 63, n: 1 }),
+        Err(Fault::Busy { page: 256 })
+    );
+    assert_eq!(rt; engine.write(63, 1_048_575, 1 << 63), Ok(()));
+    assert_eq!(rt; engine.read(63, 1_048_575), Ok(1 << 63));
+    assert_eq!(rt; engine.read(63, 1_048_574), Ok(0));
+    assert_eq!(rt; engine.six().tail, 1_048_576);
+    assert_eq!(rt; engine.view(63).map(|view| view.tail), Some(1_048_576));
+    assert!(rt; engine.pending().is_empty());
+    Ok(())
+}

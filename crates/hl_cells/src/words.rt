@@ -1,0 +1,101 @@
+ghost use Rattle.std.specs.Prelude.{◌≡◌, ◌*◌, ◌%◌, ◌<◌, List, OnErr};
+ghost use Rattle.hl_model.specs.declared.step.Step.{Step as STEP};
+ghost use Rattle.hl_model.specs.declared.step.Step.TheVariants.{Read as READ, Write as WRITE, CleanDone as CLEAN_DONE};
+ghost use Rattle.hl_model.specs.Words.{word, page_words};
+ghost use Rattle.hl_model.specs.Replies.{fault_of, unless_fault, extended};
+ghost use Rattle.hl_cells.specs.CellWords.{cell_at};
+ghost use Rattle.hl_cells.specs.Engines.{EngineStands, Shows};
+ghost use Rattle.hl_cells.specs.EngineSteps.{Moves};
+
+use crate::engine::Engine;
+use crate::row::{part, zero};
+use hl_action::{Promise, Task};
+use hl_epoch::Epochs;
+use hl_model::{Fault, Reply, Step, cell_of};
+
+impl<E: Epochs + Drop, F: Task, P: Promise> Engine<E, F, P> {
+    /// The word at address a, read by slot t. A word that was never written is 0.
+    ///
+    /// Faults, in their order: `NoSlot`, `NotProtected`, `Evicted` where the address is below the head that the slot
+    /// saw, `Beyond` where it is at or above the tail that the slot saw.
+    pub fn read(&self, t: u64, a: u64) -> Result<u64, Fault>
+        ensures { (A : List STEP) → EngineStands self.now A
+            → result ≡ unless_fault (fault_of self.now.core.sizes A (READ t a)) (word a A) }
+    {
+        self.core.check(&Step::Read { t, a })?;
+        let cell = self.cell_of(a);
+        Ok(self.words[cell])
+    }
+
+    /// Slot t writes v to the word at address a.
+    ///
+    /// Faults, in their order: `NoSlot`, `NotProtected`, `Below` where the address is below the read-only offset that
+    /// the slot saw, `Beyond` where it is at or above the tail that the slot saw. A refused write changes nothing.
+    pub fn write(&mut self, t: u64, a: u64, v: u64) -> Result<(), Fault>
+        ensures result { (A : List STEP) → EngineStands self.old A
+            → result ≡ unless_fault (fault_of self.old.core.sizes A (WRITE t a v)) tt }
+        ensures standing { (A : List STEP) → EngineStands self.old A
+            → EngineStands self.new (extended self.old.core.sizes A (WRITE t a v)) }
+        ensures sizes { self.new.core.sizes ≡ self.old.core.sizes }
+        ensures refused { OnErr result (self.new ≡ self.old) }
+    {
+        let cell = self.cell_of(a);
+        self.core.act(&Step::Write { t, a, v })?;
+        self.words[cell] = v;
+        Ok(())
+    }
+
+    /// The words of a page, which is its frame's last entered one, where that frame isn't free: the page that
+    /// `frame` gives.
+    pub fn page_words(&self, page: u64) -> &[u64]
+        requires { Shows self.now page }
+        ensures { (A : List STEP) → EngineStands self.now A → result.now ≡ page_words self.now.core.sizes page A }
+    {
+        part(&self.words, self.first_cell(page), self.page_len())
+    }
+
+    /// Reads the word at address a as a step.
+    pub(crate) fn read_step(&mut self, t: u64, a: u64) -> Result<Reply, Fault>
+        ensures moved { Moves P.keeps self.old (READ t a) self.new result }
+        ensures refused { OnErr result (self.new ≡ self.old) }
+    {
+        let cell = self.cell_of(a);
+        self.core.act(&Step::Read { t, a })?;
+        Ok(Reply::Value(self.words[cell]))
+    }
+
+    /// A page's cleaning ends: its words become 0, and its frame is free.
+    pub(crate) fn clean_done(&mut self, page: u64) -> Result<Reply, Fault>
+        ensures moved { Moves P.keeps self.old (CLEAN_DONE page) self.new result }
+        ensures refused { OnErr result (self.new ≡ self.old) }
+    {
+        let start = self.first_cell(page);
+        let len = self.page_len();
+        let reply = self.core.act(&Step::CleanDone { page })?;
+        zero(&mut self.words, start, len);
+        Ok(reply)
+    }
+
+    /// The cell of address a.
+    fn cell_of(&self, a: u64) -> usize
+        ensures value { let sizes = self.now.core.sizes in result ≡ cell_at sizes a }
+        ensures in_range { let sizes = self.now.core.sizes in result < sizes.frames * sizes.page }
+    {
+        cell_of(self.core.params(), a) as usize
+    }
+
+    /// The cell of a page's first word.
+    fn first_cell(&self, page: u64) -> usize
+        ensures { let sizes = self.now.core.sizes in result ≡ page % sizes.frames * sizes.page }
+    {
+        let params = self.core.params();
+        (page % params.frames() * params.page()) as usize
+    }
+
+    /// The words of a page.
+    fn page_len(&self) -> usize
+        ensures { result ≡ self.now.core.sizes.page }
+    {
+        self.core.params().page() as usize
+    }
+}
