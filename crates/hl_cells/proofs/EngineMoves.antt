@@ -14,7 +14,8 @@ use Rattle.hl_model.specs.Sizes.{Sizes}
 use Rattle.hl_model.specs.Epochs.{safe_epoch}
 use Rattle.hl_model.specs.Actions.{pending, takes, is_take, finishes, action_at}
 use Rattle.hl_model.specs.Words.{word, page_words}
-use Rattle.hl_model.specs.Frames.{last_entered}
+use Rattle.hl_model.specs.declared.frame.FrameState.{FrameState}
+use Rattle.hl_model.specs.Frames.{last_entered, frame_of}
 use Rattle.hl_model.specs.Replies.{fault_of, answer_of, reply_of, word_reply_of, with_word, done_answer, kind_or_job_0, unless_fault, extended, IsAccepted}
 use Rattle.hl_model.proofs.AcceptedLaws.{extended-none, extended-some}
 use Rattle.hl_model.proofs.ActionLaws.{ticket-front}
@@ -36,7 +37,7 @@ use Rattle.hl_cells.specs.HeldActions.{Row, Holds, firing_at, fires, tag_of}
 use Rattle.hl_cells.specs.Engines.{Whole, EngineStands, IsEngine, Shows, job_tag}
 use Rattle.hl_cells.specs.EngineSteps.{Told, Moved, Moves, fired, is_plain}
 use Rattle.hl_cells.proofs.CellLaws.{cells-quiet, cells-allocate, cells-write, cells-clean, cells-read, cells-page, cells-nil, frame_fits, cell_words-at, length-cell_words}
-use Rattle.hl_cells.proofs.ShownPages.{unless_freed, shown-is}
+use Rattle.hl_cells.proofs.ShownPages.{unless_freed, shown-is, shown-frame}
 use Rattle.hl_cells.proofs.HoldLaws.{Found, holds-nil, holds-quiet, holds-take, holds-fits, holds-found, holds-done}
 
 -- a result without a fault
@@ -389,3 +390,13 @@ module _ {F : Type 0} where
     sizes = same;
     standing = st;
   }
+
+  -- the page that a frame is said to show is one that the engine shows
+  pub frame_shows : (engine : Whole F) (f : ℕ) (told : FrameState × Option ℕ) → IsEngine engine → ((A : List Step) → Stands job_tag engine.core A → told ≡ frame_of engine.core.sizes f A) → IfSome told.1 (λ p. Shows engine p)
+  frame_shows engine f told at is = by_page told.1 (sym (ap (λ (r : FrameState × Option ℕ). r.1) (is at.0 at.1.core_stands)))
+    where
+      by_page : (o : Option ℕ) → shown_page engine.core.sizes f at.0 ≡ o → IfSome o (λ p. Shows engine p)
+      by_page None e = tt
+      by_page (Some p) e =
+          let of_f = shown-frame engine.core.sizes f p at.0 (page_some engine at.0 at.1) (frames_some engine at.0 at.1) e in
+          (at.0, at.1, ap (λ z. shown_page engine.core.sizes z at.0) of_f ∙ e)

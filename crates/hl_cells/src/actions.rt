@@ -1,5 +1,6 @@
 ghost use Rattle.std.specs.Prelude.{◌≡◌, OnErr, IfErr};
 ghost use Rattle.hl_model.specs.declared.step.Step.TheVariants.{Bump as BUMP, Settle as SETTLE, Close as CLOSE, Take as TAKE, Done as DONE};
+ghost use Rattle.hl_cells.specs.Engines.{IsEngine};
 ghost use Rattle.hl_cells.specs.EngineSteps.{Moves, ticket_told};
 
 use crate::engine::Engine;
@@ -20,6 +21,7 @@ impl<E: Epochs + Drop, F: Task, P: Promise> Engine<E, F, P> {
     pub fn bump(&mut self, kept: Kept<F, P>) -> Result<u64, (Fault, Kept<F, P>)>
         ensures moved { Moves P.keeps self.old (BUMP kept.tag) self.new (ticket_told result) }
         ensures refused { IfErr result (λ back. (back.1 ≡ kept) × (self.new ≡ self.old)) }
+        ensures stood { IsEngine self.old }
     {
         match self.core.bump(Ask::User(kept)) {
             Ok(ticket) => Ok(ticket),
@@ -33,6 +35,7 @@ impl<E: Epochs + Drop, F: Task, P: Promise> Engine<E, F, P> {
     pub(crate) fn settle(&mut self) -> Result<Reply, Fault>
         ensures moved { Moves P.keeps self.old SETTLE self.new result }
         ensures refused { OnErr result (self.new ≡ self.old) }
+        ensures stood { IsEngine self.old }
     {
         match self.core.bump(Ask::Settle) {
             Ok(ticket) => Ok(Reply::Ticket(ticket)),
@@ -44,6 +47,7 @@ impl<E: Epochs + Drop, F: Task, P: Promise> Engine<E, F, P> {
     pub(crate) fn close(&mut self) -> Result<Reply, Fault>
         ensures moved { Moves P.keeps self.old CLOSE self.new result }
         ensures refused { OnErr result (self.new ≡ self.old) }
+        ensures stood { IsEngine self.old }
     {
         match self.core.bump(Ask::Close) {
             Ok(ticket) => Ok(Reply::Ticket(ticket)),
@@ -55,6 +59,7 @@ impl<E: Epochs + Drop, F: Task, P: Promise> Engine<E, F, P> {
     pub(crate) fn take(&mut self) -> Result<Reply, Fault>
         ensures moved { Moves P.keeps self.old TAKE self.new result }
         ensures refused { OnErr result (self.new ≡ self.old) }
+        ensures stood { IsEngine self.old }
     {
         let (firing, kept) = self.core.take()?;
         self.held.push(Ready::of(ORIGIN, firing, kept));
@@ -65,6 +70,7 @@ impl<E: Epochs + Drop, F: Task, P: Promise> Engine<E, F, P> {
     pub(crate) fn done(&mut self, ticket: u64) -> Result<Reply, Fault>
         ensures moved { Moves P.keeps self.old (DONE ticket) self.new result }
         ensures refused { OnErr result (self.new ≡ self.old) }
+        ensures stood { IsEngine self.old }
     {
         let reply = self.core.act(&Step::Done { ticket })?;
         match self.held.run(ticket) {

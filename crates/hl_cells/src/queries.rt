@@ -5,7 +5,7 @@ ghost use Rattle.hl_model.specs.Views.{slot_view};
 ghost use Rattle.hl_model.specs.Frames.{frame_of};
 ghost use Rattle.hl_model.specs.Snapshots.{six, snapshot_of};
 ghost use Rattle.hl_offsets.specs.Log.{AreSix};
-ghost use Rattle.hl_cells.specs.Engines.{EngineStands};
+ghost use Rattle.hl_cells.specs.Engines.{EngineStands, IsEngine, Shows};
 
 use crate::engine::Engine;
 use arrayvec::ArrayVec;
@@ -16,7 +16,8 @@ use hl_model::{FrameState, Params, Six, Snapshot, View, Waiting};
 impl<E: Epochs, F: Task, P: Promise> Engine<E, F, P> {
     /// The sizes that it was opened with.
     pub fn params(&self) -> Params
-        ensures { result ≡ self.now.core.sizes }
+        ensures value { result ≡ self.now.core.sizes }
+        ensures known { IsEngine self.now }
     {
         self.core.params()
     }
@@ -55,7 +56,8 @@ impl<E: Epochs, F: Task, P: Promise> Engine<E, F, P> {
     /// The state of frame f, which is below F, and its last entered page; None where it is free.
     pub fn frame(&self, f: u64) -> (FrameState, Option<u64>)
         requires { f < self.now.core.sizes.frames }
-        ensures { (A : List Step) → EngineStands self.now A → result ≡ frame_of self.now.core.sizes f A }
+        ensures value { (A : List Step) → EngineStands self.now A → result ≡ frame_of self.now.core.sizes f A }
+        ensures shown { IfSome result.1 (λ page. Shows self.now page) }
     {
         self.core.frame(f)
     }

@@ -1,4 +1,5 @@
 ghost use Rattle.std.specs.Prelude.{◌≡◌, true, false, OnErr};
+ghost use Rattle.hl_cells.specs.Engines.{IsEngine};
 ghost use Rattle.hl_cells.specs.EngineSteps.{Moves, is_job_bump, is_plain};
 
 use crate::engine::Engine;
@@ -17,6 +18,7 @@ impl<E: Epochs + Drop, F: Task, P: Promise> Engine<E, F, P> {
         requires { is_job_bump step.now ≡ false }
         ensures moved { Moves P.keeps self.old step.now self.new result }
         ensures refused { OnErr result (self.new ≡ self.old) }
+        ensures stood { IsEngine self.old }
     {
         match *step {
             Step::Bump { .. } => unreachable!(),
@@ -39,6 +41,7 @@ impl<E: Epochs + Drop, F: Task, P: Promise> Engine<E, F, P> {
         requires { is_plain step.now ≡ true }
         ensures moved { Moves P.keeps self.old step.now self.new result }
         ensures refused { OnErr result (self.new ≡ self.old) }
+        ensures stood { IsEngine self.old }
     {
         self.core.act(step)
     }

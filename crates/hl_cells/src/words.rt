@@ -4,7 +4,7 @@ ghost use Rattle.hl_model.specs.declared.step.Step.TheVariants.{Read as READ, Wr
 ghost use Rattle.hl_model.specs.Words.{word, page_words};
 ghost use Rattle.hl_model.specs.Replies.{fault_of, unless_fault, extended};
 ghost use Rattle.hl_cells.specs.CellWords.{cell_at};
-ghost use Rattle.hl_cells.specs.Engines.{EngineStands, Shows};
+ghost use Rattle.hl_cells.specs.Engines.{EngineStands, IsEngine, Shows};
 ghost use Rattle.hl_cells.specs.EngineSteps.{Moves};
 
 use crate::engine::Engine;
@@ -38,6 +38,7 @@ impl<E: Epochs + Drop, F: Task, P: Promise> Engine<E, F, P> {
             → EngineStands self.new (extended self.old.core.sizes A (WRITE t a v)) }
         ensures sizes { self.new.core.sizes ≡ self.old.core.sizes }
         ensures refused { OnErr result (self.new ≡ self.old) }
+        ensures stood { IsEngine self.old }
     {
         let cell = self.cell_of(a);
         self.core.act(&Step::Write { t, a, v })?;
@@ -58,6 +59,7 @@ impl<E: Epochs + Drop, F: Task, P: Promise> Engine<E, F, P> {
     pub(crate) fn read_step(&mut self, t: u64, a: u64) -> Result<Reply, Fault>
         ensures moved { Moves P.keeps self.old (READ t a) self.new result }
         ensures refused { OnErr result (self.new ≡ self.old) }
+        ensures stood { IsEngine self.old }
     {
         let cell = self.cell_of(a);
         self.core.act(&Step::Read { t, a })?;
@@ -68,6 +70,7 @@ impl<E: Epochs + Drop, F: Task, P: Promise> Engine<E, F, P> {
     pub(crate) fn clean_done(&mut self, page: u64) -> Result<Reply, Fault>
         ensures moved { Moves P.keeps self.old (CLEAN_DONE page) self.new result }
         ensures refused { OnErr result (self.new ≡ self.old) }
+        ensures stood { IsEngine self.old }
     {
         let start = self.first_cell(page);
         let len = self.page_len();

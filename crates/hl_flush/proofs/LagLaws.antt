@@ -1,0 +1,136 @@
+-- The offsets of a lag, and that its steps are lawful at them.
+use Rattle.std.proofs.Common.{◌≡◌, ℕ, ◌+◌, ◌-◌, ◌*◌, ◌/◌, ◌%◌, ◌<◌, ◌≤◌, arith, Bool, true, false, nat_lt, min, refl, ap, ◌∙◌, subst, None, List, [], ◌++◌, ◌⊎◌, inl, inr}
+use Rattle.std.proofs.Math.Nat.{mul-mod_right, mul-le-mul_left}
+use Rattle.std.proofs.lemmas.Bool.{cases_lt, ltb-true, lt-leb, le-ltb, eq-eqb}
+use Rattle.std.proofs.lemmas.List.Elements.{All-nil, All-cons, All-append}
+use Rattle.std.proofs.lemmas.Nat.{div-mul-add, div-add-mod', mod_below}
+use Rattle.std.specs.List.{All}
+use Rattle.hl_model.specs.declared.step.Step.{Step}
+use Rattle.hl_model.specs.declared.step.Step.TheVariants.{Raise, Settle, Shift, Close}
+use Rattle.hl_model.specs.declared.view.Six.{Six}
+use Rattle.hl_model.specs.Replies.{raise_fault, shift_fault}
+use Rattle.hl_model.proofs.ListLaws.{max-has}
+use Rattle.hl_offsets.specs.Log.{AreSix}
+use Rattle.hl_flush.specs.Lag.{pages_up_to, read_only_at, head_at, step_if, lag_of, fault_at}
+
+-- so many pages, and one more where words are left, is a quotient that is rounded up
+rounded_up : (page q r : ℕ) → r < page → q + min 1 r ≡ (q * page + r + page - 1) / page
+rounded_up page q r h = by_rest (cases_lt 0 r)
+  where
+    by_rest : ((0 < r) ⊎ (r ≤ 0)) → q + min 1 r ≡ (q * page + r + page - 1) / page
+    by_rest (inl some) =
+        let at : q * page + r + page - 1 ≡ (q + 1) * page + (r - 1) = omega (arith, some) in
+        let is : ((q + 1) * page + (r - 1)) / page ≡ q + 1 = div-mul-add (q + 1) page (r - 1) (omega (arith, h)) in
+        omega (arith, some, ap (λ a. a / page) at ∙ is)
+    by_rest (inr none) =
+        let at : q * page + r + page - 1 ≡ q * page + (page - 1) = omega (arith, none, h) in
+        let is : (q * page + (page - 1)) / page ≡ q = div-mul-add q page (page - 1) (omega (arith, h)) in
+        omega (arith, none, ap (λ a. a / page) at ∙ is)
+
+-- the pages up to the tail, counted as the whole ones and one more where words are left
+pub pages_up_to-is : (page tail : ℕ) → 0 < page → tail / page + min 1 (tail % page) ≡ pages_up_to page tail
+pages_up_to-is page tail h =
+    rounded_up page (tail / page) (tail % page) (mod_below tail page h)
+    ∙ ap (λ a. (a + page - 1) / page) (div-add-mod' tail page)
+
+-- a raise is lawful above the read-only offset and up to the tail
+raise_lawful : (read_only tail x : ℕ) → read_only < x → x ≤ tail → raise_fault read_only tail x ≡ None
+raise_lawful read_only tail x above most = rw (lt-leb x read_only above, le-ltb tail x most) refl
+
+-- a shift is lawful above the head and up to the flushed offset, where a page begins
+shift_lawful : (page head flushed x : ℕ) → head < x → x % page ≡ 0 → x ≤ flushed → shift_fault page head flushed x ≡ None
+shift_lawful page head flushed x above whole most =
+    rw (lt-leb x head above, eq-eqb (x % page) 0 whole, le-ltb flushed x most) refl
+
+-- some pages and m more, told as words
+pages_and_more : (page k m : ℕ) → 1 ≤ m → page * k + page ≤ (k + m) * page
+pages_and_more page k m some =
+    let parts : (k + m) * page ≡ page * k + page * m = omega arith in
+    let one : page * 1 ≤ page * m = mul-le-mul_left page some in
+    omega (arith, parts, one)
+
+-- where pages end less than a page behind the tail, all but some of them end at most at the tail
+behind_tail : (page n m tail : ℕ) → 1 ≤ m → n * page < tail + page → page * (n - m) ≤ tail
+behind_tail page n m tail some most = by_order (cases_lt m n)
+  where
+    by_order : ((m < n) ⊎ (n ≤ m)) → page * (n - m) ≤ tail
+    by_order (inl lt) =
+        let is : n - m + m ≡ n = omega (arith, lt) in
+        let more : page * (n - m) + page ≤ n * page = subst (λ a. page * (n - m) + page ≤ a * page) is (pages_and_more page (n - m) m some) in
+        omega (arith, more, most)
+    by_order (inr le) =
+        let none : n - m ≡ 0 = omega (arith, le) in
+        rw none (omega arith)
+
+-- the read-only offset is raised to at most the tail
+pub read_only_at-most : (page : ℕ) (six : Six) (mutable : ℕ) → 0 < page → 1 ≤ mutable → six.read_only ≤ six.tail → read_only_at page six mutable ≤ six.tail
+read_only_at-most page six mutable some least most =
+    let whole : pages_up_to page six.tail * page + (six.tail + page - 1) % page ≡ six.tail + page - 1 = div-add-mod' (six.tail + page - 1) page in
+    let behind : page * (pages_up_to page six.tail - mutable) ≤ six.tail = behind_tail page (pages_up_to page six.tail) mutable six.tail least (omega (arith, whole, some)) in
+    omega (arith, behind, most)
+
+-- the head is shifted to where a page begins
+pub head_at-whole : (page : ℕ) (six : Six) (resident : ℕ) → AreSix page six → head_at page six resident % page ≡ 0
+head_at-whole page six resident order =
+    max-has (λ a. a % page ≡ 0) six.head (min six.flushed start) order.head_whole lower
+  where
+    start : ℕ
+    start = page * (pages_up_to page six.tail - resident)
+
+    by_order : ((six.flushed < start) ⊎ (start ≤ six.flushed)) → min six.flushed start % page ≡ 0
+    by_order (inl lt) =
+        let is : min six.flushed start ≡ six.flushed = omega (arith, lt) in
+        ap (λ a. a % page) is ∙ order.flushed_whole
+    by_order (inr le) =
+        let is : min six.flushed start ≡ start = omega (arith, le) in
+        ap (λ a. a % page) is ∙ mul-mod_right page (pages_up_to page six.tail - resident)
+
+    lower : min six.flushed start % page ≡ 0
+    lower = by_order (cases_lt six.flushed start)
+
+-- the head is shifted to at most the flushed offset
+pub head_at-most : (page : ℕ) (six : Six) (resident : ℕ) → six.head ≤ six.flushed → head_at page six resident ≤ six.flushed
+head_at-most page six resident most = omega (arith, most)
+
+-- what holds of a step, where it is wanted, holds of each that is there
+each_wanted : (P : Step → Type 0) (b : Bool) (step : Step) → (b ≡ true → P step) → All P (step_if b step)
+each_wanted P true step h = All-cons P step [] (h refl) (All-nil P)
+each_wanted P false step h = All-nil P
+
+-- no raise or shift of a lag meets a fault
+pub lag-lawful : (page : ℕ) (six : Six) (mutable resident : ℕ) → 0 < page → 1 ≤ mutable → AreSix page six → All (λ step. fault_at page six step ≡ None) (lag_of page six mutable resident)
+lag-lawful page six mutable resident some least order =
+    All-append lawful (raise ++ settle ++ shift) close
+    (All-append lawful (raise ++ settle) shift
+    (All-append lawful raise settle
+    (each_wanted lawful (nat_lt six.read_only r) (Raise r) raised)
+    (each_wanted lawful (nat_lt six.safe_read_only r) Settle (λ is. refl)))
+    (each_wanted lawful (nat_lt six.head h) (Shift h) shifted))
+    (each_wanted lawful (nat_lt six.closed h) Close (λ is. refl))
+  where
+    lawful : Step → Type 0
+    lawful step = fault_at page six step ≡ None
+
+    r : ℕ
+    r = read_only_at page six mutable
+
+    h : ℕ
+    h = head_at page six resident
+
+    raise : List Step
+    raise = step_if (nat_lt six.read_only r) (Raise r)
+
+    settle : List Step
+    settle = step_if (nat_lt six.safe_read_only r) Settle
+
+    shift : List Step
+    shift = step_if (nat_lt six.head h) (Shift h)
+
+    close : List Step
+    close = step_if (nat_lt six.closed h) Close
+
+    raised : nat_lt six.read_only r ≡ true → lawful (Raise r)
+    raised is = raise_lawful six.read_only six.tail r (ltb-true six.read_only r is) (read_only_at-most page six mutable some least order.read_only_most)
+
+    shifted : nat_lt six.head h ≡ true → lawful (Shift h)
+    shifted is = shift_lawful page six.head six.flushed h (ltb-true six.head h is) (head_at-whole page six resident order) (head_at-most page six resident order.head_most)

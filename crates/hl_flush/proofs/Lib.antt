@@ -1,0 +1,3 @@
+pub mod EngineLaws
+pub mod FlushLaws
+pub mod LagLaws

@@ -1,0 +1,3 @@
+pub mod Flush
+pub mod Lag
+pub mod Taking

@@ -1,0 +1,52 @@
+ghost use Rattle.std.specs.Prelude.{◌≡◌, ◌+◌, ◌<◌, ◌≤◌, None, ◌++◌, length};
+ghost use Rattle.std.specs.List.{All};
+ghost use Rattle.hl_offsets.specs.Log.{AreSix};
+ghost use Rattle.hl_flush.specs.Lag.{step_if, lag_of, fault_at};
+
+use arrayvec::ArrayVec;
+use hl_model::{Params, Six, Step};
+
+/// What brings the log to its lag: a flusher's next steps, in order, so that about `mutable` pages at the tail may be
+/// written and about `resident` may be read. Both are numbers of pages, `1 <= mutable <= resident <= F`.
+///
+/// With N the pages up to the tail, the read-only offset is raised to where the page N - mutable begins, and a settle
+/// follows where the safe one is below. The head is shifted to where the page N - resident begins, at most to the
+/// flushed offset, and a close follows where the closed offset is below. No offset falls: what is already there is
+/// left out. (FASTER keeps its read-only and head offsets at constant lags behind the tail.)
+///
+/// At these offsets neither the raise nor the shift is refused, where the six are in order.
+pub fn lag_steps(params: Params, six: Six, mutable: u64, resident: u64) -> ArrayVec<Step, 4>
+    requires mutable_least { 1 ≤ mutable }
+    requires mutable_most { mutable ≤ resident }
+    requires resident_most { resident ≤ params.frames }
+    ensures steps { result.items ≡ lag_of params.page six mutable resident }
+    ensures lawful { AreSix params.page six → All (λ step. fault_at params.page six step ≡ None) result.items }
+{
+    let page = params.page();
+    let pages = six.tail.div_ceil(page);
+    let writable_from = page * pages.saturating_sub(mutable);
+    let resident_from = page * pages.saturating_sub(resident);
+    let read_only = six.read_only.max(writable_from);
+    let head = six.head.max(six.flushed.min(resident_from));
+    let raise = Step::Raise { x: read_only };
+    let mut steps = ArrayVec::new();
+    push_if(&mut steps, read_only > six.read_only, raise);
+    push_if(&mut steps, read_only > six.safe_read_only, Step::Settle);
+    push_if(&mut steps, head > six.head, Step::Shift { x: head });
+    push_if(&mut steps, head > six.closed, Step::Close);
+    steps
+}
+
+// Adds a step at the end, where it is wanted.
+fn push_if(steps: &mut ArrayVec<Step, 4>, is_wanted: bool, step: Step)
+    requires { length steps.old.items < 4 }
+    ensures items { steps.new.items ≡ steps.old.items ++ step_if is_wanted step }
+    ensures most { length steps.new.items ≤ length steps.old.items + 1 }
+{
+    if is_wanted {
+        steps.push(step);
+    }
+}
+
+#[cfg(test)]
+mod tests;

@@ -1,0 +1,40 @@
+//! The flusher's part of the log: which pages leave memory, and the way of one page to the device.
+//!
+//! After the HybridLog of FASTER (Chandramouli, Prasaad, Kossmann, Levandoski, Hunter, Barnett, SIGMOD 2018): the
+//! tail of the log may be written in place, what lies behind it is only read, and what lies behind that is on the
+//! device alone. Two calls, and no thread: whoever makes the steps decides when.
+//!
+//! # The lag
+//!
+//! [`lag_steps`] tells a flusher's next steps, so that about `mutable` pages at the tail may be written and about
+//! `resident` may be read. The offsets are computed by whole pages, the last one counted whole:
+//!
+//! ```text
+//! 0         head                 read-only            tail
+//! |----------|----------------------|------------------|
+//!  on the     only read              may be written
+//!  device     <------- resident pages ---------------->
+//!  alone                            <- mutable pages ->
+//! ```
+//!
+//! The head goes no further than pages were flushed, and no offset falls. A raise and a shift take effect for
+//! whoever sees them; the settle and the close behind them make sure that everybody has.
+//!
+//! # One page
+//!
+//! [`flush_one`] takes the least page that nobody writes any more and that wasn't flushed, makes its image from the
+//! engine's words, hands it to a writer and ends the flush. Where the write fails, the page is given back: the next
+//! flush takes it again. Nothing is tried again by the call itself.
+//!
+//! Its contract speaks of the steps that the engine stands at, and of the writer's own relations: with which words
+//! the page was written is a matter of the definitions (`Flushes` in `specs/Flush.antt`). What a device keeps is the
+//! writer's to say.
+//!
+//! No call takes memory.
+#![tactic(auto)]
+
+mod flush;
+mod lag;
+
+pub use flush::flush_one;
+pub use lag::lag_steps;
