@@ -1,49 +1,73 @@
--- What the answers to steps and queries show.
-use Rattle.std.proofs.Common.{◌≡◌, ℕ, Bool, is_none, is_ok, List, [], ◌∷◌, ◌++◌, length, map, ap, ap₂, ◌∙◌, subst}
-use Rattle.std.specs.Prelude.{Option, Some, None, Result, Ok, Err}
+-- What the lines that answer a step and a query tell.
+use Rattle.std.proofs.Common.{◌≡◌, ℕ, suc, ◌+◌, Bool, false, is_none, is_ok, List, [], ◌∷◌, ◌++◌, refl, sym, ap, ◌∙◌, subst, append_assoc, append-nil, arith}
+use Rattle.std.specs.Prelude.{Option, Some, None, Result, Ok, Err, codes}
+use Rattle.std.specs.List.{flat_map, range_with_len}
 use Rattle.std.specs.Io.KnownBytes.{Appends}
-use Rattle.hl_action.specs.Jobs.{KeptRecord}
+use Rattle.std.proofs.lemmas.Grind.{flat_map-append}
 use Rattle.hl_model.specs.declared.fault.Fault.{Fault}
 use Rattle.hl_model.specs.declared.step.Reply.{Reply}
 use Rattle.hl_model.specs.declared.step.Step.{Step}
-use Rattle.hl_model.specs.declared.view.Six.{Six}
+use Rattle.hl_model.specs.declared.snapshot.Snapshot.{Snapshot}
 use Rattle.hl_model.specs.Sizes.{Sizes}
-use Rattle.hl_model.specs.Epochs.{Table, current_epoch, safe_epoch}
-use Rattle.hl_model.specs.Replies.{answer_of, unless_fault}
-use Rattle.hl_epoch.specs.Table.{safe_of}
-use Rattle.hl_drain.specs.Actions.{waiting_of}
-use Rattle.hl_drain.specs.Lists.{Lists}
+use Rattle.hl_model.specs.Frames.{frame_of}
+use Rattle.hl_model.specs.Snapshots.{snapshot_of}
+use Rattle.hl_model.specs.Replies.{unless_fault}
+use Rattle.hl_model.proofs.ActionLaws.{range-push}
 use Rattle.hl_script.specs.declared.machine.Broken.{Broken}
 use Rattle.hl_script.specs.declared.machine.Broken.TheVariants.{OutOfMemory as NoMemory, Stream}
-use Rattle.hl_script.specs.Answers.{line_fault, shown, result_text, quantities_text, status_text}
-use Rattle.hl_script.specs.Held.{Row}
+use Rattle.hl_script.specs.Answers.{line_fault, line_answer, quantities_text, status_text, frame_text, result_text}
 use Rattle.hl_script.specs.Engine.{Puts}
-use Rattle.hl_script.specs.Shown.{job_tag, Shows, Stepped, StepAnswers}
-use Rattle.hl_script.proofs.TakeLaws.{safe_shown}
+use Rattle.hl_script.specs.Outcomes.{AppendsFront}
+use Rattle.hl_script.specs.Stepping.{Stepped, StepAnswers, QueryAnswers}
 
 accepted_told : (o : Option Fault) (x : Reply) (r : Result Reply Fault) → r ≡ unless_fault o x → is_ok r ≡ is_none o
 accepted_told None x r h = ap is_ok h
 accepted_told (Some f) x r h = ap is_ok h
 
 -- a step's answer was written
-pub step_answered : {F : Type 0} (has : ℕ → Bool) (sizes : Sizes) (A : List Step) (step : Step) (table : Table) (drain : Lists (KeptRecord F)) (shelf : List (Option (KeptRecord F))) (held : Row F) (result : Result Reply Fault) (old new : Option (List ℕ)) (counted : Bool) → Stepped has sizes A step table drain shelf held result → Appends old new (result_text result ++ 10 ∷ []) → counted ≡ is_ok result → StepAnswers has sizes A step table drain shelf held old new (Ok counted)
-step_answered has sizes A step table drain shelf held result old new counted st a c = (
-  subst (λ r. Appends old new (result_text r ++ 10 ∷ [])) st.reply a,
-  st.shows,
-  c ∙ accepted_told (line_fault has sizes A step) (shown step (answer_of sizes (A ++ step ∷ []) step)) result st.reply,
+pub step_answered : (stands : (ℕ → Bool) → Sizes → List Step → Type 0) (may_lack : Bool) (has : ℕ → Bool) (sizes : Sizes) (A : List Step) (step : Step) (result : Result Reply Fault) (old new : Option (List ℕ)) (counted : Bool) → Stepped stands may_lack has sizes A step (Some result) → Appends old new (result_text result ++ 10 ∷ []) → counted ≡ is_ok result → StepAnswers stands may_lack has sizes A step old new (Ok counted)
+step_answered stands may_lack has sizes A step result old new counted st a c = (
+  subst (λ r. Appends old new (result_text r ++ 10 ∷ [])) st.0 a,
+  st.1,
+  c ∙ accepted_told (line_fault has sizes A step) (line_answer sizes A step) result st.0,
 )
 
 -- or its first bytes
-pub step_broken : {F : Type 0} (has : ℕ → Bool) (sizes : Sizes) (A : List Step) (step : Step) (table : Table) (drain : Lists (KeptRecord F)) (shelf : List (Option (KeptRecord F))) (held : Row F) (result : Result Reply Fault) (old new : Option (List ℕ)) (e : Broken) → Stepped has sizes A step table drain shelf held result → Puts {A = Unit {0}} old new (result_text result ++ 10 ∷ []) (Err e) → StepAnswers has sizes A step table drain shelf held old new (Err e)
-step_broken has sizes A step table drain shelf held result old new NoMemory st p = p
-step_broken has sizes A step table drain shelf held result old new Stream st p = subst (λ r. Puts {A = Unit {0}} old new (result_text r ++ 10 ∷ []) (Err Stream)) st.reply p
+pub step_broken : (stands : (ℕ → Bool) → Sizes → List Step → Type 0) (may_lack : Bool) (has : ℕ → Bool) (sizes : Sizes) (A : List Step) (step : Step) (result : Result Reply Fault) (old new : Option (List ℕ)) (e : Broken) → Stepped stands may_lack has sizes A step (Some result) → Puts {A = Unit {0}} old new (result_text result ++ 10 ∷ []) (Err e) → StepAnswers stands may_lack has sizes A step old new (Err e)
+step_broken stands may_lack has sizes A step result old new NoMemory st p = absurd p
+step_broken stands may_lack has sizes A step result old new Stream st p = subst (λ r. AppendsFront old new (result_text r ++ 10 ∷ [])) st.0 p
 
-abbrev all_zero : Six
-all_zero = record { closed = 0; head = 0; flushed = 0; safe_read_only = 0; read_only = 0; tail = 0 }
+-- a query's answer was written
+pub query_answered : (text bytes : List ℕ) (old new : Option (List ℕ)) → text ≡ bytes → Appends old new (text ++ 10 ∷ []) → QueryAnswers bytes old new (Ok false)
+query_answered text bytes old new e a = (subst (λ z. Appends old new (z ++ 10 ∷ [])) e a, refl)
 
--- the quantities that are shown
-pub status_shown : {F : Type 0} (has : ℕ → Bool) (sizes : Sizes) (A : List Step) (table : Table) (drain : Lists (KeptRecord F)) (shelf : List (Option (KeptRecord F))) (held : Row F) (epoch safe waits runs : ℕ) → Shows has sizes A table drain shelf held → epoch ≡ table.current → safe ≡ safe_of table → waits ≡ length (map (waiting_of job_tag) drain.pending) → runs ≡ length drain.taken → quantities_text epoch safe waits runs all_zero ≡ status_text sizes A
+-- or its first bytes
+pub query_broken : (text bytes : List ℕ) (old new : Option (List ℕ)) (e : Broken) → text ≡ bytes → Puts {A = Unit {0}} old new (text ++ 10 ∷ []) (Err e) → QueryAnswers bytes old new (Err e)
+query_broken text bytes old new NoMemory h p = absurd p
+query_broken text bytes old new Stream h p = subst (λ z. AppendsFront old new (z ++ 10 ∷ [])) h p
+
+-- the first n frames
+abbrev pub frames_so_far : Sizes → List Step → ℕ → List ℕ
+frames_so_far sizes A n = codes "frames" ++ flat_map (λ f. frame_text (frame_of sizes f A)) (range_with_len 0 n)
+
+-- one frame more
+pub frames-more : (sizes : Sizes) (A : List Step) (n : ℕ) → frames_so_far sizes A (n + 1) ≡ frames_so_far sizes A n ++ frame_text (frame_of sizes n A)
+frames-more sizes A n =
+    ap (λ k. frames_so_far sizes A k) next
+    ∙ ap (λ z. codes "frames" ++ flat_map text z) (range-push 0 n ∙ ap (λ k. range_with_len 0 n ++ k ∷ []) first)
+    ∙ ap (λ z. codes "frames" ++ z) (flat_map-append text (range_with_len 0 n) (n ∷ []) ∙ ap (λ z. flat_map text (range_with_len 0 n) ++ z) (append-nil (text n)))
+    ∙ sym (append_assoc (codes "frames") (flat_map text (range_with_len 0 n)) (text n))
+  where
+    text : ℕ → List ℕ
+    text f = frame_text (frame_of sizes f A)
+
+    first : 0 + n ≡ n
+    first = omega arith
+
+    next : n + 1 ≡ suc n
+    next = omega arith
+
+-- the quantities as a snapshot tells them
+pub status_told : (sizes : Sizes) (A : List Step) (now : Snapshot) → now ≡ snapshot_of sizes A → quantities_text now.epoch now.safe now.pending now.taken now.six ≡ status_text sizes A
 unfolding status_text
-status_shown has sizes A table drain shelf held epoch safe waits runs sh e s p t =
-    ap₂ (λ x y. quantities_text x y waits runs all_zero) (e ∙ ap (λ (z : Table). z.current) sh.table_is) (s ∙ safe_shown has sizes A table drain shelf held sh)
-    ∙ ap₂ (λ x y. quantities_text (current_epoch A) (safe_epoch sizes.slots A) x y all_zero) (p ∙ ap length sh.pending_is) (t ∙ ap length sh.taken_is)
+status_told sizes A now e = ap (λ (z : Snapshot). quantities_text z.epoch z.safe z.pending z.taken z.six) e

@@ -13,8 +13,8 @@ use Rattle.hl_script.specs.Cut.{whole_lines}
 use Rattle.hl_script.specs.Lines.{script, bad_line, allowed, may_stand}
 use Rattle.hl_script.specs.Answers.{accepted, accepted_after}
 use Rattle.hl_script.specs.Text.{answers, bad_text, text, count_of}
-use Rattle.hl_script.specs.Outcomes.{WroteWholeLines, WroteAll, WroteUpTo, AppendsFront, Stopped}
-use Rattle.hl_script.specs.Engine.{answered, Answered, Refuses, Reached, Faces, At, JudgedGood, Judged, Fed, Ended, Ran}
+use Rattle.hl_script.specs.Outcomes.{WroteWholeLines, WroteAll, WroteUpTo, AppendsFront}
+use Rattle.hl_script.specs.Engine.{answered, Answered, Refuses, Stopped, Reached, Faces, At, JudgedGood, Judged, Fed, Ended, Ran}
 use Rattle.hl_script.proofs.KnownLaws.{Appends-nothing, Appends-more, Consumes-more, front-more, front-longer, at_end_left}
 use Rattle.hl_script.proofs.LineLaws.{IsBad, faces_bad, faces_good}
 use Rattle.hl_script.proofs.ReachLaws.{IsGood, reached_start, reached_byte, reached_end, reached_long, reached_last, reached_line, reached_unfinished, reached_whole, reached_done, reached_last_line}

@@ -1,13 +1,12 @@
 pub mod AnswerLaws
-pub mod BumpLaws
 pub mod CutLaws
 pub mod EngineLaws
-pub mod HeldLaws
+pub mod FastLaws
 pub mod KnownLaws
 pub mod LineLaws
 pub mod MachineLaws
 pub mod ReachLaws
 pub mod RunLaws
-pub mod ShownLaws
-pub mod TakeLaws
+pub mod ShelfLaws
+pub mod SlowLaws
 pub mod TextLaws

@@ -1,35 +1,62 @@
--- What the outcome of the engine is to a caller.
-use Rattle.std.proofs.Common.{◌≡◌, ℕ, Bool, List, [], ◌∷◌, ◌++◌, ap, ◌∙◌, subst}
+-- What the outcome of a script's run is to a caller.
+use Rattle.std.proofs.Common.{◌≡◌, ◌⊎◌, ℕ, Bool, true, false, List, [], ◌∷◌, ◌++◌, ap, ◌∙◌, subst}
 use Rattle.std.specs.Prelude.{Option}
-use Rattle.std.specs.Io.KnownBytes.{Appends}
+use Rattle.std.specs.Io.KnownBytes.{Appends, Consumes}
+use Rattle.hl_model.specs.declared.fault.Fault.{Fault}
+use Rattle.hl_model.specs.declared.fault.Fault.TheVariants.{BadLine, OutOfMemory, Stream}
 use Rattle.hl_line.specs.declared.line.Line.{Line}
-use Rattle.hl_script.specs.declared.stop.Stop.TheVariants.{BadLine, OutOfMemory, Writer}
-use Rattle.hl_script.specs.Lines.{is_config}
+use Rattle.hl_line.specs.declared.line.Line.TheVariants.{Config, Step as Makes, Status, Pending, Frames}
+use Rattle.hl_script.specs.Lines.{is_config, takes_memory}
 use Rattle.hl_script.specs.Text.{answers}
-use Rattle.hl_script.specs.Outcomes.{WroteBad, WroteFront, WroteUpTo, LackedAtConfig, Stopped, Settled}
+use Rattle.hl_script.specs.Outcomes.{WroteBad, WroteWholeLines, WroteFront, WroteUpTo, LackedAtConfig, Settled, IsRunFault}
+use Rattle.hl_script.specs.Machine.{ScriptStopped}
 use Rattle.hl_script.proofs.MachineLaws.{config_first}
 use Rattle.hl_script.proofs.TextLaws.{answers-nil}
 
-pub settled_bad : (has : ℕ → Bool) (lacks : Line → Bool) (left from to : Option (List ℕ)) (n : ℕ) (input : List ℕ) → Settled left (Stopped has lacks from to (BadLine n)) input → Settled left (WroteBad has from to n) input
-settled_bad has lacks left from to n input s = record { given = s.given; with_left = λ more is. s.with_left more is }
+-- where no step takes memory, it is refused at a config alone
+config_alone : (line : Line) → takes_memory false line ≡ true → is_config line ≡ true
+config_alone (Config sizes) h = h
+config_alone (Makes step) h = h
+config_alone Status h = h
+config_alone Pending h = h
+config_alone Frames h = h
 
-pub settled_front : (has : ℕ → Bool) (lacks : Line → Bool) (left from to : Option (List ℕ)) (input : List ℕ) → Settled left (Stopped has lacks from to Writer) input → Settled left (WroteFront has from to) input
-settled_front has lacks left from to input s = record { given = s.given; with_left = λ more is. s.with_left more is }
-
--- memory is refused at a config alone, and so at line 1
-lacked_first : (has : ℕ → Bool) (from to : Option (List ℕ)) (input : List ℕ) → WroteUpTo has is_config from to input → LackedAtConfig from to input
+-- and so at line 1
+lacked_first : (has : ℕ → Bool) (from to : Option (List ℕ)) (input : List ℕ) → WroteUpTo has (takes_memory false) from to input → LackedAtConfig from to input
 lacked_first has from to input w =
-    let none : w.lines ≡ [] = config_first w.lines w.line w.lacking w.stands in
+    let config : is_config w.line ≡ true = config_alone w.line w.lacking in
+    let none : w.lines ≡ [] = config_first w.lines w.line config w.stands in
     record {
       line = w.line;
       others = w.others;
       first = w.good ∙ ap (λ z. z ++ w.line ∷ w.others) none;
-      config = w.lacking;
+      config = config;
       nothing = subst (Appends from to) (ap (answers has) none ∙ answers-nil has) w.wrote;
     }
 
-pub settled_lacked : (has : ℕ → Bool) (left from to : Option (List ℕ)) (input : List ℕ) → Settled left (Stopped has is_config from to OutOfMemory) input → Settled left (LackedAtConfig from to) input
+settled_lacked : (has : ℕ → Bool) (left from to : Option (List ℕ)) (input : List ℕ) → Settled left (WroteUpTo has (takes_memory false) from to) input → Settled left (LackedAtConfig from to) input
 settled_lacked has left from to input s = record {
   given = lacked_first has from to input s.given;
   with_left = λ more is. lacked_first has from to (input ++ more) (s.with_left more is);
 }
+
+-- a run that stopped at a fault, by the fault
+pub stopped_bad : (may_lack : Bool) (has : ℕ → Bool) (given left from to : Option (List ℕ)) (f : Fault) (n : ℕ) → ScriptStopped may_lack has given left from to f → f ≡ BadLine n → (input : List ℕ) × Consumes given left input × Settled left (WroteBad has from to n) input
+stopped_bad may_lack has given left from to f n s e = subst (ScriptStopped may_lack has given left from to) e s
+
+pub stopped_lacked : (has : ℕ → Bool) (given left from to : Option (List ℕ)) (f : Fault) → ScriptStopped false has given left from to f → f ≡ OutOfMemory → (input : List ℕ) × Consumes given left input × Settled left (LackedAtConfig from to) input
+stopped_lacked has given left from to f s e =
+    let here : ScriptStopped false has given left from to OutOfMemory = subst (ScriptStopped false has given left from to) e s in
+    (here.0, here.1, settled_lacked has left from to here.0 here.2)
+
+pub stopped_up_to : (has : ℕ → Bool) (given left from to : Option (List ℕ)) (f : Fault) → ScriptStopped true has given left from to f → f ≡ OutOfMemory → (input : List ℕ) × Consumes given left input × Settled left (WroteUpTo has (takes_memory true) from to) input
+stopped_up_to has given left from to f s e = subst (ScriptStopped true has given left from to) e s
+
+pub stopped_stream : (may_lack : Bool) (has : ℕ → Bool) (given left from to : Option (List ℕ)) (f : Fault) → ScriptStopped may_lack has given left from to f → f ≡ Stream → (input : List ℕ) × Consumes given left input × (WroteWholeLines has from to input ⊎ Settled left (WroteFront has from to) input)
+stopped_stream may_lack has given left from to f s e = subst (ScriptStopped may_lack has given left from to) e s
+
+pub stopped_fault : (may_lack : Bool) (has : ℕ → Bool) (given left from to : Option (List ℕ)) (f : Fault) → ScriptStopped may_lack has given left from to f → IsRunFault f
+stopped_fault may_lack has given left from to (BadLine n) s = tt
+stopped_fault may_lack has given left from to OutOfMemory s = tt
+stopped_fault may_lack has given left from to Stream s = tt
+stopped_fault may_lack has given left from to f s = absurd s

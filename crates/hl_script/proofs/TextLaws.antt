@@ -7,7 +7,7 @@ use Rattle.hl_model.specs.Sizes.{Sizes}
 use Rattle.hl_model.specs.Lists.{gather, gather_after}
 use Rattle.hl_model.proofs.ListLaws.{gather-push}
 use Rattle.hl_line.specs.declared.line.Line.{Line}
-use Rattle.hl_line.specs.declared.line.Line.TheVariants.{Config, Step as Makes, Status, Pending}
+use Rattle.hl_line.specs.declared.line.Line.TheVariants.{Config, Step as Makes, Status, Pending, Frames}
 use Rattle.hl_script.specs.Answers.{sizes_of, line_fault, is_accepted, with_line, accepted_after, accepted}
 use Rattle.hl_script.specs.Text.{answers}
 use Rattle.hl_script.specs.Engine.{answered}
@@ -44,6 +44,7 @@ sizes_of-push (Config sizes) lines line = refl
 sizes_of-push (Makes step) lines line = refl
 sizes_of-push Status lines line = refl
 sizes_of-push Pending lines line = refl
+sizes_of-push Frames lines line = refl
 
 -- one line more
 pub accepted-push : (has : ℕ → Bool) (before : List Line) (line : Line) → accepted has (before ++ line ∷ []) ≡ with_line has (sizes_of before) (accepted has before) line
@@ -52,6 +53,7 @@ accepted-push has [] (Config sizes) = refl
 accepted-push has [] (Makes step) = refl
 accepted-push has [] Status = refl
 accepted-push has [] Pending = refl
+accepted-push has [] Frames = refl
 accepted-push has (first ∷ lines) line =
     ap (λ sizes. accepted_after has sizes [] ((first ∷ lines) ++ line ∷ [])) (sizes_of-push first lines line)
     ∙ accepted_after-push has (sizes_of (first ∷ lines)) [] (first ∷ lines) line
@@ -62,6 +64,7 @@ with_line-length has sizes A (Makes step) =
     elim (is_none (line_fault has sizes A step)) as (λ b. length (cond b (A ++ step ∷ []) A) ≡ length A + cond b 1 0) [ true ↦ length_push A step | false ↦ omega arith ]
 with_line-length has sizes A Status = omega arith
 with_line-length has sizes A Pending = omega arith
+with_line-length has sizes A Frames = omega arith
 
 -- a step that is accepted is one more
 pub accepted-length : (has : ℕ → Bool) (before : List Line) (line : Line) → length (accepted has (before ++ line ∷ [])) ≡ length (accepted has before) + cond (is_accepted has (sizes_of before) (accepted has before) line) 1 0

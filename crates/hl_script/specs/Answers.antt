@@ -1,11 +1,13 @@
 -- What each line of a script is answered, told the lines before it and the set of tags that have a job.
-use Rattle.std.specs.Prelude.{ℕ, ◌+◌, ◌==◌, Bool, false, ◌||◌, not, if◌then◌else◌, Option, Some, is_none, Result, Ok, Err, List, [], ◌∷◌, ◌++◌, length, codes, decimal}
-use Rattle.std.specs.List.{list_any, flat_map}
+use Rattle.std.specs.Prelude.{ℕ, ◌+◌, ◌==◌, Bool, false, ◌||◌, not, if◌then◌else◌, Option, Some, None, is_none, Result, Ok, Err, List, [], ◌∷◌, ◌++◌, length, codes, decimal}
+use Rattle.std.specs.List.{list_any, flat_map, range_with_len}
 use Rattle.hl_model.specs.declared.action.Kind.{Kind}
 use Rattle.hl_model.specs.declared.action.Kind.TheVariants.{User, Settle, Close}
 use Rattle.hl_model.specs.declared.action.Waiting.{Waiting}
 use Rattle.hl_model.specs.declared.fault.Fault.{Fault}
 use Rattle.hl_model.specs.declared.fault.Fault.TheVariants.{NoJob}
+use Rattle.hl_model.specs.declared.frame.FrameState.{FrameState}
+use Rattle.hl_model.specs.declared.frame.FrameState.TheVariants.{Opened, Sealed, Flushed, Closed, Free}
 use Rattle.hl_model.specs.declared.step.Reply.{Reply}
 use Rattle.hl_model.specs.declared.step.Reply.TheVariants.{Ran, Answer}
 use Rattle.hl_model.specs.declared.step.Step.{Step}
@@ -14,10 +16,11 @@ use Rattle.hl_model.specs.declared.view.Six.{Six}
 use Rattle.hl_model.specs.Sizes.{Sizes}
 use Rattle.hl_model.specs.Epochs.{current_epoch, safe_epoch}
 use Rattle.hl_model.specs.Actions.{pending, taken}
-use Rattle.hl_model.specs.Settled.{six}
-use Rattle.hl_model.specs.Replies.{fault_of, answer_of, unless_fault}
+use Rattle.hl_model.specs.Frames.{frame_of}
+use Rattle.hl_model.specs.Snapshots.{six}
+use Rattle.hl_model.specs.Replies.{fault_of, answer_of, unless_fault, with_word}
 use Rattle.hl_line.specs.declared.line.Line.{Line}
-use Rattle.hl_line.specs.declared.line.Line.TheVariants.{Config, Step as Makes, Status, Pending}
+use Rattle.hl_line.specs.declared.line.Line.TheVariants.{Config, Step as Makes, Status, Pending, Frames}
 use Rattle.hl_line.specs.Replies.{reply_text, fault_text}
 
 -- a bump with the job of this tag
@@ -39,9 +42,13 @@ abbrev pub shown : Step → Reply → Reply
 shown (Done ticket) (Ran tag) = Answer (tag + ticket)
 shown _ reply = reply
 
+-- the answer to a script's step that is accepted after the steps A: a read is told the word, a done what its job answers
+abbrev pub line_answer : Sizes → List Step → Step → Reply
+line_answer sizes A step = shown step (with_word A step (answer_of sizes A (A ++ step ∷ []) step))
+
 -- the reply to a script's step after the accepted steps A
 abbrev pub line_reply : (ℕ → Bool) → Sizes → List Step → Step → Result Reply Fault
-line_reply has sizes A step = unless_fault (line_fault has sizes A step) (shown step (answer_of sizes (A ++ step ∷ []) step))
+line_reply has sizes A step = unless_fault (line_fault has sizes A step) (line_answer sizes A step)
 
 -- the sizes of the config that stands first; all 0 without one
 abbrev pub sizes_of : List Line → Sizes
@@ -97,6 +104,27 @@ waiting_text waiting = 32 ∷ (decimal waiting.ticket ++ kind_text waiting.kind)
 unfoldable pub pending_text : List Waiting → List ℕ
 pending_text waiting = codes "pending" ++ flat_map waiting_text waiting
 
+-- what a frame is at
+abbrev pub state_text : FrameState → List ℕ
+state_text Opened = codes "open"
+state_text Sealed = codes "sealed"
+state_text Flushed = codes "flushed"
+state_text Closed = codes "closed"
+state_text Free = codes "free"
+
+-- the page that lies in a frame, where it isn't free
+abbrev pub page_text : Option ℕ → List ℕ
+page_text None = []
+page_text (Some p) = codes ":" ++ decimal p
+
+-- a space, what a frame is at, and its page
+unfoldable pub frame_text : FrameState × Option ℕ → List ℕ
+frame_text frame = 32 ∷ (state_text frame.0 ++ page_text frame.1)
+
+-- what each frame is at after the accepted steps A
+unfoldable pub frames_text : Sizes → List Step → List ℕ
+frames_text sizes A = codes "frames" ++ flat_map (λ f. frame_text (frame_of sizes f A)) (range_with_len 0 sizes.frames)
+
 -- an answer, or the fault
 abbrev pub result_text : Result Reply Fault → List ℕ
 result_text (Ok reply) = reply_text reply
@@ -108,6 +136,7 @@ answer_text has sizes A (Config given) = codes "opened"
 answer_text has sizes A (Makes step) = result_text (line_reply has sizes A step)
 answer_text has sizes A Status = status_text sizes A
 answer_text has sizes A Pending = pending_text (pending A)
+answer_text has sizes A Frames = frames_text sizes A
 
 -- what a line is answered, without an LF, after the lines before it
 abbrev pub reply_line : (ℕ → Bool) → List Line → Line → List ℕ

@@ -9,12 +9,12 @@ use Rattle.hl_script.specs.declared.machine.Broken.{Broken}
 use Rattle.hl_script.specs.declared.machine.Broken.TheVariants.{OutOfMemory as NoMemory, Stream}
 use Rattle.hl_script.specs.declared.progress.Progress.{Progress}
 use Rattle.hl_script.specs.declared.stop.Stop.{Stop}
-use Rattle.hl_script.specs.declared.stop.Stop.TheVariants.{BadLine, Reader, Writer}
+use Rattle.hl_script.specs.declared.stop.Stop.TheVariants.{BadLine, OutOfMemory, Reader, Writer}
 use Rattle.hl_script.specs.Cut.{cut}
 use Rattle.hl_script.specs.Lines.{script, good_lines, allowed}
 use Rattle.hl_script.specs.Answers.{reply_line, accepted, is_accepted, sizes_of}
-use Rattle.hl_script.specs.Text.{answers, bad_text, count_of}
-use Rattle.hl_script.specs.Outcomes.{WroteWholeLines, WroteAll, AppendsFront, Stopped, Settled}
+use Rattle.hl_script.specs.Text.{answers, bad_text, text, count_of}
+use Rattle.hl_script.specs.Outcomes.{WroteWholeLines, WroteAll, WroteBad, WroteUpTo, AppendsFront, Settled}
 
 -- the byte that ends a line
 abbrev pub is_end : ℕ → Bool
@@ -47,6 +47,13 @@ abbrev pub Refuses : Option (List ℕ) → Option (List ℕ) → ℕ → Stop �
 Refuses old new n (BadLine m) = (m ≡ n) × Appends old new (bad_text (Some n))
 Refuses old new n Writer = AppendsFront old new (bad_text (Some n))
 Refuses old new n _ = ⊥
+
+-- what was written where a run stopped in these bytes, but for a failed read
+abbrev pub Stopped : (ℕ → Bool) → (Line → Bool) → Option (List ℕ) → Option (List ℕ) → Stop → List ℕ → Type 0
+Stopped has lacks before after (BadLine n) bytes = WroteBad has before after n bytes
+Stopped has lacks before after OutOfMemory bytes = WroteUpTo has lacks before after bytes
+Stopped has lacks before after Reader bytes = ⊥
+Stopped has lacks before after Writer bytes = AppendsFront before after (text has bytes)
 
 -- these bytes are the whole lines before, all of them good, and the beginning of a line
 pub record Reached (done : List ℕ) (before : List Line) (line : List ℕ) : Type 0 where

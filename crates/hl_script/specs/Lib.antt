@@ -1,9 +1,10 @@
 pub mod Answers
 pub mod Cut
 pub mod Engine
-pub mod Held
+pub mod Fast
 pub mod Lines
 pub mod Machine
 pub mod Outcomes
-pub mod Shown
+pub mod Slow
+pub mod Stepping
 pub mod Text

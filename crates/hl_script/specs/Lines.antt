@@ -2,7 +2,7 @@
 use Rattle.std.specs.Prelude.{ℕ, ◌+◌, ◌==◌, Bool, true, false, not, if◌then◌else◌, Option, Some, None, option_and_then, List, [], ◌∷◌, ◌++◌, length}
 use Rattle.std.specs.Option.{option_map_or}
 use Rattle.hl_line.specs.declared.line.Line.{Line}
-use Rattle.hl_line.specs.declared.line.Line.TheVariants.{Config}
+use Rattle.hl_line.specs.declared.line.Line.TheVariants.{Config, Step as Makes}
 use Rattle.hl_line.specs.Reading.{line_of}
 use Rattle.hl_script.specs.Cut.{cut}
 
@@ -10,6 +10,12 @@ use Rattle.hl_script.specs.Cut.{cut}
 abbrev pub is_config : Line → Bool
 is_config (Config sizes) = true
 is_config _ = false
+
+-- the lines at which memory may be refused: a config, and the steps too where each takes some
+abbrev pub takes_memory : Bool → Line → Bool
+takes_memory steps_do (Config sizes) = true
+takes_memory steps_do (Makes step) = steps_do
+takes_memory steps_do _ = false
 
 -- whether a line may stand after these: a config stands at line 1 and nowhere else
 abbrev pub may_stand : List Line → Line → Bool

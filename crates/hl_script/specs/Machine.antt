@@ -1,18 +1,49 @@
--- When a table of epochs and a drain list of stored jobs stand at the lines of a script.
-use Rattle.std.specs.Prelude.{◌≡◌, ℕ, Bool, Option, Some, None, List, []}
-use Rattle.hl_model.specs.Epochs.{Table}
-use Rattle.hl_action.specs.Jobs.{KeptRecord}
+-- When what makes the steps of a script stands at the script's lines, and what a run of the script leads to.
+use Rattle.std.specs.Prelude.{◌≡◌, ◌⊎◌, ℕ, Bool, Option, Some, None, Result, Ok, Err, List, [], ◌∷◌}
+use Rattle.std.specs.Io.KnownBytes.{Consumes, IsAtEnd}
+use Rattle.hl_model.specs.declared.fault.Fault.{Fault}
+use Rattle.hl_model.specs.declared.fault.Fault.TheVariants.{BadLine, OutOfMemory, Stream}
+use Rattle.hl_model.specs.declared.step.Step.{Step}
+use Rattle.hl_model.specs.Sizes.{Sizes}
 use Rattle.hl_line.specs.declared.line.Line.{Line}
-use Rattle.hl_script.specs.declared.opened.Opened.{Opened}
-use Rattle.hl_script.specs.Text.{tags_on}
-use Rattle.hl_script.specs.Shown.{ShowsLines}
+use Rattle.hl_line.specs.declared.line.Line.TheVariants.{Config}
+use Rattle.hl_script.specs.Lines.{script, takes_memory}
+use Rattle.hl_script.specs.Answers.{sizes_of, accepted}
+use Rattle.hl_script.specs.Text.{count_of}
+use Rattle.hl_script.specs.Outcomes.{WroteAll, WroteBad, WroteUpTo, WroteWholeLines, WroteFront, Settled}
 
--- before the first line nothing is open, and the jobs are on the shelf
-abbrev pub Waits : {F : Type 0} → Option (List (Option (KeptRecord F))) → (ℕ → Bool) → List Line → Type 0
-Waits None has before = ⊥
-Waits (Some shelf) has before = (before ≡ []) × (has ≡ tags_on shelf)
+-- it stands at the accepted steps of some lines, of which the first is a config
+pub record StandsAt (stands : (ℕ → Bool) → Sizes → List Step → Type 0) (has : ℕ → Bool) (before : List Line) : Type 0 where
+  pub given : Sizes
+  pub others : List Line
+  pub first : before ≡ Config given ∷ others
+  pub standing : stands has (sizes_of before) (accepted has before)
 
--- later, what is open shows what the lines so far have
-abbrev pub Stands : {E F : Type 0} → (E → Table) → Option (List (Option (KeptRecord F))) → Option (Opened E F) → (ℕ → Bool) → List Line → Type 0
-Stands table shelf None has before = Waits shelf has before
-Stands table shelf (Some opened) has before = ShowsLines has before (table opened.table) opened.drain opened.shelf opened.held
+-- before the first line nothing is open, and it is there what opens
+abbrev pub Waits : {O : Type 0} → (O → (ℕ → Bool) → Type 0) → Option O → (ℕ → Bool) → List Line → Type 0
+Waits begins None has before = ⊥
+Waits begins (Some opening) has before = (before ≡ []) × begins opening has
+
+-- later, what is open stands at the lines so far
+abbrev pub Stands : {O S : Type 0} → (O → (ℕ → Bool) → Type 0) → (S → (ℕ → Bool) → Sizes → List Step → Type 0) → Option O → Option S → (ℕ → Bool) → List Line → Type 0
+Stands begins stands opening None has before = Waits begins opening has before
+Stands begins stands opening (Some opened) has before = StandsAt (stands opened) has before
+
+-- what is left at the end of some lines: nothing where there is none, else what stands at their accepted steps, and how many these are
+abbrev pub EndsAt : {S : Type 0} → (S → (ℕ → Bool) → Sizes → List Step → Type 0) → (ℕ → Bool) → List Line → Option (S × ℕ) → Type 0
+EndsAt stands has lines None = lines ≡ []
+EndsAt stands has lines (Some end) = (count_of has lines ≡ Some end.1) × stands end.0 has (sizes_of lines) (accepted has lines)
+
+-- what a run of a script led to that stopped at a fault
+abbrev pub ScriptStopped : Bool → (ℕ → Bool) → Option (List ℕ) → Option (List ℕ) → Option (List ℕ) → Option (List ℕ) → Fault → Type 0
+ScriptStopped may_lack has given left from to (BadLine n) = (input : List ℕ) × Consumes given left input × Settled left (WroteBad has from to n) input
+ScriptStopped may_lack has given left from to OutOfMemory = (input : List ℕ) × Consumes given left input × Settled left (WroteUpTo has (takes_memory may_lack) from to) input
+ScriptStopped may_lack has given left from to Stream =
+    (input : List ℕ) × Consumes given left input × (WroteWholeLines has from to input ⊎ Settled left (WroteFront has from to) input)
+ScriptStopped may_lack has given left from to _ = ⊥
+
+-- what a run of a script led to
+abbrev pub ScriptRan : {S : Type 0} → (S → (ℕ → Bool) → Sizes → List Step → Type 0) → Bool → (ℕ → Bool) → Option (List ℕ) → Option (List ℕ) → Option (List ℕ) → Option (List ℕ) → Result (Option (S × ℕ)) Fault → Type 0
+ScriptRan stands may_lack has given left from to (Ok ended) =
+    (input : List ℕ) × Consumes given left input × IsAtEnd left × WroteAll has from to input × EndsAt stands has (script input) ended
+ScriptRan stands may_lack has given left from to (Err fault) = ScriptStopped may_lack has given left from to fault

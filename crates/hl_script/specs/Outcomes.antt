@@ -2,8 +2,6 @@
 use Rattle.std.specs.Prelude.{◌≡◌, ◌≤◌, length, ⊤, ℕ, Bool, true, Option, Some, None, List, [], ◌∷◌, ◌++◌}
 use Rattle.std.specs.Io.KnownBytes.{Appends}
 use Rattle.hl_line.specs.declared.line.Line.{Line}
-use Rattle.hl_script.specs.declared.stop.Stop.{Stop}
-use Rattle.hl_script.specs.declared.stop.Stop.TheVariants.{BadLine, OutOfMemory, Reader, Writer}
 use Rattle.hl_model.specs.declared.fault.Fault.{Fault}
 use Rattle.hl_model.specs.declared.fault.Fault.TheVariants.{BadLine as BadLineFault, OutOfMemory as OutOfMemoryFault, Stream as StreamFault}
 use Rattle.hl_script.specs.Cut.{whole_lines, unfinished_line}
@@ -41,13 +39,6 @@ pub record WroteUpTo (has : ℕ → Bool) (lacks : Line → Bool) (before after 
   pub stands : may_stand lines line ≡ true
   pub lacking : lacks line ≡ true
   pub wrote : Appends before after (answers has lines)
-
--- what was written where a run stopped in these bytes, but for a failed read
-abbrev pub Stopped : (ℕ → Bool) → (Line → Bool) → Option (List ℕ) → Option (List ℕ) → Stop → List ℕ → Type 0
-Stopped has lacks before after (BadLine n) bytes = WroteBad has before after n bytes
-Stopped has lacks before after OutOfMemory bytes = WroteUpTo has lacks before after bytes
-Stopped has lacks before after Reader bytes = ⊥
-Stopped has lacks before after Writer bytes = AppendsFront before after (text has bytes)
 
 -- a fact of the bytes that were consumed, and also of those together with all that the reader has left
 pub record Settled (left : Option (List ℕ)) (P : List ℕ → Type 0) (input : List ℕ) : Type 0 where

@@ -1,5 +1,5 @@
 -- The text of a script: a function of its bytes and of the set of tags that have a job.
-use Rattle.std.specs.Prelude.{ℕ, Bool, is_some, Option, Some, None, List, [], ◌∷◌, ◌++◌, length, codes, decimal}
+use Rattle.std.specs.Prelude.{ℕ, nat_lt, Bool, is_some, Option, Some, None, List, [], ◌∷◌, ◌++◌, length, codes, decimal}
 use Rattle.hl_model.specs.Lists.{gather}
 use Rattle.hl_action.specs.Jobs.{KeptRecord}
 use Rattle.hl_action.specs.Shelves.{job_of}
@@ -10,6 +10,10 @@ use Rattle.hl_script.specs.Answers.{reply_line, accepted}
 -- the tags whose jobs are on a shelf
 abbrev pub tags_on : {F : Type 0} → List (Option (KeptRecord F)) → ℕ → Bool
 tags_on shelf tag = is_some (job_of shelf tag)
+
+-- the tags below a number
+abbrev pub below : ℕ → ℕ → Bool
+below tags tag = nat_lt tag tags
 
 -- what these lines are answered, each with its LF
 unfoldable pub answers : (ℕ → Bool) → List Line → List ℕ

@@ -1,13 +1,13 @@
 ghost use Rattle.std.specs.Prelude.{◌≡◌, ◌+◌, ◌≤◌, ◌++◌, ◌∷◌, [], length};
 ghost use Rattle.arrayvec.specs.ArrayString.{array_string_len};
-ghost use Rattle.hl_script.specs.Answers.{named, quantities_text, waiting_text, pending_text, result_text};
+ghost use Rattle.hl_script.specs.Answers.{named, quantities_text, waiting_text, pending_text, frame_text, result_text};
 ghost use Rattle.hl_script.specs.Engine.{Puts};
 
 use crate::machine::Broken;
 use crate::put::put;
 use arrayvec::ArrayString;
 use hl_line::{print_fault, print_reply};
-use hl_model::{Fault, Kind, Reply, Six, Waiting};
+use hl_model::{Fault, FrameState, Kind, Reply, Snapshot, Waiting};
 use itoa::Buffer;
 use std::io::Write;
 
@@ -36,27 +36,21 @@ pub(crate) fn add_named(text: &mut ArrayString<320>, name: &str, number: u64)
 
 /// The quantities by their names.
 #[tactic(auto, unfolding(crate::specs::Answers::quantities_text))]
-pub(crate) fn print_quantities(
-    epoch: u64,
-    safe: u64,
-    pending: u64,
-    taken: u64,
-    six: Six,
-) -> ArrayString<320>
-    ensures { result.bytes ≡ quantities_text epoch safe pending taken six }
+pub(crate) fn print_quantities(snapshot: &Snapshot) -> ArrayString<320>
+    ensures { result.bytes ≡ quantities_text snapshot.now.epoch snapshot.now.safe snapshot.now.pending snapshot.now.taken snapshot.now.six }
 {
     let mut text = ArrayString::new();
     text.push_str("status");
-    add_named(&mut text, "epoch", epoch);
-    add_named(&mut text, "safe", safe);
-    add_named(&mut text, "pending", pending);
-    add_named(&mut text, "taken", taken);
-    add_named(&mut text, "closed", six.closed);
-    add_named(&mut text, "head", six.head);
-    add_named(&mut text, "flushed", six.flushed);
-    add_named(&mut text, "safe_read_only", six.safe_read_only);
-    add_named(&mut text, "read_only", six.read_only);
-    add_named(&mut text, "tail", six.tail);
+    add_named(&mut text, "epoch", snapshot.epoch);
+    add_named(&mut text, "safe", snapshot.safe);
+    add_named(&mut text, "pending", snapshot.pending);
+    add_named(&mut text, "taken", snapshot.taken);
+    add_named(&mut text, "closed", snapshot.six.closed);
+    add_named(&mut text, "head", snapshot.six.head);
+    add_named(&mut text, "flushed", snapshot.six.flushed);
+    add_named(&mut text, "safe_read_only", snapshot.six.safe_read_only);
+    add_named(&mut text, "read_only", snapshot.six.read_only);
+    add_named(&mut text, "tail", snapshot.six.tail);
     text
 }
 
@@ -99,4 +93,25 @@ pub(crate) fn print_pending(waiting: &[Waiting]) -> ArrayString<4096>
         add_waiting(&mut text, action);
     }
     text
+}
+
+/// Appends a space, what a frame is at, and its page.
+#[tactic(auto, unfolding(crate::specs::Answers::frame_text))]
+pub(crate) fn add_frame(text: &mut ArrayString<8192>, state: FrameState, page: Option<u64>)
+    requires { array_string_len text.old + 29 ≤ 8192 }
+    ensures bytes { text.new.bytes ≡ text.old.bytes ++ frame_text (state, page) }
+    ensures short { array_string_len text.new ≤ array_string_len text.old + 29 }
+{
+    let state = match state {
+        FrameState::Opened => " open",
+        FrameState::Sealed => " sealed",
+        FrameState::Flushed => " flushed",
+        FrameState::Closed => " closed",
+        FrameState::Free => " free",
+    };
+    text.push_str(state);
+    if let Some(page) = page {
+        text.push_str(":");
+        text.push_str(Buffer::new().format(page));
+    }
 }

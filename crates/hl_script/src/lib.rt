@@ -6,11 +6,14 @@
 //! that have a job: `text` of `specs/Text.antt`, by the definitions of hl_model. It is read in this order: how a
 //! script is cut (`Cut`), which lines are good (`Lines`), what each is answered (`Answers`), the text (`Text`).
 //!
-//! [`run_text`] writes the text. It is handed the jobs on a shelf, one for a tag. An accepted bump takes the job of
-//! its tag from the shelf, so a second bump of that tag is refused with `NoJob`, and a refused bump leaves its job
-//! there. A take holds the job with its firing, the ticket and the epoch that is safe then; the done of that ticket
-//! runs it, once, and shows what it answered. Whatever code a job is, its type promises [`Sum`]: it answers its tag +
-//! its ticket. That is why the text is a function of the tags, and not of the jobs.
+//! [`run_text`] writes the text over an engine. It is handed the jobs on a shelf, one for a tag. An accepted bump
+//! takes the job of its tag from the shelf, so a second bump of that tag is refused with `NoJob`, and a refused bump
+//! leaves its job there. The engine runs it at the done of its ticket, once, and the line shows what it answered.
+//! Whatever code a job is, its type promises [`Sum`]: it answers its tag + its ticket. That is why the text is a
+//! function of the tags, and not of the jobs.
+//!
+//! [`slow_text`] writes the same text in the slow form: it keeps the list of accepted steps and computes each answer
+//! from it. It has no jobs: the tags below a number count as having one.
 //!
 //! # The parts
 //!
@@ -19,10 +22,11 @@
 //! | `engine` | cuts, judges, has each line answered, and stops: at a bad line, at the end, at a fault of a stream |
 //! | `progress` | what is kept between two bytes: two counts, and a line of at most 80 bytes |
 //! | `machine` | the trait of what answers a line; a machine need not keep the lines that it answered |
-//! | `table_and_drain` | a machine over a table of epochs and a drain list of jobs; it takes memory at the config alone |
-//! | `opened` | its steps and queries, from the config on |
-//! | `held` | the row of the taken actions that aren't done, in step with the drain list's |
-//! | `undone` | one of these: a must-spend `Ready`, given up where the run ends first |
+//! | `script` | the machine: it opens at the config, and has what was opened make the steps |
+//! | `stepping` | the traits of what makes steps and answers queries, and of what opens it |
+//! | `fast` | one that does so: an engine and a shelf; it takes memory at the config alone |
+//! | `slow` | the other: the list of accepted steps; it may be refused memory at each step |
+//! | `lines` | the line that answers a step, and those that answer queries |
 //! | `sum` | the promise of the jobs |
 //! | `answers` | the texts of answers |
 //! | `put` | writes all of some bytes, and makes no write after one that failed |
@@ -33,19 +37,20 @@
 
 mod answers;
 mod engine;
-mod held;
+mod fast;
+mod lines;
 mod machine;
-mod opened;
 mod progress;
 mod put;
 mod run;
+mod script;
+mod slow;
+mod stepping;
 mod stop;
 mod sum;
-mod table_and_drain;
-mod undone;
 
 pub use hl_line::{Line, print_fault, print_line, print_reply, read_line};
-pub use run::{Finished, run_text};
+pub use run::{Finished, run_text, slow_text};
 pub use sum::Sum;
 
 #[cfg(test)]

@@ -1,29 +1,34 @@
-ghost use Rattle.std.specs.Prelude.{◌≡◌, ℕ, ◌⊎◌, Err, IfOk, IfErr, option_map, List, []};
+ghost use Rattle.std.specs.Prelude.{◌≡◌, ◌≤◌, ◌^◌, ℕ, ◌⊎◌, Err, IfOk, IfErr, IfSome, option_map, true, List, []};
 ghost use Rattle.std.specs.Io.KnownBytes.{Appends, Consumes, IsAtEnd};
-ghost use Rattle.hl_script.specs.Lines.{script, is_config};
-ghost use Rattle.hl_script.specs.Text.{tags_on, text, count_of};
-ghost use Rattle.hl_script.specs.Outcomes.{WroteAll, WroteWholeLines, WroteBad, WroteFront, LackedAtConfig, Settled, IsRunFault};
+ghost use Rattle.hl_cells.specs.Engines.{EngineStands};
+ghost use Rattle.hl_script.specs.Lines.{script, takes_memory};
+ghost use Rattle.hl_script.specs.Answers.{sizes_of, accepted};
+ghost use Rattle.hl_script.specs.Text.{tags_on, below, text, count_of};
+ghost use Rattle.hl_script.specs.Outcomes.{WroteAll, WroteWholeLines, WroteBad, WroteFront, WroteUpTo, LackedAtConfig, Settled, IsRunFault};
 
-use crate::engine::run;
-use crate::stop::Stop;
+use crate::fast::{Fast, Jobs};
+use crate::script::run_script;
+use crate::slow::{Slow, Tags};
 use crate::sum::Sum;
-use crate::table_and_drain::TableAndDrain;
 use hl_action::{Shelf, Task};
-use hl_epoch::ScanTable;
+use hl_cells::Engine;
+use hl_epoch::{Epochs, ScanTable};
 use hl_model::Fault;
 use std::alloc::Global;
 use std::io::{Read, Write};
 
 /// What a run has left at the end of its script.
-#[derive(Clone, Copy, Debug, PartialEq, Eq)]
-pub struct Finished {
+#[derive(Drop)]
+pub struct Finished<E: Epochs, F: Task> {
+    /// The engine, at the accepted steps.
+    pub engine: Engine<E, F, Sum>,
     /// How many steps were accepted.
     pub accepted: u64,
 }
 
 /// Runs the script that the reader gives, with the jobs on the shelf, and writes its text. A job is run at its
 /// done, under the firing of its take. The answer is None where there was no line. Jobs whose actions aren't done
-/// at the end are given up.
+/// at the end go with the engine.
 ///
 /// - `BadLine` with the number of the first line that is no step: the text was written, which ends in that line's
 ///   last line. Bytes behind it may have been read.
@@ -35,9 +40,10 @@ pub fn run_text<F: Task, R: Read, W: Write>(
     reader: &mut R,
     writer: &mut W,
     shelf: Shelf<F, Sum>,
-) -> Result<Option<Finished>, Fault>
+) -> Result<Option<Finished<ScanTable, F>>, Fault>
     ensures ok { IfOk result (λ finished. (input : List ℕ) × Consumes (R.remaining reader.old) (R.remaining reader.new) input × IsAtEnd (R.remaining reader.new)
-        × WroteAll (tags_on shelf) (W.contents writer.old) (W.contents writer.new) input × (option_map (λ end. end.accepted) finished ≡ count_of (tags_on shelf) (script input))) }
+        × WroteAll (tags_on shelf) (W.contents writer.old) (W.contents writer.new) input × (option_map (λ end. end.accepted) finished ≡ count_of (tags_on shelf) (script input))
+        × IfSome finished (λ end. EngineStands end.engine (accepted (tags_on shelf) (script input)) × (end.engine.core.sizes ≡ sizes_of (script input)))) }
     ensures bad_line { (n : ℕ) → result ≡ Err (Fault.BadLine n) → (input : List ℕ) × Consumes (R.remaining reader.old) (R.remaining reader.new) input
         × Settled (R.remaining reader.new) (WroteBad (tags_on shelf) (W.contents writer.old) (W.contents writer.new) n) input }
     ensures out_of_memory { result ≡ Err Fault.OutOfMemory → (input : List ℕ) × Consumes (R.remaining reader.old) (R.remaining reader.new) input
@@ -47,24 +53,45 @@ pub fn run_text<F: Task, R: Read, W: Write>(
         ⊎ Settled (R.remaining reader.new) (WroteFront (tags_on shelf) (W.contents writer.old) (W.contents writer.new)) input) }
     ensures faults { IfErr result IsRunFault }
 {
-    let mut machine: TableAndDrain<ScanTable, F> = TableAndDrain {
-        alloc,
-        shelf: Some(shelf),
-        opened: None,
+    let jobs = Jobs { alloc, shelf };
+    let ended: Option<(Fast<ScanTable, F>, u64)> = run_script(jobs, reader, writer)?;
+    let Some((fast, accepted)) = ended else {
+        return Ok(None);
     };
-    match run(&mut machine, reader, writer) {
-        Ok(count) => Ok(ended_at(count)),
-        Err(Stop::BadLine { n }) => Err(Fault::BadLine { n }),
-        Err(Stop::OutOfMemory) => Err(Fault::OutOfMemory),
-        Err(Stop::Reader) => Err(Fault::Stream),
-        Err(Stop::Writer) => Err(Fault::Stream),
-    }
+    Ok(Some(Finished {
+        engine: fast.engine,
+        accepted,
+    }))
 }
 
-/// What is left of a run that came to its end. None where there was no line.
-fn ended_at(count: Option<u64>) -> Option<Finished>
-    ensures { option_map (λ end. end.accepted) result ≡ count }
+/// Writes the text of the script that the reader gives, in the slow form: each answer is computed from the list of
+/// accepted steps. The tags below `tags`, which is at most 2^62, have a job. The answer is how many steps were
+/// accepted, None where there was no line.
+///
+/// - `BadLine` and `Stream` as for [`run_text`].
+/// - `OutOfMemory` where memory was refused, at line 1 or at a step: the text of the lines before was written.
+pub fn slow_text<R: Read, W: Write>(
+    alloc: Global,
+    reader: &mut R,
+    writer: &mut W,
+    tags: u64,
+) -> Result<Option<u64>, Fault>
+    requires { tags ≤ 2 ^ 62 }
+    ensures ok { IfOk result (λ count. (input : List ℕ) × Consumes (R.remaining reader.old) (R.remaining reader.new) input × IsAtEnd (R.remaining reader.new)
+        × WroteAll (below tags) (W.contents writer.old) (W.contents writer.new) input × (count ≡ count_of (below tags) (script input))) }
+    ensures bad_line { (n : ℕ) → result ≡ Err (Fault.BadLine n) → (input : List ℕ) × Consumes (R.remaining reader.old) (R.remaining reader.new) input
+        × Settled (R.remaining reader.new) (WroteBad (below tags) (W.contents writer.old) (W.contents writer.new) n) input }
+    ensures out_of_memory { result ≡ Err Fault.OutOfMemory → (input : List ℕ) × Consumes (R.remaining reader.old) (R.remaining reader.new) input
+        × Settled (R.remaining reader.new) (WroteUpTo (below tags) (takes_memory true) (W.contents writer.old) (W.contents writer.new)) input }
+    ensures stream { result ≡ Err Fault.Stream → (input : List ℕ) × Consumes (R.remaining reader.old) (R.remaining reader.new) input
+        × (WroteWholeLines (below tags) (W.contents writer.old) (W.contents writer.new) input
+        ⊎ Settled (R.remaining reader.new) (WroteFront (below tags) (W.contents writer.old) (W.contents writer.new)) input) }
+    ensures faults { IfErr result IsRunFault }
 {
-    let accepted = count?;
-    Some(Finished { accepted })
+    let opening = Tags { alloc, count: tags };
+    let ended: Option<(Slow, u64)> = run_script(opening, reader, writer)?;
+    let Some((_, accepted)) = ended else {
+        return Ok(None);
+    };
+    Ok(Some(accepted))
 }

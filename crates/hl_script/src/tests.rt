@@ -1,6 +1,10 @@
 ghost use Rattle.std.specs.Prelude.{◌≡◌, ◌+◌, ◌<◌, ◌≤◌, ◌^◌};
 
-use super::{Sum, run_text};
+mod examples;
+mod generated;
+
+use super::{Sum, run_text, slow_text};
+use examples::EXAMPLES;
 use hl_action::{Firing, Kept, Shelf, Task};
 use hl_model::Fault;
 use std::alloc::Global;
@@ -35,14 +39,29 @@ fn shelf_of(alloc: Global, n: u64) -> Result<Shelf<AddTicket, Sum>, Fault>
     Ok(shelf)
 }
 
-/// Runs a script with the tags 0 to 7, and gives the number of accepted steps.
+/// Runs a script with the tags below a number, and gives how many steps were accepted.
 fn run_jobs<R: Read, W: Write>(
     alloc: Global,
     reader: &mut R,
     writer: &mut W,
-) -> Result<Option<u64>, Fault> {
-    let ended = run_text(alloc, reader, writer, shelf_of(alloc, 8)?)?;
+    tags: u64,
+) -> Result<Option<u64>, Fault>
+    requires { tags ≤ 1000 }
+{
+    let ended = run_text(alloc, reader, writer, shelf_of(alloc, tags)?)?;
     Ok(ended.map(|end| end.accepted))
+}
+
+/// The same in the slow form.
+fn slow_jobs<R: Read, W: Write>(
+    alloc: Global,
+    reader: &mut R,
+    writer: &mut W,
+    tags: u64,
+) -> Result<Option<u64>, Fault>
+    requires { tags ≤ 1000 }
+{
+    slow_text(alloc, reader, writer, tags)
 }
 
 /// Gives one byte a read, and fails after `left` of them.
@@ -134,7 +153,7 @@ impl Write for CountingWriter {
 fn writes_nothing_where_memory_is_refused(rt: HostRuntime) {
     let mut reader = FIRST_ACTION.as_bytes();
     let mut writer = CountingWriter { bytes: 0 };
-    match run_jobs(rt.alloc(), &mut reader, &mut writer) {
+    match run_jobs(rt.alloc(), &mut reader, &mut writer, 8) {
         Err(Fault::OutOfMemory) => assert_eq!(rt; writer.bytes, 0),
         answer => {
             assert_eq!(rt; answer, Ok(Some(5)));
@@ -179,7 +198,7 @@ fn writes_the_worked_texts(rt: HostRuntime) -> Result<(), Fail> {
     for (script, text, result) in cases {
         let mut reader = script.as_bytes();
         let mut writer = Vec::new(rt.alloc());
-        let answer = run_jobs(rt.alloc(), &mut reader, &mut writer);
+        let answer = run_jobs(rt.alloc(), &mut reader, &mut writer, 8);
         assert_eq!(rt; answer, result, "{script}");
         assert!(rt; writer.as_slice() == text.as_bytes(), "{script}");
     }
@@ -193,7 +212,10 @@ fn reads_one_byte_at_a_time(rt: HostRuntime) -> Result<(), Fail> {
         left: 1000,
     };
     let mut writer = Vec::new(rt.alloc());
-    assert_eq!(rt; run_jobs(rt.alloc(), &mut reader, &mut writer), Ok(Some(5)));
+    assert_eq!(rt;
+        run_jobs(rt.alloc(), &mut reader, &mut writer, 8),
+        Ok(Some(5))
+    );
     assert!(rt; writer.as_slice() == FIRST_ACTION_TEXT.as_bytes());
     Ok(())
 }
@@ -207,7 +229,7 @@ fn answers_whole_lines_before_a_failed_read(rt: HostRuntime) -> Result<(), Fail>
     };
     let mut writer = Vec::new(rt.alloc());
     assert_eq!(rt;
-        run_jobs(rt.alloc(), &mut reader, &mut writer),
+        run_jobs(rt.alloc(), &mut reader, &mut writer, 8),
         Err(Fault::Stream)
     );
     assert!(rt; writer.as_slice() == b"opened\nepoch 1 view 0 0 0\n".as_slice());
@@ -229,7 +251,10 @@ fn judges_a_line_at_its_81st_byte(rt: HostRuntime) -> Result<(), Fail> {
             left,
         };
         let mut writer = Vec::new(rt.alloc());
-        assert_eq!(rt; run_jobs(rt.alloc(), &mut reader, &mut writer), Err(fault));
+        assert_eq!(rt;
+            run_jobs(rt.alloc(), &mut reader, &mut writer, 8),
+            Err(fault)
+        );
         assert!(rt; writer.as_slice() == text.as_bytes(), "{left}");
     }
     Ok(())
@@ -246,11 +271,27 @@ fn stops_at_a_write_that_fails_or_takes_nothing(rt: HostRuntime) -> Result<(), F
             calls_after: 0,
         };
         assert_eq!(rt;
-            run_jobs(rt.alloc(), &mut reader, &mut writer),
+            run_jobs(rt.alloc(), &mut reader, &mut writer, 8),
             Err(Fault::Stream)
         );
         assert!(rt; writer.taken.as_slice() == b"opened\nepoch".as_slice());
         assert_eq!(rt; writer.calls_after, 1);
+    }
+    Ok(())
+}
+
+#[test]
+fn writes_the_texts_of_the_examples(rt: HostRuntime) -> Result<(), Fail> {
+    for (script, text) in EXAMPLES {
+        let mut reader = script.as_bytes();
+        let mut writer = Vec::new(rt.alloc());
+        let answer = run_jobs(rt.alloc(), &mut reader, &mut writer, 1000);
+        assert!(rt; writer.as_slice() == text.as_bytes(), "{script}");
+        let mut slow_reader = script.as_bytes();
+        let mut slow_writer = Vec::new(rt.alloc());
+        let slow_answer = slow_jobs(rt.alloc(), &mut slow_reader, &mut slow_writer, 1000);
+        assert!(rt; slow_writer.as_slice() == text.as_bytes(), "{script}");
+        assert_eq!(rt; answer, slow_answer, "{script}");
     }
     Ok(())
 }

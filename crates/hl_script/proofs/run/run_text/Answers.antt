@@ -1,36 +1,36 @@
-use Rattle.std.proofs.Common.{◌≡◌, ◌∙◌, refl, subst, inl, inr}
-use Rattle.hl_script.specs.Lines.{is_config}
-use Rattle.hl_script.specs.Text.{tags_on}
-use Rattle.hl_script.specs.Outcomes.{WroteBad, Settled}
-use Rattle.hl_script.proofs.RunLaws.{settled_bad, settled_front, settled_lacked}
+use Rattle.std.proofs.Common.{refl, sym, ap}
+use Rattle.std.specs.Prelude.{false}
+use Rattle.std.proofs.lemmas.Result.{err_from_is_err_and}
+use Rattle.hl_script.specs.Text.{tags_on, count_of}
+use Rattle.hl_script.proofs.RunLaws.{stopped_bad, stopped_lacked, stopped_stream, stopped_fault}
 use Rattle.hl_script.proofs.run.run_text.Goals as goal
 
-pub returns-in-Ok-clause-ok : goal.returns-in-Ok-clause-ok
-returns-in-Ok-clause-ok g c =
-    let r = c.in-Ok.ensures (tags_on c.args.shelf) (refl, refl) in
-    (r.0, r.1, r.2, r.4, c.ended_at.ensures ∙ r.5)
+pub returns-in_err-ended-clause-bad_line : goal.returns-in_err-ended-clause-bad_line
+returns-in_err-ended-clause-bad_line g c =
+    let p = err_from_is_err_and c.from_residual.result c.from_residual.ensures.1 in
+    rw (p.1, p.2) (λ n e. stopped_bad false (tags_on c.args.shelf) (g.R.Read.remaining c.args.reader.now) (g.R.Read.remaining c.run_script.new.reader) (g.W.Write.contents c.args.writer.now) (g.W.Write.contents c.run_script.new.out) c.in_err-ended.field-0.0 n (c.in_err-ended.ensures (tags_on c.args.shelf) refl) cc)
 
-pub returns-in-Err-BadLine-clause-bad_line : goal.returns-in-Err-BadLine-clause-bad_line
-returns-in-Err-BadLine-clause-bad_line g c = λ n e.
-    let r = rw c.in-Err-BadLine.field-0-is at (c.in-Err-BadLine.ensures (tags_on c.args.shelf) (refl, refl)) in
-    let same : c.in-Err-BadLine.n ≡ n = cc in (
-      r.0,
-      r.1,
-      subst (λ k. Settled (g.R.Read.remaining c.run.new.reader) (WroteBad (tags_on c.args.shelf) (g.W.Write.contents c.args.writer.now) (g.W.Write.contents c.run.new.out) k) r.0) same
-          (settled_bad (tags_on c.args.shelf) is_config (g.R.Read.remaining c.run.new.reader) (g.W.Write.contents c.args.writer.now) (g.W.Write.contents c.run.new.out) c.in-Err-BadLine.n r.0 r.2),
-    )
+pub returns-in_err-ended-clause-out_of_memory : goal.returns-in_err-ended-clause-out_of_memory
+returns-in_err-ended-clause-out_of_memory g c =
+    let p = err_from_is_err_and c.from_residual.result c.from_residual.ensures.1 in
+    rw (p.1, p.2) (λ e. stopped_lacked (tags_on c.args.shelf) (g.R.Read.remaining c.args.reader.now) (g.R.Read.remaining c.run_script.new.reader) (g.W.Write.contents c.args.writer.now) (g.W.Write.contents c.run_script.new.out) c.in_err-ended.field-0.0 (c.in_err-ended.ensures (tags_on c.args.shelf) refl) cc)
 
-pub returns-in-Err-OutOfMemory-clause-out_of_memory : goal.returns-in-Err-OutOfMemory-clause-out_of_memory
-returns-in-Err-OutOfMemory-clause-out_of_memory g c = λ e.
-    let r = rw c.in-Err-OutOfMemory.field-0-is at (c.in-Err-OutOfMemory.ensures (tags_on c.args.shelf) (refl, refl)) in
-    (r.0, r.1, settled_lacked (tags_on c.args.shelf) (g.R.Read.remaining c.run.new.reader) (g.W.Write.contents c.args.writer.now) (g.W.Write.contents c.run.new.out) r.0 r.2)
+pub returns-in_err-ended-clause-stream : goal.returns-in_err-ended-clause-stream
+returns-in_err-ended-clause-stream g c =
+    let p = err_from_is_err_and c.from_residual.result c.from_residual.ensures.1 in
+    rw (p.1, p.2) (λ e. stopped_stream false (tags_on c.args.shelf) (g.R.Read.remaining c.args.reader.now) (g.R.Read.remaining c.run_script.new.reader) (g.W.Write.contents c.args.writer.now) (g.W.Write.contents c.run_script.new.out) c.in_err-ended.field-0.0 (c.in_err-ended.ensures (tags_on c.args.shelf) refl) cc)
 
-pub returns-in-Err-Reader-clause-stream : goal.returns-in-Err-Reader-clause-stream
-returns-in-Err-Reader-clause-stream g c = λ e.
-    let r = rw c.in-Err-Reader.field-0-is at (c.in-Err-Reader.ensures (tags_on c.args.shelf) (refl, refl)) in
-    (r.0, r.1, inl r.2)
+pub returns-in_err-ended-clause-faults : goal.returns-in_err-ended-clause-faults
+returns-in_err-ended-clause-faults g c =
+    let p = err_from_is_err_and c.from_residual.result c.from_residual.ensures.1 in
+    rw (p.1, p.2) (stopped_fault false (tags_on c.args.shelf) (g.R.Read.remaining c.args.reader.now) (g.R.Read.remaining c.run_script.new.reader) (g.W.Write.contents c.args.writer.now) (g.W.Write.contents c.run_script.new.out) c.in_err-ended.field-0.0 (c.in_err-ended.ensures (tags_on c.args.shelf) refl))
 
-pub returns-clause-stream : goal.returns-clause-stream
-returns-clause-stream g c = λ e.
-    let r = rw c.in-Err-Writer.field-0-is at (c.in-Err-Writer.ensures (tags_on c.args.shelf) (refl, refl)) in
-    (r.0, r.1, inr (settled_front (tags_on c.args.shelf) is_config (g.R.Read.remaining c.run.new.reader) (g.W.Write.contents c.args.writer.now) (g.W.Write.contents c.run.new.out) r.0 r.2))
+pub returns-in_default-clause-ok : goal.returns-in_default-clause-ok
+returns-in_default-clause-ok g c =
+    let r = rw c.in_default.is at (c.in_ok-ended.ensures (tags_on c.args.shelf) refl) in
+    (r.0, r.1, r.2, r.3, sym (ap (count_of (tags_on c.args.shelf)) r.4), tt)
+
+pub returns-clause-ok : goal.returns-clause-ok
+returns-clause-ok g c =
+    let r = rw c.in-Some.is at (c.in_ok-ended.ensures (tags_on c.args.shelf) refl) in
+    (r.0, r.1, r.2, r.3, sym r.4.0, (r.4.1.standing, r.4.1.sizes_is))

@@ -1,0 +1,85 @@
+ghost use Rattle.std.specs.Prelude.{ℕ, Bool};
+ghost use Rattle.hl_script.specs.Lines.{takes_memory};
+ghost use Rattle.hl_script.specs.Machine.{Stands, ScriptRan};
+
+use crate::answers::put_line;
+use crate::engine::run;
+use crate::lines::{answer_frames, answer_pending, answer_status, answer_step};
+use crate::machine::{Broken, Machine};
+use crate::stepping::{Opening, Stepping};
+use crate::stop::Stop;
+use hl_line::Line;
+use hl_model::Fault;
+use std::io::{Read, Write};
+
+/// Answers a script by what its config opens.
+#[derive(Drop)]
+pub(crate) struct Script<O, S> {
+    /// None from the config on.
+    pub(crate) opening: Option<O>,
+    /// None before the config.
+    pub(crate) opened: Option<S>,
+}
+
+impl<O: Opening<S> + Drop, S: Stepping + Drop> Machine for Script<O, S> {
+    ghost stands = { λ script has before. Stands O.begins S.stands script.opening script.opened has before };
+
+    ghost lacks = { takes_memory S.may_lack };
+
+    fn answer<W: Write>(&mut self, line: &Line, out: &mut W) -> Result<bool, Broken> {
+        match *line {
+            Line::Config(sizes) => {
+                let Some(opening) = self.opening.take() else {
+                    return Err(Broken::OutOfMemory);
+                };
+                let Some(opened) = opening.open(sizes) else {
+                    return Err(Broken::OutOfMemory);
+                };
+                self.opened = Some(opened);
+                put_line(out, "opened")?;
+                Ok(false)
+            }
+            Line::Step(step) => match &mut self.opened {
+                Some(opened) => answer_step(opened, &step, out),
+                None => Err(Broken::OutOfMemory),
+            },
+            Line::Status => match &self.opened {
+                Some(opened) => answer_status(opened, out),
+                None => Err(Broken::OutOfMemory),
+            },
+            Line::Pending => match &self.opened {
+                Some(opened) => answer_pending(opened, out),
+                None => Err(Broken::OutOfMemory),
+            },
+            Line::Frames => match &self.opened {
+                Some(opened) => answer_frames(opened, out),
+                None => Err(Broken::OutOfMemory),
+            },
+        }
+    }
+}
+
+/// Answers the lines that a reader gives by what their config opens, and writes the answers. The answer is what was
+/// opened, and how many steps were accepted: None where there was no line.
+///
+/// `BadLine`, `OutOfMemory`, `Stream` as for a run of a script.
+pub(crate) fn run_script<O: Opening<S> + Drop, S: Stepping + Drop, R: Read, W: Write>(
+    opening: O,
+    reader: &mut R,
+    out: &mut W,
+) -> Result<Option<(S, u64)>, Fault>
+    requires { (has : ℕ → Bool) × O.begins opening has }
+    ensures { (has : ℕ → Bool) → O.begins opening has
+        → ScriptRan S.stands S.may_lack has (R.remaining reader.old) (R.remaining reader.new) (W.contents out.old) (W.contents out.new) result }
+{
+    let mut script = Script {
+        opening: Some(opening),
+        opened: None,
+    };
+    match run(&mut script, reader, out) {
+        Ok(count) => Ok(script.opened.zip(count)),
+        Err(Stop::BadLine { n }) => Err(Fault::BadLine { n }),
+        Err(Stop::OutOfMemory) => Err(Fault::OutOfMemory),
+        Err(Stop::Reader | Stop::Writer) => Err(Fault::Stream),
+    }
+}
