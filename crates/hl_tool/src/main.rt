@@ -1,7 +1,10 @@
-//! Runs scripts of epoch steps: `hl_tool run` reads one on standard input and writes its text.
+//! Runs scripts of steps: `hl_tool run` reads one on standard input and writes its text, with `--flush` also the
+//! images of its pages; `hl_tool slow` computes the same text from the list of steps.
 #![tactic(auto)]
 
 mod command;
+mod run;
+mod status;
 #[cfg(test)]
 mod tests;
 

@@ -4,20 +4,23 @@ use std::io::{Read, Write};
 use std::process::Abort;
 use std::test::Fail;
 
-// Runs the program on words and a script, and wants this output and status, and nothing said to the user.
+// Runs `run` on a script, and wants this output and status, and nothing said to the user.
 fn expect(rt: &(impl Abort + AllocGlobal), script: &str, output: &str, status: u8) {
+    expect_of(rt, &["hl_tool", "run"], script, output, status);
+}
+
+// Runs the program on words and a script, and wants this output and status, and nothing said to the user.
+fn expect_of(
+    rt: &(impl Abort + AllocGlobal),
+    words: &[&str],
+    script: &str,
+    output: &str,
+    status: u8,
+) {
     let mut reader = script.as_bytes();
     let mut writer = Vec::new(rt.alloc());
     let mut errors = Vec::new(rt.alloc());
-    let words = ["hl_tool", "run"];
-    let ended = command(
-        rt,
-        rt.alloc(),
-        &words,
-        &mut reader,
-        &mut writer,
-        &mut errors,
-    );
+    let ended = command(rt, rt.alloc(), words, &mut reader, &mut writer, &mut errors);
     assert_eq!(rt;
         String::from_utf8_lossy(rt.alloc(), &writer)
             .expect(rt, "memory")
@@ -77,12 +80,103 @@ fn a_bad_line_ends_the_text(rt: HostRuntime) {
     );
 }
 
+const ONE_SEALED_PAGE: &str =
+    "config 4 2 2 4\nacquire 0\nalloc 0 4\nwrite 0 0 1\nwrite 0 3 258\nraise 4\nsettle\nrelease 0\ntake\ndone 1\n";
+
+const ITS_TEXT: &str =
+    "opened\nepoch 1 view 0 0 0\nat 0\nwritten\nwritten\nread_only 4\nticket 1\nleft\ntaken 1\nsafe_read_only 4\n";
+
+const ITS_IMAGE: &str =
+    "image 00000000000000000000000000000001000000000000000000000000000000000000000000000102\n";
+
+#[test]
+fn flushed_image(rt: HostRuntime) -> Result<(), Fail> {
+    let words = ["hl_tool", "run", "--flush"];
+    let output = format!(in rt.alloc(); "{ITS_TEXT}{ITS_IMAGE}")?;
+    expect_of(&rt, &words, ONE_SEALED_PAGE, &output, 0);
+    expect(&rt, ONE_SEALED_PAGE, ITS_TEXT, 0);
+    // Nothing is flushed after a bad line, and nothing where no page is sealed.
+    expect_of(
+        &rt,
+        &words,
+        "config 4 2 2 4\nraise\n",
+        "opened\nline 2: not a step\n",
+        2,
+    );
+    expect_of(&rt, &words, "config 4 2 2 4\n", "opened\n", 0);
+    expect_of(&rt, &words, "", "", 0);
+    Ok(())
+}
+
+#[test]
+fn the_slow_form_gives_the_same_text(rt: HostRuntime) {
+    expect_of(&rt, &["hl_tool", "slow"], ONE_SEALED_PAGE, ITS_TEXT, 0);
+    expect_of(
+        &rt,
+        &["hl_tool", "slow"],
+        "config 4 2 2 2\nbump 999\nbump 1000\ntake\ndone 1\nbad\n",
+        "opened\nticket 1\nfault 24 NoJob\ntaken 1\nanswer 1000\nline 6: not a step\n",
+        2,
+    );
+}
+
+// A writer that takes so many bytes, and then fails.
+#[derive(Drop)]
+struct ShortWriter {
+    taken: Vec<u8>,
+    room: usize,
+}
+
+impl Write for ShortWriter {
+    fn write(&mut self, bytes: &[u8]) -> io::Result<usize> {
+        let room = self.room - self.taken.len().min(self.room);
+        if room == 0 {
+            return Err(io::ErrorKind::StorageFull.into());
+        }
+        let part = &bytes[..bytes.len().min(room)];
+        self.taken.extend_from_slice(part)?;
+        Ok(part.len())
+    }
+
+    fn flush(&mut self) -> io::Result<()> {
+        Ok(())
+    }
+}
+
+#[test]
+fn a_device_that_fails_ends_with_1(rt: HostRuntime) {
+    let mut reader = ONE_SEALED_PAGE.as_bytes();
+    let mut writer = ShortWriter {
+        taken: Vec::new(rt.alloc()),
+        room: ITS_TEXT.len() + 10,
+    };
+    let mut errors = Vec::new(rt.alloc());
+    let words = ["hl_tool", "run", "--flush"];
+    let status = command(
+        &rt,
+        rt.alloc(),
+        &words,
+        &mut reader,
+        &mut writer,
+        &mut errors,
+    );
+    assert_eq!(rt; status, 1);
+    assert_eq!(rt; errors.as_slice(), b"fault 28 Device\n".as_slice());
+    // Nothing of the text is lost.
+    assert_eq!(rt;
+        &writer.taken[..ITS_TEXT.len().min(writer.taken.len())],
+        ITS_TEXT.as_bytes()
+    );
+}
+
 #[test]
 fn refuses_other_words(rt: HostRuntime) -> Result<(), Fail> {
     for words in [
         ["hl_tool", "walk"].as_slice(),
         ["hl_tool"].as_slice(),
         ["hl_tool", "run", "fast"].as_slice(),
+        ["hl_tool", "run", "--flash"].as_slice(),
+        ["hl_tool", "slow", "--flush"].as_slice(),
     ] {
         let mut reader = b"config 4 2 2 2\n".as_slice();
         let mut writer = Vec::new(rt.alloc());
