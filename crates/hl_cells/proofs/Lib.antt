@@ -4,3 +4,4 @@ pub mod FiringLaws
 pub mod HeldRows
 pub mod HoldLaws
 pub mod ShownPages
+pub mod ToldLaws
