@@ -12,7 +12,7 @@ use crate::slow::{Slow, Tags};
 use crate::sum::Sum;
 use hl_action::{Shelf, Task};
 use hl_cells::Engine;
-use hl_epoch::{Epochs, ScanTable};
+use hl_epoch::Epochs;
 use hl_model::Fault;
 use std::alloc::Global;
 use std::io::{Read, Write};
@@ -26,21 +26,21 @@ pub struct Finished<E: Epochs, F: Task> {
     pub accepted: u64,
 }
 
-/// Runs the script that the reader gives, with the jobs on the shelf, and writes its text. A job is run at its
-/// done, under the firing of its take. The answer is None where there was no line. Jobs whose actions aren't done
-/// at the end go with the engine.
+/// Runs the script that the reader gives, with the jobs on the shelf, over an engine whose table of epochs is an E,
+/// and writes its text. A job is run at its done, under the firing of its take. The answer is None where there was no
+/// line. Jobs whose actions aren't done at the end go with the engine.
 ///
 /// - `BadLine` with the number of the first line that is no step: the text was written, which ends in that line's
 ///   last line. Bytes behind it may have been read.
 /// - `OutOfMemory` where memory was refused at line 1; nothing was written.
 /// - `Stream` where a read failed, or 2^32 reads gave no end: the text of the whole lines was written. Or where a
 ///   write failed or took no byte: the beginning of the text was written. Neither is tried again.
-pub fn run_text<F: Task, R: Read, W: Write>(
+pub fn run_text<E: Epochs + Drop, F: Task, R: Read, W: Write>(
     alloc: Global,
     reader: &mut R,
     writer: &mut W,
     shelf: Shelf<F, Sum>,
-) -> Result<Option<Finished<ScanTable, F>>, Fault>
+) -> Result<Option<Finished<E, F>>, Fault>
     ensures ok { IfOk result (λ finished. (input : List ℕ) × Consumes (R.remaining reader.old) (R.remaining reader.new) input × IsAtEnd (R.remaining reader.new)
         × WroteAll (tags_on shelf) (W.contents writer.old) (W.contents writer.new) input × (option_map (λ end. end.accepted) finished ≡ count_of (tags_on shelf) (script input))
         × IfSome finished (λ end. EngineStands end.engine (accepted (tags_on shelf) (script input)) × (end.engine.core.sizes ≡ sizes_of (script input)))) }
@@ -54,7 +54,7 @@ pub fn run_text<F: Task, R: Read, W: Write>(
     ensures faults { IfErr result IsRunFault }
 {
     let jobs = Jobs { alloc, shelf };
-    let ended: Option<(Fast<ScanTable, F>, u64)> = run_script(jobs, reader, writer)?;
+    let ended: Option<(Fast<E, F>, u64)> = run_script(jobs, reader, writer)?;
     let Some((fast, accepted)) = ended else {
         return Ok(None);
     };

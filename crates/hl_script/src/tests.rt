@@ -3,9 +3,10 @@ ghost use Rattle.std.specs.Prelude.{◌≡◌, ◌+◌, ◌<◌, ◌≤◌, ◌^
 mod examples;
 mod generated;
 
-use super::{Sum, run_text, slow_text};
+use super::{Finished, Sum, run_text, slow_text};
 use examples::EXAMPLES;
 use hl_action::{Firing, Kept, Shelf, Task};
+use hl_epoch::ScanTable;
 use hl_model::Fault;
 use std::alloc::Global;
 use std::io;
@@ -48,7 +49,8 @@ fn run_jobs<R: Read, W: Write>(
 ) -> Result<Option<u64>, Fault>
     requires { tags ≤ 1000 }
 {
-    let ended = run_text(alloc, reader, writer, shelf_of(alloc, tags)?)?;
+    let shelf = shelf_of(alloc, tags)?;
+    let ended: Option<Finished<ScanTable, AddTicket>> = run_text(alloc, reader, writer, shelf)?;
     Ok(ended.map(|end| end.accepted))
 }
 
