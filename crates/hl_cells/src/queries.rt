@@ -3,8 +3,7 @@ ghost use Rattle.hl_model.specs.declared.step.Step.{Step};
 ghost use Rattle.hl_model.specs.Actions.{pending};
 ghost use Rattle.hl_model.specs.Views.{slot_view};
 ghost use Rattle.hl_model.specs.Frames.{frame_of};
-ghost use Rattle.hl_model.specs.Snapshots.{six, snapshot_of};
-ghost use Rattle.hl_offsets.specs.Log.{AreSix};
+ghost use Rattle.hl_model.specs.Snapshots.{six, snapshot_of, AreInOrder};
 ghost use Rattle.hl_cells.specs.Engines.{EngineStands, IsEngine, Shows};
 
 use crate::engine::Engine;
@@ -34,7 +33,7 @@ impl<E: Epochs, F: Task, P: Promise> Engine<E, F, P> {
     /// The six offsets.
     pub fn six(&self) -> Six
         ensures value { (A : List Step) → EngineStands self.now A → result ≡ six self.now.core.sizes A }
-        ensures in_order { AreSix self.now.core.sizes.page result }
+        ensures in_order { AreInOrder self.now.core.sizes.page result }
     {
         self.core.six()
     }

@@ -9,10 +9,9 @@ use Rattle.hl_model.specs.declared.step.Step.{Step}
 use Rattle.hl_model.specs.declared.step.Step.TheVariants.{Raise, Shift}
 use Rattle.hl_model.specs.declared.view.Six.{Six}
 use Rattle.hl_model.specs.Sizes.{Sizes}
-use Rattle.hl_model.specs.Laws.{AreInOrder}
 use Rattle.hl_model.specs.Offsets.{head}
 use Rattle.hl_model.specs.Pages.{flushed}
-use Rattle.hl_model.specs.Snapshots.{six}
+use Rattle.hl_model.specs.Snapshots.{six, AreInOrder}
 use Rattle.hl_model.specs.Replies.{fault_of, raise_fault, shift_fault, unless_fault, IsAccepted}
 use Rattle.hl_model.proofs.OffsetLaws.{read_only-stay, head-stay, read_only-raise, head-shift}
 use Rattle.hl_model.proofs.OrderLaws.{offsets_are_in_order}
@@ -20,7 +19,7 @@ use Rattle.hl_model.proofs.PageFacts.{flushed-le-safe_read_only}
 use Rattle.hl_model.proofs.ViewLaws.{slot_views-stay}
 use Rattle.hl_frames.specs.Pages.{flushed_offset}
 use Rattle.hl_offsets.specs.Faults.{after}
-use Rattle.hl_offsets.specs.Log.{Log, AreSix, raised, shifted, six_of}
+use Rattle.hl_offsets.specs.Log.{Log, raised, shifted, six_of}
 use Rattle.hl_core.specs.Standing.{State, Stands, IsStanding, log_of}
 use Rattle.hl_core.specs.Steps.{Stepped, Made}
 use Rattle.hl_core.proofs.PageOffsets.{pages_of-flushed}
@@ -114,9 +113,8 @@ module _ {J : Type 0} (tag : J → ℕ) where
   pub six_is : (core : State J) (told : ℕ) (s : Six) → told ≡ flushed_offset core.pages → s ≡ six_of core.offsets told → (A : List Step) → Stands tag core A → s ≡ six core.sizes A
   six_is core told s t e A st = e ∙ ap₂ six_of st.offsets_is (t ∙ flushed_is core A st)
 
-  pub six_in_order : (core : State J) (told : ℕ) (s : Six) → IsStanding tag core → told ≡ flushed_offset core.pages → s ≡ six_of core.offsets told → AreSix core.sizes.page s
+  pub six_in_order : (core : State J) (told : ℕ) (s : Six) → IsStanding tag core → told ≡ flushed_offset core.pages → s ≡ six_of core.offsets told → AreInOrder core.sizes.page s
   six_in_order core told s at t e =
       let A = at.0 in
       let st : Stands tag core A = at.1 in
-      let o : AreInOrder core.sizes A = offsets_are_in_order core.sizes A (omega (arith, st.in_range.page_least)) st.accepted in
-      subst (λ (z : Six). AreSix core.sizes.page z) (sym (six_is core told s t e A st)) (record { closed_whole = o.closed_whole; head_whole = o.head_whole; flushed_whole = o.flushed_whole; closed_most = o.closed_most; head_most = o.head_most; flushed_most = o.flushed_most; safe_read_only_most = o.safe_read_only_most; read_only_most = o.read_only_most; tail_most = o.tail_most })
+      subst (λ (z : Six). AreInOrder core.sizes.page z) (sym (six_is core told s t e A st)) (offsets_are_in_order core.sizes A (omega (arith, st.in_range.page_least)) st.accepted)

@@ -9,7 +9,7 @@ use Rattle.hl_model.specs.Offsets.{tail, is_entered}
 use Rattle.hl_model.specs.Settled.{safe_read_only, closed}
 use Rattle.hl_model.specs.Pages.{is_flushed, is_in_flight, is_freed, is_cleaning, next_page, next_to_flush, next_to_clean}
 use Rattle.hl_model.specs.Frames.{may_enter}
-use Rattle.hl_model.specs.Laws.{AreInOrder}
+use Rattle.hl_model.specs.Snapshots.{six, AreInOrder}
 use Rattle.hl_model.specs.Replies.{IsAccepted}
 use Rattle.hl_model.proofs.PageFacts.{PagesKept, pages_kept}
 use Rattle.hl_model.proofs.OrderLaws.{offsets_are_in_order}
@@ -30,7 +30,7 @@ pub kept : (sizes : Sizes) (A : List Step) → AreInRange sizes → IsAccepted s
 kept sizes A range a = pages_kept sizes A (page_some sizes range) (frames_some sizes range) a
 
 -- the offsets are in order
-pub in_order : (sizes : Sizes) (A : List Step) → AreInRange sizes → IsAccepted sizes A → AreInOrder sizes A
+pub in_order : (sizes : Sizes) (A : List Step) → AreInRange sizes → IsAccepted sizes A → AreInOrder sizes.page (six sizes A)
 in_order sizes A range a = offsets_are_in_order sizes A (page_some sizes range) a
 
 -- a page that ends at or below an address begins below it
@@ -40,13 +40,13 @@ ends_entered page p end a some h le = let more : (p + 1) * page ≡ p * page + p
 -- sealed pages are entered
 pub sealed_entered : (sizes : Sizes) (A : List Step) (p : ℕ) → AreInRange sizes → IsAccepted sizes A → (p + 1) * sizes.page ≤ safe_read_only A → is_entered sizes p A ≡ true
 sealed_entered sizes A p range a h =
-    let order : AreInOrder sizes A = in_order sizes A range a in
+    let order : AreInOrder sizes.page (six sizes A) = in_order sizes A range a in
     lt-ltb (p * sizes.page) (tail sizes A) (ends_entered sizes.page p (safe_read_only A) (tail sizes A) (page_some sizes range) h (omega (arith, order.safe_read_only_most, order.read_only_most)))
 
 -- closed pages are sealed
 pub closed_sealed : (sizes : Sizes) (A : List Step) (p : ℕ) → AreInRange sizes → IsAccepted sizes A → (p + 1) * sizes.page ≤ closed A → (p + 1) * sizes.page ≤ safe_read_only A
 closed_sealed sizes A p range a h =
-    let order : AreInOrder sizes A = in_order sizes A range a in
+    let order : AreInOrder sizes.page (six sizes A) = in_order sizes A range a in
     omega (arith, order.closed_most, order.head_most, order.flushed_most)
 
 -- a page whose frame's next one is entered is freed

@@ -16,7 +16,7 @@ use Rattle.hl_model.specs.Offsets.{tail, is_entered}
 use Rattle.hl_model.specs.Settled.{safe_read_only, closed}
 use Rattle.hl_model.specs.Pages.{is_flushed, is_freed, flushed_run, flushed}
 use Rattle.hl_model.specs.Frames.{last_entered, state_of_page, frame_of}
-use Rattle.hl_model.specs.Laws.{AreInOrder}
+use Rattle.hl_model.specs.Snapshots.{six, AreInOrder}
 use Rattle.hl_model.specs.Replies.{IsAccepted}
 use Rattle.hl_model.proofs.RunLaws.{flushed_run-is}
 use Rattle.hl_frames.specs.Pages.{pages_below, flushed_offset, is_flushed as FLUSHED, flushed_run as FLUSHED_RUN}
@@ -120,7 +120,7 @@ pages_more page a b some le = le-div (a / page) b page some (omega (arith, div-m
 -- sealed pages are entered
 pub sealed_within : (sizes : Sizes) (A : List Step) → AreInRange sizes → IsAccepted sizes A → pages_below (safe_read_only A) (pages_of sizes A) ≤ pages_entered sizes A
 sealed_within sizes A range a =
-    let order : AreInOrder sizes A = in_order sizes A range a in
+    let order : AreInOrder sizes.page (six sizes A) = in_order sizes A range a in
     pages_more sizes.page (safe_read_only A) (tail sizes A + sizes.page - 1) (page_some sizes range)
     (omega (arith, page_some sizes range, order.safe_read_only_most, order.read_only_most))
 
@@ -163,7 +163,7 @@ pages_of-flushed sizes A range a = ap (λ n. n * sizes.page) (flushed_run-same s
 -- closed pages are flushed
 pub closed_within : (sizes : Sizes) (A : List Step) → AreInRange sizes → IsAccepted sizes A → closed A ≤ flushed_offset (pages_of sizes A)
 closed_within sizes A range a =
-    let order : AreInOrder sizes A = in_order sizes A range a in
+    let order : AreInOrder sizes.page (six sizes A) = in_order sizes A range a in
     omega (arith, pages_of-flushed sizes A range a, order.closed_most, order.head_most)
 
 -- a page is below the number of those that end at or below an address where it ends there

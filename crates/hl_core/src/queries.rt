@@ -3,8 +3,7 @@ ghost use Rattle.hl_model.specs.declared.step.Step.{Step};
 ghost use Rattle.hl_model.specs.Actions.{pending};
 ghost use Rattle.hl_model.specs.Views.{slot_view};
 ghost use Rattle.hl_model.specs.Frames.{frame_of};
-ghost use Rattle.hl_model.specs.Snapshots.{six, snapshot_of};
-ghost use Rattle.hl_offsets.specs.Log.{AreSix};
+ghost use Rattle.hl_model.specs.Snapshots.{six, snapshot_of, AreInOrder};
 ghost use Rattle.hl_core.specs.Standing.{Stands};
 
 use crate::state::Core;
@@ -32,7 +31,7 @@ impl<E: Epochs, J: Tagged> Core<E, J> {
     /// The six offsets.
     pub fn six(&self) -> Six
         ensures value { (A : List Step) → Stands J.tag self.now A → result ≡ six self.now.sizes A }
-        ensures in_order { AreSix self.now.sizes.page result }
+        ensures in_order { AreInOrder self.now.sizes.page result }
     {
         self.offsets.six(self.frames.flushed_until())
     }

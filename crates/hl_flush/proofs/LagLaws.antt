@@ -10,7 +10,7 @@ use Rattle.hl_model.specs.declared.step.Step.TheVariants.{Raise, Settle, Shift, 
 use Rattle.hl_model.specs.declared.view.Six.{Six}
 use Rattle.hl_model.specs.Replies.{raise_fault, shift_fault}
 use Rattle.hl_model.proofs.ListLaws.{max-has}
-use Rattle.hl_offsets.specs.Log.{AreSix}
+use Rattle.hl_model.specs.Snapshots.{AreInOrder}
 use Rattle.hl_flush.specs.Lag.{pages_up_to, read_only_at, head_at, step_if, lag_of, fault_at}
 
 -- so many pages, and one more where words are left, is a quotient that is rounded up
@@ -70,7 +70,7 @@ read_only_at-most page six mutable some least most =
     omega (arith, behind, most)
 
 -- the head is shifted to where a page begins
-pub head_at-whole : (page : ℕ) (six : Six) (resident : ℕ) → AreSix page six → head_at page six resident % page ≡ 0
+pub head_at-whole : (page : ℕ) (six : Six) (resident : ℕ) → AreInOrder page six → head_at page six resident % page ≡ 0
 head_at-whole page six resident order =
     max-has (λ a. a % page ≡ 0) six.head (min six.flushed start) order.head_whole lower
   where
@@ -98,7 +98,7 @@ each_wanted P true step h = All-cons P step [] (h refl) (All-nil P)
 each_wanted P false step h = All-nil P
 
 -- no raise or shift of a lag meets a fault
-pub lag-lawful : (page : ℕ) (six : Six) (mutable resident : ℕ) → 0 < page → 1 ≤ mutable → AreSix page six → All (λ step. fault_at page six step ≡ None) (lag_of page six mutable resident)
+pub lag-lawful : (page : ℕ) (six : Six) (mutable resident : ℕ) → 0 < page → 1 ≤ mutable → AreInOrder page six → All (λ step. fault_at page six step ≡ None) (lag_of page six mutable resident)
 lag-lawful page six mutable resident some least order =
     All-append lawful (raise ++ settle ++ shift) close
     (All-append lawful (raise ++ settle) shift

@@ -1,6 +1,6 @@
 ghost use Rattle.std.specs.Prelude.{◌≡◌, ◌+◌, ◌<◌, ◌≤◌, None, ◌++◌, length};
 ghost use Rattle.std.specs.List.{All};
-ghost use Rattle.hl_offsets.specs.Log.{AreSix};
+ghost use Rattle.hl_model.specs.Snapshots.{AreInOrder};
 ghost use Rattle.hl_flush.specs.Lag.{step_if, lag_of, fault_at};
 
 use arrayvec::ArrayVec;
@@ -20,7 +20,7 @@ pub fn lag_steps(params: Params, six: Six, mutable: u64, resident: u64) -> Array
     requires mutable_most { mutable ≤ resident }
     requires resident_most { resident ≤ params.frames }
     ensures steps { result.items ≡ lag_of params.page six mutable resident }
-    ensures lawful { AreSix params.page six → All (λ step. fault_at params.page six step ≡ None) result.items }
+    ensures lawful { AreInOrder params.page six → All (λ step. fault_at params.page six step ≡ None) result.items }
 {
     let page = params.page();
     let pages = six.tail.div_ceil(page);

@@ -14,6 +14,7 @@ use Rattle.hl_model.specs.Offsets.{read_only, head, tail, place_of, is_entered}
 use Rattle.hl_model.specs.Settled.{safe_read_only, closed}
 use Rattle.hl_model.specs.Views.{seen_read_only, seen_head}
 use Rattle.hl_model.specs.Pages.{is_flushed, is_in_flight, flushed}
+use Rattle.hl_model.specs.Snapshots.{six, AreInOrder}
 use Rattle.hl_model.specs.Words.{word}
 use Rattle.hl_model.specs.Reach.{Reaches}
 use Rattle.hl_model.specs.Replies.{epoch_last, fault_of, reply_of, extended, good, IsAccepted}
@@ -111,21 +112,9 @@ moves_on t _ = false
 abbrev pub TakenAfterAllMovedOn : Type 0
 TakenAfterAllMovedOn = (sizes : Sizes) (X : List Step) (s : Step) (Y Z : List Step) (t : ℕ) → IsAccepted sizes ((X ++ s ∷ Y) ++ Take ∷ Z) → is_bump s ≡ true → front (X ++ s ∷ Y) ≡ bumps X + 1 → is_protected t X ≡ true → list_any (moves_on t) Y ≡ true
 
--- the offsets of one list: closed ≤ head ≤ flushed ≤ safe read-only ≤ read-only ≤ tail ≤ 2^48, the first three being multiples of P
-pub record AreInOrder (sizes : Sizes) (A : List Step) : Type 0 where
-  pub closed_whole : closed A % sizes.page ≡ 0
-  pub head_whole : head A % sizes.page ≡ 0
-  pub flushed_whole : flushed sizes A % sizes.page ≡ 0
-  pub closed_most : closed A ≤ head A
-  pub head_most : head A ≤ flushed sizes A
-  pub flushed_most : flushed sizes A ≤ safe_read_only A
-  pub safe_read_only_most : safe_read_only A ≤ read_only A
-  pub read_only_most : read_only A ≤ tail sizes A
-  pub tail_most : tail sizes A ≤ 2 ^ 48
-
 -- the offsets of each accepted list are in order
 abbrev pub OffsetsAreInOrder : Type 0
-OffsetsAreInOrder = (sizes : Sizes) (A : List Step) → 0 < sizes.page → IsAccepted sizes A → AreInOrder sizes A
+OffsetsAreInOrder = (sizes : Sizes) (A : List Step) → 0 < sizes.page → IsAccepted sizes A → AreInOrder sizes.page (six sizes A)
 
 -- no offset is lower than it was
 pub record NoneFell (sizes : Sizes) (A B : List Step) : Type 0 where

@@ -1,5 +1,5 @@
 -- The six offsets, and all quantities at once.
-use Rattle.std.specs.Prelude.{ℕ, Bool, true, false, List, [], ◌∷◌, length, map, count_by, is_some}
+use Rattle.std.specs.Prelude.{◌≡◌, ℕ, ◌%◌, ◌^◌, ◌≤◌, Bool, true, false, List, [], ◌∷◌, length, map, count_by, is_some}
 use Rattle.std.specs.List.{range_with_len}
 use Rattle.hl_model.specs.declared.frame.FrameState.{FrameState}
 use Rattle.hl_model.specs.declared.frame.FrameState.TheVariants.{Opened, Sealed, Flushed, Closed, Free}
@@ -17,6 +17,18 @@ use Rattle.hl_model.specs.Frames.{frame_of}
 -- the six offsets
 abbrev pub six : Sizes → List Step → Six
 six sizes A = record { closed = closed A; head = head A; flushed = flushed sizes A; safe_read_only = safe_read_only A; read_only = read_only A; tail = tail sizes A }
+
+-- six offsets are in order, where a page has this many words: closed ≤ head ≤ flushed ≤ safe read-only ≤ read-only ≤ tail ≤ 2^48, the first three being multiples of P
+pub record AreInOrder (page : ℕ) (six : Six) : Type 0 where
+  pub closed_whole : six.closed % page ≡ 0
+  pub head_whole : six.head % page ≡ 0
+  pub flushed_whole : six.flushed % page ≡ 0
+  pub closed_most : six.closed ≤ six.head
+  pub head_most : six.head ≤ six.flushed
+  pub flushed_most : six.flushed ≤ six.safe_read_only
+  pub safe_read_only_most : six.safe_read_only ≤ six.read_only
+  pub read_only_most : six.read_only ≤ six.tail
+  pub tail_most : six.tail ≤ 2 ^ 48
 
 -- a frame is at a state
 abbrev pub is_opened : FrameState → Bool

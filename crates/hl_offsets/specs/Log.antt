@@ -26,18 +26,6 @@ pub record IsLog (log : Log) : Type 0 where
   pub read_only_most : log.read_only ≤ log.tail
   pub tail_most : log.tail ≤ 2 ^ 48
 
--- what is true of six offsets, where a page has this many words
-pub record AreSix (page : ℕ) (six : Six) : Type 0 where
-  pub closed_whole : six.closed % page ≡ 0
-  pub head_whole : six.head % page ≡ 0
-  pub flushed_whole : six.flushed % page ≡ 0
-  pub closed_most : six.closed ≤ six.head
-  pub head_most : six.head ≤ six.flushed
-  pub flushed_most : six.flushed ≤ six.safe_read_only
-  pub safe_read_only_most : six.safe_read_only ≤ six.read_only
-  pub read_only_most : six.read_only ≤ six.tail
-  pub tail_most : six.tail ≤ 2 ^ 48
-
 -- no offset is lower than it was
 pub record NoneFalls (old new : Log) : Type 0 where
   pub closed_least : old.closed ≤ new.closed

@@ -1,8 +1,9 @@
 ghost use Rattle.std.specs.Prelude.{◌≡◌, ℕ, ◌+◌, ◌%◌, ◌≤◌, max, IfOk};
 ghost use Rattle.hl_model.specs.Offsets.{place_of};
 ghost use Rattle.hl_model.specs.Replies.{raise_fault, shift_fault, size_fault, unless_fault};
+ghost use Rattle.hl_model.specs.Snapshots.{AreInOrder};
 ghost use Rattle.hl_offsets.specs.Faults.{after};
-ghost use Rattle.hl_offsets.specs.Log.{Log, IsLog, AreSix, NoneFalls, started, resumed, raised, shifted, settled, closed_up_to, allocated, six_of};
+ghost use Rattle.hl_offsets.specs.Log.{Log, IsLog, NoneFalls, started, resumed, raised, shifted, settled, closed_up_to, allocated, six_of};
 ghost use Rattle.hl_offsets.specs.Place.{IsOnOnePage};
 
 use hl_model::{Fault, Params, Six};
@@ -51,7 +52,7 @@ impl Offsets {
     /// The offsets of a log that goes on from these six. They are in order, the closed, the head and the flushed
     /// offset are multiples of P, and the tail is at most 2^48. The flushed offset is not kept.
     pub fn resume(params: Params, six: Six) -> Offsets
-        requires { AreSix params.page six }
+        requires { AreInOrder params.page six }
         ensures value { result ≡ resumed params.page six }
         ensures valid { IsLog result }
     {
@@ -232,7 +233,7 @@ impl Offsets {
     pub fn six(&self, flushed: u64) -> Six
         ensures value { result ≡ six_of self.now flushed }
         ensures in_order { let now = self.now
-            in now.head ≤ flushed → flushed ≤ now.safe_read_only → flushed % now.page ≡ 0 → AreSix now.page result }
+            in now.head ≤ flushed → flushed ≤ now.safe_read_only → flushed % now.page ≡ 0 → AreInOrder now.page result }
         ensures valid { IsLog self.now }
     {
         Six {
