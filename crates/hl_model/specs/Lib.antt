@@ -18,5 +18,6 @@ pub mod States
 pub mod Views
 pub mod Words
 pub mod Worked
+pub mod WorkedBorders
 pub mod WorkedPages
 pub mod Works

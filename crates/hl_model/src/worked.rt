@@ -1,6 +1,7 @@
 //! Worked examples as theorems: the definitions alone, computed by the checker, give what was written by hand.
 
 ghost use Rattle.hl_model.specs.Worked.{FirstAction, NobodyProtected, FullDrainList, TwoThreads, BothWait};
+ghost use Rattle.hl_model.specs.WorkedBorders.{EmptyLog, AtBorders, LastAddress};
 ghost use Rattle.hl_model.specs.WorkedPages.{FuzzyRegion, SwappedDones, Looks, SkippedWord, RaisesAndShifts, OutOfOrderFlush, FailedFlush, StaleReader, WordsOfAPage};
 
 /// An action waits until the one thread that was protected at its bump refreshed.
@@ -71,4 +72,19 @@ pub fn stale_reader()
 /// The words of a page are the last values written there.
 pub fn words_of_a_page()
     ensures { WordsOfAPage }
+{}
+
+/// What an empty log refuses, and slots at their last and one past it.
+pub fn empty_log()
+    ensures { EmptyLog }
+{}
+
+/// What is accepted and what is refused at each border: sizes, offsets, views, pages.
+pub fn at_borders()
+    ensures { AtBorders }
+{}
+
+/// The last address takes one word, and nothing lies behind it.
+pub fn last_address()
+    ensures { LastAddress }
 {}
