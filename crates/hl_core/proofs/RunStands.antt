@@ -8,8 +8,10 @@ use Rattle.hl_model.specs.declared.step.Reply.{Reply}
 use Rattle.hl_model.specs.declared.step.Step.{Step}
 use Rattle.hl_model.specs.Sizes.{Sizes}
 use Rattle.hl_model.specs.Lists.{gather, gather_after}
+use Rattle.hl_model.specs.Headline.{Headline}
 use Rattle.hl_model.specs.Replies.{good, extended, reply_of, replies_after}
-use Rattle.hl_model.proofs.AcceptedLaws.{good-push}
+use Rattle.hl_model.proofs.AcceptedLaws.{good-push, IsAccepted-good}
+use Rattle.hl_model.proofs.HeadlineLaws.{headline}
 use Rattle.hl_model.proofs.ListLaws.{gather-push}
 use Rattle.hl_core.specs.Standing.{State, Stands}
 use Rattle.hl_core.specs.Steps.{Stepped, Made}
@@ -34,6 +36,10 @@ unfolding replies_after gather gather_after
 replies_after-nil sizes A = refl
 
 module _ {J : Type 0} (tag : J → ℕ) where
+  -- the accepted steps keep the headline
+  pub ran_headline : (old : State J) (A steps : List Step) → Stands tag old A → Headline old.sizes (good old.sizes (A ++ steps))
+  ran_headline old A steps st = headline old.sizes (good old.sizes (A ++ steps)) (omega (arith, st.in_range.page_least)) (IsAccepted-good old.sizes (A ++ steps))
+
   -- from A on the first n steps were made: what they were answered, and where the core stands
   pub record RanFrom (sizes : Sizes) (A steps : List Step) (new : State J) (results : List (Result Reply Fault)) (n : ℕ) : Type 0 where
     pub standing : Stands tag new (good sizes (A ++ take n steps))

@@ -1,5 +1,6 @@
 ghost use Rattle.std.specs.Prelude.{◌≡◌, List, length, OnErr, ◌++◌};
 ghost use Rattle.hl_model.specs.declared.step.Step.{Step as STEP};
+ghost use Rattle.hl_model.specs.Headline.{Headline};
 ghost use Rattle.hl_model.specs.Replies.{good, replies_after};
 ghost use Rattle.hl_core.specs.Standing.{Stands};
 ghost use Rattle.hl_core.specs.Steps.{Made, asking};
@@ -33,11 +34,12 @@ impl<E: Epochs + Drop> Core<E, Tag> {
     ///
     /// From a core that stands at an accepted list A, whatever the steps L are, lawful or not, of whatever threads in
     /// whatever order: each result is the definitions' reply after the accepted steps before it, and the core then
-    /// stands at the accepted steps of A and L.
+    /// stands at the accepted steps of A and L, which keep the headline.
     pub fn run(&mut self, steps: &[Step], results: &mut [Result<Reply, Fault>])
         requires { length results.old ≡ length steps.now }
         ensures replies { (A : List STEP) → Stands (λ t. t.0) self.old A → results.new ≡ replies_after self.old.sizes A steps.now }
         ensures standing { (A : List STEP) → Stands (λ t. t.0) self.old A → Stands (λ t. t.0) self.new (good self.old.sizes (A ++ steps.now)) }
+        ensures headline { (A : List STEP) → Stands (λ t. t.0) self.old A → Headline self.old.sizes (good self.old.sizes (A ++ steps.now)) }
         ensures sizes { self.new.sizes ≡ self.old.sizes }
     {
         for i in 0..steps.len() {

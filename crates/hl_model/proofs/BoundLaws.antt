@@ -1,5 +1,5 @@
 -- The bounds of the offsets, the views and the places of every accepted list.
-use Rattle.std.proofs.Common.{◌≡◌, ℕ, ◌+◌, ◌%◌, ◌^◌, ◌<◌, ◌≤◌, Bool, true, false, cond, List, [], ◌∷◌, ◌++◌, refl, sym, ap, ◌∙◌, subst, arith, append_assoc, eqb-true, le_refl, le_trans}
+use Rattle.std.proofs.Common.{◌≡◌, ℕ, ◌+◌, ◌%◌, ◌^◌, ◌<◌, ◌≤◌, Bool, true, false, cond, List, [], ◌∷◌, ◌++◌, refl, sym, ap, ◌∙◌, subst, arith, append_assoc, eqb-true, le_refl, le_trans, ◌/◌, ◌-◌}
 use Rattle.std.specs.Prelude.{◌==◌, Option, Some, None, unwrap_or}
 use Rattle.std.specs.List.{AllByRecursion}
 use Rattle.std.proofs.Math.Nat.{zero-mod}
@@ -14,7 +14,7 @@ use Rattle.hl_model.specs.Offsets.{raised_to, shifted_to, read_only, head, place
 use Rattle.hl_model.specs.Settled.{settles, closes, done_greatest, safe_read_only, closed}
 use Rattle.hl_model.specs.Views.{looked_read_only, looked_head, seen_read_only, seen_head, seen_tail}
 use Rattle.hl_model.specs.Replies.{protected_fault, fault_of, IsAccepted}
-use Rattle.hl_model.specs.Laws.{ViewsAreBounded, WritesAreAboveSafeReadOnly, PlacesAreOnOnePage, PlacesAreApart}
+use Rattle.hl_model.specs.Headline.{placed}
 use Rattle.hl_model.proofs.ListLaws.{max-has, all-append, all-follows, never_falls}
 use Rattle.hl_model.proofs.AcceptedLaws.{IsAccepted-front, accepted_has}
 use Rattle.hl_model.proofs.EpochLaws.{slot_epoch-push, slot_epoch-nil, slot_epoch-range, safe_epoch-below}
@@ -182,7 +182,7 @@ looks-head sizes t A (Look u r h) accepted =
 looks-head sizes t A _ accepted = le_refl (seen_head t A)
 
 -- what a protected slot saw is not below what is settled
-pub views_are_bounded : ViewsAreBounded
+pub views_are_bounded : (sizes : Sizes) (A : List Step) (t : ℕ) → IsAccepted sizes A → is_protected t A ≡ true → (safe_read_only A ≤ seen_read_only t A) × (closed A ≤ seen_head t A)
 unfolding seen_read_only seen_head
 views_are_bounded sizes A t a p = (
   settled-seen sizes settles looked_read_only read_only A t settles-le (looks-read_only sizes t) a p,
@@ -190,7 +190,7 @@ views_are_bounded sizes A t a p = (
 )
 
 -- nor does it write below that
-pub writes_are_above_safe_read_only : WritesAreAboveSafeReadOnly
+pub writes_are_above_safe_read_only : (sizes : Sizes) (X : List Step) (t a v : ℕ) (Y : List Step) → IsAccepted sizes (X ++ Write t a v ∷ Y) → safe_read_only X ≤ a
 writes_are_above_safe_read_only sizes X t a v Y accepted =
     let lawful : (protected_fault sizes X t ≡ None) × (seen_read_only t X ≤ a) × (a < seen_tail sizes t X) = write-none sizes X t a v (accepted_meets_no_fault sizes X (Write t a v) Y accepted) in
     le_trans (views_are_bounded sizes X t (IsAccepted-front sizes X (Write t a v ∷ Y) accepted) (protected-none sizes X t lawful.0).1).0 lawful.1
@@ -200,13 +200,13 @@ allocated : (sizes : Sizes) (X : List Step) (t n : ℕ) (Y : List Step) → IsAc
 allocated sizes X t n Y accepted = size-none sizes.page (tail sizes X) n (allocate-none sizes X t n (accepted_meets_no_fault sizes X (Allocate t n) Y accepted)).1
 
 -- each record is on one page
-pub places_are_on_one_page : PlacesAreOnOnePage
+pub places_are_on_one_page : (sizes : Sizes) (X : List Step) (t n : ℕ) (Y : List Step) → 0 < sizes.page → IsAccepted sizes (X ++ Allocate t n ∷ Y) → placed sizes X n / sizes.page ≡ (placed sizes X n + n - 1) / sizes.page
 places_are_on_one_page sizes X t n Y page accepted =
     let size : (0 < n) × (n ≤ sizes.page) × (place_of sizes.page (tail sizes X) n + n ≤ 2 ^ 48) = allocated sizes X t n Y accepted in
     place_of-one_page sizes.page (tail sizes X) n page size.0 size.1
 
 -- and behind those before
-pub places_are_apart : PlacesAreApart
+pub places_are_apart : (sizes : Sizes) (X : List Step) (t n : ℕ) (Y : List Step) (u m : ℕ) (Z : List Step) → 0 < sizes.page → IsAccepted sizes ((X ++ Allocate t n ∷ Y) ++ Allocate u m ∷ Z) → placed sizes X n + n ≤ placed sizes (X ++ Allocate t n ∷ Y) m
 places_are_apart sizes X t n Y u m Z page accepted =
     let later : tail sizes (X ++ Allocate t n ∷ []) ≤ tail sizes (X ++ Allocate t n ∷ Y)
     = subst (λ (L : List Step). tail sizes (X ++ Allocate t n ∷ []) ≤ tail sizes L) (append_assoc X (Allocate t n ∷ []) Y) (never_falls (tail sizes) (λ C s. tail-grows sizes C s page) (X ++ Allocate t n ∷ []) Y) in

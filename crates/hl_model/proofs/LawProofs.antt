@@ -14,9 +14,10 @@ use Rattle.hl_model.specs.declared.step.Step.TheVariants.{Acquire, Refresh, Rele
 use Rattle.hl_model.specs.Sizes.{Sizes}
 use Rattle.hl_model.specs.Lists.{until_last, gather, gather_after}
 use Rattle.hl_model.specs.Epochs.{table_of, slot_epochs, is_bump, enters, leaves, current_epoch, mark, is_protected, up_to_mark, epoch_of, slot_epoch, safe_epoch}
-use Rattle.hl_model.specs.Actions.{is_take, bumps, takes, pending, taken, action_at}
+use Rattle.hl_model.specs.Actions.{is_take, bumps, takes, pending, taken, action_at, front}
 use Rattle.hl_model.specs.Replies.{epoch_last, done_answer, kind_or_job_0, fault_of, reply_of, unless_fault, answer_of, IsAccepted}
-use Rattle.hl_model.specs.Laws.{TablesFollow, AcceptedMeetsNoFault, CurrentIsAtMostLast, DrainListHoldsThem, TicketsCountUp, TakenAreThoseListed, EpochsAreInOrder, SafeIsGreatest, MarkAfterBump, ticket_told, tickets_told, TakesCountUp, moves_on, TakenAfterAllMovedOn}
+use Rattle.hl_model.specs.Laws.{TablesFollow, AcceptedMeetsNoFault, CurrentIsAtMostLast, DrainListHoldsThem, TicketsCountUp, TakenAreThoseListed, EpochsAreInOrder, SafeIsGreatest, MarkAfterBump}
+use Rattle.hl_model.specs.Headline.{ticket_told, tickets_told, moves_on}
 use Rattle.hl_model.proofs.ListLaws.{list_any-push, gather-push, by_pushing, one_where, none_where}
 use Rattle.hl_model.proofs.AcceptedLaws.{IsAccepted-front, IsAccepted-parts, accepted_has}
 use Rattle.hl_model.proofs.EpochLaws.{slot_epochs-acquire, slot_epochs-refresh, slot_epochs-release, slot_epochs-stay, current_epoch-nil, safe_epoch-current, current_epoch-push, enters-is_bump, slot_epoch-stays, slot_epoch-range, is_protected-slot_epoch, epoch_of-slot_epoch, safe_epoch-below, safe_epoch-greatest}
@@ -187,7 +188,7 @@ counted_up A s true e =
     rw more (ap (λ n. range_with_len 1 (takes A) ++ n ∷ []) next ∙ sym (range-push 1 (takes A)))
 counted_up A s false e = append-nil (range_with_len 1 (takes A)) ∙ sym (ap (range_with_len 1) (takes-stay A s e))
 
-pub takes_count_up : TakesCountUp
+pub takes_count_up : (sizes : Sizes) (A : List Step) → IsAccepted sizes A → tickets_told sizes A ≡ range_with_len 1 (takes A)
 takes_count_up sizes = accepted_has sizes (λ A. tickets_told sizes A ≡ range_with_len 1 (takes A))
     (tickets_told-nil sizes ∙ sym (ap (range_with_len 1) takes-nil))
     (λ A s a h before. tickets_told-push sizes A s ∙ ap₂ (λ xs ys. xs ++ ys) before (told sizes A s h) ∙ counted_up A s (is_take s) refl)
@@ -217,7 +218,7 @@ keeps_epoch sizes X s t e b seated = by_pushing (λ Y. IsAccepted sizes (X ++ s 
         let still : (enters t r ≡ false) × (leaves t r ≡ false) = stays_seated sizes (X ++ s ∷ Y) t r quiet.1 parts.1 (is_protected-slot_epoch t (X ++ s ∷ Y) ∙ ap is_some held) in
         ap (slot_epoch t) (sym whole) ∙ slot_epoch-stays t (X ++ s ∷ Y) r still.0 still.1 ∙ held
 
-pub taken_after_all_moved_on : TakenAfterAllMovedOn
+pub taken_after_all_moved_on : (sizes : Sizes) (X : List Step) (s : Step) (Y Z : List Step) (t : ℕ) → IsAccepted sizes ((X ++ s ∷ Y) ++ Take ∷ Z) → is_bump s ≡ true → front (X ++ s ∷ Y) ≡ bumps X + 1 → is_protected t X ≡ true → list_any (moves_on t) Y ≡ true
 taken_after_all_moved_on sizes X s Y Z t a b f p = true_from_ne_false (list_any (moves_on t) Y) early
   where
     accepted : IsAccepted sizes ((X ++ s ∷ Y) ++ Take ∷ [])

@@ -5,6 +5,7 @@ pub mod DrainLaws
 pub mod EpochLaws
 pub mod FrameFacts
 pub mod FrameLaws
+pub mod HeadlineLaws
 pub mod HistoryLaws
 pub mod LawProofs
 pub mod LeastLaws

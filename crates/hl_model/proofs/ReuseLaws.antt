@@ -1,18 +1,20 @@
 -- No frame is used again while its old page is reached, and the words of a page that was taken to be flushed stay.
-use Rattle.std.proofs.Common.{◌≡◌, ℕ, ◌+◌, ◌-◌, ◌*◌, ◌/◌, ◌<◌, ◌≤◌, true, cond, ◌||◌, List, [], ◌∷◌, ◌++◌, refl, sym, ap, ◌∙◌, subst, arith, append_assoc, append-nil, inl, inr, ◌⊎◌}
+use Rattle.std.proofs.Common.{◌≡◌, ℕ, ◌+◌, ◌-◌, ◌*◌, ◌/◌, ◌<◌, ◌≤◌, true, cond, ◌||◌, false, List, [], ◌∷◌, ◌++◌, refl, sym, ap, ◌∙◌, subst, arith, append_assoc, append-nil, inl, inr, ◌⊎◌}
 use Rattle.std.specs.Prelude.{Some, None}
 use Rattle.std.proofs.Math.Nat.{lt-div-mul-add}
 use Rattle.std.proofs.lemmas.Bool.{ne_eqb}
 use Rattle.hl_model.specs.declared.step.Step.{Step}
 use Rattle.hl_model.specs.declared.step.Step.TheVariants.{Allocate, Write, Read}
 use Rattle.hl_model.specs.Sizes.{Sizes}
+use Rattle.hl_model.specs.Offsets.{is_entered}
+use Rattle.hl_model.specs.Reach.{Reaches}
 use Rattle.hl_model.specs.Settled.{safe_read_only, closed}
 use Rattle.hl_model.specs.Views.{seen_read_only, seen_head, seen_tail}
 use Rattle.hl_model.specs.Pages.{is_flushed, is_in_flight, is_freed}
 use Rattle.hl_model.specs.Frames.{may_enter}
 use Rattle.hl_model.specs.Words.{written_at, word}
 use Rattle.hl_model.specs.Replies.{fault_of, protected_fault, IsAccepted}
-use Rattle.hl_model.specs.Laws.{placed, NoFrameIsReusedWhileReached, TakenWordsStay}
+use Rattle.hl_model.specs.Headline.{placed}
 use Rattle.hl_model.proofs.ListLaws.{by_pushing}
 use Rattle.hl_model.proofs.AcceptedLaws.{IsAccepted-front, IsAccepted-parts}
 use Rattle.hl_model.proofs.PageFacts.{may_enter-freed, flushed_sealed, in_flight_sealed, freed_closed, head-le-flushed, flushed-le-safe_read_only}
@@ -40,7 +42,7 @@ reached_above sizes X u a v some acc (inr writes) =
     omega (arith, bounds.0, parts.1, closed-le-head sizes X acc, head-le-flushed sizes X acc, flushed-le-safe_read_only sizes X some acc)
 
 -- the old page is freed, so it lies below the closed offset, and what is reached doesn't
-pub no_frame_is_reused_while_reached : NoFrameIsReusedWhileReached
+pub no_frame_is_reused_while_reached : (sizes : Sizes) (X : List Step) (t n : ℕ) (Y : List Step) (u : ℕ) → 0 < sizes.page → IsAccepted sizes (X ++ Allocate t n ∷ Y) → is_entered sizes (placed sizes X n / sizes.page) X ≡ false → sizes.frames ≤ placed sizes X n / sizes.page → Reaches sizes u (placed sizes X n / sizes.page - sizes.frames) X → ⊥
 no_frame_is_reused_while_reached sizes X t n Y u some a fresh used reach =
     let whole : (X ++ Allocate t n ∷ []) ++ Y ≡ X ++ Allocate t n ∷ Y = append_assoc X (Allocate t n ∷ []) Y in
     let parts : IsAccepted sizes X × (fault_of sizes X (Allocate t n) ≡ None) = IsAccepted-parts sizes X (Allocate t n) (IsAccepted-front sizes (X ++ Allocate t n ∷ []) Y (subst (IsAccepted sizes) (sym whole) a)) in
@@ -77,6 +79,6 @@ taken_sealed sizes A p some acc (inl h) = in_flight_sealed sizes A p some acc h
 taken_sealed sizes A p some acc (inr h) = flushed_sealed sizes A p some acc h
 
 -- what was taken is sealed
-pub taken_words_stay : TakenWordsStay
+pub taken_words_stay : (sizes : Sizes) (A B : List Step) (a : ℕ) → 0 < sizes.page → IsAccepted sizes (A ++ B) → (is_in_flight sizes (a / sizes.page) A ≡ true) ⊎ (is_flushed sizes (a / sizes.page) A ≡ true) → word a (A ++ B) ≡ word a A
 taken_words_stay sizes A B a some acc h =
     sealed_words_stay sizes A a (omega (arith, below_end sizes.page a some, taken_sealed sizes A (a / sizes.page) some (IsAccepted-front sizes A B acc) h)) B acc

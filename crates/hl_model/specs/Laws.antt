@@ -1,23 +1,17 @@
 -- What holds of every list of steps, in the subject's own words. Each statement is the contract of a function of the module laws.
-use Rattle.std.specs.Prelude.{map, Some, None, slice_set, ℕ, ◌≡◌, ◌↔◌, ◌+◌, ◌-◌, ◌/◌, ◌<◌, ◌≤◌, ◌⊎◌, ◌==◌, Bool, true, false, Result, Ok, List, [], ◌∷◌, ◌++◌, length}
+use Rattle.std.specs.Prelude.{map, Some, None, slice_set, ℕ, ◌≡◌, ◌↔◌, ◌+◌, ◌-◌, ◌<◌, ◌≤◌, ◌==◌, true, false, List, [], ◌∷◌, ◌++◌, length}
 use Rattle.std.specs.List.{list_any, range_with_len}
-use Rattle.hl_model.specs.declared.fault.Fault.{Fault}
-use Rattle.hl_model.specs.declared.step.Reply.{Reply}
-use Rattle.hl_model.specs.declared.step.Reply.TheVariants.{Taken}
 use Rattle.hl_model.specs.declared.step.Step.{Step}
-use Rattle.hl_model.specs.declared.step.Step.TheVariants.{Acquire, Refresh, Release, Bump, Settle, Close, Take, Allocate, Write}
-use Rattle.hl_model.specs.Lists.{gather}
+use Rattle.hl_model.specs.declared.step.Step.TheVariants.{Acquire, Refresh, Release, Bump, Settle, Close}
 use Rattle.hl_model.specs.Sizes.{Sizes}
 use Rattle.hl_model.specs.Epochs.{table_of, slot_epochs, is_bump, enters, leaves, current_epoch, mark, is_protected, epoch_of, safe_epoch}
 use Rattle.hl_model.specs.Actions.{bumps, takes, dones, front, actions, pending, taken, is_taken}
-use Rattle.hl_model.specs.Offsets.{read_only, head, tail, place_of, is_entered}
+use Rattle.hl_model.specs.Offsets.{read_only, head, tail}
 use Rattle.hl_model.specs.Settled.{safe_read_only, closed}
-use Rattle.hl_model.specs.Views.{seen_read_only, seen_head}
-use Rattle.hl_model.specs.Pages.{is_flushed, is_in_flight, flushed}
+use Rattle.hl_model.specs.Pages.{flushed}
 use Rattle.hl_model.specs.Snapshots.{six, AreInOrder}
-use Rattle.hl_model.specs.Words.{word}
-use Rattle.hl_model.specs.Reach.{Reaches}
-use Rattle.hl_model.specs.Replies.{epoch_last, fault_of, reply_of, extended, good, IsAccepted}
+use Rattle.hl_model.specs.Headline.{Headline}
+use Rattle.hl_model.specs.Replies.{epoch_last, fault_of, extended, good, IsAccepted}
 
 -- the accepted steps of a list are an accepted list
 abbrev pub AcceptedStepsAreAccepted : Type 0
@@ -89,29 +83,6 @@ pub record TablesMove (sizes : Sizes) (A : List Step) : Type 0 where
 abbrev pub TablesFollow : Type 0
 TablesFollow = (sizes : Sizes) (A : List Step) → TablesMove sizes A
 
--- the ticket that a take was answered
-abbrev pub ticket_told : Result Reply Fault → List ℕ
-ticket_told (Ok (Taken c)) = c ∷ []
-ticket_told _ = []
-
--- the tickets that the takes of a list were answered, in order
-unfoldable pub tickets_told : Sizes → List Step → List ℕ
-tickets_told sizes A = gather (λ before s. ticket_told (reply_of sizes before s)) A
-
--- the takes of an accepted list name 1, 2, 3 and so on
-abbrev pub TakesCountUp : Type 0
-TakesCountUp = (sizes : Sizes) (A : List Step) → IsAccepted sizes A → tickets_told sizes A ≡ range_with_len 1 (takes A)
-
--- a step by which slot t refreshes or leaves
-abbrev pub moves_on : ℕ → Step → Bool
-moves_on t (Refresh u) = u == t
-moves_on t (Release u) = u == t
-moves_on t _ = false
-
--- where the ticket of the bump s is taken, each slot that was protected before the bump has refreshed or left between the two
-abbrev pub TakenAfterAllMovedOn : Type 0
-TakenAfterAllMovedOn = (sizes : Sizes) (X : List Step) (s : Step) (Y Z : List Step) (t : ℕ) → IsAccepted sizes ((X ++ s ∷ Y) ++ Take ∷ Z) → is_bump s ≡ true → front (X ++ s ∷ Y) ≡ bumps X + 1 → is_protected t X ≡ true → list_any (moves_on t) Y ≡ true
-
 -- the offsets of each accepted list are in order
 abbrev pub OffsetsAreInOrder : Type 0
 OffsetsAreInOrder = (sizes : Sizes) (A : List Step) → 0 < sizes.page → IsAccepted sizes A → AreInOrder sizes.page (six sizes A)
@@ -129,30 +100,6 @@ pub record NoneFell (sizes : Sizes) (A B : List Step) : Type 0 where
 abbrev pub OffsetsNeverFall : Type 0
 OffsetsNeverFall = (sizes : Sizes) (A B : List Step) → 0 < sizes.page → IsAccepted sizes (A ++ B) → NoneFell sizes A (A ++ B)
 
--- what a protected slot saw is not below what is settled: its read-only offset is at least the safe one, and its head at least the closed offset
-abbrev pub ViewsAreBounded : Type 0
-ViewsAreBounded = (sizes : Sizes) (A : List Step) (t : ℕ) → IsAccepted sizes A → is_protected t A ≡ true → (safe_read_only A ≤ seen_read_only t A) × (closed A ≤ seen_head t A)
-
--- no accepted write lies below the safe read-only offset
-abbrev pub WritesAreAboveSafeReadOnly : Type 0
-WritesAreAboveSafeReadOnly = (sizes : Sizes) (X : List Step) (t a v : ℕ) (Y : List Step) → IsAccepted sizes (X ++ Write t a v ∷ Y) → safe_read_only X ≤ a
-
--- where a record of n words is placed after the list A
-abbrev pub placed : Sizes → List Step → ℕ → ℕ
-placed sizes A n = place_of sizes.page (tail sizes A) n
-
--- each record is placed on one page
-abbrev pub PlacesAreOnOnePage : Type 0
-PlacesAreOnOnePage = (sizes : Sizes) (X : List Step) (t n : ℕ) (Y : List Step) → 0 < sizes.page → IsAccepted sizes (X ++ Allocate t n ∷ Y) → placed sizes X n / sizes.page ≡ (placed sizes X n + n - 1) / sizes.page
-
--- of two records the later one is placed behind the earlier one's last word
-abbrev pub PlacesAreApart : Type 0
-PlacesAreApart = (sizes : Sizes) (X : List Step) (t n : ℕ) (Y : List Step) (u m : ℕ) (Z : List Step) → 0 < sizes.page → IsAccepted sizes ((X ++ Allocate t n ∷ Y) ++ Allocate u m ∷ Z) → placed sizes X n + n ≤ placed sizes (X ++ Allocate t n ∷ Y) m
-
--- an allocation that enters a page in a used frame: no protected slot reaches the page that was there
-abbrev pub NoFrameIsReusedWhileReached : Type 0
-NoFrameIsReusedWhileReached = (sizes : Sizes) (X : List Step) (t n : ℕ) (Y : List Step) (u : ℕ) → 0 < sizes.page → IsAccepted sizes (X ++ Allocate t n ∷ Y) → is_entered sizes (placed sizes X n / sizes.page) X ≡ false → sizes.frames ≤ placed sizes X n / sizes.page → Reaches sizes u (placed sizes X n / sizes.page - sizes.frames) X → ⊥
-
--- from a page's flush take on its words stay
-abbrev pub TakenWordsStay : Type 0
-TakenWordsStay = (sizes : Sizes) (A B : List Step) (a : ℕ) → 0 < sizes.page → IsAccepted sizes (A ++ B) → (is_in_flight sizes (a / sizes.page) A ≡ true) ⊎ (is_flushed sizes (a / sizes.page) A ≡ true) → word a (A ++ B) ≡ word a A
+-- the headline holds of each accepted list
+abbrev pub HeadlineHolds : Type 0
+HeadlineHolds = (sizes : Sizes) (A : List Step) → 0 < sizes.page → IsAccepted sizes A → Headline sizes A

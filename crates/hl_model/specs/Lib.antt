@@ -3,6 +3,7 @@ pub mod Epochs
 pub mod Faults
 pub mod Frames
 pub mod Given
+pub mod Headline
 pub mod Histories
 pub mod Kept
 pub mod Laws

@@ -1,7 +1,7 @@
 //! What holds of every list of steps, each law the contract of a function that does nothing: the definitions
 //! alone carry them, so they hold of whatever meets the definitions.
 
-ghost use Rattle.hl_model.specs.Laws.{TablesFollow, AcceptedMeetsNoFault, GoodByItsLastStep, CurrentIsAtMostLast, DrainListHoldsThem, TicketsCountUp, TakenAreThoseListed, TakenAreSafe, AcceptedStepsAreAccepted, BeginningsAreAccepted, EpochsAreInOrder, SafeNeverFalls, SafeIsGreatest, MarkAfterBump, EpochsFitTheDrainList, TakesCountUp, TakenAfterAllMovedOn, ViewsAreBounded, WritesAreAboveSafeReadOnly, PlacesAreOnOnePage, PlacesAreApart, OffsetsAreInOrder, OffsetsNeverFall, NoFrameIsReusedWhileReached, TakenWordsStay};
+ghost use Rattle.hl_model.specs.Laws.{HeadlineHolds, TablesFollow, AcceptedMeetsNoFault, GoodByItsLastStep, CurrentIsAtMostLast, DrainListHoldsThem, TicketsCountUp, TakenAreThoseListed, TakenAreSafe, AcceptedStepsAreAccepted, BeginningsAreAccepted, EpochsAreInOrder, SafeNeverFalls, SafeIsGreatest, MarkAfterBump, EpochsFitTheDrainList, OffsetsAreInOrder, OffsetsNeverFall};
 
 /// The accepted steps of any list are an accepted list.
 pub fn accepted_steps_are_accepted()
@@ -36,16 +36,6 @@ pub fn mark_after_bump()
 /// After an accepted list, the epochs that ended and aren't safe are at most the places of the drain list.
 pub fn epochs_fit_the_drain_list()
     ensures { EpochsFitTheDrainList }
-{}
-
-/// The takes of an accepted list name the tickets 1, 2, 3 and so on: each action is taken at most once, in order.
-pub fn takes_count_up()
-    ensures { TakesCountUp }
-{}
-
-/// Where an action is taken, each slot that was protected before its bump has refreshed or left between the two.
-pub fn taken_after_all_moved_on()
-    ensures { TakenAfterAllMovedOn }
 {}
 
 /// A step of an accepted list meets no fault after those before it.
@@ -89,27 +79,6 @@ pub fn tables_follow()
     ensures { TablesFollow }
 {}
 
-/// What a protected slot saw of the read-only offset is at least the safe read-only offset, and what it saw of the
-/// head at least the closed offset, after every accepted list.
-pub fn views_are_bounded()
-    ensures { ViewsAreBounded }
-{}
-
-/// No accepted write lies below the safe read-only offset.
-pub fn writes_are_above_safe_read_only()
-    ensures { WritesAreAboveSafeReadOnly }
-{}
-
-/// The first and the last word of each record are on one page.
-pub fn places_are_on_one_page()
-    ensures { PlacesAreOnOnePage }
-{}
-
-/// Of two records the later one is placed behind the earlier one's last word.
-pub fn places_are_apart()
-    ensures { PlacesAreApart }
-{}
-
 /// The offsets of an accepted list are in order: closed, head, flushed, safe read-only, read-only, tail, at most 2^48.
 /// The first three are starts of pages.
 pub fn offsets_are_in_order()
@@ -121,13 +90,10 @@ pub fn offsets_never_fall()
     ensures { OffsetsNeverFall }
 {}
 
-/// Where an allocation enters a page in a used frame, no thread reaches the page that was there: no read and no write
-/// of it is accepted (FASTER, HybridLog: eviction).
-pub fn no_frame_is_reused_while_reached()
-    ensures { NoFrameIsReusedWhileReached }
-{}
-
-/// From a page's flush take on its words stay, whatever steps are accepted later.
-pub fn taken_words_stay()
-    ensures { TakenWordsStay }
+/// The headline of each accepted list: an action is taken at most once, after every thread protected at its bump
+/// refreshed or left; no write lies below the safe read-only offset; no frame is reused while a view reaches its page
+/// (FASTER, HybridLog: eviction). Besides: views are bounded by what is settled, each record lies on one page, behind
+/// all before it, and from a page's flush take on its words stay.
+pub fn headline()
+    ensures { HeadlineHolds }
 {}
