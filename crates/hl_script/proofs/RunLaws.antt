@@ -1,9 +1,14 @@
 -- What the outcome of a script's run is to a caller.
-use Rattle.std.proofs.Common.{◌≡◌, ◌⊎◌, ℕ, Bool, true, false, List, [], ◌∷◌, ◌++◌, ap, ◌∙◌, subst}
+use Rattle.std.proofs.Common.{◌≡◌, ◌⊎◌, ℕ, Bool, true, false, List, [], ◌∷◌, ◌++◌, ap, ◌∙◌, subst, arith}
 use Rattle.std.specs.Prelude.{Option}
 use Rattle.std.specs.Io.KnownBytes.{Appends, Consumes}
 use Rattle.hl_model.specs.declared.fault.Fault.{Fault}
 use Rattle.hl_model.specs.declared.fault.Fault.TheVariants.{BadLine, OutOfMemory, Stream}
+use Rattle.hl_model.specs.declared.step.Step.{Step}
+use Rattle.hl_model.specs.Sizes.{Sizes}
+use Rattle.hl_model.specs.Headline.{Headline}
+use Rattle.hl_model.proofs.HeadlineLaws.{headline}
+use Rattle.hl_cells.specs.Engines.{Whole, EngineStands}
 use Rattle.hl_line.specs.declared.line.Line.{Line}
 use Rattle.hl_line.specs.declared.line.Line.TheVariants.{Config, Step as Makes, Status, Pending, Frames}
 use Rattle.hl_script.specs.Lines.{is_config, takes_memory}
@@ -60,3 +65,8 @@ stopped_fault may_lack has given left from to (BadLine n) s = tt
 stopped_fault may_lack has given left from to OutOfMemory s = tt
 stopped_fault may_lack has given left from to Stream s = tt
 stopped_fault may_lack has given left from to f s = absurd s
+
+-- the steps at which an engine stands keep the headline
+pub engine_headline : {F : Type 0} {engine : Whole F} {sizes : Sizes} {A : List Step} → engine.core.sizes ≡ sizes → EngineStands engine A → Headline sizes A
+engine_headline {F} {engine} {sizes} {A} same st =
+    subst (λ (z : Sizes). Headline z A) same (headline engine.core.sizes A (omega (arith, st.core_stands.in_range.page_least)) st.core_stands.accepted)

@@ -1,5 +1,6 @@
 ghost use Rattle.std.specs.Prelude.{◌≡◌, ◌≤◌, ◌^◌, ℕ, ◌⊎◌, Err, IfOk, IfErr, IfSome, option_map, true, List, []};
 ghost use Rattle.std.specs.Io.KnownBytes.{Appends, Consumes, IsAtEnd};
+ghost use Rattle.hl_model.specs.Headline.{Headline};
 ghost use Rattle.hl_cells.specs.Engines.{EngineStands};
 ghost use Rattle.hl_script.specs.Lines.{script, takes_memory};
 ghost use Rattle.hl_script.specs.Answers.{sizes_of, accepted};
@@ -28,7 +29,8 @@ pub struct Finished<E: Epochs, F: Task> {
 
 /// Runs the script that the reader gives, with the jobs on the shelf, over an engine whose table of epochs is an E,
 /// and writes its text. A job is run at its done, under the firing of its take. The answer is None where there was no
-/// line. Jobs whose actions aren't done at the end go with the engine.
+/// line. The engine stands at the accepted steps, which keep the headline. Jobs whose actions aren't done at the end go
+/// with the engine.
 ///
 /// - `BadLine` with the number of the first line that is no step: the text was written, which ends in that line's
 ///   last line. Bytes behind it may have been read.
@@ -43,7 +45,8 @@ pub fn run_text<E: Epochs + Drop, F: Task, R: Read, W: Write>(
 ) -> Result<Option<Finished<E, F>>, Fault>
     ensures ok { IfOk result (λ finished. (input : List ℕ) × Consumes (R.remaining reader.old) (R.remaining reader.new) input × IsAtEnd (R.remaining reader.new)
         × WroteAll (tags_on shelf) (W.contents writer.old) (W.contents writer.new) input × (option_map (λ end. end.accepted) finished ≡ count_of (tags_on shelf) (script input))
-        × IfSome finished (λ end. EngineStands end.engine (accepted (tags_on shelf) (script input)) × (end.engine.core.sizes ≡ sizes_of (script input)))) }
+        × IfSome finished (λ end. EngineStands end.engine (accepted (tags_on shelf) (script input)) × (end.engine.core.sizes ≡ sizes_of (script input))
+        × Headline (sizes_of (script input)) (accepted (tags_on shelf) (script input)))) }
     ensures bad_line { (n : ℕ) → result ≡ Err (Fault.BadLine n) → (input : List ℕ) × Consumes (R.remaining reader.old) (R.remaining reader.new) input
         × Settled (R.remaining reader.new) (WroteBad (tags_on shelf) (W.contents writer.old) (W.contents writer.new) n) input }
     ensures out_of_memory { result ≡ Err Fault.OutOfMemory → (input : List ℕ) × Consumes (R.remaining reader.old) (R.remaining reader.new) input

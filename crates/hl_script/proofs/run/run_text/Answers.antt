@@ -2,7 +2,7 @@ use Rattle.std.proofs.Common.{refl, sym, ap}
 use Rattle.std.specs.Prelude.{false}
 use Rattle.std.proofs.lemmas.Result.{err_from_is_err_and}
 use Rattle.hl_script.specs.Text.{tags_on, count_of}
-use Rattle.hl_script.proofs.RunLaws.{stopped_bad, stopped_lacked, stopped_stream, stopped_fault}
+use Rattle.hl_script.proofs.RunLaws.{stopped_bad, stopped_lacked, stopped_stream, stopped_fault, engine_headline}
 use Rattle.hl_script.proofs.run.run_text.Goals as goal
 
 pub returns-in_err-ended-clause-bad_line : goal.returns-in_err-ended-clause-bad_line
@@ -33,4 +33,4 @@ returns-in_default-clause-ok g c =
 pub returns-clause-ok : goal.returns-clause-ok
 returns-clause-ok g c =
     let r = rw c.in-Some.is at (c.in_ok-ended.ensures (tags_on c.args.shelf) refl) in
-    (r.0, r.1, r.2, r.3, sym r.4.0, (r.4.1.standing, r.4.1.sizes_is))
+    (r.0, r.1, r.2, r.3, sym r.4.0, (r.4.1.standing, r.4.1.sizes_is, engine_headline r.4.1.sizes_is r.4.1.standing))
