@@ -1,4 +1,4 @@
--- The headline, of one list of steps. That it holds of every accepted list is the law `headline`.
+-- The headline, of one list of steps; but for its replies and quantities, which a core's `run` tells. That it holds of every accepted list is the law `headline`.
 use Rattle.std.specs.Prelude.{ℕ, ◌≡◌, ◌+◌, ◌-◌, ◌/◌, ◌≤◌, ◌⊎◌, ◌==◌, Bool, true, false, Result, Ok, List, [], ◌∷◌, ◌++◌}
 use Rattle.std.specs.List.{list_any, range_with_len}
 use Rattle.hl_model.specs.declared.fault.Fault.{Fault}

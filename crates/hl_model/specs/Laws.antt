@@ -1,4 +1,4 @@
--- What holds of every list of steps, in the subject's own words. Each statement is the contract of a function of the module laws.
+-- What holds of every accepted list of steps, and where no acceptance is asked for of every list, in the subject's own words. Each statement is the contract of a function of the module laws.
 use Rattle.std.specs.Prelude.{map, Some, None, slice_set, ℕ, ◌≡◌, ◌↔◌, ◌+◌, ◌-◌, ◌<◌, ◌≤◌, ◌==◌, true, false, List, [], ◌∷◌, ◌++◌, length}
 use Rattle.std.specs.List.{list_any, range_with_len}
 use Rattle.hl_model.specs.declared.step.Step.{Step}

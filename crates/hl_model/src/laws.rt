@@ -1,5 +1,5 @@
-//! What holds of every list of steps, each law the contract of a function that does nothing: the definitions
-//! alone carry them, so they hold of whatever meets the definitions.
+//! What holds of every accepted list of steps, or of any, each law the contract of a function that does nothing: the
+//! definitions alone carry them, so they hold of whatever meets the definitions.
 
 ghost use Rattle.hl_model.specs.Laws.{HeadlineHolds, TablesFollow, AcceptedMeetsNoFault, GoodByItsLastStep, CurrentIsAtMostLast, DrainListHoldsThem, TicketsCountUp, TakenAreThoseListed, TakenAreSafe, AcceptedStepsAreAccepted, BeginningsAreAccepted, EpochsAreInOrder, SafeNeverFalls, SafeIsGreatest, MarkAfterBump, EpochsFitTheDrainList, OffsetsAreInOrder, OffsetsNeverFall};
 

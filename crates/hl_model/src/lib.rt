@@ -1,6 +1,6 @@
 //! The words of the epoch framework and the page allocator: sizes, steps, replies and faults. Beside them,
 //! in `specs/`, what each reply and each quantity is for any list of steps, and in `laws` what holds of every
-//! such list.
+//! accepted one.
 //!
 //! After FASTER (Chandramouli, Prasaad, Kossmann, Levandoski, Hunter, Barnett, SIGMOD 2018): the current and
 //! the safe epoch, actions stored by a bump, and the offsets of the HybridLog.

@@ -10,7 +10,7 @@ pub struct View {
     pub tail: u64,
 }
 
-/// The six offsets of the log, each an address in words, each at most the next.
+/// The six offsets of a log, each an address in words. Those of a core are each at most the next.
 #[derive(Clone, Copy, Debug, Default, PartialEq, Eq)]
 pub struct Six {
     /// No thread's view reaches below it: frames below may be cleaned.
