@@ -3,6 +3,7 @@ pub mod ActionLaws
 pub mod BoundLaws
 pub mod DrainLaws
 pub mod EpochLaws
+pub mod FollowLaws
 pub mod FrameFacts
 pub mod FrameLaws
 pub mod HeadlineLaws
@@ -13,6 +14,7 @@ pub mod ListLaws
 pub mod NoFaultLaws
 pub mod OffsetLaws
 pub mod OrderLaws
+pub mod OutLaws
 pub mod PageFacts
 pub mod PageTests
 pub mod PendingLaws

@@ -1,10 +1,9 @@
 -- What holds of every accepted list of steps, and where no acceptance is asked for of every list, in the subject's own words. Each statement is the contract of a function of the module laws.
-use Rattle.std.specs.Prelude.{map, Some, None, slice_set, ℕ, ◌≡◌, ◌↔◌, ◌+◌, ◌-◌, ◌<◌, ◌≤◌, ◌==◌, true, false, List, [], ◌∷◌, ◌++◌, length}
+use Rattle.std.specs.Prelude.{map, None, ℕ, ◌≡◌, ◌↔◌, ◌+◌, ◌-◌, ◌<◌, ◌≤◌, ◌==◌, true, List, [], ◌∷◌, ◌++◌, length}
 use Rattle.std.specs.List.{list_any, range_with_len}
 use Rattle.hl_model.specs.declared.step.Step.{Step}
-use Rattle.hl_model.specs.declared.step.Step.TheVariants.{Acquire, Refresh, Release, Bump, Settle, Close}
 use Rattle.hl_model.specs.Sizes.{Sizes}
-use Rattle.hl_model.specs.Epochs.{table_of, slot_epochs, is_bump, enters, leaves, current_epoch, mark, is_protected, epoch_of, safe_epoch}
+use Rattle.hl_model.specs.Epochs.{is_bump, current_epoch, mark, is_protected, epoch_of, safe_epoch}
 use Rattle.hl_model.specs.Actions.{bumps, takes, dones, front, actions, pending, taken, is_taken}
 use Rattle.hl_model.specs.Offsets.{read_only, head, tail}
 use Rattle.hl_model.specs.Settled.{safe_read_only, closed}
@@ -68,20 +67,6 @@ TakenAreThoseListed = (sizes : Sizes) (A : List Step) (c : ℕ) → IsAccepted s
 -- each ticket taken is safe
 abbrev pub TakenAreSafe : Type 0
 TakenAreSafe = (sizes : Sizes) (A : List Step) → IsAccepted sizes A → takes A ≤ safe_epoch sizes.slots A
-
--- what each step makes of the table of a list: an acquire and a refresh set the slot's epoch to the current one, a release ends it, a bump, a settle and a close raise the current one, and no other step changes anything
-pub record TablesMove (sizes : Sizes) (A : List Step) : Type 0 where
-  pub acquire : (t : ℕ) → table_of sizes (A ++ Acquire t ∷ []) ≡ record (table_of sizes A) { epochs = slice_set (slot_epochs sizes.slots A) t (Some (current_epoch A)) }
-  pub refresh : (t : ℕ) → table_of sizes (A ++ Refresh t ∷ []) ≡ record (table_of sizes A) { epochs = slice_set (slot_epochs sizes.slots A) t (Some (current_epoch A)) }
-  pub release : (t : ℕ) → table_of sizes (A ++ Release t ∷ []) ≡ record (table_of sizes A) { epochs = slice_set (slot_epochs sizes.slots A) t None }
-  pub bump : (tag : ℕ) → table_of sizes (A ++ Bump tag ∷ []) ≡ record (table_of sizes A) { current = current_epoch A + 1 }
-  pub settle : table_of sizes (A ++ Settle ∷ []) ≡ record (table_of sizes A) { current = current_epoch A + 1 }
-  pub close : table_of sizes (A ++ Close ∷ []) ≡ record (table_of sizes A) { current = current_epoch A + 1 }
-  pub others : (s : Step) → is_bump s ≡ false → ((t : ℕ) → enters t s ≡ false) → ((t : ℕ) → leaves t s ≡ false) → table_of sizes (A ++ s ∷ []) ≡ table_of sizes A
-
--- so does each step after every list
-abbrev pub TablesFollow : Type 0
-TablesFollow = (sizes : Sizes) (A : List Step) → TablesMove sizes A
 
 -- the offsets of each accepted list are in order
 abbrev pub OffsetsAreInOrder : Type 0

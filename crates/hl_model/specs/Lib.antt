@@ -1,6 +1,7 @@
 pub mod Actions
 pub mod Epochs
 pub mod Faults
+pub mod Follows
 pub mod Frames
 pub mod Given
 pub mod Headline

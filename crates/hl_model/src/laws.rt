@@ -1,7 +1,8 @@
 //! What holds of every accepted list of steps, or of any, each law the contract of a function that does nothing: the
 //! definitions alone carry them, so they hold of whatever meets the definitions.
 
-ghost use Rattle.hl_model.specs.Laws.{HeadlineHolds, TablesFollow, AcceptedMeetsNoFault, GoodByItsLastStep, CurrentIsAtMostLast, DrainListHoldsThem, TicketsCountUp, TakenAreThoseListed, TakenAreSafe, AcceptedStepsAreAccepted, BeginningsAreAccepted, EpochsAreInOrder, SafeNeverFalls, SafeIsGreatest, MarkAfterBump, EpochsFitTheDrainList, OffsetsAreInOrder, OffsetsNeverFall};
+ghost use Rattle.hl_model.specs.Follows.{TablesFollow, ActionsFollow, OffsetsFollow, PagesFollow, OutSinceItsTake};
+ghost use Rattle.hl_model.specs.Laws.{HeadlineHolds, AcceptedMeetsNoFault, GoodByItsLastStep, CurrentIsAtMostLast, DrainListHoldsThem, TicketsCountUp, TakenAreThoseListed, TakenAreSafe, AcceptedStepsAreAccepted, BeginningsAreAccepted, EpochsAreInOrder, SafeNeverFalls, SafeIsGreatest, MarkAfterBump, EpochsFitTheDrainList, OffsetsAreInOrder, OffsetsNeverFall};
 
 /// The accepted steps of any list are an accepted list.
 pub fn accepted_steps_are_accepted()
@@ -77,6 +78,27 @@ pub fn taken_are_safe()
 /// by call, is at its list.
 pub fn tables_follow()
     ensures { TablesFollow }
+{}
+
+/// What each step makes of the pending and the taken actions of an accepted list.
+pub fn actions_follow()
+    ensures { ActionsFollow }
+{}
+
+/// What each step makes of the six offsets of an accepted list.
+pub fn offsets_follow()
+    ensures { OffsetsFollow }
+{}
+
+/// What each step makes of the pages that are flushed, in flight, freed and being cleaned, whatever list it comes
+/// after.
+pub fn pages_follow()
+    ensures { PagesFollow }
+{}
+
+/// A page is in flight exactly where a flush take named it and no flush of it ended since; likewise with cleaning.
+pub fn out_since_its_take()
+    ensures { OutSinceItsTake }
 {}
 
 /// The offsets of an accepted list are in order: closed, head, flushed, safe read-only, read-only, tail, at most 2^48.
