@@ -25,28 +25,8 @@ use Rattle.hl_core.specs.Steps.{Stepped, Made}
 use Rattle.hl_core.proofs.PageEntered.{allocated_within, new_is_next, entered-is, new_within_space}
 use Rattle.hl_core.proofs.PageFound.{enter_found}
 use Rattle.hl_core.proofs.QuietLaws.{safe_read_only-quiet, closed-quiet}
-use Rattle.hl_core.proofs.StandLaws.{refused_step, accepted_step, quiet_drain}
+use Rattle.hl_core.proofs.StandLaws.{refused_is, passed_is, refused_by_test, passed_by_test, refused_step, accepted_step, quiet_drain}
 use Rattle.hl_core.proofs.TableLaws.{table_stays}
-
--- an answer that is none tells that there is no fault
-told_ok : {X : Type 0} (o : Option Fault) (v x : X) → Ok v ≡ unless_fault o x → (o ≡ None) × (v ≡ x)
-told_ok None v x h = (refl, cc)
-told_ok (Some f) v x h = cc
-
--- an answer that is a fault tells the fault
-told_err : {X : Type 0} (o : Option Fault) (f : Fault) (x : X) → Err f ≡ unless_fault o x → o ≡ Some f
-told_err None f x h = cc
-told_err (Some g) f x h = cc
-
--- a test that answers whether a page is entered
-entered_ok : (b : Bool) (f : Fault) → Ok (tt {0}) ≡ cond b (Ok (tt {0})) (Err f) → b ≡ true
-entered_ok true f h = refl
-entered_ok false f h = cc
-
--- and one that is refused tells the other
-entered_err : (b : Bool) (f g : Fault) → Err f ≡ cond b (Ok (tt {0})) (Err g) → (b ≡ false) × (f ≡ g)
-entered_err true f g h = cc
-entered_err false f g h = (refl, cc)
 
 -- the offsets after an allocation
 log-allocate : (sizes : Sizes) (A : List Step) (t n : ℕ) → IsAccepted sizes A → log_of sizes (A ++ Allocate t n ∷ []) ≡ allocated n (log_of sizes A)
@@ -72,7 +52,7 @@ module _ {J : Type 0} (tag : J → ℕ) (core : State J) where
 
   -- a slot with a view is protected
   seen_none : (A : List Step) (t : ℕ) (view : View) → Stands tag core A → SeenAs t (Ok view) → (protected_fault core.sizes A t ≡ None) × (view ≡ view_of core.sizes t A)
-  seen_none A t view st seen = told_ok (protected_fault core.sizes A t) view (view_of core.sizes t A) (seen A st)
+  seen_none A t view st seen = passed_is (protected_fault core.sizes A t) view (view_of core.sizes t A) (seen A st)
 
   -- the size is judged by the list's page and tail
   size_same : (A : List Step) (n : ℕ) → Stands tag core A → size_fault core.offsets.page core.offsets.tail n ≡ size_fault core.sizes.page (tail core.sizes A) n
@@ -85,7 +65,7 @@ module _ {J : Type 0} (tag : J → ℕ) (core : State J) where
   -- a record that is placed has no fault of its size, and lies there
   placed_ok : (A : List Step) (n place : ℕ) → Stands tag core A → PlacedAs n (Ok place) → (size_fault core.sizes.page (tail core.sizes A) n ≡ None) × (place ≡ place_of core.sizes.page (tail core.sizes A) n)
   placed_ok A n place st h =
-      let told = told_ok (size_fault core.offsets.page core.offsets.tail n) place (place_of core.offsets.page core.offsets.tail n) h in
+      let told = passed_is (size_fault core.offsets.page core.offsets.tail n) place (place_of core.offsets.page core.offsets.tail n) h in
       (sym (size_same A n st) ∙ told.0, told.1 ∙ place_same A n st)
 
   -- the fault of an allocation by a protected slot
@@ -112,7 +92,7 @@ module _ {J : Type 0} (tag : J → ℕ) (core : State J) where
   -- an allocation of a bad size
   pub size_refused : (t n : ℕ) (view : View) (f : Fault) → SeenAs t (Ok view) → PlacedAs n (Err f) → Made tag core (Allocate t n) core (Err f)
   size_refused t n view f seen placed A st =
-      let size : size_fault core.sizes.page (tail core.sizes A) n ≡ Some f = sym (size_same A n st) ∙ told_err (size_fault core.offsets.page core.offsets.tail n) f (place_of core.offsets.page core.offsets.tail n) placed in
+      let size : size_fault core.sizes.page (tail core.sizes A) n ≡ Some f = sym (size_same A n st) ∙ refused_is (size_fault core.offsets.page core.offsets.tail n) f (place_of core.offsets.page core.offsets.tail n) placed in
       refused_step tag core A (Allocate t n) f st (fault_is A t n (Some f) (seen_none A t view st seen).0 size)
 
   -- a page that is entered is the next one
@@ -136,7 +116,7 @@ module _ {J : Type 0} (tag : J → ℕ) (core : State J) where
   enter_refused t n place page view f pages seen placed at unentered h e A st =
       let told = placed_ok A n place st placed in
       let there : place / page ≡ place_of core.sizes.page (tail core.sizes A) n / core.sizes.page = page_is A n place page st placed at in
-      let busy = entered_err (MAY_ENTER (place / page) core.pages) f (Busy (place / page)) h in
+      let busy = refused_by_test (Busy (place / page)) f (MAY_ENTER (place / page) core.pages) (tt {0}) h in
       let shut : may_enter core.sizes (place / page) A ≡ false = sym (enter_found tag core A (place / page) st) ∙ busy.0 in
       let no_page : page_fault core.sizes A (place / page) ≡ Some f = ap (λ b. cond b None (Some (Busy (place / page)))) (or_from (is_entered core.sizes (place / page) A) (may_enter core.sizes (place / page) A) (sym (unentered A st)) shut) ∙ ap Some (sym busy.1) in
       let fault : fault_of core.sizes A (Allocate t n) ≡ Some f = fault_is A t n None (seen_none A t view st seen).0 told.0 ∙ sym (ap (page_fault core.sizes A) there) ∙ no_page in
@@ -162,7 +142,7 @@ module _ {J : Type 0} (tag : J → ℕ) (core : State J) where
   entered_now t n place page pages placed at unentered h e A st =
       let told = placed_ok A n place st placed in
       let there : place / page ≡ place_of core.sizes.page (tail core.sizes A) n / core.sizes.page = page_is A n place page st placed at in
-      let free : MAY_ENTER (place / page) core.pages ≡ true = entered_ok (MAY_ENTER (place / page) core.pages) (Busy (place / page)) h in
+      let free : MAY_ENTER (place / page) core.pages ≡ true = (passed_by_test (Busy (place / page)) (MAY_ENTER (place / page) core.pages) (tt {0}) (tt {0}) h).0 in
       let may : may_enter core.sizes (place / page) A ≡ true = sym (enter_found tag core A (place / page) st) ∙ free in
       let none : page_fault core.sizes A (place / page) ≡ None = ap (λ b. cond b None (Some (Busy (place / page)))) (or_right (is_entered core.sizes (place / page) A) (may_enter core.sizes (place / page) A) may) in (
         sym (ap (page_fault core.sizes A) there) ∙ none,

@@ -1,7 +1,7 @@
 -- Where a core stands after a done.
 use Rattle.std.proofs.Common.{◌≡◌, ℕ, ◌%◌, ◌≤◌, Bool, true, false, cond, not, eqb, is_some, List, [], ◌∷◌, ◌++◌, map, refl, sym, ap, ap₂, ◌∙◌, subst, arith, eq-eqb, ne_eqb}
 use Rattle.std.specs.Prelude.{Option, Some, None, Ok, Err, max, ◌==◌}
-use Rattle.std.specs.List.{list_any, filter, find}
+use Rattle.std.specs.List.{list_any, filter, find, AllByRecursion}
 use Rattle.std.proofs.Math.Nat.{max-zero}
 use Rattle.std.proofs.lemmas.Bool.{eqb-true, eqb-false}
 use Rattle.hl_model.specs.declared.action.Kind.{Kind}
@@ -14,7 +14,7 @@ use Rattle.hl_model.specs.declared.step.Reply.TheVariants.{Ran, Settled, Closed}
 use Rattle.hl_model.specs.declared.step.Step.{Step}
 use Rattle.hl_model.specs.declared.step.Step.TheVariants.{Done}
 use Rattle.hl_model.specs.Sizes.{Sizes}
-use Rattle.hl_model.specs.Actions.{taken, is_taken, action_at}
+use Rattle.hl_model.specs.Actions.{actions, taken, is_taken, action_at}
 use Rattle.hl_model.specs.Offsets.{read_only, head, tail}
 use Rattle.hl_model.specs.Settled.{safe_read_only, closed, settles, closes}
 use Rattle.hl_model.specs.Replies.{unless_fault, fault_of, done_answer, kind_or_job_0, IsAccepted}
@@ -143,36 +143,31 @@ module _ {J : Type 0} (tag : J → ℕ) where
       done_step core A c (Close x) drain offsets (Closed told) st f e known (moved ∙ ap (closed_up_to x) st.offsets_is ∙ sym log)
       (ap (λ (z : Log). Closed z.closed) (log ∙ sym (ap (closed_up_to x) st.offsets_is)) ∙ ap (λ n. Closed n) (sym t))
 
+  -- what holds of each stored action of the list holds of a taken one
+  kind_has : (P : Kind → Type 0) (core : State J) (A : List Step) (c : ℕ) (kind : Kind) → Stands tag core A → Ok kind ≡ kind_or_fault (find (has_ticket c) core.drain.taken) → AllByRecursion (λ w. P w.kind) (actions A) → P kind
+  kind_has P core A c kind st a each =
+      let f : Found core A c kind = found_at core A c kind st a in
+      subst P (sym f.kind_is) (action_at-has (λ w. P w.kind) c A f.waiting each f.action)
+
   -- what a taken settle stored is at most the read-only offset
   pub settle_fits : (core : State J) (c x : ℕ) (kind : Kind) → IsStanding tag core → kind ≡ Settle x → Ok kind ≡ kind_or_fault (find (has_ticket c) core.drain.taken) → x ≤ core.offsets.read_only
-  settle_fits core c x kind at is a =
-      let A = at.0 in
-      let st : Stands tag core A = at.1 in
-      let f : Found core A c kind = found_at core A c kind st a in
-      let stored : settles f.waiting.kind ≤ read_only A = action_at-has (λ w. settles w.kind ≤ read_only A) c A f.waiting (settles-le A) f.action in
-      let same : x ≡ settles f.waiting.kind = ap settles (sym is ∙ f.kind_is) in
-      omega (arith, stored, same, ap (λ (z : Log). z.read_only) st.offsets_is)
+  settle_fits core c x kind (A, st) is a =
+      let stored : settles kind ≤ read_only A = kind_has (λ k. settles k ≤ read_only A) core A c kind st a (settles-le A) in
+      omega (arith, stored, ap settles is, ap (λ (z : Log). z.read_only) st.offsets_is)
 
   -- what a taken close stored is at most the head, and begins a page
   pub close_fits : (core : State J) (c x : ℕ) (kind : Kind) → IsStanding tag core → kind ≡ Close x → Ok kind ≡ kind_or_fault (find (has_ticket c) core.drain.taken) → x ≤ core.offsets.head
-  close_fits core c x kind at is a =
-      let A = at.0 in
-      let st : Stands tag core A = at.1 in
-      let f : Found core A c kind = found_at core A c kind st a in
-      let stored : closes f.waiting.kind ≤ head A = action_at-has (λ w. closes w.kind ≤ head A) c A f.waiting (closes-le A) f.action in
-      let same : x ≡ closes f.waiting.kind = ap closes (sym is ∙ f.kind_is) in
-      omega (arith, stored, same, ap (λ (z : Log). z.head) st.offsets_is)
+  close_fits core c x kind (A, st) is a =
+      let stored : closes kind ≤ head A = kind_has (λ k. closes k ≤ head A) core A c kind st a (closes-le A) in
+      omega (arith, stored, ap closes is, ap (λ (z : Log). z.head) st.offsets_is)
 
   pub close_whole : (core : State J) (c x : ℕ) (kind : Kind) → IsStanding tag core → kind ≡ Close x → Ok kind ≡ kind_or_fault (find (has_ticket c) core.drain.taken) → x % core.offsets.page ≡ 0
-  close_whole core c x kind at is a =
-      let A = at.0 in
-      let st : Stands tag core A = at.1 in
-      let f : Found core A c kind = found_at core A c kind st a in
-      let whole : closes f.waiting.kind % core.sizes.page ≡ 0 = action_at-has (λ w. closes w.kind % core.sizes.page ≡ 0) c A f.waiting (closes-whole core.sizes A st.accepted) f.action in
-      ap₂ (λ (n m : ℕ). n % m) (ap closes (sym is ∙ f.kind_is)) (ap (λ (z : Log). z.page) st.offsets_is) ∙ whole
+  close_whole core c x kind (A, st) is a =
+      ap₂ (λ (n m : ℕ). n % m) (sym (ap closes is)) (ap (λ (z : Log). z.page) st.offsets_is)
+      ∙ kind_has (λ k. closes k % core.sizes.page ≡ 0) core A c kind st a (closes-whole core.sizes A st.accepted)
 
   -- a ticket that the list's taken actions lack
-  pub not_taken : (core : State J) (A : List Step) (c : ℕ) → Stands tag core A → find (has_ticket c) core.drain.taken ≡ None → is_taken c A ≡ false
+  not_taken : (core : State J) (A : List Step) (c : ℕ) → Stands tag core A → find (has_ticket c) core.drain.taken ≡ None → is_taken c A ≡ false
   not_taken core A c st h = sym (is_taken-found core.sizes c A st.accepted) ∙ ap (λ ws. is_some (find (has_ticket c) ws)) (sym st.taken_is) ∙ ap is_some h
 
   -- a refused done

@@ -8,7 +8,7 @@ use Rattle.hl_model.specs.declared.step.Step.{Step}
 use Rattle.hl_model.specs.Sizes.{Sizes}
 use Rattle.hl_model.specs.Frames.{frame_of}
 use Rattle.hl_model.specs.Snapshots.{is_opened, is_at_sealed, is_at_flushed, is_at_closed, is_free, state_counts, frame_states, snapshot_of}
-use Rattle.std.proofs.lemmas.List.FromFn.{length-map-range_with_len}
+use Rattle.std.proofs.lemmas.List.FromFn.{length-map-range_with_len, map-range_with_len_more}
 use Rattle.std.proofs.lemmas.List.Sums.{count_by-le-length}
 use Rattle.hl_model.proofs.ListLaws.{count_by-push}
 use Rattle.hl_core.specs.Standing.{State, Stands, IsStanding}
@@ -45,17 +45,9 @@ counts-push xs Flushed = added xs Flushed ∙ row_same _ _ _ _ _ _ _ _ _ _ (add-
 counts-push xs Closed = added xs Closed ∙ row_same _ _ _ _ _ _ _ _ _ _ (add-zero _) (add-zero _) (add-zero _) refl (add-zero _)
 counts-push xs Free = added xs Free ∙ row_same _ _ _ _ _ _ _ _ _ _ (add-zero _) (add-zero _) (add-zero _) (add-zero _) refl
 
--- one number more
-pub map-push : {X : Type 0} (f : ℕ → X) (a n : ℕ) → map f (range_with_len a (suc n)) ≡ map f (range_with_len a n) ++ f (a + n) ∷ []
-map-push f a zero = ap (λ k. f k ∷ []) (sym (add-zero a))
-map-push f a (suc n) = ap (λ xs. f a ∷ xs) (map-push f (a + 1) n ∙ ap (λ k. map f (range_with_len (a + 1) n) ++ f k ∷ []) (omega arith))
-
 -- the states of one frame more
 states_to-next : (sizes : Sizes) (A : List Step) (n : ℕ) → states_to sizes A (n + 1) ≡ states_to sizes A n ++ (frame_of sizes n A).0 ∷ []
-states_to-next sizes A n =
-    let one_more : n + 1 ≡ suc n = omega arith in
-    ap (states_to sizes A) one_more ∙ map-push (λ f. (frame_of sizes f A).0) 0 n
-    ∙ ap (λ k. states_to sizes A n ++ (frame_of sizes k A).0 ∷ []) (zero-add n)
+states_to-next sizes A n = map-range_with_len_more (λ f. (frame_of sizes f A).0) 0 n n (zero-add n)
 
 -- the counts of one frame more
 pub counts_next : (sizes : Sizes) (A : List Step) (f place : ℕ) (counts : List ℕ) (told : FrameState × Option ℕ) (y : FrameState) → told.0 ≡ y → place ≡ place_in y → told ≡ frame_of sizes f A → counts ≡ state_counts (states_to sizes A f) → set counts place (get_or counts place 0 + 1) ≡ state_counts (states_to sizes A (f + 1))

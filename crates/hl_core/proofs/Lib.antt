@@ -1,5 +1,5 @@
 pub mod AllocateStands
-pub mod AskLaws
+pub mod AskStands
 pub mod DoneStands
 pub mod FrameCounts
 pub mod LookStands
@@ -7,10 +7,10 @@ pub mod OffsetStands
 pub mod PageEntered
 pub mod PageFound
 pub mod PageMarks
+pub mod PageMoves
 pub mod PageOffsets
 pub mod PageRows
 pub mod PageStands
-pub mod PageSteps
 pub mod QuietLaws
 pub mod RunStands
 pub mod SeenLaws

@@ -17,16 +17,7 @@ use Rattle.hl_core.specs.Standing.{State, Stands, IsStanding}
 use Rattle.hl_core.specs.Steps.{Made}
 use Rattle.hl_core.proofs.TableLaws.{table_stays}
 use Rattle.hl_core.proofs.QuietLaws.{OffsetsStay, PagesStay, log-stays, pages-stay}
-use Rattle.hl_core.proofs.StandLaws.{DrainStays, refused_step, accepted_step, quiet_drain}
-
--- a test that refused, and one that passed
-refused_is : {X : Type 0} (o : Option Fault) (f : Fault) (x : X) → Err f ≡ unless_fault o x → o ≡ Some f
-refused_is None f x h = cc
-refused_is (Some g) f x h = cc
-
-passed_is : {X : Type 0} (o : Option Fault) (v x : X) → Ok v ≡ unless_fault o x → (o ≡ None) × (v ≡ x)
-passed_is None v x h = (refl, cc)
-passed_is (Some g) v x h = cc
+use Rattle.hl_core.proofs.StandLaws.{DrainStays, refused_is, passed_is, refused_step, accepted_step, quiet_drain}
 
 -- the view of slot t after its look
 view-look : (sizes : Sizes) (A : List Step) (t r h : ℕ) → view_of sizes t (A ++ Look t r h ∷ []) ≡ record { read_only = r; head = h; tail = seen_tail sizes t A }
@@ -68,7 +59,7 @@ module _ {J : Type 0} (tag : J → ℕ) where
       omega (arith, (protected-none core.sizes A t (look-none core.sizes A t r h free).0).0, ap length st.views_is, length-slot_views core.sizes A)
 
   -- an accepted step that moves nothing
-  pub nothing_moves : (core : State J) (s : Step) (r : Reply) → ((A : List Step) → DrainStays tag A s) → OffsetsStay s → PagesStay s → is_bump s ≡ false → ((t : ℕ) → enters t s ≡ false) → ((t : ℕ) → leaves t s ≡ false) → ((t : ℕ) → allocates t s ≡ false) → ((t : ℕ) → looked_read_only t s ≡ None) → ((t : ℕ) → looked_head t s ≡ None) → ((A : List Step) → answer_of core.sizes A (A ++ s ∷ []) s ≡ r) → ((A : List Step) → Stands tag core A → Ok (tt {0}) ≡ unless_fault (fault_of core.sizes A s) (tt {0})) → Made tag core s core (Ok r)
+  nothing_moves : (core : State J) (s : Step) (r : Reply) → ((A : List Step) → DrainStays tag A s) → OffsetsStay s → PagesStay s → is_bump s ≡ false → ((t : ℕ) → enters t s ≡ false) → ((t : ℕ) → leaves t s ≡ false) → ((t : ℕ) → allocates t s ≡ false) → ((t : ℕ) → looked_read_only t s ≡ None) → ((t : ℕ) → looked_head t s ≡ None) → ((A : List Step) → answer_of core.sizes A (A ++ s ∷ []) s ≡ r) → ((A : List Step) → Stands tag core A → Ok (tt {0}) ≡ unless_fault (fault_of core.sizes A s) (tt {0})) → Made tag core s core (Ok r)
   nothing_moves core s r d o p no_bump e l a x y reply told A st =
       let free : fault_of core.sizes A s ≡ None = (passed_is (fault_of core.sizes A s) (tt {0}) (tt {0}) (told A st)).0 in
       accepted_step tag core core A s r free refl (reply A) (views_moved core A s core.views st free (d A) o p no_bump e l (st.views_is ∙ sym (slot_views-stay core.sizes A s e l a x y)))

@@ -18,7 +18,7 @@ use Rattle.hl_core.proofs.PageRows.{length-frames}
 use Rattle.hl_core.proofs.PageMarks.{page_some, frames_some, ahead_unflushed, ahead_unflown, ahead_unfreed, ahead_uncleaned}
 use Rattle.hl_core.proofs.PageOffsets.{below_entered, unentered_end, pages_entered-is}
 use Rattle.hl_core.proofs.Space.{whole_pages}
-use Rattle.hl_core.proofs.PageStands.{pages_with, marked-stay, marked-with}
+use Rattle.hl_core.proofs.PageMoves.{pages_with, marked-stay, marked-with}
 
 -- where two lists agree on a frame's pages, they agree on its last one
 last_entered-agree : (sizes : Sizes) (f : ℕ) (A B : List Step) → AreInRange sizes → ((p : ℕ) → p % sizes.frames ≡ f → is_entered sizes p B ≡ is_entered sizes p A) → last_entered sizes f B ≡ last_entered sizes f A

@@ -1,5 +1,5 @@
 -- What the frames of a core answer, wherever it stands.
-use Rattle.std.proofs.Common.{◌≡◌, ℕ, ◌≤◌, ◌<◌, ◌/◌, Bool, cond, ltb, List, length, arith, sym, ap, ap₂, ◌∙◌, subst}
+use Rattle.std.proofs.Common.{◌≡◌, ℕ, ◌≤◌, ◌<◌, Bool, cond, ltb, List, length, arith, sym, ap, ap₂, ◌∙◌, subst}
 use Rattle.std.specs.Prelude.{Option, Some, None}
 use Rattle.std.specs.Int.{div_ceil}
 use Rattle.hl_model.specs.declared.fault.Fault.TheVariants.{NoneSealed, NotInFlight, NoneClosed, NotCleaning}
@@ -8,15 +8,15 @@ use Rattle.hl_model.specs.declared.step.Step.{Step}
 use Rattle.hl_model.specs.declared.step.Step.TheVariants.{FlushTake, FlushDone, CleanTake, CleanDone}
 use Rattle.hl_model.specs.Offsets.{tail, is_entered}
 use Rattle.hl_model.specs.Settled.{closed}
-use Rattle.hl_model.specs.Pages.{is_in_flight, is_cleaning, next_to_flush, next_to_clean, flushed}
+use Rattle.hl_model.specs.Pages.{is_in_flight, is_cleaning, next_to_flush, next_to_clean}
 use Rattle.hl_model.specs.Frames.{may_enter, frame_of}
 use Rattle.hl_model.specs.Replies.{fault_of, unless_fault, unless_page}
-use Rattle.hl_frames.specs.Pages.{Pages, pages_below, flushed_offset, is_in_flight as IN_FLIGHT, is_cleaning as CLEANING, may_enter as MAY_ENTER, next_to_flush as NEXT_TO_FLUSH, next_to_clean as NEXT_TO_CLEAN}
+use Rattle.hl_frames.specs.Pages.{Pages, flushed_offset, is_in_flight as IN_FLIGHT, is_cleaning as CLEANING, may_enter as MAY_ENTER, next_to_flush as NEXT_TO_FLUSH, next_to_clean as NEXT_TO_CLEAN}
 use Rattle.hl_frames.specs.Answers.{state_of}
-use Rattle.hl_core.specs.Standing.{State, Stands, IsStanding, pages_entered}
+use Rattle.hl_core.specs.Standing.{State, Stands, IsStanding}
 use Rattle.hl_core.proofs.PageRows.{length-frames}
 use Rattle.hl_core.proofs.PageMarks.{page_some, next_to_flush-is, next_to_clean-is, is_in_flight-is, is_cleaning-is, may_enter-is}
-use Rattle.hl_core.proofs.PageOffsets.{ceil-starts, sealed_within, closed_within, pages_of-flushed, frame_of-is}
+use Rattle.hl_core.proofs.PageOffsets.{ceil-starts, closed_within, frame_of-is}
 
 module _ {J : Type 0} (tag : J → ℕ) (core : State J) where
   -- the page to flush
@@ -44,20 +44,10 @@ module _ {J : Type 0} (tag : J → ℕ) (core : State J) where
   entered_found q x page n tail_is page_is is A st =
       ap (ltb q) (is ∙ ap₂ div_ceil (tail_is ∙ ap (λ log. log.tail) st.offsets_is) page_is) ∙ ceil-starts (tail core.sizes A) core.sizes.page q (page_some core.sizes st.in_range)
 
-  -- the flushed offset
-  pub flushed_found : (A : List Step) → Stands tag core A → flushed_offset core.pages ≡ flushed core.sizes A
-  flushed_found A st = ap flushed_offset st.pages_is ∙ pages_of-flushed core.sizes A st.in_range st.accepted
-
   -- what a frame is at
   pub state_found : (A : List Step) (f : ℕ) → Stands tag core A → f < core.sizes.frames → state_of f core.offsets.safe_read_only core.offsets.closed core.pages ≡ frame_of core.sizes f A
   state_found A f st h =
       ap₂ (λ log pages. state_of f log.safe_read_only log.closed pages) st.offsets_is st.pages_is ∙ frame_of-is core.sizes A f st.in_range h
-
-  -- sealed pages are entered
-  pub sealed_fits : IsStanding tag core → pages_below core.offsets.safe_read_only core.pages ≤ core.pages.entered
-  sealed_fits (A, st) =
-      subst (λ (pages : Pages). pages_below core.offsets.safe_read_only pages ≤ pages.entered) (sym st.pages_is)
-      (subst (λ (n : ℕ). n / core.sizes.page ≤ pages_entered core.sizes A) (sym (ap (λ log. log.safe_read_only) st.offsets_is)) (sealed_within core.sizes A st.in_range st.accepted))
 
   -- closed pages are flushed
   pub closed_fits : IsStanding tag core → core.offsets.closed ≤ flushed_offset core.pages

@@ -1,13 +1,10 @@
 -- The flushed offset, the pages up to an offset, and what each frame is at, by the frames of an accepted list.
-use Rattle.std.proofs.Common.{◌≡◌, ℕ, ◌+◌, ◌-◌, ◌*◌, ◌/◌, ◌%◌, ◌<◌, ◌≤◌, Bool, true, false, cond, ltb, leb, List, get_or, refl, sym, ap, ap₂, ◌∙◌, arith, inl, inr, ◌⊎◌}
+use Rattle.std.proofs.Common.{◌≡◌, ℕ, ◌+◌, ◌-◌, ◌*◌, ◌/◌, ◌%◌, ◌<◌, ◌≤◌, Bool, true, false, cond, ltb, leb, List, refl, sym, ap, ap₂, ◌∙◌, arith, inl, inr, ◌⊎◌, zero-add}
 use Rattle.std.specs.Prelude.{Option, Some, None, option_map}
 use Rattle.std.specs.Int.{div_ceil}
-use Rattle.std.specs.List.{prefix_len, range_with_len}
 use Rattle.std.proofs.Math.Nat.{le-div_iff_mul-le, div-mul-le_self, div-add-mod, mod-lt, mul-le-mul_right, mul_comm}
 use Rattle.std.proofs.lemmas.Nat.{le-div}
 use Rattle.std.proofs.lemmas.Bool.{ltb-true, lt-ltb, le-ltb, le-leb, lt-leb, both_ways, cases_eq, cases_lt}
-use Rattle.std.proofs.lemmas.List.FromFn.{length-range_with_len, get_or-range_with_len}
-use Rattle.std.proofs.lemmas.List.Sums.{prefix_len-le-length, prefix_len_passes, prefix_len_stops}
 use Rattle.hl_model.specs.declared.frame.FrameState.{FrameState}
 use Rattle.hl_model.specs.declared.frame.FrameState.TheVariants.{Opened, Sealed, Flushed, Closed, Free}
 use Rattle.hl_model.specs.declared.step.Step.{Step}
@@ -18,9 +15,10 @@ use Rattle.hl_model.specs.Pages.{is_flushed, is_freed, flushed_run, flushed}
 use Rattle.hl_model.specs.Frames.{last_entered, state_of_page, frame_of}
 use Rattle.hl_model.specs.Snapshots.{six, AreInOrder}
 use Rattle.hl_model.specs.Replies.{IsAccepted}
-use Rattle.hl_model.proofs.RunLaws.{flushed_run-is}
+use Rattle.hl_model.proofs.RunLaws.{flushed_run-passes, flushed_run-fails}
 use Rattle.hl_frames.specs.Pages.{pages_below, flushed_offset, is_flushed as FLUSHED, flushed_run as FLUSHED_RUN}
 use Rattle.hl_frames.specs.Answers.{state_in, state_of}
+use Rattle.hl_frames.proofs.Searches.{prefix_len-first}
 use Rattle.hl_core.specs.Standing.{marked, pages_entered, pages_of}
 use Rattle.hl_core.proofs.PageRows.{frame_holds}
 use Rattle.hl_core.proofs.PageMarks.{page_some, in_order, is_flushed-is, ahead_unflushed}
@@ -124,37 +122,27 @@ sealed_within sizes A range a =
     pages_more sizes.page (safe_read_only A) (tail sizes A + sizes.page - 1) (page_some sizes range)
     (omega (arith, page_some sizes range, order.safe_read_only_most, order.read_only_most))
 
--- the numbers of a run pass
-run_passes : (test : ℕ → Bool) (n k : ℕ) → k < prefix_len test (range_with_len 0 n) → test k ≡ true
-run_passes test n k h =
-    let within : k < n = omega (arith, prefix_len-le-length test (range_with_len 0 n), length-range_with_len 0 n) in
-    let there : get_or (range_with_len 0 n) k 0 ≡ k = omega (arith, get_or-range_with_len 0 n k 0 within) in
-    ap test (sym there) ∙ prefix_len_passes test (range_with_len 0 n) k 0 h
-
--- the number behind a run fails
-run_fails : (test : ℕ → Bool) (n : ℕ) → test n ≡ false → test (prefix_len test (range_with_len 0 n)) ≡ false
-run_fails test n none = by_order (cases_lt (prefix_len test (range_with_len 0 n)) n)
-  where
-    by_order : ((prefix_len test (range_with_len 0 n) < n) ⊎ (n ≤ prefix_len test (range_with_len 0 n))) → test (prefix_len test (range_with_len 0 n)) ≡ false
-    by_order (inl lt) =
-        let there : get_or (range_with_len 0 n) (prefix_len test (range_with_len 0 n)) 0 ≡ prefix_len test (range_with_len 0 n) = omega (arith, get_or-range_with_len 0 n (prefix_len test (range_with_len 0 n)) 0 lt) in
-        ap test (sym there) ∙ prefix_len_stops test (range_with_len 0 n) 0 (omega (arith, length-range_with_len 0 n))
-    by_order (inr ge) =
-        let all : prefix_len test (range_with_len 0 n) ≡ n = omega (arith, prefix_len-le-length test (range_with_len 0 n), length-range_with_len 0 n) in
-        ap test all ∙ none
-
 -- the next page isn't entered
 pub unentered_end : (sizes : Sizes) (A : List Step) → 0 < sizes.page → is_entered sizes (pages_entered sizes A) A ≡ false
 unentered_end sizes A some = sym (is_entered-is sizes A (pages_entered sizes A) some) ∙ le-ltb (pages_entered sizes A) (pages_entered sizes A) (omega arith)
 
+-- flushed pages are entered
+run_entered : (sizes : Sizes) (A : List Step) → AreInRange sizes → IsAccepted sizes A → flushed_run sizes A ≤ pages_entered sizes A
+run_entered sizes A range a = by_order (cases_lt (pages_entered sizes A) (flushed_run sizes A))
+  where
+    by_order : ((pages_entered sizes A < flushed_run sizes A) ⊎ (flushed_run sizes A ≤ pages_entered sizes A)) → flushed_run sizes A ≤ pages_entered sizes A
+    by_order (inl lt) =
+        absurd (both_ways (is_flushed sizes (pages_entered sizes A) A) (ahead_unflushed sizes A (pages_entered sizes A) range a (unentered_end sizes A (page_some sizes range))) (flushed_run-passes sizes A (pages_entered sizes A) lt))
+    by_order (inr le) = le
+
 -- the run of flushed pages
-pub flushed_run-same : (sizes : Sizes) (A : List Step) → AreInRange sizes → IsAccepted sizes A → FLUSHED_RUN (pages_of sizes A) ≡ flushed_run sizes A
+flushed_run-same : (sizes : Sizes) (A : List Step) → AreInRange sizes → IsAccepted sizes A → FLUSHED_RUN (pages_of sizes A) ≡ flushed_run sizes A
 flushed_run-same sizes A range a =
-    sym (flushed_run-is sizes A (FLUSHED_RUN (pages_of sizes A))
-    (λ p h. sym (is_flushed-is sizes A p range a) ∙ run_passes (λ q. FLUSHED q (pages_of sizes A)) (pages_entered sizes A) p h)
-    (sym (is_flushed-is sizes A (FLUSHED_RUN (pages_of sizes A)) range a)
-    ∙ run_fails (λ q. FLUSHED q (pages_of sizes A)) (pages_entered sizes A)
-    (is_flushed-is sizes A (pages_entered sizes A) range a ∙ ahead_unflushed sizes A (pages_entered sizes A) range a (unentered_end sizes A (page_some sizes range)))))
+    sym (zero-add (FLUSHED_RUN (pages_of sizes A)))
+    ∙ prefix_len-first (λ q. FLUSHED q (pages_of sizes A)) 0 (pages_entered sizes A) (flushed_run sizes A)
+    (λ q least lt. is_flushed-is sizes A q range a ∙ flushed_run-passes sizes A q lt)
+    (omega arith) (omega (arith, run_entered sizes A range a))
+    (λ lt. is_flushed-is sizes A (flushed_run sizes A) range a ∙ flushed_run-fails sizes A)
 
 -- the flushed offset
 pub pages_of-flushed : (sizes : Sizes) (A : List Step) → AreInRange sizes → IsAccepted sizes A → flushed_offset (pages_of sizes A) ≡ flushed sizes A

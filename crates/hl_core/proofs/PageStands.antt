@@ -1,227 +1,149 @@
--- What each step makes of the frames of an accepted list.
-use Rattle.std.proofs.Common.{◌≡◌, ℕ, ◌+◌, ◌-◌, ◌*◌, ◌/◌, ◌%◌, ◌<◌, ◌≤◌, ◌≢◌, Bool, true, false, not, ◌&&◌, ◌||◌, ltb, List, [], ◌∷◌, ◌++◌, set, refl, sym, ap, ap₂, ◌∙◌, arith}
-use Rattle.std.specs.Prelude.{◌==◌, Option, Some, None, option_map}
-use Rattle.std.proofs.Math.Nat.{le-div_iff_mul-le}
-use Rattle.std.proofs.lemmas.Bool.{eq-eqb, ne_eqb, or_left, or_right, both_ways, false_from_ne_true}
+-- Where a core stands after a step on a page.
+use Rattle.std.proofs.Common.{◌≡◌, ℕ, Bool, true, false, cond, List, [], ◌∷◌, ◌++◌, refl, sym, ap, ◌∙◌, subst}
+use Rattle.std.specs.Prelude.{Option, Some, None, Ok, Err, unwrap_or}
+use Rattle.hl_model.specs.declared.fault.Fault.{Fault}
+use Rattle.hl_model.specs.declared.fault.Fault.TheVariants.{NoneSealed, NotInFlight, NoneClosed, NotCleaning}
+use Rattle.hl_model.specs.declared.step.Reply.TheVariants.{Page, Flushed, Freed}
 use Rattle.hl_model.specs.declared.step.Step.{Step}
 use Rattle.hl_model.specs.declared.step.Step.TheVariants.{FlushTake, FlushDone, CleanTake, CleanDone}
-use Rattle.hl_model.specs.Lists.{greatest_below}
-use Rattle.hl_model.specs.Sizes.{Sizes, AreInRange}
-use Rattle.hl_model.specs.Offsets.{tail, is_entered}
-use Rattle.hl_model.specs.Settled.{safe_read_only, closed}
-use Rattle.hl_model.specs.Pages.{flushing, cleaning, marks, takes_to_flush, flush_of, flushes, takes_to_clean, clean_of, frees, is_flushed, is_in_flight, is_freed, is_cleaning, next_to_flush, next_to_clean}
-use Rattle.hl_model.specs.Frames.{last_entered}
-use Rattle.hl_model.specs.Replies.{IsAccepted}
-use Rattle.hl_model.proofs.RowLaws.{rows_same, rows_set}
-use Rattle.hl_model.proofs.OffsetLaws.{tail-push}
-use Rattle.hl_model.proofs.WorkLaws.{is_flushed-push, is_freed-push, is_in_flight-take, is_in_flight-done, is_in_flight-stay, is_cleaning-take, is_cleaning-done, is_cleaning-stay, next_page-parts}
-use Rattle.hl_model.proofs.FrameLaws.{last_entered-is, last_entered-some}
-use Rattle.hl_frames.specs.declared.held.Held.{Held}
-use Rattle.hl_frames.specs.Pages.{Pages, held_for}
-use Rattle.hl_frames.specs.Answers.{changed, entered, flush_begun, flush_ended, clean_begun, clean_ended}
-use Rattle.hl_core.specs.Standing.{marked, held_of, pages_of}
-use Rattle.hl_core.proofs.PageRows.{length-frames, held_for-is}
-use Rattle.hl_core.proofs.PageMarks.{page_some, frames_some, kept, sealed_entered, closed_sealed, left_freed, left_flushed}
+use Rattle.hl_model.specs.Epochs.{is_bump, enters, leaves}
+use Rattle.hl_model.specs.Actions.{is_take, finishes, action_of}
+use Rattle.hl_model.specs.Views.{allocates, looked_read_only, looked_head}
+use Rattle.hl_model.specs.Pages.{is_in_flight, is_cleaning, next_to_flush, next_to_clean, flushed}
+use Rattle.hl_model.specs.Replies.{fault_of, unless_page}
+use Rattle.hl_model.proofs.AcceptedLaws.{IsAccepted-push}
+use Rattle.hl_model.proofs.ViewLaws.{slot_views-stay}
+use Rattle.hl_frames.specs.Pages.{Pages, flushed_offset, is_in_flight as IN_FLIGHT, is_cleaning as CLEANING, next_to_flush as NEXT_TO_FLUSH, next_to_clean as NEXT_TO_CLEAN}
+use Rattle.hl_frames.specs.Answers.{page_or, after_take, flush_begun, flush_ended, flush_done_answer, after_flush_done, clean_begun, clean_ended, clean_done_answer, after_clean_done}
+use Rattle.hl_core.specs.Standing.{State, Stands, pages_of}
+use Rattle.hl_core.specs.Steps.{Stepped, Made}
+use Rattle.hl_core.proofs.PageFound.{flush_found, clean_found, flight_found, cleaning_found}
+use Rattle.hl_core.proofs.PageOffsets.{pages_of-flushed}
+use Rattle.hl_core.proofs.PageMoves.{flush_begun-is, flush_ended-is, clean_begun-is, clean_ended-is}
+use Rattle.hl_core.proofs.QuietLaws.{OffsetsStay, log-stays}
+use Rattle.hl_core.proofs.StandLaws.{refused_by_test, passed_by_test, refused_step, accepted_step, quiet_drain}
+use Rattle.hl_core.proofs.TableLaws.{table_stays}
 
--- a page with these marks
-abbrev pub held_with : ℕ → Bool → Bool → Bool → Bool → Held
-held_with p a b c d = record { page = p; flushed = a; in_flight = b; freed = c; cleaning = d }
-
--- equal marks are one page
-held_same : (p : ℕ) (a b c d a' b' c' d' : Bool) → a ≡ a' → b ≡ b' → c ≡ c' → d ≡ d' → held_with p a b c d ≡ held_with p a' b' c' d'
-held_same p a b c d a' b' c' d' ha hb hc hd = ap₂ (λ x y. held_with p x y c d) ha hb ∙ ap₂ (λ x y. held_with p a' b' x y) hc hd
-
--- a page's marks, told one by one
-pub marked-with : (sizes : Sizes) (B : List Step) (p : ℕ) (a b c d : Bool) → is_flushed sizes p B ≡ a → is_in_flight sizes p B ≡ b → is_freed sizes p B ≡ c → is_cleaning sizes p B ≡ d → marked sizes B p ≡ held_with p a b c d
-marked-with sizes B p a b c d ha hb hc hd = held_same p (is_flushed sizes p B) (is_in_flight sizes p B) (is_freed sizes p B) (is_cleaning sizes p B) a b c d ha hb hc hd
-
--- a test that adds nothing
-or_none : (a b : Bool) → b ≡ false → (a || b) ≡ a
-or_none true b h = refl
-or_none false b h = h
-
--- marks that a step leaves
-flushed-stay : (sizes : Sizes) (A : List Step) (s : Step) (p : ℕ) → flushes p s ≡ false → is_flushed sizes p (A ++ s ∷ []) ≡ is_flushed sizes p A
-flushed-stay sizes A s p h = is_flushed-push sizes p A s ∙ or_none (is_flushed sizes p A) (flushes p s) h
-
--- a step that frees no page leaves which are freed
-freed-stay : (sizes : Sizes) (A : List Step) (s : Step) (p : ℕ) → frees p s ≡ false → is_freed sizes p (A ++ s ∷ []) ≡ is_freed sizes p A
-freed-stay sizes A s p h = is_freed-push sizes p A s ∙ or_none (is_freed sizes p A) (frees p s) h
-
--- a step that touches no page leaves each page's marks
-pub marked-stay : (sizes : Sizes) (A : List Step) (s : Step) (p : ℕ) → takes_to_flush s ≡ false → flush_of s ≡ None → flushes p s ≡ false → takes_to_clean s ≡ false → clean_of s ≡ None → frees p s ≡ false → marked sizes (A ++ s ∷ []) p ≡ marked sizes A p
-marked-stay sizes A s p tf ff fl tc fc fr =
-    marked-with sizes (A ++ s ∷ []) p (is_flushed sizes p A) (is_in_flight sizes p A) (is_freed sizes p A) (is_cleaning sizes p A)
-    (flushed-stay sizes A s p fl) (is_in_flight-stay sizes A s p tf ff) (freed-stay sizes A s p fr) (is_cleaning-stay sizes A s p tc fc)
-
--- where the tail stays, so do each frame's last page and the number of pages
-last_entered-same : (sizes : Sizes) (f : ℕ) (A B : List Step) → tail sizes B ≡ tail sizes A → last_entered sizes f B ≡ last_entered sizes f A
-unfolding last_entered
-last_entered-same sizes f A B same = ap (λ a. greatest_below (λ p. ltb (p * sizes.page) a && p % sizes.frames == f) (a / sizes.page + 1)) same
-
--- the pages of these frames
-abbrev pub pages_with : Sizes → List (Option Held) → ℕ → Pages
-pages_with sizes frames entered = record { page = sizes.page; frames = frames; entered = entered }
-
--- a step that leaves the tail and touches no page leaves the frames
-pub pages_of-quiet : (sizes : Sizes) (A : List Step) (s : Step) → tail sizes (A ++ s ∷ []) ≡ tail sizes A → takes_to_flush s ≡ false → flush_of s ≡ None → ((p : ℕ) → flushes p s ≡ false) → takes_to_clean s ≡ false → clean_of s ≡ None → ((p : ℕ) → frees p s ≡ false) → pages_of sizes (A ++ s ∷ []) ≡ pages_of sizes A
-pages_of-quiet sizes A s same tf ff fl tc fc fr =
-    ap₂ (pages_with sizes) (rows_same (held_of sizes (A ++ s ∷ [])) (held_of sizes A) sizes.frames each) (ap (λ a. (a + sizes.page - 1) / sizes.page) same)
-  where
-    of_page : (o : Option ℕ) → option_map (marked sizes (A ++ s ∷ [])) o ≡ option_map (marked sizes A) o
-    of_page None = refl
-    of_page (Some p) = ap Some (marked-stay sizes A s p tf ff (fl p) tc fc (fr p))
-
-    each : (f : ℕ) → held_of sizes (A ++ s ∷ []) f ≡ held_of sizes A f
-    each f = ap (option_map (marked sizes (A ++ s ∷ []))) (last_entered-same sizes f A (A ++ s ∷ []) same) ∙ of_page (last_entered sizes f A)
-
--- where one page's marks change, so does its frame, and no other
-changed-is : (sizes : Sizes) (A : List Step) (s : Step) (q : ℕ) (change : Held → Held) → AreInRange sizes → tail sizes (A ++ s ∷ []) ≡ tail sizes A → last_entered sizes (q % sizes.frames) A ≡ Some q → marked sizes (A ++ s ∷ []) q ≡ change (marked sizes A q) → ((p : ℕ) → (p ≢ q) → marked sizes (A ++ s ∷ []) p ≡ marked sizes A p) → pages_of sizes (A ++ s ∷ []) ≡ changed q change (pages_of sizes A)
-changed-is sizes A s q change range same last here others =
-    ap₂ (pages_with sizes)
-    (rows_set (held_of sizes (A ++ s ∷ [])) (held_of sizes A) sizes.frames (q % sizes.frames) (option_map change (held_for q (pages_of sizes A))) at each
-    ∙ ap (λ n. set (pages_of sizes A).frames (q % n) (option_map change (held_for q (pages_of sizes A)))) (sym (length-frames sizes A)))
-    (ap (λ a. (a + sizes.page - 1) / sizes.page) same)
-  where
-    at : held_of sizes (A ++ s ∷ []) (q % sizes.frames) ≡ option_map change (held_for q (pages_of sizes A))
-    at =
-        ap (option_map (marked sizes (A ++ s ∷ []))) (last_entered-same sizes (q % sizes.frames) A (A ++ s ∷ []) same ∙ last)
-        ∙ ap Some here
-        ∙ sym (ap (λ o. option_map change (option_map (marked sizes A) o)) last)
-        ∙ sym (ap (option_map change) (held_for-is sizes A q (frames_some sizes range)))
-
-    of_page : (f : ℕ) → (f ≢ (q % sizes.frames)) → (o : Option ℕ) → last_entered sizes f A ≡ o → option_map (marked sizes (A ++ s ∷ [])) o ≡ option_map (marked sizes A) o
-    of_page f ne None is = refl
-    of_page f ne (Some p) is =
-        ap Some (others p (λ one. ne (sym (last_entered-some sizes f p A (page_some sizes range) (frames_some sizes range) is).of_frame ∙ ap (λ r. r % sizes.frames) one)))
-
-    each : (f : ℕ) → (f ≢ (q % sizes.frames)) → held_of sizes (A ++ s ∷ []) f ≡ held_of sizes A f
-    each f ne = ap (option_map (marked sizes (A ++ s ∷ []))) (last_entered-same sizes f A (A ++ s ∷ []) same) ∙ of_page f ne (last_entered sizes f A) refl
-
--- an entered page that isn't freed is the last of its frame
-unfreed_last : (sizes : Sizes) (A : List Step) (q : ℕ) → AreInRange sizes → IsAccepted sizes A → is_entered sizes q A ≡ true → is_freed sizes q A ≡ false → last_entered sizes (q % sizes.frames) A ≡ Some q
-unfreed_last sizes A q range a e f =
-    last_entered-is sizes (q % sizes.frames) q A (page_some sizes range) (frames_some sizes range) e refl
-    (false_from_ne_true (is_entered sizes (q + sizes.frames) A) (λ t. both_ways (is_freed sizes q A) f (left_freed sizes A q range a t)))
-
--- so is one that isn't flushed
-unflushed_last : (sizes : Sizes) (A : List Step) (q : ℕ) → AreInRange sizes → IsAccepted sizes A → is_entered sizes q A ≡ true → is_flushed sizes q A ≡ false → last_entered sizes (q % sizes.frames) A ≡ Some q
-unflushed_last sizes A q range a e f =
-    last_entered-is sizes (q % sizes.frames) q A (page_some sizes range) (frames_some sizes range) e refl
-    (false_from_ne_true (is_entered sizes (q + sizes.frames) A) (λ t. both_ways (is_flushed sizes q A) f (left_flushed sizes A q range a t)))
-
--- a page below a number of pages ends there
-ends_there : (page p a : ℕ) → 0 < page → p < a / page → (p + 1) * page ≤ a
-ends_there page p a some lt = let upper : p + 1 ≤ a / page = omega arith in (le-div_iff_mul-le some).0 upper
-
--- another page
-not_here : (p q : ℕ) → (p ≢ q) → (q == p) ≡ false
-not_here p q ne = ne_eqb q p (λ same. ne (sym same))
-
--- a take leaves another page
-kept_when : (b c : Bool) → b ≡ false → (b || c) ≡ c
-kept_when true c h = cc
-kept_when false c h = refl
-
--- so does an end
-left_when : (b c : Bool) → b ≡ false → (not b && c) ≡ c
-left_when true c h = cc
-left_when false c h = refl
-
--- an end ends its own page
-gone_when : (b c : Bool) → b ≡ true → (not b && c) ≡ false
-gone_when true c h = refl
-gone_when false c h = cc
+-- a step that moves the frames alone
+record OfPages (s : Step) : Type 0 where
+  no_bump : is_bump s ≡ false
+  no_take : is_take s ≡ false
+  ends_none : (c : ℕ) → finishes c s ≡ false
+  stores_none : (A : List Step) → action_of A s ≡ []
+  offsets : OffsetsStay s
+  enters_none : (t : ℕ) → enters t s ≡ false
+  leaves_none : (t : ℕ) → leaves t s ≡ false
+  allocates_none : (t : ℕ) → allocates t s ≡ false
+  looks_none : (t : ℕ) → looked_read_only t s ≡ None
+  heads_none : (t : ℕ) → looked_head t s ≡ None
 
 -- a flush take
-pub flush_begun-is : (sizes : Sizes) (A : List Step) (q : ℕ) → AreInRange sizes → IsAccepted sizes A → next_to_flush sizes A ≡ Some q → pages_of sizes (A ++ FlushTake ∷ []) ≡ flush_begun q (pages_of sizes A)
-flush_begun-is sizes A q range a h = changed-is sizes A FlushTake q (λ held. record held { in_flight = true }) range (tail-push sizes A FlushTake) last here others
-  where
-    parts : (q < safe_read_only A / sizes.page) × (is_flushed sizes q A ≡ false) × (is_in_flight sizes q A ≡ false)
-    parts = next_page-parts (flushing sizes) A (marks (flushing sizes) A) q h
-
-    last : last_entered sizes (q % sizes.frames) A ≡ Some q
-    last = unflushed_last sizes A q range a (sealed_entered sizes A q range a (ends_there sizes.page q (safe_read_only A) (page_some sizes range) parts.0)) parts.1
-
-    here : marked sizes (A ++ FlushTake ∷ []) q ≡ held_with q (is_flushed sizes q A) true (is_freed sizes q A) (is_cleaning sizes q A)
-    here =
-        marked-with sizes (A ++ FlushTake ∷ []) q (is_flushed sizes q A) true (is_freed sizes q A) (is_cleaning sizes q A)
-        (flushed-stay sizes A FlushTake q refl)
-        (is_in_flight-take sizes A q q h ∙ or_left (q == q) (is_in_flight sizes q A) (eq-eqb q q refl))
-        (freed-stay sizes A FlushTake q refl) (is_cleaning-stay sizes A FlushTake q refl refl)
-
-    others : (p : ℕ) → (p ≢ q) → marked sizes (A ++ FlushTake ∷ []) p ≡ marked sizes A p
-    others p ne =
-        marked-with sizes (A ++ FlushTake ∷ []) p (is_flushed sizes p A) (is_in_flight sizes p A) (is_freed sizes p A) (is_cleaning sizes p A)
-        (flushed-stay sizes A FlushTake p refl)
-        (is_in_flight-take sizes A q p h ∙ kept_when (q == p) (is_in_flight sizes p A) (not_here p q ne))
-        (freed-stay sizes A FlushTake p refl) (is_cleaning-stay sizes A FlushTake p refl refl)
+flush_take_quiet : OfPages FlushTake
+flush_take_quiet = record { no_bump = refl; no_take = refl; ends_none = λ c. refl; stores_none = λ A. refl; offsets = record { done = refl; raised = refl; shifted = refl; allocated = λ a b. refl }; enters_none = λ t. refl; leaves_none = λ t. refl; allocates_none = λ t. refl; looks_none = λ t. refl; heads_none = λ t. refl }
 
 -- the end of a flush
-pub flush_ended-is : (sizes : Sizes) (A : List Step) (q : ℕ) (ok : Bool) → AreInRange sizes → IsAccepted sizes A → is_in_flight sizes q A ≡ true → pages_of sizes (A ++ FlushDone q ok ∷ []) ≡ flush_ended q ok (pages_of sizes A)
-flush_ended-is sizes A q ok range a h = changed-is sizes A (FlushDone q ok) q (λ held. record held { in_flight = false; flushed = ok }) range (tail-push sizes A (FlushDone q ok)) last here others
-  where
-    unflushed : is_flushed sizes q A ≡ false
-    unflushed = (kept sizes A range a).in_flight_unflushed q h
-
-    last : last_entered sizes (q % sizes.frames) A ≡ Some q
-    last = unflushed_last sizes A q range a (sealed_entered sizes A q range a ((kept sizes A range a).in_flight_sealed q h)) unflushed
-
-    here : marked sizes (A ++ FlushDone q ok ∷ []) q ≡ held_with q ok false (is_freed sizes q A) (is_cleaning sizes q A)
-    here =
-        marked-with sizes (A ++ FlushDone q ok ∷ []) q ok false (is_freed sizes q A) (is_cleaning sizes q A)
-        (is_flushed-push sizes q A (FlushDone q ok) ∙ kept_when (is_flushed sizes q A) (q == q && ok) unflushed ∙ ap (λ b. b && ok) (eq-eqb q q refl))
-        (is_in_flight-done sizes A q ok q ∙ gone_when (q == q) (is_in_flight sizes q A) (eq-eqb q q refl))
-        (freed-stay sizes A (FlushDone q ok) q refl) (is_cleaning-stay sizes A (FlushDone q ok) q refl refl)
-
-    others : (p : ℕ) → (p ≢ q) → marked sizes (A ++ FlushDone q ok ∷ []) p ≡ marked sizes A p
-    others p ne =
-        marked-with sizes (A ++ FlushDone q ok ∷ []) p (is_flushed sizes p A) (is_in_flight sizes p A) (is_freed sizes p A) (is_cleaning sizes p A)
-        (flushed-stay sizes A (FlushDone q ok) p (ap (λ b. b && ok) (not_here p q ne)))
-        (is_in_flight-done sizes A q ok p ∙ left_when (q == p) (is_in_flight sizes p A) (not_here p q ne))
-        (freed-stay sizes A (FlushDone q ok) p refl) (is_cleaning-stay sizes A (FlushDone q ok) p refl refl)
+flush_done_quiet : (q : ℕ) (ok : Bool) → OfPages (FlushDone q ok)
+flush_done_quiet q ok = record { no_bump = refl; no_take = refl; ends_none = λ c. refl; stores_none = λ A. refl; offsets = record { done = refl; raised = refl; shifted = refl; allocated = λ a b. refl }; enters_none = λ t. refl; leaves_none = λ t. refl; allocates_none = λ t. refl; looks_none = λ t. refl; heads_none = λ t. refl }
 
 -- a clean take
-pub clean_begun-is : (sizes : Sizes) (A : List Step) (q : ℕ) → AreInRange sizes → IsAccepted sizes A → next_to_clean sizes A ≡ Some q → pages_of sizes (A ++ CleanTake ∷ []) ≡ clean_begun q (pages_of sizes A)
-clean_begun-is sizes A q range a h = changed-is sizes A CleanTake q (λ held. record held { cleaning = true }) range (tail-push sizes A CleanTake) last here others
-  where
-    parts : (q < closed A / sizes.page) × (is_freed sizes q A ≡ false) × (is_cleaning sizes q A ≡ false)
-    parts = next_page-parts (cleaning sizes) A (marks (cleaning sizes) A) q h
-
-    last : last_entered sizes (q % sizes.frames) A ≡ Some q
-    last = unfreed_last sizes A q range a (sealed_entered sizes A q range a (closed_sealed sizes A q range a (ends_there sizes.page q (closed A) (page_some sizes range) parts.0))) parts.1
-
-    here : marked sizes (A ++ CleanTake ∷ []) q ≡ held_with q (is_flushed sizes q A) (is_in_flight sizes q A) (is_freed sizes q A) true
-    here =
-        marked-with sizes (A ++ CleanTake ∷ []) q (is_flushed sizes q A) (is_in_flight sizes q A) (is_freed sizes q A) true
-        (flushed-stay sizes A CleanTake q refl) (is_in_flight-stay sizes A CleanTake q refl refl)
-        (freed-stay sizes A CleanTake q refl)
-        (is_cleaning-take sizes A q q h ∙ or_left (q == q) (is_cleaning sizes q A) (eq-eqb q q refl))
-
-    others : (p : ℕ) → (p ≢ q) → marked sizes (A ++ CleanTake ∷ []) p ≡ marked sizes A p
-    others p ne =
-        marked-with sizes (A ++ CleanTake ∷ []) p (is_flushed sizes p A) (is_in_flight sizes p A) (is_freed sizes p A) (is_cleaning sizes p A)
-        (flushed-stay sizes A CleanTake p refl) (is_in_flight-stay sizes A CleanTake p refl refl)
-        (freed-stay sizes A CleanTake p refl)
-        (is_cleaning-take sizes A q p h ∙ kept_when (q == p) (is_cleaning sizes p A) (not_here p q ne))
+clean_take_quiet : OfPages CleanTake
+clean_take_quiet = record { no_bump = refl; no_take = refl; ends_none = λ c. refl; stores_none = λ A. refl; offsets = record { done = refl; raised = refl; shifted = refl; allocated = λ a b. refl }; enters_none = λ t. refl; leaves_none = λ t. refl; allocates_none = λ t. refl; looks_none = λ t. refl; heads_none = λ t. refl }
 
 -- the end of a cleaning
-pub clean_ended-is : (sizes : Sizes) (A : List Step) (q : ℕ) → AreInRange sizes → IsAccepted sizes A → is_cleaning sizes q A ≡ true → pages_of sizes (A ++ CleanDone q ∷ []) ≡ clean_ended q (pages_of sizes A)
-clean_ended-is sizes A q range a h = changed-is sizes A (CleanDone q) q (λ held. record held { cleaning = false; freed = true }) range (tail-push sizes A (CleanDone q)) last here others
-  where
-    last : last_entered sizes (q % sizes.frames) A ≡ Some q
-    last = unfreed_last sizes A q range a (sealed_entered sizes A q range a (closed_sealed sizes A q range a ((kept sizes A range a).cleaning_closed q h))) ((kept sizes A range a).cleaning_unfreed q h)
+clean_done_quiet : (q : ℕ) → OfPages (CleanDone q)
+clean_done_quiet q = record { no_bump = refl; no_take = refl; ends_none = λ c. refl; stores_none = λ A. refl; offsets = record { done = refl; raised = refl; shifted = refl; allocated = λ a b. refl }; enters_none = λ t. refl; leaves_none = λ t. refl; allocates_none = λ t. refl; looks_none = λ t. refl; heads_none = λ t. refl }
 
-    here : marked sizes (A ++ CleanDone q ∷ []) q ≡ held_with q (is_flushed sizes q A) (is_in_flight sizes q A) true false
-    here =
-        marked-with sizes (A ++ CleanDone q ∷ []) q (is_flushed sizes q A) (is_in_flight sizes q A) true false
-        (flushed-stay sizes A (CleanDone q) q refl) (is_in_flight-stay sizes A (CleanDone q) q refl refl)
-        (is_freed-push sizes q A (CleanDone q) ∙ or_right (is_freed sizes q A) (q == q) (eq-eqb q q refl))
-        (is_cleaning-done sizes A q q ∙ gone_when (q == q) (is_cleaning sizes q A) (eq-eqb q q refl))
+-- a take that fails finds no page
+taken_err : (fault f : Fault) (o : Option ℕ) → Err f ≡ page_or fault o → (o ≡ None) × (f ≡ fault)
+taken_err fault f None h = (refl, cc)
+taken_err fault f (Some q) h = cc
 
-    others : (p : ℕ) → (p ≢ q) → marked sizes (A ++ CleanDone q ∷ []) p ≡ marked sizes A p
-    others p ne =
-        marked-with sizes (A ++ CleanDone q ∷ []) p (is_flushed sizes p A) (is_in_flight sizes p A) (is_freed sizes p A) (is_cleaning sizes p A)
-        (flushed-stay sizes A (CleanDone q) p refl) (is_in_flight-stay sizes A (CleanDone q) p refl refl)
-        (freed-stay sizes A (CleanDone q) p (not_here p q ne))
-        (is_cleaning-done sizes A q p ∙ left_when (q == p) (is_cleaning sizes p A) (not_here p q ne))
+-- and one that doesn't finds this one
+taken_ok : (fault : Fault) (q : ℕ) (o : Option ℕ) → Ok q ≡ page_or fault o → o ≡ Some q
+taken_ok fault q None h = cc
+taken_ok fault q (Some p) h = let same : q ≡ p = cc in ap Some (sym same)
+
+module _ {J : Type 0} (tag : J → ℕ) where
+  -- a core whose frames alone moved
+  pages_moved : (core : State J) (A : List Step) (s : Step) (pages : Pages) → Stands tag core A → fault_of core.sizes A s ≡ None → OfPages s → pages ≡ pages_of core.sizes (A ++ s ∷ []) → Stands tag (record { sizes = core.sizes; table = core.table; views = core.views; drain = core.drain; offsets = core.offsets; pages = pages }) (A ++ s ∷ [])
+  pages_moved core A s pages st h quiet is =
+      quiet_drain tag core A s core.table core.views core.offsets pages st h
+      (record { takes_none = quiet.no_take; ends_none = quiet.ends_none; stores_none = quiet.stores_none A })
+      (table_stays core.sizes A s core.table st.table_is quiet.no_bump quiet.enters_none quiet.leaves_none)
+      (st.views_is ∙ sym (slot_views-stay core.sizes A s quiet.enters_none quiet.leaves_none quiet.allocates_none quiet.looks_none quiet.heads_none))
+      (st.offsets_is ∙ sym (log-stays core.sizes A s st.accepted quiet.offsets)) is
+
+  -- frames that stayed where a step was refused
+  pages_refuse : (core : State J) (A : List Step) (s : Step) (f : Fault) (pages : Pages) → Stands tag core A → fault_of core.sizes A s ≡ Some f → pages ≡ core.pages → Stepped tag core A s (record { sizes = core.sizes; table = core.table; views = core.views; drain = core.drain; offsets = core.offsets; pages = pages }) (Err f)
+  pages_refuse core A s f pages st h same =
+      subst (λ (z : Pages). Stepped tag core A s (record { sizes = core.sizes; table = core.table; views = core.views; drain = core.drain; offsets = core.offsets; pages = z }) (Err f)) (sym same) (refused_step tag core A s f st h)
+
+  -- a refused flush take
+  pub flush_take_err : (core : State J) (sro : ℕ) (f : Fault) (pages : Pages) → sro ≡ core.offsets.safe_read_only → Err f ≡ page_or NoneSealed (NEXT_TO_FLUSH sro core.pages) → pages ≡ after_take flush_begun (NEXT_TO_FLUSH sro core.pages) core.pages → Made tag core FlushTake (record { sizes = core.sizes; table = core.table; views = core.views; drain = core.drain; offsets = core.offsets; pages = pages }) (Err f)
+  flush_take_err core sro f pages at h e A st =
+      let told : (NEXT_TO_FLUSH sro core.pages ≡ None) × (f ≡ NoneSealed) = taken_err NoneSealed f (NEXT_TO_FLUSH sro core.pages) h in
+      let none : next_to_flush core.sizes A ≡ None = sym (ap (λ n. NEXT_TO_FLUSH n core.pages) at ∙ flush_found tag core A st) ∙ told.0 in
+      pages_refuse core A FlushTake f pages st (ap (unless_page NoneSealed) none ∙ ap Some (sym told.1)) (e ∙ ap (λ o. after_take flush_begun o core.pages) told.0)
+
+  -- an accepted flush take
+  pub flush_take_ok : (core : State J) (sro q : ℕ) (pages : Pages) → sro ≡ core.offsets.safe_read_only → Ok q ≡ page_or NoneSealed (NEXT_TO_FLUSH sro core.pages) → pages ≡ after_take flush_begun (NEXT_TO_FLUSH sro core.pages) core.pages → Made tag core FlushTake (record { sizes = core.sizes; table = core.table; views = core.views; drain = core.drain; offsets = core.offsets; pages = pages }) (Ok (Page q))
+  flush_take_ok core sro q pages at h e A st =
+      let told : NEXT_TO_FLUSH sro core.pages ≡ Some q = taken_ok NoneSealed q (NEXT_TO_FLUSH sro core.pages) h in
+      let found : next_to_flush core.sizes A ≡ Some q = sym (ap (λ n. NEXT_TO_FLUSH n core.pages) at ∙ flush_found tag core A st) ∙ told in
+      let none : fault_of core.sizes A FlushTake ≡ None = ap (unless_page NoneSealed) found in
+      let is : pages ≡ pages_of core.sizes (A ++ FlushTake ∷ []) = e ∙ ap (λ o. after_take flush_begun o core.pages) told ∙ ap (flush_begun q) st.pages_is ∙ sym (flush_begun-is core.sizes A q st.in_range st.accepted found) in
+      accepted_step tag core (record { sizes = core.sizes; table = core.table; views = core.views; drain = core.drain; offsets = core.offsets; pages = pages }) A FlushTake (Page q) none refl (ap (λ o. Page (unwrap_or o 0)) found)
+      (pages_moved core A FlushTake pages st none flush_take_quiet is)
+
+  -- a refused end of a flush
+  pub flush_done_err : (core : State J) (q : ℕ) (ok : Bool) (f : Fault) (pages : Pages) → Err f ≡ flush_done_answer q ok core.pages → pages ≡ after_flush_done q ok core.pages → Made tag core (FlushDone q ok) (record { sizes = core.sizes; table = core.table; views = core.views; drain = core.drain; offsets = core.offsets; pages = pages }) (Err f)
+  flush_done_err core q ok f pages h e A st =
+      let told : (IN_FLIGHT q core.pages ≡ false) × (f ≡ NotInFlight) = refused_by_test NotInFlight f (IN_FLIGHT q core.pages) (flushed_offset (flush_ended q ok core.pages)) h in
+      let no_flight : is_in_flight core.sizes q A ≡ false = sym (flight_found tag core A q st) ∙ told.0 in
+      pages_refuse core A (FlushDone q ok) f pages st (ap (λ b. cond b None (Some NotInFlight)) no_flight ∙ ap Some (sym told.1)) (e ∙ ap (λ b. cond b (flush_ended q ok core.pages) core.pages) told.0)
+
+  -- an accepted end of a flush
+  pub flush_done_ok : (core : State J) (q : ℕ) (ok : Bool) (offset : ℕ) (pages : Pages) → Ok offset ≡ flush_done_answer q ok core.pages → pages ≡ after_flush_done q ok core.pages → Made tag core (FlushDone q ok) (record { sizes = core.sizes; table = core.table; views = core.views; drain = core.drain; offsets = core.offsets; pages = pages }) (Ok (Flushed offset))
+  flush_done_ok core q ok offset pages h e A st =
+      let told : (IN_FLIGHT q core.pages ≡ true) × (offset ≡ flushed_offset (flush_ended q ok core.pages)) = passed_by_test NotInFlight (IN_FLIGHT q core.pages) offset (flushed_offset (flush_ended q ok core.pages)) h in
+      let flight : is_in_flight core.sizes q A ≡ true = sym (flight_found tag core A q st) ∙ told.0 in
+      let none : fault_of core.sizes A (FlushDone q ok) ≡ None = ap (λ b. cond b None (Some NotInFlight)) flight in
+      let moved : flush_ended q ok core.pages ≡ pages_of core.sizes (A ++ FlushDone q ok ∷ []) = ap (flush_ended q ok) st.pages_is ∙ sym (flush_ended-is core.sizes A q ok st.in_range st.accepted flight) in
+      let reply : flushed core.sizes (A ++ FlushDone q ok ∷ []) ≡ offset =
+      sym (pages_of-flushed core.sizes (A ++ FlushDone q ok ∷ []) st.in_range (IsAccepted-push core.sizes A (FlushDone q ok) st.accepted none)) ∙ sym (ap flushed_offset moved) ∙ sym told.1 in
+      accepted_step tag core (record { sizes = core.sizes; table = core.table; views = core.views; drain = core.drain; offsets = core.offsets; pages = pages }) A (FlushDone q ok) (Flushed offset) none refl (ap (λ n. Flushed n) reply)
+      (pages_moved core A (FlushDone q ok) pages st none (flush_done_quiet q ok) (e ∙ ap (λ b. cond b (flush_ended q ok core.pages) core.pages) told.0 ∙ moved))
+
+  -- a refused clean take
+  pub clean_take_err : (core : State J) (end : ℕ) (f : Fault) (pages : Pages) → end ≡ core.offsets.closed → Err f ≡ page_or NoneClosed (NEXT_TO_CLEAN end core.pages) → pages ≡ after_take clean_begun (NEXT_TO_CLEAN end core.pages) core.pages → Made tag core CleanTake (record { sizes = core.sizes; table = core.table; views = core.views; drain = core.drain; offsets = core.offsets; pages = pages }) (Err f)
+  clean_take_err core end f pages at h e A st =
+      let told : (NEXT_TO_CLEAN end core.pages ≡ None) × (f ≡ NoneClosed) = taken_err NoneClosed f (NEXT_TO_CLEAN end core.pages) h in
+      let none : next_to_clean core.sizes A ≡ None = sym (ap (λ n. NEXT_TO_CLEAN n core.pages) at ∙ clean_found tag core A st) ∙ told.0 in
+      pages_refuse core A CleanTake f pages st (ap (unless_page NoneClosed) none ∙ ap Some (sym told.1)) (e ∙ ap (λ o. after_take clean_begun o core.pages) told.0)
+
+  -- an accepted clean take
+  pub clean_take_ok : (core : State J) (end q : ℕ) (pages : Pages) → end ≡ core.offsets.closed → Ok q ≡ page_or NoneClosed (NEXT_TO_CLEAN end core.pages) → pages ≡ after_take clean_begun (NEXT_TO_CLEAN end core.pages) core.pages → Made tag core CleanTake (record { sizes = core.sizes; table = core.table; views = core.views; drain = core.drain; offsets = core.offsets; pages = pages }) (Ok (Page q))
+  clean_take_ok core end q pages at h e A st =
+      let told : NEXT_TO_CLEAN end core.pages ≡ Some q = taken_ok NoneClosed q (NEXT_TO_CLEAN end core.pages) h in
+      let found : next_to_clean core.sizes A ≡ Some q = sym (ap (λ n. NEXT_TO_CLEAN n core.pages) at ∙ clean_found tag core A st) ∙ told in
+      let none : fault_of core.sizes A CleanTake ≡ None = ap (unless_page NoneClosed) found in
+      let is : pages ≡ pages_of core.sizes (A ++ CleanTake ∷ []) = e ∙ ap (λ o. after_take clean_begun o core.pages) told ∙ ap (clean_begun q) st.pages_is ∙ sym (clean_begun-is core.sizes A q st.in_range st.accepted found) in
+      accepted_step tag core (record { sizes = core.sizes; table = core.table; views = core.views; drain = core.drain; offsets = core.offsets; pages = pages }) A CleanTake (Page q) none refl (ap (λ o. Page (unwrap_or o 0)) found)
+      (pages_moved core A CleanTake pages st none clean_take_quiet is)
+
+  -- a refused end of a cleaning
+  pub clean_done_err : (core : State J) (q : ℕ) (f : Fault) (pages : Pages) → Err f ≡ clean_done_answer q core.pages → pages ≡ after_clean_done q core.pages → Made tag core (CleanDone q) (record { sizes = core.sizes; table = core.table; views = core.views; drain = core.drain; offsets = core.offsets; pages = pages }) (Err f)
+  clean_done_err core q f pages h e A st =
+      let told : (CLEANING q core.pages ≡ false) × (f ≡ NotCleaning) = refused_by_test NotCleaning f (CLEANING q core.pages) (tt {0}) h in
+      let no_cleaning : is_cleaning core.sizes q A ≡ false = sym (cleaning_found tag core A q st) ∙ told.0 in
+      pages_refuse core A (CleanDone q) f pages st (ap (λ b. cond b None (Some NotCleaning)) no_cleaning ∙ ap Some (sym told.1)) (e ∙ ap (λ b. cond b (clean_ended q core.pages) core.pages) told.0)
+
+  -- an accepted end of a cleaning
+  pub clean_done_ok : (core : State J) (q : ℕ) (pages : Pages) → Ok (tt {0}) ≡ clean_done_answer q core.pages → pages ≡ after_clean_done q core.pages → Made tag core (CleanDone q) (record { sizes = core.sizes; table = core.table; views = core.views; drain = core.drain; offsets = core.offsets; pages = pages }) (Ok (Freed q))
+  clean_done_ok core q pages h e A st =
+      let told : (CLEANING q core.pages ≡ true) × (tt {0} ≡ tt {0}) = passed_by_test NotCleaning (CLEANING q core.pages) (tt {0}) (tt {0}) h in
+      let cleaned : is_cleaning core.sizes q A ≡ true = sym (cleaning_found tag core A q st) ∙ told.0 in
+      let none : fault_of core.sizes A (CleanDone q) ≡ None = ap (λ b. cond b None (Some NotCleaning)) cleaned in
+      let moved : clean_ended q core.pages ≡ pages_of core.sizes (A ++ CleanDone q ∷ []) = ap (clean_ended q) st.pages_is ∙ sym (clean_ended-is core.sizes A q st.in_range st.accepted cleaned) in
+      accepted_step tag core (record { sizes = core.sizes; table = core.table; views = core.views; drain = core.drain; offsets = core.offsets; pages = pages }) A (CleanDone q) (Freed q) none refl refl
+      (pages_moved core A (CleanDone q) pages st none (clean_done_quiet q) (e ∙ ap (λ b. cond b (clean_ended q core.pages) core.pages) told.0 ∙ moved))

@@ -11,7 +11,7 @@ use Rattle.hl_model.specs.Replies.{IsAccepted}
 use Rattle.hl_model.proofs.OffsetLaws.{read_only-stay, head-stay, tail-push}
 use Rattle.hl_model.proofs.SettledLaws.{done_greatest-quiet}
 use Rattle.hl_core.specs.Standing.{log_of, pages_of}
-use Rattle.hl_core.proofs.PageStands.{pages_of-quiet}
+use Rattle.hl_core.proofs.PageMoves.{pages_of-quiet}
 
 -- the safe read-only offset and the closed one stay where nothing is done
 pub safe_read_only-quiet : (sizes : Sizes) (A : List Step) (s : Step) → IsAccepted sizes A → is_done s ≡ false → safe_read_only (A ++ s ∷ []) ≡ safe_read_only A

@@ -1,8 +1,7 @@
 -- Where a core stands after some steps of a row, and what was answered.
-use Rattle.std.proofs.Common.{◌≡◌, ℕ, suc, ◌+◌, ◌<◌, ◌≤◌, List, [], ◌∷◌, ◌++◌, length, take, get_or, set, length-set, refl, sym, ap, ap₂, ◌∙◌, subst, arith, append-nil, append_assoc}
+use Rattle.std.proofs.Common.{◌≡◌, ℕ, suc, ◌+◌, ◌<◌, List, [], ◌∷◌, ◌++◌, length, take, get_or, set, length-set, refl, sym, ap, ap₂, ◌∙◌, subst, arith, append-nil, append_assoc}
 use Rattle.std.specs.Prelude.{Result}
 use Rattle.std.proofs.Math.Seq.{take-suc, take-suc-set}
-use Rattle.std.proofs.lemmas.List.{take_all}
 use Rattle.hl_model.specs.declared.fault.Fault.{Fault}
 use Rattle.hl_model.specs.declared.step.Reply.{Reply}
 use Rattle.hl_model.specs.declared.step.Step.{Step}
@@ -83,12 +82,3 @@ module _ {J : Type 0} (tag : J → ℕ) where
             standing = subst (λ (B : List Step). Stands tag after B) list stepped.standing;
             replies = take_set n results r (omega (arith, lt, ran.length_is)) ∙ ap₂ (λ xs z. xs ++ z ∷ []) was.replies told ∙ sym (replies_after-push old.sizes A (take n steps) s) ∙ ap (replies_after old.sizes A) (sym next);
           }
-
-  -- all
-  pub ran_replies : (old : State J) (steps : List Step) (new : State J) (results : List (Result Reply Fault)) (n : ℕ) → Ran old steps new results n → length steps ≤ n → (A : List Step) → Stands tag old A → results ≡ replies_after old.sizes A steps
-  ran_replies old steps new results n ran le A st =
-      sym (take_all n results (omega (arith, le, ran.length_is))) ∙ (ran.from A st).replies ∙ ap (replies_after old.sizes A) (take_all n steps le)
-
-  pub ran_stands : (old : State J) (steps : List Step) (new : State J) (results : List (Result Reply Fault)) (n : ℕ) → Ran old steps new results n → length steps ≤ n → (A : List Step) → Stands tag old A → Stands tag new (good old.sizes (A ++ steps))
-  ran_stands old steps new results n ran le A st =
-      subst (λ (L : List Step). Stands tag new (good old.sizes (A ++ L))) (take_all n steps le) (ran.from A st).standing

@@ -1,5 +1,5 @@
 -- Where a core stands after a step of one slot.
-use Rattle.std.proofs.Common.{◌≡◌, ℕ, ◌<◌, true, false, leb, List, [], ◌∷◌, ◌++◌, length, set, refl, sym, ap, ap₂, ◌∙◌, subst, arith, eq-eqb}
+use Rattle.std.proofs.Common.{◌≡◌, ℕ, ◌<◌, true, false, leb, List, [], ◌∷◌, ◌++◌, length, set, refl, sym, ap, ap₂, ◌∙◌, arith, eq-eqb}
 use Rattle.std.specs.Prelude.{Option, Some, None, Result, Ok, Err}
 use Rattle.std.proofs.lemmas.Bool.{leb-false}
 use Rattle.hl_model.proofs.DrainLaws.{two_faults}
@@ -22,9 +22,9 @@ use Rattle.hl_epoch.specs.Table.{entered, left}
 use Rattle.hl_offsets.specs.Log.{Log}
 use Rattle.hl_core.specs.Standing.{State, Stands, IsStanding, log_of}
 use Rattle.hl_core.specs.Steps.{Stepped, Made}
-use Rattle.hl_core.proofs.TableLaws.{answered_ok, table_refuses, table_accepts, table_set, current-stays, acquire_fault-table, protected_fault-table}
+use Rattle.hl_core.proofs.TableLaws.{answered_ok, table_accepts, table_set, current-stays, acquire_fault-table, protected_fault-table}
 use Rattle.hl_core.proofs.QuietLaws.{OffsetsStay, PagesStay, log-stays, pages-stay}
-use Rattle.hl_core.proofs.StandLaws.{DrainStays, refused_step, accepted_step, quiet_drain}
+use Rattle.hl_core.proofs.StandLaws.{DrainStays, table_refused, accepted_step, quiet_drain}
 
 -- the view of whoever enters now
 abbrev pub seen_now : Log → View
@@ -55,50 +55,48 @@ module _ {J : Type 0} (tag : J → ℕ) where
       accepted_step tag core (record { sizes = core.sizes; table = table; views = set core.views t (Some view); drain = core.drain; offsets = core.offsets; pages = core.pages }) A s (Entered epoch view) h refl (reply ∙ ap₂ (λ e v. Entered e v) epoch_is view_is)
       (slot_moved core A s table (set core.views t (Some view)) st h d o p is views)
 
+  -- the table's faults are the list's
+  free_fault : (core : State J) (t : ℕ) (A : List Step) → Stands tag core A → acquire_fault core.sizes A t ≡ free_row_fault t core.table
+  free_fault core t A st = sym (acquire_fault-table core.sizes A t) ∙ sym (ap (free_row_fault t) st.table_is)
+
+  held_fault : (core : State J) (t : ℕ) (A : List Step) → Stands tag core A → protected_fault core.sizes A t ≡ row_fault t core.table
+  held_fault core t A st = sym (protected_fault-table core.sizes A t) ∙ sym (ap (row_fault t) st.table_is)
+
   -- a refused acquire
   pub acquire_err : (core : State J) (t : ℕ) (f : Fault) (table : Table) → Err f ≡ answered (free_row_fault t core.table) (tt {0}) → table ≡ after (free_row_fault t core.table) core.table (entered t core.table) → Made tag core (Acquire t) (record { sizes = core.sizes; table = table; views = core.views; drain = core.drain; offsets = core.offsets; pages = core.pages }) (Err f)
-  acquire_err core t f table h e A st =
-      let both = table_refuses (free_row_fault t core.table) f core.table (entered t core.table) table h e in
-      subst (λ (z : Table). Stepped tag core A (Acquire t) (record { sizes = core.sizes; table = z; views = core.views; drain = core.drain; offsets = core.offsets; pages = core.pages }) (Err f)) (sym both.1)
-      (refused_step tag core A (Acquire t) f st (sym (acquire_fault-table core.sizes A t) ∙ sym (ap (free_row_fault t) st.table_is) ∙ both.0))
+  acquire_err core t f table h e = table_refused tag core (Acquire t) f (free_row_fault t core.table) (tt {0}) (entered t core.table) table h e (free_fault core t)
 
   -- an accepted acquire
   pub acquire_ok : (core : State J) (t : ℕ) (table : Table) (epoch : ℕ) (view : View) → Ok (tt {0}) ≡ answered (free_row_fault t core.table) (tt {0}) → table ≡ after (free_row_fault t core.table) core.table (entered t core.table) → epoch ≡ table.current → view ≡ seen_now core.offsets → Made tag core (Acquire t) (record { sizes = core.sizes; table = table; views = set core.views t (Some view); drain = core.drain; offsets = core.offsets; pages = core.pages }) (Ok (Entered epoch view))
   acquire_ok core t table epoch view h e now seen A st =
       let both = table_accepts (free_row_fault t core.table) core.table (entered t core.table) table h e in
-      let free : acquire_fault core.sizes A t ≡ None = sym (acquire_fault-table core.sizes A t) ∙ sym (ap (free_row_fault t) st.table_is) ∙ both.0 in
+      let free : acquire_fault core.sizes A t ≡ None = free_fault core t A st ∙ both.0 in
       enter_step core A t (Acquire t) table epoch view st free (record { takes_none = refl; ends_none = λ c. refl; stores_none = refl }) (record { done = refl; raised = refl; shifted = refl; allocated = λ a b. refl })
       (record { flush_taken = refl; flush_ended = refl; flushed = λ a. refl; clean_taken = refl; clean_ended = refl; freed = λ a. refl })
       refl (eq-eqb t t refl) (slot_epochs-acquire core.sizes.slots A t) (slot_views-acquire core.sizes A t) refl both.1 now seen
 
   -- a refused refresh
   pub refresh_err : (core : State J) (t : ℕ) (f : Fault) (table : Table) → Err f ≡ answered (row_fault t core.table) (tt {0}) → table ≡ after (row_fault t core.table) core.table (entered t core.table) → Made tag core (Refresh t) (record { sizes = core.sizes; table = table; views = core.views; drain = core.drain; offsets = core.offsets; pages = core.pages }) (Err f)
-  refresh_err core t f table h e A st =
-      let both = table_refuses (row_fault t core.table) f core.table (entered t core.table) table h e in
-      subst (λ (z : Table). Stepped tag core A (Refresh t) (record { sizes = core.sizes; table = z; views = core.views; drain = core.drain; offsets = core.offsets; pages = core.pages }) (Err f)) (sym both.1)
-      (refused_step tag core A (Refresh t) f st (sym (protected_fault-table core.sizes A t) ∙ sym (ap (row_fault t) st.table_is) ∙ both.0))
+  refresh_err core t f table h e = table_refused tag core (Refresh t) f (row_fault t core.table) (tt {0}) (entered t core.table) table h e (held_fault core t)
 
   -- an accepted refresh
   pub refresh_ok : (core : State J) (t : ℕ) (table : Table) (epoch : ℕ) (view : View) → Ok (tt {0}) ≡ answered (row_fault t core.table) (tt {0}) → table ≡ after (row_fault t core.table) core.table (entered t core.table) → epoch ≡ table.current → view ≡ seen_now core.offsets → Made tag core (Refresh t) (record { sizes = core.sizes; table = table; views = set core.views t (Some view); drain = core.drain; offsets = core.offsets; pages = core.pages }) (Ok (Entered epoch view))
   refresh_ok core t table epoch view h e now seen A st =
       let both = table_accepts (row_fault t core.table) core.table (entered t core.table) table h e in
-      let seated : protected_fault core.sizes A t ≡ None = sym (protected_fault-table core.sizes A t) ∙ sym (ap (row_fault t) st.table_is) ∙ both.0 in
+      let seated : protected_fault core.sizes A t ≡ None = held_fault core t A st ∙ both.0 in
       enter_step core A t (Refresh t) table epoch view st seated (record { takes_none = refl; ends_none = λ c. refl; stores_none = refl }) (record { done = refl; raised = refl; shifted = refl; allocated = λ a b. refl })
       (record { flush_taken = refl; flush_ended = refl; flushed = λ a. refl; clean_taken = refl; clean_ended = refl; freed = λ a. refl })
       refl (eq-eqb t t refl) (slot_epochs-refresh core.sizes.slots A t) (slot_views-refresh core.sizes A t) refl both.1 now seen
 
   -- a refused release
   pub release_err : (core : State J) (t : ℕ) (f : Fault) (table : Table) → Err f ≡ answered (row_fault t core.table) (tt {0}) → table ≡ after (row_fault t core.table) core.table (left t core.table) → Made tag core (Release t) (record { sizes = core.sizes; table = table; views = core.views; drain = core.drain; offsets = core.offsets; pages = core.pages }) (Err f)
-  release_err core t f table h e A st =
-      let both = table_refuses (row_fault t core.table) f core.table (left t core.table) table h e in
-      subst (λ (z : Table). Stepped tag core A (Release t) (record { sizes = core.sizes; table = z; views = core.views; drain = core.drain; offsets = core.offsets; pages = core.pages }) (Err f)) (sym both.1)
-      (refused_step tag core A (Release t) f st (sym (protected_fault-table core.sizes A t) ∙ sym (ap (row_fault t) st.table_is) ∙ both.0))
+  release_err core t f table h e = table_refused tag core (Release t) f (row_fault t core.table) (tt {0}) (left t core.table) table h e (held_fault core t)
 
   -- an accepted release
   pub release_ok : (core : State J) (t : ℕ) (table : Table) → Ok (tt {0}) ≡ answered (row_fault t core.table) (tt {0}) → table ≡ after (row_fault t core.table) core.table (left t core.table) → Made tag core (Release t) (record { sizes = core.sizes; table = table; views = set core.views t None; drain = core.drain; offsets = core.offsets; pages = core.pages }) (Ok Left)
   release_ok core t table h e A st =
       let both = table_accepts (row_fault t core.table) core.table (left t core.table) table h e in
-      let seated : protected_fault core.sizes A t ≡ None = sym (protected_fault-table core.sizes A t) ∙ sym (ap (row_fault t) st.table_is) ∙ both.0 in
+      let seated : protected_fault core.sizes A t ≡ None = held_fault core t A st ∙ both.0 in
       let is : table ≡ table_of core.sizes (A ++ Release t ∷ []) = both.1 ∙ ap (left t) st.table_is ∙ table_set core.sizes A (Release t) (set (slot_epochs core.sizes.slots A) t None) refl (slot_epochs-release core.sizes.slots A t) in
       let views : set core.views t None ≡ slot_views core.sizes (A ++ Release t ∷ []) = ap (λ xs. set xs t None) st.views_is ∙ sym (slot_views-release core.sizes A t) in
       accepted_step tag core (record { sizes = core.sizes; table = table; views = set core.views t None; drain = core.drain; offsets = core.offsets; pages = core.pages }) A (Release t) Left seated refl refl
@@ -110,12 +108,12 @@ module _ {J : Type 0} (tag : J → ℕ) where
   acquire_fits core t at h =
       let A = at.0 in
       let st : Stands tag core A = at.1 in
-      let free : acquire_fault core.sizes A t ≡ None = sym (acquire_fault-table core.sizes A t) ∙ sym (ap (free_row_fault t) st.table_is) ∙ (answered_ok (free_row_fault t core.table) (tt {0}) (tt {0}) h).0 in
+      let free : acquire_fault core.sizes A t ≡ None = free_fault core t A st ∙ (answered_ok (free_row_fault t core.table) (tt {0}) (tt {0}) h).0 in
       omega (arith, leb-false core.sizes.slots t (two_faults (leb core.sizes.slots t) (is_protected t A) NoSlot Occupied free).0, ap length st.views_is, length-slot_views core.sizes A)
 
   pub protected_fits : (core : State J) (t : ℕ) → IsStanding tag core → Ok (tt {0}) ≡ answered (row_fault t core.table) (tt {0}) → t < length core.views
   protected_fits core t at h =
       let A = at.0 in
       let st : Stands tag core A = at.1 in
-      let seated : protected_fault core.sizes A t ≡ None = sym (protected_fault-table core.sizes A t) ∙ sym (ap (row_fault t) st.table_is) ∙ (answered_ok (row_fault t core.table) (tt {0}) (tt {0}) h).0 in
+      let seated : protected_fault core.sizes A t ≡ None = held_fault core t A st ∙ (answered_ok (row_fault t core.table) (tt {0}) (tt {0}) h).0 in
       omega (arith, (protected-none core.sizes A t seated).0, ap length st.views_is, length-slot_views core.sizes A)

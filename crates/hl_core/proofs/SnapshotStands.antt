@@ -1,7 +1,8 @@
 -- All quantities of a core at once, wherever it stands.
-use Rattle.std.proofs.Common.{◌≡◌, ℕ, zero, suc, ◌+◌, cond, List, length, map, refl, sym, ap, ap₂, ◌∙◌}
+use Rattle.std.proofs.Common.{◌≡◌, ℕ, ◌+◌, cond, List, [], ◌∷◌, length, map, refl, sym, ap, ap₂, ◌∙◌}
 use Rattle.std.specs.Prelude.{Option, count_by, is_some}
 use Rattle.std.specs.List.{range_with_len}
+use Rattle.std.proofs.lemmas.List.Sums.{sum_by-cons}
 use Rattle.hl_model.specs.declared.snapshot.Snapshot.{Snapshot}
 use Rattle.hl_model.specs.declared.step.Step.{Step}
 use Rattle.hl_model.specs.declared.view.Six.{Six}
@@ -10,26 +11,24 @@ use Rattle.hl_model.specs.Epochs.{current_epoch, slot_epoch, slot_epochs, safe_a
 use Rattle.hl_model.specs.Views.{slot_view, slot_views}
 use Rattle.hl_model.specs.Snapshots.{six, snapshot_of}
 use Rattle.hl_model.proofs.EpochLaws.{is_protected-slot_epoch}
-use Rattle.hl_model.proofs.ListLaws.{count_by-push}
 use Rattle.hl_model.proofs.ViewLaws.{is_protected-slot_view}
 use Rattle.hl_epoch.specs.Table.{safe_of}
 use Rattle.hl_drain.specs.Actions.{waiting_of}
 use Rattle.hl_core.specs.Standing.{State, Stands}
-use Rattle.hl_core.proofs.FrameCounts.{map-push}
 
 -- what passes alike in two rows counts alike
-counts_alike : {X Y : Type 0} (f : ℕ → Option X) (h : ℕ → Option Y) (n : ℕ) → ((t : ℕ) → is_some (f t) ≡ is_some (h t)) → count_by is_some (map f (range_with_len 0 n)) ≡ count_by is_some (map h (range_with_len 0 n))
-counts_alike f h zero same = refl
-counts_alike f h (suc n) same =
-    ap (count_by is_some) (map-push f 0 n) ∙ count_by-push is_some (map f (range_with_len 0 n)) (f (0 + n))
-    ∙ ap₂ (λ k b. k + cond b 1 0) (counts_alike f h n same) (same (0 + n))
-    ∙ sym (ap (count_by is_some) (map-push h 0 n) ∙ count_by-push is_some (map h (range_with_len 0 n)) (h (0 + n)))
+counts_alike : {X Y : Type 0} (f : ℕ → Option X) (h : ℕ → Option Y) (xs : List ℕ) → ((t : ℕ) → is_some (f t) ≡ is_some (h t)) → count_by is_some (map f xs) ≡ count_by is_some (map h xs)
+counts_alike f h [] same = refl
+counts_alike f h (x ∷ xs) same =
+    sum_by-cons (λ o. cond (is_some o) 1 0) (f x) (map f xs)
+    ∙ ap₂ (λ b k. cond b 1 0 + k) (same x) (counts_alike f h xs same)
+    ∙ sym (sum_by-cons (λ o. cond (is_some o) 1 0) (h x) (map h xs))
 
 -- a slot has a view where it has an epoch
 pub protected_alike : (sizes : Sizes) (A : List Step) → count_by is_some (slot_views sizes A) ≡ count_by is_some (slot_epochs sizes.slots A)
 unfolding slot_views slot_epochs
 protected_alike sizes A =
-    counts_alike (λ t. slot_view sizes t A) (λ t. slot_epoch t A) sizes.slots (λ t. sym (is_protected-slot_view sizes t A) ∙ is_protected-slot_epoch t A)
+    counts_alike (λ t. slot_view sizes t A) (λ t. slot_epoch t A) (range_with_len 0 sizes.slots) (λ t. sym (is_protected-slot_view sizes t A) ∙ is_protected-slot_epoch t A)
 
 -- the safe epoch of a table's parts
 safe_same : (n : ℕ) (A : List Step) → safe_among (current_epoch A) (slot_epochs n A) ≡ safe_epoch n A

@@ -12,7 +12,7 @@ use Rattle.hl_model.proofs.EpochLaws.{current_epoch-push, slot_epochs-stay, leng
 use Rattle.hl_epoch.specs.Faults.{acquire_fault as free_row_fault, protected_fault as row_fault, answered, after}
 
 -- an answer that is a fault
-pub answered_err : {X : Type 0} (o : Option Fault) (f : Fault) (x : X) → Err f ≡ answered o x → o ≡ Some f
+answered_err : {X : Type 0} (o : Option Fault) (f : Fault) (x : X) → Err f ≡ answered o x → o ≡ Some f
 answered_err None f x h = cc
 answered_err (Some g) f x h = cc
 
@@ -22,8 +22,8 @@ answered_ok None v x h = (refl, cc)
 answered_ok (Some g) v x h = cc
 
 -- a table that refuses stays as it was
-pub table_refuses : (o : Option Fault) (f : Fault) (old good new : Table) → Err f ≡ answered o (tt {0}) → new ≡ after o old good → (o ≡ Some f) × (new ≡ old)
-table_refuses o f old good new h e = let some : o ≡ Some f = answered_err o f (tt {0}) h in (some, e ∙ ap (λ p. after p old good) some)
+pub table_refuses : {X : Type 0} (o : Option Fault) (f : Fault) (x : X) (old good new : Table) → Err f ≡ answered o x → new ≡ after o old good → (o ≡ Some f) × (new ≡ old)
+table_refuses o f x old good new h e = let some : o ≡ Some f = answered_err o f x h in (some, e ∙ ap (λ p. after p old good) some)
 
 -- and moves where it accepts
 pub table_accepts : (o : Option Fault) (old good new : Table) → Ok (tt {0}) ≡ answered o (tt {0}) → new ≡ after o old good → (o ≡ None) × (new ≡ good)

@@ -134,9 +134,6 @@ module _ {J : Type 0} (tag : J → ℕ) where
       reply = ap (λ n. Taken n) (takes-push A Take ∙ sym (ticket-front A (waiting_of tag entry) (map (waiting_of tag) parts.later) first))
 
   -- whether the oldest pending action may be taken
-  pub empty_told : (core : State J) (ws : List Waiting) → ws ≡ map (waiting_of tag) core.drain.pending → ws ≡ [] → (A : List Step) → Stands tag core A → Err Empty ≡ unless_fault (take_fault core.sizes A) (tt {0})
-  empty_told core ws e none A st = sym (ap (λ o. unless_fault o (tt {0})) (fault_empty (length (pending A)) (takes A + 1) (safe_epoch core.sizes.slots A) (ap length (sym st.pending_is ∙ sym e ∙ none))))
-
   pub early_told : (core : State J) (ws rest : List Waiting) (w : Waiting) (safe : ℕ) → ws ≡ map (waiting_of tag) core.drain.pending → ws ≡ w ∷ rest → safe ≡ safe_of core.table → safe < w.ticket → (A : List Step) → Stands tag core A → Err (NotReady w.ticket safe) ≡ unless_fault (take_fault core.sizes A) (tt {0})
   early_told core ws rest w safe e some s early A st =
       let first : pending A ≡ w ∷ rest = sym st.pending_is ∙ sym e ∙ some in

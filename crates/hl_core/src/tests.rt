@@ -30,7 +30,7 @@ fn sizes(rt: &impl Abort, drain: u64) -> Params {
     Params::checked(4, 2, 2, drain).expect(rt, "the sizes are in range")
 }
 
-// Makes the steps, each told by `check` before, and gives the core.
+// Makes the steps from an empty core, and gives the core.
 fn walk(
     rt: &impl Abort,
     alloc: Global,
@@ -38,13 +38,18 @@ fn walk(
     rows: &[Row],
 ) -> Result<Core<ScanTable, Tag>, Fault> {
     let mut core = Core::open(alloc, sizes(rt, drain))?;
+    go_on(rt, &mut core, rows);
+    Ok(core)
+}
+
+// Makes the steps, each told by `check` before.
+fn go_on(rt: &impl Abort, core: &mut Core<ScanTable, Tag>, rows: &[Row]) {
     for (step, expected) in rows {
         assert_eq!(rt; core.check(step), expected.map(|_| ()));
         let mut results = [Err(Fault::Empty)];
         core.run(&[*step], &mut results);
         assert_eq!(rt; results[0], *expected);
     }
-    Ok(core)
 }
 
 #[test]

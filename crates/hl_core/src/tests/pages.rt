@@ -1,5 +1,24 @@
-use super::{entered, walk};
-use hl_model::{Fault, FrameState, Reply, Six, Step, View};
+use super::{entered, go_on, walk};
+use crate::Core;
+use hl_epoch::ScanTable;
+use hl_model::{Fault, FrameState, Reply, Six, Step, Tag, View};
+use std::alloc::Global;
+use std::process::Abort;
+
+// A core whose pages 0 and 1 are full and sealed.
+fn two_sealed_pages(rt: &impl Abort, alloc: Global) -> Result<Core<ScanTable, Tag>, Fault> {
+    let rows = [
+        (Step::Acquire { t: 0 }, entered(1, 0, 0, 0)),
+        (Step::Allocate { t: 0, n: 4 }, Ok(Reply::At(0))),
+        (Step::Allocate { t: 0, n: 4 }, Ok(Reply::At(4))),
+        (Step::Raise { x: 8 }, Ok(Reply::Raised(8))),
+        (Step::Settle, Ok(Reply::Ticket(1))),
+        (Step::Refresh { t: 0 }, entered(2, 8, 0, 8)),
+        (Step::Take, Ok(Reply::Taken(1))),
+        (Step::Done { ticket: 1 }, Ok(Reply::Settled(8))),
+    ];
+    walk(rt, alloc, 4, &rows)
+}
 
 #[test]
 fn stale_reader(rt: HostRuntime) -> Result<(), Fault> {
@@ -49,15 +68,8 @@ fn stale_reader(rt: HostRuntime) -> Result<(), Fault> {
 
 #[test]
 fn out_of_order_flush(rt: HostRuntime) -> Result<(), Fault> {
+    let mut core = two_sealed_pages(&rt, rt.alloc())?;
     let rows = [
-        (Step::Acquire { t: 0 }, entered(1, 0, 0, 0)),
-        (Step::Allocate { t: 0, n: 4 }, Ok(Reply::At(0))),
-        (Step::Allocate { t: 0, n: 4 }, Ok(Reply::At(4))),
-        (Step::Raise { x: 8 }, Ok(Reply::Raised(8))),
-        (Step::Settle, Ok(Reply::Ticket(1))),
-        (Step::Refresh { t: 0 }, entered(2, 8, 0, 8)),
-        (Step::Take, Ok(Reply::Taken(1))),
-        (Step::Done { ticket: 1 }, Ok(Reply::Settled(8))),
         (Step::FlushTake, Ok(Reply::Page(0))),
         (Step::FlushTake, Ok(Reply::Page(1))),
         (Step::FlushTake, Err(Fault::NoneSealed)),
@@ -66,7 +78,7 @@ fn out_of_order_flush(rt: HostRuntime) -> Result<(), Fault> {
         (Step::FlushDone { page: 0, ok: true }, Ok(Reply::Flushed(8))),
         (Step::Shift { x: 8 }, Ok(Reply::Shifted(8))),
     ];
-    let core = walk(&rt, rt.alloc(), 4, &rows)?;
+    go_on(&rt, &mut core, &rows);
     assert_eq!(rt;
         core.six(),
         Six {
@@ -83,15 +95,8 @@ fn out_of_order_flush(rt: HostRuntime) -> Result<(), Fault> {
 
 #[test]
 fn failed_flush(rt: HostRuntime) -> Result<(), Fault> {
+    let mut core = two_sealed_pages(&rt, rt.alloc())?;
     let rows = [
-        (Step::Acquire { t: 0 }, entered(1, 0, 0, 0)),
-        (Step::Allocate { t: 0, n: 4 }, Ok(Reply::At(0))),
-        (Step::Allocate { t: 0, n: 4 }, Ok(Reply::At(4))),
-        (Step::Raise { x: 8 }, Ok(Reply::Raised(8))),
-        (Step::Settle, Ok(Reply::Ticket(1))),
-        (Step::Refresh { t: 0 }, entered(2, 8, 0, 8)),
-        (Step::Take, Ok(Reply::Taken(1))),
-        (Step::Done { ticket: 1 }, Ok(Reply::Settled(8))),
         (Step::FlushTake, Ok(Reply::Page(0))),
         (
             Step::FlushDone { page: 0, ok: false },
@@ -104,21 +109,14 @@ fn failed_flush(rt: HostRuntime) -> Result<(), Fault> {
             Err(Fault::NotInFlight),
         ),
     ];
-    walk(&rt, rt.alloc(), 4, &rows)?;
+    go_on(&rt, &mut core, &rows);
     Ok(())
 }
 
 #[test]
 fn out_of_order_clean(rt: HostRuntime) -> Result<(), Fault> {
+    let mut core = two_sealed_pages(&rt, rt.alloc())?;
     let rows = [
-        (Step::Acquire { t: 0 }, entered(1, 0, 0, 0)),
-        (Step::Allocate { t: 0, n: 4 }, Ok(Reply::At(0))),
-        (Step::Allocate { t: 0, n: 4 }, Ok(Reply::At(4))),
-        (Step::Raise { x: 8 }, Ok(Reply::Raised(8))),
-        (Step::Settle, Ok(Reply::Ticket(1))),
-        (Step::Refresh { t: 0 }, entered(2, 8, 0, 8)),
-        (Step::Take, Ok(Reply::Taken(1))),
-        (Step::Done { ticket: 1 }, Ok(Reply::Settled(8))),
         (Step::FlushTake, Ok(Reply::Page(0))),
         (Step::FlushTake, Ok(Reply::Page(1))),
         (Step::FlushDone { page: 0, ok: true }, Ok(Reply::Flushed(4))),
@@ -139,6 +137,6 @@ fn out_of_order_clean(rt: HostRuntime) -> Result<(), Fault> {
         (Step::Allocate { t: 0, n: 4 }, Ok(Reply::At(8))),
         (Step::Allocate { t: 0, n: 4 }, Ok(Reply::At(12))),
     ];
-    walk(&rt, rt.alloc(), 4, &rows)?;
+    go_on(&rt, &mut core, &rows);
     Ok(())
 }

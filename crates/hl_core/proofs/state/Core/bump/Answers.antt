@@ -1,5 +1,5 @@
 use Rattle.std.proofs.Common.{rules, sym}
-use Rattle.hl_core.proofs.AskLaws.{put_fits, bump_fits, bump_full, bump_spent, bump_ok}
+use Rattle.hl_core.proofs.AskStands.{put_fits, bump_fits, bump_full, bump_spent, bump_ok}
 use Rattle.hl_core.proofs.SlotStands.{still_stands}
 use Rattle.hl_core.proofs.state.Core.bump.Goals as goal
 

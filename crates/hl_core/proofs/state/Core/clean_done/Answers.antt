@@ -1,7 +1,7 @@
 use Rattle.std.proofs.Common.{sym}
 use Rattle.std.proofs.lemmas.Result.{err_from_is_err_and}
 use Rattle.hl_core.proofs.SlotStands.{still_stands}
-use Rattle.hl_core.proofs.PageSteps.{clean_done_err, clean_done_ok}
+use Rattle.hl_core.proofs.PageStands.{clean_done_err, clean_done_ok}
 use Rattle.hl_core.proofs.state.Core.clean_done.Goals as goal
 
 pub returns-in_err-clean_done-clause-made : goal.returns-in_err-clean_done-clause-made

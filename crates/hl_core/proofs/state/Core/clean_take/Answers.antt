@@ -2,7 +2,7 @@ use Rattle.std.proofs.Common.{sym}
 use Rattle.std.proofs.lemmas.Result.{err_from_is_err_and}
 use Rattle.hl_core.proofs.PageFound.{closed_fits}
 use Rattle.hl_core.proofs.SlotStands.{still_stands}
-use Rattle.hl_core.proofs.PageSteps.{clean_take_err, clean_take_ok}
+use Rattle.hl_core.proofs.PageStands.{clean_take_err, clean_take_ok}
 use Rattle.hl_core.proofs.state.Core.clean_take.Goals as goal
 
 pub clean_take-requires : goal.clean_take-requires

@@ -1,7 +1,7 @@
 use Rattle.std.proofs.Common.{sym}
 use Rattle.std.proofs.lemmas.Result.{err_from_is_err_and}
 use Rattle.hl_core.proofs.SlotStands.{still_stands}
-use Rattle.hl_core.proofs.PageSteps.{flush_take_err, flush_take_ok}
+use Rattle.hl_core.proofs.PageStands.{flush_take_err, flush_take_ok}
 use Rattle.hl_core.proofs.state.Core.flush_take.Goals as goal
 
 pub returns-in_err-page-clause-made : goal.returns-in_err-page-clause-made

@@ -1,11 +1,8 @@
-use Rattle.std.proofs.Common.{refl, sym, arith, ap, ◌≡◌}
+use Rattle.std.proofs.Common.{sym, arith, ap, ◌≡◌}
 use Rattle.hl_model.specs.declared.frame.FrameState.TheVariants.{Opened, Sealed, Flushed, Closed, Free}
 use Rattle.hl_core.proofs.FrameCounts.{counts_next, counted_fit, counted_all}
 use Rattle.hl_core.proofs.state.Core.frame_counts.Goals as goal
 use Rattle.hl_core.proofs.state.Core.frame_counts.Goals.{in-Opened, in-Sealed, in-Flushed, in-Closed, in-Free}
-
-pub loop-f-init : goal.loop-f-init
-loop-f-init g c = λ A st. refl
 
 pub overflow_add-counts : goal.overflow_add-counts
 overflow_add-counts g c =

@@ -1,5 +1,5 @@
 use Rattle.std.proofs.Common.{rules, sym}
-use Rattle.hl_core.proofs.AskLaws.{full_told, spent_told, room_told}
+use Rattle.hl_core.proofs.AskStands.{full_told, spent_told, room_told}
 use Rattle.hl_core.proofs.state.Core.may_bump.Goals as goal
 
 pub returns-then-not-has_room : goal.returns-then-not-has_room

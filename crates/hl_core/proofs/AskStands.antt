@@ -28,10 +28,10 @@ use Rattle.hl_drain.specs.declared.action.Action.{Action}
 use Rattle.hl_drain.specs.Actions.{waiting_of}
 use Rattle.hl_drain.specs.Lists.{Lists, IsDrain, count_of, tickets, after_put}
 use Rattle.hl_core.specs.Standing.{State, Stands, IsStanding, log_of}
-use Rattle.hl_core.specs.Steps.{Stepped, Made, asking, stored}
-use Rattle.hl_core.proofs.TableLaws.{answered_err, answered_ok, make}
+use Rattle.hl_core.specs.Steps.{Made, asking, stored}
+use Rattle.hl_core.proofs.TableLaws.{answered_ok, make}
 use Rattle.hl_core.proofs.QuietLaws.{OffsetsStay, PagesStay, log-stays, pages-stay}
-use Rattle.hl_core.proofs.StandLaws.{refused_step, accepted_step}
+use Rattle.hl_core.proofs.StandLaws.{refused_step, table_refused, accepted_step}
 
 -- a step that stores an action
 record Stores (s : Step) : Type 0 where
@@ -197,11 +197,9 @@ module _ {J : Type 0} (tag : J → ℕ) where
 
   -- a bump of the last epoch
   pub bump_spent : (core : State J) (ask : Ask J) (f : Fault) (table : Table) → count_of core.drain < core.drain.limit → Err f ≡ answered (spent_fault core.table) core.table.current → table ≡ after (spent_fault core.table) core.table (bumped core.table) → Made tag core (asking tag ask) (record { sizes = core.sizes; table = table; views = core.views; drain = core.drain; offsets = core.offsets; pages = core.pages }) (Err f)
-  bump_spent core ask f table room a e A st =
-      let some : spent_fault core.table ≡ Some f = answered_err (spent_fault core.table) f core.table.current a in
-      let same : table ≡ core.table = e ∙ ap (λ p. after p core.table (bumped core.table)) some in
-      subst (λ (z : Table). Stepped tag core A (asking tag ask) (record { sizes = core.sizes; table = z; views = core.views; drain = core.drain; offsets = core.offsets; pages = core.pages }) (Err f)) (sym same)
-      (refused_step tag core A (asking tag ask) f st ((stores tag ask).fault core.sizes A ∙ room_fault core A st room ∙ some))
+  bump_spent core ask f table room a e =
+      table_refused tag core (asking tag ask) f (spent_fault core.table) core.table.current (bumped core.table) table a e
+      (λ A st. (stores tag ask).fault core.sizes A ∙ room_fault core A st room)
 
   -- an accepted bump: the action is the last pending one
   pub bump_ok : (core : State J) (ask : Ask J) (ticket : ℕ) (table : Table) (action : Action J) (drain : Lists J) → count_of core.drain < core.drain.limit → Ok ticket ≡ answered (spent_fault core.table) core.table.current → table ≡ after (spent_fault core.table) core.table (bumped core.table) → action ≡ stored core.offsets ask → drain ≡ after_put core.drain ticket action → IsDrain drain → Made tag core (asking tag ask) (record { sizes = core.sizes; table = table; views = core.views; drain = drain; offsets = core.offsets; pages = core.pages }) (Ok (Ticket ticket))
