@@ -154,7 +154,7 @@ module _ {F : Type 0} where
       }
 
   -- no fault where the core answered
-  free_of : (engine : Whole F) (A : List Step) (s : Step) (core_new : State (KeptRecord F)) (r : Reply) → Stepped job_tag engine.core A s core_new (Ok r) → (fault_of engine.core.sizes A s ≡ None) × (r ≡ answer_of engine.core.sizes A (A ++ s ∷ []) s)
+  pub free_of : (engine : Whole F) (A : List Step) (s : Step) (core_new : State (KeptRecord F)) (r : Reply) → Stepped job_tag engine.core A s core_new (Ok r) → (fault_of engine.core.sizes A s ≡ None) × (r ≡ answer_of engine.core.sizes A (A ++ s ∷ []) s)
   free_of engine A s core_new r moved = ok_free (fault_of engine.core.sizes A s) (answer_of engine.core.sizes A (A ++ s ∷ []) s) r moved.reply
 
   -- a write sets the cell of its address
@@ -167,12 +167,13 @@ module _ {F : Type 0} where
       (holds-quiet engine.core.sizes A (Write t a v) engine.held st.core_stands.accepted refl (λ c. refl) st.held_is)
 
   -- a clean done zeroes the cells of its page's frame
-  pub moved_clean : (keeps : ℕ → FiringRecord → ℕ → Type 0) (engine : Whole F) (A : List Step) (p : ℕ) (core_new : State (KeptRecord F)) (words : List ℕ) (r : Reply) → EngineStands engine A → Stepped job_tag engine.core A (CleanDone p) core_new (Ok r) → (let start = p % engine.core.sizes.frames * engine.core.sizes.page in words ≡ take start engine.words ++ (replicate engine.core.sizes.page 0 ++ drop (start + engine.core.sizes.page) engine.words)) → Moved keeps engine A (CleanDone p) (record { core = core_new; words = words; held = engine.held }) (Ok r)
-  moved_clean keeps engine A p core_new words r st moved zeroed =
+  pub moved_zeroed : (keeps : ℕ → FiringRecord → ℕ → Type 0) (engine : Whole F) (A : List Step) (p start len : ℕ) (core_new : State (KeptRecord F)) (before words : List ℕ) (r : Reply) → EngineStands engine A → Stepped job_tag engine.core A (CleanDone p) core_new (Ok r) → start ≡ p % engine.core.sizes.frames * engine.core.sizes.page → len ≡ engine.core.sizes.page → before ≡ engine.words → words ≡ take start before ++ (replicate len 0 ++ drop (start + len) before) → Moved keeps engine A (CleanDone p) (record { core = core_new; words = words; held = engine.held }) (Ok r)
+  moved_zeroed keeps engine A p start len core_new before words r st moved s l w zeroed =
       let h = (free_of engine A (CleanDone p) core_new r moved).0 in
       moved_accepted keeps engine A (CleanDone p) core_new words engine.held (Ok r) (Ok r) moved h
       (told_same keeps engine.core.sizes A (CleanDone p) (Ok r) refl moved.reply)
-      (zeroed ∙ ap (λ ws. take (p % engine.core.sizes.frames * engine.core.sizes.page) ws ++ (replicate engine.core.sizes.page 0 ++ drop (p % engine.core.sizes.frames * engine.core.sizes.page + engine.core.sizes.page) ws)) st.words_is
+      (zeroed ∙ ap (λ ws. take start ws ++ (replicate len 0 ++ drop (start + len) ws)) (w ∙ st.words_is)
+      ∙ ap₂ (λ i n. take i (cell_words engine.core.sizes A) ++ (replicate n 0 ++ drop (i + n) (cell_words engine.core.sizes A))) s l
       ∙ cells-clean engine.core.sizes A p (page_some engine A st) (frames_some engine A st) st.core_stands.accepted h)
       (holds-quiet engine.core.sizes A (CleanDone p) engine.held st.core_stands.accepted refl (λ c. refl) st.held_is)
 
@@ -297,13 +298,6 @@ module _ {F : Type 0} where
   -- a page's cells lie in the row
   pub page_fits : (engine : Whole F) (p start len : ℕ) (words : List ℕ) → IsEngine engine → start ≡ p % engine.core.sizes.frames * engine.core.sizes.page → len ≡ engine.core.sizes.page → words ≡ engine.words → start + len ≤ length words
   page_fits engine p start len words at s l w = omega (arith, s, l, ap length w, words_length engine at, frame_fits engine.core.sizes p (frames_some engine at.0 at.1))
-
-  -- a clean done that zeroed these words
-  pub moved_zeroed : (keeps : ℕ → FiringRecord → ℕ → Type 0) (engine : Whole F) (A : List Step) (p start len : ℕ) (core_new : State (KeptRecord F)) (before words : List ℕ) (r : Reply) → EngineStands engine A → Stepped job_tag engine.core A (CleanDone p) core_new (Ok r) → start ≡ p % engine.core.sizes.frames * engine.core.sizes.page → len ≡ engine.core.sizes.page → before ≡ engine.words → words ≡ take start before ++ (replicate len 0 ++ drop (start + len) before) → Moved keeps engine A (CleanDone p) (record { core = core_new; words = words; held = engine.held }) (Ok r)
-  moved_zeroed keeps engine A p start len core_new before words r st moved s l w zeroed =
-      moved_clean keeps engine A p core_new words r st moved
-      (zeroed ∙ ap (λ ws. take start ws ++ (replicate len 0 ++ drop (start + len) ws)) w
-      ∙ ap₂ (λ i n. take i engine.words ++ (replicate n 0 ++ drop (i + n) engine.words)) s l)
 
   -- these words are those of a page that the engine has in its frame
   pub page_words_of : (engine : Whole F) (A : List Step) (p start len : ℕ) (words : List ℕ) → Shows engine p → EngineStands engine A → start ≡ p % engine.core.sizes.frames * engine.core.sizes.page → len ≡ engine.core.sizes.page → words ≡ engine.words → take len (drop start words) ≡ page_words engine.core.sizes p A

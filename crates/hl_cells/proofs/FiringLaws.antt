@@ -3,7 +3,7 @@ use Rattle.std.proofs.Common.{◌≡◌, ℕ, ◌+◌, ◌<◌, Bool, true, fals
 use Rattle.std.specs.Prelude.{◌==◌, None}
 use Rattle.std.specs.List.{filter}
 use Rattle.std.proofs.lemmas.List.{map-append}
-use Rattle.std.proofs.lemmas.List.Elements.{filter-append}
+use Rattle.std.proofs.lemmas.List.Elements.{filter-append, filter_agree}
 use Rattle.hl_model.specs.declared.action.Waiting.{Waiting}
 use Rattle.hl_model.specs.declared.step.Step.{Step}
 use Rattle.hl_model.specs.declared.step.Step.TheVariants.{Take, Done}
@@ -38,11 +38,6 @@ firing_of-none sizes A s e = refl
 pub firings-stay : (sizes : Sizes) (A : List Step) (s : Step) → is_take s ≡ false → firings sizes (A ++ s ∷ []) ≡ firings sizes A
 firings-stay sizes A s e = firings-push sizes A s ∙ ap (λ z. firings sizes A ++ z) (firing_of-none sizes A s e) ∙ append-nil (firings sizes A)
 
--- tests that agree leave the same
-filter_alike : {X : Type 0} (p q : X → Bool) (xs : List X) → ((x : X) → p x ≡ q x) → filter p xs ≡ filter q xs
-filter_alike p q [] h = refl
-filter_alike p q (x ∷ xs) h = ap₂ (λ b l. cond b (x ∷ l) l) (h x) (filter_alike p q xs h)
-
 -- at first none is undone
 pub undone-nil : (sizes : Sizes) → undone_firings sizes [] ≡ []
 unfolding undone_firings
@@ -53,7 +48,7 @@ pub undone-stay : (sizes : Sizes) (A : List Step) (s : Step) → is_take s ≡ f
 unfolding undone_firings
 undone-stay sizes A s e h =
     ap (filter (λ (f : FiringRecord). not (is_finished f.ticket (A ++ s ∷ [])))) (firings-stay sizes A s e)
-    ∙ filter_alike (λ (f : FiringRecord). not (is_finished f.ticket (A ++ s ∷ []))) (λ (f : FiringRecord). not (is_finished f.ticket A)) (firings sizes A) (λ f. ap not (is_finished-stay f.ticket A s (h f.ticket)))
+    ∙ filter_agree (λ (f : FiringRecord). not (is_finished f.ticket (A ++ s ∷ []))) (λ (f : FiringRecord). not (is_finished f.ticket A)) (λ f. ap not (is_finished-stay f.ticket A s (h f.ticket))) (firings sizes A)
 
 not_or : (a b : Bool) → not (a || b) ≡ (not b && not a)
 not_or true true = refl
@@ -84,7 +79,7 @@ unfinished_next sizes A acc = by_test (is_finished (takes A + 1) A) refl
 pub undone-take : (sizes : Sizes) (A : List Step) → IsAccepted sizes A → undone_firings sizes (A ++ Take ∷ []) ≡ undone_firings sizes A ++ record { ticket = takes A + 1; safe = safe_epoch sizes.slots A } ∷ []
 unfolding undone_firings
 undone-take sizes A acc =
-    filter_alike (λ (f : FiringRecord). not (is_finished f.ticket (A ++ Take ∷ []))) (λ (f : FiringRecord). not (is_finished f.ticket A)) (firings sizes (A ++ Take ∷ [])) (λ f. ap not (is_finished-stay f.ticket A Take refl))
+    filter_agree (λ (f : FiringRecord). not (is_finished f.ticket (A ++ Take ∷ []))) (λ (f : FiringRecord). not (is_finished f.ticket A)) (λ f. ap not (is_finished-stay f.ticket A Take refl)) (firings sizes (A ++ Take ∷ []))
     ∙ ap (filter (λ (f : FiringRecord). not (is_finished f.ticket A))) (firings-push sizes A Take)
     ∙ filter-append (λ (f : FiringRecord). not (is_finished f.ticket A)) (firings sizes A) (firing_of sizes A Take)
     ∙ ap (λ (b : Bool). filter (λ (f : FiringRecord). not (is_finished f.ticket A)) (firings sizes A) ++ cond (not b) (firing_of sizes A Take) []) (unfinished_next sizes A acc)
@@ -93,8 +88,8 @@ undone-take sizes A acc =
 pub undone-done : (sizes : Sizes) (A : List Step) (c : ℕ) → undone_firings sizes (A ++ Done c ∷ []) ≡ filter (λ f. not (c == f.ticket)) (undone_firings sizes A)
 unfolding undone_firings
 undone-done sizes A c =
-    filter_alike (λ (f : FiringRecord). not (is_finished f.ticket (A ++ Done c ∷ []))) (λ (f : FiringRecord). not (c == f.ticket) && not (is_finished f.ticket A)) (firings sizes (A ++ Done c ∷ []))
-    (λ f. ap not (is_finished-push f.ticket A (Done c)) ∙ not_or (is_finished f.ticket A) (c == f.ticket))
+    filter_agree (λ (f : FiringRecord). not (is_finished f.ticket (A ++ Done c ∷ []))) (λ (f : FiringRecord). not (c == f.ticket) && not (is_finished f.ticket A))
+    (λ f. ap not (is_finished-push f.ticket A (Done c)) ∙ not_or (is_finished f.ticket A) (c == f.ticket)) (firings sizes (A ++ Done c ∷ []))
     ∙ ap (filter (λ (f : FiringRecord). not (c == f.ticket) && not (is_finished f.ticket A))) (firings-stay sizes A (Done c) refl)
     ∙ filter_twice (λ (f : FiringRecord). not (is_finished f.ticket A)) (λ (f : FiringRecord). not (c == f.ticket)) (firings sizes A)
 

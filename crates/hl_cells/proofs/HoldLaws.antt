@@ -49,17 +49,21 @@ others_are {X = X} key c a (x ∷ xs) r = by_test (others_are key c (key x) xs r
         rw (e, eq-eqb c (key x) (sym same)) (none_is key c (key x) xs (omega (arith, same)) r.1)
     by_test rest false e = rw (e, ne_eqb c (key x) (λ h. eqb-false (key x) c e (sym h)), one-add) (ap (λ ys. x ∷ ys) rest)
 
+-- the first place in a mapped row
+pub place_mapped : {X Y : Type 0} (f : X → Y) (p : Y → Bool) (xs : List X) → position_or_len (λ x. p (f x)) xs ≡ position_or_len p (map f xs)
+place_mapped f p [] = refl
+place_mapped f p (x ∷ xs) = ap (λ n. cond (not (p (f x))) (1 + n) 0) (place_mapped f p xs)
+
 -- the place of a key is that in the row of keys
 place_by_keys : {X : Type 0} (key : X → ℕ) (c : ℕ) (xs : List X) → position_or_len (λ x. key x == c) xs ≡ position_or_len (λ n. n == c) (map key xs)
-place_by_keys key c [] = refl
-place_by_keys key c (x ∷ xs) = ap (λ n. cond (not (key x == c)) (1 + n) 0) (place_by_keys key c xs)
+place_by_keys key c xs = place_mapped key (λ n. n == c) xs
 
-map_twice : {X Y Z : Type 0} (f : X → Y) (g : Y → Z) (xs : List X) → map g (map f xs) ≡ map (λ x. g (f x)) xs
+pub map_twice : {X Y Z : Type 0} (f : X → Y) (g : Y → Z) (xs : List X) → map g (map f xs) ≡ map (λ x. g (f x)) xs
 map_twice f g [] = refl
 map_twice f g (x ∷ xs) = ap (λ ys. g (f x) ∷ ys) (map_twice f g xs)
 
 -- what is found in a mapped row
-find_mapped : {X Y : Type 0} (f : X → Y) (p : Y → Bool) (xs : List X) → find p (map f xs) ≡ option_map f (find (λ x. p (f x)) xs)
+pub find_mapped : {X Y : Type 0} (f : X → Y) (p : Y → Bool) (xs : List X) → find p (map f xs) ≡ option_map f (find (λ x. p (f x)) xs)
 find_mapped f p [] = refl
 find_mapped {Y = Y} f p (x ∷ xs) = by_test (find_mapped f p xs) (p (f x)) refl
   where
@@ -157,7 +161,7 @@ found_pair {X = X} {Y = Y} p q key key2 tag tag2 c (x ∷ xs) (z ∷ ys) y hp hq
         (more.0, ap (λ b. cond b (Some x) (find p xs)) (same ∙ e) ∙ more.1, more.2)
 
 -- the tickets that are held are those that the drain list knows
-held_tickets : {F : Type 0} (sizes : Sizes) (A : List Step) (held : Row F) → IsAccepted sizes A → Holds sizes A held → map (λ r. r.firing.ticket) held.actions ≡ map (λ w. w.ticket) (taken A)
+pub held_tickets : {F : Type 0} (sizes : Sizes) (A : List Step) (held : Row F) → IsAccepted sizes A → Holds sizes A held → map (λ r. r.firing.ticket) held.actions ≡ map (λ w. w.ticket) (taken A)
 held_tickets {F = F} sizes A held acc holds =
     sym (map_twice (λ (r : ReadyRecord F). r.firing) (λ (f : FiringRecord). f.ticket) held.actions)
     ∙ ap (map (λ (f : FiringRecord). f.ticket)) holds.firings_is

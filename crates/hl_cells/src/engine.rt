@@ -1,4 +1,4 @@
-ghost use Rattle.std.specs.Prelude.{◌≡◌, [], IfOk, IfErr};
+ghost use Rattle.std.specs.Prelude.{◌≡◌, ℕ, None, [], IfOk, IfErr};
 
 use crate::held::Held;
 use crate::row::zeros;
@@ -40,13 +40,15 @@ impl<E: Epochs + Drop, F: Task, P: Promise> Drop for Engine<E, F, P> {
 
 impl<E: Epochs + Drop, F: Task, P: Promise> Engine<E, F, P> {
     ghost use Rattle.hl_cells.specs.Engines.{EngineStands};
+    ghost use Rattle.hl_cells.specs.Jobs.{job_under};
 
-    /// An engine at the empty list: its core is one that was just opened, and all words are 0. No other call takes
-    /// memory.
+    /// An engine at the empty list: its core is one that was just opened, all words are 0, and no job lies under any
+    /// ticket. No other call takes memory.
     ///
     /// `OutOfMemory` where memory for its rows was refused.
     pub fn open(alloc: Global, params: Params) -> Result<Engine<E, F, P>, Fault>
         ensures ok { IfOk result (λ engine. EngineStands engine [] × (engine.core.sizes ≡ params)) }
+        ensures jobs { IfOk result (λ engine. (c : ℕ) → job_under engine c ≡ None) }
         ensures err { IfErr result (λ fault. fault ≡ Fault.OutOfMemory) }
     {
         let core = Core::open(alloc, params)?;

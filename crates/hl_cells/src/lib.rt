@@ -12,8 +12,10 @@
 //!
 //! # Jobs
 //!
-//! A job goes in by [`Engine::bump`]. A take holds it with its firing, its ticket and the safe epoch of then; the
-//! done of its ticket runs it, and is answered with what it answers, which keeps the promise P for its tag.
+//! A job goes in by [`Engine::bump`], and lies under the ticket that the bump answers: `job_under` in
+//! `specs/Jobs.antt`. A take holds it with its firing, its ticket and the safe epoch of then; the done of its ticket
+//! runs it, and is answered with what it answers, which keeps the promise P for its tag. Until then it stays under
+//! its ticket, whatever steps are made: of two jobs with one tag each runs under its own.
 //!
 //! # Standing at a list
 //!

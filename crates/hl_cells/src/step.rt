@@ -1,6 +1,8 @@
-ghost use Rattle.std.specs.Prelude.{◌≡◌, true, false, OnErr};
-ghost use Rattle.hl_cells.specs.Engines.{IsEngine};
+ghost use Rattle.std.specs.Prelude.{◌≡◌, true, false, List, OnErr};
+ghost use Rattle.hl_model.specs.declared.step.Step.{Step as STEP};
+ghost use Rattle.hl_cells.specs.Engines.{EngineStands, IsEngine};
 ghost use Rattle.hl_cells.specs.EngineSteps.{Moves, is_job_bump, is_plain};
+ghost use Rattle.hl_cells.specs.Jobs.{JobsKept, RunsItsJob};
 
 use crate::engine::Engine;
 use hl_action::{Promise, Task};
@@ -14,9 +16,14 @@ impl<E: Epochs + Drop, F: Task, P: Promise> Engine<E, F, P> {
     /// From an engine that stands at an accepted list, whatever the step is: the answer is the definitions' reply
     /// after that list, a read's with the word; the reply to the done of a job is the job's answer, which keeps the
     /// promise for its tag under its firing. The engine then stands at the list with the step, where it was accepted.
+    ///
+    /// An accepted done runs the job that lies under its ticket, under the firing of its take, and nothing lies there
+    /// then. All other jobs stay under their tickets.
     pub fn step(&mut self, step: &Step) -> Result<Reply, Fault>
         requires { is_job_bump step.now ≡ false }
         ensures moved { Moves P.keeps self.old step.now self.new result }
+        ensures jobs { JobsKept self.old step.now self.new result }
+        ensures ran { (A : List STEP) → EngineStands self.old A → RunsItsJob F.gives self.old A step.now result }
         ensures refused { OnErr result (self.new ≡ self.old) }
         ensures stood { IsEngine self.old }
     {
@@ -40,6 +47,8 @@ impl<E: Epochs + Drop, F: Task, P: Promise> Engine<E, F, P> {
     fn act(&mut self, step: &Step) -> Result<Reply, Fault>
         requires { is_plain step.now ≡ true }
         ensures moved { Moves P.keeps self.old step.now self.new result }
+        ensures jobs { JobsKept self.old step.now self.new result }
+        ensures ran { (A : List STEP) → EngineStands self.old A → RunsItsJob F.gives self.old A step.now result }
         ensures refused { OnErr result (self.new ≡ self.old) }
         ensures stood { IsEngine self.old }
     {

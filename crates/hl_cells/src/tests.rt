@@ -1,4 +1,4 @@
-ghost use Rattle.std.specs.Prelude.{◌≡◌, ◌+◌, ◌<◌, ◌^◌, false, All};
+ghost use Rattle.std.specs.Prelude.{◌≡◌, ◌+◌, ◌<◌, ◌^◌, false, IfSome, All};
 ghost use Rattle.hl_cells.specs.EngineSteps.{is_job_bump};
 
 use crate::Engine;
@@ -32,13 +32,42 @@ impl Task for AddTicket {
 
 type TestEngine = Engine<ScanTable, AddTicket, Sum>;
 
+// Any answer will do.
+struct Anything;
+
+impl Promise for Anything {
+    ghost keeps = { λ tag firing answer. answer ≡ answer };
+}
+
+// Each job answers its own number.
+#[derive(Drop)]
+struct Tells {
+    number: u64,
+}
+
+impl Task for Tells {
+    ghost can = { λ job firing. job.number < 2 ^ 64 };
+
+    ghost gives = { λ job firing answer. answer ≡ job.number };
+
+    fn call(self, _firing: Firing) -> u64 {
+        self.number
+    }
+}
+
 fn job(tag: u64) -> Kept<AddTicket, Sum>
     requires { tag < 1000 }
 {
     Kept::new(tag, AddTicket { tag })
 }
 
-fn open(alloc: Global, p: u64, f: u64, s: u64, d: u64) -> Result<TestEngine, Fault> {
+fn open<F: Task, P: Promise>(
+    alloc: Global,
+    p: u64,
+    f: u64,
+    s: u64,
+    d: u64,
+) -> Result<Engine<ScanTable, F, P>, Fault> {
     match Params::checked(p, f, s, d) {
         Some(params) => Engine::open(alloc, params),
         None => Err(Fault::Size),
@@ -79,7 +108,7 @@ fn holds(engine: &TestEngine, f: u64, words: &[u64]) -> bool {
 // A slow thread reads the first page until it moves on; the page's frame is used again only then, and shows 0.
 #[test]
 fn stale_reader_words(rt: HostRuntime) -> Result<(), Fail> {
-    let mut engine = open(rt.alloc(), 4, 2, 2, 4)?;
+    let mut engine: TestEngine = open(rt.alloc(), 4, 2, 2, 4)?;
     assert_eq!(rt; engine.step(&Step::Acquire { t: 0 }), entered(1, 0, 0, 0));
     assert_eq!(rt;
         engine.step(&Step::Allocate { t: 0, n: 4 }),
@@ -163,7 +192,7 @@ fn stale_reader_words(rt: HostRuntime) -> Result<(), Fail> {
 
 #[test]
 fn a_job_answers_at_its_done(rt: HostRuntime) -> Result<(), Fail> {
-    let mut engine = open(rt.alloc(), 4, 2, 1, 2)?;
+    let mut engine: TestEngine = open(rt.alloc(), 4, 2, 1, 2)?;
     assert_eq!(rt; engine.bump(job(7)).ok(), Some(1));
     assert_eq!(rt; engine.bump(job(9)).ok(), Some(2));
     // The drain list has two places.
@@ -193,9 +222,49 @@ fn a_job_answers_at_its_done(rt: HostRuntime) -> Result<(), Fail> {
     Ok(())
 }
 
+// What a caller knows by the clauses alone: the done of its ticket is answered by its own job.
+fn own_answer(engine: &mut Engine<ScanTable, Tells, Anything>, number: u64) -> Option<u64>
+    ensures { IfSome result (λ answer. answer ≡ number) }
+{
+    let ticket = engine.bump(Kept::new(7, Tells { number })).ok()?;
+    engine.step(&Step::Take).ok()?;
+    match engine.step(&Step::Done { ticket }) {
+        Ok(Reply::Answer(answer)) => Some(answer),
+        _ => None,
+    }
+}
+
+// A tag names no job: of two with one tag each runs under the ticket of its own bump.
+#[test]
+fn two_jobs_of_one_tag(rt: HostRuntime) -> Result<(), Fail> {
+    let mut engine: Engine<ScanTable, Tells, Anything> = open(rt.alloc(), 4, 2, 1, 3)?;
+    let first = Kept::new(7, Tells { number: 50 });
+    let second = Kept::new(7, Tells { number: 60 });
+    assert_eq!(rt; engine.bump(first).ok(), Some(1));
+    assert_eq!(rt; engine.step(&Step::Take), Ok(Reply::Taken(1)));
+    assert_eq!(rt; engine.step(&Step::Settle), Ok(Reply::Ticket(2)));
+    assert_eq!(rt; engine.bump(second).ok(), Some(3));
+    assert_eq!(rt; engine.step(&Step::Take), Ok(Reply::Taken(2)));
+    assert_eq!(rt; engine.step(&Step::Take), Ok(Reply::Taken(3)));
+    assert_eq!(rt;
+        engine.step(&Step::Done { ticket: 3 }),
+        Ok(Reply::Answer(60))
+    );
+    assert_eq!(rt;
+        engine.step(&Step::Done { ticket: 2 }),
+        Ok(Reply::Settled(0))
+    );
+    assert_eq!(rt;
+        engine.step(&Step::Done { ticket: 1 }),
+        Ok(Reply::Answer(50))
+    );
+    assert_eq!(rt; own_answer(&mut engine, 70), Some(70));
+    Ok(())
+}
+
 #[test]
 fn the_words_of_a_page(rt: HostRuntime) -> Result<(), Fail> {
-    let mut engine = open(rt.alloc(), 4, 2, 1, 2)?;
+    let mut engine: TestEngine = open(rt.alloc(), 4, 2, 1, 2)?;
     let steps = [
         Step::Acquire { t: 0 },
         Step::Allocate { t: 0, n: 4 },
@@ -216,7 +285,7 @@ fn the_words_of_a_page(rt: HostRuntime) -> Result<(), Fail> {
 // The greatest sizes: 256 frames of 4,096 words, 64 slots, 64 places.
 #[test]
 fn the_greatest_sizes(rt: HostRuntime) -> Result<(), Fail> {
-    let mut engine = open(rt.alloc(), 4096, 256, 64, 64)?;
+    let mut engine: TestEngine = open(rt.alloc(), 4096, 256, 64, 64)?;
     assert_eq!(rt; engine.params().frames(), 256);
     assert_eq!(rt; engine.step(&Step::Acquire { t: 63 }), entered(1, 0, 0, 0));
     for page in 0..256 {

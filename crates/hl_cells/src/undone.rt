@@ -41,6 +41,7 @@ impl<F: Task, P: Promise> Undone<F, P> {
     /// Runs its job under its firing, and gives the answer. None where it has no job.
     pub(crate) fn run(self) -> Option<u64>
         ensures answered { is_some result ≡ is_some self.kept }
+        ensures gives { IfSome self.kept (λ kept. IsSomeAnd result (F.gives kept.job self.firing)) }
         ensures keeps { IfSome self.kept (λ kept. IsSomeAnd result (P.keeps kept.tag self.firing)) }
     {
         let Undone { ready } = self;

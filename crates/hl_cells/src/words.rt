@@ -6,6 +6,7 @@ ghost use Rattle.hl_model.specs.Replies.{fault_of, unless_fault, extended};
 ghost use Rattle.hl_cells.specs.CellWords.{cell_at};
 ghost use Rattle.hl_cells.specs.Engines.{EngineStands, IsEngine, Shows};
 ghost use Rattle.hl_cells.specs.EngineSteps.{Moves};
+ghost use Rattle.hl_cells.specs.Jobs.{JobsStay};
 
 use crate::engine::Engine;
 use crate::row::{part, zero};
@@ -36,6 +37,7 @@ impl<E: Epochs + Drop, F: Task, P: Promise> Engine<E, F, P> {
             → result ≡ unless_fault (fault_of self.old.core.sizes A (WRITE t a v)) tt }
         ensures standing { (A : List STEP) → EngineStands self.old A
             → EngineStands self.new (extended self.old.core.sizes A (WRITE t a v)) }
+        ensures jobs { JobsStay self.old self.new }
         ensures sizes { self.new.core.sizes ≡ self.old.core.sizes }
         ensures refused { OnErr result (self.new ≡ self.old) }
         ensures stood { IsEngine self.old }
@@ -58,6 +60,7 @@ impl<E: Epochs + Drop, F: Task, P: Promise> Engine<E, F, P> {
     /// Reads the word at address a as a step.
     pub(crate) fn read_step(&mut self, t: u64, a: u64) -> Result<Reply, Fault>
         ensures moved { Moves P.keeps self.old (READ t a) self.new result }
+        ensures jobs { JobsStay self.old self.new }
         ensures refused { OnErr result (self.new ≡ self.old) }
         ensures stood { IsEngine self.old }
     {
@@ -69,6 +72,7 @@ impl<E: Epochs + Drop, F: Task, P: Promise> Engine<E, F, P> {
     /// A page's cleaning ends: its words become 0, and its frame is free.
     pub(crate) fn clean_done(&mut self, page: u64) -> Result<Reply, Fault>
         ensures moved { Moves P.keeps self.old (CLEAN_DONE page) self.new result }
+        ensures jobs { JobsStay self.old self.new }
         ensures refused { OnErr result (self.new ≡ self.old) }
         ensures stood { IsEngine self.old }
     {

@@ -7,7 +7,7 @@ use Rattle.hl_epoch.specs.Table.{epoch_at, safe_of, opened, entered, left, bumpe
 use Rattle.hl_epoch.proofs.Least.{protected, least_or-at, least_or-most, least_or-greatest, get_or-set_none, get_or-set_some, least_or-set_none, least_or-set_some, least_or-rise}
 
 -- in a table the least epoch is 1 or more
-pub least_positive : (T : Table) → IsTable T → 1 ≤ least_or T.current (protected T.epochs)
+least_positive : (T : Table) → IsTable T → 1 ≤ least_or T.current (protected T.epochs)
 least_positive T is =
     least_or-greatest 1 T.current T.epochs is.current_least (λ t epoch e. omega (arith, is.above_safe t epoch e))
 
@@ -101,7 +101,7 @@ get_or-nobody (suc slots) zero = refl
 get_or-nobody (suc slots) (suc t) = get_or-nobody slots t
 
 -- where nobody is protected the safe epoch is the current one less 1
-pub safe_of-opened : (slots drain current : ℕ) → safe_of (opened slots drain current) ≡ current - 1
+safe_of-opened : (slots drain current : ℕ) → safe_of (opened slots drain current) ≡ current - 1
 unfolding safe_among least_or
 safe_of-opened slots drain current = ap (λ epochs. least_or current epochs - 1) (protected-nobody slots)
 

@@ -31,6 +31,7 @@ pub trait Epochs: Sized {
     fn acquire(&mut self, t: u64) -> Result<(), Fault>
         ensures answer { result ≡ answered (acquire_fault t (table self.old)) tt }
         ensures effect { let old = table self.old in table self.new ≡ after (acquire_fault t old) old (entered t old) }
+        ensures rising { safe_of (table self.old) ≤ safe_of (table self.new) }
         ensures valid { IsTable (table self.new) };
 
     /// Moves the protected slot t on to the current epoch.
@@ -39,6 +40,7 @@ pub trait Epochs: Sized {
     fn refresh(&mut self, t: u64) -> Result<(), Fault>
         ensures answer { result ≡ answered (protected_fault t (table self.old)) tt }
         ensures effect { let old = table self.old in table self.new ≡ after (protected_fault t old) old (entered t old) }
+        ensures rising { safe_of (table self.old) ≤ safe_of (table self.new) }
         ensures valid { IsTable (table self.new) };
 
     /// Ends the protection of slot t.
@@ -47,6 +49,7 @@ pub trait Epochs: Sized {
     fn release(&mut self, t: u64) -> Result<(), Fault>
         ensures answer { result ≡ answered (protected_fault t (table self.old)) tt }
         ensures effect { let old = table self.old in table self.new ≡ after (protected_fault t old) old (left t old) }
+        ensures rising { safe_of (table self.old) ≤ safe_of (table self.new) }
         ensures valid { IsTable (table self.new) };
 
     /// Raises the current epoch by one, and gives the epoch that ended: the ticket of the caller's action.
@@ -57,6 +60,7 @@ pub trait Epochs: Sized {
         requires { let old = table self.old in old.current - 1 - safe_of old < old.drain }
         ensures answer { let old = table self.old in result ≡ answered (bump_fault old) old.current }
         ensures effect { let old = table self.old in table self.new ≡ after (bump_fault old) old (bumped old) }
+        ensures rising { safe_of (table self.old) ≤ safe_of (table self.new) }
         ensures valid { IsTable (table self.new) };
 
     /// The current epoch: 1 to 2^62.

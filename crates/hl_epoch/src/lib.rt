@@ -36,7 +36,8 @@
 //!
 //! [`Epochs`] is the table as callers use it. Its clauses see a plain record: the current epoch, each slot's
 //! epoch, and D. Each answer and each change is an equation on that record, and beside it each call tells what
-//! is true of every table (`IsTable`). [`ScanTable`] is a row of slots, scanned for the least epoch.
+//! is true of every table (`IsTable`), and each change that the safe epoch did not fall. [`ScanTable`] is a row
+//! of slots, scanned for the least epoch.
 //!
 //! # Where this differs from FASTER's LightEpoch
 //!

@@ -1,8 +1,8 @@
 -- What the definitions say of a page's flush take and its end.
-use Rattle.std.proofs.Common.{◌≡◌, ℕ, ◌<◌, Bool, true, false, cond, ◌||◌, List, [], ◌∷◌, ◌++◌, refl, sym, ap, ap₂, ◌∙◌, subst, arith, append_assoc}
+use Rattle.std.proofs.Common.{◌≡◌, ℕ, ◌<◌, Bool, true, false, ◌||◌, List, [], ◌∷◌, ◌++◌, refl, sym, ap, ap₂, ◌∙◌, subst, arith, append_assoc}
 use Rattle.std.specs.Prelude.{◌==◌, ◌&&◌, not, Option, Some, None, unwrap_or, Ok}
 use Rattle.std.proofs.lemmas.Bool.{eq-eqb, ne_eqb}
-use Rattle.hl_model.specs.declared.fault.Fault.TheVariants.{NoneSealed, NotInFlight}
+use Rattle.hl_model.specs.declared.fault.Fault.TheVariants.{NoneSealed}
 use Rattle.hl_model.specs.declared.step.Reply.TheVariants.{Page}
 use Rattle.hl_model.specs.declared.step.Step.{Step}
 use Rattle.hl_model.specs.declared.step.Step.TheVariants.{FlushTake, FlushDone}
@@ -40,10 +40,6 @@ take-in_flight sizes A page h = is_in_flight-take sizes A page page h ∙ ap (λ
 -- a take changes no word
 pub take-words : (sizes : Sizes) (A : List Step) (page : ℕ) → page_words sizes page (A ++ FlushTake ∷ []) ≡ page_words sizes page A
 take-words sizes A page = page_words-stay sizes page A FlushTake (λ a. refl)
-
--- the end of a flush meets no fault where its page is in flight
-pub end-lawful : (sizes : Sizes) (A : List Step) (page : ℕ) (ok : Bool) → is_in_flight sizes page A ≡ true → fault_of sizes A (FlushDone page ok) ≡ None
-end-lawful sizes A page ok h = ap (λ b. cond b None (Some NotInFlight)) h
 
 -- a failed flush flushes no page
 failed_flushes : (page p : ℕ) → flushes p (FlushDone page false) ≡ false

@@ -4,6 +4,7 @@ ghost use Rattle.hl_model.specs.declared.step.Step.TheVariants.{FlushDone as FLU
 ghost use Rattle.hl_model.specs.Pages.{is_in_flight};
 ghost use Rattle.hl_image.specs.Failures.{one_more};
 ghost use Rattle.hl_cells.specs.Engines.{EngineStands, Shows};
+ghost use Rattle.hl_cells.specs.Jobs.{JobsStay};
 ghost use Rattle.hl_flush.specs.Flush.{Flushes};
 ghost use Rattle.hl_flush.specs.Taking.{Takes, IsInFlight};
 
@@ -17,7 +18,7 @@ use hl_model::{Fault, Reply, Step};
 /// which has 8 + 8P bytes, hands that to the writer, and ends the flush. The answer is the page.
 ///
 /// From an engine that stands at a list, whatever the list: the image is that of the words which the definitions give
-/// for the page. The engine then stands at the list with the take and the done.
+/// for the page. The engine then stands at the list with the take and the done. Each job stays under its ticket.
 ///
 /// Faults: `NoneSealed` where no page waits; nothing was changed. `Device` where the write failed: the writer counted
 /// it, and the page is in flight no longer, so that the next flush takes it again.
@@ -39,6 +40,7 @@ where
         → (engine.new ≡ engine.old) × (writer.new ≡ writer.old) × (image.new ≡ image.old) }
     ensures one_counted { result ≡ Err Fault.Device → W.failures writer.new ≡ one_more (W.failures writer.old) }
     ensures none_counted { OnOk result (W.failures writer.new ≡ W.failures writer.old) }
+    ensures jobs { JobsStay engine.old engine.new }
     ensures sizes { engine.new.core.sizes ≡ engine.old.core.sizes }
 {
     let page = take(engine)?;
@@ -62,6 +64,7 @@ where
     ensures shown { IfOk result (Shows engine.new) }
     ensures fault { IfErr result (λ fault. fault ≡ Fault.NoneSealed) }
     ensures unchanged { OnErr result (engine.new ≡ engine.old) }
+    ensures jobs { JobsStay engine.old engine.new }
     ensures sizes { engine.new.core.sizes ≡ engine.old.core.sizes }
 {
     match engine.step(&Step::FlushTake)? {
@@ -81,6 +84,7 @@ where
     ensures standing { (A : List STEP) → EngineStands engine.old A
         → is_in_flight engine.old.core.sizes page A ≡ true
         → EngineStands engine.new (A ++ FLUSH_DONE page ok ∷ []) }
+    ensures jobs { JobsStay engine.old engine.new }
     ensures sizes { engine.new.core.sizes ≡ engine.old.core.sizes }
 {
     match engine.step(&Step::FlushDone { page, ok }) {

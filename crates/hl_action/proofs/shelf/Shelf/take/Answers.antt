@@ -1,10 +1,15 @@
-use Rattle.std.proofs.Common.{sym}
+use Rattle.std.proofs.Common.{◌≡◌, ◌∙◌, ℕ, ◌<◌, List, length, get_or, sym}
 use Rattle.std.proofs.lemmas.Bool.{ltb-true}
-use Rattle.hl_action.proofs.ShelfLaws.{own_tag, AreAtTheirTags-free}
+use Rattle.std.proofs.lemmas.List.{get_or_default}
+use Rattle.std.specs.Prelude.{Option, Some, None, IfSome}
+use Rattle.hl_action.specs.Jobs.{KeptRecord}
+use Rattle.hl_action.specs.Shelves.{AreAtTheirTags}
 use Rattle.hl_action.proofs.shelf.Shelf.take.Goals as goal
 
-pub invariant_of-self-2 : goal.invariant_of-self-2
-invariant_of-self-2 g c = AreAtTheirTags-free _ _ c.take.new.self c.take.ensures.after c.self.invariant
+-- what is found at a tag's place has that tag
+own_tag : {F : Type 0} (places : List (Option (KeptRecord F))) (tag : ℕ) (found : Option (KeptRecord F)) → AreAtTheirTags places → tag < length places → found ≡ get_or places tag found → IfSome found (λ (kept : KeptRecord F). kept.tag ≡ tag)
+own_tag places tag None all here is = tt
+own_tag places tag (Some kept) all here is = all tag kept (get_or_default places tag None (Some kept) here ∙ sym is)
 
 pub returns-clause-own_tag : goal.returns-clause-own_tag
 returns-clause-own_tag g c =

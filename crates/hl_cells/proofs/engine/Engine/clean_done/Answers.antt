@@ -1,10 +1,11 @@
-use Rattle.std.proofs.Common.{sym, ◌∙◌}
+use Rattle.std.proofs.Common.{refl, sym, ◌∙◌}
 use Rattle.std.specs.Prelude.{Ok}
 use Rattle.hl_model.specs.declared.step.Step.TheVariants.{CleanDone as CLEAN_DONE}
 use Rattle.std.specs.Vec.{with_items}
 use Rattle.std.proofs.lemmas.List.{with_items_is}
 use Rattle.std.proofs.lemmas.Result.{err_from_is_err_and}
 use Rattle.hl_cells.proofs.EngineMoves.{moved_err, moved_zeroed, page_fits, stands_after}
+use Rattle.hl_cells.proofs.JobLaws.{rows_stay}
 use Rattle.hl_cells.proofs.engine.Engine.clean_done.Goals as goal
 
 pub returns-in_err-reply-clause-moved : goal.returns-in_err-reply-clause-moved
@@ -24,3 +25,6 @@ pub returns-clause-moved : goal.returns-clause-moved
 returns-clause-moved g c =
     rw (sym c.self.view_is)
     (λ A st. moved_zeroed g.P.Promise.keeps (record { core = c.self.inside.core; words = c.self.inside.words.items; held = c.self.inside.held }) A c.args.page c.first_cell-start.result c.page_len-len.result c.act.new.self c.deref_mut.result.now (with_items c.self.inside.words c.zero.new.words).items c.in_ok-reply.reply st (c.in_ok-reply.ensures.made A st.core_stands) (rw (sym c.self.view_is) at c.first_cell-start.ensures) (rw (sym c.self.view_is) at c.page_len-len.ensures) c.deref_mut.ensures.value (with_items_is c.self.inside.words c.zero.new.words (c.zero.ensures.len ∙ c.deref_mut.ensures.len) ∙ c.zero.ensures.value))
+
+pub returns-clause-jobs : goal.returns-clause-jobs
+returns-clause-jobs g c = rw (sym c.self.view_is) (rows_stay (record { core = c.self.inside.core; words = c.self.inside.words.items; held = c.self.inside.held }) _ refl c.in_ok-reply.ensures.jobs)

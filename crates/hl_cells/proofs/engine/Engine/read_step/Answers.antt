@@ -1,7 +1,8 @@
-use Rattle.std.proofs.Common.{sym, arith}
+use Rattle.std.proofs.Common.{refl, sym, arith}
 use Rattle.hl_model.specs.declared.step.Step.TheVariants.{Read as READ}
 use Rattle.std.proofs.lemmas.Result.{err_from_is_err_and}
 use Rattle.hl_cells.proofs.EngineMoves.{moved_err, moved_found, read_stands, words_length}
+use Rattle.hl_cells.proofs.JobLaws.{rows_stay}
 use Rattle.hl_cells.proofs.engine.Engine.read_step.Goals as goal
 
 pub returns-in_err-act-clause-moved : goal.returns-in_err-act-clause-moved
@@ -19,3 +20,6 @@ pub returns-clause-moved : goal.returns-clause-moved
 returns-clause-moved g c =
     rw (sym c.self.view_is)
     (λ A st. moved_found g.P.Promise.keeps (record { core = c.self.inside.core; words = c.self.inside.words.items; held = c.self.inside.held }) A c.args.t c.args.a c.index.result.now c.cell_of-cell.result c.index.result.now c.act.new.self c.in_ok-act.field-0 st (c.in_ok-act.ensures.made A st.core_stands) (rw (sym c.self.view_is) at c.cell_of-cell.ensures.value) (rw (sym c.self.view_is) at c.cell_of-cell.ensures.in_range) c.index.ensures)
+
+pub returns-clause-jobs : goal.returns-clause-jobs
+returns-clause-jobs g c = rw (sym c.self.view_is) (rows_stay (record { core = c.self.inside.core; words = c.self.inside.words.items; held = c.self.inside.held }) _ refl c.in_ok-act.ensures.jobs)

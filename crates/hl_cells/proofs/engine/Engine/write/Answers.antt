@@ -1,8 +1,9 @@
-use Rattle.std.proofs.Common.{sym, arith}
+use Rattle.std.proofs.Common.{refl, sym, arith}
 use Rattle.std.specs.Prelude.{Ok}
 use Rattle.hl_model.specs.declared.step.Step.TheVariants.{Write as WRITE}
 use Rattle.std.proofs.lemmas.Result.{err_from_is_err_and}
 use Rattle.hl_cells.proofs.EngineMoves.{moved_err, moved_write, write_refused, words_length, stands_after}
+use Rattle.hl_cells.proofs.JobLaws.{rows_stay}
 use Rattle.hl_cells.proofs.engine.Engine.write.Goals as goal
 
 pub returns-in_err-act-clause-result : goal.returns-in_err-act-clause-result
@@ -26,3 +27,6 @@ pub returns-clause-standing : goal.returns-clause-standing
 returns-clause-standing g c =
     rw (sym c.self.view_is)
     (λ A st. (moved_write g.P.Promise.keeps (record { core = c.self.inside.core; words = c.self.inside.words.items; held = c.self.inside.held }) A c.args.t c.args.a c.args.v c.cell_of-cell.result c.act.new.self c.in_ok-act.field-0 st (c.in_ok-act.ensures.made A st.core_stands) (rw (sym c.self.view_is) at c.cell_of-cell.ensures.value)).standing)
+
+pub returns-clause-jobs : goal.returns-clause-jobs
+returns-clause-jobs g c = rw (sym c.self.view_is) (rows_stay (record { core = c.self.inside.core; words = c.self.inside.words.items; held = c.self.inside.held }) _ refl c.in_ok-act.ensures.jobs)

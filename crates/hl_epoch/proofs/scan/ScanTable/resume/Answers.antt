@@ -8,6 +8,4 @@ invariant_of-result c =
     rw (c.in-Ok.ensures.items_if_clones_equal (λ y e. search rules)) (IsTable-opened _ _ _ r.slots_least r.slots_most r.drain_least r.drain_most r.current_least r.current_most)
 
 pub returns-in-Ok-clause-valid : goal.returns-in-Ok-clause-valid
-returns-in-Ok-clause-valid c =
-    let r = c.requires in
-    rw (c.in-Ok.ensures.items_if_clones_equal (λ y e. search rules)) (IsTable-opened _ _ _ r.slots_least r.slots_most r.drain_least r.drain_most r.current_least r.current_most)
+returns-in-Ok-clause-valid c = invariant_of-result c

@@ -1,9 +1,12 @@
 use Rattle.std.proofs.Common.{rules}
-use Rattle.hl_epoch.proofs.Tables.{IsTable-bumped}
+use Rattle.hl_epoch.proofs.Tables.{IsTable-bumped, safe_of-bumped}
 use Rattle.hl_epoch.proofs.scan.ScanTableEpochs.bump.Goals as goal
 
 pub invariant_of-self : goal.invariant_of-self
 invariant_of-self c = IsTable-bumped _ c.self.invariant (search rules) (search rules)
 
 pub returns-clause-valid : goal.returns-clause-valid
-returns-clause-valid c = IsTable-bumped _ c.self.invariant (search rules) (search rules)
+returns-clause-valid c = invariant_of-self c
+
+pub returns-clause-rising : goal.returns-clause-rising
+returns-clause-rising c = rw (← c.self.view_is) (safe_of-bumped _ c.self.invariant)
