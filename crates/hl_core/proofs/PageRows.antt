@@ -12,7 +12,7 @@ use Rattle.hl_model.proofs.RowLaws.{row_at}
 use Rattle.hl_model.proofs.FrameLaws.{IsLastOf, last_entered-is, last_entered-none, last_entered-cases, entered_below, unentered_above}
 use Rattle.hl_frames.specs.declared.held.Held.{Held}
 use Rattle.hl_frames.specs.Pages.{held_for, left_or_marked, is_marked}
-use Rattle.hl_frames.proofs.Searches.{mod-apart}
+use Rattle.hl_frames.proofs.PageLaws.{mod-apart}
 use Rattle.hl_core.specs.Standing.{marked, held_of, pages_of}
 
 -- there is a place for each frame

@@ -3,7 +3,7 @@ use Rattle.std.proofs.Common.{◌≡◌, ℕ, zero, suc, ◌+◌, ◌-◌, ◌*�
 use Rattle.std.specs.Option.{option_map}
 use Rattle.std.proofs.lemmas.Bool.{cases_eq, cases_lt, lt-ltb, le-ltb, eq-eqb}
 use Rattle.std.proofs.lemmas.List.{length-replicate}
-use Rattle.std.proofs.Math.Nat.{mod-lt, mod-le, add-mod_right, le-div_iff_mul-le, div-le_of_le-mul, mul-le-mul_right, mul_comm}
+use Rattle.std.proofs.Math.Nat.{div-add-mod, mul-le-mul_left, mod-lt, mod-le, add-mod_right, le-div_iff_mul-le, div-le_of_le-mul, mul-le-mul_right, mul_comm}
 use Rattle.hl_frames.specs.declared.held.Held.{Held}
 use Rattle.std.specs.List.{range_with_len}
 use Rattle.std.proofs.lemmas.List.FromFn.{length-range_with_len, get_or-range_with_len}
@@ -12,7 +12,7 @@ use Rattle.std.proofs.lemmas.Bool.Decides.{eqb_tells}
 use Rattle.hl_frames.specs.Pages.{Pages, held_for, left_or_marked, is_marked, is_flushed, is_in_flight, is_freed, is_cleaning, pages_below, is_unflushed, is_uncleaned, next_to_flush, next_to_clean, flushed_run, flushed_offset}
 use Rattle.hl_frames.specs.Answers.{opened, unmarked, changed, entered, flush_begun, flush_ended, clean_begun, clean_ended}
 use Rattle.hl_frames.specs.IsFrames.{AreMarks, page_in, HasLeft, IsFrames}
-use Rattle.hl_frames.proofs.Searches.{mod-apart, find-found}
+use Rattle.hl_model.proofs.ListLaws.{find-range}
 
 -- a page that left its frame has each mark that counts then
 left-marked : (mark : Held → Bool) (q : ℕ) (o : Option Held) → HasLeft q o → left_or_marked mark q o ≡ true
@@ -127,14 +127,14 @@ unfreed-lies T q is below unfreed =
 -- the page to flush is sealed, and isn't flushed
 pub next_to_flush-found : (T : Pages) (sro q : ℕ) → next_to_flush sro T ≡ Some q → (is_flushed q T ≡ false) × (q < pages_below sro T)
 next_to_flush-found T sro q found =
-    let at = find-found (is_unflushed T) 0 (pages_below sro T) q found in
-    ((neither (is_flushed q T) (is_in_flight q T) at.0).0, omega (arith, at.1.1))
+    let at = find-range (is_unflushed T) 0 (pages_below sro T) q found in
+    ((neither (is_flushed q T) (is_in_flight q T) at.0).0, omega (arith, at.2))
 
 -- the page to clean is closed, and isn't freed
 pub next_to_clean-found : (T : Pages) (closed q : ℕ) → next_to_clean closed T ≡ Some q → (is_freed q T ≡ false) × (q < pages_below closed T)
 next_to_clean-found T closed q found =
-    let at = find-found (is_uncleaned T) 0 (pages_below closed T) q found in
-    ((neither (is_freed q T) (is_cleaning q T) at.0).0, omega (arith, at.1.1))
+    let at = find-range (is_uncleaned T) 0 (pages_below closed T) q found in
+    ((neither (is_freed q T) (is_cleaning q T) at.0).0, omega (arith, at.2))
 
 -- the page that a frame holds lacks a mark that doesn't count
 unmarked-at : (mark : Held → Bool) (q : ℕ) (held : Held) → held.page ≡ q → left_or_marked mark q (Some held) ≡ false → mark held ≡ false
@@ -222,6 +222,21 @@ closed-flushed T closed q is most below =
     let run = run_within T in
     let entered : q < T.entered = omega arith in
     (rw (get_or-range_with_len, zero-add) at (prefix_len_passes (λ q. is_flushed q T) (range_with_len 0 T.entered) q 0 (omega arith)), entered)
+
+-- two numbers less than n apart have different remainders
+pub mod-apart : (n a b : ℕ) → a < b → b < a + n → a % n ≡ b % n → ⊥
+mod-apart n a b below near same =
+    let first : n * (a / n) + a % n ≡ a = div-add-mod a n in
+    let second : n * (b / n) + b % n ≡ b = div-add-mod b n in
+    elim (cases_lt (a / n) (b / n)) [
+      | inl less ↦
+          let step : a / n + 1 ≤ b / n = omega arith in
+          let more : n * (a / n + 1) ≤ n * (b / n) = mul-le-mul_left n step in
+          omega arith
+      | inr most ↦
+          let more : n * (b / n) ≤ n * (a / n) = mul-le-mul_left n most in
+          omega arith
+    ]
 
 -- where the next page is entered, all frames stay frames
 pub IsFrames-entered : (T : Pages) (q : ℕ) → IsFrames T → q ≡ T.entered → q < 2 ^ 48 / T.page → IsFrames (entered q T)

@@ -1,5 +1,5 @@
 -- What rows tell of frames.
-use Rattle.std.proofs.Common.{◌≡◌, ℕ, ◌+◌, ◌%◌, ◌<◌, ◌≤◌, Bool, true, false, Option, None, Some, List, length, replicate, map, set, get_or, length-set, get_or-set_same, get_or-set_other, refl, sym, ap, ◌∙◌, arith, inl, inr}
+use Rattle.std.proofs.Common.{◌≡◌, ℕ, ◌+◌, ◌/◌, ◌%◌, find, ◌<◌, ◌≤◌, Bool, true, false, Option, None, Some, List, length, replicate, map, set, get_or, length-set, get_or-set_same, get_or-set_other, refl, sym, ap, ◌∙◌, arith, inl, inr}
 use Rattle.std.proofs.lemmas.Bool.{cases_eq, eq-eqb}
 use Rattle.std.proofs.lemmas.Bool.Decides.{eqb_tells}
 use Rattle.std.specs.Option.{option_map}
@@ -9,9 +9,10 @@ use Rattle.std.specs.List.{range_with_len}
 use Rattle.std.proofs.lemmas.List.FromFn.{length-map-range_with_len, get_or-map-range_with_len}
 use Rattle.hl_frames.specs.declared.held.Held.{Held}
 use Rattle.hl_frames.specs.declared.frames.Frames.TheInside.{Inside}
-use Rattle.hl_frames.specs.Pages.{Pages, held_for, is_marked, is_in_flight, is_cleaning}
+use Rattle.hl_frames.specs.Pages.{Pages, held_for, is_marked, is_in_flight, is_cleaning, pages_below}
 use Rattle.hl_frames.specs.Answers.{unmarked, opened, entered, flush_begun, flush_ended, clean_begun, clean_ended}
 use Rattle.hl_frames.proofs.PageLaws.{get_or-replicate_none}
+use Rattle.hl_model.proofs.SearchLaws.{find-first, find-missing}
 use Rattle.hl_frames.specs.IsFrames.{page_in}
 use Rattle.hl_frames.specs.Rows.{held_in, held_by, pages_by, pages_of, IsKept}
 
@@ -34,6 +35,18 @@ entered_of a T same = ap (λ (pages : Pages). pages.entered) same
 -- the rows tell the words of a page
 pub words_of : (a : Inside) (T : Pages) → pages_of a ≡ T → a.words ≡ T.page
 words_of a T same = ap (λ (pages : Pages). pages.page) same
+
+-- the least page below an offset that waits is found
+pub least-found : (a : Inside) (T : Pages) (waits : ℕ → Bool) (offset page : ℕ) → pages_of a ≡ T → ((q : ℕ) → q < page → waits q ≡ false) → page < offset / a.words → waits page ≡ true → find waits (range_with_len 0 (pages_below offset T)) ≡ Some page
+least-found a T waits offset page same before below passes =
+    let within : page < pages_below offset T = rw (← words_of a T same) below in
+    find-first waits 0 (pages_below offset T) page (λ q from less. before q less) (omega arith) (omega arith) passes
+
+-- and none is found where none of them waits
+pub none-found : (a : Inside) (T : Pages) (waits : ℕ → Bool) (offset page : ℕ) → pages_of a ≡ T → ((q : ℕ) → q < page → waits q ≡ false) → offset / a.words ≤ page → find waits (range_with_len 0 (pages_below offset T)) ≡ None
+none-found a T waits offset page same before past =
+    let all : pages_below offset T ≤ page = rw (← words_of a T same) past in
+    find-missing waits 0 (pages_below offset T) (λ q from less. before q (omega arith))
 
 -- what a frame holds is what the rows tell
 pub held_of : (a : Inside) (T : Pages) (f : ℕ) → pages_of a ≡ T → f < length T.frames → get_or T.frames f None ≡ held_at a f
@@ -186,5 +199,5 @@ rows-opened words n =
     (length-map-range_with_len (held_by row row row row row) 0 n ∙ sym (length-replicate n None))
     (λ i below.
     let inside : i < n = omega (arith, length-map-range_with_len (held_by row row row row row) 0 n) in
-    rw (get_or-map-range_with_len (held_by row row row row row) 0 n i i None inside (omega arith), get_or-replicate_none n i) (sym (get_or-replicate_none n i))) in
+    rw (get_or-map-range_with_len (held_by row row row row row) 0 n i i None inside (omega arith), get_or-replicate_none {X = ℕ} n i) (sym (get_or-replicate_none {X = Held} n i))) in
     rw (count, frames) refl

@@ -1,7 +1,7 @@
 -- Text that is written in parts.
-use Rattle.std.proofs.Common.{◌≡◌, ℕ, ◌-◌, ◌<◌, Option, List, [], ◌∷◌, ◌++◌, length, take, drop, take-append-drop, append_assoc, append-nil, arith, sym, ap, ◌∙◌, refl, subst, length-append}
-use Rattle.std.specs.Io.KnownBytes.{Appends, Keeps}
-use Rattle.std.proofs.KnownBytes.{Appends-nil, Appends-trans, Appends-kept}
+use Rattle.std.proofs.Common.{◌≡◌, ℕ, ◌-◌, Option, List, [], ◌∷◌, ◌++◌, length, take, drop, take-append-drop, append_assoc, arith, sym, ap, ◌∙◌, refl, length-append}
+use Rattle.std.specs.Io.KnownBytes.{Appends}
+use Rattle.std.proofs.KnownBytes.{Appends-nil, Appends-trans}
 use Rattle.std.proofs.lemmas.List.{take_all, length-drop}
 use Rattle.std.proofs.lemmas.Grind.{flat_map-append}
 use Rattle.hl_image.specs.Lines.{digits, hex, BreaksOff}
@@ -30,15 +30,6 @@ pub Grows-taken : (old mid new : Option (List ℕ)) (text rest : List ℕ) (n : 
 Grows-taken old mid new text rest n g p =
     let others : take (length rest - n) (drop n rest) ≡ drop n rest = take_all (length rest - n) (drop n rest) (omega (arith, length-drop n rest)) in
     rw others (Grows-part old mid new text rest (take n rest) (drop n rest) g p (take-append-drop n rest))
-
--- all is written where nothing is to come
-pub Appends-all : (old new : Option (List ℕ)) (text : List ℕ) → Grows old new text [] → Appends old new text
-Appends-all old new text g = subst (λ xs. Appends old new xs) (sym (append-nil g.written) ∙ g.both) g.grown
-
--- a text breaks off where a write fails and something is to come
-pub BreaksOff-kept : (old mid new : Option (List ℕ)) (text rest : List ℕ) → Grows old mid text rest → 0 < length rest → Keeps mid new → BreaksOff old new text
-BreaksOff-kept old mid new text rest g more kept =
-    record { written = g.written; missing = rest; is_missing = more; both = g.both; grown = Appends-kept old mid new g.written g.grown kept }
 
 -- a text breaks off where one of its parts does
 pub BreaksOff-part : (old mid new : Option (List ℕ)) (text rest part later : List ℕ) → Grows old mid text rest → part ++ later ≡ rest → BreaksOff mid new part → BreaksOff old new text

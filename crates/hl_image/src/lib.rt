@@ -26,7 +26,10 @@
 //!
 //! [`HexWriter`] writes each page as a line of text to any `std::io::Write`. A contract sees the writer below and
 //! the failures (`Counted`). Where that writer tells its bytes, an accepted write appends the whole line, and a
-//! failed one a beginning of it.
+//! failed one a beginning of it that isn't the whole.
+//!
+//! Why the writer below refused is nothing that a contract of `std::io::Write` tells. So it is only tested that a
+//! `HexWriter` fails no write which that writer would take, also after a failure, and that nothing is tried again.
 #![tactic(auto)]
 
 mod hex;

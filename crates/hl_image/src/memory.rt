@@ -74,7 +74,6 @@ impl MemoryWriter {
 
     // Whether a write of so many bytes fails: it is the one that is to fail, there is no such page, or an image
     // hasn't that many.
-    #[tactic(auto, using(crate::proofs::PageLaws::due))]
     fn refuses(&self, page: u64, len: usize) -> bool
         ensures { result ≡ is_refused self.now page len }
     {

@@ -127,11 +127,25 @@ fn a_write_that_fails_in_mid_line(rt: HostRuntime) -> Result<(), Fail> {
         fails_at: 3,
     });
     assert_eq!(rt; writer.write_page(0, &IMAGE), Err(Fault::Device));
+    assert_eq!(rt; writer.write_page(0, &IMAGE), Ok(()));
     assert_eq!(rt; writer.failures(), 1);
     let below = writer.into_inner();
-    // The word and the space, seven digits, and no further call.
-    assert_eq!(rt; below.taken.as_slice(), &LINE.as_bytes()[..13]);
-    assert_eq!(rt; below.calls, 3);
+    // The word and the space, seven digits, and no further call; then the whole line in 15 calls.
+    assert!(rt; below.taken.starts_with(&LINE.as_bytes()[..13]));
+    assert!(rt; below.taken.ends_with(LINE.as_bytes()));
+    assert!(rt; below.taken.len() == 13 + LINE.len() && below.calls == 18);
+    Ok(())
+}
+
+/// An image of 4,096 words.
+#[test]
+fn the_longest_line(rt: HostRuntime) -> Result<(), Fail> {
+    let image = vec![in rt.alloc(); 0xa5; 8 + 8 * 4096]?;
+    let mut writer = HexWriter::new(Vec::new(rt.alloc()));
+    assert_eq!(rt; writer.write_page(0, &image), Ok(()));
+    let line = writer.into_inner();
+    assert_eq!(rt; line.len(), 7 + 2 * image.len());
+    assert!(rt; line.ends_with(b"a5a5\n"));
     Ok(())
 }
 

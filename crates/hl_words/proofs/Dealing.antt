@@ -1,5 +1,5 @@
 -- The master's seat deals out riders one after another.
-use Rattle.std.proofs.Common.{◌≡◌, ℕ, zero, suc, ◌+◌, ◌-◌, ◌<◌, List, [], ◌∷◌, ◌++◌, replicate, take, drop, refl, sym, ap, ◌∙◌, arith}
+use Rattle.std.proofs.Common.{◌≡◌, ℕ, zero, suc, ◌+◌, ◌-◌, ◌<◌, List, [], ◌∷◌, ◌++◌, replicate, take, drop, refl, ap, ◌∙◌, arith}
 use Rattle.std.proofs.lemmas.List.{replicate_more}
 use Rattle.atomic_table.specs.Table.{Me}
 use Rattle.hl_words.specs.declared.view.SeatView.{SeatView}
@@ -24,10 +24,6 @@ module _ (n k : ℕ) (less : k < n) (me : Me (Unit {0}) SeatView) (is : me ≡ (
   -- the seat that is dealt out
   pub given_seat : (given : Me (Unit {0}) SeatView) → given ≡ (right_seat me.0, []) → given ≡ (rider_seat unused, [])
   given_seat given e = e ∙ ap (λ (m : Me (Unit {0}) SeatView). (right_seat m.0, [])) is ∙ ap (λ l. (seat_of no_offsets l, [])) (first_one (n - k) (n - (k + 1)) (omega arith))
-
-  -- is that of a new rider
-  pub given_rider : (given : Me (Unit {0}) SeatView) → given ≡ (right_seat me.0, []) → given ≡ (rider_seat (first_rider given.0), [])
-  given_rider given e = let g = given_seat given e in g ∙ sym (ap (λ (m : Me (Unit {0}) SeatView). (rider_seat (first_rider m.0), [])) g)
 
   pub more_riders : (given : Me (Unit {0}) SeatView) → given ≡ (right_seat me.0, []) → (riders after : List RiderState) → riders ≡ replicate k new_rider
       → after ≡ riders ++ record { view = first_rider given.0; share = 0 } ∷ [] → after ≡ replicate (k + 1) new_rider

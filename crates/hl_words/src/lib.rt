@@ -16,12 +16,14 @@
 //! The rule, in `specs/Rule.antt`, holds between any two steps: a cell is 0 where no rider stored into it, else it is some
 //! rider's last store there; a load is of the rider's last store before it, or of a value that another rider stores, or
 //! of 0 where the rider had seen nothing else there; an offset word is the master's last store, and no rider loaded a
-//! greater one. `close` says it of exactly the riders that are handed in.
+//! greater one. `close` says it of exactly what the riders stored and loaded that are handed in, with some values of the
+//! words.
 //!
 //! Only the types keep the following, and no contract says it: that the rule holds while threads still run (the contract
-//! of one load says just that the rider noted it); that a rider is used by one thread at a time; that values of two
-//! seeds are never mixed, which doesn't compile; that words may be shared by threads, and that a rider may go to
-//! another. Nothing is said of the order of two threads' stores into one cell, nor that a load finds the latest.
+//! of one load says just that the rider noted it), and of the values that the words really have; that a rider is used by
+//! one thread at a time; that values of two seeds are never mixed, which doesn't compile; that words may be shared by
+//! threads, and that a rider may go to another. Nothing is said of the order of two threads' stores into one cell, nor
+//! that a load finds the latest.
 //!
 //! No call waits. Memory is taken by `Seed::make` and `Words::open` alone.
 #![tactic(auto)]

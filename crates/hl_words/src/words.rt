@@ -124,8 +124,8 @@ impl<L: Realm> Words<L> {
     }
 
     /// Ends the words. Where a rider is missing, all is handed back. Else the master's total is the sum of the riders'
-    /// shares, and the rule holds of the words' last values, the master's last stores, and exactly what these riders
-    /// stored and loaded.
+    /// shares, and the rule holds of the master's last stores and of exactly what these riders stored and loaded, with
+    /// some values of the words: nobody can load those any more.
     pub fn close(
         self,
         master: Master<L>,

@@ -8,10 +8,10 @@ use Rattle.hl_frames.proofs.PageLaws.{IsFrames-clean_ended}
 use Rattle.hl_frames.proofs.frames.Frames.clean_done.Goals as goal
 
 pub index_mut-requires : goal.index_mut-requires
-index_mut-requires c = let place = place_in c.self.inside c.args.self.now c.place_of-place.result c.self.view_is c.self.invariant c.place_of-place.ensures.within in omega arith
+index_mut-requires c = let place = place_in c.self.inside _ _ c.self.view_is c.self.invariant c.place_of-place.ensures.within in omega arith
 
 pub index_mut-requires-2 : goal.index_mut-requires-2
-index_mut-requires-2 c = let place = place_in c.self.inside c.args.self.now c.place_of-place.result c.self.view_is c.self.invariant c.place_of-place.ensures.within in omega arith
+index_mut-requires-2 c = let place = place_in c.self.inside _ _ c.self.view_is c.self.invariant c.place_of-place.ensures.within in omega arith
 
 -- the page is being cleaned
 cleans : (c : goal.After-self-2-1) → is_cleaning c.args.page c.args.self.now ≡ true
@@ -19,7 +19,7 @@ cleans c = sym c.is_cleaning.ensures ∙ c.if-not-is_cleaning.false
 
 -- the pages after the done
 rows : (c : goal.After-self-2-1) → pages_by c.self.inside.words c.self.inside.entered c.self.inside.last.items c.self.inside.flushed.items c.self.inside.in_flight.items (slice_set c.self.inside.freed.items c.place_of-place.result (Some c.args.page)) (slice_set c.self.inside.cleaning.items c.place_of-place.result None) ≡ clean_ended c.args.page c.args.self.now
-rows c = rows-clean_ended c.self.inside c.args.self.now c.args.page c.place_of-place.result c.self.view_is c.self.invariant c.place_of-place.ensures.place c.place_of-place.ensures.within (cleans c)
+rows c = rows-clean_ended c.self.inside _ c.args.page _ c.self.view_is c.self.invariant c.place_of-place.ensures.place c.place_of-place.ensures.within (cleans c)
 
 -- they are pages of frames
 known : (c : goal.After-self-2-1) → IsFrames (clean_ended c.args.page c.args.self.now)

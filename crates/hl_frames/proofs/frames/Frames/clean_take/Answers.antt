@@ -8,7 +8,7 @@ use Rattle.hl_frames.proofs.PageLaws.{IsFrames-clean_begun, next_to_clean-found,
 use Rattle.hl_frames.proofs.frames.Frames.clean_take.Goals as goal
 
 pub index_mut-requires : goal.index_mut-requires
-index_mut-requires c = let place = place_in c.self.inside c.args.self.now c.place_of-place.result c.self.view_is c.self.invariant c.place_of-place.ensures.within in omega arith
+index_mut-requires c = let place = place_in c.self.inside _ _ c.self.view_is c.self.invariant c.place_of-place.ensures.within in omega arith
 
 -- the page that is taken lies in its frame
 lies : (c : goal.After-self-1) → page_in (held_for c.in-Some.page c.args.self.now) ≡ Some c.in-Some.page
@@ -19,7 +19,7 @@ lies c =
 
 -- the pages after the take
 rows : (c : goal.After-self-1) → pages_by c.self.inside.words c.self.inside.entered c.self.inside.last.items c.self.inside.flushed.items c.self.inside.in_flight.items c.self.inside.freed.items (slice_set c.self.inside.cleaning.items c.place_of-place.result (Some c.in-Some.page)) ≡ clean_begun c.in-Some.page c.args.self.now
-rows c = rows-clean_begun c.self.inside c.args.self.now c.in-Some.page c.place_of-place.result c.self.view_is c.self.invariant c.place_of-place.ensures.place c.place_of-place.ensures.within (lies c)
+rows c = rows-clean_begun c.self.inside _ c.in-Some.page _ c.self.view_is c.self.invariant c.place_of-place.ensures.place c.place_of-place.ensures.within (lies c)
 
 -- they are pages of frames
 known : (c : goal.After-self-1) → IsFrames (clean_begun c.in-Some.page c.args.self.now)

@@ -8,19 +8,19 @@ use Rattle.hl_frames.proofs.PageLaws.{IsFrames-entered}
 use Rattle.hl_frames.proofs.frames.Frames.enter.Goals as goal
 
 pub index_mut-requires : goal.index_mut-requires
-index_mut-requires c = let place = place_in c.self.inside c.args.self.now c.place_of-place.result c.self.view_is c.self.invariant c.place_of-place.ensures.within in omega arith
+index_mut-requires c = let place = place_in c.self.inside _ _ c.self.view_is c.self.invariant c.place_of-place.ensures.within in omega arith
 
 pub index_mut-requires-2 : goal.index_mut-requires-2
-index_mut-requires-2 c = let place = place_in c.self.inside c.args.self.now c.place_of-place.result c.self.view_is c.self.invariant c.place_of-place.ensures.within in omega arith
+index_mut-requires-2 c = let place = place_in c.self.inside _ _ c.self.view_is c.self.invariant c.place_of-place.ensures.within in omega arith
 
 pub index_mut-requires-3 : goal.index_mut-requires-3
-index_mut-requires-3 c = let place = place_in c.self.inside c.args.self.now c.place_of-place.result c.self.view_is c.self.invariant c.place_of-place.ensures.within in omega arith
+index_mut-requires-3 c = let place = place_in c.self.inside _ _ c.self.view_is c.self.invariant c.place_of-place.ensures.within in omega arith
 
 pub index_mut-requires-4 : goal.index_mut-requires-4
-index_mut-requires-4 c = let place = place_in c.self.inside c.args.self.now c.place_of-place.result c.self.view_is c.self.invariant c.place_of-place.ensures.within in omega arith
+index_mut-requires-4 c = let place = place_in c.self.inside _ _ c.self.view_is c.self.invariant c.place_of-place.ensures.within in omega arith
 
 pub index_mut-requires-5 : goal.index_mut-requires-5
-index_mut-requires-5 c = let place = place_in c.self.inside c.args.self.now c.place_of-place.result c.self.view_is c.self.invariant c.place_of-place.ensures.within in omega arith
+index_mut-requires-5 c = let place = place_in c.self.inside _ _ c.self.view_is c.self.invariant c.place_of-place.ensures.within in omega arith
 
 -- the page may be entered
 free : (c : goal.After-self-6-1) → may_enter c.args.page c.args.self.now ≡ true
@@ -28,7 +28,7 @@ free c = sym c.may_enter.ensures.free ∙ c.if-not-may_enter.false
 
 -- the pages after the page is entered
 rows : (c : goal.After-self-6-1) → pages_by c.self.inside.words (c.args.page + 1) (slice_set c.self.inside.last.items c.place_of-place.result (Some c.args.page)) (slice_set c.self.inside.flushed.items c.place_of-place.result None) (slice_set c.self.inside.in_flight.items c.place_of-place.result None) (slice_set c.self.inside.freed.items c.place_of-place.result None) (slice_set c.self.inside.cleaning.items c.place_of-place.result None) ≡ entered c.args.page c.args.self.now
-rows c = rows-entered c.self.inside c.args.self.now c.args.page c.place_of-place.result c.self.view_is c.self.invariant c.place_of-place.ensures.place c.place_of-place.ensures.within
+rows c = rows-entered c.self.inside _ c.args.page _ c.self.view_is c.self.invariant c.place_of-place.ensures.place c.place_of-place.ensures.within
 
 -- they are pages of frames
 known : (c : goal.After-self-6-1) → IsFrames (entered c.args.page c.args.self.now)

@@ -8,10 +8,10 @@ use Rattle.hl_frames.proofs.PageLaws.{IsFrames-flush_ended}
 use Rattle.hl_frames.proofs.frames.Frames.flush_done.Goals as goal
 
 pub index_mut-requires : goal.index_mut-requires
-index_mut-requires c = let place = place_in c.self.inside c.args.self.now c.place_of-place.result c.self.view_is c.self.invariant c.place_of-place.ensures.within in omega arith
+index_mut-requires c = let place = place_in c.self.inside _ _ c.self.view_is c.self.invariant c.place_of-place.ensures.within in omega arith
 
 pub index_mut-requires-2 : goal.index_mut-requires-2
-index_mut-requires-2 c = let place = place_in c.self.inside c.args.self.now c.place_of-place.result c.self.view_is c.self.invariant c.place_of-place.ensures.within in omega arith
+index_mut-requires-2 c = let place = place_in c.self.inside _ _ c.self.view_is c.self.invariant c.place_of-place.ensures.within in omega arith
 
 -- the page is in flight
 flies : (c : goal.After-self-2-1) → is_in_flight c.args.page c.args.self.now ≡ true
@@ -19,7 +19,7 @@ flies c = sym c.is_in_flight.ensures ∙ c.if-not-is_in_flight.false
 
 -- the pages after the done
 rows : (c : goal.After-self-2-1) → pages_by c.self.inside.words c.self.inside.entered c.self.inside.last.items (slice_set c.self.inside.flushed.items c.place_of-place.result c.then_some.result) (slice_set c.self.inside.in_flight.items c.place_of-place.result None) c.self.inside.freed.items c.self.inside.cleaning.items ≡ flush_ended c.args.page c.args.ok c.args.self.now
-rows c = rw (c.then_some.ensures) (rows-flush_ended c.self.inside c.args.self.now c.args.page c.place_of-place.result c.args.ok c.self.view_is c.self.invariant c.place_of-place.ensures.place c.place_of-place.ensures.within (flies c))
+rows c = rw (c.then_some.ensures) (rows-flush_ended c.self.inside _ c.args.page _ c.args.ok c.self.view_is c.self.invariant c.place_of-place.ensures.place c.place_of-place.ensures.within (flies c))
 
 -- they are pages of frames
 known : (c : goal.After-self-2-1) → IsFrames (flush_ended c.args.page c.args.ok c.args.self.now)

@@ -1,17 +1,11 @@
-use Rattle.std.proofs.Common.{arith, ◌≡◌, ◌<◌, sym, ◌∙◌, true}
-use Rattle.hl_frames.specs.Pages.{is_uncleaned, pages_below}
-use Rattle.hl_frames.proofs.Searches.{find-first, find-missing}
-use Rattle.hl_frames.proofs.RowLaws.{words_of}
+use Rattle.std.proofs.Common.{sym, ◌∙◌}
+use Rattle.hl_frames.specs.Pages.{is_uncleaned}
+use Rattle.hl_frames.proofs.RowLaws.{least-found, none-found}
 use Rattle.hl_frames.proofs.frames.Frames.next_to_clean.Goals as goal
 
 pub returns-then-is_uncleaned-clause-page : goal.returns-then-is_uncleaned-clause-page
 returns-then-is_uncleaned-clause-page c =
-    let passes : is_uncleaned c.args.self.now c.loop-page.page ≡ true = sym c.is_uncleaned.ensures ∙ c.if-is_uncleaned.true in
-    let below : c.loop-page.page < pages_below c.args.closed c.args.self.now = rw (← words_of c.self.inside c.args.self.now c.self.view_is) c.loop-page-test.true in
-    sym (find-first (is_uncleaned c.args.self.now) 0 (pages_below c.args.closed c.args.self.now) c.loop-page.page (λ q from before. c.loop-page.invariant q before) (omega arith) (omega arith) passes)
+    sym (least-found c.self.inside _ (is_uncleaned c.args.self.now) c.args.closed _ c.self.view_is c.loop-page.invariant c.loop-page-test.true (sym c.is_uncleaned.ensures ∙ c.if-is_uncleaned.true))
 
 pub returns-clause-page : goal.returns-clause-page
-returns-clause-page c =
-    let words = words_of c.self.inside c.args.self.now c.self.view_is in
-    let past = rw words at c.loop-page-test.false in
-    sym (find-missing (is_uncleaned c.args.self.now) 0 (pages_below c.args.closed c.args.self.now) (λ q from before. c.loop-page.invariant q (omega arith)))
+returns-clause-page c = sym (none-found c.self.inside _ (is_uncleaned c.args.self.now) c.args.closed _ c.self.view_is c.loop-page.invariant c.loop-page-test.false)

@@ -22,5 +22,5 @@ loop-dealt-preserved g c =
       omega (arith, c.split_off-share.ensures.parts_left, i.3),
       omega (arith, c.split_off-share.ensures.amount_left, i.4),
       more_riders n k c.loop-dealt-test.true me i.2 c.split_seat-seat.result.me e.4 c.loop-dealt.riders.items c.push_reserved.new.self.items i.5 c.push_reserved.ensures.items,
-      c.push_reserved.ensures.capacity ∙ i.6,
+      rw c.push_reserved.ensures.capacity i.6,
     )
