@@ -3,7 +3,7 @@ use Rattle.std.proofs.Common.{◌≡◌, ℕ, ◌+◌, ◌%◌, ◌<◌, ◌≤�
 use Rattle.std.specs.Prelude.{◌==◌}
 use Rattle.std.specs.List.{prefix_len, range_with_len}
 use Rattle.std.proofs.Math.Nat.{mul-le-mul_left, mul-mod_right}
-use Rattle.std.proofs.lemmas.Bool.{eqb-true, and_parts, or_cases, or_from, both_ways, cases_lt, false_from_ne_true}
+use Rattle.std.proofs.lemmas.Bool.{eqb-true, and_parts, or_cases, both_ways, cases_lt, false_from_ne_true}
 use Rattle.std.proofs.lemmas.List.FromFn.{length-range_with_len, get_or-range_with_len}
 use Rattle.std.proofs.lemmas.List.Sums.{prefix_len-le-length, prefix_len_passes, prefix_len_stops}
 use Rattle.hl_model.specs.declared.step.Step.{Step}
@@ -89,13 +89,6 @@ pub flushed_run-grows : (sizes : Sizes) (A : List Step) (s : Step) → flushed_r
 flushed_run-grows sizes A s =
     flushed_run-least sizes (A ++ s ∷ []) (flushed_run sizes A)
     (λ p h. is_flushed-stays sizes p A s (flushed_run-passes sizes A p h))
-
--- a step that flushes no page leaves the run
-pub flushed_run-stay : (sizes : Sizes) (A : List Step) (s : Step) → ((p : ℕ) → flushes p s ≡ false) → flushed_run sizes (A ++ s ∷ []) ≡ flushed_run sizes A
-flushed_run-stay sizes A s quiet =
-    flushed_run-is sizes (A ++ s ∷ []) (flushed_run sizes A)
-    (λ p h. is_flushed-stays sizes p A s (flushed_run-passes sizes A p h))
-    (is_flushed-push sizes (flushed_run sizes A) A s ∙ or_from (is_flushed sizes (flushed_run sizes A) A) (flushes (flushed_run sizes A) s) (flushed_run-fails sizes A) (quiet (flushed_run sizes A)))
 
 -- nor does the flushed offset fall
 pub flushed-grows : (sizes : Sizes) (A : List Step) (s : Step) → flushed sizes A ≤ flushed sizes (A ++ s ∷ [])

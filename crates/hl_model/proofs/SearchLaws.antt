@@ -1,24 +1,8 @@
 -- Searches among numbers that count up.
-use Rattle.std.proofs.Common.{◌≡◌, ℕ, zero, suc, ◌+◌, ◌*◌, ◌/◌, ◌<◌, ◌≤◌, Bool, true, false, cond, Some, None, find, refl, arith, inl, inr, add-one}
-use Rattle.std.specs.List.{range_with_len}
-use Rattle.std.proofs.lemmas.Bool.{cases_eq, cases_lt}
+use Rattle.std.proofs.Common.{◌≡◌, ℕ, ◌+◌, ◌*◌, ◌/◌, ◌<◌, ◌≤◌, Bool, cond, Some, None, refl, arith, inl, inr, add-one}
+use Rattle.std.proofs.lemmas.Bool.{cases_lt}
 use Rattle.std.proofs.Math.Nat.{mul-le-mul_left}
 use Rattle.hl_model.specs.Lists.{greatest_below}
-
--- where no number passes, none is found
-pub find-missing : (p : ℕ → Bool) (a n : ℕ) → ((q : ℕ) → a ≤ q → q < a + n → p q ≡ false) → find p (range_with_len a n) ≡ None
-find-missing p a zero fails = refl
-find-missing p a (suc n) fails =
-    rw (fails a (omega arith) (omega arith)) (find-missing p (a + 1) n (λ q from to. fails q (omega arith) (omega arith)))
-
--- the first number that passes is found
-pub find-first : (p : ℕ → Bool) (a n i : ℕ) → ((q : ℕ) → a ≤ q → q < i → p q ≡ false) → a ≤ i → i < a + n → p i ≡ true → find p (range_with_len a n) ≡ Some i
-find-first p a zero i fails from to passes = absurd (omega arith)
-find-first p a (suc n) i fails from to passes =
-    elim (cases_eq a i) [
-      | inl same ↦ rw (same, passes) refl
-      | inr other ↦ rw (fails a (omega arith) (omega arith)) (find-first p (a + 1) n i (λ q above below. fails q (omega arith) below) (omega arith) (omega arith) passes)
-    ]
 
 -- one number more
 pub greatest_below-next : (p : ℕ → Bool) (n : ℕ) → greatest_below p (n + 1) ≡ cond (p n) (Some n) (greatest_below p n)

@@ -2,7 +2,6 @@ pub mod Actions
 pub mod Epochs
 pub mod Faults
 pub mod Frames
-pub mod Given
 pub mod Histories
 pub mod Kept
 pub mod Laws

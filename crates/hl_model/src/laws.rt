@@ -4,11 +4,13 @@
 ghost use Rattle.hl_model.specs.Laws.{TablesFollow, AcceptedMeetsNoFault, GoodByItsLastStep, CurrentIsAtMostLast, DrainListHoldsThem, TicketsCountUp, TakenAreThoseListed, TakenAreSafe, AcceptedStepsAreAccepted, BeginningsAreAccepted, EpochsAreInOrder, SafeNeverFalls, SafeIsGreatest, MarkAfterBump, EpochsFitTheDrainList, TakesCountUp, TakenAfterAllMovedOn, ViewsAreBounded, WritesAreAboveSafeReadOnly, PlacesAreOnOnePage, PlacesAreApart, OffsetsAreInOrder, OffsetsNeverFall, NoFrameIsReusedWhileReached, TakenWordsStay};
 
 /// The accepted steps of any list are an accepted list.
+#[tactic(auto, using(crate::proofs::LawProofs::accepted_steps_are_accepted))]
 pub fn accepted_steps_are_accepted()
     ensures { AcceptedStepsAreAccepted }
 {}
 
 /// Each beginning of an accepted list is accepted.
+#[tactic(auto, using(crate::proofs::LawProofs::beginnings_are_accepted))]
 pub fn beginnings_are_accepted()
     ensures { BeginningsAreAccepted }
 {}
@@ -19,6 +21,7 @@ pub fn epochs_are_in_order()
 {}
 
 /// The safe epoch never falls, whatever steps come.
+#[tactic(auto, using(crate::proofs::LawProofs::safe_never_falls))]
 pub fn safe_never_falls()
     ensures { SafeNeverFalls }
 {}
@@ -29,41 +32,49 @@ pub fn safe_is_greatest()
 {}
 
 /// A protected slot's epoch exceeds a bump's ticket exactly where its mark, its last acquire or refresh, lies after the bump.
+#[tactic(auto, using(crate::proofs::LawProofs::mark_after_bump))]
 pub fn mark_after_bump()
     ensures { MarkAfterBump }
 {}
 
 /// After an accepted list, the epochs that ended and aren't safe are at most the places of the drain list.
+#[tactic(auto, using(crate::proofs::LawProofs::epochs_fit_the_drain_list))]
 pub fn epochs_fit_the_drain_list()
     ensures { EpochsFitTheDrainList }
 {}
 
 /// The takes of an accepted list name the tickets 1, 2, 3 and so on: each action is taken at most once, in order.
+#[tactic(auto, using(crate::proofs::LawProofs::takes_count_up))]
 pub fn takes_count_up()
     ensures { TakesCountUp }
 {}
 
 /// Where an action is taken, each slot that was protected before its bump has refreshed or left between the two.
+#[tactic(auto, using(crate::proofs::LawProofs::taken_after_all_moved_on))]
 pub fn taken_after_all_moved_on()
     ensures { TakenAfterAllMovedOn }
 {}
 
 /// A step of an accepted list meets no fault after those before it.
+#[tactic(auto, using(crate::proofs::LawProofs::accepted_meets_no_fault))]
 pub fn accepted_meets_no_fault()
     ensures { AcceptedMeetsNoFault }
 {}
 
 /// A list's last step is accepted after the accepted steps before it, or not at all.
+#[tactic(auto, using(crate::proofs::LawProofs::good_by_its_last_step))]
 pub fn good_by_its_last_step()
     ensures { GoodByItsLastStep }
 {}
 
 /// The current epoch of an accepted list is at most 2^62.
+#[tactic(auto, using(crate::proofs::LawProofs::current_is_at_most_last))]
 pub fn current_is_at_most_last()
     ensures { CurrentIsAtMostLast }
 {}
 
 /// Pending and taken actions are the bumps less the dones, and at most the places of the drain list.
+#[tactic(auto, using(crate::proofs::LawProofs::drain_list_holds_them))]
 pub fn drain_list_holds_them()
     ensures { DrainListHoldsThem }
 {}
@@ -74,11 +85,13 @@ pub fn tickets_count_up()
 {}
 
 /// A ticket is taken and not done exactly where a taken action has it.
+#[tactic(auto, using(crate::proofs::LawProofs::taken_are_those_listed))]
 pub fn taken_are_those_listed()
     ensures { TakenAreThoseListed }
 {}
 
 /// Each ticket taken is at most the safe epoch.
+#[tactic(auto, using(crate::proofs::LawProofs::taken_are_safe))]
 pub fn taken_are_safe()
     ensures { TakenAreSafe }
 {}
@@ -96,16 +109,19 @@ pub fn views_are_bounded()
 {}
 
 /// No accepted write lies below the safe read-only offset.
+#[tactic(auto, using(crate::proofs::BoundLaws::writes_are_above_safe_read_only))]
 pub fn writes_are_above_safe_read_only()
     ensures { WritesAreAboveSafeReadOnly }
 {}
 
 /// The first and the last word of each record are on one page.
+#[tactic(auto, using(crate::proofs::BoundLaws::places_are_on_one_page))]
 pub fn places_are_on_one_page()
     ensures { PlacesAreOnOnePage }
 {}
 
 /// Of two records the later one is placed behind the earlier one's last word.
+#[tactic(auto, using(crate::proofs::BoundLaws::places_are_apart))]
 pub fn places_are_apart()
     ensures { PlacesAreApart }
 {}
@@ -128,6 +144,7 @@ pub fn no_frame_is_reused_while_reached()
 {}
 
 /// From a page's flush take on its words stay, whatever steps are accepted later.
+#[tactic(auto, using(crate::proofs::ReuseLaws::taken_words_stay))]
 pub fn taken_words_stay()
     ensures { TakenWordsStay }
 {}
