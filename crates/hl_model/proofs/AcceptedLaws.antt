@@ -32,11 +32,6 @@ pub good-push : (sizes : Sizes) (L : List Step) (s : Step) → good sizes (L ++ 
 unfolding good good_after
 good-push sizes L s = good_after-append sizes [] L (s ∷ [])
 
--- the accepted steps of two lists in a row
-pub good-append : (sizes : Sizes) (L M : List Step) → good sizes (L ++ M) ≡ good_after sizes (good sizes L) M
-unfolding good
-good-append sizes L M = good_after-append sizes [] L M
-
 extended-length : (sizes : Sizes) (A : List Step) (s : Step) → length (extended sizes A s) ≤ length A + 1
 extended-length sizes A s =
     elim (is_none (fault_of sizes A s)) as (λ b. length (cond b (A ++ s ∷ []) A) ≤ length A + 1) [ true ↦ omega (arith, length_push A s) | false ↦ omega arith ]

@@ -1,19 +1,16 @@
 -- Which pages the frames of every accepted list hold.
 use Rattle.std.proofs.Common.{◌≡◌, ℕ, ◌+◌, ◌-◌, ◌*◌, ◌%◌, ◌<◌, ◌≤◌, true, false, List, refl, sym, ap, ◌∙◌, arith}
-use Rattle.std.specs.Prelude.{Some, replicate}
-use Rattle.std.proofs.lemmas.Bool.{lt-ltb, ltb-false, both_ways, false_from_ne_true}
-use Rattle.std.proofs.lemmas.List.{length-replicate, get_or-replicate}
+use Rattle.std.specs.Prelude.{Some}
+use Rattle.std.proofs.lemmas.Bool.{lt-ltb, both_ways, false_from_ne_true}
 use Rattle.hl_model.specs.declared.step.Step.{Step}
 use Rattle.hl_model.specs.Sizes.{Sizes}
 use Rattle.hl_model.specs.Offsets.{tail, is_entered}
 use Rattle.hl_model.specs.Settled.{safe_read_only}
 use Rattle.hl_model.specs.Pages.{is_flushed, is_in_flight, is_freed, is_cleaning}
 use Rattle.hl_model.specs.Frames.{last_entered}
-use Rattle.hl_model.specs.Words.{page_words}
 use Rattle.hl_model.specs.Replies.{IsAccepted}
 use Rattle.hl_model.proofs.FrameLaws.{last_entered-is}
 use Rattle.hl_model.proofs.PageFacts.{flushed_sealed, in_flight_sealed, in_flight_unflushed, freed_closed, cleaning_closed, cleaning_unfreed, closed_flushed, round_freed}
-use Rattle.hl_model.proofs.WordLaws.{page_words-is, word-fresh}
 use Rattle.hl_model.proofs.BoundLaws.{safe_read_only-le-read_only, read_only-le-tail}
 
 -- sealed pages are entered
@@ -61,10 +58,3 @@ in_flight_last sizes A p page frames a h =
 pub cleaning_last : (sizes : Sizes) (A : List Step) (p : ℕ) → 0 < sizes.page → 0 < sizes.frames → IsAccepted sizes A → is_cleaning sizes p A ≡ true → last_entered sizes (p % sizes.frames) A ≡ Some p
 cleaning_last sizes A p page frames a h =
     unfreed_last sizes A p page frames a (flushed_entered sizes A p page a (cleaning_flushed sizes A p page a h)) (cleaning_unfreed sizes A p page a h)
-
--- the words of a page that isn't entered are 0
-pub page_words-fresh : (sizes : Sizes) (A : List Step) (p : ℕ) → 0 < sizes.page → IsAccepted sizes A → is_entered sizes p A ≡ false → page_words sizes p A ≡ replicate sizes.page 0
-page_words-fresh sizes A p some a h =
-    let above : tail sizes A ≤ p * sizes.page = ltb-false (p * sizes.page) (tail sizes A) h in
-    page_words-is sizes p A (replicate sizes.page 0) (length-replicate sizes.page 0)
-    (λ k d lt. word-fresh sizes (p * sizes.page + k) some A a (omega arith) ∙ sym (get_or-replicate sizes.page k 0 d lt))

@@ -17,6 +17,10 @@ use Rattle.hl_model.proofs.ListLaws.{greatest_below-passes, greatest_below-most,
 use Rattle.hl_model.proofs.NoFaultLaws.{met_fault, size-none, allocate-none}
 use Rattle.hl_model.proofs.OffsetLaws.{tail-push, place_of-le, place_of-fits}
 
+-- page p was entered, in frame f
+abbrev pub is_entered_in : Sizes → ℕ → List Step → ℕ → Bool
+is_entered_in sizes f A p = is_entered sizes p A && p % sizes.frames == f
+
 -- the pages of a frame are F apart
 next_of_frame : (p q frames : ℕ) → 0 < frames → p % frames ≡ q % frames → p < q → p + frames ≤ q
 next_of_frame p q frames some same lt = by_order (cases_lt (p / frames) (q / frames))
@@ -63,7 +67,7 @@ entered_within sizes p A some e = page_below p (tail sizes A) sizes.page some (l
 pub last_entered-is : (sizes : Sizes) (f p : ℕ) (A : List Step) → 0 < sizes.page → 0 < sizes.frames → is_entered sizes p A ≡ true → p % sizes.frames ≡ f → is_entered sizes (p + sizes.frames) A ≡ false → last_entered sizes f A ≡ Some p
 unfolding last_entered
 last_entered-is sizes f p A page frames e same next =
-    greatest_below-is (λ p. is_entered sizes p A && p % sizes.frames == f) (tail sizes A / sizes.page + 1) p (entered_within sizes p A page e)
+    greatest_below-is (is_entered_in sizes f A) (tail sizes A / sizes.page + 1) p (entered_within sizes p A page e)
     (and_from (is_entered sizes p A) (p % sizes.frames == f) e (eq-eqb (p % sizes.frames) f same))
     (λ m lt within. later m lt (cases_eq (m % sizes.frames) f))
   where
@@ -77,7 +81,7 @@ last_entered-is sizes f p A page frames e same next =
 pub last_entered-none : (sizes : Sizes) (f : ℕ) (A : List Step) → 0 < sizes.page → f < sizes.frames → is_entered sizes f A ≡ false → last_entered sizes f A ≡ None
 unfolding last_entered
 last_entered-none sizes f A page within e =
-    greatest_below-nothing (λ p. is_entered sizes p A && p % sizes.frames == f) (tail sizes A / sizes.page + 1) (λ m lt. nothing m (cases_eq (m % sizes.frames) f))
+    greatest_below-nothing (is_entered_in sizes f A) (tail sizes A / sizes.page + 1) (λ m lt. nothing m (cases_eq (m % sizes.frames) f))
   where
     nothing : (m : ℕ) → ((m % sizes.frames ≡ f) ⊎ (m % sizes.frames ≡ f → ⊥)) → (is_entered sizes m A && m % sizes.frames == f) ≡ false
     nothing m (inl there) = and_left (is_entered sizes m A) (m % sizes.frames == f) (unentered_above sizes f m A e (first_of_frame m f sizes.frames there))
@@ -95,7 +99,7 @@ unfolding last_entered
 last_entered-some sizes f p A page frames h = record { of_frame = there; entered = parts.0; next_not = false_from_ne_true (is_entered sizes (p + sizes.frames) A) no_later }
   where
     parts : (is_entered sizes p A ≡ true) × ((p % sizes.frames == f) ≡ true)
-    parts = and_parts (is_entered sizes p A) (p % sizes.frames == f) (greatest_below-passes (λ p. is_entered sizes p A && p % sizes.frames == f) (tail sizes A / sizes.page + 1) p h).0
+    parts = and_parts (is_entered sizes p A) (p % sizes.frames == f) (greatest_below-passes (is_entered_in sizes f A) (tail sizes A / sizes.page + 1) p h).0
 
     there : p % sizes.frames ≡ f
     there = eqb-true (p % sizes.frames) f parts.1
@@ -103,7 +107,7 @@ last_entered-some sizes f p A page frames h = record { of_frame = there; entered
     no_later : is_entered sizes (p + sizes.frames) A ≡ true → ⊥
     no_later t =
         let same : (p + sizes.frames) % sizes.frames ≡ f = add-mod_right p sizes.frames ∙ there in
-        let most : p + sizes.frames ≤ p = greatest_below-most (λ p. is_entered sizes p A && p % sizes.frames == f) (tail sizes A / sizes.page + 1) p (p + sizes.frames) h (entered_within sizes (p + sizes.frames) A page t) (and_from (is_entered sizes (p + sizes.frames) A) ((p + sizes.frames) % sizes.frames == f) t (eq-eqb ((p + sizes.frames) % sizes.frames) f same)) in
+        let most : p + sizes.frames ≤ p = greatest_below-most (is_entered_in sizes f A) (tail sizes A / sizes.page + 1) p (p + sizes.frames) h (entered_within sizes (p + sizes.frames) A page t) (and_from (is_entered sizes (p + sizes.frames) A) ((p + sizes.frames) % sizes.frames == f) t (eq-eqb ((p + sizes.frames) % sizes.frames) f same)) in
         omega arith
 
 unentered_none : (sizes : Sizes) (f : ℕ) (A : List Step) → 0 < sizes.page → f < sizes.frames → last_entered sizes f A ≡ None → is_entered sizes f A ≡ false
@@ -113,7 +117,7 @@ unentered_none sizes f A page within h = false_from_ne_true (is_entered sizes f 
     no_first : is_entered sizes f A ≡ true → ⊥
     no_first t =
         both_ways (is_entered sizes f A && f % sizes.frames == f)
-        (greatest_below-none (λ p. is_entered sizes p A && p % sizes.frames == f) (tail sizes A / sizes.page + 1) f h (entered_within sizes f A page t))
+        (greatest_below-none (is_entered_in sizes f A) (tail sizes A / sizes.page + 1) f h (entered_within sizes f A page t))
         (and_from (is_entered sizes f A) (f % sizes.frames == f) t (eq-eqb (f % sizes.frames) f (mod-eq_of_lt within)))
 
 -- a frame has no entered page, or a last one

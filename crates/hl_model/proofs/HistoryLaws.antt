@@ -1,22 +1,21 @@
 -- What is known of a list of accepted steps, and what one step more makes of it.
-use Rattle.std.proofs.Common.{◌≡◌, ◌^◌, ◌<◌, ◌≤◌, inl, inr, List, [], ◌∷◌, ◌++◌, length, map, refl, sym, ap, ap₂, ◌∙◌, arith, subst}
-use Rattle.std.specs.Prelude.{Option, Some, None, Ok, Err}
-use Rattle.hl_model.specs.declared.fault.Fault.{Fault}
-use Rattle.hl_model.specs.declared.fault.Fault.TheVariants.{OutOfMemory}
+use Rattle.std.proofs.Common.{◌≡◌, ◌^◌, ◌<◌, ◌≤◌, ℕ, Bool, true, false, cond, length-append, List, [], ◌∷◌, ◌++◌, length, map, refl, sym, ap, ap₂, ◌∙◌, arith, subst}
+use Rattle.std.specs.Prelude.{Option, Some, None}
+use Rattle.std.proofs.lemmas.List.{length-map}
 use Rattle.hl_model.specs.declared.plain.pages.Mark.{Mark as Made}
-use Rattle.hl_model.specs.declared.step.Reply.{Reply}
 use Rattle.hl_model.specs.declared.step.Step.{Step}
 use Rattle.hl_model.specs.Sizes.{Sizes, AreInRange}
 use Rattle.hl_model.specs.Lists.{unroll, unroll_after}
 use Rattle.hl_model.specs.Actions.{pending}
-use Rattle.hl_model.specs.Pages.{Work, flushing, cleaning, marks_of, marks, flushed}
+use Rattle.hl_model.specs.Pages.{Work, Mark, Out, Back, flushing, cleaning, mark_if, next_page, marks_of, marks, flushed}
 use Rattle.hl_model.specs.Kept.{AreKept}
 use Rattle.hl_model.specs.Works.{as_mark, marks_in}
-use Rattle.hl_model.specs.Replies.{fault_of, answer_of, with_word, unless_fault}
-use Rattle.hl_model.specs.Histories.{History, IsHistory, TailFits, begun, Answers}
+use Rattle.hl_model.specs.Replies.{fault_of}
+use Rattle.hl_model.specs.Histories.{IsHistory, TailFits, begun}
+use Rattle.hl_model.proofs.ListLaws.{by_pushing}
 use Rattle.hl_model.proofs.OrderLaws.{offsets_are_in_order}
 use Rattle.hl_model.proofs.WorkLaws.{marks-push}
-use Rattle.hl_model.proofs.AcceptedLaws.{extended-none, extended-some, good-nil, IsAccepted-push}
+use Rattle.hl_model.proofs.AcceptedLaws.{good-nil, IsAccepted-push}
 use Rattle.hl_model.proofs.LawProofs.{drain_list_holds_them}
 
 -- its tail is an address or one past the last
@@ -66,22 +65,32 @@ pub marks_kept : (work : Work) (A : List Step) (s : Step) (B : List Step) (befor
 marks_kept work A s B before after made kept new marked grown =
     marked ∙ ap₂ (λ xs ys. xs ++ ys) kept (new ∙ ap (λ l. marks_of work A l s) kept) ∙ sym (ap (marks work) grown ∙ marks-push work A s)
 
--- a refused step
-pub answers_fault : (h : History) (s : Step) (f : Fault) → fault_of h.sizes h.steps s ≡ Some f → Answers h s (Err f) h
-answers_fault h s f met =
-    inl (
-      sym (ap (λ o. unless_fault o (with_word h.steps s (answer_of h.sizes h.steps (h.steps ++ s ∷ []) s))) met),
-      ap (λ (B : List Step). record { sizes = h.sizes; steps = B }) (sym (extended-some h.sizes h.steps s f met)),
-    )
+-- a step makes one mark at most
+marks_of-le : (work : Work) (A : List Step) (given : List Mark) (s : Step) → length (marks_of work A given s) ≤ 1
+marks_of-le work A given s = by_test (work.takes s)
+  where
+    if_page : (mark : ℕ → Mark) (o : Option ℕ) → length (mark_if mark o) ≤ 1
+    if_page mark None = omega arith
+    if_page mark (Some p) = omega arith
 
--- a refusal of memory
-pub answers_memory : (h : History) (s : Step) → fault_of h.sizes h.steps s ≡ None → Answers h s (Err OutOfMemory) h
-answers_memory h s none = inr (refl, (none, refl))
+    by_test : (b : Bool) → length (cond b (mark_if Out (next_page work A given)) (mark_if Back (work.ends s))) ≤ 1
+    by_test true = if_page Out (next_page work A given)
+    by_test false = if_page Back (work.ends s)
 
--- an accepted step
-pub answers_reply : (h : History) (s : Step) (reply : Reply) (B : List Step) → fault_of h.sizes h.steps s ≡ None → reply ≡ with_word h.steps s (answer_of h.sizes h.steps (h.steps ++ s ∷ []) s) → B ≡ h.steps ++ s ∷ [] → Answers h s (Ok reply) (record { sizes = h.sizes; steps = B })
-answers_reply h s reply B none is grown =
-    inl (
-      ap Ok is ∙ sym (ap (λ o. unless_fault o (with_word h.steps s (answer_of h.sizes h.steps (h.steps ++ s ∷ []) s))) none),
-      ap (λ (C : List Step). record { sizes = h.sizes; steps = C }) (grown ∙ sym (extended-none h.sizes h.steps s none)),
-    )
+-- there are at most as many marks as steps
+pub marks-le : (work : Work) (A : List Step) → length (marks work A) ≤ length A
+marks-le work = by_pushing (λ A. length (marks work A) ≤ length A) none push
+  where
+    none : length (marks work []) ≤ 0
+    none = omega (arith, ap length (marks-none work))
+
+    push : (A : List Step) (s : Step) → length (marks work A) ≤ length A → length (marks work (A ++ s ∷ [])) ≤ length (A ++ s ∷ [])
+    push A s h =
+        omega (arith, ap length (marks-push work A s), length-append (marks work A) (marks_of work A (marks work A) s), length-append A (s ∷ []), marks_of-le work A (marks work A) s, h)
+
+-- so the rows of marks are no longer than the steps
+pub flushes-le : (sizes : Sizes) (A : List Step) (flushes cleans : List Made) → AreKept sizes A flushes cleans → length flushes ≤ length A
+flushes-le sizes A flushes cleans h = omega (arith, length-map flushes as_mark, ap length h.flushes_are, marks-le (flushing sizes) A)
+
+pub cleans-le : (sizes : Sizes) (A : List Step) (flushes cleans : List Made) → AreKept sizes A flushes cleans → length cleans ≤ length A
+cleans-le sizes A flushes cleans h = omega (arith, length-map cleans as_mark, ap length h.cleans_are, marks-le (cleaning sizes) A)

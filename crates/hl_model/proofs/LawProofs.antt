@@ -17,13 +17,32 @@ use Rattle.hl_model.specs.Epochs.{table_of, slot_epochs, is_bump, enters, leaves
 use Rattle.hl_model.specs.Actions.{is_take, bumps, takes, pending, taken, action_at, front}
 use Rattle.hl_model.specs.Replies.{epoch_last, done_answer, kind_or_job_0, fault_of, reply_of, unless_fault, answer_of, IsAccepted}
 use Rattle.hl_model.specs.Follows.{TablesFollow}
-use Rattle.hl_model.specs.Laws.{AcceptedMeetsNoFault, CurrentIsAtMostLast, DrainListHoldsThem, TicketsCountUp, TakenAreThoseListed, EpochsAreInOrder, SafeIsGreatest, MarkAfterBump}
+use Rattle.hl_model.specs.Laws.{AcceptedStepsAreAccepted, BeginningsAreAccepted, GoodByItsLastStep, SafeNeverFalls, TakenAreSafe, EpochsFitTheDrainList, AcceptedMeetsNoFault, CurrentIsAtMostLast, DrainListHoldsThem, TicketsCountUp, TakenAreThoseListed, EpochsAreInOrder, SafeIsGreatest, MarkAfterBump}
 use Rattle.hl_model.specs.Headline.{ticket_told, tickets_told, moves_on}
 use Rattle.hl_model.proofs.ListLaws.{list_any-push, gather-push, by_pushing, one_where, none_where}
-use Rattle.hl_model.proofs.AcceptedLaws.{IsAccepted-front, IsAccepted-parts, accepted_has}
-use Rattle.hl_model.proofs.EpochLaws.{slot_epochs-acquire, slot_epochs-refresh, slot_epochs-release, slot_epochs-stay, current_epoch-nil, safe_epoch-current, current_epoch-push, enters-is_bump, slot_epoch-stays, slot_epoch-range, is_protected-slot_epoch, epoch_of-slot_epoch, safe_epoch-below, safe_epoch-greatest}
+use Rattle.hl_model.proofs.AcceptedLaws.{good-push, IsAccepted-good, IsAccepted-front, IsAccepted-parts, accepted_has}
+use Rattle.hl_model.proofs.EpochLaws.{slot_epochs-acquire, slot_epochs-refresh, slot_epochs-release, slot_epochs-stay, current_epoch-nil, safe_epoch-current, current_epoch-push, safe_epoch-append, enters-is_bump, slot_epoch-stays, slot_epoch-range, is_protected-slot_epoch, epoch_of-slot_epoch, safe_epoch-below, safe_epoch-greatest}
 use Rattle.hl_model.proofs.ActionLaws.{tickets-actions, tickets-pending, range-push, current_epoch-bumps, takes-push, takes-stay}
-use Rattle.hl_model.proofs.DrainLaws.{bump_fault-none, bump-none, length-both, bumps-dones, is_taken-found, two_faults, take_fault-none, protected-slot}
+use Rattle.hl_model.proofs.DrainLaws.{takes-safe, epochs-drain, bump_fault-none, bump-none, length-both, bumps-dones, is_taken-found, two_faults, take_fault-none, protected-slot}
+
+-- laws that are lemmas of the parts
+pub accepted_steps_are_accepted : AcceptedStepsAreAccepted
+accepted_steps_are_accepted = IsAccepted-good
+
+pub beginnings_are_accepted : BeginningsAreAccepted
+beginnings_are_accepted = IsAccepted-front
+
+pub good_by_its_last_step : GoodByItsLastStep
+good_by_its_last_step = good-push
+
+pub safe_never_falls : SafeNeverFalls
+safe_never_falls = safe_epoch-append
+
+pub taken_are_safe : TakenAreSafe
+taken_are_safe = takes-safe
+
+pub epochs_fit_the_drain_list : EpochsFitTheDrainList
+epochs_fit_the_drain_list = epochs-drain
 
 -- a protected slot has an epoch
 pub slot_epoch-protected : (t : ℕ) (A : List Step) → is_protected t A ≡ true → slot_epoch t A ≡ Some (epoch_of t A)

@@ -3,6 +3,7 @@ pub mod ActionLaws
 pub mod BoundLaws
 pub mod DrainLaws
 pub mod EpochLaws
+pub mod FoldLaws
 pub mod FollowLaws
 pub mod FrameFacts
 pub mod FrameLaws
@@ -13,10 +14,10 @@ pub mod LeastLaws
 pub mod ListLaws
 pub mod NoFaultLaws
 pub mod OffsetLaws
+pub mod OnLiterals
 pub mod OrderLaws
 pub mod OutLaws
 pub mod PageFacts
-pub mod PageTests
 pub mod PendingLaws
 pub mod ReuseLaws
 pub mod RowLaws

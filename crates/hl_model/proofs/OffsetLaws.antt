@@ -85,11 +85,6 @@ place_of-fits page tail n h fits = by_test (leb (tail % page + n) page) refl
     by_test true e = leb-true (tail % page + n) page e
     by_test false e = omega (arith, mul-mod_left (tail / page + 1) page, fits)
 
--- and its end is at most that of its page
-pub place_of-end : (page tail n : ℕ) → 0 < page → n ≤ page → place_of page tail n + n ≤ (place_of page tail n / page + 1) * page
-place_of-end page tail n h fits =
-    omega (arith, add-mul (place_of page tail n / page) 1 page, div-add-mod' (place_of page tail n) page, place_of-fits page tail n h fits)
-
 -- where a page has room for some words from an address on, the last of them is on that page
 pub one_page : (page a n : ℕ) → 0 < n → a % page + n ≤ page → a / page ≡ (a + n - 1) / page
 one_page page a n some fits =

@@ -1,6 +1,6 @@
 -- Searches among numbers that count up.
 use Rattle.std.proofs.Common.{◌≡◌, ℕ, zero, suc, ◌+◌, ◌*◌, ◌/◌, ◌<◌, ◌≤◌, Bool, true, false, cond, Some, None, find, refl, arith, inl, inr, add-one}
-use Rattle.std.specs.List.{range_with_len}
+use Rattle.std.specs.List.{range_with_len, prefix_len}
 use Rattle.std.proofs.lemmas.Bool.{cases_eq, cases_lt}
 use Rattle.std.proofs.Math.Nat.{mul-le-mul_left}
 use Rattle.hl_model.specs.Lists.{greatest_below}
@@ -18,6 +18,18 @@ find-first p a (suc n) i fails from to passes =
     elim (cases_eq a i) [
       | inl same ↦ rw (same, passes) refl
       | inr other ↦ rw (fails a (omega arith) (omega arith)) (find-first p (a + 1) n i (λ q above below. fails q (omega arith) below) (omega arith) (omega arith) passes)
+    ]
+
+-- where the numbers before one pass, and that one fails or ends the range, so many lead it
+pub prefix_len-first : (p : ℕ → Bool) (a n i : ℕ) → ((q : ℕ) → a ≤ q → q < i → p q ≡ true) → a ≤ i → i ≤ a + n → (i < a + n → p i ≡ false) → a + prefix_len p (range_with_len a n) ≡ i
+prefix_len-first p a zero i passes from to fails = omega arith
+prefix_len-first p a (suc n) i passes from to fails =
+    elim (cases_eq a i) [
+      | inl same ↦ let first : p a ≡ false = rw same (fails (omega arith)) in rw first (omega arith)
+      | inr other ↦
+          let first : p a ≡ true = passes a (omega arith) (omega arith) in
+          let later = prefix_len-first p (a + 1) n i (λ q above below. passes q (omega arith) below) (omega arith) (omega arith) (λ below. fails (omega arith)) in
+          rw first (omega (arith, later))
     ]
 
 -- one number more

@@ -1,9 +1,9 @@
 -- How many slots are protected, and how many frames are at each state, one more being read.
-use Rattle.std.proofs.Common.{◌≡◌, ℕ, ◌+◌, ◌≤◌, cond, is_some, add-one, zero-add, List, [], ◌∷◌, ◌++◌, length, map, get_or, set, refl, sym, ap, ◌∙◌, arith}
+use Rattle.std.proofs.Common.{◌≡◌, ℕ, ◌+◌, ◌≤◌, cond, is_some, add-one, zero-add, List, [], ◌∷◌, ◌++◌, length, map, get_or, set, refl, sym, ap, ap₂, ◌∙◌, arith}
 use Rattle.std.specs.List.{count_by, range_with_len}
 use Rattle.std.proofs.lemmas.List.{map-append}
 use Rattle.std.proofs.lemmas.List.FromFn.{length-map-range_with_len}
-use Rattle.std.proofs.lemmas.List.Sums.{count_by-le-length}
+use Rattle.std.proofs.lemmas.List.Sums.{sum_by-append, count_by-le-length}
 use Rattle.hl_model.specs.declared.frame.FrameState.{FrameState}
 use Rattle.hl_model.specs.declared.frame.FrameState.TheVariants.{Opened, Sealed, Flushed, Closed, Free}
 use Rattle.hl_model.specs.declared.step.Step.{Step}
@@ -22,16 +22,17 @@ map-range-next f n =
     ap (λ k. map f (range_with_len 0 k)) (add-one n) ∙ ap (map f) (range-push 0 n) ∙ map-append f (range_with_len 0 n) ((0 + n) ∷ [])
     ∙ ap (λ k. map f (range_with_len 0 n) ++ f k ∷ []) (zero-add n)
 
--- one slot more
-pub protected-next : (n : ℕ) (A : List Step) → count_by is_some (slot_epochs (n + 1) A) ≡ count_by is_some (slot_epochs n A) + cond (is_protected n A) 1 0
-unfolding slot_epochs
-protected-next n A =
-    ap (count_by is_some) (map-range-next (λ t. slot_epoch t A) n) ∙ count_by-push is_some (map (λ t. slot_epoch t A) (range_with_len 0 n)) (slot_epoch n A)
-    ∙ ap (λ b. count_by is_some (map (λ t. slot_epoch t A) (range_with_len 0 n)) + cond b 1 0) (sym (is_protected-slot_epoch n A))
+-- how many of some slots are protected
+held_count : (A : List Step) (ts : List ℕ) → count_by is_some (map (λ t. slot_epoch t A) ts) ≡ count_by (λ t. is_protected t A) ts
+held_count A [] = refl
+held_count A (t ∷ ts) =
+    sum_by-append (λ o. cond (is_some o) 1 0) (slot_epoch t A ∷ []) (map (λ u. slot_epoch u A) ts)
+    ∙ ap₂ (λ b n. (0 + cond b 1 0) + n) (sym (is_protected-slot_epoch t A)) (held_count A ts)
+    ∙ sym (sum_by-append (λ u. cond (is_protected u A) 1 0) (t ∷ []) ts)
 
-pub protected-none : (A : List Step) → count_by is_some (slot_epochs 0 A) ≡ 0
+pub protected_count : (n : ℕ) (A : List Step) → count_by is_some (slot_epochs n A) ≡ count_by (λ t. is_protected t A) (range_with_len 0 n)
 unfolding slot_epochs
-protected-none A = refl
+protected_count n A = held_count A (range_with_len 0 n)
 
 -- the states of the first n frames
 abbrev pub states_below : Sizes → List Step → ℕ → List FrameState

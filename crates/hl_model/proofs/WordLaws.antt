@@ -1,9 +1,8 @@
 -- What the words become when one step is put behind the list.
-use Rattle.std.proofs.Common.{◌≡◌, ◌≢◌, ℕ, ◌+◌, ◌*◌, ◌/◌, ◌%◌, ◌<◌, ◌≤◌, cond, max, List, [], ◌∷◌, ◌++◌, length, take, drop, get_or, set, length-set, get_or-set_same, get_or-set_other, refl, sym, ap, ◌∙◌, subst, arith, inl, inr, ◌⊎◌}
+use Rattle.std.proofs.Common.{◌≡◌, ◌≢◌, ℕ, ◌+◌, ◌*◌, ◌/◌, ◌<◌, ◌≤◌, cond, max, List, [], ◌∷◌, ◌++◌, length, take, drop, get_or, refl, sym, ap, ◌∙◌, subst, arith}
 use Rattle.std.specs.Prelude.{Some, None, unwrap_or}
-use Rattle.std.proofs.Math.Nat.{div-add-mod}
-use Rattle.std.proofs.lemmas.Nat.{mod_below, div-mul-add}
-use Rattle.std.proofs.lemmas.Bool.{eq-eqb, ne_eqb, cases_eq}
+use Rattle.std.proofs.lemmas.Nat.{div-mul-add}
+use Rattle.std.proofs.lemmas.Bool.{eq-eqb, ne_eqb}
 use Rattle.std.proofs.lemmas.List.{same_lists, take-append-drop}
 use Rattle.std.proofs.lemmas.List.FromFn.{length-map-range_with_len, get_or-map-range_with_len}
 use Rattle.hl_model.specs.declared.step.Step.{Step}
@@ -67,31 +66,6 @@ page_words-same sizes p A B each =
 -- a step that writes nothing leaves every page
 pub page_words-stay : (sizes : Sizes) (p : ℕ) (A : List Step) (s : Step) → ((a : ℕ) → written_at a s ≡ None) → page_words sizes p (A ++ s ∷ []) ≡ page_words sizes p A
 page_words-stay sizes p A s h = page_words-same sizes p (A ++ s ∷ []) A (λ a in_page. word-stay a A s (h a))
-
--- a write leaves the pages of other addresses
-pub page_words-elsewhere : (sizes : Sizes) (p : ℕ) (A : List Step) (t b v : ℕ) → b / sizes.page ≢ p → page_words sizes p (A ++ Write t b v ∷ []) ≡ page_words sizes p A
-page_words-elsewhere sizes p A t b v ne =
-    page_words-same sizes p (A ++ Write t b v ∷ []) A (λ a in_page. word-elsewhere a A t b v (λ same. ne (ap (λ x. x / sizes.page) same ∙ in_page)))
-
--- and sets one word of its own
-pub page_words-write : (sizes : Sizes) (p : ℕ) (A : List Step) (t b v : ℕ) → 0 < sizes.page → b / sizes.page ≡ p → page_words sizes p (A ++ Write t b v ∷ []) ≡ set (page_words sizes p A) (b % sizes.page) v
-page_words-write sizes p A t b v some in_page =
-    page_words-is sizes p (A ++ Write t b v ∷ []) (set (page_words sizes p A) (b % sizes.page) v)
-    (length-set (page_words sizes p A) (b % sizes.page) v ∙ length-page_words sizes p A)
-    (λ k d lt. by_place k d lt (cases_eq k (b % sizes.page)))
-  where
-    there : p * sizes.page + b % sizes.page ≡ b
-    there =
-        let swap : sizes.page * (b / sizes.page) ≡ p * sizes.page = ap (λ q. sizes.page * q) in_page ∙ omega arith in
-        omega (arith, div-add-mod b sizes.page)
-
-    by_place : (k d : ℕ) → k < sizes.page → ((k ≡ b % sizes.page) ⊎ (k ≢ b % sizes.page)) → word (p * sizes.page + k) (A ++ Write t b v ∷ []) ≡ get_or (set (page_words sizes p A) (b % sizes.page) v) k d
-    by_place k d lt (inl same) =
-        ap (λ j. word (p * sizes.page + j) (A ++ Write t b v ∷ [])) same ∙ ap (λ a. word a (A ++ Write t b v ∷ [])) there ∙ word-write b A t v
-        ∙ sym (ap (λ j. get_or (set (page_words sizes p A) (b % sizes.page) v) j d) same ∙ get_or-set_same (page_words sizes p A) (b % sizes.page) v d (omega (arith, length-page_words sizes p A, mod_below b sizes.page some)))
-    by_place k d lt (inr ne) =
-        word-elsewhere (p * sizes.page + k) A t b v (λ same. ne (omega (arith, there, same)))
-        ∙ sym (get_or-set_other (page_words sizes p A) (b % sizes.page) k v d ne ∙ page_words-at sizes p A k d lt)
 
 tail-front : (sizes : Sizes) (k : ℕ) (A : List Step) → 0 < sizes.page → tail sizes (take k A) ≤ tail sizes A
 tail-front sizes k A some =

@@ -2,14 +2,13 @@
 use Rattle.std.proofs.Common.{◌≡◌, ℕ, ◌+◌, ◌<◌, ◌≤◌, Bool, true, false, cond, not, ◌&&◌, ◌||◌, ltb, List, [], ◌∷◌, ◌++◌, length, refl, ap, ap₂, ◌∙◌, arith, append-nil, inl, inr, ◌⊎◌}
 use Rattle.std.specs.Prelude.{◌==◌, Option, Some, None}
 use Rattle.std.proofs.lemmas.Bool.{lt-ltb, le-ltb, not-true, not-false, or_parts, or_left, or_from, both_ways, cases_order}
-use Rattle.hl_model.specs.declared.fault.Fault.{Fault}
-use Rattle.hl_model.specs.declared.fault.Fault.TheVariants.{NoneSealed, NotInFlight, NoneClosed, NotCleaning}
+use Rattle.hl_model.specs.declared.fault.Fault.TheVariants.{NotInFlight, NotCleaning}
 use Rattle.hl_model.specs.declared.step.Step.{Step}
 use Rattle.hl_model.specs.declared.step.Step.TheVariants.{FlushTake, FlushDone, CleanTake, CleanDone}
 use Rattle.hl_model.specs.Lists.{until_last, unroll, unroll_after}
 use Rattle.hl_model.specs.Sizes.{Sizes}
 use Rattle.hl_model.specs.Pages.{Work, Mark, Out, Back, goes_out, comes_back, is_out, is_complete, next_page, mark_if, marks_of, marks, takes_to_flush, flush_of, flushes, flushing, takes_to_clean, clean_of, frees, cleaning, is_flushed, is_in_flight, is_freed, is_cleaning, next_to_flush, next_to_clean}
-use Rattle.hl_model.specs.Replies.{fault_of, unless_page}
+use Rattle.hl_model.specs.Replies.{fault_of}
 use Rattle.hl_model.proofs.ListLaws.{list_any-push, until_last-push, until_last-le, unroll-push, find-range, find-range-least, find-range-none}
 use Rattle.hl_model.proofs.NoFaultLaws.{met_fault}
 
@@ -155,31 +154,9 @@ next_page-is work A ms q lt complete out below = by_result (next_page work A ms)
     by_result None h = absurd (both_ways (is_complete work q A || is_out q ms) free (next_page-none work A ms q h lt))
     by_result (Some m) h = by_order m h (cases_order m q)
 
--- where each due page is complete or out, there is no next
-pub next_page-nothing : (work : Work) (A : List Step) (ms : List Mark) → ((p : ℕ) → p < work.due A → (is_complete work p A || is_out p ms) ≡ true) → next_page work A ms ≡ None
-next_page-nothing work A ms all = by_result (next_page work A ms) refl
-  where
-    by_result : (o : Option ℕ) → next_page work A ms ≡ o → next_page work A ms ≡ None
-    by_result None h = h
-    by_result (Some m) h =
-        let parts : (m < work.due A) × (is_complete work m A ≡ false) × (is_out m ms ≡ false) = next_page-parts work A ms m h in
-        absurd (both_ways (is_complete work m A || is_out m ms) (or_from (is_complete work m A) (is_out m ms) parts.1 parts.2) (all m parts.0))
-
-some_page : (f : Fault) (o : Option ℕ) → unless_page f o ≡ None → (q : ℕ) × (o ≡ Some q)
-some_page f None h = cc
-some_page f (Some q) h = (q, refl)
-
--- a flush take without a fault has a page
-pub flush_take-none : (sizes : Sizes) (A : List Step) → fault_of sizes A FlushTake ≡ None → (q : ℕ) × (next_to_flush sizes A ≡ Some q)
-flush_take-none sizes A h = some_page NoneSealed (next_to_flush sizes A) h
-
 -- a flush that ends was in flight
 pub flush_done-none : (sizes : Sizes) (A : List Step) (page : ℕ) (ok : Bool) → fault_of sizes A (FlushDone page ok) ≡ None → is_in_flight sizes page A ≡ true
 flush_done-none sizes A page ok h = (met_fault (is_in_flight sizes page A) NotInFlight None h).0
-
--- a clean take without a fault has a page
-pub clean_take-none : (sizes : Sizes) (A : List Step) → fault_of sizes A CleanTake ≡ None → (q : ℕ) × (next_to_clean sizes A ≡ Some q)
-clean_take-none sizes A h = some_page NoneClosed (next_to_clean sizes A) h
 
 -- a page whose cleaning ends was being cleaned
 pub clean_done-none : (sizes : Sizes) (A : List Step) (page : ℕ) → fault_of sizes A (CleanDone page) ≡ None → is_cleaning sizes page A ≡ true

@@ -1,5 +1,6 @@
 -- What a list of accepted steps is kept with.
-use Rattle.std.specs.Prelude.{◌≡◌, List, map}
+use Rattle.std.specs.Prelude.{◌≡◌, ◌≤◌, List, map}
+use Rattle.std.specs.Vec.{vec_capacity}
 use Rattle.hl_model.specs.declared.plain.Plain.TheInside.{Inside}
 use Rattle.hl_model.specs.declared.plain.pages.Mark.{Mark as Made}
 use Rattle.hl_model.specs.declared.step.Step.{Step}
@@ -18,6 +19,9 @@ pub record AreKept (sizes : Sizes) (A : List Step) (flushes cleans : List Made) 
 abbrev pub history_of : Inside → History
 history_of a = record { sizes = a.params; steps = a.steps.items }
 
--- what is inside is kept so
-abbrev pub IsKept : Inside → Type 0
-IsKept a = AreKept a.params a.steps.items a.flushes.items a.cleans.items
+-- what is inside is kept so, in rows that have room for as many elements as there are frames
+pub record IsKept (a : Inside) : Type 0 where
+  pub kept : AreKept a.params a.steps.items a.flushes.items a.cleans.items
+  pub steps_room : a.params.frames ≤ vec_capacity a.steps
+  pub flushes_room : a.params.frames ≤ vec_capacity a.flushes
+  pub cleans_room : a.params.frames ≤ vec_capacity a.cleans

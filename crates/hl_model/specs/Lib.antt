@@ -3,7 +3,6 @@ pub mod Epochs
 pub mod Faults
 pub mod Follows
 pub mod Frames
-pub mod Given
 pub mod Headline
 pub mod Histories
 pub mod Kept

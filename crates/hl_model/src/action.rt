@@ -13,6 +13,10 @@ pub enum Kind {
 }
 
 impl Default for Kind {
+    ghost use Rattle.hl_model.specs.declared.action.Kind.TheVariants.{User};
+
+    ghost is_default = { λ kind. kind ≡ User 0 };
+
     fn default() -> Kind {
         Kind::User(0)
     }

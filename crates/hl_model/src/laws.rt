@@ -5,11 +5,13 @@ ghost use Rattle.hl_model.specs.Follows.{TablesFollow, ActionsFollow, OffsetsFol
 ghost use Rattle.hl_model.specs.Laws.{HeadlineHolds, AcceptedMeetsNoFault, GoodByItsLastStep, CurrentIsAtMostLast, DrainListHoldsThem, TicketsCountUp, TakenAreThoseListed, TakenAreSafe, AcceptedStepsAreAccepted, BeginningsAreAccepted, EpochsAreInOrder, SafeNeverFalls, SafeIsGreatest, MarkAfterBump, EpochsFitTheDrainList, OffsetsAreInOrder, OffsetsNeverFall};
 
 /// The accepted steps of any list are an accepted list.
+#[tactic(auto, using(crate::proofs::LawProofs::accepted_steps_are_accepted))]
 pub fn accepted_steps_are_accepted()
     ensures { AcceptedStepsAreAccepted }
 {}
 
 /// Each beginning of an accepted list is accepted.
+#[tactic(auto, using(crate::proofs::LawProofs::beginnings_are_accepted))]
 pub fn beginnings_are_accepted()
     ensures { BeginningsAreAccepted }
 {}
@@ -20,6 +22,7 @@ pub fn epochs_are_in_order()
 {}
 
 /// The safe epoch never falls, whatever steps come.
+#[tactic(auto, using(crate::proofs::LawProofs::safe_never_falls))]
 pub fn safe_never_falls()
     ensures { SafeNeverFalls }
 {}
@@ -30,31 +33,37 @@ pub fn safe_is_greatest()
 {}
 
 /// A protected slot's epoch exceeds a bump's ticket exactly where its mark, its last acquire or refresh, lies after the bump.
+#[tactic(auto, using(crate::proofs::LawProofs::mark_after_bump))]
 pub fn mark_after_bump()
     ensures { MarkAfterBump }
 {}
 
 /// After an accepted list, the epochs that ended and aren't safe are at most the places of the drain list.
+#[tactic(auto, using(crate::proofs::LawProofs::epochs_fit_the_drain_list))]
 pub fn epochs_fit_the_drain_list()
     ensures { EpochsFitTheDrainList }
 {}
 
 /// A step of an accepted list meets no fault after those before it.
+#[tactic(auto, using(crate::proofs::LawProofs::accepted_meets_no_fault))]
 pub fn accepted_meets_no_fault()
     ensures { AcceptedMeetsNoFault }
 {}
 
 /// A list's last step is accepted after the accepted steps before it, or not at all.
+#[tactic(auto, using(crate::proofs::LawProofs::good_by_its_last_step))]
 pub fn good_by_its_last_step()
     ensures { GoodByItsLastStep }
 {}
 
 /// The current epoch of an accepted list is at most 2^62.
+#[tactic(auto, using(crate::proofs::LawProofs::current_is_at_most_last))]
 pub fn current_is_at_most_last()
     ensures { CurrentIsAtMostLast }
 {}
 
 /// Pending and taken actions are the bumps less the dones, and at most the places of the drain list.
+#[tactic(auto, using(crate::proofs::LawProofs::drain_list_holds_them))]
 pub fn drain_list_holds_them()
     ensures { DrainListHoldsThem }
 {}
@@ -65,11 +74,13 @@ pub fn tickets_count_up()
 {}
 
 /// A ticket is taken and not done exactly where a taken action has it.
+#[tactic(auto, using(crate::proofs::LawProofs::taken_are_those_listed))]
 pub fn taken_are_those_listed()
     ensures { TakenAreThoseListed }
 {}
 
 /// Each ticket taken is at most the safe epoch.
+#[tactic(auto, using(crate::proofs::LawProofs::taken_are_safe))]
 pub fn taken_are_safe()
     ensures { TakenAreSafe }
 {}

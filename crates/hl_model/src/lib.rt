@@ -9,8 +9,8 @@
 //!
 //! [`Plain`] keeps the list of accepted steps, and computes each answer from that list as the definitions say. Beside
 //! it are only the marks of pages: which went out to be flushed or cleaned, and which came back. It is what every fast
-//! form is compared with: after n steps a step looks at about n² of them at most. A step takes memory for itself; no
-//! query does.
+//! form is compared with: after n steps a step looks at about n² of them at most. A step behind the first F may take
+//! memory for itself; no query does.
 #![tactic(auto)]
 
 mod action;

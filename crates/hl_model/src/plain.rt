@@ -1,11 +1,11 @@
-ghost use Rattle.std.specs.Prelude.{◌≡◌, ◌∷◌, [], ◌++◌, ◌<◌, ◌≤◌, None, IfOk, IfErr, OnOk, map, vec_len};
+ghost use Rattle.std.specs.Prelude.{◌≡◌, ◌∷◌, [], ◌++◌, ◌<◌, ◌≤◌, None, IfOk, IfErr, OnOk, OnErr, map, length, vec_len};
 ghost use Rattle.std.specs.Vec.{vec_capacity};
 ghost use Rattle.hl_model.specs.Works.{as_mark, marks_in};
 ghost use Rattle.hl_model.specs.Actions.{pending};
 ghost use Rattle.hl_model.specs.Frames.{frame_of};
 ghost use Rattle.hl_model.specs.Histories.{begun, IsHistory, Answers};
 ghost use Rattle.hl_model.specs.Kept.{AreKept};
-ghost use Rattle.hl_model.specs.Replies.{fault_of, answer_of, with_word};
+ghost use Rattle.hl_model.specs.Replies.{fault_of, answer_of, with_word, word_reply_of};
 ghost use Rattle.hl_model.specs.Snapshots.{snapshot_of};
 ghost use Rattle.hl_model.specs.Views.{slot_view};
 
@@ -13,6 +13,7 @@ mod actions;
 mod epochs;
 mod faults;
 mod frames;
+mod lists;
 mod offsets;
 mod pages;
 mod replies;
@@ -77,9 +78,10 @@ impl Plain {
     /// Makes a step, where it meets no fault: it is put behind the list. The answer to a read is the word.
     ///
     /// Faults: the first that the step meets, else `OutOfMemory` where memory for it was refused. A refused step
-    /// changes nothing.
+    /// changes nothing. None of the first F steps is refused memory.
     pub fn step(&mut self, step: &Step) -> Result<Reply, Fault>
         ensures answer { Answers self.old step.now result self.new }
+        ensures room { length self.old.steps < self.old.sizes.frames → result ≡ word_reply_of self.old.sizes self.old.steps step.now }
         ensures known { IsHistory self.new }
     {
         let params = self.params;
@@ -157,6 +159,7 @@ impl Plain {
 // An empty row with room for so many elements.
 fn row<T>(alloc: Global, room: usize) -> Result<Vec<T>, Fault>
     ensures ok { IfOk result (λ made. made.items ≡ []) }
+    ensures room { IfOk result (λ made. room ≤ vec_capacity made) }
     ensures err { IfErr result (λ fault. fault ≡ Fault.OutOfMemory) }
 {
     Vec::with_capacity(alloc, room).map_err(|_| Fault::OutOfMemory)
@@ -166,6 +169,8 @@ fn row<T>(alloc: Global, room: usize) -> Result<Vec<T>, Fault>
 fn reserve<T>(row: &mut Vec<T>) -> Result<(), Fault>
     ensures items { row.new.items ≡ row.old.items }
     ensures ok { OnOk result (vec_len row.new < vec_capacity row.new) }
+    ensures room { vec_capacity row.old ≤ vec_capacity row.new }
+    ensures full { OnErr result (vec_capacity row.old ≤ vec_len row.old) }
     ensures err { IfErr result (λ fault. fault ≡ Fault.OutOfMemory) }
 {
     row.try_reserve(1).map_err(|_| Fault::OutOfMemory)
@@ -188,6 +193,9 @@ fn accept(
         in result ≡ with_word A step.now (answer_of params A (A ++ step.now ∷ []) step.now) }
     ensures steps { steps.new.items ≡ steps.old.items ++ step.now ∷ [] }
     ensures kept { AreKept params steps.new.items flushes.new.items cleans.new.items }
+    ensures steps_room { vec_capacity steps.new ≡ vec_capacity steps.old }
+    ensures flushes_room { vec_capacity flushes.new ≡ vec_capacity flushes.old }
+    ensures cleans_room { vec_capacity cleans.new ≡ vec_capacity cleans.old }
 {
     let flush = Work::Flushing.mark_of(params, steps, flushes, step);
     let clean = Work::Cleaning.mark_of(params, steps, cleans, step);
@@ -202,7 +210,8 @@ fn accept(
 // Puts a mark, if there is one, behind a row that has room for it.
 fn push(row: &mut Vec<Mark>, mark: Option<Mark>)
     requires { vec_len row.old < vec_capacity row.old }
-    ensures { map as_mark row.new.items ≡ map as_mark row.old.items ++ marks_in mark }
+    ensures marks { map as_mark row.new.items ≡ map as_mark row.old.items ++ marks_in mark }
+    ensures room { vec_capacity row.new ≡ vec_capacity row.old }
 {
     if let Some(mark) = mark {
         row.push_reserved(mark);

@@ -1,3 +1,5 @@
+ghost use Rattle.std.specs.Prelude.{◌≡◌};
+
 use crate::view::View;
 
 /// One atomic step of one thread, of the flusher, or of whoever runs the actions or cleans frames. Threads are named
@@ -85,6 +87,10 @@ pub enum Reply {
 
 // Rows of steps that never grow, of the crate `arrayvec`, want one.
 impl Default for Step {
+    ghost use Rattle.hl_model.specs.declared.step.Step.TheVariants.{Take};
+
+    ghost is_default = { λ step. step ≡ Take };
+
     fn default() -> Step {
         Step::Take
     }

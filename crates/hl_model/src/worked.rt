@@ -1,4 +1,5 @@
 //! Worked examples as theorems: the definitions alone, computed by the checker, give what was written by hand.
+#![tactic(auto, unfolding(crate::proofs::OnLiterals::on_literals))]
 
 ghost use Rattle.hl_model.specs.Worked.{FirstAction, NobodyProtected, FullDrainList, TwoThreads, BothWait};
 ghost use Rattle.hl_model.specs.WorkedBorders.{EmptyLog, AtBorders, LastAddress};

@@ -1,13 +1,12 @@
 //! The drain list of a list of steps.
 
-ghost use Rattle.std.specs.Prelude.{◌≡◌, ◌≤◌, [], length, IfSome};
+ghost use Rattle.std.specs.Prelude.{◌≡◌, ◌≤◌, ℕ, [], length, IfSome};
 ghost use Rattle.std.specs.List.{cons_option};
 ghost use Rattle.hl_model.specs.Actions.{is_take, is_done, finishes, bumps, takes, dones, action_of, actions, is_finished, pending, is_taken, is_full, action_at};
 ghost use Rattle.hl_model.specs.Epochs.{current_epoch};
-ghost use Rattle.hl_model.specs.Given.{given_by};
-ghost use Rattle.hl_model.specs.Lists.{greatest};
-ghost use Rattle.hl_model.specs.Settled.{settles, closes, safe_read_only, closed};
+ghost use Rattle.hl_model.specs.Settled.{settles, closes, done_greatest, safe_read_only, closed};
 ghost use Rattle.hl_model.specs.Replies.{kind_or_job_0};
+ghost use Rattle.hl_model.specs.declared.action.Kind.{Kind};
 
 use crate::action::{Kind, Waiting};
 use crate::plain::epochs::{current_epoch, is_bump};
@@ -16,45 +15,34 @@ use crate::step::Step;
 use arrayvec::ArrayVec;
 
 /// How many actions were stored.
+#[tactic(auto, unfolding(crate::specs::Actions::bumps))]
 pub fn bumps(steps: &[Step]) -> u64
     ensures value { result ≡ bumps steps.now }
     ensures most { result ≤ length steps.now }
 {
-    let mut count = 0;
-    for step in steps {
-        if is_bump(step) {
-            count += 1;
-        }
-    }
-    count
+    steps.iter().filter(|step| is_bump(step)).count() as u64
 }
 
 /// How many actions were taken.
+#[tactic(auto, unfolding(crate::specs::Actions::takes))]
 pub fn takes(steps: &[Step]) -> u64
     ensures value { result ≡ takes steps.now }
     ensures most { result ≤ length steps.now }
 {
-    let mut count = 0;
-    for step in steps {
-        if matches!(step, Step::Take) {
-            count += 1;
-        }
-    }
-    count
+    let takes = steps.iter().filter(|step| matches!(step, Step::Take));
+    takes.count() as u64
 }
 
 /// How many steps say that an action is done.
+#[tactic(auto, unfolding(crate::specs::Actions::dones))]
 pub fn dones(steps: &[Step]) -> u64
     ensures value { result ≡ dones steps.now }
     ensures most { result ≤ length steps.now }
 {
-    let mut count = 0;
-    for step in steps {
-        if matches!(step, Step::Done { .. }) {
-            count += 1;
-        }
-    }
-    count
+    let dones = steps
+        .iter()
+        .filter(|step| matches!(step, Step::Done { .. }));
+    dones.count() as u64
 }
 
 // Whether a step says that the action of this ticket is done.
@@ -159,46 +147,32 @@ fn closes(kind: Kind) -> u64
     }
 }
 
-// The read-only offset that an action settles, where it is done; else 0.
-#[tactic(auto, unfolding(crate::specs::Lists::greatest))]
-fn settled_by(waiting: Option<Waiting>, steps: &[Step]) -> u64
-    ensures { result ≡ greatest (given_by settles steps.now) (cons_option waiting []) }
+// The greatest address that the done actions stored, or 0.
+fn done_greatest<F: Fn(Kind) -> u64>(stored: F, steps: &[Step]) -> u64
+    requires { F.IsAlwaysCallable stored }
+    ensures { (s : Kind → ℕ) → ((k : Kind) (x : ℕ) → F.post stored k x → x ≡ s k) → result ≡ done_greatest s steps.now }
 {
-    match waiting {
-        Some(waiting) if is_finished(waiting.ticket, steps) => settles(waiting.kind),
-        _ => 0,
+    let mut most = 0;
+    for (i, step) in steps.iter().enumerate() {
+        if let Some(waiting) = action_of(&steps[..i], step) {
+            if is_finished(waiting.ticket, steps) {
+                most = most.max(stored(waiting.kind));
+            }
+        }
     }
-}
-
-// The head that an action closes up to, where it is done; else 0.
-#[tactic(auto, unfolding(crate::specs::Lists::greatest))]
-fn closed_by(waiting: Option<Waiting>, steps: &[Step]) -> u64
-    ensures { result ≡ greatest (given_by closes steps.now) (cons_option waiting []) }
-{
-    match waiting {
-        Some(waiting) if is_finished(waiting.ticket, steps) => closes(waiting.kind),
-        _ => 0,
-    }
+    most
 }
 
 /// The safe read-only offset.
 pub fn safe_read_only(steps: &[Step]) -> u64
     ensures { result ≡ safe_read_only steps.now }
 {
-    let mut most = 0;
-    for (i, step) in steps.iter().enumerate() {
-        most = most.max(settled_by(action_of(&steps[..i], step), steps));
-    }
-    most
+    done_greatest(settles, steps)
 }
 
 /// The closed offset.
 pub fn closed(steps: &[Step]) -> u64
     ensures { result ≡ closed steps.now }
 {
-    let mut most = 0;
-    for (i, step) in steps.iter().enumerate() {
-        most = most.max(closed_by(action_of(&steps[..i], step), steps));
-    }
-    most
+    done_greatest(closes, steps)
 }

@@ -1,9 +1,11 @@
 //! Epochs of a list of steps.
 
-ghost use Rattle.std.specs.Prelude.{◌≡◌, ◌+◌, ◌≤◌, length};
+ghost use Rattle.std.specs.Prelude.{◌≡◌, ◌+◌, ◌≤◌, min, length, unwrap_or};
+ghost use Rattle.std.specs.List.{fold, range_with_len};
 ghost use Rattle.hl_model.specs.Epochs.{is_bump, enters, leaves, current_epoch, mark, is_protected, epoch_of, slot_epoch, safe_epoch};
-ghost use Rattle.hl_model.specs.Lists.{until_last};
 
+use crate::plain::actions::bumps;
+use crate::plain::lists::until_last;
 use crate::step::Step;
 
 /// Whether a step raises the current epoch.
@@ -34,17 +36,12 @@ fn leaves(t: u64, step: &Step) -> bool
 }
 
 /// The current epoch.
+#[tactic(auto, unfolding(crate::specs::Epochs::current_epoch, crate::specs::Actions::bumps))]
 pub fn current_epoch(steps: &[Step]) -> u64
     ensures value { result ≡ current_epoch steps.now }
     ensures most { result ≤ length steps.now + 1 }
 {
-    let mut epoch = 1;
-    for step in steps {
-        if is_bump(step) {
-            epoch += 1;
-        }
-    }
-    epoch
+    1 + bumps(steps)
 }
 
 /// How many steps lead up to slot t's last acquire or refresh, that one counted.
@@ -53,26 +50,7 @@ pub fn mark(t: u64, steps: &[Step]) -> usize
     ensures place { result ≡ mark t steps.now }
     ensures within { result ≤ length steps.now }
 {
-    let mut last = 0;
-    for (i, step) in steps.iter().enumerate() {
-        if enters(t, step) {
-            last = i + 1;
-        }
-    }
-    last
-}
-
-// How many steps lead up to slot t's last release, that one counted.
-fn last_release(t: u64, steps: &[Step]) -> usize
-    ensures { result ≡ until_last (leaves t) steps.now }
-{
-    let mut last = 0;
-    for (i, step) in steps.iter().enumerate() {
-        if leaves(t, step) {
-            last = i + 1;
-        }
-    }
-    last
+    until_last(steps, |step| enters(t, step))
 }
 
 /// Whether slot t is protected.
@@ -80,7 +58,7 @@ fn last_release(t: u64, steps: &[Step]) -> usize
 pub fn is_protected(t: u64, steps: &[Step]) -> bool
     ensures { result ≡ is_protected t steps.now }
 {
-    last_release(t, steps) < mark(t, steps)
+    until_last(steps, |step| leaves(t, step)) < mark(t, steps)
 }
 
 /// The epoch of slot t, where it is protected.
@@ -103,15 +81,19 @@ fn slot_epoch(t: u64, steps: &[Step]) -> Option<u64>
     }
 }
 
+// The least epoch of this many slots, or the current one where none is protected.
+fn least_epoch(slots: u64, steps: &[Step]) -> u64
+    ensures { result ≡ fold (λ least t. min least (unwrap_or (slot_epoch t steps.now) least)) (current_epoch steps.now) (range_with_len 0 slots) }
+{
+    (0..slots).fold(current_epoch(steps), |least, t| {
+        least.min(slot_epoch(t, steps).unwrap_or(least))
+    })
+}
+
 /// The safe epoch of this many slots.
+#[tactic(auto, using(crate::proofs::LeastLaws::safe_epoch_fold))]
 pub fn safe_epoch(slots: u64, steps: &[Step]) -> u64
     ensures { result ≡ safe_epoch slots steps.now }
 {
-    let mut least = current_epoch(steps);
-    for t in 0..slots {
-        if let Some(epoch) = slot_epoch(t, steps) {
-            least = least.min(epoch);
-        }
-    }
-    least - 1
+    least_epoch(slots, steps).saturating_sub(1)
 }

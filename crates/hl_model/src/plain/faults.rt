@@ -6,7 +6,7 @@ ghost use Rattle.hl_model.specs.Actions.{is_taken, pending};
 ghost use Rattle.hl_model.specs.Offsets.{tail};
 ghost use Rattle.hl_model.specs.Pages.{is_out, flushed};
 ghost use Rattle.hl_model.specs.Works.{as_mark};
-ghost use Rattle.hl_model.specs.Replies.{acquire_fault, protected_fault, bump_fault, take_fault, raise_fault, shift_fault, allocate_fault, look_fault, write_fault, read_fault};
+ghost use Rattle.hl_model.specs.Replies.{acquire_fault, protected_fault, bump_fault, take_fault, raise_fault, shift_fault, allocate_fault, look_fault, beyond_fault, write_fault, read_fault};
 ghost use Rattle.hl_model.specs.Offsets.{read_only, head};
 
 use crate::fault::Fault;
@@ -151,19 +151,29 @@ pub fn look_fault(t: u64, read_only: u64, head: u64, steps: &[Step]) -> Option<F
     }
 }
 
+// The fault of an address at or above the tail that slot t saw.
+fn beyond_fault(params: Params, t: u64, a: u64, steps: &[Step]) -> Option<Fault>
+    requires { TailFits params steps.now }
+    ensures { result ≡ beyond_fault params steps.now t a }
+{
+    let tail = seen_tail(params, t, steps);
+    if tail <= a {
+        Some(Fault::Beyond { tail })
+    } else {
+        None
+    }
+}
+
 /// The fault of a write by slot t at address a.
 pub fn write_fault(params: Params, t: u64, a: u64, steps: &[Step]) -> Option<Fault>
     requires { TailFits params steps.now }
     ensures { result ≡ write_fault params steps.now t a }
 {
     let read_only = seen_read_only(t, steps);
-    let tail = seen_tail(params, t, steps);
     if a < read_only {
         Some(Fault::Below { read_only })
-    } else if tail <= a {
-        Some(Fault::Beyond { tail })
     } else {
-        None
+        beyond_fault(params, t, a, steps)
     }
 }
 
@@ -173,13 +183,10 @@ pub fn read_fault(params: Params, t: u64, a: u64, steps: &[Step]) -> Option<Faul
     ensures { result ≡ read_fault params steps.now t a }
 {
     let head = seen_head(t, steps);
-    let tail = seen_tail(params, t, steps);
     if a < head {
         Some(Fault::Evicted { head })
-    } else if tail <= a {
-        Some(Fault::Beyond { tail })
     } else {
-        None
+        beyond_fault(params, t, a, steps)
     }
 }
 

@@ -31,25 +31,21 @@ fn shifted_to(step: &Step) -> u64
 }
 
 /// The read-only offset.
+#[tactic(auto, unfolding(crate::specs::Offsets::read_only), using(crate::proofs::FoldLaws::greatest_fold))]
 pub fn read_only(steps: &[Step]) -> u64
     ensures { result ≡ read_only steps.now }
 {
-    let mut most = 0;
-    for step in steps {
-        most = most.max(raised_to(step));
-    }
-    most
+    steps.iter().fold(0, |most, step| most.max(raised_to(step)))
 }
 
 /// The head.
+#[tactic(auto, unfolding(crate::specs::Offsets::head), using(crate::proofs::FoldLaws::greatest_fold))]
 pub fn head(steps: &[Step]) -> u64
     ensures { result ≡ head steps.now }
 {
-    let mut most = 0;
-    for step in steps {
-        most = most.max(shifted_to(step));
-    }
-    most
+    steps
+        .iter()
+        .fold(0, |most, step| most.max(shifted_to(step)))
 }
 
 /// Where a record of n words is placed, told the tail. The tail and the record are within the space.

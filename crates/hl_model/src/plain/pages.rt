@@ -2,7 +2,6 @@
 
 ghost use Rattle.std.specs.Prelude.{◌≡◌, ◌^◌, ◌≤◌, map};
 ghost use Rattle.std.specs.List.{list_any};
-ghost use Rattle.hl_model.specs.Lists.{until_last};
 ghost use Rattle.hl_model.specs.Pages.{goes_out, comes_back, is_out, is_complete, next_page, marks_of, is_flushed, flushed_run, flushed};
 ghost use Rattle.hl_model.specs.Replies.{unless_page};
 ghost use Rattle.hl_model.specs.Works.{takes_of, ends_of, completes_of, due_of, work_of, as_mark, marks_in};
@@ -10,6 +9,7 @@ ghost use Rattle.hl_model.specs.Works.{takes_of, ends_of, completes_of, due_of, 
 use crate::fault::Fault;
 use crate::params::Params;
 use crate::plain::actions::{closed, safe_read_only};
+use crate::plain::lists::until_last;
 use crate::plain::offsets::SPACE;
 use crate::step::Step;
 
@@ -115,15 +115,11 @@ impl Work {
     }
 
     /// The least page that is due and neither complete nor out, told the marks of the steps.
+    #[tactic(auto, unfolding(crate::specs::Pages::next_page, crate::specs::Pages::is_complete))]
     pub fn next_page(self, params: Params, steps: &[Step], marks: &[Mark]) -> Option<u64>
         ensures { result ≡ next_page (work_of params self) steps.now (map as_mark marks.now) }
     {
-        for p in 0..self.due(params, steps) {
-            if !self.is_complete(p, steps) && !is_out(p, marks) {
-                return Some(p);
-            }
-        }
-        None
+        (0..self.due(params, steps)).find(|p| !(self.is_complete(*p, steps) || is_out(*p, marks)))
     }
 
     /// The fault of a take, told the marks of the steps: this one, where no page waits.
@@ -160,38 +156,12 @@ impl Work {
     }
 }
 
-// How many marks lead up to the last by which page p went out, that one counted.
-fn last_out(p: u64, marks: &[Mark]) -> usize
-    ensures { result ≡ until_last (goes_out p) (map as_mark marks.now) }
-{
-    let mut last = 0;
-    for (i, mark) in marks.iter().enumerate() {
-        if mark.goes_out(p) {
-            last = i + 1;
-        }
-    }
-    last
-}
-
-// How many marks lead up to the last by which page p came back, that one counted.
-fn last_back(p: u64, marks: &[Mark]) -> usize
-    ensures { result ≡ until_last (comes_back p) (map as_mark marks.now) }
-{
-    let mut last = 0;
-    for (i, mark) in marks.iter().enumerate() {
-        if mark.comes_back(p) {
-            last = i + 1;
-        }
-    }
-    last
-}
-
 /// Whether page p is out, told the marks of the steps.
-#[tactic(auto, unfolding(crate::specs::Pages::is_out))]
+#[tactic(auto, unfolding(crate::specs::Pages::is_out), using(crate::proofs::FoldLaws::until_last_map))]
 pub fn is_out(p: u64, marks: &[Mark]) -> bool
     ensures { result ≡ is_out p (map as_mark marks.now) }
 {
-    last_back(p, marks) < last_out(p, marks)
+    until_last(marks, |mark| mark.comes_back(p)) < until_last(marks, |mark| mark.goes_out(p))
 }
 
 // How many pages 0, 1, 2 and so on are flushed, none left out.

@@ -1,9 +1,10 @@
 //! All quantities of a list of steps at once.
 
-ghost use Rattle.std.specs.Prelude.{◌≡◌, ◌^◌, ◌<◌, ◌≤◌, count_by, is_some, length};
+ghost use Rattle.std.specs.Prelude.{◌≡◌, ◌^◌, ◌<◌, ◌≤◌, count_by, length};
+ghost use Rattle.std.specs.List.{range_with_len};
 ghost use Rattle.hl_model.specs.Histories.{TailFits};
 ghost use Rattle.hl_model.specs.Actions.{pending, taken};
-ghost use Rattle.hl_model.specs.Epochs.{slot_epochs};
+ghost use Rattle.hl_model.specs.Epochs.{is_protected};
 ghost use Rattle.hl_model.specs.Offsets.{tail};
 ghost use Rattle.hl_model.specs.Pages.{flushed};
 ghost use Rattle.hl_model.specs.Replies.{IsAccepted};
@@ -23,15 +24,9 @@ use crate::view::Six;
 
 // How many slots are protected.
 fn protected(slots: u64, steps: &[Step]) -> u64
-    ensures { result ≡ count_by is_some (slot_epochs slots steps.now) }
+    ensures { result ≡ count_by (λ t. is_protected t steps.now) (range_with_len 0 slots) }
 {
-    let mut count = 0;
-    for t in 0..slots {
-        if is_protected(t, steps) {
-            count += 1;
-        }
-    }
-    count
+    (0..slots).filter(|t| is_protected(*t, steps)).count() as u64
 }
 
 // The six offsets.

@@ -8,23 +8,10 @@ ghost use Rattle.hl_model.specs.Views.{allocates, looked_read_only, looked_head,
 
 use crate::params::Params;
 use crate::plain::epochs::{is_protected, mark};
+use crate::plain::lists::until_last;
 use crate::plain::offsets::{head, read_only, tail};
 use crate::step::Step;
 use crate::view::View;
-
-// How many steps lead up to slot t's last allocation, that one counted.
-fn last_allocation(t: u64, steps: &[Step]) -> usize
-    ensures place { result ≡ until_last (allocates t) steps.now }
-    ensures within { result ≤ length steps.now }
-{
-    let mut last = 0;
-    for (i, step) in steps.iter().enumerate() {
-        if allocates(t, step) {
-            last = i + 1;
-        }
-    }
-    last
-}
 
 // Whether a step is an allocation of slot t.
 fn allocates(t: u64, step: &Step) -> bool
@@ -61,29 +48,33 @@ fn looked_head(t: u64, step: &Step) -> Option<u64>
 }
 
 /// The read-only offset that slot t saw: at its mark, or by its last look after it.
-#[tactic(auto, unfolding(crate::specs::Views::seen_read_only, crate::specs::Views::since_mark, crate::specs::Epochs::up_to_mark))]
+#[tactic(auto, unfolding(crate::specs::Views::seen_read_only, crate::specs::Views::since_mark, crate::specs::Epochs::up_to_mark), using(crate::proofs::FoldLaws::last_given_fold))]
 pub fn seen_read_only(t: u64, steps: &[Step]) -> u64
     ensures { result ≡ seen_read_only t steps.now }
 {
     let (before, since) = steps.split_at(mark(t, steps));
-    let mut seen = read_only(before);
-    for step in since {
-        seen = looked_read_only(t, step).unwrap_or(seen);
-    }
-    seen
+    since.iter().fold(read_only(before), |seen, step| {
+        looked_read_only(t, step).unwrap_or(seen)
+    })
 }
 
 /// The head that slot t saw, likewise.
-#[tactic(auto, unfolding(crate::specs::Views::seen_head, crate::specs::Views::since_mark, crate::specs::Epochs::up_to_mark))]
+#[tactic(auto, unfolding(crate::specs::Views::seen_head, crate::specs::Views::since_mark, crate::specs::Epochs::up_to_mark), using(crate::proofs::FoldLaws::last_given_fold))]
 pub fn seen_head(t: u64, steps: &[Step]) -> u64
     ensures { result ≡ seen_head t steps.now }
 {
     let (before, since) = steps.split_at(mark(t, steps));
-    let mut seen = head(before);
-    for step in since {
-        seen = looked_head(t, step).unwrap_or(seen);
-    }
-    seen
+    since.iter().fold(head(before), |seen, step| {
+        looked_head(t, step).unwrap_or(seen)
+    })
+}
+
+// How many steps lead up to slot t's last allocation, that one counted.
+fn last_allocation(t: u64, steps: &[Step]) -> usize
+    ensures place { result ≡ until_last (allocates t) steps.now }
+    ensures within { result ≤ length steps.now }
+{
+    until_last(steps, |step| allocates(t, step))
 }
 
 /// The tail that slot t saw: at its mark or at its last allocation, whichever is later.

@@ -1,20 +1,24 @@
 //! What the words of the log hold.
 
 ghost use Rattle.std.specs.Prelude.{◌≡◌};
-ghost use Rattle.hl_model.specs.Words.{word};
+ghost use Rattle.hl_model.specs.Words.{written_at, word};
 
 use crate::step::Step;
 
+// The value that a step writes at an address.
+fn written_at(address: u64, step: &Step) -> Option<u64>
+    ensures { result ≡ written_at address step.now }
+{
+    match *step {
+        Step::Write { a, v, .. } if a == address => Some(v),
+        _ => None,
+    }
+}
+
 /// The word at an address: the last value written there, or 0.
+#[tactic(auto, unfolding(crate::specs::Words::word), using(crate::proofs::FoldLaws::last_given_fold))]
 pub fn word(address: u64, steps: &[Step]) -> u64
     ensures { result ≡ word address steps.now }
 {
-    let mut value = 0;
-    for step in steps {
-        match *step {
-            Step::Write { a, v, .. } if a == address => value = v,
-            _ => {}
-        }
-    }
-    value
+    steps.iter().fold(0, |value, step| written_at(address, step).unwrap_or(value))
 }

@@ -24,6 +24,6 @@ returns-clause-kept c =
     let cleaned = rw (c.deref-3.ensures.value, c.deref-4.ensures.value) at c.mark_of-clean.ensures in
     record {
       history = history_pushed c.args.params c.args.steps.now.items c.args.step.now c.push_reserved.new.self.items c.requires.kept.history c.requires.accepted c.push_reserved.ensures.items;
-      flushes_are = marks_kept (flushing c.args.params) c.args.steps.now.items c.args.step.now c.push_reserved.new.self.items c.args.flushes.now.items c.push.new.row.items c.mark_of-flush.result c.requires.kept.flushes_are flushed c.push.ensures c.push_reserved.ensures.items;
-      cleans_are = marks_kept (cleaning c.args.params) c.args.steps.now.items c.args.step.now c.push_reserved.new.self.items c.args.cleans.now.items c.push-2.new.row.items c.mark_of-clean.result c.requires.kept.cleans_are cleaned c.push-2.ensures c.push_reserved.ensures.items;
+      flushes_are = marks_kept (flushing c.args.params) c.args.steps.now.items c.args.step.now c.push_reserved.new.self.items c.args.flushes.now.items c.push.new.row.items c.mark_of-flush.result c.requires.kept.flushes_are flushed c.push.ensures.marks c.push_reserved.ensures.items;
+      cleans_are = marks_kept (cleaning c.args.params) c.args.steps.now.items c.args.step.now c.push_reserved.new.self.items c.args.cleans.now.items c.push-2.new.row.items c.mark_of-clean.result c.requires.kept.cleans_are cleaned c.push-2.ensures.marks c.push_reserved.ensures.items;
     }

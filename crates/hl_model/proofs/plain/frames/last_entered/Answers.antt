@@ -3,7 +3,7 @@ use Rattle.hl_model.specs.Lists.{greatest_below}
 use Rattle.hl_model.specs.Offsets.{tail}
 use Rattle.std.proofs.lemmas.Bool.Decides.{nat_tests}
 use Rattle.hl_model.specs.Frames.{last_entered}
-use Rattle.hl_model.proofs.PageTests.{is_entered_in}
+use Rattle.hl_model.proofs.FrameLaws.{is_entered_in}
 use Rattle.hl_model.proofs.SearchLaws.{greatest_below-next, greatest_below-zero}
 use Rattle.hl_model.proofs.plain.frames.last_entered.Goals as goal
 

@@ -1,7 +1,7 @@
 use Rattle.std.proofs.Common.{◌≡◌, ◌*◌, ◌<◌}
 use Rattle.std.specs.Prelude.{IfSome}
 use Rattle.hl_model.specs.Lists.{greatest_below}
-use Rattle.hl_model.proofs.PageTests.{is_entered_in}
+use Rattle.hl_model.proofs.FrameLaws.{is_entered_in}
 use Rattle.hl_model.proofs.plain.frames.last_entered.Given as goal
 
 abbrev pub invariant-loop-p : goal.invariant-loop-p

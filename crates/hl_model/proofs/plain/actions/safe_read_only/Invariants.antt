@@ -1,9 +1,0 @@
-use Rattle.std.proofs.Common.{◌≡◌, take}
-use Rattle.hl_model.specs.Lists.{greatest}
-use Rattle.hl_model.specs.Actions.{actions}
-use Rattle.hl_model.specs.Given.{given_by}
-use Rattle.hl_model.specs.Settled.{settles}
-use Rattle.hl_model.proofs.plain.actions.safe_read_only.Given as goal
-
-abbrev pub invariant-loop-i : goal.invariant-loop-i
-invariant-loop-i l = l.most ≡ greatest (given_by settles l.steps) (actions (take l.i l.steps))
