@@ -4,7 +4,7 @@ use Rattle.std.specs.List.{range_with_len}
 use Rattle.hl_model.specs.declared.fault.Fault.{Fault}
 use Rattle.hl_model.specs.declared.fault.Fault.TheVariants.{Stale, NotReady, NotTaken, NotAbove, AboveTail, NotPage, AboveFlushed, Size, Busy, Below, Beyond, Evicted, NoneSealed, NotInFlight, NoneClosed, NotCleaning}
 use Rattle.hl_model.specs.declared.frame.FrameState.{FrameState}
-use Rattle.hl_model.specs.declared.frame.FrameState.TheVariants.{Opened, Sealed, Flushed as AtFlushed, Closed as AtClosed, Free}
+use Rattle.hl_model.specs.declared.frame.FrameState.TheVariants.{Opened, Sealed, Flushed as AtFlushed, Free}
 use Rattle.hl_model.specs.declared.step.Reply.{Reply}
 use Rattle.hl_model.specs.declared.step.Reply.TheVariants.{Entered, Left, Ticket, Taken, Settled, Closed, Raised, Shifted, At, Looked, Written, Readable, Page, Flushed, Freed}
 use Rattle.hl_model.specs.declared.step.Step.{Step}
