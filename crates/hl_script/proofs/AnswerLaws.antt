@@ -1,24 +1,39 @@
 -- What the lines that answer a step and a query tell.
-use Rattle.std.proofs.Common.{◌≡◌, ℕ, suc, ◌+◌, Bool, false, is_none, is_ok, List, [], ◌∷◌, ◌++◌, refl, sym, ap, ◌∙◌, subst, append_assoc, append-nil, arith}
+use Rattle.std.proofs.Common.{◌≡◌, ℕ, suc, ◌+◌, Bool, false, cond, is_none, is_ok, List, [], ◌∷◌, ◌++◌, refl, sym, ap, ◌∙◌, subst, append_assoc, append-nil, arith}
 use Rattle.std.specs.Prelude.{Option, Some, None, Result, Ok, Err, codes}
 use Rattle.std.specs.List.{flat_map, range_with_len}
 use Rattle.std.specs.Io.KnownBytes.{Appends}
 use Rattle.std.proofs.lemmas.Grind.{flat_map-append}
 use Rattle.hl_model.specs.declared.fault.Fault.{Fault}
+use Rattle.hl_model.specs.declared.fault.Fault.TheVariants.{NoJob}
 use Rattle.hl_model.specs.declared.step.Reply.{Reply}
 use Rattle.hl_model.specs.declared.step.Step.{Step}
 use Rattle.hl_model.specs.declared.snapshot.Snapshot.{Snapshot}
 use Rattle.hl_model.specs.Sizes.{Sizes}
 use Rattle.hl_model.specs.Frames.{frame_of}
 use Rattle.hl_model.specs.Snapshots.{snapshot_of}
-use Rattle.hl_model.specs.Replies.{unless_fault}
+use Rattle.hl_model.specs.Replies.{fault_of, unless_fault}
 use Rattle.hl_model.proofs.ActionLaws.{range-push}
 use Rattle.hl_script.specs.declared.machine.Broken.{Broken}
 use Rattle.hl_script.specs.declared.machine.Broken.TheVariants.{OutOfMemory as NoMemory, Stream}
-use Rattle.hl_script.specs.Answers.{line_fault, line_answer, quantities_text, status_text, frame_text, result_text}
+use Rattle.hl_script.specs.Answers.{lacks_job, line_fault, line_answer, quantities_text, status_text, frame_text, result_text}
 use Rattle.hl_script.specs.Engine.{Puts}
 use Rattle.hl_script.specs.Outcomes.{AppendsFront}
 use Rattle.hl_script.specs.Stepping.{Stepped, StepAnswers, QueryAnswers}
+
+-- an answer that is a fault
+pub unless_err : (o : Option Fault) (f : Fault) (x : Reply) → Err f ≡ unless_fault o x → o ≡ Some f
+unless_err None f x h = cc
+unless_err (Some g) f x h = cc
+
+-- an answer that is none
+pub unless_ok : (o : Option Fault) (v x : Reply) → Ok v ≡ unless_fault o x → (o ≡ None) × (v ≡ x)
+unless_ok None v x h = (refl, cc)
+unless_ok (Some g) v x h = cc
+
+-- where the tag has a job, the fault is the definitions'
+pub fault_kept : (has : ℕ → Bool) (sizes : Sizes) (A : List Step) (step : Step) → lacks_job has A step ≡ false → line_fault has sizes A step ≡ fault_of sizes A step
+fault_kept has sizes A step h = ap (λ b. cond b (Some NoJob) (fault_of sizes A step)) h
 
 accepted_told : (o : Option Fault) (x : Reply) (r : Result Reply Fault) → r ≡ unless_fault o x → is_ok r ≡ is_none o
 accepted_told None x r h = ap is_ok h
@@ -68,6 +83,6 @@ frames-more sizes A n =
     next = omega arith
 
 -- the quantities as a snapshot tells them
-pub status_told : (sizes : Sizes) (A : List Step) (now : Snapshot) → now ≡ snapshot_of sizes A → quantities_text now.epoch now.safe now.pending now.taken now.six ≡ status_text sizes A
+pub status_told : (sizes : Sizes) (A : List Step) (now : Snapshot) (text bytes : List ℕ) → text ≡ bytes → bytes ≡ quantities_text now.epoch now.safe now.pending now.taken now.six → now ≡ snapshot_of sizes A → text ≡ status_text sizes A
 unfolding status_text
-status_told sizes A now e = ap (λ (z : Snapshot). quantities_text z.epoch z.safe z.pending z.taken z.six) e
+status_told sizes A now text bytes same told e = same ∙ told ∙ ap (λ (z : Snapshot). quantities_text z.epoch z.safe z.pending z.taken z.six) e

@@ -1,5 +1,5 @@
 -- What the parts of a run make of where it stands.
-use Rattle.std.proofs.Common.{◌≡◌, ◌≢◌, ◌≤◌, ℕ, ◌+◌, Bool, true, false, cond, eqb, List, [], ◌∷◌, ◌++◌, length, take, refl, sym, ap, ◌∙◌, subst, append_assoc, append-nil, arith}
+use Rattle.std.proofs.Common.{◌≡◌, ◌≢◌, ◌<◌, ◌≤◌, ◌⊎◌, inl, inr, ℕ, ◌+◌, Bool, true, false, cond, eqb, List, [], ◌∷◌, ◌++◌, length, take, refl, sym, ap, ◌∙◌, subst, append_assoc, append-nil, arith}
 use Rattle.std.specs.Prelude.{Option, Some, None, Result, Ok, Err}
 use Rattle.std.specs.Io.KnownBytes.{Appends, Consumes, IsAtEnd}
 use Rattle.std.proofs.lemmas.Bool.{eqb-true, false≢true}
@@ -9,15 +9,15 @@ use Rattle.hl_line.specs.Reading.{line_of}
 use Rattle.hl_script.specs.declared.progress.Progress.{Progress}
 use Rattle.hl_script.specs.declared.stop.Stop.{Stop}
 use Rattle.hl_script.specs.declared.stop.Stop.TheVariants.{BadLine, OutOfMemory, Reader, Writer}
-use Rattle.hl_script.specs.Cut.{whole_lines}
+use Rattle.hl_script.specs.Cut.{whole_lines, unfinished_line}
 use Rattle.hl_script.specs.Lines.{script, bad_line, allowed, may_stand}
 use Rattle.hl_script.specs.Answers.{accepted, accepted_after}
 use Rattle.hl_script.specs.Text.{answers, bad_text, text, count_of}
 use Rattle.hl_script.specs.Outcomes.{WroteWholeLines, WroteAll, WroteUpTo, AppendsFront}
-use Rattle.hl_script.specs.Engine.{answered, Answered, Refuses, Stopped, Reached, Faces, At, JudgedGood, Judged, Fed, Ended, Ran}
+use Rattle.hl_script.specs.Engine.{answered, Answered, Refuses, Stopped, Judges, Reached, Faces, At, JudgedGood, Judged, Fed, Ended, Ran}
 use Rattle.hl_script.proofs.KnownLaws.{Appends-nothing, Appends-more, Consumes-more, front-more, front-longer, at_end_left}
 use Rattle.hl_script.proofs.LineLaws.{IsBad, faces_bad, faces_good}
-use Rattle.hl_script.proofs.ReachLaws.{IsGood, reached_start, reached_byte, reached_end, reached_long, reached_last, reached_line, reached_unfinished, reached_whole, reached_done, reached_last_line}
+use Rattle.hl_script.proofs.ReachLaws.{IsGood, reached_start, reached_byte, reached_end, reached_long, reached_last, reached_line, reached_unfinished, reached_whole, reached_done, reached_last_line, whole-end}
 use Rattle.hl_script.proofs.TextLaws.{answers-nil, answers-push, answers-front, accepted-length}
 
 -- the text of bytes with a bad line
@@ -92,6 +92,26 @@ judged stands has before raw line from mid to counted old new a l s h answer nl 
   wrote = subst (Appends from to) (sym (answers-push has before line)) (Appends-more from mid to (answers has before) (answered has before line) a answer.wrote);
 }
 
+-- the bytes in which a line was found bad
+judges : (has : ℕ → Bool) (lacks : Line → Bool) (from to : Option (List ℕ)) (stop : Stop) (bytes : List ℕ) → Stopped has lacks from to stop bytes → (whole_lines bytes ≡ bytes) ⊎ (80 < length (unfinished_line bytes)) → Judges stop bytes
+judges has lacks from to (BadLine n) bytes s e = record { front = bytes; rest = []; is_front = append-nil bytes; bad = s.bad; ended = e }
+judges has lacks from to OutOfMemory bytes s e = tt
+judges has lacks from to Reader bytes s e = tt
+judges has lacks from to Writer bytes s e = tt
+
+-- and more of them
+judges_more : (stop : Stop) (bytes more : List ℕ) → Judges stop bytes → Judges stop (bytes ++ more)
+judges_more (BadLine n) bytes more j = record {
+  front = j.front;
+  rest = j.rest ++ more;
+  is_front = sym (append_assoc j.front j.rest more) ∙ ap (λ z. z ++ more) j.is_front;
+  bad = j.bad;
+  ended = j.ended;
+}
+judges_more OutOfMemory bytes more j = tt
+judges_more Reader bytes more j = tt
+judges_more Writer bytes more j = tt
+
 -- a line ended at an LF
 pub fed_end : (old stands : (ℕ → Bool) → List Line → Type 0) (lacks : Line → Bool) (has : ℕ → Bool) (done : List ℕ) (before : List Line) (from mid to : Option (List ℕ)) (p q : Progress) (result : Result Unit Stop) → At old has done before from mid p → Judged stands lacks has before p.line.items from to q result → Fed stands lacks has (done ++ 10 ∷ []) from to q result
 fed_end old stands lacks has done before from mid to p q (Ok fed) at j = (
@@ -107,15 +127,24 @@ fed_end old stands lacks has done before from mid to p q (Ok fed) at j = (
     wrote = j.wrote;
   },
 )
-fed_end old stands lacks has done before from mid to p q (Err stop) at j =
-    λ more. j ((done ++ 10 ∷ []) ++ more) (subst (λ z. Faces z before p.line.items) (sym (append_assoc done (10 ∷ []) more)) (reached_end done before p.line.items more at.stood.reached))
+fed_end old stands lacks has done before from mid to p q (Err stop) at j = (
+  λ more. j ((done ++ 10 ∷ []) ++ more) (subst (λ z. Faces z before p.line.items) (sym (append_assoc done (10 ∷ []) more)) (reached_end done before p.line.items more at.stood.reached)),
+  judges has lacks from to stop (done ++ 10 ∷ []) (j (done ++ 10 ∷ []) (reached_end done before p.line.items [] at.stood.reached)) (inl (whole-end done)),
+)
 
 -- the 81st byte of a line
-pub fed_long : (stands : (ℕ → Bool) → List Line → Type 0) (lacks : Line → Bool) (has : ℕ → Bool) (done : List ℕ) (before : List Line) (b : ℕ) (from mid to : Option (List ℕ)) (p : Progress) (stop : Stop) → At stands has done before from mid p → length p.line.items ≡ 80 → b ≢ 10 → Refuses mid to (p.lines + 1) stop → (more : List ℕ) → Stopped has lacks from to stop ((done ++ b ∷ []) ++ more)
-fed_long stands lacks has done before b from mid to p stop at long ne r more =
+stopped_long : (stands : (ℕ → Bool) → List Line → Type 0) (lacks : Line → Bool) (has : ℕ → Bool) (done : List ℕ) (before : List Line) (b : ℕ) (from mid to : Option (List ℕ)) (p : Progress) (stop : Stop) → At stands has done before from mid p → length p.line.items ≡ 80 → b ≢ 10 → Refuses mid to (p.lines + 1) stop → (more : List ℕ) → Stopped has lacks from to stop ((done ++ b ∷ []) ++ more)
+stopped_long stands lacks has done before b from mid to p stop at long ne r more =
     let far = reached_long done before p.line.items more b at.stood.reached long ne in
     let faces : Faces ((done ++ b ∷ []) ++ more) before far.0 = subst (λ z. Faces z before far.0) (sym (append_assoc done (b ∷ []) more)) far.1 in
     refused has lacks from mid to before ((done ++ b ∷ []) ++ more) (p.lines + 1) stop at.wrote r (ap (λ n. n + 1) at.stood.lines) (faces_bad ((done ++ b ∷ []) ++ more) before far.0 faces (ap (allowed before) far.2))
+
+pub fed_long : (stands : (ℕ → Bool) → List Line → Type 0) (lacks : Line → Bool) (has : ℕ → Bool) (done : List ℕ) (before : List Line) (b : ℕ) (from mid to : Option (List ℕ)) (p : Progress) (stop : Stop) → At stands has done before from mid p → length p.line.items ≡ 80 → b ≢ 10 → Refuses mid to (p.lines + 1) stop → ((more : List ℕ) → Stopped has lacks from to stop ((done ++ b ∷ []) ++ more)) × Judges stop (done ++ b ∷ [])
+fed_long stands lacks has done before b from mid to p stop at long ne r =
+    let stopped : (more : List ℕ) → Stopped has lacks from to stop ((done ++ b ∷ []) ++ more) = stopped_long stands lacks has done before b from mid to p stop at long ne r in
+    let unfinished : unfinished_line (done ++ b ∷ []) ≡ p.line.items ++ b ∷ [] = reached_unfinished (done ++ b ∷ []) before (p.line.items ++ b ∷ []) (reached_byte done before p.line.items b at.stood.reached ne) in
+    let far : 80 < length (unfinished_line (done ++ b ∷ [])) = omega (arith, ap length unfinished, length_push p.line.items b, long) in
+    (stopped, judges has lacks from to stop (done ++ b ∷ []) (subst (Stopped has lacks from to stop) (append-nil (done ++ b ∷ [])) (stopped [])) (inr far))
 
 -- a byte of a line
 pub fed_byte : (stands : (ℕ → Bool) → List Line → Type 0) (has : ℕ → Bool) (done : List ℕ) (before : List Line) (b : ℕ) (from to : Option (List ℕ)) (p q : Progress) → At stands has done before from to p → b ≢ 10 → length p.line.items ≢ 80 → q.lines ≡ p.lines → q.steps ≡ p.steps → q.line.items ≡ p.line.items ++ b ∷ [] → (before : List Line) × At stands has (done ++ b ∷ []) before from to q
@@ -134,9 +163,11 @@ fed_byte stands has done before b from to p q at ne room l s i = (
 )
 
 -- a stop is one whatever follows
-pub fed_stop : (has : ℕ → Bool) (lacks : Line → Bool) (from to : Option (List ℕ)) (stop : Stop) (done all rest : List ℕ) → all ≡ done ++ rest → ((more : List ℕ) → Stopped has lacks from to stop (done ++ more)) → (more : List ℕ) → Stopped has lacks from to stop (all ++ more)
-fed_stop has lacks from to stop done all rest e h more =
-    subst (Stopped has lacks from to stop) (sym (append_assoc done rest more) ∙ ap (λ z. z ++ more) (sym e)) (h (rest ++ more))
+pub fed_stop : (has : ℕ → Bool) (lacks : Line → Bool) (from to : Option (List ℕ)) (stop : Stop) (done all rest : List ℕ) → all ≡ done ++ rest → ((more : List ℕ) → Stopped has lacks from to stop (done ++ more)) × Judges stop done → ((more : List ℕ) → Stopped has lacks from to stop (all ++ more)) × Judges stop all
+fed_stop has lacks from to stop done all rest e h = (
+  λ more. subst (Stopped has lacks from to stop) (sym (append_assoc done rest more) ∙ ap (λ z. z ++ more) (sym e)) (h.0 (rest ++ more)),
+  subst (Judges stop) (sym e) (judges_more stop done rest h.1),
+)
 
 -- the input ended behind an LF, or before its first byte
 pub ended_done : (stands : (ℕ → Bool) → List Line → Type 0) (has : ℕ → Bool) (done : List ℕ) (before : List Line) (from to : Option (List ℕ)) (p : Progress) (count : Option ℕ) → At stands has done before from to p → p.line.items ≡ [] → count ≡ count_of has before → stands has (script done) × WroteAll has from to done × (count ≡ count_of has (script done))
@@ -170,22 +201,22 @@ ran_out stands has done before from to p at =
     }
 
 -- a run stopped at a line, an error that is no failed read
-pub ran_stopped : (stands : (ℕ → Bool) → List Line → Type 0) (lacks : Line → Bool) (has : ℕ → Bool) (given left from to : Option (List ℕ)) (stop : Stop) (input : List ℕ) → Consumes given left input → Stopped has lacks from to stop input → ((more : List ℕ) → left ≡ Some more → Stopped has lacks from to stop (input ++ more)) → Ran stands lacks has given left from to (Err stop)
-ran_stopped stands lacks has given left from to (BadLine n) input c s m = (input, c, record { given = s; with_left = m })
-ran_stopped stands lacks has given left from to OutOfMemory input c s m = (input, c, record { given = s; with_left = m })
-ran_stopped stands lacks has given left from to Reader input c s m = absurd s
-ran_stopped stands lacks has given left from to Writer input c s m = (input, c, record { given = s; with_left = m })
+pub ran_stopped : (stands : (ℕ → Bool) → List Line → Type 0) (lacks : Line → Bool) (has : ℕ → Bool) (given left from to : Option (List ℕ)) (stop : Stop) (input : List ℕ) → Consumes given left input → Stopped has lacks from to stop input → ((more : List ℕ) → left ≡ Some more → Stopped has lacks from to stop (input ++ more)) → Judges stop input ⊎ IsAtEnd left → Ran stands lacks has given left from to (Err stop)
+ran_stopped stands lacks has given left from to (BadLine n) input c s m j = (input, c, record { given = s; with_left = m }, j)
+ran_stopped stands lacks has given left from to OutOfMemory input c s m j = (input, c, record { given = s; with_left = m })
+ran_stopped stands lacks has given left from to Reader input c s m j = absurd s
+ran_stopped stands lacks has given left from to Writer input c s m j = (input, c, record { given = s; with_left = m })
 
 -- a run stopped in the middle of its input
-pub ran_within : (stands : (ℕ → Bool) → List Line → Type 0) (lacks : Line → Bool) (has : ℕ → Bool) (given left from to : Option (List ℕ)) (stop : Stop) (input : List ℕ) → Consumes given left input → ((more : List ℕ) → Stopped has lacks from to stop (input ++ more)) → Ran stands lacks has given left from to (Err stop)
+pub ran_within : (stands : (ℕ → Bool) → List Line → Type 0) (lacks : Line → Bool) (has : ℕ → Bool) (given left from to : Option (List ℕ)) (stop : Stop) (input : List ℕ) → Consumes given left input → ((more : List ℕ) → Stopped has lacks from to stop (input ++ more)) × Judges stop input → Ran stands lacks has given left from to (Err stop)
 ran_within stands lacks has given left from to stop input c s =
-    ran_stopped stands lacks has given left from to stop input c (subst (Stopped has lacks from to stop) (append-nil input) (s [])) (λ more is. s more)
+    ran_stopped stands lacks has given left from to stop input c (subst (Stopped has lacks from to stop) (append-nil input) (s.0 [])) (λ more is. s.0 more) (inl s.1)
 
 -- a run came to the end of its input
 pub ran_ended : (stands : (ℕ → Bool) → List Line → Type 0) (lacks : Line → Bool) (has : ℕ → Bool) (given left from to : Option (List ℕ)) (result : Result (Option ℕ) Stop) (input : List ℕ) → Consumes given left input → IsAtEnd left → Ended stands lacks has input from to result → Ran stands lacks has given left from to result
 ran_ended stands lacks has given left from to (Ok count) input c e h = (input, c, e, h.0, h.1, h.2)
 ran_ended stands lacks has given left from to (Err stop) input c e h =
-    ran_stopped stands lacks has given left from to stop input c h (λ more is. subst (λ z. Stopped has lacks from to stop (input ++ z)) (sym (at_end_left left more e is)) (subst (Stopped has lacks from to stop) (sym (append-nil input)) h))
+    ran_stopped stands lacks has given left from to stop input c h (λ more is. subst (λ z. Stopped has lacks from to stop (input ++ z)) (sym (at_end_left left more e is)) (subst (Stopped has lacks from to stop) (sym (append-nil input)) h)) (inr e)
 
 -- a line of no bytes
 pub empty_line : (xs : List ℕ) → eqb (length xs) 0 ≡ true → xs ≡ []

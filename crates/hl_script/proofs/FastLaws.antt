@@ -20,6 +20,7 @@ use Rattle.hl_cells.specs.EngineSteps.{fired, Told, Moved, is_job_bump}
 use Rattle.hl_script.specs.Answers.{bears, lacks_job, line_fault, shown, line_answer, line_reply, with_line}
 use Rattle.hl_script.specs.Text.{tags_on}
 use Rattle.hl_script.specs.Fast.{adds, AreLeft, IsFast}
+use Rattle.hl_script.proofs.AnswerLaws.{unless_err, unless_ok, fault_kept}
 use Rattle.hl_script.proofs.ShelfLaws.{left_stays, left_bumped, left_missed, left_back}
 
 -- what is found passes the test
@@ -74,10 +75,6 @@ told_ok sizes A step r result h = by_reply (ran_or_not r)
 told_shown : (sizes : Sizes) (A : List Step) (step : Step) (o : Option Fault) (r : Reply) (result : Result Reply Fault) → Told adds (fired sizes A step) (unless_fault o r) result → result ≡ unless_fault o (shown step r)
 told_shown sizes A step None r result h = told_ok sizes A step r result h
 told_shown sizes A step (Some f) r result h = h
-
--- where the tag has a job, the fault is the definitions'
-fault_kept : (has : ℕ → Bool) (sizes : Sizes) (A : List Step) (step : Step) → lacks_job has A step ≡ false → line_fault has sizes A step ≡ fault_of sizes A step
-fault_kept has sizes A step h = ap (λ b. cond b (Some NoJob) (fault_of sizes A step)) h
 
 -- a step whose tag has a job, if it bears one
 pub fast_made : {F : Type 0} (shelf after : List (Option (KeptRecord F))) (old new : Whole F) (has : ℕ → Bool) (sizes : Sizes) (A : List Step) (step : Step) (result : Result Reply Fault) → IsFast shelf old has sizes A → lacks_job has A step ≡ false → Moved adds old A step new result → AreLeft has (with_line has sizes A (Makes step)) after → (result ≡ line_reply has sizes A step) × IsFast after new has sizes (with_line has sizes A (Makes step))
@@ -140,14 +137,6 @@ fast_lacks shelf after now has sizes A tag sh none e = (
 has_job : {F : Type 0} (shelf : List (Option (KeptRecord F))) (has : ℕ → Bool) (A : List Step) (tag : ℕ) (kept : KeptRecord F) → AreLeft has A shelf → job_of shelf tag ≡ Some kept → lacks_job has A (Bump tag) ≡ false
 has_job shelf has A tag kept left there = (not_back (tags_on shelf tag) (lacks_job has A (Bump tag)) (left tag)).0 (ap is_some there)
 
-unless_none : (o : Option Fault) (v x : Reply) → Ok v ≡ unless_fault o x → o ≡ None
-unless_none None v x h = refl
-unless_none (Some g) v x h = cc
-
-unless_some : (o : Option Fault) (f : Fault) (x : Reply) → Err f ≡ unless_fault o x → o ≡ Some f
-unless_some None f x h = cc
-unless_some (Some g) f x h = cc
-
 -- an accepted bump: its job leaves the shelf
 pub fast_bumps : {F : Type 0} (shelf after : List (Option (KeptRecord F))) (old new : Whole F) (has : ℕ → Bool) (sizes : Sizes) (A : List Step) (tag ticket : ℕ) (kept : KeptRecord F) → IsFast shelf old has sizes A → job_of shelf tag ≡ Some kept → kept.tag ≡ tag → after ≡ set shelf tag None → Moved adds old A (Bump kept.tag) new (Ok (Ticket ticket)) → (Ok (Ticket ticket) ≡ line_reply has sizes A (Bump tag)) × IsFast after new has sizes (with_line has sizes A (Makes (Bump tag)))
 fast_bumps shelf after old new has sizes A tag ticket kept sh there own e moved =
@@ -161,10 +150,10 @@ fast_bumps shelf after old new has sizes A tag ticket kept sh there own e moved 
     lacks = has_job shelf has A tag kept sh.left there
 
     free : line_fault has sizes A (Bump tag) ≡ None
-    free = unless_none (line_fault has sizes A (Bump tag)) (Ticket ticket) (line_answer sizes A (Bump tag))
+    free = (unless_ok (line_fault has sizes A (Bump tag)) (Ticket ticket) (line_answer sizes A (Bump tag))
         (told_shown sizes A (Bump tag) (fault_of sizes A (Bump tag)) (with_word A (Bump tag) (answer_of sizes A (A ++ Bump tag ∷ []) (Bump tag))) (Ok (Ticket ticket))
         (subst (λ z. Told adds (fired z A (Bump tag)) (word_reply_of z A (Bump tag)) (Ok (Ticket ticket))) sh.sizes_is here.told)
-        ∙ sym (ap (λ o. unless_fault o (line_answer sizes A (Bump tag))) (fault_kept has sizes A (Bump tag) lacks)))
+        ∙ sym (ap (λ o. unless_fault o (line_answer sizes A (Bump tag))) (fault_kept has sizes A (Bump tag) lacks)))).0
 
 -- a refused bump: its job is put back
 pub fast_refuses : {F : Type 0} (shelf after : List (Option (KeptRecord F))) (old new : Whole F) (has : ℕ → Bool) (sizes : Sizes) (A : List Step) (tag : ℕ) (f : Fault) (kept back : KeptRecord F) → IsFast shelf old has sizes A → job_of shelf tag ≡ Some kept → kept.tag ≡ tag → back ≡ kept → after ≡ (cond (has_place (set shelf tag None) back.tag) (set (set shelf tag None) back.tag (Some back)) (set shelf tag None)) → Moved adds old A (Bump kept.tag) new (Err f) → (Err f ≡ line_reply has sizes A (Bump tag)) × IsFast after new has sizes (with_line has sizes A (Makes (Bump tag)))
@@ -180,7 +169,7 @@ fast_refuses shelf after old new has sizes A tag f kept back sh there own same e
     lacks = has_job shelf has A tag kept sh.left there
 
     fault_is : line_fault has sizes A (Bump tag) ≡ Some f
-    fault_is = unless_some (line_fault has sizes A (Bump tag)) f (line_answer sizes A (Bump tag))
+    fault_is = unless_err (line_fault has sizes A (Bump tag)) f (line_answer sizes A (Bump tag))
         (told_shown sizes A (Bump tag) (fault_of sizes A (Bump tag)) (with_word A (Bump tag) (answer_of sizes A (A ++ Bump tag ∷ []) (Bump tag))) (Err f)
         (subst (λ z. Told adds (fired z A (Bump tag)) (word_reply_of z A (Bump tag)) (Err f)) sh.sizes_is here.told)
         ∙ sym (ap (λ o. unless_fault o (line_answer sizes A (Bump tag))) (fault_kept has sizes A (Bump tag) lacks)))

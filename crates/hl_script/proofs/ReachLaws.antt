@@ -3,7 +3,7 @@ use Rattle.std.proofs.Common.{◌≡◌, ◌≢◌, ℕ, ◌+◌, false, cond, �
 use Rattle.std.specs.Prelude.{Some, None}
 use Rattle.std.specs.List.{list_any}
 use Rattle.std.proofs.lemmas.List.{length_push}
-use Rattle.std.proofs.Math.Seq.{take-append_seam, drop-append_seam}
+use Rattle.std.proofs.Math.Seq.{take-append_seam, take-length, drop-append_seam}
 use Rattle.hl_model.specs.Lists.{until_last}
 use Rattle.hl_model.proofs.ListLaws.{until_last-push, list_any-push}
 use Rattle.hl_line.specs.declared.line.Line.{Line}
@@ -14,6 +14,11 @@ use Rattle.hl_script.specs.Lines.{allowed, good_lines, script, bad_line}
 use Rattle.hl_script.specs.Engine.{is_end, Reached, Faces}
 use Rattle.hl_script.proofs.CutLaws.{cut-nil, cut-line, cut-begun, cut-last, until_last-none}
 use Rattle.hl_script.proofs.LineLaws.{good-nil, good-line, good-append}
+
+-- the lines are whole behind an LF
+pub whole-end : (bytes : List ℕ) → whole_lines (bytes ++ 10 ∷ []) ≡ bytes ++ 10 ∷ []
+unfolding whole_lines
+whole-end bytes = ap (λ n. take n (bytes ++ 10 ∷ [])) (until_last-push is_end bytes 10 ∙ sym (length_push bytes 10)) ∙ take-length (bytes ++ 10 ∷ [])
 
 -- before the first byte
 pub reached_start : Reached [] [] []

@@ -1,7 +1,7 @@
 -- What the outcome of a script's run is to a caller.
 use Rattle.std.proofs.Common.{◌≡◌, ◌⊎◌, ℕ, Bool, true, false, List, [], ◌∷◌, ◌++◌, ap, ◌∙◌, subst, arith}
 use Rattle.std.specs.Prelude.{Option}
-use Rattle.std.specs.Io.KnownBytes.{Appends, Consumes}
+use Rattle.std.specs.Io.KnownBytes.{Appends, Consumes, IsAtEnd}
 use Rattle.hl_model.specs.declared.fault.Fault.{Fault}
 use Rattle.hl_model.specs.declared.fault.Fault.TheVariants.{BadLine, OutOfMemory, Stream}
 use Rattle.hl_model.specs.declared.step.Step.{Step}
@@ -13,7 +13,7 @@ use Rattle.hl_line.specs.declared.line.Line.{Line}
 use Rattle.hl_line.specs.declared.line.Line.TheVariants.{Config, Step as Makes, Status, Pending, Frames}
 use Rattle.hl_script.specs.Lines.{is_config, takes_memory}
 use Rattle.hl_script.specs.Text.{answers}
-use Rattle.hl_script.specs.Outcomes.{WroteBad, WroteWholeLines, WroteFront, WroteUpTo, LackedAtConfig, Settled, IsRunFault}
+use Rattle.hl_script.specs.Outcomes.{WroteBad, IsJudged, WroteWholeLines, WroteFront, WroteUpTo, LackedAtConfig, Settled, IsRunFault}
 use Rattle.hl_script.specs.Machine.{ScriptStopped}
 use Rattle.hl_script.proofs.MachineLaws.{config_first}
 use Rattle.hl_script.proofs.TextLaws.{answers-nil}
@@ -46,7 +46,7 @@ settled_lacked has left from to input s = record {
 }
 
 -- a run that stopped at a fault, by the fault
-pub stopped_bad : (may_lack : Bool) (has : ℕ → Bool) (given left from to : Option (List ℕ)) (f : Fault) (n : ℕ) → ScriptStopped may_lack has given left from to f → f ≡ BadLine n → (input : List ℕ) × Consumes given left input × Settled left (WroteBad has from to n) input
+pub stopped_bad : (may_lack : Bool) (has : ℕ → Bool) (given left from to : Option (List ℕ)) (f : Fault) (n : ℕ) → ScriptStopped may_lack has given left from to f → f ≡ BadLine n → (input : List ℕ) × Consumes given left input × Settled left (WroteBad has from to n) input × (IsJudged n input ⊎ IsAtEnd left)
 stopped_bad may_lack has given left from to f n s e = subst (ScriptStopped may_lack has given left from to) e s
 
 pub stopped_lacked : (has : ℕ → Bool) (given left from to : Option (List ℕ)) (f : Fault) → ScriptStopped false has given left from to f → f ≡ OutOfMemory → (input : List ℕ) × Consumes given left input × Settled left (LackedAtConfig from to) input

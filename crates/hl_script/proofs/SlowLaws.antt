@@ -2,13 +2,13 @@
 use Rattle.std.proofs.Common.{◌≡◌, ℕ, ◌^◌, ◌<◌, ◌≤◌, Bool, true, false, cond, not, ◌&&◌, ◌||◌, ltb, is_none, inl, inr, List, [], ◌∷◌, ◌++◌, refl, sym, ap, ap₂, ◌∙◌, subst, append-nil, arith}
 use Rattle.std.specs.Prelude.{◌==◌, Option, Some, None, Ok, Err}
 use Rattle.std.specs.List.{find, list_all, list_any}
-use Rattle.std.proofs.lemmas.Bool.{ltb-true}
+use Rattle.std.proofs.lemmas.Bool.{and_parts, ltb-true}
 use Rattle.std.proofs.lemmas.List.Folds.{list_all-append}
 use Rattle.hl_model.specs.declared.action.Kind.{Kind}
 use Rattle.hl_model.specs.declared.action.Kind.TheVariants.{User, Settle as Settling, Close as Closing}
 use Rattle.hl_model.specs.declared.action.Waiting.{Waiting}
 use Rattle.hl_model.specs.declared.fault.Fault.{Fault}
-use Rattle.hl_model.specs.declared.fault.Fault.TheVariants.{NoJob, OutOfMemory}
+use Rattle.hl_model.specs.declared.fault.Fault.TheVariants.{OutOfMemory}
 use Rattle.hl_model.specs.declared.step.Reply.{Reply}
 use Rattle.hl_model.specs.declared.step.Reply.TheVariants.{Ran}
 use Rattle.hl_model.specs.declared.step.Step.{Step}
@@ -26,20 +26,7 @@ use Rattle.hl_model.specs.Histories.{History, IsHistory, begun, Answers}
 use Rattle.hl_script.specs.Answers.{bears, lacks_job, line_fault, shown, line_answer, line_reply, with_line}
 use Rattle.hl_script.specs.Text.{below}
 use Rattle.hl_script.specs.Slow.{kind_is_below, tag_is_below, IsSlow, SumFits}
-
--- an answer that is a fault
-unless_err : (o : Option Fault) (f : Fault) (x : Reply) → Err f ≡ unless_fault o x → o ≡ Some f
-unless_err None f x h = cc
-unless_err (Some g) f x h = cc
-
--- an answer that is none
-unless_ok : (o : Option Fault) (v x : Reply) → Ok v ≡ unless_fault o x → (o ≡ None) × (v ≡ x)
-unless_ok None v x h = (refl, cc)
-unless_ok (Some g) v x h = cc
-
--- where the tag has a job, the fault is the definitions'
-fault_kept : (has : ℕ → Bool) (sizes : Sizes) (A : List Step) (step : Step) → lacks_job has A step ≡ false → line_fault has sizes A step ≡ fault_of sizes A step
-fault_kept has sizes A step h = ap (λ b. cond b (Some NoJob) (fault_of sizes A step)) h
+use Rattle.hl_script.proofs.AnswerLaws.{unless_err, unless_ok, fault_kept}
 
 -- the test of the tags, as the script has it
 lacks_shown : (tags : ℕ) (h : History) (has : ℕ → Bool) (sizes : Sizes) (A : List Step) (step : Step) → IsSlow tags h has sizes A → lacks_job has A step ≡ lacks_job (below tags) h.steps step
@@ -59,14 +46,10 @@ stored_below tags A step h = refl
 -- one that passes the test is below
 found_below : (p : Waiting → Bool) (q : Waiting → Bool) (ws : List Waiting) (w : Waiting) → list_all p ws ≡ true → find q ws ≡ Some w → p w ≡ true
 found_below p q [] w h e = cc
-found_below p q (v ∷ ws) w h e = by_test (found_below p q ws w (both (p v) (list_all p ws) h).1) (q v) refl e
+found_below p q (v ∷ ws) w h e = by_test (found_below p q ws w (and_parts (p v) (list_all p ws) h).1) (q v) refl e
   where
-    both : (b c : Bool) → (b && c) ≡ true → (b ≡ true) × (c ≡ true)
-    both true c k = (refl, k)
-    both false c k = cc
-
     by_test : (find q ws ≡ Some w → p w ≡ true) → (b : Bool) → q v ≡ b → cond b (Some v) (find q ws) ≡ Some w → p w ≡ true
-    by_test later true is k = let same : v ≡ w = cc in ap p (sym same) ∙ (both (p v) (list_all p ws) h).0
+    by_test later true is k = let same : v ≡ w = cc in ap p (sym same) ∙ (and_parts (p v) (list_all p ws) h).0
     by_test later false is k = later k
 
 -- the tag that a done is answered is 0 or below the number

@@ -1,5 +1,5 @@
 -- Where a run stands in its input, and how its parts leave it. No definition of the text rests on these.
-use Rattle.std.specs.Prelude.{◌≡◌, ◌≤◌, ℕ, ◌==◌, Bool, true, false, Option, Some, Result, Ok, Err, List, [], ◌∷◌, ◌++◌, length}
+use Rattle.std.specs.Prelude.{◌≡◌, ◌≤◌, ◌⊎◌, ℕ, ◌==◌, Bool, true, false, Option, Some, Result, Ok, Err, List, [], ◌∷◌, ◌++◌, length}
 use Rattle.std.specs.List.{list_any}
 use Rattle.std.specs.Io.KnownBytes.{Appends, Consumes, IsAtEnd}
 use Rattle.hl_model.specs.Lists.{until_last}
@@ -14,7 +14,7 @@ use Rattle.hl_script.specs.Cut.{cut}
 use Rattle.hl_script.specs.Lines.{script, good_lines, allowed}
 use Rattle.hl_script.specs.Answers.{reply_line, accepted, is_accepted, sizes_of}
 use Rattle.hl_script.specs.Text.{answers, bad_text, text, count_of}
-use Rattle.hl_script.specs.Outcomes.{WroteWholeLines, WroteAll, WroteBad, WroteUpTo, AppendsFront, Settled}
+use Rattle.hl_script.specs.Outcomes.{WroteWholeLines, WroteAll, WroteBad, IsJudged, WroteUpTo, AppendsFront, Settled}
 
 -- the byte that ends a line
 abbrev pub is_end : ℕ → Bool
@@ -54,6 +54,11 @@ Stopped has lacks before after (BadLine n) bytes = WroteBad has before after n b
 Stopped has lacks before after OutOfMemory bytes = WroteUpTo has lacks before after bytes
 Stopped has lacks before after Reader bytes = ⊥
 Stopped has lacks before after Writer bytes = AppendsFront before after (text has bytes)
+
+-- where a run stopped at a bad line, these bytes have that line's LF, or its 81st byte
+abbrev pub Judges : Stop → List ℕ → Type 0
+Judges (BadLine n) bytes = IsJudged n bytes
+Judges _ bytes = Unit {0}
 
 -- these bytes are the whole lines before, all of them good, and the beginning of a line
 pub record Reached (done : List ℕ) (before : List Line) (line : List ℕ) : Type 0 where
@@ -104,7 +109,7 @@ Judged stands lacks has before line from to progress (Err stop) = (bytes : List 
 -- what further bytes led to: a stop is one whatever follows them
 abbrev pub Fed : ((ℕ → Bool) → List Line → Type 0) → (Line → Bool) → (ℕ → Bool) → List ℕ → Option (List ℕ) → Option (List ℕ) → Progress → Result Unit Stop → Type 0
 Fed stands lacks has done from to progress (Ok fed) = (before : List Line) × At stands has done before from to progress
-Fed stands lacks has done from to progress (Err stop) = (more : List ℕ) → Stopped has lacks from to stop (done ++ more)
+Fed stands lacks has done from to progress (Err stop) = ((more : List ℕ) → Stopped has lacks from to stop (done ++ more)) × Judges stop done
 
 -- what the end of the input led to
 abbrev pub Ended : ((ℕ → Bool) → List Line → Type 0) → (Line → Bool) → (ℕ → Bool) → List ℕ → Option (List ℕ) → Option (List ℕ) → Result (Option ℕ) Stop → Type 0
@@ -116,4 +121,6 @@ abbrev pub Ran : ((ℕ → Bool) → List Line → Type 0) → (Line → Bool) �
 Ran stands lacks has given left from to (Ok count) =
     (input : List ℕ) × Consumes given left input × IsAtEnd left × stands has (script input) × WroteAll has from to input × (count ≡ count_of has (script input))
 Ran stands lacks has given left from to (Err Reader) = (input : List ℕ) × Consumes given left input × WroteWholeLines has from to input
+Ran stands lacks has given left from to (Err (BadLine n)) =
+    (input : List ℕ) × Consumes given left input × Settled left (WroteBad has from to n) input × (IsJudged n input ⊎ IsAtEnd left)
 Ran stands lacks has given left from to (Err stop) = (input : List ℕ) × Consumes given left input × Settled left (Stopped has lacks from to stop) input

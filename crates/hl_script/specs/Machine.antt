@@ -10,7 +10,7 @@ use Rattle.hl_line.specs.declared.line.Line.TheVariants.{Config}
 use Rattle.hl_script.specs.Lines.{script, takes_memory}
 use Rattle.hl_script.specs.Answers.{sizes_of, accepted}
 use Rattle.hl_script.specs.Text.{count_of}
-use Rattle.hl_script.specs.Outcomes.{WroteAll, WroteBad, WroteUpTo, WroteWholeLines, WroteFront, Settled}
+use Rattle.hl_script.specs.Outcomes.{WroteAll, WroteBad, IsJudged, WroteUpTo, WroteWholeLines, WroteFront, Settled}
 
 -- it stands at the accepted steps of some lines, of which the first is a config
 pub record StandsAt (stands : (ℕ → Bool) → Sizes → List Step → Type 0) (has : ℕ → Bool) (before : List Line) : Type 0 where
@@ -36,7 +36,8 @@ EndsAt stands has lines (Some end) = (count_of has lines ≡ Some end.1) × stan
 
 -- what a run of a script led to that stopped at a fault
 abbrev pub ScriptStopped : Bool → (ℕ → Bool) → Option (List ℕ) → Option (List ℕ) → Option (List ℕ) → Option (List ℕ) → Fault → Type 0
-ScriptStopped may_lack has given left from to (BadLine n) = (input : List ℕ) × Consumes given left input × Settled left (WroteBad has from to n) input
+ScriptStopped may_lack has given left from to (BadLine n) =
+    (input : List ℕ) × Consumes given left input × Settled left (WroteBad has from to n) input × (IsJudged n input ⊎ IsAtEnd left)
 ScriptStopped may_lack has given left from to OutOfMemory = (input : List ℕ) × Consumes given left input × Settled left (WroteUpTo has (takes_memory may_lack) from to) input
 ScriptStopped may_lack has given left from to Stream =
     (input : List ℕ) × Consumes given left input × (WroteWholeLines has from to input ⊎ Settled left (WroteFront has from to) input)

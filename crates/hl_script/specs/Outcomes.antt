@@ -1,5 +1,5 @@
 -- What a run over a reader and a writer has done when it ends.
-use Rattle.std.specs.Prelude.{◌≡◌, ◌≤◌, length, ⊤, ℕ, Bool, true, Option, Some, None, List, [], ◌∷◌, ◌++◌}
+use Rattle.std.specs.Prelude.{◌≡◌, ◌<◌, ◌≤◌, ◌⊎◌, length, ⊤, ℕ, Bool, true, Option, Some, None, List, [], ◌∷◌, ◌++◌}
 use Rattle.std.specs.Io.KnownBytes.{Appends}
 use Rattle.hl_line.specs.declared.line.Line.{Line}
 use Rattle.hl_model.specs.declared.fault.Fault.{Fault}
@@ -17,6 +17,14 @@ pub record WroteAll (has : ℕ → Bool) (before after : Option (List ℕ)) (byt
 pub record WroteBad (has : ℕ → Bool) (before after : Option (List ℕ)) (n : ℕ) (bytes : List ℕ) : Type 0 where
   pub wrote : Appends before after (text has bytes)
   pub bad : bad_line bytes ≡ Some n
+
+-- line n was found bad in the first of these bytes, which end with its LF, or have its 81st byte
+pub record IsJudged (n : ℕ) (bytes : List ℕ) : Type 0 where
+  pub front : List ℕ
+  pub rest : List ℕ
+  pub is_front : front ++ rest ≡ bytes
+  pub bad : bad_line front ≡ Some n
+  pub ended : (whole_lines front ≡ front) ⊎ (80 < length (unfinished_line front))
 
 -- the writer took the text of the whole lines of these bytes, none of them bad, and the line that isn't whole is no longer than a line may be
 pub record WroteWholeLines (has : ℕ → Bool) (before after : Option (List ℕ)) (bytes : List ℕ) : Type 0 where

@@ -5,7 +5,7 @@ ghost use Rattle.hl_cells.specs.Engines.{EngineStands};
 ghost use Rattle.hl_script.specs.Lines.{script, takes_memory};
 ghost use Rattle.hl_script.specs.Answers.{sizes_of, accepted};
 ghost use Rattle.hl_script.specs.Text.{tags_on, below, text, count_of};
-ghost use Rattle.hl_script.specs.Outcomes.{WroteAll, WroteWholeLines, WroteBad, WroteFront, WroteUpTo, LackedAtConfig, Settled, IsRunFault};
+ghost use Rattle.hl_script.specs.Outcomes.{WroteAll, WroteWholeLines, WroteBad, IsJudged, WroteFront, WroteUpTo, LackedAtConfig, Settled, IsRunFault};
 
 use crate::fast::{Fast, Jobs};
 use crate::script::run_script;
@@ -32,8 +32,8 @@ pub struct Finished<E: Epochs, F: Task> {
 /// line. The engine stands at the accepted steps, which keep the headline. Jobs whose actions aren't done at the end go
 /// with the engine.
 ///
-/// - `BadLine` with the number of the first line that is no step: the text was written, which ends in that line's
-///   last line. Bytes behind it may have been read.
+/// - `BadLine` with the number of the first line that is no step, when its LF or its 81st byte was read, or at the
+///   end of the input: the text was written, whose last line tells that number. Bytes behind it may have been read.
 /// - `OutOfMemory` where memory was refused at line 1; nothing was written.
 /// - `Stream` where a read failed, or 2^32 reads gave no end: the text of the whole lines was written. Or where a
 ///   write failed or took no byte: the beginning of the text was written. Neither is tried again.
@@ -48,7 +48,8 @@ pub fn run_text<E: Epochs + Drop, F: Task, R: Read, W: Write>(
         × IfSome finished (λ end. EngineStands end.engine (accepted (tags_on shelf) (script input)) × (end.engine.core.sizes ≡ sizes_of (script input))
         × Headline (sizes_of (script input)) (accepted (tags_on shelf) (script input)))) }
     ensures bad_line { (n : ℕ) → result ≡ Err (Fault.BadLine n) → (input : List ℕ) × Consumes (R.remaining reader.old) (R.remaining reader.new) input
-        × Settled (R.remaining reader.new) (WroteBad (tags_on shelf) (W.contents writer.old) (W.contents writer.new) n) input }
+        × Settled (R.remaining reader.new) (WroteBad (tags_on shelf) (W.contents writer.old) (W.contents writer.new) n) input
+        × (IsJudged n input ⊎ IsAtEnd (R.remaining reader.new)) }
     ensures out_of_memory { result ≡ Err Fault.OutOfMemory → (input : List ℕ) × Consumes (R.remaining reader.old) (R.remaining reader.new) input
         × Settled (R.remaining reader.new) (LackedAtConfig (W.contents writer.old) (W.contents writer.new)) input }
     ensures stream { result ≡ Err Fault.Stream → (input : List ℕ) × Consumes (R.remaining reader.old) (R.remaining reader.new) input
@@ -83,7 +84,8 @@ pub fn slow_text<R: Read, W: Write>(
     ensures ok { IfOk result (λ count. (input : List ℕ) × Consumes (R.remaining reader.old) (R.remaining reader.new) input × IsAtEnd (R.remaining reader.new)
         × WroteAll (below tags) (W.contents writer.old) (W.contents writer.new) input × (count ≡ count_of (below tags) (script input))) }
     ensures bad_line { (n : ℕ) → result ≡ Err (Fault.BadLine n) → (input : List ℕ) × Consumes (R.remaining reader.old) (R.remaining reader.new) input
-        × Settled (R.remaining reader.new) (WroteBad (below tags) (W.contents writer.old) (W.contents writer.new) n) input }
+        × Settled (R.remaining reader.new) (WroteBad (below tags) (W.contents writer.old) (W.contents writer.new) n) input
+        × (IsJudged n input ⊎ IsAtEnd (R.remaining reader.new)) }
     ensures out_of_memory { result ≡ Err Fault.OutOfMemory → (input : List ℕ) × Consumes (R.remaining reader.old) (R.remaining reader.new) input
         × Settled (R.remaining reader.new) (WroteUpTo (below tags) (takes_memory true) (W.contents writer.old) (W.contents writer.new)) input }
     ensures stream { result ≡ Err Fault.Stream → (input : List ℕ) × Consumes (R.remaining reader.old) (R.remaining reader.new) input

@@ -11,6 +11,7 @@ use hl_model::Fault;
 use std::alloc::Global;
 use std::io;
 use std::io::{Read, Write};
+use std::process::Abort;
 use std::test::Fail;
 
 /// A job that answers its tag + its ticket.
@@ -66,7 +67,7 @@ fn slow_jobs<R: Read, W: Write>(
     slow_text(alloc, reader, writer, tags)
 }
 
-/// Gives one byte a read, and fails after `left` of them.
+/// Gives one byte a read. The read after `left` of them is interrupted, and one more would go on.
 #[derive(Drop)]
 struct SlowReader<'a> {
     bytes: &'a [u8],
@@ -76,7 +77,8 @@ struct SlowReader<'a> {
 impl<'a> Read for SlowReader<'a> {
     fn read(&mut self, buf: &mut [u8]) -> io::Result<usize> {
         if self.left == 0 {
-            return Err(io::Error::from(io::ErrorKind::Other));
+            self.left = usize::MAX;
+            return Err(io::Error::from(io::ErrorKind::Interrupted));
         }
         match (buf.first_mut(), self.bytes.first()) {
             (Some(place), Some(byte)) => *place = *byte,
@@ -207,64 +209,52 @@ fn writes_the_worked_texts(rt: HostRuntime) -> Result<(), Fail> {
     Ok(())
 }
 
-#[test]
-fn reads_one_byte_at_a_time(rt: HostRuntime) -> Result<(), Fail> {
-    let mut reader = SlowReader {
-        bytes: FIRST_ACTION.as_bytes(),
-        left: 1000,
-    };
+// Runs a script in both forms over a reader whose read after so many bytes is interrupted.
+fn expect_of_interrupted(
+    rt: &(impl Abort + AllocGlobal),
+    script: &str,
+    left: usize,
+    text: &str,
+    wanted: Result<Option<u64>, Fault>,
+) {
+    let bytes = script.as_bytes();
+    let mut reader = SlowReader { bytes, left };
     let mut writer = Vec::new(rt.alloc());
-    assert_eq!(rt;
-        run_jobs(rt.alloc(), &mut reader, &mut writer, 8),
-        Ok(Some(5))
-    );
-    assert!(rt; writer.as_slice() == FIRST_ACTION_TEXT.as_bytes());
-    Ok(())
+    let answer = run_jobs(rt.alloc(), &mut reader, &mut writer, 8);
+    assert_eq!(rt; answer, wanted);
+    assert!(rt; writer.as_slice() == text.as_bytes(), "{left}");
+    let mut reader = SlowReader { bytes, left };
+    let mut writer = Vec::new(rt.alloc());
+    let answer = slow_jobs(rt.alloc(), &mut reader, &mut writer, 8);
+    assert_eq!(rt; answer, wanted);
+    assert!(rt; writer.as_slice() == text.as_bytes(), "slow, {left}");
 }
 
 #[test]
-fn answers_whole_lines_before_a_failed_read(rt: HostRuntime) -> Result<(), Fail> {
-    // The read fails in the line `bump 7`.
-    let mut reader = SlowReader {
-        bytes: FIRST_ACTION.as_bytes(),
-        left: 28,
-    };
-    let mut writer = Vec::new(rt.alloc());
-    assert_eq!(rt;
-        run_jobs(rt.alloc(), &mut reader, &mut writer, 8),
-        Err(Fault::Stream)
-    );
-    assert!(rt; writer.as_slice() == b"opened\nepoch 1 view 0 0 0\n".as_slice());
-    Ok(())
+fn reads_one_byte_at_a_time(rt: HostRuntime) {
+    expect_of_interrupted(&rt, FIRST_ACTION, 1000, FIRST_ACTION_TEXT, Ok(Some(5)));
 }
 
 #[test]
-fn judges_a_line_at_its_81st_byte(rt: HostRuntime) -> Result<(), Fail> {
+fn answers_whole_lines_before_an_interrupted_read(rt: HostRuntime) {
+    // The read fails in the line `bump 7`. The reader would go on, but is asked no more.
+    let text = "opened\nepoch 1 view 0 0 0\n";
+    expect_of_interrupted(&rt, FIRST_ACTION, 28, text, Err(Fault::Stream));
+}
+
+#[test]
+fn judges_a_line_at_its_81st_byte(rt: HostRuntime) {
     let script =
         "config 4 2 2 2\naaaaaaaaaaaaaaaaaaaaaaaaaaaaaaaaaaaaaaaaaaaaaaaaaaaaaaaaaaaaaaaaaaaaaaaaaaaaaaaaaa";
-    // A line of 80 bytes may still end as some line; the 81st byte makes it none, whatever the next read does.
-    let cases = [
-        (95, "opened\n", Fault::Stream),
-        (96, "opened\nline 2: not a step\n", Fault::BadLine { n: 2 }),
-    ];
-    for (left, text, fault) in cases {
-        let mut reader = SlowReader {
-            bytes: script.as_bytes(),
-            left,
-        };
-        let mut writer = Vec::new(rt.alloc());
-        assert_eq!(rt;
-            run_jobs(rt.alloc(), &mut reader, &mut writer, 8),
-            Err(fault)
-        );
-        assert!(rt; writer.as_slice() == text.as_bytes(), "{left}");
-    }
-    Ok(())
+    // A line of 80 bytes isn't judged yet; the 81st byte makes it none, whatever the next read does.
+    expect_of_interrupted(&rt, script, 95, "opened\n", Err(Fault::Stream));
+    let text = "opened\nline 2: not a step\n";
+    expect_of_interrupted(&rt, script, 96, text, Err(Fault::BadLine { n: 2 }));
 }
 
 #[test]
 fn stops_at_a_write_that_fails_or_takes_nothing(rt: HostRuntime) -> Result<(), Fail> {
-    for fails in [true, false] {
+    for (fails, slow) in [(true, false), (false, false), (true, true), (false, true)] {
         let mut reader = FIRST_ACTION.as_bytes();
         let mut writer = SmallWriter {
             taken: Vec::new(rt.alloc()),
@@ -272,10 +262,12 @@ fn stops_at_a_write_that_fails_or_takes_nothing(rt: HostRuntime) -> Result<(), F
             fails,
             calls_after: 0,
         };
-        assert_eq!(rt;
-            run_jobs(rt.alloc(), &mut reader, &mut writer, 8),
-            Err(Fault::Stream)
-        );
+        let answer = if slow {
+            slow_jobs(rt.alloc(), &mut reader, &mut writer, 8)
+        } else {
+            run_jobs(rt.alloc(), &mut reader, &mut writer, 8)
+        };
+        assert_eq!(rt; answer, Err(Fault::Stream));
         assert!(rt; writer.taken.as_slice() == b"opened\nepoch".as_slice());
         assert_eq!(rt; writer.calls_after, 1);
     }

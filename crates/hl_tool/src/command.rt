@@ -62,11 +62,17 @@ fn program<'a>(alloc: Global) -> Result<Command<'a>, AllocError> {
         .action(ArgAction::SetTrue)
         .help("Then writes the image of each page that can be flushed");
     let run = Command::new(alloc, "run")
-        .about("Answers a script, line by line, from standard input")
+        .about("Answers the script on standard input, line by line")
+        .override_usage("hl_tool run [--flush] < SCRIPT")
         .arg(flush)?;
-    let slow = Command::new(alloc, "slow").about("The same text, computed from the list of steps");
+    let slow = Command::new(alloc, "slow")
+        .about(
+            "The same text, computed from the list of steps: 1000 lines are quick, 10000 are not",
+        )
+        .override_usage("hl_tool slow < SCRIPT");
     Command::new(alloc, "hl_tool")
         .about("Epoch protection and page frames after FASTER, on scripts of steps")
+        .after_help("docs/FORMATS.md tells the lines of a script, and of its answers")
         .subcommand_required(true)
         .subcommand(run)?
         .subcommand(slow)

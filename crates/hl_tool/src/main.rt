@@ -8,12 +8,18 @@ mod status;
 #[cfg(test)]
 mod tests;
 
-use std::io::BufWriter;
+use std::io::{BufWriter, ErrorKind, Write};
 use std::process::ExitCode;
 use std::{env, io};
 
 fn main(rt: HostRuntime) -> io::Result<ExitCode> {
-    let words = env::args(&rt)?.collect::<Vec<String>>(rt.alloc())?;
+    let words = match env::args(&rt) {
+        Err(error) if error.kind() == ErrorKind::InvalidData => {
+            let _ = rt.stderr().write_all(b"error: a word isn't UTF-8\n");
+            return Ok(ExitCode::from(status::REFUSED));
+        }
+        words => words?.collect::<Vec<String>>(rt.alloc())?,
+    };
     let mut output = BufWriter::new(rt.alloc(), rt.stdout())?;
     let status = command::command(
         &rt,

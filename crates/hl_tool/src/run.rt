@@ -1,4 +1,5 @@
-ghost use Rattle.std.specs.Prelude.{◌≡◌, ℕ, ◌+◌, ◌<◌, ◌≤◌, length, IfOk};
+ghost use Rattle.std.specs.Prelude.{◌≡◌, ℕ, ◌+◌, ◌<◌, ◌≤◌, length, Ok, Err, IfOk, IfErr};
+ghost use Rattle.hl_model.specs.declared.fault.Fault.TheVariants.{BadLine, OutOfMemory};
 ghost use Rattle.hl_action.specs.Jobs.{CanBeCalled, AnswersKeep};
 
 use crate::status::{DONE, REFUSED, failed};
@@ -46,7 +47,9 @@ pub(crate) fn slow<R: Read, W: Write, E: Write>(
 
 /// The status of a script that ended so. What was written goes out first.
 fn status_of<W: Write, E: Write>(ended: Result<(), Fault>, writer: &mut W, errors: &mut E) -> u8
-    ensures { result ≤ 2 }
+    ensures status { result ≤ 2 }
+    ensures done { result ≡ 0 → ended ≡ Ok tt }
+    ensures refused { result ≡ 2 → (n : ℕ) × (ended ≡ Err (BadLine n)) }
 {
     let is_out = writer.flush().is_ok();
     match ended {
@@ -108,7 +111,8 @@ fn flush_pages<E: Epochs + Drop, F: Task, W: Write>(
 
 /// So many bytes, all 0.
 fn zeros(alloc: Global, size: usize) -> Result<Vec<u8>, Fault>
-    ensures { IfOk result (λ made. length made.items ≡ size) }
+    ensures made { IfOk result (λ made. length made.items ≡ size) }
+    ensures refused { IfErr result (λ fault. fault ≡ OutOfMemory) }
 {
     vec![in alloc; 0; size].map_err(|_| Fault::OutOfMemory)
 }

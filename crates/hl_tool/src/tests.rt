@@ -71,13 +71,16 @@ fn a_bad_line_ends_the_text(rt: HostRuntime) {
         2,
     );
     expect(&rt, "config 6 2 2 2\n", "line 1: not a step\n", 2);
-    // No job has tag 1000.
-    expect(
-        &rt,
-        "config 4 2 2 2\nbump 999\nbump 1000\n",
-        "opened\nticket 1\nfault 24 NoJob\n",
-        0,
-    );
+}
+
+#[test]
+fn the_tags_0_to_999_have_jobs(rt: HostRuntime) {
+    let script =
+        "config 4 2 2 2\nbump 0\nbump 999\nbump 1000\ntake\ntake\ndone 1\ndone 2\nbump 1000\nbump 0\n";
+    let output =
+        "opened\nticket 1\nticket 2\nfault 24 NoJob\ntaken 1\ntaken 2\nanswer 1\nanswer 1001\nfault 24 NoJob\nfault 24 NoJob\n";
+    expect(&rt, script, output, 0);
+    expect_of(&rt, &["hl_tool", "slow"], script, output, 0);
 }
 
 const ONE_SEALED_PAGE: &str =
@@ -109,13 +112,26 @@ fn flushed_image(rt: HostRuntime) -> Result<(), Fail> {
 }
 
 #[test]
+fn each_sealed_page_has_its_image(rt: HostRuntime) -> Result<(), Fail> {
+    let script =
+        "config 4 2 2 4\nacquire 0\nalloc 0 4\nalloc 0 4\nwrite 0 7 1\nraise 8\nsettle\nrelease 0\ntake\ndone 1\n";
+    let text =
+        "opened\nepoch 1 view 0 0 0\nat 0\nat 4\nwritten\nread_only 8\nticket 1\nleft\ntaken 1\nsafe_read_only 8\n";
+    let zeros = "0000000000000000000000000000000000000000000000000000000000000000";
+    let last = "00000000000000010000000000000000000000000000000000000000000000000000000000000001";
+    let output = format!(in rt.alloc(); "{text}image 0000000000000000{zeros}\nimage {last}\n")?;
+    expect_of(&rt, &["hl_tool", "run", "--flush"], script, &output, 0);
+    Ok(())
+}
+
+#[test]
 fn the_slow_form_gives_the_same_text(rt: HostRuntime) {
     expect_of(&rt, &["hl_tool", "slow"], ONE_SEALED_PAGE, ITS_TEXT, 0);
     expect_of(
         &rt,
         &["hl_tool", "slow"],
-        "config 4 2 2 2\nbump 999\nbump 1000\ntake\ndone 1\nbad\n",
-        "opened\nticket 1\nfault 24 NoJob\ntaken 1\nanswer 1000\nline 6: not a step\n",
+        "config 4 2 2 2\nbump 7\ntake\ndone 1\nbad\n",
+        "opened\nticket 1\ntaken 1\nanswer 8\nline 5: not a step\n",
         2,
     );
 }
@@ -266,4 +282,67 @@ fn a_stream_that_fails_ends_with_1(rt: HostRuntime) {
     );
     assert_eq!(rt; status, 1);
     assert_eq!(rt; errors.as_slice(), b"fault 31 Stream\n".as_slice());
+}
+
+// A writer whose bytes are out when it was flushed.
+#[derive(Drop)]
+struct LateWriter {
+    held: Vec<u8>,
+    out: Vec<u8>,
+    fails: bool,
+}
+
+impl Write for LateWriter {
+    fn write(&mut self, bytes: &[u8]) -> io::Result<usize> {
+        self.held.extend_from_slice(bytes)?;
+        Ok(bytes.len())
+    }
+
+    fn flush(&mut self) -> io::Result<()> {
+        if self.fails {
+            return Err(io::ErrorKind::StorageFull.into());
+        }
+        self.out.extend_from_slice(&self.held)?;
+        self.held.clear();
+        Ok(())
+    }
+}
+
+#[test]
+fn the_output_is_out_at_the_end_or_the_status_is_1(rt: HostRuntime) {
+    let cases = [
+        (["hl_tool", "run"].as_slice(), "config 4 2 2 2\n", 0),
+        (["hl_tool", "run"].as_slice(), "config 4 2 2 2\nbad\n", 2),
+        (["hl_tool", "run", "--flush"].as_slice(), ONE_SEALED_PAGE, 0),
+        (["hl_tool", "slow"].as_slice(), "config 4 2 2 2\n", 0),
+        (["hl_tool", "--help"].as_slice(), "", 0),
+    ];
+    for (words, script, wanted) in cases {
+        for fails in [false, true] {
+            let mut reader = script.as_bytes();
+            let mut writer = LateWriter {
+                held: Vec::new(rt.alloc()),
+                out: Vec::new(rt.alloc()),
+                fails,
+            };
+            let mut errors = Vec::new(rt.alloc());
+            let status = command(
+                &rt,
+                rt.alloc(),
+                words,
+                &mut reader,
+                &mut writer,
+                &mut errors,
+            );
+            if fails {
+                assert_eq!(rt; status, 1);
+                assert_eq!(rt; errors.as_slice(), b"fault 31 Stream\n".as_slice());
+            } else {
+                assert_eq!(rt; status, wanted);
+                assert!(rt; writer.held.is_empty());
+                assert!(rt; !writer.out.is_empty());
+                assert!(rt; errors.is_empty());
+            }
+        }
+    }
 }

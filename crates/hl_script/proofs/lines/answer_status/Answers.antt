@@ -1,4 +1,4 @@
-use Rattle.std.proofs.Common.{◌≡◌, [], ◌∷◌, ◌++◌, ◌∙◌}
+use Rattle.std.proofs.Common.{[], ◌∷◌, ◌++◌}
 use Rattle.std.specs.Prelude.{Err}
 use Rattle.std.proofs.lemmas.Result.{err_from_is_err_and}
 use Rattle.hl_script.specs.Answers.{status_text}
@@ -9,13 +9,12 @@ use Rattle.hl_script.proofs.lines.answer_status.Goals as goal
 pub returns-in_err-put_line : goal.returns-in_err-put_line
 returns-in_err-put_line g c = λ has sizes A standing.
     let p = err_from_is_err_and c.from_residual.result c.from_residual.ensures.1 in
-    let told : c.as_str.result.now ≡ status_text sizes A = c.as_str.ensures.value ∙ c.print_quantities.ensures ∙ status_told sizes A c.snapshot.result (c.snapshot.ensures has sizes A standing) in
     let e = c.in_err-put_line.field-0.0 in
     let q : Puts {A = Unit {0}} (g.W.Write.contents c.args.out.now) (g.W.Write.contents c.put_line.new.out) (c.as_str.result.now ++ 10 ∷ []) (Err e) = c.in_err-put_line.ensures in
     rw (p.1, p.2) (query_broken c.as_str.result.now (status_text sizes A) (g.W.Write.contents c.args.out.now) (g.W.Write.contents c.put_line.new.out) e
-    told q)
+    (status_told sizes A c.snapshot.result c.as_str.result.now _ c.as_str.ensures.value c.print_quantities.ensures (c.snapshot.ensures has sizes A standing)) q)
 
 pub returns : goal.returns
 returns g c = λ has sizes A standing.
     query_answered c.as_str.result.now (status_text sizes A) (g.W.Write.contents c.args.out.now) (g.W.Write.contents c.put_line.new.out)
-    (c.as_str.ensures.value ∙ c.print_quantities.ensures ∙ status_told sizes A c.snapshot.result (c.snapshot.ensures has sizes A standing)) c.in_ok-put_line.ensures
+    (status_told sizes A c.snapshot.result c.as_str.result.now _ c.as_str.ensures.value c.print_quantities.ensures (c.snapshot.ensures has sizes A standing)) c.in_ok-put_line.ensures
