@@ -9,8 +9,8 @@
 //! with the answer, which waits for the action to be done. Jobs that no action has yet stand on a `Shelf`.
 //!
 //! What the types alone forbid: that a job runs twice, since `run` takes it and nothing copies it; that it runs
-//! before its ticket is safe, since no such `Firing` can be made; and that a taken action is dropped by
-//! oversight, since a `Ready` and a `Ran` must be spent.
+//! under a firing whose ticket is above that firing's safe epoch, since no such `Firing` can be made; and that a taken
+//! action is dropped by oversight, since a `Ready` and a `Ran` must be spent.
 #![tactic(auto)]
 
 mod firing;

@@ -4,6 +4,7 @@ use crate::held::Held;
 use crate::row::zeros;
 use hl_action::{Kept, Promise, Task};
 use hl_core::Core;
+use hl_drain::Drain;
 use hl_epoch::Epochs;
 use hl_model::{Fault, Params};
 use std::alloc::Global;
@@ -56,5 +57,18 @@ impl<E: Epochs + Drop, F: Task, P: Promise> Engine<E, F, P> {
         let words = zeros(alloc, cells as usize)?;
         let held = Held::open(alloc, params.drain())?;
         Ok(Engine { core, words, held })
+    }
+
+    /// Its drain list: the actions that were never taken are in it with their jobs, and the tickets of those taken and
+    /// not done. The jobs of the latter are given up.
+    pub fn into_drain(self) -> Drain<Kept<F, P>>
+        ensures { result ≡ self.core.drain }
+    {
+        let Engine {
+            core,
+            words: _,
+            held: _,
+        } = self;
+        core.into_drain()
     }
 }

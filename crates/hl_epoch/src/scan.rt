@@ -11,8 +11,7 @@ use std::marker::Model;
 /// No epoch comes after it.
 const EPOCH_LAST: u64 = 1 << 62;
 
-/// A table of epochs that is a row of slots. A call on a slot takes the same time whatever S is; `safe` looks
-/// at each slot.
+/// A table of epochs that is a row of slots. A call on a slot looks at that slot alone, `safe` at each.
 #[derive(Drop)]
 pub struct ScanTable {
     current: u64,

@@ -11,7 +11,7 @@ use Rattle.hl_model.specs.Sizes.{Sizes}
 use Rattle.hl_model.specs.Epochs.{is_protected, slot_epoch, slot_epochs}
 use Rattle.hl_model.specs.Frames.{frame_of}
 use Rattle.hl_model.specs.Snapshots.{is_opened, is_at_sealed, is_at_flushed, is_at_closed, is_free, state_counts}
-use Rattle.hl_model.specs.States.{place_of}
+use Rattle.hl_model.specs.States.{count_place}
 use Rattle.hl_model.proofs.ListLaws.{count_by-push}
 use Rattle.hl_model.proofs.ActionLaws.{range-push}
 use Rattle.hl_model.proofs.EpochLaws.{is_protected-slot_epoch}
@@ -42,7 +42,7 @@ five : (a b c d e f g h i j : ℕ) → a ≡ f → b ≡ g → c ≡ h → d ≡
 five a b c d e f g h i j p q r s t = cc
 
 -- one state more
-pub state_counts-push : (xs : List FrameState) (s : FrameState) → state_counts (xs ++ s ∷ []) ≡ set (state_counts xs) (place_of s) (get_or (state_counts xs) (place_of s) 0 + 1)
+pub state_counts-push : (xs : List FrameState) (s : FrameState) → state_counts (xs ++ s ∷ []) ≡ set (state_counts xs) (count_place s) (get_or (state_counts xs) (count_place s) 0 + 1)
 state_counts-push xs Opened = five _ _ _ _ _ _ _ _ _ _ (count_by-push is_opened xs Opened) (omega (arith, count_by-push is_at_sealed xs Opened)) (omega (arith, count_by-push is_at_flushed xs Opened)) (omega (arith, count_by-push is_at_closed xs Opened)) (omega (arith, count_by-push is_free xs Opened))
 state_counts-push xs Sealed = five _ _ _ _ _ _ _ _ _ _ (omega (arith, count_by-push is_opened xs Sealed)) (count_by-push is_at_sealed xs Sealed) (omega (arith, count_by-push is_at_flushed xs Sealed)) (omega (arith, count_by-push is_at_closed xs Sealed)) (omega (arith, count_by-push is_free xs Sealed))
 state_counts-push xs Flushed = five _ _ _ _ _ _ _ _ _ _ (omega (arith, count_by-push is_opened xs Flushed)) (omega (arith, count_by-push is_at_sealed xs Flushed)) (count_by-push is_at_flushed xs Flushed) (omega (arith, count_by-push is_at_closed xs Flushed)) (omega (arith, count_by-push is_free xs Flushed))
@@ -50,18 +50,18 @@ state_counts-push xs Closed = five _ _ _ _ _ _ _ _ _ _ (omega (arith, count_by-p
 state_counts-push xs Free = five _ _ _ _ _ _ _ _ _ _ (omega (arith, count_by-push is_opened xs Free)) (omega (arith, count_by-push is_at_sealed xs Free)) (omega (arith, count_by-push is_at_flushed xs Free)) (omega (arith, count_by-push is_at_closed xs Free)) (count_by-push is_free xs Free)
 
 -- one frame more
-pub states-next : (sizes : Sizes) (A : List Step) (n : ℕ) (s : FrameState) → s ≡ (frame_of sizes n A).0 → state_counts (states_below sizes A (n + 1)) ≡ set (state_counts (states_below sizes A n)) (place_of s) (get_or (state_counts (states_below sizes A n)) (place_of s) 0 + 1)
+pub states-next : (sizes : Sizes) (A : List Step) (n : ℕ) (s : FrameState) → s ≡ (frame_of sizes n A).0 → state_counts (states_below sizes A (n + 1)) ≡ set (state_counts (states_below sizes A n)) (count_place s) (get_or (state_counts (states_below sizes A n)) (count_place s) 0 + 1)
 states-next sizes A n s is =
     ap state_counts (map-range-next (λ f. (frame_of sizes f A).0) n ∙ ap (λ x. states_below sizes A n ++ x ∷ []) (sym is))
     ∙ state_counts-push (states_below sizes A n) s
 
 -- no state is counted more often than there are frames
-pub state_counts-le : (xs : List FrameState) (s : FrameState) → get_or (state_counts xs) (place_of s) 0 ≤ length xs
+pub state_counts-le : (xs : List FrameState) (s : FrameState) → get_or (state_counts xs) (count_place s) 0 ≤ length xs
 state_counts-le xs Opened = count_by-le-length is_opened xs
 state_counts-le xs Sealed = count_by-le-length is_at_sealed xs
 state_counts-le xs Flushed = count_by-le-length is_at_flushed xs
 state_counts-le xs Closed = count_by-le-length is_at_closed xs
 state_counts-le xs Free = count_by-le-length is_free xs
 
-pub states-le : (sizes : Sizes) (A : List Step) (n : ℕ) (s : FrameState) → get_or (state_counts (states_below sizes A n)) (place_of s) 0 ≤ n
+pub states-le : (sizes : Sizes) (A : List Step) (n : ℕ) (s : FrameState) → get_or (state_counts (states_below sizes A n)) (count_place s) 0 ≤ n
 states-le sizes A n s = omega (arith, state_counts-le (states_below sizes A n) s, length-map-range_with_len (λ f. (frame_of sizes f A).0) 0 n)

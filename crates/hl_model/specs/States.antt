@@ -4,9 +4,9 @@ use Rattle.hl_model.specs.declared.frame.FrameState.{FrameState}
 use Rattle.hl_model.specs.declared.frame.FrameState.TheVariants.{Opened, Sealed, Flushed, Closed, Free}
 
 -- the place of a state's count
-abbrev pub place_of : FrameState → ℕ
-place_of Opened = 0
-place_of Sealed = 1
-place_of Flushed = 2
-place_of Closed = 3
-place_of Free = 4
+abbrev pub count_place : FrameState → ℕ
+count_place Opened = 0
+count_place Sealed = 1
+count_place Flushed = 2
+count_place Closed = 3
+count_place Free = 4

@@ -1,4 +1,4 @@
-ghost use Rattle.std.specs.Prelude.{◌≡◌, ◌+◌};
+ghost use Rattle.hl_script.specs.Fast.{adds};
 
 use hl_action::Promise;
 
@@ -6,5 +6,5 @@ use hl_action::Promise;
 pub struct Sum;
 
 impl Promise for Sum {
-    ghost keeps = { λ tag firing answer. answer ≡ tag + firing.ticket };
+    ghost keeps = { adds };
 }

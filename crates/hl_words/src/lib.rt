@@ -21,7 +21,7 @@
 //!
 //! Only the types keep the following, and no contract says it: that the rule holds while threads still run (the contract
 //! of one load says just that the rider noted it), and of the values that the words really have; that a rider is used by
-//! one thread at a time; that values of two seeds are never mixed, which doesn't compile; that words may be shared by
+//! one thread at a time; that values of two seeds, whose types differ, are never mixed; that words may be shared by
 //! threads, and that a rider may go to another. Nothing is said of the order of two threads' stores into one cell, nor
 //! that a load finds the latest.
 //!

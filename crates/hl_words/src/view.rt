@@ -1,4 +1,4 @@
-//! What the seats of the table know. It exists in proofs alone: no value of these types is made.
+//! What the seats of the table know. It is told in proofs alone: a program makes no value of these types but a `Room`.
 use std::collections::LinkedList;
 
 /// What a rider did to a cell.

@@ -8,7 +8,7 @@ ghost use Rattle.hl_model.specs.Epochs.{is_protected};
 ghost use Rattle.hl_model.specs.Offsets.{tail};
 ghost use Rattle.hl_model.specs.Pages.{flushed};
 ghost use Rattle.hl_model.specs.Replies.{IsAccepted};
-ghost use Rattle.hl_model.specs.States.{place_of};
+ghost use Rattle.hl_model.specs.States.{count_place};
 ghost use Rattle.hl_model.specs.Snapshots.{six, state_counts, frame_states, snapshot_of};
 
 use crate::frame::FrameState;
@@ -46,8 +46,8 @@ fn six(params: Params, steps: &[Step]) -> Six
 }
 
 // The place of a state among the counts of frames.
-fn place_of(state: FrameState) -> usize
-    ensures place { result ≡ place_of state }
+fn count_place(state: FrameState) -> usize
+    ensures place { result ≡ count_place state }
     ensures within { result < 5 }
 {
     match state {
@@ -66,7 +66,7 @@ fn counts(params: Params, steps: &[Step]) -> [u64; 5]
 {
     let mut counts = [0; 5];
     for f in 0..params.frames() {
-        counts[place_of(frame_of(params, f, steps).0)] += 1;
+        counts[count_place(frame_of(params, f, steps).0)] += 1;
     }
     counts
 }

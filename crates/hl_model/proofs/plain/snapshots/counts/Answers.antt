@@ -1,6 +1,6 @@
 use Rattle.std.proofs.Common.{arith, ◌≡◌, ◌∙◌, ap, ap₂, get_or}
 use Rattle.hl_model.specs.Snapshots.{state_counts, frame_states}
-use Rattle.hl_model.specs.States.{place_of}
+use Rattle.hl_model.specs.States.{count_place}
 use Rattle.hl_model.proofs.StateLaws.{states_below, states-next, states-le}
 use Rattle.hl_model.proofs.plain.snapshots.counts.Goals as goal
 
@@ -12,8 +12,8 @@ loop-f-preserved c =
 pub overflow_add-counts : goal.overflow_add-counts
 overflow_add-counts c =
     let state = c.frame_of.result.0 in
-    let same : get_or c.loop-f.counts c.place_of.result 0 ≡ get_or (state_counts (states_below c.args.params c.args.steps.now c.loop-f.f)) (place_of state) 0
-    = ap₂ (λ xs k. get_or xs k 0) c.loop-f.invariant c.place_of.ensures.place in
+    let same : get_or c.loop-f.counts c.count_place.result 0 ≡ get_or (state_counts (states_below c.args.params c.args.steps.now c.loop-f.f)) (count_place state) 0
+    = ap₂ (λ xs k. get_or xs k 0) c.loop-f.invariant c.count_place.ensures.place in
     omega (arith, same, states-le c.args.params c.args.steps.now c.loop-f.f state)
 
 pub returns : goal.returns
