@@ -14,13 +14,13 @@ use Rattle.hl_model.specs.Sizes.{Sizes}
 use Rattle.hl_model.specs.Epochs.{Table, table_of, is_bump, enters, leaves, current_epoch, slot_epochs, safe_epoch, safe_among}
 use Rattle.hl_model.specs.Actions.{is_take, finishes, action_of, actions, pending, taken, takes, bumps, is_finished, is_full}
 use Rattle.hl_model.specs.Views.{allocates, looked_read_only, looked_head}
-use Rattle.hl_model.specs.Replies.{fault_of, answer_of, bump_fault, epoch_last, unless_fault}
+use Rattle.hl_model.specs.Replies.{fault_of, answer_of, bump_fault, epoch_last, unless_fault, unless_refused}
 use Rattle.hl_model.proofs.AcceptedLaws.{IsAccepted-push}
 use Rattle.hl_model.proofs.ActionLaws.{bumps-push, current_epoch-bumps, tickets-actions, pending-stores, taken-stores}
 use Rattle.hl_model.proofs.DrainLaws.{takes-le-bumps, length-both, bumps-dones, is_full-both, epochs-pending}
 use Rattle.hl_model.proofs.EpochLaws.{current_epoch-push, slot_epochs-stay}
 use Rattle.hl_model.proofs.ViewLaws.{slot_views-stay}
-use Rattle.hl_epoch.specs.Faults.{bump_fault as spent_fault, answered, after}
+use Rattle.hl_epoch.specs.Faults.{bump_fault as spent_fault}
 use Rattle.hl_epoch.specs.Table.{bumped, safe_of}
 use Rattle.hl_drain.specs.declared.action.Ask.{Ask}
 use Rattle.hl_drain.specs.declared.action.Ask.TheVariants.{User as AskUser, Settle as AskSettle, Close as AskClose}
@@ -29,8 +29,9 @@ use Rattle.hl_drain.specs.Actions.{waiting_of}
 use Rattle.hl_drain.specs.Lists.{Lists, IsDrain, count_of, tickets, after_put}
 use Rattle.hl_core.specs.Standing.{State, Stands, IsStanding, log_of}
 use Rattle.hl_core.specs.Steps.{Made, asking, stored}
-use Rattle.hl_core.proofs.TableLaws.{answered_ok, make}
+use Rattle.hl_core.proofs.TableLaws.{make}
 use Rattle.hl_core.proofs.QuietLaws.{OffsetsStay, PagesStay, log-stays, pages-stay}
+use Rattle.hl_core.proofs.Refusals.{passed_is, call_accepts}
 use Rattle.hl_core.proofs.StandLaws.{refused_step, table_refused, accepted_step}
 
 -- a step that stores an action
@@ -148,11 +149,11 @@ module _ {J : Type 0} (tag : J → ℕ) where
   waiting_tickets (e ∷ es) = ap (λ z. e.0 ∷ z) (waiting_tickets es)
 
   -- an action may be stored under the current epoch
-  pub put_fits : (core : State J) (ticket : ℕ) → IsStanding tag core → Ok ticket ≡ answered (spent_fault core.table) core.table.current → All (λ earlier. earlier < ticket) (tickets core.drain)
+  pub put_fits : (core : State J) (ticket : ℕ) → IsStanding tag core → Ok ticket ≡ unless_fault (spent_fault core.table) core.table.current → All (λ earlier. earlier < ticket) (tickets core.drain)
   put_fits core ticket at a =
       let A = at.0 in
       let st : Stands tag core A = at.1 in
-      let now : current_epoch A ≡ ticket = sym ((answered_ok (spent_fault core.table) ticket core.table.current a).1 ∙ ap (λ (z : Table). z.current) st.table_is) in
+      let now : current_epoch A ≡ ticket = sym ((passed_is (spent_fault core.table) ticket core.table.current a).1 ∙ ap (λ (z : Table). z.current) st.table_is) in
       let held : AllByRecursion (λ t. t < current_epoch A) (map (λ w. w.ticket) core.drain.taken) = subst (λ ws. AllByRecursion (λ t. t < current_epoch A) (map (λ w. w.ticket) ws)) (sym st.taken_is) (all_tickets (current_epoch A) (taken A) (taken_below A)) in
       let waits : AllByRecursion (λ t. t < current_epoch A) (map (λ e. e.0) core.drain.pending) =
       subst (AllByRecursion (λ t. t < current_epoch A)) (sym (ap (map (λ w. w.ticket)) st.pending_is) ∙ waiting_tickets core.drain.pending) (all_tickets (current_epoch A) (pending A) (pending_below A)) in
@@ -196,13 +197,13 @@ module _ {J : Type 0} (tag : J → ℕ) where
       refused_step tag core A (asking tag ask) DrainFull st ((stores tag ask).fault core.sizes A ∙ ap (λ b. cond b (Some DrainFull) (cond (eqb (current_epoch A) epoch_last) (Some EpochsSpent) None)) (is_full-list core A st le))
 
   -- a bump of the last epoch
-  pub bump_spent : (core : State J) (ask : Ask J) (f : Fault) (table : Table) → count_of core.drain < core.drain.limit → Err f ≡ answered (spent_fault core.table) core.table.current → table ≡ after (spent_fault core.table) core.table (bumped core.table) → Made tag core (asking tag ask) (record { sizes = core.sizes; table = table; views = core.views; drain = core.drain; offsets = core.offsets; pages = core.pages }) (Err f)
+  pub bump_spent : (core : State J) (ask : Ask J) (f : Fault) (table : Table) → count_of core.drain < core.drain.limit → Err f ≡ unless_fault (spent_fault core.table) core.table.current → table ≡ unless_refused (spent_fault core.table) core.table (bumped core.table) → Made tag core (asking tag ask) (record { sizes = core.sizes; table = table; views = core.views; drain = core.drain; offsets = core.offsets; pages = core.pages }) (Err f)
   bump_spent core ask f table room a e =
       table_refused tag core (asking tag ask) f (spent_fault core.table) core.table.current (bumped core.table) table a e
       (λ A st. (stores tag ask).fault core.sizes A ∙ room_fault core A st room)
 
   -- an accepted bump: the action is the last pending one
-  pub bump_ok : (core : State J) (ask : Ask J) (ticket : ℕ) (table : Table) (action : Action J) (drain : Lists J) → count_of core.drain < core.drain.limit → Ok ticket ≡ answered (spent_fault core.table) core.table.current → table ≡ after (spent_fault core.table) core.table (bumped core.table) → action ≡ stored core.offsets ask → drain ≡ after_put core.drain ticket action → IsDrain drain → Made tag core (asking tag ask) (record { sizes = core.sizes; table = table; views = core.views; drain = drain; offsets = core.offsets; pages = core.pages }) (Ok (Ticket ticket))
+  pub bump_ok : (core : State J) (ask : Ask J) (ticket : ℕ) (table : Table) (action : Action J) (drain : Lists J) → count_of core.drain < core.drain.limit → Ok ticket ≡ unless_fault (spent_fault core.table) core.table.current → table ≡ unless_refused (spent_fault core.table) core.table (bumped core.table) → action ≡ stored core.offsets ask → drain ≡ after_put core.drain ticket action → IsDrain drain → Made tag core (asking tag ask) (record { sizes = core.sizes; table = table; views = core.views; drain = drain; offsets = core.offsets; pages = core.pages }) (Ok (Ticket ticket))
   bump_ok core ask ticket table action drain room a eff act put known A st =
       accepted_step tag core (record { sizes = core.sizes; table = table; views = core.views; drain = drain; offsets = core.offsets; pages = core.pages }) A s (Ticket ticket) free refl reply (record {
         in_range = st.in_range;
@@ -224,7 +225,7 @@ module _ {J : Type 0} (tag : J → ℕ) where
       s = asking tag ask
 
       both : (spent_fault core.table ≡ None) × (ticket ≡ core.table.current)
-      both = answered_ok (spent_fault core.table) ticket core.table.current a
+      both = passed_is (spent_fault core.table) ticket core.table.current a
 
       free : fault_of core.sizes A s ≡ None
       free = (stores tag ask).fault core.sizes A ∙ room_fault core A st room ∙ both.0
@@ -233,7 +234,7 @@ module _ {J : Type 0} (tag : J → ℕ) where
       is = both.1 ∙ ap (λ (z : Table). z.current) st.table_is
 
       table_is : table ≡ table_of core.sizes (A ++ s ∷ [])
-      table_is = eff ∙ ap (λ p. after p core.table (bumped core.table)) both.0 ∙ ap bumped st.table_is
+      table_is = (call_accepts (spent_fault core.table) ticket core.table.current core.table (bumped core.table) table a eff).1 ∙ ap bumped st.table_is
           ∙ ap₂ (make core.sizes.drain) (sym (current_epoch-push A s ∙ ap (λ b. current_epoch A + cond b 1 0) (stores tag ask).bump)) (sym (slot_epochs-stay core.sizes.slots A s (stores tag ask).enters_none (stores tag ask).leaves_none))
 
       put_is : drain ≡ record { limit = core.drain.limit; pending = core.drain.pending ++ (ticket, action) ∷ []; taken = core.drain.taken }

@@ -12,6 +12,7 @@ pub mod PageOffsets
 pub mod PageRows
 pub mod PageStands
 pub mod QuietLaws
+pub mod Refusals
 pub mod RunStands
 pub mod SeenLaws
 pub mod SlotStands

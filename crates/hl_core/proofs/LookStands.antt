@@ -17,7 +17,8 @@ use Rattle.hl_core.specs.Standing.{State, Stands, IsStanding}
 use Rattle.hl_core.specs.Steps.{Made}
 use Rattle.hl_core.proofs.TableLaws.{table_stays}
 use Rattle.hl_core.proofs.QuietLaws.{OffsetsStay, PagesStay, log-stays, pages-stay}
-use Rattle.hl_core.proofs.StandLaws.{DrainStays, refused_is, passed_is, refused_step, accepted_step, quiet_drain}
+use Rattle.hl_core.proofs.Refusals.{refused_is, passed_is}
+use Rattle.hl_core.proofs.StandLaws.{DrainStays, refused_step, accepted_step, quiet_drain}
 
 -- the view of slot t after its look
 view-look : (sizes : Sizes) (A : List Step) (t r h : ℕ) → view_of sizes t (A ++ Look t r h ∷ []) ≡ record { read_only = r; head = h; tail = seen_tail sizes t A }

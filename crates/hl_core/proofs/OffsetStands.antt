@@ -1,6 +1,6 @@
 -- Where a core stands after a raise and a shift, and its six offsets.
 use Rattle.std.proofs.Common.{◌≡◌, ℕ, ◌%◌, ◌<◌, ◌≤◌, List, [], ◌∷◌, ◌++◌, refl, sym, ap, ap₂, ◌∙◌, subst, arith, eq-eqb}
-use Rattle.std.specs.Prelude.{Option, Some, None, Ok, Err}
+use Rattle.std.specs.Prelude.{Some, None, Ok, Err}
 use Rattle.std.proofs.lemmas.Bool.{lt-leb, lt-ltb, le-ltb}
 use Rattle.hl_model.specs.declared.fault.Fault.{Fault}
 use Rattle.hl_model.specs.declared.fault.Fault.TheVariants.{AboveFlushed}
@@ -12,30 +12,20 @@ use Rattle.hl_model.specs.Sizes.{Sizes}
 use Rattle.hl_model.specs.Offsets.{head}
 use Rattle.hl_model.specs.Pages.{flushed}
 use Rattle.hl_model.specs.Snapshots.{six, AreInOrder}
-use Rattle.hl_model.specs.Replies.{fault_of, raise_fault, shift_fault, unless_fault, IsAccepted}
+use Rattle.hl_model.specs.Replies.{fault_of, raise_fault, shift_fault, unless_fault, unless_refused, IsAccepted}
 use Rattle.hl_model.proofs.OffsetLaws.{read_only-stay, head-stay, read_only-raise, head-shift}
 use Rattle.hl_model.proofs.OrderLaws.{offsets_are_in_order}
 use Rattle.hl_model.proofs.PageFacts.{flushed-le-safe_read_only}
 use Rattle.hl_model.proofs.ViewLaws.{slot_views-stay}
 use Rattle.hl_frames.specs.Pages.{flushed_offset}
-use Rattle.hl_offsets.specs.Faults.{after}
 use Rattle.hl_offsets.specs.Log.{Log, raised, shifted, six_of}
 use Rattle.hl_core.specs.Standing.{State, Stands, IsStanding, log_of}
 use Rattle.hl_core.specs.Steps.{Stepped, Made}
 use Rattle.hl_core.proofs.PageOffsets.{pages_of-flushed}
 use Rattle.hl_core.proofs.TableLaws.{table_stays}
+use Rattle.hl_core.proofs.Refusals.{call_refuses, call_accepts}
 use Rattle.hl_core.proofs.QuietLaws.{safe_read_only-quiet, closed-quiet, tail-stays, pages-stay}
 use Rattle.hl_core.proofs.StandLaws.{refused_step, accepted_step, quiet_drain}
-
--- offsets that are refused stay
-log_refuses : (o : Option Fault) (f : Fault) (old good new : Log) → Err f ≡ unless_fault o (tt {0}) → new ≡ after o old good → (o ≡ Some f) × (new ≡ old)
-log_refuses None f old good new h e = cc
-log_refuses (Some g) f old good new h e = (cc, e)
-
--- and move where they are accepted
-log_accepts : (o : Option Fault) (old good new : Log) → Ok (tt {0}) ≡ unless_fault o (tt {0}) → new ≡ after o old good → (o ≡ None) × (new ≡ good)
-log_accepts None old good new h e = (refl, e)
-log_accepts (Some g) old good new h e = cc
 
 -- the offsets after a raise and a shift
 log-raise : (sizes : Sizes) (A : List Step) (x : ℕ) → IsAccepted sizes A → fault_of sizes A (Raise x) ≡ None → log_of sizes (A ++ Raise x ∷ []) ≡ raised x (log_of sizes A)
@@ -53,9 +43,9 @@ shift_open page head flushed x h w f = rw (lt-leb x head h, eq-eqb (x % page) 0 
 
 module _ {J : Type 0} (tag : J → ℕ) where
   -- an accepted raise
-  pub raise_ok : (core : State J) (x : ℕ) (offsets : Log) → Ok (tt {0}) ≡ unless_fault (raise_fault core.offsets.read_only core.offsets.tail x) (tt {0}) → offsets ≡ after (raise_fault core.offsets.read_only core.offsets.tail x) core.offsets (raised x core.offsets) → Made tag core (Raise x) (record { sizes = core.sizes; table = core.table; views = core.views; drain = core.drain; offsets = offsets; pages = core.pages }) (Ok (Raised x))
+  pub raise_ok : (core : State J) (x : ℕ) (offsets : Log) → Ok (tt {0}) ≡ unless_fault (raise_fault core.offsets.read_only core.offsets.tail x) (tt {0}) → offsets ≡ unless_refused (raise_fault core.offsets.read_only core.offsets.tail x) core.offsets (raised x core.offsets) → Made tag core (Raise x) (record { sizes = core.sizes; table = core.table; views = core.views; drain = core.drain; offsets = offsets; pages = core.pages }) (Ok (Raised x))
   raise_ok core x offsets a e A st =
-      let both = log_accepts (raise_fault core.offsets.read_only core.offsets.tail x) core.offsets (raised x core.offsets) offsets a e in
+      let both = call_accepts (raise_fault core.offsets.read_only core.offsets.tail x) (tt {0}) (tt {0}) core.offsets (raised x core.offsets) offsets a e in
       let free : fault_of core.sizes A (Raise x) ≡ None = sym (ap (λ (z : Log). raise_fault z.read_only z.tail x) st.offsets_is) ∙ both.0 in
       accepted_step tag core (record { sizes = core.sizes; table = core.table; views = core.views; drain = core.drain; offsets = offsets; pages = core.pages }) A (Raise x) (Raised x) free refl
       (ap (λ n. Raised n) (read_only-raise core.sizes A x free))
@@ -81,16 +71,16 @@ module _ {J : Type 0} (tag : J → ℕ) where
       omega (arith, t, flushed_is core A st, flushed-le-safe_read_only core.sizes A least st.accepted, ap (λ (z : Log). z.safe_read_only) st.offsets_is)
 
   -- a refused shift
-  pub shift_err : (core : State J) (x told : ℕ) (f : Fault) (offsets : Log) → told ≡ flushed_offset core.pages → Err f ≡ unless_fault (shift_fault core.offsets.page core.offsets.head told x) (tt {0}) → offsets ≡ after (shift_fault core.offsets.page core.offsets.head told x) core.offsets (shifted x core.offsets) → Made tag core (Shift x) (record { sizes = core.sizes; table = core.table; views = core.views; drain = core.drain; offsets = offsets; pages = core.pages }) (Err f)
+  pub shift_err : (core : State J) (x told : ℕ) (f : Fault) (offsets : Log) → told ≡ flushed_offset core.pages → Err f ≡ unless_fault (shift_fault core.offsets.page core.offsets.head told x) (tt {0}) → offsets ≡ unless_refused (shift_fault core.offsets.page core.offsets.head told x) core.offsets (shifted x core.offsets) → Made tag core (Shift x) (record { sizes = core.sizes; table = core.table; views = core.views; drain = core.drain; offsets = offsets; pages = core.pages }) (Err f)
   shift_err core x told f offsets t a e A st =
-      let both = log_refuses (shift_fault core.offsets.page core.offsets.head told x) f core.offsets (shifted x core.offsets) offsets a e in
+      let both = call_refuses (shift_fault core.offsets.page core.offsets.head told x) f (tt {0}) core.offsets (shifted x core.offsets) offsets a e in
       subst (λ (z : Log). Stepped tag core A (Shift x) (record { sizes = core.sizes; table = core.table; views = core.views; drain = core.drain; offsets = z; pages = core.pages }) (Err f)) (sym both.1)
       (refused_step tag core A (Shift x) f st (sym (shift_fault-is core A x told st t) ∙ both.0))
 
   -- an accepted shift
-  pub shift_ok : (core : State J) (x told : ℕ) (offsets : Log) → told ≡ flushed_offset core.pages → Ok (tt {0}) ≡ unless_fault (shift_fault core.offsets.page core.offsets.head told x) (tt {0}) → offsets ≡ after (shift_fault core.offsets.page core.offsets.head told x) core.offsets (shifted x core.offsets) → Made tag core (Shift x) (record { sizes = core.sizes; table = core.table; views = core.views; drain = core.drain; offsets = offsets; pages = core.pages }) (Ok (Shifted x))
+  pub shift_ok : (core : State J) (x told : ℕ) (offsets : Log) → told ≡ flushed_offset core.pages → Ok (tt {0}) ≡ unless_fault (shift_fault core.offsets.page core.offsets.head told x) (tt {0}) → offsets ≡ unless_refused (shift_fault core.offsets.page core.offsets.head told x) core.offsets (shifted x core.offsets) → Made tag core (Shift x) (record { sizes = core.sizes; table = core.table; views = core.views; drain = core.drain; offsets = offsets; pages = core.pages }) (Ok (Shifted x))
   shift_ok core x told offsets t a e A st =
-      let both = log_accepts (shift_fault core.offsets.page core.offsets.head told x) core.offsets (shifted x core.offsets) offsets a e in
+      let both = call_accepts (shift_fault core.offsets.page core.offsets.head told x) (tt {0}) (tt {0}) core.offsets (shifted x core.offsets) offsets a e in
       let free : fault_of core.sizes A (Shift x) ≡ None = sym (shift_fault-is core A x told st t) ∙ both.0 in
       accepted_step tag core (record { sizes = core.sizes; table = core.table; views = core.views; drain = core.drain; offsets = offsets; pages = core.pages }) A (Shift x) (Shifted x) free refl
       (ap (λ n. Shifted n) (head-shift core.sizes A x free))

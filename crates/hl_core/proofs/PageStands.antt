@@ -21,7 +21,8 @@ use Rattle.hl_core.proofs.PageFound.{flush_found, clean_found, flight_found, cle
 use Rattle.hl_core.proofs.PageOffsets.{pages_of-flushed}
 use Rattle.hl_core.proofs.PageMoves.{flush_begun-is, flush_ended-is, clean_begun-is, clean_ended-is}
 use Rattle.hl_core.proofs.QuietLaws.{OffsetsStay, log-stays}
-use Rattle.hl_core.proofs.StandLaws.{refused_by_test, passed_by_test, refused_step, accepted_step, quiet_drain}
+use Rattle.hl_core.proofs.Refusals.{refused_by_test, passed_by_test}
+use Rattle.hl_core.proofs.StandLaws.{refused_step, accepted_step, quiet_drain}
 use Rattle.hl_core.proofs.TableLaws.{table_stays}
 
 -- a step that moves the frames alone

@@ -13,17 +13,18 @@ use Rattle.hl_model.specs.declared.view.View.{View}
 use Rattle.hl_model.specs.Sizes.{Sizes}
 use Rattle.hl_model.specs.Epochs.{Table, table_of, is_bump, enters, current_epoch, slot_epochs, is_protected, epoch_of}
 use Rattle.hl_model.specs.Views.{view_of, slot_views}
-use Rattle.hl_model.specs.Replies.{fault_of, acquire_fault, protected_fault, answer_of}
+use Rattle.hl_model.specs.Replies.{fault_of, acquire_fault, protected_fault, answer_of, unless_fault, unless_refused}
 use Rattle.hl_model.proofs.EpochLaws.{slot_epoch-enters, slot_epochs-acquire, slot_epochs-refresh, slot_epochs-release, epoch_of-slot_epoch}
 use Rattle.hl_model.proofs.NoFaultLaws.{protected-none}
 use Rattle.hl_model.proofs.ViewLaws.{slot_view-enters, slot_views-acquire, slot_views-refresh, slot_views-release, length-slot_views, view_of-slot_view}
-use Rattle.hl_epoch.specs.Faults.{acquire_fault as free_row_fault, protected_fault as row_fault, answered, after}
+use Rattle.hl_epoch.specs.Faults.{acquire_fault as free_row_fault, protected_fault as row_fault}
 use Rattle.hl_epoch.specs.Table.{entered, left}
 use Rattle.hl_offsets.specs.Log.{Log}
 use Rattle.hl_core.specs.Standing.{State, Stands, IsStanding, log_of}
 use Rattle.hl_core.specs.Steps.{Stepped, Made}
-use Rattle.hl_core.proofs.TableLaws.{answered_ok, table_accepts, table_set, current-stays, acquire_fault-table, protected_fault-table}
+use Rattle.hl_core.proofs.TableLaws.{table_set, current-stays, acquire_fault-table, protected_fault-table}
 use Rattle.hl_core.proofs.QuietLaws.{OffsetsStay, PagesStay, log-stays, pages-stay}
+use Rattle.hl_core.proofs.Refusals.{passed_is, call_accepts}
 use Rattle.hl_core.proofs.StandLaws.{DrainStays, table_refused, accepted_step, quiet_drain}
 
 -- the view of whoever enters now
@@ -63,39 +64,39 @@ module _ {J : Type 0} (tag : J → ℕ) where
   held_fault core t A st = sym (protected_fault-table core.sizes A t) ∙ sym (ap (row_fault t) st.table_is)
 
   -- a refused acquire
-  pub acquire_err : (core : State J) (t : ℕ) (f : Fault) (table : Table) → Err f ≡ answered (free_row_fault t core.table) (tt {0}) → table ≡ after (free_row_fault t core.table) core.table (entered t core.table) → Made tag core (Acquire t) (record { sizes = core.sizes; table = table; views = core.views; drain = core.drain; offsets = core.offsets; pages = core.pages }) (Err f)
+  pub acquire_err : (core : State J) (t : ℕ) (f : Fault) (table : Table) → Err f ≡ unless_fault (free_row_fault t core.table) (tt {0}) → table ≡ unless_refused (free_row_fault t core.table) core.table (entered t core.table) → Made tag core (Acquire t) (record { sizes = core.sizes; table = table; views = core.views; drain = core.drain; offsets = core.offsets; pages = core.pages }) (Err f)
   acquire_err core t f table h e = table_refused tag core (Acquire t) f (free_row_fault t core.table) (tt {0}) (entered t core.table) table h e (free_fault core t)
 
   -- an accepted acquire
-  pub acquire_ok : (core : State J) (t : ℕ) (table : Table) (epoch : ℕ) (view : View) → Ok (tt {0}) ≡ answered (free_row_fault t core.table) (tt {0}) → table ≡ after (free_row_fault t core.table) core.table (entered t core.table) → epoch ≡ table.current → view ≡ seen_now core.offsets → Made tag core (Acquire t) (record { sizes = core.sizes; table = table; views = set core.views t (Some view); drain = core.drain; offsets = core.offsets; pages = core.pages }) (Ok (Entered epoch view))
+  pub acquire_ok : (core : State J) (t : ℕ) (table : Table) (epoch : ℕ) (view : View) → Ok (tt {0}) ≡ unless_fault (free_row_fault t core.table) (tt {0}) → table ≡ unless_refused (free_row_fault t core.table) core.table (entered t core.table) → epoch ≡ table.current → view ≡ seen_now core.offsets → Made tag core (Acquire t) (record { sizes = core.sizes; table = table; views = set core.views t (Some view); drain = core.drain; offsets = core.offsets; pages = core.pages }) (Ok (Entered epoch view))
   acquire_ok core t table epoch view h e now seen A st =
-      let both = table_accepts (free_row_fault t core.table) core.table (entered t core.table) table h e in
+      let both = call_accepts (free_row_fault t core.table) (tt {0}) (tt {0}) core.table (entered t core.table) table h e in
       let free : acquire_fault core.sizes A t ≡ None = free_fault core t A st ∙ both.0 in
       enter_step core A t (Acquire t) table epoch view st free (record { takes_none = refl; ends_none = λ c. refl; stores_none = refl }) (record { done = refl; raised = refl; shifted = refl; allocated = λ a b. refl })
       (record { flush_taken = refl; flush_ended = refl; flushed = λ a. refl; clean_taken = refl; clean_ended = refl; freed = λ a. refl })
       refl (eq-eqb t t refl) (slot_epochs-acquire core.sizes.slots A t) (slot_views-acquire core.sizes A t) refl both.1 now seen
 
   -- a refused refresh
-  pub refresh_err : (core : State J) (t : ℕ) (f : Fault) (table : Table) → Err f ≡ answered (row_fault t core.table) (tt {0}) → table ≡ after (row_fault t core.table) core.table (entered t core.table) → Made tag core (Refresh t) (record { sizes = core.sizes; table = table; views = core.views; drain = core.drain; offsets = core.offsets; pages = core.pages }) (Err f)
+  pub refresh_err : (core : State J) (t : ℕ) (f : Fault) (table : Table) → Err f ≡ unless_fault (row_fault t core.table) (tt {0}) → table ≡ unless_refused (row_fault t core.table) core.table (entered t core.table) → Made tag core (Refresh t) (record { sizes = core.sizes; table = table; views = core.views; drain = core.drain; offsets = core.offsets; pages = core.pages }) (Err f)
   refresh_err core t f table h e = table_refused tag core (Refresh t) f (row_fault t core.table) (tt {0}) (entered t core.table) table h e (held_fault core t)
 
   -- an accepted refresh
-  pub refresh_ok : (core : State J) (t : ℕ) (table : Table) (epoch : ℕ) (view : View) → Ok (tt {0}) ≡ answered (row_fault t core.table) (tt {0}) → table ≡ after (row_fault t core.table) core.table (entered t core.table) → epoch ≡ table.current → view ≡ seen_now core.offsets → Made tag core (Refresh t) (record { sizes = core.sizes; table = table; views = set core.views t (Some view); drain = core.drain; offsets = core.offsets; pages = core.pages }) (Ok (Entered epoch view))
+  pub refresh_ok : (core : State J) (t : ℕ) (table : Table) (epoch : ℕ) (view : View) → Ok (tt {0}) ≡ unless_fault (row_fault t core.table) (tt {0}) → table ≡ unless_refused (row_fault t core.table) core.table (entered t core.table) → epoch ≡ table.current → view ≡ seen_now core.offsets → Made tag core (Refresh t) (record { sizes = core.sizes; table = table; views = set core.views t (Some view); drain = core.drain; offsets = core.offsets; pages = core.pages }) (Ok (Entered epoch view))
   refresh_ok core t table epoch view h e now seen A st =
-      let both = table_accepts (row_fault t core.table) core.table (entered t core.table) table h e in
+      let both = call_accepts (row_fault t core.table) (tt {0}) (tt {0}) core.table (entered t core.table) table h e in
       let seated : protected_fault core.sizes A t ≡ None = held_fault core t A st ∙ both.0 in
       enter_step core A t (Refresh t) table epoch view st seated (record { takes_none = refl; ends_none = λ c. refl; stores_none = refl }) (record { done = refl; raised = refl; shifted = refl; allocated = λ a b. refl })
       (record { flush_taken = refl; flush_ended = refl; flushed = λ a. refl; clean_taken = refl; clean_ended = refl; freed = λ a. refl })
       refl (eq-eqb t t refl) (slot_epochs-refresh core.sizes.slots A t) (slot_views-refresh core.sizes A t) refl both.1 now seen
 
   -- a refused release
-  pub release_err : (core : State J) (t : ℕ) (f : Fault) (table : Table) → Err f ≡ answered (row_fault t core.table) (tt {0}) → table ≡ after (row_fault t core.table) core.table (left t core.table) → Made tag core (Release t) (record { sizes = core.sizes; table = table; views = core.views; drain = core.drain; offsets = core.offsets; pages = core.pages }) (Err f)
+  pub release_err : (core : State J) (t : ℕ) (f : Fault) (table : Table) → Err f ≡ unless_fault (row_fault t core.table) (tt {0}) → table ≡ unless_refused (row_fault t core.table) core.table (left t core.table) → Made tag core (Release t) (record { sizes = core.sizes; table = table; views = core.views; drain = core.drain; offsets = core.offsets; pages = core.pages }) (Err f)
   release_err core t f table h e = table_refused tag core (Release t) f (row_fault t core.table) (tt {0}) (left t core.table) table h e (held_fault core t)
 
   -- an accepted release
-  pub release_ok : (core : State J) (t : ℕ) (table : Table) → Ok (tt {0}) ≡ answered (row_fault t core.table) (tt {0}) → table ≡ after (row_fault t core.table) core.table (left t core.table) → Made tag core (Release t) (record { sizes = core.sizes; table = table; views = set core.views t None; drain = core.drain; offsets = core.offsets; pages = core.pages }) (Ok Left)
+  pub release_ok : (core : State J) (t : ℕ) (table : Table) → Ok (tt {0}) ≡ unless_fault (row_fault t core.table) (tt {0}) → table ≡ unless_refused (row_fault t core.table) core.table (left t core.table) → Made tag core (Release t) (record { sizes = core.sizes; table = table; views = set core.views t None; drain = core.drain; offsets = core.offsets; pages = core.pages }) (Ok Left)
   release_ok core t table h e A st =
-      let both = table_accepts (row_fault t core.table) core.table (left t core.table) table h e in
+      let both = call_accepts (row_fault t core.table) (tt {0}) (tt {0}) core.table (left t core.table) table h e in
       let seated : protected_fault core.sizes A t ≡ None = held_fault core t A st ∙ both.0 in
       let is : table ≡ table_of core.sizes (A ++ Release t ∷ []) = both.1 ∙ ap (left t) st.table_is ∙ table_set core.sizes A (Release t) (set (slot_epochs core.sizes.slots A) t None) refl (slot_epochs-release core.sizes.slots A t) in
       let views : set core.views t None ≡ slot_views core.sizes (A ++ Release t ∷ []) = ap (λ xs. set xs t None) st.views_is ∙ sym (slot_views-release core.sizes A t) in
@@ -104,16 +105,16 @@ module _ {J : Type 0} (tag : J → ℕ) where
       (record { flush_taken = refl; flush_ended = refl; flushed = λ a. refl; clean_taken = refl; clean_ended = refl; freed = λ a. refl }) is views)
 
   -- a slot that a table takes has a view's place
-  pub acquire_fits : (core : State J) (t : ℕ) → IsStanding tag core → Ok (tt {0}) ≡ answered (free_row_fault t core.table) (tt {0}) → t < length core.views
+  pub acquire_fits : (core : State J) (t : ℕ) → IsStanding tag core → Ok (tt {0}) ≡ unless_fault (free_row_fault t core.table) (tt {0}) → t < length core.views
   acquire_fits core t at h =
       let A = at.0 in
       let st : Stands tag core A = at.1 in
-      let free : acquire_fault core.sizes A t ≡ None = free_fault core t A st ∙ (answered_ok (free_row_fault t core.table) (tt {0}) (tt {0}) h).0 in
+      let free : acquire_fault core.sizes A t ≡ None = free_fault core t A st ∙ (passed_is (free_row_fault t core.table) (tt {0}) (tt {0}) h).0 in
       omega (arith, leb-false core.sizes.slots t (two_faults (leb core.sizes.slots t) (is_protected t A) NoSlot Occupied free).0, ap length st.views_is, length-slot_views core.sizes A)
 
-  pub protected_fits : (core : State J) (t : ℕ) → IsStanding tag core → Ok (tt {0}) ≡ answered (row_fault t core.table) (tt {0}) → t < length core.views
+  pub protected_fits : (core : State J) (t : ℕ) → IsStanding tag core → Ok (tt {0}) ≡ unless_fault (row_fault t core.table) (tt {0}) → t < length core.views
   protected_fits core t at h =
       let A = at.0 in
       let st : Stands tag core A = at.1 in
-      let seated : protected_fault core.sizes A t ≡ None = held_fault core t A st ∙ (answered_ok (row_fault t core.table) (tt {0}) (tt {0}) h).0 in
+      let seated : protected_fault core.sizes A t ≡ None = held_fault core t A st ∙ (passed_is (row_fault t core.table) (tt {0}) (tt {0}) h).0 in
       omega (arith, (protected-none core.sizes A t seated).0, ap length st.views_is, length-slot_views core.sizes A)

@@ -1,5 +1,5 @@
--- What a test's answer says of its fault, and where a core stands after a refused step and after an accepted one.
-use Rattle.std.proofs.Common.{◌≡◌, ℕ, Bool, true, false, cond, is_none, List, [], ◌∷◌, ◌++◌, refl, sym, ap, ◌∙◌, subst, append-nil}
+-- Where a core stands after a refused step and after an accepted one.
+use Rattle.std.proofs.Common.{◌≡◌, ℕ, false, cond, is_none, List, [], ◌∷◌, ◌++◌, refl, sym, ap, ◌∙◌, subst, append-nil}
 use Rattle.std.specs.Prelude.{Option, Some, None, Ok, Err}
 use Rattle.hl_model.specs.declared.fault.Fault.{Fault}
 use Rattle.hl_model.specs.declared.step.Reply.{Reply}
@@ -8,34 +8,15 @@ use Rattle.hl_model.specs.declared.view.View.{View}
 use Rattle.hl_model.specs.Epochs.{Table, table_of}
 use Rattle.hl_model.specs.Actions.{is_take, finishes, action_of, pending}
 use Rattle.hl_model.specs.Views.{slot_views}
-use Rattle.hl_model.specs.Replies.{fault_of, answer_of, unless_fault}
+use Rattle.hl_model.specs.Replies.{fault_of, answer_of, unless_fault, unless_refused}
 use Rattle.hl_model.proofs.AcceptedLaws.{IsAccepted-push}
 use Rattle.hl_model.proofs.ActionLaws.{pending-stores, taken-stores}
 use Rattle.hl_model.proofs.DrainLaws.{takes-le-bumps}
-use Rattle.hl_epoch.specs.Faults.{answered, after}
 use Rattle.hl_offsets.specs.Log.{Log}
 use Rattle.hl_frames.specs.Pages.{Pages}
 use Rattle.hl_core.specs.Standing.{State, Stands, log_of, pages_of}
 use Rattle.hl_core.specs.Steps.{Stepped, Made}
-use Rattle.hl_core.proofs.TableLaws.{table_refuses}
-
--- a test that refused, and one that passed
-pub refused_is : {X : Type 0} (o : Option Fault) (f : Fault) (x : X) → Err f ≡ unless_fault o x → o ≡ Some f
-refused_is None f x h = cc
-refused_is (Some g) f x h = cc
-
-pub passed_is : {X : Type 0} (o : Option Fault) (v x : X) → Ok v ≡ unless_fault o x → (o ≡ None) × (v ≡ x)
-passed_is None v x h = (refl, cc)
-passed_is (Some g) v x h = cc
-
--- the same of a test of one fault
-pub refused_by_test : {X : Type 0} (fault f : Fault) (b : Bool) (x : X) → Err f ≡ cond b (Ok x) (Err fault) → (b ≡ false) × (f ≡ fault)
-refused_by_test fault f true x h = cc
-refused_by_test fault f false x h = (refl, cc)
-
-pub passed_by_test : {X : Type 0} (fault : Fault) (b : Bool) (v x : X) → Ok v ≡ cond b (Ok x) (Err fault) → (b ≡ true) × (v ≡ x)
-passed_by_test fault true v x h = (refl, cc)
-passed_by_test fault false v x h = cc
+use Rattle.hl_core.proofs.Refusals.{call_refuses}
 
 module _ {J : Type 0} (tag : J → ℕ) where
   -- a refused step leaves where a core stands
@@ -47,9 +28,9 @@ module _ {J : Type 0} (tag : J → ℕ) where
   }
 
   -- a step that the table of epochs refuses
-  pub table_refused : {X : Type 0} (core : State J) (s : Step) (f : Fault) (o : Option Fault) (x : X) (moved table : Table) → Err f ≡ answered o x → table ≡ after o core.table moved → ((A : List Step) → Stands tag core A → fault_of core.sizes A s ≡ o) → Made tag core s (record { sizes = core.sizes; table = table; views = core.views; drain = core.drain; offsets = core.offsets; pages = core.pages }) (Err f)
+  pub table_refused : {X : Type 0} (core : State J) (s : Step) (f : Fault) (o : Option Fault) (x : X) (moved table : Table) → Err f ≡ unless_fault o x → table ≡ unless_refused o core.table moved → ((A : List Step) → Stands tag core A → fault_of core.sizes A s ≡ o) → Made tag core s (record { sizes = core.sizes; table = table; views = core.views; drain = core.drain; offsets = core.offsets; pages = core.pages }) (Err f)
   table_refused core s f o x moved table h e told A st =
-      let both = table_refuses o f x core.table moved table h e in
+      let both = call_refuses o f x core.table moved table h e in
       subst (λ (z : Table). Stepped tag core A s (record { sizes = core.sizes; table = z; views = core.views; drain = core.drain; offsets = core.offsets; pages = core.pages }) (Err f)) (sym both.1)
       (refused_step core A s f st (told A st ∙ both.0))
 

@@ -1,33 +1,14 @@
 -- What the table of a list answers, and what it is after a step.
 use Rattle.std.proofs.Common.{◌≡◌, ℕ, ◌+◌, Bool, true, false, cond, leb, is_some, List, [], ◌∷◌, ◌++◌, get_or, refl, sym, ap, ap₂, ◌∙◌, add-zero}
-use Rattle.std.specs.Prelude.{Option, Some, None, Ok, Err}
+use Rattle.std.specs.Prelude.{Option, Some, None}
 use Rattle.std.proofs.lemmas.Bool.{leb-false}
-use Rattle.hl_model.specs.declared.fault.Fault.{Fault}
 use Rattle.hl_model.specs.declared.fault.Fault.TheVariants.{NoSlot, Occupied, NotProtected}
 use Rattle.hl_model.specs.declared.step.Step.{Step}
 use Rattle.hl_model.specs.Sizes.{Sizes}
 use Rattle.hl_model.specs.Epochs.{Table, table_of, is_bump, enters, leaves, current_epoch, slot_epochs, is_protected}
 use Rattle.hl_model.specs.Replies.{acquire_fault, protected_fault}
 use Rattle.hl_model.proofs.EpochLaws.{current_epoch-push, slot_epochs-stay, length-slot_epochs, slot_epochs-at, is_protected-slot_epoch}
-use Rattle.hl_epoch.specs.Faults.{acquire_fault as free_row_fault, protected_fault as row_fault, answered, after}
-
--- an answer that is a fault
-answered_err : {X : Type 0} (o : Option Fault) (f : Fault) (x : X) → Err f ≡ answered o x → o ≡ Some f
-answered_err None f x h = cc
-answered_err (Some g) f x h = cc
-
--- an answer that is none
-pub answered_ok : {X : Type 0} (o : Option Fault) (v x : X) → Ok v ≡ answered o x → (o ≡ None) × (v ≡ x)
-answered_ok None v x h = (refl, cc)
-answered_ok (Some g) v x h = cc
-
--- a table that refuses stays as it was
-pub table_refuses : {X : Type 0} (o : Option Fault) (f : Fault) (x : X) (old good new : Table) → Err f ≡ answered o x → new ≡ after o old good → (o ≡ Some f) × (new ≡ old)
-table_refuses o f x old good new h e = let some : o ≡ Some f = answered_err o f x h in (some, e ∙ ap (λ p. after p old good) some)
-
--- and moves where it accepts
-pub table_accepts : (o : Option Fault) (old good new : Table) → Ok (tt {0}) ≡ answered o (tt {0}) → new ≡ after o old good → (o ≡ None) × (new ≡ good)
-table_accepts o old good new h e = let none : o ≡ None = (answered_ok o (tt {0}) (tt {0}) h).0 in (none, e ∙ ap (λ p. after p old good) none)
+use Rattle.hl_epoch.specs.Faults.{acquire_fault as free_row_fault, protected_fault as row_fault}
 
 abbrev pub make : ℕ → ℕ → List (Option ℕ) → Table
 make drain current epochs = record { current = current; epochs = epochs; drain = drain }

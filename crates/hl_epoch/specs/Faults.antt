@@ -1,5 +1,5 @@
--- When a table of epochs refuses a call, and what a refusal leaves.
-use Rattle.std.specs.Prelude.{ℕ, ◌^◌, ◌==◌, nat_le, if◌then◌else◌, Option, Some, None, is_some, Result, Ok, Err, length}
+-- When a table of epochs refuses a call.
+use Rattle.std.specs.Prelude.{ℕ, ◌^◌, ◌==◌, nat_le, if◌then◌else◌, Option, Some, None, is_some, length}
 use Rattle.hl_model.specs.Epochs.{Table}
 use Rattle.hl_model.specs.declared.fault.Fault.{Fault}
 use Rattle.hl_model.specs.declared.fault.Fault.TheVariants.{NoSlot, Occupied, NotProtected, EpochsSpent}
@@ -16,13 +16,3 @@ protected_fault t T = if nat_le (length T.epochs) t then Some NoSlot else (if is
 -- why the current epoch does not rise: it is the last
 abbrev pub bump_fault : Table → Option Fault
 bump_fault T = if T.current == 2 ^ 62 then Some EpochsSpent else None
-
--- the fault, or this value where there is none
-abbrev pub answered : {A : Type 0} → Option Fault → A → Result A Fault
-answered None value = Ok value
-answered (Some fault) value = Err fault
-
--- the old table where there is a fault, the new one where there is none
-abbrev pub after : Option Fault → Table → Table → Table
-after None old new = new
-after (Some fault) old new = old

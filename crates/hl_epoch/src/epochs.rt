@@ -1,6 +1,7 @@
 ghost use Rattle.std.specs.Prelude.{◌≡◌, ℕ, ◌-◌, ◌<◌, ◌≤◌, IfOk, IfErr};
 ghost use Rattle.hl_model.specs.Epochs.{Table};
-ghost use Rattle.hl_epoch.specs.Faults.{acquire_fault, protected_fault, bump_fault, answered, after};
+ghost use Rattle.hl_model.specs.Replies.{unless_fault, unless_refused};
+ghost use Rattle.hl_epoch.specs.Faults.{acquire_fault, protected_fault, bump_fault};
 ghost use Rattle.hl_epoch.specs.Table.{epoch_at, safe_of, opened, entered, left, bumped, IsTable};
 
 use hl_model::Fault;
@@ -29,8 +30,8 @@ pub trait Epochs: Sized {
     ///
     /// Faults: `NoSlot` where t is S or more, `Occupied` where the slot is protected.
     fn acquire(&mut self, t: u64) -> Result<(), Fault>
-        ensures answer { result ≡ answered (acquire_fault t (table self.old)) tt }
-        ensures effect { let old = table self.old in table self.new ≡ after (acquire_fault t old) old (entered t old) }
+        ensures answer { result ≡ unless_fault (acquire_fault t (table self.old)) tt }
+        ensures effect { let old = table self.old in table self.new ≡ unless_refused (acquire_fault t old) old (entered t old) }
         ensures rising { safe_of (table self.old) ≤ safe_of (table self.new) }
         ensures valid { IsTable (table self.new) };
 
@@ -38,8 +39,8 @@ pub trait Epochs: Sized {
     ///
     /// Faults: `NoSlot` where t is S or more, `NotProtected` where the slot is not protected.
     fn refresh(&mut self, t: u64) -> Result<(), Fault>
-        ensures answer { result ≡ answered (protected_fault t (table self.old)) tt }
-        ensures effect { let old = table self.old in table self.new ≡ after (protected_fault t old) old (entered t old) }
+        ensures answer { result ≡ unless_fault (protected_fault t (table self.old)) tt }
+        ensures effect { let old = table self.old in table self.new ≡ unless_refused (protected_fault t old) old (entered t old) }
         ensures rising { safe_of (table self.old) ≤ safe_of (table self.new) }
         ensures valid { IsTable (table self.new) };
 
@@ -47,8 +48,8 @@ pub trait Epochs: Sized {
     ///
     /// Faults: `NoSlot` where t is S or more, `NotProtected` where the slot is not protected.
     fn release(&mut self, t: u64) -> Result<(), Fault>
-        ensures answer { result ≡ answered (protected_fault t (table self.old)) tt }
-        ensures effect { let old = table self.old in table self.new ≡ after (protected_fault t old) old (left t old) }
+        ensures answer { result ≡ unless_fault (protected_fault t (table self.old)) tt }
+        ensures effect { let old = table self.old in table self.new ≡ unless_refused (protected_fault t old) old (left t old) }
         ensures rising { safe_of (table self.old) ≤ safe_of (table self.new) }
         ensures valid { IsTable (table self.new) };
 
@@ -58,8 +59,8 @@ pub trait Epochs: Sized {
     /// Fault: `EpochsSpent` where the current epoch is the last, 2^62.
     fn bump(&mut self) -> Result<u64, Fault>
         requires { let old = table self.old in old.current - 1 - safe_of old < old.drain }
-        ensures answer { let old = table self.old in result ≡ answered (bump_fault old) old.current }
-        ensures effect { let old = table self.old in table self.new ≡ after (bump_fault old) old (bumped old) }
+        ensures answer { let old = table self.old in result ≡ unless_fault (bump_fault old) old.current }
+        ensures effect { let old = table self.old in table self.new ≡ unless_refused (bump_fault old) old (bumped old) }
         ensures rising { safe_of (table self.old) ≤ safe_of (table self.new) }
         ensures valid { IsTable (table self.new) };
 

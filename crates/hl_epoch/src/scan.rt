@@ -1,6 +1,7 @@
 ghost use Rattle.std.specs.Prelude.{◌≡◌, ℕ, ◌+◌, ◌^◌, ◌≤◌, IfOk, IfErr};
 ghost use Rattle.hl_model.specs.Epochs.{Table};
-ghost use Rattle.hl_epoch.specs.Faults.{protected_fault, answered};
+ghost use Rattle.hl_model.specs.Replies.{unless_fault};
+ghost use Rattle.hl_epoch.specs.Faults.{protected_fault};
 ghost use Rattle.hl_epoch.specs.Table.{safe_of, opened, IsTable};
 
 use crate::epochs::Epochs;
@@ -55,7 +56,7 @@ impl ScanTable {
 
     // The place of slot t in the row, if the slot is protected.
     fn place_of(&self, t: u64) -> Result<usize, Fault>
-        ensures { result ≡ answered (protected_fault t self.now) t }
+        ensures { result ≡ unless_fault (protected_fault t self.now) t }
     {
         match self.epochs.get(t as usize) {
             None => Err(Fault::NoSlot),

@@ -152,6 +152,11 @@ abbrev pub unless_fault : {X : Type 0} → Option Fault → X → Result X Fault
 unless_fault None x = Ok x
 unless_fault (Some fault) x = Err fault
 
+-- the old value where there is a fault, the new one where there is none
+abbrev pub unless_refused : {X : Type 0} → Option Fault → X → X → X
+unless_refused None old new = new
+unless_refused (Some fault) old new = old
+
 -- the reply to a step after the list A
 abbrev pub reply_of : Sizes → List Step → Step → Result Reply Fault
 reply_of sizes A s = unless_fault (fault_of sizes A s) (answer_of sizes A (A ++ s ∷ []) s)

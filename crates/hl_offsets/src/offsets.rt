@@ -1,8 +1,7 @@
 ghost use Rattle.std.specs.Prelude.{◌≡◌, ℕ, ◌+◌, ◌%◌, ◌≤◌, max, IfOk};
 ghost use Rattle.hl_model.specs.Offsets.{place_of};
-ghost use Rattle.hl_model.specs.Replies.{raise_fault, shift_fault, size_fault, unless_fault};
+ghost use Rattle.hl_model.specs.Replies.{raise_fault, shift_fault, size_fault, unless_fault, unless_refused};
 ghost use Rattle.hl_model.specs.Snapshots.{AreInOrder};
-ghost use Rattle.hl_offsets.specs.Faults.{after};
 ghost use Rattle.hl_offsets.specs.Log.{Log, IsLog, NoneFalls, started, resumed, raised, shifted, settled, closed_up_to, allocated, six_of};
 ghost use Rattle.hl_offsets.specs.Place.{IsOnOnePage};
 
@@ -73,7 +72,7 @@ impl Offsets {
     pub fn raise(&mut self, x: u64) -> Result<(), Fault>
         ensures answer { let old = self.old in result ≡ unless_fault (raise_fault old.read_only old.tail x) tt }
         ensures effect { let old = self.old
-            in self.new ≡ after (raise_fault old.read_only old.tail x) old (raised x old) }
+            in self.new ≡ unless_refused (raise_fault old.read_only old.tail x) old (raised x old) }
         ensures rising { NoneFalls self.old self.new }
         ensures valid { IsLog self.new }
     {
@@ -96,7 +95,7 @@ impl Offsets {
         requires { flushed ≤ self.old.safe_read_only }
         ensures answer { let old = self.old in result ≡ unless_fault (shift_fault old.page old.head flushed x) tt }
         ensures effect { let old = self.old
-            in self.new ≡ after (shift_fault old.page old.head flushed x) old (shifted x old) }
+            in self.new ≡ unless_refused (shift_fault old.page old.head flushed x) old (shifted x old) }
         ensures below_flushed { self.old.head ≤ flushed → self.new.head ≤ flushed }
         ensures rising { NoneFalls self.old self.new }
         ensures valid { IsLog self.new }
@@ -149,7 +148,7 @@ impl Offsets {
         ensures answer { let old = self.old
             in result ≡ unless_fault (size_fault old.page old.tail n) (place_of old.page old.tail n) }
         ensures effect { let old = self.old
-            in self.new ≡ after (size_fault old.page old.tail n) old (allocated n old) }
+            in self.new ≡ unless_refused (size_fault old.page old.tail n) old (allocated n old) }
         ensures above_tail { IfOk result (λ place. self.old.tail ≤ place) }
         ensures one_page { IfOk result (IsOnOnePage self.old.page n) }
 
