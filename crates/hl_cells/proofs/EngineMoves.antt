@@ -22,6 +22,7 @@ use Rattle.hl_model.proofs.ActionLaws.{ticket-front}
 use Rattle.hl_model.proofs.DrainLaws.{done_fault-none}
 use Rattle.hl_model.proofs.RowLaws.{row_at}
 use Rattle.hl_model.proofs.SettledLaws.{action_at-done}
+use Rattle.hl_model.proofs.NoFaultLaws.{unless_ok, unless_err}
 use Rattle.hl_epoch.specs.Table.{safe_of}
 use Rattle.hl_action.specs.Firings.{FiringRecord}
 use Rattle.hl_action.specs.Jobs.{KeptRecord, ReadyRecord}
@@ -39,7 +40,7 @@ use Rattle.hl_cells.specs.EngineSteps.{Told, Moved, Moves, fired, is_plain}
 use Rattle.hl_cells.proofs.CellLaws.{cells-quiet, cells-allocate, cells-write, cells-clean, cells-read, cells-page, cells-nil, frame_fits, cell_words-at, length-cell_words}
 use Rattle.hl_cells.proofs.ShownPages.{unless_freed, shown-is, shown-frame}
 use Rattle.hl_cells.proofs.HoldLaws.{Found, holds-nil, holds-quiet, holds-take, holds-fits, holds-found, holds-done}
-use Rattle.hl_cells.proofs.ToldLaws.{Accepted, Refused, ok_free, err_fault, is_told_as_is, told_same, told_refused}
+use Rattle.hl_cells.proofs.ToldLaws.{Accepted, Refused, is_told_as_is, told_same, told_refused}
 
 -- a step that leaves all cells and all held actions
 abbrev pub is_quiet : Step → Bool
@@ -110,7 +111,7 @@ module _ {F : Type 0} where
   -- a refused step: the engine stands where it stood
   pub moved_err : (keeps : ℕ → FiringRecord → ℕ → Type 0) (engine : Whole F) (A : List Step) (s : Step) (core_new : State (KeptRecord F)) (f : Fault) → EngineStands engine A → Stepped job_tag engine.core A s core_new (Err f) → Moved keeps engine A s (record { core = core_new; words = engine.words; held = engine.held }) (Err f)
   moved_err keeps engine A s core_new f st moved =
-      let h : fault_of engine.core.sizes A s ≡ Some f = err_fault (fault_of engine.core.sizes A s) (answer_of engine.core.sizes A (A ++ s ∷ []) s) f moved.reply in
+      let h : fault_of engine.core.sizes A s ≡ Some f = unless_err (fault_of engine.core.sizes A s) f (answer_of engine.core.sizes A (A ++ s ∷ []) s) moved.reply in
       record {
         told = told_refused keeps engine.core.sizes A s f h;
         sizes = moved.sizes;
@@ -155,7 +156,7 @@ module _ {F : Type 0} where
 
   -- no fault where the core answered
   pub free_of : (engine : Whole F) (A : List Step) (s : Step) (core_new : State (KeptRecord F)) (r : Reply) → Stepped job_tag engine.core A s core_new (Ok r) → (fault_of engine.core.sizes A s ≡ None) × (r ≡ answer_of engine.core.sizes A (A ++ s ∷ []) s)
-  free_of engine A s core_new r moved = ok_free (fault_of engine.core.sizes A s) (answer_of engine.core.sizes A (A ++ s ∷ []) s) r moved.reply
+  free_of engine A s core_new r moved = unless_ok (fault_of engine.core.sizes A s) r (answer_of engine.core.sizes A (A ++ s ∷ []) s) moved.reply
 
   -- a write sets the cell of its address
   pub moved_write : (keeps : ℕ → FiringRecord → ℕ → Type 0) (engine : Whole F) (A : List Step) (t a v cell : ℕ) (core_new : State (KeptRecord F)) (r : Reply) → EngineStands engine A → Stepped job_tag engine.core A (Write t a v) core_new (Ok r) → cell ≡ cell_at engine.core.sizes a → Moved keeps engine A (Write t a v) (record { core = core_new; words = set engine.words cell v; held = engine.held }) (Ok r)
@@ -272,7 +273,7 @@ module _ {F : Type 0} where
 
   -- a refused write's result
   pub write_refused : (engine : Whole F) (A : List Step) (t a v : ℕ) (core_new : State (KeptRecord F)) (f : Fault) → Stepped job_tag engine.core A (Write t a v) core_new (Err f) → Refused (fault_of engine.core.sizes A (Write t a v)) f
-  write_refused engine A t a v core_new f moved = sym (ap (λ (o : Option Fault). unless_fault o tt) (err_fault (fault_of engine.core.sizes A (Write t a v)) (answer_of engine.core.sizes A (A ++ Write t a v ∷ []) (Write t a v)) f moved.reply))
+  write_refused engine A t a v core_new f moved = sym (ap (λ (o : Option Fault). unless_fault o tt) (unless_err (fault_of engine.core.sizes A (Write t a v)) f (answer_of engine.core.sizes A (A ++ Write t a v ∷ []) (Write t a v)) moved.reply))
 
   -- the words of a page that its frame shows
   pub page_shown : (engine : Whole F) (A : List Step) (p : ℕ) → EngineStands engine A → shown_page engine.core.sizes (p % engine.core.sizes.frames) A ≡ Some p → take engine.core.sizes.page (drop (p % engine.core.sizes.frames * engine.core.sizes.page) engine.words) ≡ page_words engine.core.sizes p A
@@ -328,7 +329,7 @@ module _ {F : Type 0} where
   -- a read that is checked and finds this word
   pub found_word : (engine : Whole F) (A : List Step) (t a v cell d : ℕ) → EngineStands engine A → Accepted (fault_of engine.core.sizes A (Read t a)) → cell ≡ cell_at engine.core.sizes a → cell < engine.core.sizes.frames * engine.core.sizes.page → v ≡ get_or engine.words cell d → Ok v ≡ unless_fault (fault_of engine.core.sizes A (Read t a)) (word a A)
   found_word engine A t a v cell d st free at within is =
-      let h = (ok_free {X = Unit {0}} (fault_of engine.core.sizes A (Read t a)) tt tt free).0 in
+      let h = (unless_ok {X = Unit {0}} (fault_of engine.core.sizes A (Read t a)) tt tt free).0 in
       ap (λ z. Ok z) (is ∙ read_word engine A t a cell d st h at within) ∙ sym (ap (λ (o : Option Fault). unless_fault o (word a A)) h)
 
   -- a write as a step

@@ -1,5 +1,5 @@
 -- The firings of taken actions, with one step more.
-use Rattle.std.proofs.Common.{◌≡◌, ℕ, ◌+◌, ◌<◌, Bool, true, false, cond, not, ◌||◌, ◌&&◌, List, [], ◌∷◌, ◌++◌, length, map, refl, sym, ap, ap₂, ◌∙◌, arith, append-nil}
+use Rattle.std.proofs.Common.{◌≡◌, ℕ, ◌+◌, Bool, true, false, cond, not, ◌&&◌, List, [], ◌∷◌, ◌++◌, map, refl, sym, ap, ap₂, ◌∙◌, arith, append-nil}
 use Rattle.std.specs.Prelude.{◌==◌, None}
 use Rattle.std.specs.List.{filter}
 use Rattle.std.proofs.lemmas.List.{map-append}
@@ -10,12 +10,12 @@ use Rattle.hl_model.specs.declared.step.Step.TheVariants.{Take, Done}
 use Rattle.hl_model.specs.Lists.{gather, gather_after}
 use Rattle.hl_model.specs.Sizes.{Sizes}
 use Rattle.hl_model.specs.Epochs.{safe_epoch}
-use Rattle.hl_model.specs.Actions.{takes, taken, pending, actions, is_take, is_finished, finishes}
+use Rattle.hl_model.specs.Actions.{takes, taken, is_take, is_finished, finishes}
 use Rattle.hl_model.specs.Replies.{fault_of, IsAccepted}
 use Rattle.hl_model.proofs.ListLaws.{gather-push}
-use Rattle.hl_model.proofs.ActionLaws.{is_finished-push, is_finished-stay, taken-done, taken-stores, ticket-front}
+use Rattle.hl_model.proofs.ActionLaws.{is_finished-push, is_finished-stay, taken-done, taken-stores, ticket-front, not_or, filter_twice, taken-nil}
 use Rattle.hl_model.proofs.AcceptedLaws.{accepted_has}
-use Rattle.hl_model.proofs.DrainLaws.{taken-next, finished-taken, take_fault-none, takes-le-bumps}
+use Rattle.hl_model.proofs.DrainLaws.{taken-next, finished-taken, take_fault-none, takes-le-bumps, first_pending}
 use Rattle.hl_action.specs.Firings.{FiringRecord}
 use Rattle.hl_cells.specs.HeldActions.{firings, firing_of, undone_firings}
 
@@ -49,23 +49,6 @@ unfolding undone_firings
 undone-stay sizes A s e h =
     ap (filter (λ (f : FiringRecord). not (is_finished f.ticket (A ++ s ∷ [])))) (firings-stay sizes A s e)
     ∙ filter_agree (λ (f : FiringRecord). not (is_finished f.ticket (A ++ s ∷ []))) (λ (f : FiringRecord). not (is_finished f.ticket A)) (λ f. ap not (is_finished-stay f.ticket A s (h f.ticket))) (firings sizes A)
-
-not_or : (a b : Bool) → not (a || b) ≡ (not b && not a)
-not_or true true = refl
-not_or true false = refl
-not_or false true = refl
-not_or false false = refl
-
--- a filter by two tests is a filter by one and then by the other
-filter_twice : {X : Type 0} (p q : X → Bool) (xs : List X) → filter (λ x. q x && p x) xs ≡ filter q (filter p xs)
-filter_twice p q [] = refl
-filter_twice {X = X} p q (x ∷ xs) = by_tests (filter_twice p q xs) (p x) (q x) refl refl
-  where
-    by_tests : filter (λ x. q x && p x) xs ≡ filter q (filter p xs) → (b d : Bool) → p x ≡ b → q x ≡ d → filter (λ x. q x && p x) (x ∷ xs) ≡ filter q (filter p (x ∷ xs))
-    by_tests rest true true e h = rw (e, h) (ap (λ ys. x ∷ ys) rest)
-    by_tests rest true false e h = rw (e, h) rest
-    by_tests rest false true e h = rw (e, h) rest
-    by_tests rest false false e h = rw (e, h) rest
 
 -- no done names a ticket that is to come
 unfinished_next : (sizes : Sizes) (A : List Step) → IsAccepted sizes A → is_finished (takes A + 1) A ≡ false
@@ -102,11 +85,6 @@ filter_keys key p (x ∷ xs) = by_test (filter_keys key p xs) (p (key x)) refl
     by_test rest true e = rw e (ap (λ ys. key x ∷ ys) rest)
     by_test rest false e = rw e rest
 
--- a list that isn't empty has a first
-pub first_of : {X : Type 0} (xs : List X) → 0 < length xs → (x : X) × (ys : List X) × (xs ≡ x ∷ ys)
-first_of [] h = absurd (omega (arith, h))
-first_of (x ∷ xs) h = (x, xs, refl)
-
 -- the undone firings have the tickets of the taken actions
 same_tickets : Sizes → List Step → Type 0
 same_tickets sizes A = map (λ f. f.ticket) (undone_firings sizes A) ≡ map (λ w. w.ticket) (taken A)
@@ -119,7 +97,7 @@ tickets-quiet sizes A s acc e h same =
 tickets-step : (sizes : Sizes) (A : List Step) (s : Step) → IsAccepted sizes A → fault_of sizes A s ≡ None → same_tickets sizes A → same_tickets sizes (A ++ s ∷ [])
 unfolding same_tickets
 tickets-step sizes A Take acc free same =
-    let first = first_of (pending A) (take_fault-none sizes A free).0 in
+    let first = first_pending A (take_fault-none sizes A free).0 in
     ap (map (λ (f : FiringRecord). f.ticket)) (undone-take sizes A acc)
     ∙ map-append (λ (f : FiringRecord). f.ticket) (undone_firings sizes A) (record { ticket = takes A + 1; safe = safe_epoch sizes.slots A } ∷ [])
     ∙ ap₂ (λ ns n. ns ++ n ∷ []) same (sym (ticket-front A first.0 first.1 first.2))
@@ -132,10 +110,6 @@ tickets-step sizes A (Done c) acc free same =
     ∙ sym (filter_keys (λ (w : Waiting). w.ticket) (λ n. not (c == n)) (taken A))
     ∙ sym (ap (map (λ (w : Waiting). w.ticket)) (taken-done A c))
 tickets-step sizes A s acc free same = tickets-quiet sizes A s acc refl (λ c. refl) same
-
-taken-nil : taken [] ≡ []
-unfolding taken actions gather gather_after takes
-taken-nil = refl
 
 pub tickets-undone : (sizes : Sizes) (A : List Step) → IsAccepted sizes A → map (λ f. f.ticket) (undone_firings sizes A) ≡ map (λ w. w.ticket) (taken A)
 unfolding same_tickets

@@ -1,31 +1,11 @@
 -- A row of taken actions: where the action of a ticket is found, and what is left without it.
-use Rattle.std.proofs.Common.{◌≡◌, ℕ, ◌<◌, ◌≤◌, ◌⊎◌, inl, inr, Bool, cond, ltb, List, ◌++◌, length, map, take, drop, remove, position, get_or, suc, sym, ap, ap₂, ◌∙◌, subst, arith, append-nil}
+use Rattle.std.proofs.Common.{◌≡◌, ℕ, Bool, List, ◌++◌, length, map, take, drop, remove, position, get_or, suc, sym, ap, ap₂, ◌∙◌, subst}
 use Rattle.std.specs.Prelude.{Option, Some, None, IfSome}
 use Rattle.std.specs.List.{find, position_or_len, slice_get}
-use Rattle.std.proofs.lemmas.Bool.{cases_lt, lt-ltb, le-ltb}
-use Rattle.std.proofs.lemmas.List.{take_all, drop_all, take-map, drop-map, map-append}
+use Rattle.std.proofs.lemmas.List.{take-map, drop-map, map-append}
 use Rattle.std.proofs.lemmas.List.Folds.{find_at}
 use Rattle.std.proofs.lemmas.Option.{slice_get-get_or, slice_get_past}
-
--- no place is found
-place_none : (n l : ℕ) → None ≡ cond (ltb n l) (Some n) None → l ≤ n
-place_none n l missing = by_order (cases_lt n l)
-  where
-    by_order : (n < l) ⊎ (l ≤ n) → l ≤ n
-    by_order (inl below) = let e : None ≡ Some n = missing ∙ ap (λ b. cond b (Some n) None) (lt-ltb n l below) in cc
-    by_order (inr above) = above
-
--- the place that is found
-place_some : (n l i : ℕ) → Some i ≡ cond (ltb n l) (Some n) None → (n ≡ i) × (i < l)
-place_some n l i found = by_order (cases_lt n l)
-  where
-    by_order : (n < l) ⊎ (l ≤ n) → (n ≡ i) × (i < l)
-    by_order (inl below) = let e : Some i ≡ Some n = found ∙ ap (λ b. cond b (Some n) None) (lt-ltb n l below) in let same : i ≡ n = cc in (sym same, omega (arith, same, below))
-    by_order (inr above) = let e : Some i ≡ None = found ∙ ap (λ b. cond b (Some n) None) (le-ltb n l above) in cc
-
--- nothing leaves a list past its end
-remove_past : {X : Type 0} (xs : List X) (n : ℕ) → length xs ≤ n → remove xs n ≡ xs
-remove_past xs n past = rw (take_all n xs past, drop_all (suc n) xs (omega arith)) (append-nil xs)
+use Rattle.hl_drain.proofs.Places.{place_none, place_some, remove_past}
 
 -- where none passes none is found, and none leaves
 pub found_nowhere : {X : Type 0} (p : X → Bool) (xs : List X) → None ≡ position p xs → (find p xs ≡ None) × (remove xs (position_or_len p xs) ≡ xs)

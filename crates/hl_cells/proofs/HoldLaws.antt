@@ -8,11 +8,10 @@ use Rattle.hl_model.specs.declared.action.Waiting.{Waiting}
 use Rattle.hl_model.specs.declared.step.Step.{Step}
 use Rattle.hl_model.specs.declared.step.Step.TheVariants.{Take, Done}
 use Rattle.hl_model.specs.Sizes.{Sizes}
-use Rattle.hl_model.specs.Lists.{gather, gather_after}
 use Rattle.hl_model.specs.Epochs.{safe_epoch}
 use Rattle.hl_model.specs.Actions.{takes, taken, pending, actions, is_take, is_taken, is_finished, finishes, action_at}
 use Rattle.hl_model.specs.Replies.{IsAccepted}
-use Rattle.hl_model.proofs.ActionLaws.{taken-done, taken-stores}
+use Rattle.hl_model.proofs.ActionLaws.{taken-done, taken-stores, taken-nil}
 use Rattle.hl_model.proofs.DrainLaws.{taken-next, takes-le-bumps, is_taken-parts, Rising-taken, length-both, bumps-dones}
 use Rattle.hl_model.proofs.SettledLaws.{action_at-taken}
 use Rattle.hl_model.proofs.TicketLaws.{Rising}
@@ -81,10 +80,6 @@ find_filtered {X = X} p q (x ∷ xs) h = by_tests (find_filtered p q xs h) (p x)
     by_tests rest true false e k = let no : true ≡ false = sym (h x e) ∙ k in cc
     by_tests rest false true e k = rw (k, e) rest
     by_tests rest false false e k = rw (k, e) rest
-
-taken-nil : taken [] ≡ []
-unfolding taken actions gather gather_after takes
-taken-nil = refl
 
 -- an empty row holds what nothing took
 pub holds-nil : {F : Type 0} (sizes : Sizes) (held : Row F) → held ≡ record { room = sizes.drain; actions = [] } → Holds sizes [] held

@@ -13,9 +13,9 @@ use Rattle.hl_model.specs.declared.step.Reply.{Reply}
 use Rattle.hl_model.specs.declared.step.Reply.TheVariants.{Answer}
 use Rattle.hl_model.specs.declared.step.Step.{Step}
 use Rattle.hl_model.specs.declared.step.Step.TheVariants.{Done}
-use Rattle.hl_model.specs.Actions.{pending, actions, takes}
-use Rattle.hl_model.specs.Lists.{gather, gather_after}
+use Rattle.hl_model.specs.Actions.{actions}
 use Rattle.hl_model.proofs.DrainLaws.{done_fault-none}
+use Rattle.hl_model.proofs.ActionLaws.{pending-nil}
 use Rattle.hl_action.specs.Firings.{FiringRecord}
 use Rattle.hl_action.specs.Jobs.{KeptRecord, ReadyRecord}
 use Rattle.hl_drain.specs.declared.action.Action.{Action}
@@ -118,10 +118,6 @@ module _ {V : Type 0} where
           (find-append (is_at d) (remove xs (position_or_len (is_at c) xs)) ys
           ∙ ap (λ o. option_or o (find (is_at d) ys)) (others_stay c d xs e)
           ∙ sym (find-append (is_at d) xs ys))
-
-pending-nil : pending [] ≡ []
-unfolding pending actions gather gather_after takes
-pending-nil = refl
 
 module _ {F : Type 0} where
   -- the tickets of the actions that aren't done are those of the drain list

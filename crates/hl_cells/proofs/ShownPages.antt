@@ -4,6 +4,7 @@ use Rattle.std.specs.Prelude.{◌==◌, Option, Some, None}
 use Rattle.std.proofs.Math.Nat.{mod-eq_of_lt, add-mod_right, lt-div-mul-add}
 use Rattle.std.proofs.lemmas.Nat.{div-add-mod'}
 use Rattle.std.proofs.lemmas.Bool.{lt-ltb, eq-eqb, ne_eqb, cases_eq, cases_lt}
+use Rattle.std.proofs.Math.Bool.{or-false}
 use Rattle.hl_model.specs.declared.frame.FrameState.{FrameState}
 use Rattle.hl_model.specs.declared.frame.FrameState.TheVariants.{Opened, Sealed, Flushed, Closed, Free}
 use Rattle.hl_model.specs.declared.step.Step.{Step}
@@ -15,14 +16,13 @@ use Rattle.hl_model.specs.Views.{seen_read_only, seen_head, seen_tail}
 use Rattle.hl_model.specs.Pages.{is_flushed, is_freed, frees}
 use Rattle.hl_model.specs.Frames.{last_entered, may_enter, state_of_page}
 use Rattle.hl_model.specs.Replies.{fault_of, protected_fault, IsAccepted}
-use Rattle.hl_model.proofs.ActionLaws.{or_false}
 use Rattle.hl_model.proofs.BoundLaws.{closed-le-head, views_are_bounded}
 use Rattle.hl_model.proofs.FrameFacts.{unfreed_last, cleaning_last}
 use Rattle.hl_model.proofs.FrameLaws.{IsLastOf, HasRoom, allocate-room, entered_before, last_entered-is, last_entered-none, last_entered-some, last_entered-cases, last_entered-stay, last_entered-enter, last_entered-other, is_entered-allocate}
 use Rattle.hl_model.proofs.NoFaultLaws.{protected-none, write-none, read-none}
 use Rattle.hl_model.proofs.PageFacts.{may_enter-freed, freed_closed, head-le-flushed, flushed-le-safe_read_only}
 use Rattle.hl_model.proofs.WordLaws.{seen_tail-le}
-use Rattle.hl_model.proofs.WorkLaws.{is_freed-push, clean_done-none}
+use Rattle.hl_model.proofs.WorkLaws.{is_freed-push, clean_done-none, is_freed-stay}
 use Rattle.hl_cells.specs.CellWords.{shown_page}
 
 -- a page, unless it is freed
@@ -80,15 +80,11 @@ unless_freed-same : (sizes : Sizes) (A B : List Step) (o : Option ℕ) → ((p :
 unless_freed-same sizes A B None h = refl
 unless_freed-same sizes A B (Some p) h = ap (λ b. cond b None (Some p)) (h p refl)
 
--- a step that frees none leaves the freed pages
-pub is_freed-stay : (sizes : Sizes) (p : ℕ) (A : List Step) (s : Step) → frees p s ≡ false → is_freed sizes p (A ++ s ∷ []) ≡ is_freed sizes p A
-is_freed-stay sizes p A s h = is_freed-push sizes p A s ∙ ap (λ b. is_freed sizes p A || b) h ∙ or_false (is_freed sizes p A)
-
 -- a frame with the same last entered page shows the same, where the step doesn't free it
 pub shown-same : (sizes : Sizes) (f : ℕ) (A : List Step) (s : Step) → last_entered sizes f (A ++ s ∷ []) ≡ last_entered sizes f A → ((p : ℕ) → last_entered sizes f A ≡ Some p → frees p s ≡ false) → shown_page sizes f (A ++ s ∷ []) ≡ shown_page sizes f A
 shown-same sizes f A s l h =
     shown-is sizes f (A ++ s ∷ []) ∙ ap (unless_freed sizes (A ++ s ∷ [])) l
-    ∙ unless_freed-same sizes A (A ++ s ∷ []) (last_entered sizes f A) (λ p e. is_freed-stay sizes p A s (h p e))
+    ∙ unless_freed-same sizes A (A ++ s ∷ []) (last_entered sizes f A) (λ p e. is_freed-stay sizes A s p (h p e))
     ∙ sym (shown-is sizes f A)
 
 -- an allocation in an entered page leaves the last entered pages
@@ -103,7 +99,7 @@ last_entered-within sizes f A t n page frames below room entered = by_cases (las
       where
         by_eq : (p ≡ q) ⊎ (p ≢ q) → (is_entered sizes p A || p == q) ≡ is_entered sizes p A
         by_eq (inl e) = let at : is_entered sizes p A ≡ true = ap (λ z. is_entered sizes z A) e ∙ entered in ap (λ b. b || p == q) at ∙ sym at
-        by_eq (inr ne) = ap (λ b. is_entered sizes p A || b) (ne_eqb p q ne) ∙ or_false (is_entered sizes p A)
+        by_eq (inr ne) = ap (λ b. is_entered sizes p A || b) (ne_eqb p q ne) ∙ or-false (is_entered sizes p A)
 
     by_cases : (is_entered sizes f A ≡ false) ⊎ ((p : ℕ) × IsLastOf sizes f p A) → last_entered sizes f (A ++ Allocate t n ∷ []) ≡ last_entered sizes f A
     by_cases (inl unused) = last_entered-none sizes f (A ++ Allocate t n ∷ []) page below (same f ∙ unused) ∙ sym (last_entered-none sizes f A page below unused)

@@ -1,5 +1,5 @@
 -- How an engine's results tell the definitions' replies.
-use Rattle.std.proofs.Common.{◌≡◌, ℕ, Bool, true, false, List, [], ◌∷◌, ◌++◌, refl, sym, ap, subst}
+use Rattle.std.proofs.Common.{◌≡◌, ℕ, Bool, true, false, List, [], ◌∷◌, ◌++◌, refl, sym, subst}
 use Rattle.std.specs.Prelude.{Option, Some, None, Result, Ok, Err}
 use Rattle.hl_model.specs.declared.fault.Fault.{Fault}
 use Rattle.hl_model.specs.declared.step.Reply.{Reply}
@@ -10,16 +10,6 @@ use Rattle.hl_model.specs.Sizes.{Sizes}
 use Rattle.hl_model.specs.Replies.{fault_of, answer_of, reply_of, word_reply_of, with_word, unless_fault}
 use Rattle.hl_action.specs.Firings.{FiringRecord}
 use Rattle.hl_cells.specs.EngineSteps.{Told, fired}
-
--- a result without a fault
-pub ok_free : {X : Type 0} (o : Option Fault) (x r : X) → Ok r ≡ unless_fault o x → (o ≡ None) × (r ≡ x)
-ok_free None x r h = (refl, cc)
-ok_free (Some f) x r h = cc
-
--- a result with one
-pub err_fault : {X : Type 0} (o : Option Fault) (x : X) (f : Fault) → Err f ≡ unless_fault o x → o ≡ Some f
-err_fault None x f h = cc
-err_fault (Some g) x f h = let same : g ≡ f = cc in ap (λ z. Some z) same
 
 -- a result without a value has this fault
 abbrev pub Refused : Option Fault → Fault → Type 0

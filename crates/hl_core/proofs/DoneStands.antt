@@ -4,6 +4,7 @@ use Rattle.std.specs.Prelude.{Option, Some, None, Ok, Err, max, ◌==◌}
 use Rattle.std.specs.List.{list_any, filter, find, AllByRecursion}
 use Rattle.std.proofs.Math.Nat.{max-zero}
 use Rattle.std.proofs.lemmas.Bool.{eqb-true, eqb-false}
+use Rattle.std.proofs.lemmas.List.Elements.{filter_agree}
 use Rattle.hl_model.specs.declared.action.Kind.{Kind}
 use Rattle.hl_model.specs.declared.action.Kind.TheVariants.{User, Settle, Close}
 use Rattle.hl_model.specs.declared.action.Waiting.{Waiting}
@@ -41,10 +42,6 @@ eqb_turned a b = by_test (eqb a b) refl
     by_test : (t : Bool) → eqb a b ≡ t → eqb a b ≡ eqb b a
     by_test true h = h ∙ sym (eq-eqb b a (sym (eqb-true a b h)))
     by_test false h = h ∙ sym (ne_eqb b a (λ e. eqb-false a b h (sym e)))
-
-filter_alike : {X : Type 0} (p q : X → Bool) (xs : List X) → ((x : X) → p x ≡ q x) → filter p xs ≡ filter q xs
-filter_alike p q [] h = refl
-filter_alike p q (x ∷ xs) h = ap₂ (λ b l. cond b (x ∷ l) l) (h x) (filter_alike p q xs h)
 
 -- the taken action that a done finds
 found_parts : (A : List Step) (c : ℕ) (w : Waiting) (ws : List Waiting) → ws ≡ taken A → find (has_ticket c) ws ≡ Some w → (is_taken c A ≡ true) × (action_at c A ≡ Some w)
@@ -114,7 +111,7 @@ module _ {J : Type 0} (tag : J → ℕ) where
         limit_is = ap (λ (z : Lists J). z.limit) e ∙ st.limit_is;
         pending_is = ap (λ (z : Lists J). map (waiting_of tag) z.pending) e ∙ st.pending_is ∙ sym (pending-done A c);
         taken_is = ap (λ (z : Lists J). z.taken) e
-            ∙ filter_alike (λ w. not (eqb w.ticket c)) (λ w. not (eqb c w.ticket)) core.drain.taken (λ w. ap not (eqb_turned w.ticket c))
+            ∙ filter_agree (λ w. not (eqb w.ticket c)) (λ w. not (eqb c w.ticket)) (λ w. ap not (eqb_turned w.ticket c)) core.drain.taken
             ∙ ap (filter (λ w. not (eqb c w.ticket))) st.taken_is ∙ sym (taken-done A c);
         ordered = known;
         offsets_is = o;

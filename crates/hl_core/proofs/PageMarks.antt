@@ -2,10 +2,10 @@
 use Rattle.std.proofs.Common.{◌≡◌, ℕ, ◌+◌, ◌-◌, ◌*◌, ◌/◌, ◌<◌, ◌≤◌, Bool, true, false, cond, not, ◌||◌, ltb, List, [], ◌∷◌, refl, sym, ap, ap₂, ◌∙◌, arith}
 use Rattle.std.specs.Prelude.{Some, find}
 use Rattle.std.specs.List.{range_with_len}
-use Rattle.std.proofs.lemmas.Bool.{lt-ltb, both_ways, false_from_ne_true}
+use Rattle.std.proofs.lemmas.Bool.{both_ways, false_from_ne_true}
 use Rattle.hl_model.specs.declared.step.Step.{Step}
 use Rattle.hl_model.specs.Sizes.{Sizes, AreInRange}
-use Rattle.hl_model.specs.Offsets.{tail, is_entered}
+use Rattle.hl_model.specs.Offsets.{is_entered}
 use Rattle.hl_model.specs.Settled.{safe_read_only, closed}
 use Rattle.hl_model.specs.Pages.{is_flushed, is_in_flight, is_freed, is_cleaning, next_page, next_to_flush, next_to_clean}
 use Rattle.hl_model.specs.Frames.{may_enter}
@@ -13,6 +13,7 @@ use Rattle.hl_model.specs.Snapshots.{six, AreInOrder}
 use Rattle.hl_model.specs.Replies.{IsAccepted}
 use Rattle.hl_model.proofs.PageFacts.{PagesKept, pages_kept}
 use Rattle.hl_model.proofs.OrderLaws.{offsets_are_in_order}
+use Rattle.hl_model.proofs.FrameFacts.{sealed_entered}
 use Rattle.hl_frames.specs.Pages.{is_unflushed, is_uncleaned, is_flushed as FLUSHED, is_in_flight as IN_FLIGHT, is_freed as FREED, is_cleaning as CLEANING, may_enter as MAY_ENTER, next_to_flush as NEXT_TO_FLUSH, next_to_clean as NEXT_TO_CLEAN}
 use Rattle.hl_core.specs.Standing.{pages_of}
 use Rattle.hl_core.proofs.PageRows.{length-frames, left_or_marked-is, is_marked-is}
@@ -33,16 +34,6 @@ kept sizes A range a = pages_kept sizes A (page_some sizes range) (frames_some s
 pub in_order : (sizes : Sizes) (A : List Step) → AreInRange sizes → IsAccepted sizes A → AreInOrder sizes.page (six sizes A)
 in_order sizes A range a = offsets_are_in_order sizes A (page_some sizes range) a
 
--- a page that ends at or below an address begins below it
-ends_entered : (page p end a : ℕ) → 0 < page → (p + 1) * page ≤ end → end ≤ a → p * page < a
-ends_entered page p end a some h le = let more : (p + 1) * page ≡ p * page + page = omega arith in omega arith
-
--- sealed pages are entered
-pub sealed_entered : (sizes : Sizes) (A : List Step) (p : ℕ) → AreInRange sizes → IsAccepted sizes A → (p + 1) * sizes.page ≤ safe_read_only A → is_entered sizes p A ≡ true
-sealed_entered sizes A p range a h =
-    let order : AreInOrder sizes.page (six sizes A) = in_order sizes A range a in
-    lt-ltb (p * sizes.page) (tail sizes A) (ends_entered sizes.page p (safe_read_only A) (tail sizes A) (page_some sizes range) h (omega (arith, order.safe_read_only_most, order.read_only_most)))
-
 -- closed pages are sealed
 pub closed_sealed : (sizes : Sizes) (A : List Step) (p : ℕ) → AreInRange sizes → IsAccepted sizes A → (p + 1) * sizes.page ≤ closed A → (p + 1) * sizes.page ≤ safe_read_only A
 closed_sealed sizes A p range a h =
@@ -61,7 +52,7 @@ left_flushed sizes A p range a e = (kept sizes A range a).closed_flushed p ((kep
 
 -- what makes a page sealed is told of none that isn't entered
 ahead : (sizes : Sizes) (A : List Step) (p : ℕ) (b : Bool) → AreInRange sizes → IsAccepted sizes A → (b ≡ true → (p + 1) * sizes.page ≤ safe_read_only A) → is_entered sizes p A ≡ false → b ≡ false
-ahead sizes A p b range a sealed e = false_from_ne_true b (λ t. both_ways (is_entered sizes p A) e (sealed_entered sizes A p range a (sealed t)))
+ahead sizes A p b range a sealed e = false_from_ne_true b (λ t. both_ways (is_entered sizes p A) e (sealed_entered sizes A p (page_some sizes range) a (sealed t)))
 
 -- a page that isn't entered has no mark
 pub ahead_unflushed : (sizes : Sizes) (A : List Step) (p : ℕ) → AreInRange sizes → IsAccepted sizes A → is_entered sizes p A ≡ false → is_flushed sizes p A ≡ false

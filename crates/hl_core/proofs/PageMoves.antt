@@ -1,9 +1,7 @@
 -- What each step makes of the frames of an accepted list.
-use Rattle.std.proofs.Common.{◌≡◌, ℕ, ◌+◌, ◌-◌, ◌*◌, ◌/◌, ◌%◌, ◌<◌, ◌≤◌, ◌≢◌, Bool, true, false, not, ◌&&◌, ◌||◌, ltb, List, [], ◌∷◌, ◌++◌, set, refl, sym, ap, ap₂, ◌∙◌, arith}
+use Rattle.std.proofs.Common.{◌≡◌, ℕ, ◌+◌, ◌-◌, ◌*◌, ◌/◌, ◌%◌, ◌<◌, ◌≢◌, Bool, true, false, not, ◌&&◌, ◌||◌, ltb, List, [], ◌∷◌, ◌++◌, set, refl, sym, ap, ap₂, ◌∙◌}
 use Rattle.std.specs.Prelude.{◌==◌, Option, Some, None, option_map}
-use Rattle.std.proofs.Math.Bool.{or-false}
-use Rattle.std.proofs.Math.Nat.{le-div_iff_mul-le}
-use Rattle.std.proofs.lemmas.Bool.{eq-eqb, ne_eqb, or_left, or_right, both_ways, false_from_ne_true}
+use Rattle.std.proofs.lemmas.Bool.{eq-eqb, or_left, or_right, both_ways, false_from_ne_true}
 use Rattle.hl_model.specs.declared.step.Step.{Step}
 use Rattle.hl_model.specs.declared.step.Step.TheVariants.{FlushTake, FlushDone, CleanTake, CleanDone}
 use Rattle.hl_model.specs.Lists.{greatest_below}
@@ -15,14 +13,17 @@ use Rattle.hl_model.specs.Frames.{last_entered}
 use Rattle.hl_model.specs.Replies.{IsAccepted}
 use Rattle.hl_model.proofs.RowLaws.{rows_same, rows_set}
 use Rattle.hl_model.proofs.OffsetLaws.{tail-push}
-use Rattle.hl_model.proofs.WorkLaws.{is_flushed-push, is_freed-push, is_in_flight-take, is_in_flight-done, is_in_flight-stay, is_cleaning-take, is_cleaning-done, is_cleaning-stay, next_page-parts}
-use Rattle.hl_model.proofs.FrameLaws.{last_entered-is, last_entered-some}
+use Rattle.hl_model.proofs.WorkLaws.{is_flushed-push, is_freed-push, is_in_flight-take, is_in_flight-done, is_in_flight-stay, is_cleaning-take, is_cleaning-done, is_cleaning-stay, next_page-parts, is_flushed-stay, is_freed-stay}
+use Rattle.hl_model.proofs.FrameLaws.{last_entered-some}
+use Rattle.hl_model.proofs.FrameFacts.{sealed_entered, unfreed_last}
+use Rattle.hl_model.proofs.PageFacts.{ends_below}
+use Rattle.hl_model.proofs.ViewLaws.{eqb-other}
 use Rattle.hl_frames.specs.declared.held.Held.{Held}
 use Rattle.hl_frames.specs.Pages.{Pages, held_for}
 use Rattle.hl_frames.specs.Answers.{changed, entered, flush_begun, flush_ended, clean_begun, clean_ended}
 use Rattle.hl_core.specs.Standing.{marked, held_of, pages_of}
 use Rattle.hl_core.proofs.PageRows.{length-frames, held_for-is}
-use Rattle.hl_core.proofs.PageMarks.{page_some, frames_some, kept, sealed_entered, closed_sealed, left_freed}
+use Rattle.hl_core.proofs.PageMarks.{page_some, frames_some, kept, closed_sealed}
 
 -- a page with these marks
 abbrev pub held_with : ℕ → Bool → Bool → Bool → Bool → Held
@@ -36,19 +37,11 @@ held_same p a b c d a' b' c' d' ha hb hc hd = ap₂ (λ x y. held_with p x y c d
 pub marked-with : (sizes : Sizes) (B : List Step) (p : ℕ) (a b c d : Bool) → is_flushed sizes p B ≡ a → is_in_flight sizes p B ≡ b → is_freed sizes p B ≡ c → is_cleaning sizes p B ≡ d → marked sizes B p ≡ held_with p a b c d
 marked-with sizes B p a b c d ha hb hc hd = held_same p (is_flushed sizes p B) (is_in_flight sizes p B) (is_freed sizes p B) (is_cleaning sizes p B) a b c d ha hb hc hd
 
--- marks that a step leaves
-flushed-stay : (sizes : Sizes) (A : List Step) (s : Step) (p : ℕ) → flushes p s ≡ false → is_flushed sizes p (A ++ s ∷ []) ≡ is_flushed sizes p A
-flushed-stay sizes A s p h = is_flushed-push sizes p A s ∙ ap (λ b. is_flushed sizes p A || b) h ∙ or-false (is_flushed sizes p A)
-
--- a step that frees no page leaves which are freed
-freed-stay : (sizes : Sizes) (A : List Step) (s : Step) (p : ℕ) → frees p s ≡ false → is_freed sizes p (A ++ s ∷ []) ≡ is_freed sizes p A
-freed-stay sizes A s p h = is_freed-push sizes p A s ∙ ap (λ b. is_freed sizes p A || b) h ∙ or-false (is_freed sizes p A)
-
 -- a step that touches no page leaves each page's marks
 pub marked-stay : (sizes : Sizes) (A : List Step) (s : Step) (p : ℕ) → takes_to_flush s ≡ false → flush_of s ≡ None → flushes p s ≡ false → takes_to_clean s ≡ false → clean_of s ≡ None → frees p s ≡ false → marked sizes (A ++ s ∷ []) p ≡ marked sizes A p
 marked-stay sizes A s p tf ff fl tc fc fr =
     marked-with sizes (A ++ s ∷ []) p (is_flushed sizes p A) (is_in_flight sizes p A) (is_freed sizes p A) (is_cleaning sizes p A)
-    (flushed-stay sizes A s p fl) (is_in_flight-stay sizes A s p tf ff) (freed-stay sizes A s p fr) (is_cleaning-stay sizes A s p tc fc)
+    (is_flushed-stay sizes A s p fl) (is_in_flight-stay sizes A s p tf ff) (is_freed-stay sizes A s p fr) (is_cleaning-stay sizes A s p tc fc)
 
 -- where the tail stays, so do each frame's last page and the number of pages
 last_entered-same : (sizes : Sizes) (f : ℕ) (A B : List Step) → tail sizes B ≡ tail sizes A → last_entered sizes f B ≡ last_entered sizes f A
@@ -94,25 +87,11 @@ changed-is sizes A s q change range same last here others =
     each : (f : ℕ) → (f ≢ (q % sizes.frames)) → held_of sizes (A ++ s ∷ []) f ≡ held_of sizes A f
     each f ne = ap (option_map (marked sizes (A ++ s ∷ []))) (last_entered-same sizes f A (A ++ s ∷ []) same) ∙ of_page f ne (last_entered sizes f A) refl
 
--- an entered page that isn't freed is the last of its frame
-unfreed_last : (sizes : Sizes) (A : List Step) (q : ℕ) → AreInRange sizes → IsAccepted sizes A → is_entered sizes q A ≡ true → is_freed sizes q A ≡ false → last_entered sizes (q % sizes.frames) A ≡ Some q
-unfreed_last sizes A q range a e f =
-    last_entered-is sizes (q % sizes.frames) q A (page_some sizes range) (frames_some sizes range) e refl
-    (false_from_ne_true (is_entered sizes (q + sizes.frames) A) (λ t. both_ways (is_freed sizes q A) f (left_freed sizes A q range a t)))
-
--- so is one that isn't flushed: a freed one is
+-- an entered page that isn't flushed is the last of its frame: a freed one is
 unflushed_last : (sizes : Sizes) (A : List Step) (q : ℕ) → AreInRange sizes → IsAccepted sizes A → is_entered sizes q A ≡ true → is_flushed sizes q A ≡ false → last_entered sizes (q % sizes.frames) A ≡ Some q
 unflushed_last sizes A q range a e f =
-    unfreed_last sizes A q range a e
+    unfreed_last sizes A q (page_some sizes range) (frames_some sizes range) a e
     (false_from_ne_true (is_freed sizes q A) (λ t. both_ways (is_flushed sizes q A) f ((kept sizes A range a).closed_flushed q ((kept sizes A range a).freed_closed q t))))
-
--- a page below a number of pages ends there
-ends_there : (page p a : ℕ) → 0 < page → p < a / page → (p + 1) * page ≤ a
-ends_there page p a some lt = let upper : p + 1 ≤ a / page = omega arith in (le-div_iff_mul-le some).0 upper
-
--- another page
-not_here : (p q : ℕ) → (p ≢ q) → (q == p) ≡ false
-not_here p q ne = ne_eqb q p (λ same. ne (sym same))
 
 -- a take leaves another page
 kept_when : (b c : Bool) → b ≡ false → (b || c) ≡ c
@@ -137,21 +116,21 @@ flush_begun-is sizes A q range a h = changed-is sizes A FlushTake q (λ held. re
     parts = next_page-parts (flushing sizes) A (marks (flushing sizes) A) q h
 
     last : last_entered sizes (q % sizes.frames) A ≡ Some q
-    last = unflushed_last sizes A q range a (sealed_entered sizes A q range a (ends_there sizes.page q (safe_read_only A) (page_some sizes range) parts.0)) parts.1
+    last = unflushed_last sizes A q range a (sealed_entered sizes A q (page_some sizes range) a (ends_below sizes.page (safe_read_only A) q parts.0)) parts.1
 
     here : marked sizes (A ++ FlushTake ∷ []) q ≡ held_with q (is_flushed sizes q A) true (is_freed sizes q A) (is_cleaning sizes q A)
     here =
         marked-with sizes (A ++ FlushTake ∷ []) q (is_flushed sizes q A) true (is_freed sizes q A) (is_cleaning sizes q A)
-        (flushed-stay sizes A FlushTake q refl)
+        (is_flushed-stay sizes A FlushTake q refl)
         (is_in_flight-take sizes A q q h ∙ or_left (q == q) (is_in_flight sizes q A) (eq-eqb q q refl))
-        (freed-stay sizes A FlushTake q refl) (is_cleaning-stay sizes A FlushTake q refl refl)
+        (is_freed-stay sizes A FlushTake q refl) (is_cleaning-stay sizes A FlushTake q refl refl)
 
     others : (p : ℕ) → (p ≢ q) → marked sizes (A ++ FlushTake ∷ []) p ≡ marked sizes A p
     others p ne =
         marked-with sizes (A ++ FlushTake ∷ []) p (is_flushed sizes p A) (is_in_flight sizes p A) (is_freed sizes p A) (is_cleaning sizes p A)
-        (flushed-stay sizes A FlushTake p refl)
-        (is_in_flight-take sizes A q p h ∙ kept_when (q == p) (is_in_flight sizes p A) (not_here p q ne))
-        (freed-stay sizes A FlushTake p refl) (is_cleaning-stay sizes A FlushTake p refl refl)
+        (is_flushed-stay sizes A FlushTake p refl)
+        (is_in_flight-take sizes A q p h ∙ kept_when (q == p) (is_in_flight sizes p A) (eqb-other q p ne))
+        (is_freed-stay sizes A FlushTake p refl) (is_cleaning-stay sizes A FlushTake p refl refl)
 
 -- the end of a flush
 pub flush_ended-is : (sizes : Sizes) (A : List Step) (q : ℕ) (ok : Bool) → AreInRange sizes → IsAccepted sizes A → is_in_flight sizes q A ≡ true → pages_of sizes (A ++ FlushDone q ok ∷ []) ≡ flush_ended q ok (pages_of sizes A)
@@ -161,21 +140,21 @@ flush_ended-is sizes A q ok range a h = changed-is sizes A (FlushDone q ok) q (�
     unflushed = (kept sizes A range a).in_flight_unflushed q h
 
     last : last_entered sizes (q % sizes.frames) A ≡ Some q
-    last = unflushed_last sizes A q range a (sealed_entered sizes A q range a ((kept sizes A range a).in_flight_sealed q h)) unflushed
+    last = unflushed_last sizes A q range a (sealed_entered sizes A q (page_some sizes range) a ((kept sizes A range a).in_flight_sealed q h)) unflushed
 
     here : marked sizes (A ++ FlushDone q ok ∷ []) q ≡ held_with q ok false (is_freed sizes q A) (is_cleaning sizes q A)
     here =
         marked-with sizes (A ++ FlushDone q ok ∷ []) q ok false (is_freed sizes q A) (is_cleaning sizes q A)
         (is_flushed-push sizes q A (FlushDone q ok) ∙ kept_when (is_flushed sizes q A) (q == q && ok) unflushed ∙ ap (λ b. b && ok) (eq-eqb q q refl))
         (is_in_flight-done sizes A q ok q ∙ gone_when (q == q) (is_in_flight sizes q A) (eq-eqb q q refl))
-        (freed-stay sizes A (FlushDone q ok) q refl) (is_cleaning-stay sizes A (FlushDone q ok) q refl refl)
+        (is_freed-stay sizes A (FlushDone q ok) q refl) (is_cleaning-stay sizes A (FlushDone q ok) q refl refl)
 
     others : (p : ℕ) → (p ≢ q) → marked sizes (A ++ FlushDone q ok ∷ []) p ≡ marked sizes A p
     others p ne =
         marked-with sizes (A ++ FlushDone q ok ∷ []) p (is_flushed sizes p A) (is_in_flight sizes p A) (is_freed sizes p A) (is_cleaning sizes p A)
-        (flushed-stay sizes A (FlushDone q ok) p (ap (λ b. b && ok) (not_here p q ne)))
-        (is_in_flight-done sizes A q ok p ∙ left_when (q == p) (is_in_flight sizes p A) (not_here p q ne))
-        (freed-stay sizes A (FlushDone q ok) p refl) (is_cleaning-stay sizes A (FlushDone q ok) p refl refl)
+        (is_flushed-stay sizes A (FlushDone q ok) p (ap (λ b. b && ok) (eqb-other q p ne)))
+        (is_in_flight-done sizes A q ok p ∙ left_when (q == p) (is_in_flight sizes p A) (eqb-other q p ne))
+        (is_freed-stay sizes A (FlushDone q ok) p refl) (is_cleaning-stay sizes A (FlushDone q ok) p refl refl)
 
 -- a clean take
 pub clean_begun-is : (sizes : Sizes) (A : List Step) (q : ℕ) → AreInRange sizes → IsAccepted sizes A → next_to_clean sizes A ≡ Some q → pages_of sizes (A ++ CleanTake ∷ []) ≡ clean_begun q (pages_of sizes A)
@@ -185,39 +164,39 @@ clean_begun-is sizes A q range a h = changed-is sizes A CleanTake q (λ held. re
     parts = next_page-parts (cleaning sizes) A (marks (cleaning sizes) A) q h
 
     last : last_entered sizes (q % sizes.frames) A ≡ Some q
-    last = unfreed_last sizes A q range a (sealed_entered sizes A q range a (closed_sealed sizes A q range a (ends_there sizes.page q (closed A) (page_some sizes range) parts.0))) parts.1
+    last = unfreed_last sizes A q (page_some sizes range) (frames_some sizes range) a (sealed_entered sizes A q (page_some sizes range) a (closed_sealed sizes A q range a (ends_below sizes.page (closed A) q parts.0))) parts.1
 
     here : marked sizes (A ++ CleanTake ∷ []) q ≡ held_with q (is_flushed sizes q A) (is_in_flight sizes q A) (is_freed sizes q A) true
     here =
         marked-with sizes (A ++ CleanTake ∷ []) q (is_flushed sizes q A) (is_in_flight sizes q A) (is_freed sizes q A) true
-        (flushed-stay sizes A CleanTake q refl) (is_in_flight-stay sizes A CleanTake q refl refl)
-        (freed-stay sizes A CleanTake q refl)
+        (is_flushed-stay sizes A CleanTake q refl) (is_in_flight-stay sizes A CleanTake q refl refl)
+        (is_freed-stay sizes A CleanTake q refl)
         (is_cleaning-take sizes A q q h ∙ or_left (q == q) (is_cleaning sizes q A) (eq-eqb q q refl))
 
     others : (p : ℕ) → (p ≢ q) → marked sizes (A ++ CleanTake ∷ []) p ≡ marked sizes A p
     others p ne =
         marked-with sizes (A ++ CleanTake ∷ []) p (is_flushed sizes p A) (is_in_flight sizes p A) (is_freed sizes p A) (is_cleaning sizes p A)
-        (flushed-stay sizes A CleanTake p refl) (is_in_flight-stay sizes A CleanTake p refl refl)
-        (freed-stay sizes A CleanTake p refl)
-        (is_cleaning-take sizes A q p h ∙ kept_when (q == p) (is_cleaning sizes p A) (not_here p q ne))
+        (is_flushed-stay sizes A CleanTake p refl) (is_in_flight-stay sizes A CleanTake p refl refl)
+        (is_freed-stay sizes A CleanTake p refl)
+        (is_cleaning-take sizes A q p h ∙ kept_when (q == p) (is_cleaning sizes p A) (eqb-other q p ne))
 
 -- the end of a cleaning
 pub clean_ended-is : (sizes : Sizes) (A : List Step) (q : ℕ) → AreInRange sizes → IsAccepted sizes A → is_cleaning sizes q A ≡ true → pages_of sizes (A ++ CleanDone q ∷ []) ≡ clean_ended q (pages_of sizes A)
 clean_ended-is sizes A q range a h = changed-is sizes A (CleanDone q) q (λ held. record held { cleaning = false; freed = true }) range (tail-push sizes A (CleanDone q)) last here others
   where
     last : last_entered sizes (q % sizes.frames) A ≡ Some q
-    last = unfreed_last sizes A q range a (sealed_entered sizes A q range a (closed_sealed sizes A q range a ((kept sizes A range a).cleaning_closed q h))) ((kept sizes A range a).cleaning_unfreed q h)
+    last = unfreed_last sizes A q (page_some sizes range) (frames_some sizes range) a (sealed_entered sizes A q (page_some sizes range) a (closed_sealed sizes A q range a ((kept sizes A range a).cleaning_closed q h))) ((kept sizes A range a).cleaning_unfreed q h)
 
     here : marked sizes (A ++ CleanDone q ∷ []) q ≡ held_with q (is_flushed sizes q A) (is_in_flight sizes q A) true false
     here =
         marked-with sizes (A ++ CleanDone q ∷ []) q (is_flushed sizes q A) (is_in_flight sizes q A) true false
-        (flushed-stay sizes A (CleanDone q) q refl) (is_in_flight-stay sizes A (CleanDone q) q refl refl)
+        (is_flushed-stay sizes A (CleanDone q) q refl) (is_in_flight-stay sizes A (CleanDone q) q refl refl)
         (is_freed-push sizes q A (CleanDone q) ∙ or_right (is_freed sizes q A) (q == q) (eq-eqb q q refl))
         (is_cleaning-done sizes A q q ∙ gone_when (q == q) (is_cleaning sizes q A) (eq-eqb q q refl))
 
     others : (p : ℕ) → (p ≢ q) → marked sizes (A ++ CleanDone q ∷ []) p ≡ marked sizes A p
     others p ne =
         marked-with sizes (A ++ CleanDone q ∷ []) p (is_flushed sizes p A) (is_in_flight sizes p A) (is_freed sizes p A) (is_cleaning sizes p A)
-        (flushed-stay sizes A (CleanDone q) p refl) (is_in_flight-stay sizes A (CleanDone q) p refl refl)
-        (freed-stay sizes A (CleanDone q) p (not_here p q ne))
-        (is_cleaning-done sizes A q p ∙ left_when (q == p) (is_cleaning sizes p A) (not_here p q ne))
+        (is_flushed-stay sizes A (CleanDone q) p refl) (is_in_flight-stay sizes A (CleanDone q) p refl refl)
+        (is_freed-stay sizes A (CleanDone q) p (eqb-other q p ne))
+        (is_cleaning-done sizes A q p ∙ left_when (q == p) (is_cleaning sizes p A) (eqb-other q p ne))

@@ -2,8 +2,7 @@
 use Rattle.std.proofs.Common.{◌≡◌, ℕ, ◌+◌, ◌-◌, ◌*◌, ◌/◌, ◌%◌, ◌<◌, ◌≤◌, Bool, true, false, cond, ltb, leb, List, refl, sym, ap, ap₂, ◌∙◌, arith, inl, inr, ◌⊎◌, zero-add}
 use Rattle.std.specs.Prelude.{Option, Some, None, option_map}
 use Rattle.std.specs.Int.{div_ceil}
-use Rattle.std.proofs.Math.Nat.{le-div_iff_mul-le, div-mul-le_self, div-add-mod, mod-lt, mul-le-mul_right, mul_comm}
-use Rattle.std.proofs.lemmas.Nat.{le-div}
+use Rattle.std.proofs.Math.Nat.{le-div_iff_mul-le, div-add-mod, mod-lt, mul-le-mul_right, mul_comm}
 use Rattle.std.proofs.lemmas.Bool.{ltb-true, lt-ltb, le-ltb, le-leb, lt-leb, both_ways, cases_eq, cases_lt}
 use Rattle.hl_model.specs.declared.frame.FrameState.{FrameState}
 use Rattle.hl_model.specs.declared.frame.FrameState.TheVariants.{Opened, Sealed, Flushed, Closed, Free}
@@ -19,6 +18,7 @@ use Rattle.hl_model.proofs.RunLaws.{flushed_run-passes, flushed_run-fails}
 use Rattle.hl_frames.specs.Pages.{pages_below, flushed_offset, is_flushed as FLUSHED, flushed_run as FLUSHED_RUN}
 use Rattle.hl_frames.specs.Answers.{state_in, state_of}
 use Rattle.hl_model.proofs.SearchLaws.{prefix_len-first}
+use Rattle.hl_model.proofs.PageFacts.{pages_more}
 use Rattle.hl_core.specs.Standing.{marked, pages_entered, pages_of}
 use Rattle.hl_core.proofs.PageRows.{frame_holds}
 use Rattle.hl_core.proofs.PageMarks.{page_some, in_order, is_flushed-is, ahead_unflushed}
@@ -110,10 +110,6 @@ pages_entered-is sizes A n some each none = by_order (cases_lt (pages_entered si
     by_order (inl lt) other = let over : pages_entered sizes A < pages_entered sizes A = entered_below sizes A (pages_entered sizes A) some (each (pages_entered sizes A) lt) in absurd (omega arith)
     by_order (inr ge) (inl gt) = absurd (both_ways (is_entered sizes n A) none (below_entered sizes A n some gt))
     by_order (inr ge) (inr le) = omega arith
-
--- fewer pages end at or below a lower address
-pages_more : (page a b : ℕ) → 0 < page → a ≤ b → a / page ≤ b / page
-pages_more page a b some le = le-div (a / page) b page some (omega (arith, div-mul-le_self a page))
 
 -- sealed pages are entered
 pub sealed_within : (sizes : Sizes) (A : List Step) → AreInRange sizes → IsAccepted sizes A → pages_below (safe_read_only A) (pages_of sizes A) ≤ pages_entered sizes A

@@ -1,18 +1,17 @@
 -- What the frames of a list hold.
-use Rattle.std.proofs.Common.{◌≡◌, ℕ, ◌+◌, ◌%◌, ◌<◌, ◌≤◌, Bool, true, false, ◌&&◌, ◌||◌, ltb, List, length, get_or, refl, sym, ap, ◌∙◌, subst, arith, inl, inr, ◌⊎◌}
+use Rattle.std.proofs.Common.{◌≡◌, ℕ, ◌+◌, ◌%◌, ◌<◌, Bool, true, false, ◌&&◌, ◌||◌, ltb, List, length, get_or, refl, sym, ap, ◌∙◌, subst, arith, inl, inr, ◌⊎◌}
 use Rattle.std.specs.Prelude.{◌==◌, Option, Some, None, option_map}
 use Rattle.std.proofs.Math.Nat.{mod-lt, mod-le}
-use Rattle.std.proofs.lemmas.Bool.{eq-eqb, ne_eqb, lt-ltb, le-ltb, and_left, or_left, or_from, cases_lt, cases_order}
+use Rattle.std.proofs.lemmas.Bool.{eq-eqb, ne_eqb, lt-ltb, le-ltb, and_left, or_left, or_from, cases_order}
 use Rattle.std.proofs.lemmas.List.FromFn.{length-map-range_with_len}
 use Rattle.hl_model.specs.declared.step.Step.{Step}
 use Rattle.hl_model.specs.Sizes.{Sizes, AreInRange}
 use Rattle.hl_model.specs.Offsets.{is_entered}
 use Rattle.hl_model.specs.Frames.{last_entered}
 use Rattle.hl_model.proofs.RowLaws.{row_at}
-use Rattle.hl_model.proofs.FrameLaws.{IsLastOf, last_entered-is, last_entered-none, last_entered-cases, entered_below, unentered_above}
+use Rattle.hl_model.proofs.FrameLaws.{IsLastOf, last_entered-is, last_entered-none, last_entered-cases, entered_below, unentered_above, next_of_frame}
 use Rattle.hl_frames.specs.declared.held.Held.{Held}
 use Rattle.hl_frames.specs.Pages.{held_for, left_or_marked, is_marked}
-use Rattle.hl_frames.proofs.PageLaws.{mod-apart}
 use Rattle.hl_core.specs.Standing.{marked, held_of, pages_of}
 
 -- there is a place for each frame
@@ -28,14 +27,6 @@ pub held_for-is : (sizes : Sizes) (A : List Step) (q : ℕ) → 0 < sizes.frames
 held_for-is sizes A q some =
     ap (λ n. get_or (pages_of sizes A).frames (q % n) None) (length-frames sizes A) ∙ frame_holds sizes A (q % sizes.frames) (mod-lt q some)
 
--- of two pages of one frame the later is F behind or more
-pub later_of_frame : (F p q : ℕ) → p % F ≡ q % F → p < q → p + F ≤ q
-later_of_frame F p q same lt = by_order (cases_lt q (p + F))
-  where
-    by_order : ((q < p + F) ⊎ (p + F ≤ q)) → p + F ≤ q
-    by_order (inl near) = absurd (mod-apart F p q lt near same)
-    by_order (inr far) = far
-
 -- what a page's frame holds: the page, with the frame's next one not entered; a later page, with the next one entered; or, where the page isn't entered, nothing or an earlier one
 pub by_place : (sizes : Sizes) (A : List Step) (p : ℕ) (P : Option Held → Type 0) → AreInRange sizes → (is_entered sizes p A ≡ true → last_entered sizes (p % sizes.frames) A ≡ Some p → P (Some (marked sizes A p))) → ((q : ℕ) → is_entered sizes (p + sizes.frames) A ≡ true → p < q → P (Some (marked sizes A q))) → (is_entered sizes p A ≡ false → P None) → ((q : ℕ) → is_entered sizes p A ≡ false → q < p → P (Some (marked sizes A q))) → P (held_for p (pages_of sizes A))
 by_place sizes A p P range lies left empty ahead = subst P (sym (held_for-is sizes A p frames)) (by_case (last_entered-cases sizes (p % sizes.frames) A page (mod-lt p frames)))
@@ -49,8 +40,8 @@ by_place sizes A p P range lies left empty ahead = subst P (sym (held_for-is siz
     by_order : (q : ℕ) → IsLastOf sizes (p % sizes.frames) q A → last_entered sizes (p % sizes.frames) A ≡ Some q → ((p ≡ q) ⊎ ((p < q) ⊎ (q < p))) → P (Some (marked sizes A q))
     by_order q last is (inl same) =
         subst (λ (r : ℕ). P (Some (marked sizes A r))) same (lies (ap (λ r. is_entered sizes r A) same ∙ last.entered) (is ∙ ap Some (sym same)))
-    by_order q last is (inr (inl lt)) = left q (entered_below sizes q (p + sizes.frames) A last.entered (later_of_frame sizes.frames p q (sym last.of_frame) lt)) lt
-    by_order q last is (inr (inr gt)) = ahead q (unentered_above sizes (q + sizes.frames) p A last.next_not (later_of_frame sizes.frames q p last.of_frame gt)) gt
+    by_order q last is (inr (inl lt)) = left q (entered_below sizes q (p + sizes.frames) A last.entered (next_of_frame p q sizes.frames (sym last.of_frame) lt)) lt
+    by_order q last is (inr (inr gt)) = ahead q (unentered_above sizes (q + sizes.frames) p A last.next_not (next_of_frame q p sizes.frames last.of_frame gt)) gt
 
     by_case : ((is_entered sizes (p % sizes.frames) A ≡ false) ⊎ ((q : ℕ) × IsLastOf sizes (p % sizes.frames) q A)) → P (held_of sizes A (p % sizes.frames))
     by_case (inl e) =

@@ -6,9 +6,8 @@ use Rattle.std.proofs.Math.Nat.{div-eq_of_lt}
 use Rattle.std.proofs.lemmas.Bool.{le-ltb}
 use Rattle.hl_model.specs.declared.view.View.{View}
 use Rattle.hl_model.specs.Sizes.{Sizes, AreInRange}
-use Rattle.hl_model.specs.Lists.{gather, gather_after}
 use Rattle.hl_model.specs.Epochs.{Table, slot_epochs, slot_epoch}
-use Rattle.hl_model.specs.Actions.{actions, pending, taken, takes}
+use Rattle.hl_model.specs.Actions.{pending, taken}
 use Rattle.hl_model.specs.Settled.{safe_read_only, closed, settles, closes}
 use Rattle.hl_model.specs.Views.{slot_view, slot_views}
 use Rattle.hl_model.proofs.AcceptedLaws.{good-nil}
@@ -17,6 +16,7 @@ use Rattle.hl_model.proofs.FrameLaws.{last_entered-none}
 use Rattle.hl_model.proofs.OffsetLaws.{read_only-nil, head-nil, tail-nil}
 use Rattle.hl_model.proofs.SettledLaws.{done_greatest-nil}
 use Rattle.hl_model.proofs.ViewLaws.{slot_view-unprotected}
+use Rattle.hl_model.proofs.ActionLaws.{pending-nil, taken-nil}
 use Rattle.hl_epoch.specs.Table.{opened}
 use Rattle.hl_drain.specs.Actions.{waiting_of}
 use Rattle.hl_drain.specs.Lists.{Lists, IsDrain}
@@ -26,14 +26,6 @@ use Rattle.hl_frames.specs.Answers.{opened as opened_pages}
 use Rattle.hl_frames.specs.Pages.{Pages}
 use Rattle.hl_core.specs.Standing.{Stands, log_of, marked, held_of, pages_of, pages_entered}
 use Rattle.hl_core.proofs.TableLaws.{make}
-
-taken-nil : taken [] ≡ []
-unfolding taken actions gather gather_after takes
-taken-nil = refl
-
-pending-nil : pending [] ≡ []
-unfolding pending actions gather gather_after takes
-pending-nil = refl
 
 -- a row of numbers that all give the same
 row_same : {X : Type 0} (f : ℕ → X) (x : X) (a n : ℕ) → ((t : ℕ) → a ≤ t → t < a + n → f t ≡ x) → replicate n x ≡ map f (range_with_len a n)

@@ -37,7 +37,7 @@ others_are t (x ∷ xs) later rises =
     ]
 
 -- the place that is found
-place_some : (n l i : ℕ) → Some i ≡ cond (ltb n l) (Some n) None → (n ≡ i) × (i < l)
+pub place_some : (n l i : ℕ) → Some i ≡ cond (ltb n l) (Some n) None → (n ≡ i) × (i < l)
 place_some n l i found =
     elim (cases_lt n l) [
       | inl below ↦ let e = rw (lt-ltb n l below) at found in let same : i ≡ n = cc in (sym same, rw same below)
@@ -45,7 +45,7 @@ place_some n l i found =
     ]
 
 -- no place is found
-place_none : (n l : ℕ) → None ≡ cond (ltb n l) (Some n) None → l ≤ n
+pub place_none : (n l : ℕ) → None ≡ cond (ltb n l) (Some n) None → l ≤ n
 place_none n l missing =
     elim (cases_lt n l) [
       | inl below ↦ let e = rw (lt-ltb n l below) at missing in cc
@@ -53,7 +53,7 @@ place_none n l missing =
     ]
 
 -- nothing leaves a list past its end
-remove_past : {X : Type 0} (xs : List X) (n : ℕ) → length xs ≤ n → remove xs n ≡ xs
+pub remove_past : {X : Type 0} (xs : List X) (n : ℕ) → length xs ≤ n → remove xs n ≡ xs
 remove_past xs n past = rw (take_all n xs past, drop_all (suc n) xs (omega arith)) (append-nil xs)
 
 module _ {J : Type 0} where

@@ -12,10 +12,9 @@ use Rattle.hl_model.specs.Pages.{flushing, marks, is_flushed, is_in_flight, next
 use Rattle.hl_model.specs.Words.{page_words}
 use Rattle.hl_model.specs.Replies.{unless_page, unless_fault, fault_of, reply_of, IsAccepted}
 use Rattle.hl_model.proofs.AcceptedLaws.{IsAccepted-push}
-use Rattle.hl_model.proofs.ActionLaws.{or_false}
 use Rattle.hl_model.proofs.SettledLaws.{done_greatest-quiet}
 use Rattle.hl_model.proofs.WordLaws.{page_words-stay}
-use Rattle.hl_model.proofs.WorkLaws.{is_flushed-push, is_in_flight-take, is_in_flight-done, next_page-parts, next_page-least, next_page-is}
+use Rattle.hl_model.proofs.WorkLaws.{is_in_flight-take, is_in_flight-done, next_page-parts, next_page-least, next_page-is, is_flushed-stay}
 
 -- a take that is answered with some page names it
 named : (n : Option ℕ) (page : ℕ) → unless_fault (unless_page NoneSealed n) (Page (unwrap_or n 0)) ≡ Ok (Page page) → n ≡ Some page
@@ -56,9 +55,8 @@ given_back A page = (A ++ FlushTake ∷ []) ++ FlushDone page false ∷ []
 -- no other page is flushed
 given_back-flushed : (sizes : Sizes) (A : List Step) (page p : ℕ) → is_flushed sizes p (given_back A page) ≡ is_flushed sizes p A
 given_back-flushed sizes A page p =
-    is_flushed-push sizes p (A ++ FlushTake ∷ []) (FlushDone page false)
-    ∙ ap₂ (λ b c. b || c) (is_flushed-push sizes p A FlushTake ∙ or_false (is_flushed sizes p A)) (failed_flushes page p)
-    ∙ or_false (is_flushed sizes p A)
+    is_flushed-stay sizes (A ++ FlushTake ∷ []) (FlushDone page false) p (failed_flushes page p)
+    ∙ is_flushed-stay sizes A FlushTake p refl
 
 -- the page is in flight no longer
 given_back-page : (sizes : Sizes) (A : List Step) (page : ℕ) → is_in_flight sizes page (given_back A page) ≡ false

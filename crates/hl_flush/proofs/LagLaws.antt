@@ -1,15 +1,16 @@
 -- The offsets of a lag, and that its steps are lawful at them.
 use Rattle.std.proofs.Common.{◌≡◌, ℕ, ◌+◌, ◌-◌, ◌*◌, ◌/◌, ◌%◌, ◌<◌, ◌≤◌, arith, Bool, true, false, nat_lt, min, refl, ap, ◌∙◌, subst, None, List, [], ◌++◌, ◌⊎◌, inl, inr}
 use Rattle.std.proofs.Math.Nat.{mul-mod_right, mul-le-mul_left}
-use Rattle.std.proofs.lemmas.Bool.{cases_lt, ltb-true, lt-leb, le-ltb, eq-eqb}
+use Rattle.std.proofs.lemmas.Bool.{cases_lt, ltb-true, lt-leb, le-ltb}
 use Rattle.std.proofs.lemmas.List.Elements.{All-nil, All-cons, All-append}
 use Rattle.std.proofs.lemmas.Nat.{div-mul-add, div-add-mod', mod_below}
 use Rattle.std.specs.List.{All}
 use Rattle.hl_model.specs.declared.step.Step.{Step}
 use Rattle.hl_model.specs.declared.step.Step.TheVariants.{Raise, Settle, Shift, Close}
 use Rattle.hl_model.specs.declared.view.Six.{Six}
-use Rattle.hl_model.specs.Replies.{raise_fault, shift_fault}
+use Rattle.hl_model.specs.Replies.{raise_fault}
 use Rattle.hl_model.proofs.ListLaws.{max-has}
+use Rattle.hl_model.proofs.NoFaultLaws.{shift_lawful}
 use Rattle.hl_model.specs.Snapshots.{AreInOrder}
 use Rattle.hl_flush.specs.Lag.{pages_up_to, read_only_at, head_at, step_if, lag_of, fault_at}
 
@@ -36,11 +37,6 @@ pages_up_to-is page tail h =
 -- a raise is lawful above the read-only offset and up to the tail
 raise_lawful : (read_only tail x : ℕ) → read_only < x → x ≤ tail → raise_fault read_only tail x ≡ None
 raise_lawful read_only tail x above most = rw (lt-leb x read_only above, le-ltb tail x most) refl
-
--- a shift is lawful above the head and up to the flushed offset, where a page begins
-shift_lawful : (page head flushed x : ℕ) → head < x → x % page ≡ 0 → x ≤ flushed → shift_fault page head flushed x ≡ None
-shift_lawful page head flushed x above whole most =
-    rw (lt-leb x head above, eq-eqb (x % page) 0 whole, le-ltb flushed x most) refl
 
 -- some pages and m more, told as words
 pages_and_more : (page k m : ℕ) → 1 ≤ m → page * k + page ≤ (k + m) * page

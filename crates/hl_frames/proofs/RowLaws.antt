@@ -1,6 +1,6 @@
 -- What rows tell of frames.
 use Rattle.std.proofs.Common.{◌≡◌, ℕ, ◌+◌, ◌/◌, ◌%◌, find, ◌<◌, ◌≤◌, Bool, true, false, Option, None, Some, List, length, replicate, map, set, get_or, length-set, get_or-set_same, get_or-set_other, refl, sym, ap, ◌∙◌, arith, inl, inr}
-use Rattle.std.proofs.lemmas.Bool.{cases_eq, eq-eqb}
+use Rattle.std.proofs.lemmas.Bool.{eq-eqb}
 use Rattle.std.proofs.lemmas.Bool.Decides.{eqb_tells}
 use Rattle.std.specs.Option.{option_map}
 use Rattle.std.specs.Bool.{then_some}
@@ -13,6 +13,7 @@ use Rattle.hl_frames.specs.Pages.{Pages, held_for, is_marked, is_in_flight, is_c
 use Rattle.hl_frames.specs.Answers.{unmarked, opened, entered, flush_begun, flush_ended, clean_begun, clean_ended}
 use Rattle.hl_frames.proofs.PageLaws.{get_or-replicate_none}
 use Rattle.hl_model.proofs.SearchLaws.{find-first, find-missing}
+use Rattle.hl_model.proofs.RowLaws.{rows_set}
 use Rattle.hl_frames.specs.IsFrames.{page_in}
 use Rattle.hl_frames.specs.Rows.{held_in, held_by, pages_by, pages_of, IsKept}
 
@@ -86,27 +87,11 @@ same place xs = λ f other. refl
 pub written : (place : ℕ) (xs : List (Option ℕ)) (y : Option ℕ) → SameBut place xs (set xs place y)
 written place xs y = λ f other. get_or-set_other xs place f y None other
 
--- a list by its indices, where one of them gives something else
-frames_set : (g h : ℕ → Option Held) (n place : ℕ) (v : Option Held) → place < n → ((f : ℕ) → (f ≡ place → ⊥) → h f ≡ g f) → h place ≡ v → map h (range_with_len 0 n) ≡ set (map g (range_with_len 0 n)) place v
-frames_set g h n place v within others here =
-    let old : List (Option Held) = map g (range_with_len 0 n) in
-    let count : length old ≡ n = length-map-range_with_len g 0 n in
-    let there : place < length old = omega arith in
-    ext_get_or None (map h (range_with_len 0 n)) (set old place v) (length-map-range_with_len h 0 n ∙ sym (length-set old place v ∙ count))
-    (λ i below.
-    let inside : i < n = omega (arith, length-map-range_with_len h 0 n) in
-    get_or-map-range_with_len h 0 n i i None inside (omega arith)
-    ∙ elim (cases_eq i place) [
-      | inl at ↦ rw (at, get_or-set_same old place v None there) here
-      | inr other ↦ others i other ∙ sym (get_or-set_other old place i v None other ∙ get_or-map-range_with_len g 0 n i i None inside (omega arith))
-    ])
-
 -- what the frames hold after one place of each row was written, or left as it was
-pub frames_written : (a : Inside) (T : Pages) (place : ℕ) (v : Option Held) (last flushed in_flight freed cleaning : List (Option ℕ)) → pages_of a ≡ T → place < length T.frames → length last ≡ length a.last.items → SameBut place a.last.items last → SameBut place a.flushed.items flushed → SameBut place a.in_flight.items in_flight → SameBut place a.freed.items freed → SameBut place a.cleaning.items cleaning → held_by last flushed in_flight freed cleaning place ≡ v → map (held_by last flushed in_flight freed cleaning) (range_with_len 0 (length last)) ≡ set T.frames place v
-frames_written a T place v last flushed in_flight freed cleaning is within count l f i r c here =
-    let there : place < length a.last.items = omega (arith, frames_of a T is) in
+pub frames_written : (a : Inside) (T : Pages) (place : ℕ) (v : Option Held) (last flushed in_flight freed cleaning : List (Option ℕ)) → pages_of a ≡ T → length last ≡ length a.last.items → SameBut place a.last.items last → SameBut place a.flushed.items flushed → SameBut place a.in_flight.items in_flight → SameBut place a.freed.items freed → SameBut place a.cleaning.items cleaning → held_by last flushed in_flight freed cleaning place ≡ v → map (held_by last flushed in_flight freed cleaning) (range_with_len 0 (length last)) ≡ set T.frames place v
+frames_written a T place v last flushed in_flight freed cleaning is count l f i r c here =
     rw (count, ← is)
-    (frames_set (held_at a) (held_by last flushed in_flight freed cleaning) (length a.last.items) place v there (λ k other. rw (l k other, f k other, i k other, r k other, c k other) refl) here)
+    (rows_set (held_by last flushed in_flight freed cleaning) (held_at a) (length a.last.items) place v here (λ k other. rw (l k other, f k other, i k other, r k other, c k other) refl))
 
 -- where the place of a frame's page in flight is written
 held_in-begun : (l f i r c : Option ℕ) (page : ℕ) → page_in (held_in l f i r c) ≡ Some page → held_in l f (Some page) r c ≡ option_map (λ (held : Held). record held { in_flight = true }) (held_in l f i r c)
@@ -144,7 +129,7 @@ rows-flush_begun a T page place is kept placed within lies =
     let change : Held → Held = λ held. record held { in_flight = true } in
     let here : held_by a.last.items a.flushed.items (set a.in_flight.items place (Some page)) a.freed.items a.cleaning.items place ≡ option_map change (held_for page T) =
     rw (get_or-set_same a.in_flight.items place (Some page) None there.in_flight, held) (held_in-begun (get_or a.last.items place None) (get_or a.flushed.items place None) (get_or a.in_flight.items place None) (get_or a.freed.items place None) (get_or a.cleaning.items place None) page (rw held at lies)) in
-    let frames = frames_written a T place (option_map change (held_for page T)) a.last.items a.flushed.items (set a.in_flight.items place (Some page)) a.freed.items a.cleaning.items is within refl (same place a.last.items) (same place a.flushed.items) (written place a.in_flight.items (Some page)) (same place a.freed.items) (same place a.cleaning.items) here in
+    let frames = frames_written a T place (option_map change (held_for page T)) a.last.items a.flushed.items (set a.in_flight.items place (Some page)) a.freed.items a.cleaning.items is refl (same place a.last.items) (same place a.flushed.items) (written place a.in_flight.items (Some page)) (same place a.freed.items) (same place a.cleaning.items) here in
     rw (frames, words_of a T is, entered_of a T is, placed) refl
 
 -- the rows after a flush ends
@@ -155,7 +140,7 @@ rows-flush_ended a T page place ok is kept placed within lies =
     let change : Held → Held = λ held. record held { in_flight = false; flushed = ok } in
     let here : held_by a.last.items (set a.flushed.items place (then_some ok page)) (set a.in_flight.items place None) a.freed.items a.cleaning.items place ≡ option_map change (held_for page T) =
     rw (get_or-set_same a.flushed.items place (then_some ok page) None there.flushed, get_or-set_same a.in_flight.items place None None there.in_flight, held) (held_in-ended (get_or a.last.items place None) (get_or a.flushed.items place None) (get_or a.in_flight.items place None) (get_or a.freed.items place None) (get_or a.cleaning.items place None) page ok (rw held at lies)) in
-    let frames = frames_written a T place (option_map change (held_for page T)) a.last.items (set a.flushed.items place (then_some ok page)) (set a.in_flight.items place None) a.freed.items a.cleaning.items is within refl (same place a.last.items) (written place a.flushed.items (then_some ok page)) (written place a.in_flight.items None) (same place a.freed.items) (same place a.cleaning.items) here in
+    let frames = frames_written a T place (option_map change (held_for page T)) a.last.items (set a.flushed.items place (then_some ok page)) (set a.in_flight.items place None) a.freed.items a.cleaning.items is refl (same place a.last.items) (written place a.flushed.items (then_some ok page)) (written place a.in_flight.items None) (same place a.freed.items) (same place a.cleaning.items) here in
     rw (frames, words_of a T is, entered_of a T is, placed) refl
 
 -- the rows after the cleaning of a page begins
@@ -166,7 +151,7 @@ rows-clean_begun a T page place is kept placed within lies =
     let change : Held → Held = λ held. record held { cleaning = true } in
     let here : held_by a.last.items a.flushed.items a.in_flight.items a.freed.items (set a.cleaning.items place (Some page)) place ≡ option_map change (held_for page T) =
     rw (get_or-set_same a.cleaning.items place (Some page) None there.cleaning, held) (held_in-clean_begun (get_or a.last.items place None) (get_or a.flushed.items place None) (get_or a.in_flight.items place None) (get_or a.freed.items place None) (get_or a.cleaning.items place None) page (rw held at lies)) in
-    let frames = frames_written a T place (option_map change (held_for page T)) a.last.items a.flushed.items a.in_flight.items a.freed.items (set a.cleaning.items place (Some page)) is within refl (same place a.last.items) (same place a.flushed.items) (same place a.in_flight.items) (same place a.freed.items) (written place a.cleaning.items (Some page)) here in
+    let frames = frames_written a T place (option_map change (held_for page T)) a.last.items a.flushed.items a.in_flight.items a.freed.items (set a.cleaning.items place (Some page)) is refl (same place a.last.items) (same place a.flushed.items) (same place a.in_flight.items) (same place a.freed.items) (written place a.cleaning.items (Some page)) here in
     rw (frames, words_of a T is, entered_of a T is, placed) refl
 
 -- the rows after the cleaning of a page ends
@@ -177,7 +162,7 @@ rows-clean_ended a T page place is kept placed within lies =
     let change : Held → Held = λ held. record held { cleaning = false; freed = true } in
     let here : held_by a.last.items a.flushed.items a.in_flight.items (set a.freed.items place (Some page)) (set a.cleaning.items place None) place ≡ option_map change (held_for page T) =
     rw (get_or-set_same a.freed.items place (Some page) None there.freed, get_or-set_same a.cleaning.items place None None there.cleaning, held) (held_in-clean_ended (get_or a.last.items place None) (get_or a.flushed.items place None) (get_or a.in_flight.items place None) (get_or a.freed.items place None) (get_or a.cleaning.items place None) page (rw held at lies)) in
-    let frames = frames_written a T place (option_map change (held_for page T)) a.last.items a.flushed.items a.in_flight.items (set a.freed.items place (Some page)) (set a.cleaning.items place None) is within refl (same place a.last.items) (same place a.flushed.items) (same place a.in_flight.items) (written place a.freed.items (Some page)) (written place a.cleaning.items None) here in
+    let frames = frames_written a T place (option_map change (held_for page T)) a.last.items a.flushed.items a.in_flight.items (set a.freed.items place (Some page)) (set a.cleaning.items place None) is refl (same place a.last.items) (same place a.flushed.items) (same place a.in_flight.items) (written place a.freed.items (Some page)) (written place a.cleaning.items None) here in
     rw (frames, words_of a T is, entered_of a T is, placed) refl
 
 -- the rows after a page is entered
@@ -186,7 +171,7 @@ rows-entered a T page place is kept placed within =
     let there = place_in a T place is kept within in
     let here : held_by (set a.last.items place (Some page)) (set a.flushed.items place None) (set a.in_flight.items place None) (set a.freed.items place None) (set a.cleaning.items place None) place ≡ Some (unmarked page) =
     rw (get_or-set_same a.last.items place (Some page) None there.last, get_or-set_same a.flushed.items place None None there.flushed, get_or-set_same a.in_flight.items place None None there.in_flight, get_or-set_same a.freed.items place None None there.freed, get_or-set_same a.cleaning.items place None None there.cleaning) refl in
-    let frames = frames_written a T place (Some (unmarked page)) (set a.last.items place (Some page)) (set a.flushed.items place None) (set a.in_flight.items place None) (set a.freed.items place None) (set a.cleaning.items place None) is within (length-set a.last.items place (Some page)) (written place a.last.items (Some page)) (written place a.flushed.items None) (written place a.in_flight.items None) (written place a.freed.items None) (written place a.cleaning.items None) here in
+    let frames = frames_written a T place (Some (unmarked page)) (set a.last.items place (Some page)) (set a.flushed.items place None) (set a.in_flight.items place None) (set a.freed.items place None) (set a.cleaning.items place None) is (length-set a.last.items place (Some page)) (written place a.last.items (Some page)) (written place a.flushed.items None) (written place a.in_flight.items None) (written place a.freed.items None) (written place a.cleaning.items None) here in
     rw (frames, words_of a T is, placed) refl
 
 -- rows that name no page

@@ -1,5 +1,5 @@
 -- Each line that fits is read from its spelling, and nothing else is.
-use Rattle.std.proofs.Common.{◌≡◌, ℕ, ◌^◌, ◌<◌, Bool, true, false, cond, Option, Some, None, option_and_then, List, [], ◌∷◌, ◌++◌, length, codes, decimal, refl, ap, ◌∙◌, subst, arith, bytes_eq, IfSome}
+use Rattle.std.proofs.Common.{◌≡◌, ℕ, ◌^◌, ◌<◌, true, false, cond, Option, Some, None, option_and_then, List, [], ◌∷◌, ◌++◌, length, codes, decimal, refl, ap, ◌∙◌, subst, arith, bytes_eq, IfSome}
 use Rattle.std.proofs.lemmas.Bool.{cond-true}
 use Rattle.std.proofs.lemmas.List.{append-nil}
 use Rattle.std.proofs.lemmas.Slice.Eq.{bytes_eq-Decides}
@@ -11,7 +11,7 @@ use Rattle.hl_line.specs.declared.line.Line.TheVariants.{Config, Step as Makes, 
 use Rattle.hl_line.specs.Lines.{worded, step_spelling, spelling, StepFits, Fits}
 use Rattle.hl_line.specs.Reading.{first_word, other_words, number_in, config_of, step_with, line_with, guess_of, line_of}
 use Rattle.hl_line.proofs.Texts.{spelling_short}
-use Rattle.hl_line.proofs.Words.{first_number, after_number, last_number}
+use Rattle.hl_line.proofs.Words.{first_number, after_number, last_number, kept_if}
 use Rattle.hl_line.proofs.Fitting.{config_of-in_range, guess_fits}
 
 -- sizes that are equal, number by number
@@ -101,16 +101,11 @@ guess_of-spelling Status h = refl
 guess_of-spelling Pending h = refl
 guess_of-spelling Frames h = refl
 
--- what is kept passed the test
-kept_if_spelled : (b : Bool) (m l : Line) → cond b (Some m) None ≡ Some l → (b ≡ true) × (m ≡ l)
-kept_if_spelled true m l e = (refl, cc)
-kept_if_spelled false m l e = cc
-
 -- a guess that is kept fits, and is spelled so
 found_in : (g : Option Line) (s : List ℕ) (l : Line) → IfSome g Fits → option_and_then (λ m. cond (bytes_eq (spelling m) s) (Some m) None) g ≡ Some l → Fits l × (spelling l ≡ s)
 found_in None s l h e = cc
 found_in (Some m) s l h e =
-    let kept = kept_if_spelled (bytes_eq (spelling m) s) m l e in
+    let kept = kept_if (bytes_eq (spelling m) s) m l e in
     (subst Fits kept.1 h, subst (λ (k : Line). spelling k ≡ s) kept.1 ((bytes_eq-Decides (spelling m) s).0 kept.0))
 
 -- a line that is found fits, and is spelled so

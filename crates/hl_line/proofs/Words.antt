@@ -69,9 +69,10 @@ after_number n rest h = other_words-space (decimal n) rest (decimal_is_word n h)
 pub last_number : (n : ℕ) → n < 2 ^ 64 → number_in (first_word (decimal n ++ [])) ≡ n
 last_number n h = ap number_in (first_word-word (decimal n) (decimal_is_word n h)) ∙ number_in-decimal n h
 
-found_or_not : (b : Bool) (n k : ℕ) → cond b (Some n) None ≡ Some k → (b ≡ true) × (n ≡ k)
-found_or_not true n k e = (refl, cc)
-found_or_not false n k e = cc
+-- what is kept passed the test
+pub kept_if : {X : Type 0} (b : Bool) (x y : X) → cond b (Some x) None ≡ Some y → (b ≡ true) × (x ≡ y)
+kept_if true x y e = (refl, cc)
+kept_if false x y e = cc
 
 not_found : (b : Bool) (n : ℕ) → cond b (Some n) None ≡ None → b ≡ false
 not_found true n e = cc
@@ -80,7 +81,7 @@ not_found false n e = refl
 -- a text, cut at its first space
 pub cut_at : (s : List ℕ) (k : ℕ) → position (λ b. b == 32) s ≡ Some k → (take k s ≡ first_word s) × (take (length s - (k + 1)) (drop (k + 1) s) ≡ other_words s)
 cut_at s k e =
-    let at = found_or_not (ltb (word_length s) (length s)) (word_length s) k e in
+    let at = kept_if (ltb (word_length s) (length s)) (word_length s) k e in
     (ap (λ n. take n s) (sym at.1), take_all (length s - (k + 1)) (drop (k + 1) s) (omega (arith, length-drop (k + 1) s)) ∙ ap (λ n. drop (n + 1) s) (sym at.1))
 
 -- a text with no space

@@ -3,7 +3,8 @@ use Rattle.std.proofs.Common.{ap₂, add-zero, ◌≡◌, ℕ, zero, suc, ◌+�
 use Rattle.std.specs.Prelude.{◌==◌}
 use Rattle.std.specs.List.{drop-map, filter, range_with_len}
 use Rattle.std.proofs.lemmas.List.{map-append, take-append-le, drop-append-le}
-use Rattle.std.proofs.lemmas.List.Elements.{filter-append}
+use Rattle.std.proofs.lemmas.List.Elements.{filter-append, filter_agree}
+use Rattle.std.proofs.Math.Bool.{or-false}
 use Rattle.hl_model.specs.declared.action.Waiting.{Waiting}
 use Rattle.hl_model.specs.declared.step.Step.{Step}
 use Rattle.hl_model.specs.declared.step.Step.TheVariants.{Bump, Take, Done}
@@ -49,9 +50,23 @@ pub actions-nil : actions [] ≡ []
 unfolding actions gather gather_after
 actions-nil = refl
 
-bumps-nil : bumps [] ≡ 0
+-- nor bump, nor take
+pub bumps-nil : bumps [] ≡ 0
 unfolding bumps
 bumps-nil = refl
+
+pub takes-nil : takes [] ≡ 0
+unfolding takes
+takes-nil = refl
+
+-- and leave nothing pending or taken
+pub pending-nil : pending [] ≡ []
+unfolding pending actions gather gather_after takes
+pending-nil = refl
+
+pub taken-nil : taken [] ≡ []
+unfolding taken actions gather gather_after takes
+taken-nil = refl
 
 -- there are as many actions as bumps
 pub length-actions : (A : List Step) → length (actions A) ≡ bumps A
@@ -99,27 +114,19 @@ next_of zero (x ∷ xs) w ws h = let same : x ≡ w = cc in (ap (λ y. y ∷ [])
 next_of (suc m) [] w ws h = cc
 next_of (suc m) (x ∷ xs) w ws h = let later : (take (suc m) xs ≡ take m xs ++ w ∷ []) × (drop (suc m) xs ≡ ws) = next_of m xs w ws h in (ap (λ l. x ∷ l) later.0, later.1)
 
--- filtering by two tests that agree
-filter_alike : {X : Type 0} (p q : X → Bool) (xs : List X) → ((x : X) → p x ≡ q x) → filter p xs ≡ filter q xs
-filter_alike p q [] h = refl
-filter_alike p q (x ∷ xs) h = ap₂ (λ b l. cond b (x ∷ l) l) (h x) (filter_alike p q xs h)
-
 keeps_once : {X : Type 0} (p q : X → Bool) (x : X) (both first : List X) → both ≡ filter q first → (b c : Bool) → p x ≡ b → q x ≡ c → cond (q x && p x) (x ∷ both) both ≡ filter q (cond (p x) (x ∷ first) first)
 keeps_once p q x both first h true true e f = rw (e, f) (ap (λ l. x ∷ l) h)
 keeps_once p q x both first h true false e f = rw (e, f) h
 keeps_once p q x both first h false true e f = rw (e, f) h
 keeps_once p q x both first h false false e f = rw (e, f) h
 
--- filtering twice
-filter_twice : {X : Type 0} (p q : X → Bool) (xs : List X) → filter (λ x. q x && p x) xs ≡ filter q (filter p xs)
+-- a filter by two tests is a filter by one and then by the other
+pub filter_twice : {X : Type 0} (p q : X → Bool) (xs : List X) → filter (λ x. q x && p x) xs ≡ filter q (filter p xs)
 filter_twice p q [] = refl
 filter_twice p q (x ∷ xs) = keeps_once p q x (filter (λ y. q y && p y) xs) (filter p xs) (filter_twice p q xs) (p x) (q x) refl refl
 
-pub or_false : (b : Bool) → (b || false) ≡ b
-or_false true = refl
-or_false false = refl
-
-not_or : (a b : Bool) → not (a || b) ≡ (not b && not a)
+-- neither of two
+pub not_or : (a b : Bool) → not (a || b) ≡ (not b && not a)
 not_or true true = refl
 not_or true false = refl
 not_or false true = refl
@@ -131,7 +138,7 @@ takes-stay A s no_take = takes-push A s ∙ ap (λ b. takes A + cond b 1 0) no_t
 
 -- the same ticket is done as before a step that finishes none
 pub is_finished-stay : (c : ℕ) (A : List Step) (s : Step) → finishes c s ≡ false → is_finished c (A ++ s ∷ []) ≡ is_finished c A
-is_finished-stay c A s no_done = is_finished-push c A s ∙ ap (λ b. is_finished c A || b) no_done ∙ or_false (is_finished c A)
+is_finished-stay c A s no_done = is_finished-push c A s ∙ ap (λ b. is_finished c A || b) no_done ∙ or-false (is_finished c A)
 
 -- what a step stores is pending, last
 pub pending-stores : (A : List Step) (s : Step) → takes A ≤ bumps A → is_take s ≡ false → pending (A ++ s ∷ []) ≡ pending A ++ action_of A s
@@ -144,8 +151,8 @@ pending-stores A s le no_take =
 pub taken-stores : (A : List Step) (s : Step) → takes A ≤ bumps A → is_take s ≡ false → ((c : ℕ) → finishes c s ≡ false) → taken (A ++ s ∷ []) ≡ taken A
 unfolding taken
 taken-stores A s le no_take no_done =
-    filter_alike (λ w. not (is_finished w.ticket (A ++ s ∷ []))) (λ w. not (is_finished w.ticket A)) (take (takes (A ++ s ∷ [])) (actions (A ++ s ∷ [])))
-    (λ w. ap not (is_finished-stay w.ticket A s (no_done w.ticket)))
+    filter_agree (λ w. not (is_finished w.ticket (A ++ s ∷ []))) (λ w. not (is_finished w.ticket A))
+    (λ w. ap not (is_finished-stay w.ticket A s (no_done w.ticket))) (take (takes (A ++ s ∷ [])) (actions (A ++ s ∷ [])))
     ∙ ap (filter (λ w. not (is_finished w.ticket A)))
     (ap₂ take (takes-stay A s no_take) (actions-push A s) ∙ take-append-le (takes A) (actions A) (action_of A s) (omega (arith, length-actions A)))
 
@@ -161,8 +168,8 @@ pub taken-take : (A : List Step) (w : Waiting) (ws : List Waiting) → pending A
 unfolding taken pending
 taken-take A w ws h not_done =
     let one_more : takes (A ++ Take ∷ []) ≡ suc (takes A) = omega (arith, takes-push A Take) in
-    filter_alike (λ w. not (is_finished w.ticket (A ++ Take ∷ []))) (λ w. not (is_finished w.ticket A)) (take (takes (A ++ Take ∷ [])) (actions (A ++ Take ∷ [])))
-    (λ w. ap not (is_finished-stay w.ticket A Take refl))
+    filter_agree (λ w. not (is_finished w.ticket (A ++ Take ∷ []))) (λ w. not (is_finished w.ticket A))
+    (λ w. ap not (is_finished-stay w.ticket A Take refl)) (take (takes (A ++ Take ∷ [])) (actions (A ++ Take ∷ [])))
     ∙ ap (filter (λ w. not (is_finished w.ticket A)))
     (ap₂ take one_more (actions-push A Take ∙ append-nil (actions A)) ∙ (next_of (takes A) (actions A) w ws h).0)
     ∙ filter-append (λ w. not (is_finished w.ticket A)) (take (takes A) (actions A)) (w ∷ [])
@@ -177,8 +184,8 @@ pending-done A c = ap₂ drop (takes-stay A (Done c) refl) (actions-push A (Done
 pub taken-done : (A : List Step) (c : ℕ) → taken (A ++ Done c ∷ []) ≡ filter (λ w. not (c == w.ticket)) (taken A)
 unfolding taken
 taken-done A c =
-    filter_alike (λ w. not (is_finished w.ticket (A ++ Done c ∷ []))) (λ w. not (c == w.ticket) && not (is_finished w.ticket A)) (take (takes (A ++ Done c ∷ [])) (actions (A ++ Done c ∷ [])))
-    (λ w. ap not (is_finished-push w.ticket A (Done c)) ∙ not_or (is_finished w.ticket A) (c == w.ticket))
+    filter_agree (λ w. not (is_finished w.ticket (A ++ Done c ∷ []))) (λ w. not (c == w.ticket) && not (is_finished w.ticket A))
+    (λ w. ap not (is_finished-push w.ticket A (Done c)) ∙ not_or (is_finished w.ticket A) (c == w.ticket)) (take (takes (A ++ Done c ∷ [])) (actions (A ++ Done c ∷ [])))
     ∙ ap (filter (λ w. not (c == w.ticket) && not (is_finished w.ticket A))) (ap₂ take (takes-stay A (Done c) refl) (actions-push A (Done c) ∙ append-nil (actions A)))
     ∙ filter_twice (λ w. not (is_finished w.ticket A)) (λ w. not (c == w.ticket)) (take (takes A) (actions A))
 

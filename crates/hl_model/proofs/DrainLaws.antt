@@ -10,13 +10,12 @@ use Rattle.hl_model.specs.declared.fault.Fault.TheVariants.{NoSlot, Occupied, No
 use Rattle.hl_model.specs.declared.step.Step.{Step}
 use Rattle.hl_model.specs.declared.step.Step.TheVariants.{Acquire, Refresh, Bump, Take, Done}
 use Rattle.hl_model.specs.Sizes.{Sizes}
-use Rattle.hl_model.specs.Lists.{gather, gather_after}
 use Rattle.hl_model.specs.Epochs.{is_bump, enters, leaves, current_epoch, is_protected, slot_epoch, safe_epoch}
 use Rattle.hl_model.specs.Actions.{is_take, is_done, finishes, bumps, takes, dones, actions, is_finished, pending, taken, is_taken, is_full, action_at}
 use Rattle.hl_model.specs.Replies.{epoch_last, fault_of, bump_fault, IsAccepted}
 use Rattle.hl_model.proofs.ListLaws.{one_where, none_where}
 use Rattle.hl_model.proofs.AcceptedLaws.{accepted_has}
-use Rattle.hl_model.proofs.ActionLaws.{bumps-push, takes-push, takes-stay, dones-push, current_epoch-bumps, is_finished-push, tickets-actions, length-pending, taken-stores, taken-take, taken-done, ticket-front}
+use Rattle.hl_model.proofs.ActionLaws.{bumps-push, takes-push, takes-stay, dones-push, current_epoch-bumps, is_finished-push, tickets-actions, length-pending, taken-stores, taken-take, taken-done, ticket-front, bumps-nil, takes-nil, taken-nil}
 use Rattle.hl_model.proofs.EpochLaws.{slot_epoch-push, slot_epoch-nil, safe_epoch-push}
 use Rattle.hl_model.proofs.TicketLaws.{of_ticket, Rising, Rising-range, Rising-take, Rising-filter, length-removed, of_ticket-filter, of_ticket-take, of_ticket-some, of_ticket-below}
 
@@ -52,17 +51,9 @@ is_taken-parts c A h =
     let inner : (leb 1 c ≡ true) × (leb c (takes A) ≡ true) = and_parts (leb 1 c) (leb c (takes A)) outer.0 in
     (leb-true 1 c inner.0, leb-true c (takes A) inner.1, not-true (is_finished c A) outer.1)
 
-takes-nil : takes [] ≡ 0
-unfolding takes
-takes-nil = refl
-
 dones-nil : dones [] ≡ 0
 unfolding dones
 dones-nil = refl
-
-bumps-nil : bumps [] ≡ 0
-unfolding bumps
-bumps-nil = refl
 
 is_finished-nil : (c : ℕ) → is_finished c [] ≡ false
 unfolding is_finished
@@ -185,16 +176,13 @@ is_take-is_done : (s : Step) → is_take s ≡ true → is_done s ≡ false
 is_take-is_done Take h = refl
 is_take-is_done _ h = cc
 
-first_pending : (A : List Step) → 0 < length (pending A) → (w : Waiting) × (ws : List Waiting) × (pending A ≡ w ∷ ws)
+-- what is pending has a first
+pub first_pending : (A : List Step) → 0 < length (pending A) → (w : Waiting) × (ws : List Waiting) × (pending A ≡ w ∷ ws)
 first_pending A h = split (pending A) refl
   where
     split : (ws : List Waiting) → pending A ≡ ws → (v : Waiting) × (vs : List Waiting) × (pending A ≡ v ∷ vs)
     split [] e = absurd (omega (arith, h, ap length e))
     split (w ∷ ws) e = (w, ws, e)
-
-taken-nil : taken [] ≡ []
-unfolding taken actions gather gather_after takes
-taken-nil = refl
 
 -- each taken action is done, or taken and not done
 pub taken-dones : (sizes : Sizes) (A : List Step) → IsAccepted sizes A → length (taken A) + dones A ≡ takes A

@@ -13,11 +13,11 @@ use Rattle.hl_model.specs.Pages.{flush_of, flushes, clean_of, frees, is_flushed,
 use Rattle.hl_model.specs.Snapshots.{six}
 use Rattle.hl_model.specs.Replies.{fault_of, IsAccepted}
 use Rattle.hl_model.specs.Follows.{ActionsFollow, moves_offsets, OffsetsMove, OffsetsFollow, PagesFollow}
-use Rattle.hl_model.proofs.ActionLaws.{or_false, pending-stores, taken-stores, pending-take, pending-done, taken-done}
+use Rattle.hl_model.proofs.ActionLaws.{pending-stores, taken-stores, pending-take, pending-done, taken-done}
 use Rattle.hl_model.proofs.DrainLaws.{takes-le-bumps, taken-next, finishes-none}
 use Rattle.hl_model.proofs.OffsetLaws.{read_only-stay, head-stay, tail-push, read_only-raise, head-shift}
 use Rattle.hl_model.proofs.SettledLaws.{action_of-none, done_greatest-quiet, done_greatest-done}
-use Rattle.hl_model.proofs.WorkLaws.{is_flushed-push, is_freed-push, is_in_flight-take, is_in_flight-done, is_in_flight-stay, is_cleaning-take, is_cleaning-done, is_cleaning-stay}
+use Rattle.hl_model.proofs.WorkLaws.{is_flushed-push, is_freed-push, is_in_flight-take, is_in_flight-done, is_in_flight-stay, is_cleaning-take, is_cleaning-done, is_cleaning-stay, is_flushed-stay, is_freed-stay}
 use Rattle.hl_model.proofs.RunLaws.{flushed_run-stay}
 
 -- a bump takes nothing and ends nothing
@@ -116,7 +116,7 @@ pages_follow sizes A = record {
   clean_take = λ p q h. is_cleaning-take sizes A p q h;
   clean_done = λ p q. (is_cleaning-done sizes A p q, is_freed-push sizes q A (CleanDone p) ∙ or_turned (is_freed sizes q A) (p == q));
   in_flight_stays = λ s q t e. is_in_flight-stay sizes A s q t e;
-  flushed_stays = λ s q e. is_flushed-push sizes q A s ∙ ap (λ b. is_flushed sizes q A || b) (flushes-none q s e) ∙ or_false (is_flushed sizes q A);
+  flushed_stays = λ s q e. is_flushed-stay sizes A s q (flushes-none q s e);
   cleaning_stays = λ s q t e. is_cleaning-stay sizes A s q t e;
-  freed_stays = λ s q e. is_freed-push sizes q A s ∙ ap (λ b. is_freed sizes q A || b) (frees-none q s e) ∙ or_false (is_freed sizes q A);
+  freed_stays = λ s q e. is_freed-stay sizes A s q (frees-none q s e);
 }

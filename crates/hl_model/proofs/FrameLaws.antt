@@ -4,6 +4,7 @@ use Rattle.std.specs.Prelude.{◌==◌, ◌^◌, Option, Some, None}
 use Rattle.std.proofs.Math.Nat.{mul-le-mul_left, mul-le-mul_right, mod-eq_of_lt, add-mod_right, div-add-mod, mul-div_cancel}
 use Rattle.std.proofs.lemmas.Nat.{mod_below}
 use Rattle.std.proofs.lemmas.Bool.{eqb-true, eq-eqb, ne_eqb, ltb-true, lt-ltb, le-ltb, leb-false, and_parts, and_from, and_left, and_right, or_left, or_right, or_from, both_ways, cases_lt, cases_eq, cases_order, cases_Bool, false_from_ne_true}
+use Rattle.std.proofs.Math.Bool.{or-false}
 use Rattle.hl_model.specs.declared.step.Step.{Step}
 use Rattle.hl_model.specs.declared.step.Step.TheVariants.{Allocate}
 use Rattle.hl_model.specs.Lists.{greatest_below}
@@ -12,7 +13,6 @@ use Rattle.hl_model.specs.Offsets.{tail, tail_past, place_of, is_entered}
 use Rattle.hl_model.specs.declared.fault.Fault.TheVariants.{Busy}
 use Rattle.hl_model.specs.Frames.{last_entered, may_enter}
 use Rattle.hl_model.specs.Replies.{fault_of, protected_fault, size_fault, page_fault}
-use Rattle.hl_model.proofs.ActionLaws.{or_false}
 use Rattle.hl_model.proofs.ListLaws.{greatest_below-passes, greatest_below-most, greatest_below-none, greatest_below-is, greatest_below-nothing}
 use Rattle.hl_model.proofs.NoFaultLaws.{met_fault, size-none, allocate-none}
 use Rattle.hl_model.proofs.OffsetLaws.{tail-push, place_of-le, place_of-fits}
@@ -22,8 +22,8 @@ abbrev pub is_entered_in : Sizes → ℕ → List Step → ℕ → Bool
 is_entered_in sizes f A p = is_entered sizes p A && p % sizes.frames == f
 
 -- the pages of a frame are F apart
-next_of_frame : (p q frames : ℕ) → 0 < frames → p % frames ≡ q % frames → p < q → p + frames ≤ q
-next_of_frame p q frames some same lt = by_order (cases_lt (p / frames) (q / frames))
+pub next_of_frame : (p q frames : ℕ) → p % frames ≡ q % frames → p < q → p + frames ≤ q
+next_of_frame p q frames same lt = by_order (cases_lt (p / frames) (q / frames))
   where
     by_order : ((p / frames < q / frames) ⊎ (q / frames ≤ p / frames)) → p + frames ≤ q
     by_order (inl less) =
@@ -74,7 +74,7 @@ last_entered-is sizes f p A page frames e same next =
     later : (m : ℕ) → p < m → ((m % sizes.frames ≡ f) ⊎ (m % sizes.frames ≡ f → ⊥)) → (is_entered sizes m A && m % sizes.frames == f) ≡ false
     later m lt (inl there) =
         and_left (is_entered sizes m A) (m % sizes.frames == f)
-        (unentered_above sizes (p + sizes.frames) m A next (next_of_frame p m sizes.frames frames (same ∙ sym there) lt))
+        (unentered_above sizes (p + sizes.frames) m A next (next_of_frame p m sizes.frames (same ∙ sym there) lt))
     later m lt (inr ne) = and_right (is_entered sizes m A) (m % sizes.frames == f) (ne_eqb (m % sizes.frames) f ne)
 
 -- a frame whose first page isn't entered has none
@@ -241,7 +241,7 @@ last_entered-other sizes f A t n page within room ne = by_case (last_entered-cas
     same p there =
         is_entered-allocate sizes p A t n page room.least room.most
         ∙ ap (λ b. is_entered sizes p A || b) (ne_eqb p q (λ e. ne (ap (λ x. x % sizes.frames) (sym e) ∙ there)))
-        ∙ or_false (is_entered sizes p A)
+        ∙ or-false (is_entered sizes p A)
 
     by_case : ((is_entered sizes f A ≡ false) ⊎ ((p : ℕ) × IsLastOf sizes f p A)) → last_entered sizes f (A ++ Allocate t n ∷ []) ≡ last_entered sizes f A
     by_case (inl unused) =

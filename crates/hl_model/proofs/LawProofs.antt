@@ -22,7 +22,7 @@ use Rattle.hl_model.specs.Headline.{ticket_told, tickets_told, moves_on}
 use Rattle.hl_model.proofs.ListLaws.{list_any-push, gather-push, by_pushing, one_where, none_where}
 use Rattle.hl_model.proofs.AcceptedLaws.{good-push, IsAccepted-good, IsAccepted-front, IsAccepted-parts, accepted_has}
 use Rattle.hl_model.proofs.EpochLaws.{slot_epochs-acquire, slot_epochs-refresh, slot_epochs-release, slot_epochs-stay, current_epoch-nil, safe_epoch-current, current_epoch-push, safe_epoch-append, enters-is_bump, slot_epoch-stays, slot_epoch-range, is_protected-slot_epoch, epoch_of-slot_epoch, safe_epoch-below, safe_epoch-greatest}
-use Rattle.hl_model.proofs.ActionLaws.{tickets-actions, tickets-pending, range-push, current_epoch-bumps, takes-push, takes-stay}
+use Rattle.hl_model.proofs.ActionLaws.{tickets-actions, tickets-pending, range-push, current_epoch-bumps, takes-push, takes-stay, takes-nil}
 use Rattle.hl_model.proofs.DrainLaws.{takes-safe, epochs-drain, bump_fault-none, bump-none, length-both, bumps-dones, is_taken-found, two_faults, take_fault-none, protected-slot}
 
 -- laws that are lemmas of the parts
@@ -188,10 +188,6 @@ told sizes A Take h = ap (λ o. ticket_told (unless_fault o (answer_of sizes A (
 told sizes A (Done c) h = ap (λ o. ticket_told (unless_fault o (answer_of sizes A (A ++ Done c ∷ []) (Done c)))) h ∙ done_told (A ++ Done c ∷ []) (kind_or_job_0 (action_at c (A ++ Done c ∷ [])))
 told sizes A s h = ap (λ o. ticket_told (unless_fault o (answer_of sizes A (A ++ s ∷ []) s))) h
 
-takes-nil : takes [] ≡ 0
-unfolding takes
-takes-nil = refl
-
 tickets_told-push : (sizes : Sizes) (A : List Step) (s : Step) → tickets_told sizes (A ++ s ∷ []) ≡ tickets_told sizes A ++ ticket_told (reply_of sizes A s)
 unfolding tickets_told
 tickets_told-push sizes A s = gather-push (λ before x. ticket_told (reply_of sizes before x)) A s
@@ -259,7 +255,8 @@ taken_after_all_moved_on sizes X s Y Z t a b f p = true_from_ne_false (list_any 
 table_at : (sizes : Sizes) (A B : List Step) (current : ℕ) (epochs : List (Option ℕ)) → current_epoch B ≡ current → slot_epochs sizes.slots B ≡ epochs → table_of sizes B ≡ record (table_of sizes A) { current = current; epochs = epochs }
 table_at sizes A B current epochs c e = ap₂ (λ n es. record (table_of sizes A) { current = n; epochs = es }) c e
 
-current-stay : (A : List Step) (s : Step) → is_bump s ≡ false → current_epoch (A ++ s ∷ []) ≡ current_epoch A
+-- a step that stores nothing leaves the current epoch
+pub current-stay : (A : List Step) (s : Step) → is_bump s ≡ false → current_epoch (A ++ s ∷ []) ≡ current_epoch A
 current-stay A s h = omega (arith, current_epoch-push A s, none_where (is_bump s) h)
 
 pub tables_follow : TablesFollow

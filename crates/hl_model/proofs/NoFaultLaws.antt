@@ -1,7 +1,7 @@
 -- What it says of a step that it meets no fault.
 use Rattle.std.proofs.Common.{◌≡◌, ℕ, ◌+◌, ◌<◌, ◌≤◌, ◌^◌, ◌%◌, ◌/◌, Bool, true, false, cond, leb, ltb, List, ◌||◌, refl, arith}
-use Rattle.std.specs.Prelude.{◌==◌, Option, Some, None}
-use Rattle.std.proofs.lemmas.Bool.{eqb-true, eqb-false, ltb-false, leb-false, or_parts}
+use Rattle.std.specs.Prelude.{◌==◌, Option, Some, None, Ok, Err}
+use Rattle.std.proofs.lemmas.Bool.{eqb-true, eqb-false, ltb-false, leb-false, or_parts, lt-leb, eq-eqb, le-ltb}
 use Rattle.hl_model.specs.declared.fault.Fault.{Fault}
 use Rattle.hl_model.specs.declared.fault.Fault.TheVariants.{NoSlot, NotProtected, Stale, NotAbove, AboveTail, NotPage, AboveFlushed, Size, SpaceSpent, Below, Evicted, Beyond}
 use Rattle.hl_model.specs.declared.step.Step.{Step}
@@ -11,12 +11,22 @@ use Rattle.hl_model.specs.Epochs.{is_protected}
 use Rattle.hl_model.specs.Offsets.{read_only, head, tail, place_of}
 use Rattle.hl_model.specs.Views.{seen_read_only, seen_head, seen_tail}
 use Rattle.hl_model.specs.Pages.{flushed}
-use Rattle.hl_model.specs.Replies.{protected_fault, or_fault, size_fault, page_fault, allocate_fault, look_fault, beyond_fault, write_fault, read_fault, fault_of}
+use Rattle.hl_model.specs.Replies.{protected_fault, or_fault, size_fault, page_fault, allocate_fault, look_fault, beyond_fault, write_fault, read_fault, fault_of, unless_fault, shift_fault}
 
 -- no fault of two: neither is there
 pub or_fault-none : (first second : Option Fault) → or_fault first second ≡ None → (first ≡ None) × (second ≡ None)
 or_fault-none None second h = (refl, h)
 or_fault-none (Some f) second h = cc
+
+-- an answer that is a fault
+pub unless_err : {X : Type 0} (o : Option Fault) (f : Fault) (x : X) → Err f ≡ unless_fault o x → o ≡ Some f
+unless_err None f x h = cc
+unless_err (Some g) f x h = cc
+
+-- an answer that is none
+pub unless_ok : {X : Type 0} (o : Option Fault) (v x : X) → Ok v ≡ unless_fault o x → (o ≡ None) × (v ≡ x)
+unless_ok None v x h = (refl, cc)
+unless_ok (Some g) v x h = cc
 
 -- no fault of a test, and none of what comes behind it
 later_fault : (b : Bool) (f : Fault) (rest : Option Fault) → cond b (Some f) rest ≡ None → (b ≡ false) × (rest ≡ None)
@@ -48,6 +58,11 @@ shift-none sizes A x h =
     let inner : ((x % sizes.page == 0) ≡ true) × (cond (ltb (flushed sizes A) x) (Some AboveFlushed) None ≡ None)
     = met_fault (x % sizes.page == 0) NotPage (cond (ltb (flushed sizes A) x) (Some AboveFlushed) None) outer.1 in
     (leb-false x (head A) outer.0, eqb-true (x % sizes.page) 0 inner.0, ltb-false (flushed sizes A) x (later_fault (ltb (flushed sizes A) x) AboveFlushed None inner.1).0)
+
+-- and a shift is lawful above the head and up to the flushed offset, where a page begins
+pub shift_lawful : (page head flushed x : ℕ) → head < x → x % page ≡ 0 → x ≤ flushed → shift_fault page head flushed x ≡ None
+shift_lawful page head flushed x above whole most =
+    rw (lt-leb x head above, eq-eqb (x % page) 0 whole, le-ltb flushed x most) refl
 
 -- a record: of some words, at most those of a page, and its end is an address
 pub size-none : (page tail n : ℕ) → size_fault page tail n ≡ None → (0 < n) × (n ≤ page) × (place_of page tail n + n ≤ 2 ^ 48)

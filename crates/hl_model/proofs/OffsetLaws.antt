@@ -66,7 +66,7 @@ pub head-grows : (A : List Step) (s : Step) → head A ≤ head (A ++ s ∷ [])
 head-grows A s = omega (arith, head-push A s)
 
 -- the start of the next page is above
-next_page-above : (page tail : ℕ) → 0 < page → tail < (tail / page + 1) * page
+pub next_page-above : (page tail : ℕ) → 0 < page → tail < (tail / page + 1) * page
 next_page-above page tail h = omega (arith, add-mul (tail / page) 1 page, div-add-mod' tail page, mod_below tail page h)
 
 -- a record is placed at the tail or behind it

@@ -89,11 +89,11 @@ out_incomplete sizes work p lawful = accepted_has sizes (λ A. is_out p (marks w
             (false_from_ne_true (work.completes p s) (λ c. old.1 (lawful.takes_nothing s p (lawful.completes_ends s p c)) (lawful.completes_ends s p c)))
 
 -- fewer pages end at or below a lower address
-pages_more : (page a b : ℕ) → 0 < page → a ≤ b → a / page ≤ b / page
+pub pages_more : (page a b : ℕ) → 0 < page → a ≤ b → a / page ≤ b / page
 pages_more page a b some le = le-div (a / page) b page some (omega (arith, div-mul-le_self a page))
 
 -- a page below the number of those that end at or below an address ends there too
-ends_below : (page a p : ℕ) → p < a / page → (p + 1) * page ≤ a
+pub ends_below : (page a p : ℕ) → p < a / page → (p + 1) * page ≤ a
 ends_below page a p lt =
     let upper : p + 1 ≤ a / page = omega arith in
     let step : (p + 1) * page ≤ a / page * page = mul-le-mul_right page upper in

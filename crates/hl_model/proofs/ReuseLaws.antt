@@ -1,7 +1,6 @@
 -- No frame is used again while its old page is reached, and the words of a page that was taken to be flushed stay.
 use Rattle.std.proofs.Common.{◌≡◌, ℕ, ◌+◌, ◌-◌, ◌*◌, ◌/◌, ◌<◌, ◌≤◌, true, cond, ◌||◌, false, List, [], ◌∷◌, ◌++◌, refl, sym, ap, ◌∙◌, subst, arith, append_assoc, append-nil, inl, inr, ◌⊎◌}
 use Rattle.std.specs.Prelude.{Some, None}
-use Rattle.std.proofs.Math.Nat.{lt-div-mul-add}
 use Rattle.std.proofs.lemmas.Bool.{ne_eqb}
 use Rattle.hl_model.specs.declared.step.Step.{Step}
 use Rattle.hl_model.specs.declared.step.Step.TheVariants.{Allocate, Write, Read}
@@ -22,13 +21,7 @@ use Rattle.hl_model.proofs.WordLaws.{word-stay}
 use Rattle.hl_model.proofs.NoFaultLaws.{protected-none, write-none, read-none}
 use Rattle.hl_model.proofs.FrameLaws.{HasRoom, allocate-room}
 use Rattle.hl_model.proofs.BoundLaws.{safe_read_only-append, closed-le-head, views_are_bounded, writes_are_above_safe_read_only}
-
--- an address is below the end of its page
-below_end : (page a : ℕ) → 0 < page → a < (a / page + 1) * page
-below_end page a some =
-    let more : (a / page + 1) * page ≡ a / page * page + page = omega arith in
-    let below : a < a / page * page + page = lt-div-mul-add some in
-    omega arith
+use Rattle.hl_model.proofs.OffsetLaws.{next_page-above}
 
 -- what a slot reaches isn't below the closed offset
 reached_above : (sizes : Sizes) (X : List Step) (u a v : ℕ) → 0 < sizes.page → IsAccepted sizes X → ((fault_of sizes X (Read u a) ≡ None) ⊎ (fault_of sizes X (Write u a v) ≡ None)) → closed X ≤ a
@@ -50,7 +43,7 @@ no_frame_is_reused_while_reached sizes X t n Y u some a fresh used reach =
     let may : may_enter sizes (placed sizes X n / sizes.page) X ≡ true = sym (ap (λ b. b || may_enter sizes (placed sizes X n / sizes.page) X) fresh) ∙ room.enters in
     let freed : is_freed sizes (placed sizes X n / sizes.page - sizes.frames) X ≡ true = may_enter-freed sizes (placed sizes X n / sizes.page) X used may in
     let gone : (placed sizes X n / sizes.page - sizes.frames + 1) * sizes.page ≤ closed X = freed_closed sizes X (placed sizes X n / sizes.page - sizes.frames) some parts.0 freed in
-    let below : reach.address < (reach.address / sizes.page + 1) * sizes.page = below_end sizes.page reach.address some in
+    let below : reach.address < (reach.address / sizes.page + 1) * sizes.page = next_page-above sizes.page reach.address some in
     let same : (reach.address / sizes.page + 1) * sizes.page ≡ (placed sizes X n / sizes.page - sizes.frames + 1) * sizes.page = ap (λ q. (q + 1) * sizes.page) reach.within in
     let above : closed X ≤ reach.address = reached_above sizes X u reach.address reach.value some parts.0 reach.lawful in
     omega (arith, gone, below, same, above)
@@ -81,4 +74,4 @@ taken_sealed sizes A p some acc (inr h) = flushed_sealed sizes A p some acc h
 -- what was taken is sealed
 pub taken_words_stay : (sizes : Sizes) (A B : List Step) (a : ℕ) → 0 < sizes.page → IsAccepted sizes (A ++ B) → (is_in_flight sizes (a / sizes.page) A ≡ true) ⊎ (is_flushed sizes (a / sizes.page) A ≡ true) → word a (A ++ B) ≡ word a A
 taken_words_stay sizes A B a some acc h =
-    sealed_words_stay sizes A a (omega (arith, below_end sizes.page a some, taken_sealed sizes A (a / sizes.page) some (IsAccepted-front sizes A B acc) h)) B acc
+    sealed_words_stay sizes A a (omega (arith, next_page-above sizes.page a some, taken_sealed sizes A (a / sizes.page) some (IsAccepted-front sizes A B acc) h)) B acc

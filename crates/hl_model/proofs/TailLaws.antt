@@ -1,21 +1,15 @@
 -- How far the tail moves.
-use Rattle.std.proofs.Common.{ℕ, ◌+◌, ◌<◌, ◌≤◌, List, length, take, drop, get_or, ◌^◌, subst, le_trans}
-use Rattle.std.proofs.lemmas.List.{take-append-drop}
+use Rattle.std.proofs.Common.{ℕ, ◌+◌, ◌<◌, ◌≤◌, List, length, take, get_or, ◌^◌, subst, le_trans}
 use Rattle.hl_model.specs.declared.step.Step.{Step}
 use Rattle.hl_model.specs.Sizes.{Sizes}
 use Rattle.hl_model.specs.Histories.{TailFits}
 use Rattle.hl_model.specs.Offsets.{tail_past, tail}
-use Rattle.hl_model.proofs.ListLaws.{never_falls}
-use Rattle.hl_model.proofs.OffsetLaws.{tail-grows}
 use Rattle.hl_model.proofs.TurnLaws.{tail-next}
-
--- the tail of a beginning
-pub tail-take : (sizes : Sizes) (A : List Step) (i : ℕ) → 0 < sizes.page → tail sizes (take i A) ≤ tail sizes A
-tail-take sizes A i h = subst (λ (L : List Step). tail sizes (take i A) ≤ tail sizes L) (take-append-drop i A) (never_falls (tail sizes) (λ B s. tail-grows sizes B s h) (take i A) (drop i A))
+use Rattle.hl_model.proofs.WordLaws.{tail-front}
 
 -- the tail of a beginning fits where that of the list does
 pub TailFits-take : (sizes : Sizes) (A : List Step) (i : ℕ) → TailFits sizes A → TailFits sizes (take i A)
-TailFits-take sizes A i h = record { page_least = h.page_least; tail_most = le_trans (tail-take sizes A i h.page_least) h.tail_most }
+TailFits-take sizes A i h = record { page_least = h.page_least; tail_most = le_trans (tail-front sizes i A h.page_least) h.tail_most }
 
 -- so does what the next step of it makes of it
 pub tail_past-most : (sizes : Sizes) (A : List Step) (i : ℕ) (d : Step) → i < length A → TailFits sizes A → tail_past sizes.page (tail sizes (take i A)) (get_or A i d) ≤ 2 ^ 48

@@ -175,8 +175,8 @@ slot_views-stay sizes A s e l a r h =
     rows_same (λ t. slot_view sizes t (A ++ s ∷ [])) (λ t. slot_view sizes t A) sizes.slots (λ t. slot_view-stay sizes t A s (e t) (l t) (a t) (r t) (h t))
 
 -- another slot's number is no match
-other : (i t : ℕ) → t ≢ i → (i == t) ≡ false
-other i t ne = ne_eqb i t (λ e. ne (sym e))
+pub eqb-other : (i t : ℕ) → t ≢ i → (i == t) ≡ false
+eqb-other i t ne = ne_eqb i t (λ e. ne (sym e))
 
 -- a step by which slot i alone has another view sets its place
 slot_views-set : (sizes : Sizes) (A : List Step) (s : Step) (i : ℕ) (v : Option View) → slot_view sizes i (A ++ s ∷ []) ≡ v → ((t : ℕ) → t ≢ i → slot_view sizes t (A ++ s ∷ []) ≡ slot_view sizes t A) → slot_views sizes (A ++ s ∷ []) ≡ set (slot_views sizes A) i v
@@ -188,20 +188,20 @@ pub slot_views-acquire : (sizes : Sizes) (A : List Step) (i : ℕ) → slot_view
 slot_views-acquire sizes A i =
     slot_views-set sizes A (Acquire i) i (Some (record { read_only = read_only A; head = head A; tail = tail sizes A }))
     (slot_view-enters sizes i A (Acquire i) (eq-eqb i i refl))
-    (λ t ne. slot_view-stay sizes t A (Acquire i) (other i t ne) refl refl refl refl)
+    (λ t ne. slot_view-stay sizes t A (Acquire i) (eqb-other i t ne) refl refl refl refl)
 
 -- a refresh
 pub slot_views-refresh : (sizes : Sizes) (A : List Step) (i : ℕ) → slot_views sizes (A ++ Refresh i ∷ []) ≡ set (slot_views sizes A) i (Some (record { read_only = read_only A; head = head A; tail = tail sizes A }))
 slot_views-refresh sizes A i =
     slot_views-set sizes A (Refresh i) i (Some (record { read_only = read_only A; head = head A; tail = tail sizes A }))
     (slot_view-enters sizes i A (Refresh i) (eq-eqb i i refl))
-    (λ t ne. slot_view-stay sizes t A (Refresh i) (other i t ne) refl refl refl refl)
+    (λ t ne. slot_view-stay sizes t A (Refresh i) (eqb-other i t ne) refl refl refl refl)
 
 -- a release
 pub slot_views-release : (sizes : Sizes) (A : List Step) (i : ℕ) → slot_views sizes (A ++ Release i ∷ []) ≡ set (slot_views sizes A) i None
 slot_views-release sizes A i =
     slot_views-set sizes A (Release i) i None (slot_view-leaves sizes i A (Release i) (eq-eqb i i refl) refl)
-    (λ t ne. slot_view-stay sizes t A (Release i) refl (other i t ne) refl refl refl)
+    (λ t ne. slot_view-stay sizes t A (Release i) refl (eqb-other i t ne) refl refl refl)
 
 -- an allocation
 pub slot_views-allocate : (sizes : Sizes) (A : List Step) (i n : ℕ) → is_protected i A ≡ true → slot_views sizes (A ++ Allocate i n ∷ []) ≡ set (slot_views sizes A) i (Some (record { read_only = seen_read_only i A; head = seen_head i A; tail = tail sizes (A ++ Allocate i n ∷ []) }))
@@ -210,14 +210,14 @@ slot_views-allocate sizes A i n h =
     (slot_view-moves sizes i A (Allocate i n) (seen_read_only i A) (seen_head i A) (tail sizes (A ++ Allocate i n ∷ [])) refl refl
     (seen_read_only-push i A (Allocate i n) refl) (seen_head-push i A (Allocate i n) refl) (seen_tail-allocates sizes i A (Allocate i n) (eq-eqb i i refl))
     ∙ cond-true (is_protected i A) (Some (record { read_only = seen_read_only i A; head = seen_head i A; tail = tail sizes (A ++ Allocate i n ∷ []) })) None h)
-    (λ t ne. slot_view-stay sizes t A (Allocate i n) refl refl (other i t ne) refl refl)
+    (λ t ne. slot_view-stay sizes t A (Allocate i n) refl refl (eqb-other i t ne) refl refl)
 
 -- a look of slot i alone brings offsets
 looked-same : (i x : ℕ) → cond (i == i) (Some x) None ≡ Some x
 looked-same i x = ap (λ b. cond b (Some x) None) (eq-eqb i i refl)
 
 looked-other : (i t x : ℕ) → t ≢ i → cond (i == t) (Some x) None ≡ None
-looked-other i t x ne = ap (λ b. cond b (Some x) None) (other i t ne)
+looked-other i t x ne = ap (λ b. cond b (Some x) None) (eqb-other i t ne)
 
 -- a look
 pub slot_views-look : (sizes : Sizes) (A : List Step) (i r h : ℕ) → is_protected i A ≡ true → slot_views sizes (A ++ Look i r h ∷ []) ≡ set (slot_views sizes A) i (Some (record { read_only = r; head = h; tail = seen_tail sizes i A }))

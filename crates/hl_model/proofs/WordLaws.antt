@@ -67,7 +67,8 @@ page_words-same sizes p A B each =
 pub page_words-stay : (sizes : Sizes) (p : ℕ) (A : List Step) (s : Step) → ((a : ℕ) → written_at a s ≡ None) → page_words sizes p (A ++ s ∷ []) ≡ page_words sizes p A
 page_words-stay sizes p A s h = page_words-same sizes p (A ++ s ∷ []) A (λ a in_page. word-stay a A s (h a))
 
-tail-front : (sizes : Sizes) (k : ℕ) (A : List Step) → 0 < sizes.page → tail sizes (take k A) ≤ tail sizes A
+-- the tail of a beginning
+pub tail-front : (sizes : Sizes) (k : ℕ) (A : List Step) → 0 < sizes.page → tail sizes (take k A) ≤ tail sizes A
 tail-front sizes k A some =
     subst (λ (L : List Step). tail sizes (take k A) ≤ tail sizes L) (take-append-drop k A)
     (never_falls (tail sizes) (λ X s. tail-grows sizes X s some) (take k A) (drop k A))

@@ -2,6 +2,7 @@
 use Rattle.std.proofs.Common.{◌≡◌, ℕ, ◌+◌, ◌<◌, ◌≤◌, Bool, true, false, cond, not, ◌&&◌, ◌||◌, ltb, List, [], ◌∷◌, ◌++◌, length, refl, ap, ap₂, ◌∙◌, arith, append-nil, inl, inr, ◌⊎◌}
 use Rattle.std.specs.Prelude.{◌==◌, Option, Some, None}
 use Rattle.std.proofs.lemmas.Bool.{lt-ltb, le-ltb, not-true, not-false, or_parts, or_left, or_from, both_ways, cases_order}
+use Rattle.std.proofs.Math.Bool.{or-false}
 use Rattle.hl_model.specs.declared.fault.Fault.TheVariants.{NotInFlight, NotCleaning}
 use Rattle.hl_model.specs.declared.step.Step.{Step}
 use Rattle.hl_model.specs.declared.step.Step.TheVariants.{FlushTake, FlushDone, CleanTake, CleanDone}
@@ -83,6 +84,14 @@ is_flushed-push sizes p A s = is_complete-push (flushing sizes) p A s
 -- what a step frees
 pub is_freed-push : (sizes : Sizes) (p : ℕ) (A : List Step) (s : Step) → is_freed sizes p (A ++ s ∷ []) ≡ (is_freed sizes p A || frees p s)
 is_freed-push sizes p A s = is_complete-push (cleaning sizes) p A s
+
+-- a step that flushes no page leaves which are flushed
+pub is_flushed-stay : (sizes : Sizes) (A : List Step) (s : Step) (p : ℕ) → flushes p s ≡ false → is_flushed sizes p (A ++ s ∷ []) ≡ is_flushed sizes p A
+is_flushed-stay sizes A s p h = is_flushed-push sizes p A s ∙ ap (λ b. is_flushed sizes p A || b) h ∙ or-false (is_flushed sizes p A)
+
+-- one that frees no page leaves which are freed
+pub is_freed-stay : (sizes : Sizes) (A : List Step) (s : Step) (p : ℕ) → frees p s ≡ false → is_freed sizes p (A ++ s ∷ []) ≡ is_freed sizes p A
+is_freed-stay sizes A s p h = is_freed-push sizes p A s ∙ ap (λ b. is_freed sizes p A || b) h ∙ or-false (is_freed sizes p A)
 
 -- flushed pages stay flushed
 pub is_flushed-stays : (sizes : Sizes) (p : ℕ) (A : List Step) (s : Step) → is_flushed sizes p A ≡ true → is_flushed sizes p (A ++ s ∷ []) ≡ true

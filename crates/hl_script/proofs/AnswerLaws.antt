@@ -21,16 +21,6 @@ use Rattle.hl_script.specs.Engine.{Puts}
 use Rattle.hl_script.specs.Outcomes.{AppendsFront}
 use Rattle.hl_script.specs.Stepping.{Stepped, StepAnswers, QueryAnswers}
 
--- an answer that is a fault
-pub unless_err : (o : Option Fault) (f : Fault) (x : Reply) → Err f ≡ unless_fault o x → o ≡ Some f
-unless_err None f x h = cc
-unless_err (Some g) f x h = cc
-
--- an answer that is none
-pub unless_ok : (o : Option Fault) (v x : Reply) → Ok v ≡ unless_fault o x → (o ≡ None) × (v ≡ x)
-unless_ok None v x h = (refl, cc)
-unless_ok (Some g) v x h = cc
-
 -- where the tag has a job, the fault is the definitions'
 pub fault_kept : (has : ℕ → Bool) (sizes : Sizes) (A : List Step) (step : Step) → lacks_job has A step ≡ false → line_fault has sizes A step ≡ fault_of sizes A step
 fault_kept has sizes A step h = ap (λ b. cond b (Some NoJob) (fault_of sizes A step)) h

@@ -21,12 +21,13 @@ use Rattle.hl_model.proofs.AcceptedLaws.{extended-none, IsAccepted-parts}
 use Rattle.hl_model.proofs.ActionLaws.{current_epoch-bumps, actions-nil, actions-push}
 use Rattle.hl_model.proofs.DrainLaws.{takes-le-bumps, done_fault-none, is_taken-parts}
 use Rattle.hl_model.proofs.LawProofs.{current_is_at_most_last}
+use Rattle.hl_model.proofs.NoFaultLaws.{unless_err, unless_ok}
 use Rattle.hl_line.specs.declared.line.Line.TheVariants.{Step as Makes}
 use Rattle.hl_model.specs.Histories.{History, IsHistory, begun, Answers}
 use Rattle.hl_script.specs.Answers.{bears, lacks_job, line_fault, shown, line_answer, line_reply, with_line}
 use Rattle.hl_script.specs.Text.{below}
 use Rattle.hl_script.specs.Slow.{kind_is_below, tag_is_below, IsSlow, SumFits}
-use Rattle.hl_script.proofs.AnswerLaws.{unless_err, unless_ok, fault_kept}
+use Rattle.hl_script.proofs.AnswerLaws.{fault_kept}
 
 -- the test of the tags, as the script has it
 lacks_shown : (tags : ℕ) (h : History) (has : ℕ → Bool) (sizes : Sizes) (A : List Step) (step : Step) → IsSlow tags h has sizes A → lacks_job has A step ≡ lacks_job (below tags) h.steps step
