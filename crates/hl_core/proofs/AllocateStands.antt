@@ -14,7 +14,7 @@ use Rattle.hl_model.specs.Views.{view_of, slot_views}
 use Rattle.hl_model.specs.Frames.{may_enter}
 use Rattle.hl_model.specs.Replies.{fault_of, protected_fault, size_fault, page_fault, allocate_fault, or_fault, unless_fault, unless_refused, IsAccepted}
 use Rattle.hl_model.proofs.OffsetLaws.{read_only-stay, head-stay, tail-push}
-use Rattle.hl_model.proofs.NoFaultLaws.{protected-none}
+use Rattle.hl_model.proofs.NoFaultLaws.{protected-none, unless_err, unless_ok}
 use Rattle.hl_model.proofs.ViewLaws.{slot_views-allocate, length-slot_views}
 use Rattle.hl_offsets.specs.Log.{Log, allocated}
 use Rattle.hl_frames.specs.Pages.{Pages, may_enter as MAY_ENTER}
@@ -24,7 +24,7 @@ use Rattle.hl_core.specs.Steps.{Stepped, Made}
 use Rattle.hl_core.proofs.PageEntered.{allocated_within, new_is_next, entered-is, new_within_space}
 use Rattle.hl_core.proofs.PageFound.{enter_found}
 use Rattle.hl_core.proofs.QuietLaws.{safe_read_only-quiet, closed-quiet}
-use Rattle.hl_core.proofs.Refusals.{refused_is, passed_is, refused_by_test, passed_by_test}
+use Rattle.hl_core.proofs.Refusals.{refused_by_test, passed_by_test}
 use Rattle.hl_core.proofs.StandLaws.{refused_step, accepted_step, quiet_drain}
 use Rattle.hl_core.proofs.TableLaws.{table_stays}
 
@@ -52,7 +52,7 @@ module _ {J : Type 0} (tag : J → ℕ) (core : State J) where
 
   -- a slot with a view is protected
   seen_none : (A : List Step) (t : ℕ) (view : View) → Stands tag core A → SeenAs t (Ok view) → (protected_fault core.sizes A t ≡ None) × (view ≡ view_of core.sizes t A)
-  seen_none A t view st seen = passed_is (protected_fault core.sizes A t) view (view_of core.sizes t A) (seen A st)
+  seen_none A t view st seen = unless_ok (protected_fault core.sizes A t) view (view_of core.sizes t A) (seen A st)
 
   -- the size is judged by the list's page and tail
   size_same : (A : List Step) (n : ℕ) → Stands tag core A → size_fault core.offsets.page core.offsets.tail n ≡ size_fault core.sizes.page (tail core.sizes A) n
@@ -65,7 +65,7 @@ module _ {J : Type 0} (tag : J → ℕ) (core : State J) where
   -- a record that is placed has no fault of its size, and lies there
   placed_ok : (A : List Step) (n place : ℕ) → Stands tag core A → PlacedAs n (Ok place) → (size_fault core.sizes.page (tail core.sizes A) n ≡ None) × (place ≡ place_of core.sizes.page (tail core.sizes A) n)
   placed_ok A n place st h =
-      let told = passed_is (size_fault core.offsets.page core.offsets.tail n) place (place_of core.offsets.page core.offsets.tail n) h in
+      let told = unless_ok (size_fault core.offsets.page core.offsets.tail n) place (place_of core.offsets.page core.offsets.tail n) h in
       (sym (size_same A n st) ∙ told.0, told.1 ∙ place_same A n st)
 
   -- the fault of an allocation by a protected slot
@@ -92,7 +92,7 @@ module _ {J : Type 0} (tag : J → ℕ) (core : State J) where
   -- an allocation of a bad size
   pub size_refused : (t n : ℕ) (view : View) (f : Fault) → SeenAs t (Ok view) → PlacedAs n (Err f) → Made tag core (Allocate t n) core (Err f)
   size_refused t n view f seen placed A st =
-      let size : size_fault core.sizes.page (tail core.sizes A) n ≡ Some f = sym (size_same A n st) ∙ refused_is (size_fault core.offsets.page core.offsets.tail n) f (place_of core.offsets.page core.offsets.tail n) placed in
+      let size : size_fault core.sizes.page (tail core.sizes A) n ≡ Some f = sym (size_same A n st) ∙ unless_err (size_fault core.offsets.page core.offsets.tail n) f (place_of core.offsets.page core.offsets.tail n) placed in
       refused_step tag core A (Allocate t n) f st (fault_is A t n (Some f) (seen_none A t view st seen).0 size)
 
   -- a page that is entered is the next one

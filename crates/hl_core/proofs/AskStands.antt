@@ -31,8 +31,10 @@ use Rattle.hl_core.specs.Standing.{State, Stands, IsStanding, log_of}
 use Rattle.hl_core.specs.Steps.{Made, asking, stored}
 use Rattle.hl_core.proofs.TableLaws.{make}
 use Rattle.hl_core.proofs.QuietLaws.{OffsetsStay, PagesStay, log-stays, pages-stay}
-use Rattle.hl_core.proofs.Refusals.{passed_is, call_accepts}
+use Rattle.hl_core.proofs.Refusals.{call_accepts}
 use Rattle.hl_core.proofs.StandLaws.{refused_step, table_refused, accepted_step}
+use Rattle.hl_model.proofs.NoFaultLaws.{unless_ok}
+use Rattle.hl_model.proofs.ListLaws.{all-append}
 
 -- a step that stores an action
 record Stores (s : Step) : Type 0 where
@@ -115,10 +117,6 @@ all_drop P zero xs h = h
 all_drop P (suc n) [] h = tt
 all_drop P (suc n) (x ∷ xs) h = all_drop P n xs h.1
 
-all_append : {X : Type 0} (P : X → Type 0) (xs ys : List X) → AllByRecursion P xs → AllByRecursion P ys → AllByRecursion P (xs ++ ys)
-all_append P [] ys h k = k
-all_append P (x ∷ xs) ys h k = (h.0, all_append P xs ys h.1 k)
-
 all_tickets : (c : ℕ) (ws : List Waiting) → AllByRecursion (λ w. w.ticket < c) ws → AllByRecursion (λ t. t < c) (map (λ w. w.ticket) ws)
 all_tickets c [] h = tt
 all_tickets c (w ∷ ws) h = (h.0, all_tickets c ws h.1)
@@ -153,12 +151,12 @@ module _ {J : Type 0} (tag : J → ℕ) where
   put_fits core ticket at a =
       let A = at.0 in
       let st : Stands tag core A = at.1 in
-      let now : current_epoch A ≡ ticket = sym ((passed_is (spent_fault core.table) ticket core.table.current a).1 ∙ ap (λ (z : Table). z.current) st.table_is) in
+      let now : current_epoch A ≡ ticket = sym ((unless_ok (spent_fault core.table) ticket core.table.current a).1 ∙ ap (λ (z : Table). z.current) st.table_is) in
       let held : AllByRecursion (λ t. t < current_epoch A) (map (λ w. w.ticket) core.drain.taken) = subst (λ ws. AllByRecursion (λ t. t < current_epoch A) (map (λ w. w.ticket) ws)) (sym st.taken_is) (all_tickets (current_epoch A) (taken A) (taken_below A)) in
       let waits : AllByRecursion (λ t. t < current_epoch A) (map (λ e. e.0) core.drain.pending) =
       subst (AllByRecursion (λ t. t < current_epoch A)) (sym (ap (map (λ w. w.ticket)) st.pending_is) ∙ waiting_tickets core.drain.pending) (all_tickets (current_epoch A) (pending A) (pending_below A)) in
       subst (λ (n : ℕ). All (λ earlier. earlier < n) (tickets core.drain)) now
-      (All-from_recursion (λ earlier. earlier < current_epoch A) (tickets core.drain) (all_append (λ t. t < current_epoch A) (map (λ w. w.ticket) core.drain.taken) (map (λ e. e.0) core.drain.pending) held waits))
+      (All-from_recursion (λ earlier. earlier < current_epoch A) (tickets core.drain) (all-append (λ t. t < current_epoch A) (map (λ w. w.ticket) core.drain.taken) (map (λ e. e.0) core.drain.pending) held waits))
 
   -- how many actions there are
   count_is : (core : State J) (A : List Step) → Stands tag core A → (length core.drain.pending ≡ length (pending A)) × (length core.drain.taken ≡ length (taken A))
@@ -225,7 +223,7 @@ module _ {J : Type 0} (tag : J → ℕ) where
       s = asking tag ask
 
       both : (spent_fault core.table ≡ None) × (ticket ≡ core.table.current)
-      both = passed_is (spent_fault core.table) ticket core.table.current a
+      both = unless_ok (spent_fault core.table) ticket core.table.current a
 
       free : fault_of core.sizes A s ≡ None
       free = (stores tag ask).fault core.sizes A ∙ room_fault core A st room ∙ both.0

@@ -11,13 +11,12 @@ use Rattle.hl_model.specs.Sizes.{Sizes}
 use Rattle.hl_model.specs.Epochs.{is_bump, enters, leaves, is_protected}
 use Rattle.hl_model.specs.Views.{view_of, slot_views, seen_read_only, seen_head, seen_tail, allocates, looked_read_only, looked_head}
 use Rattle.hl_model.specs.Replies.{fault_of, answer_of, unless_fault}
-use Rattle.hl_model.proofs.NoFaultLaws.{look-none, protected-none}
+use Rattle.hl_model.proofs.NoFaultLaws.{look-none, protected-none, unless_err, unless_ok}
 use Rattle.hl_model.proofs.ViewLaws.{slot_views-look, slot_views-stay, length-slot_views, seen_read_only-push, seen_head-push, seen_tail-stay}
 use Rattle.hl_core.specs.Standing.{State, Stands, IsStanding}
 use Rattle.hl_core.specs.Steps.{Made}
 use Rattle.hl_core.proofs.TableLaws.{table_stays}
 use Rattle.hl_core.proofs.QuietLaws.{OffsetsStay, PagesStay, log-stays, pages-stay}
-use Rattle.hl_core.proofs.Refusals.{refused_is, passed_is}
 use Rattle.hl_core.proofs.StandLaws.{DrainStays, refused_step, accepted_step, quiet_drain}
 
 -- the view of slot t after its look
@@ -30,7 +29,7 @@ view-look sizes A t r h =
 module _ {J : Type 0} (tag : J → ℕ) where
   -- a step whose test refuses it
   pub refused_by : {X : Type 0} (core : State J) (s : Step) (f : Fault) (value : List Step → X) → ((A : List Step) → Stands tag core A → Err f ≡ unless_fault (fault_of core.sizes A s) (value A)) → Made tag core s core (Err f)
-  refused_by core s f value h A st = refused_step tag core A s f st (refused_is (fault_of core.sizes A s) f (value A) (h A st))
+  refused_by core s f value h A st = refused_step tag core A s f st (unless_err (fault_of core.sizes A s) f (value A) (h A st))
 
   -- a step that moves nothing but what slots know
   views_moved : (core : State J) (A : List Step) (s : Step) (views : List (Option View)) → Stands tag core A → fault_of core.sizes A s ≡ None → DrainStays tag A s → OffsetsStay s → PagesStay s → is_bump s ≡ false → ((t : ℕ) → enters t s ≡ false) → ((t : ℕ) → leaves t s ≡ false) → views ≡ slot_views core.sizes (A ++ s ∷ []) → Stands tag (record { sizes = core.sizes; table = core.table; views = views; drain = core.drain; offsets = core.offsets; pages = core.pages }) (A ++ s ∷ [])
@@ -40,7 +39,7 @@ module _ {J : Type 0} (tag : J → ℕ) where
   -- an accepted look
   pub look_ok : (core : State J) (t r h : ℕ) (seen : View) → ((A : List Step) → Stands tag core A → Ok seen ≡ unless_fault (fault_of core.sizes A (Look t r h)) (view_of core.sizes t A)) → Made tag core (Look t r h) (record { sizes = core.sizes; table = core.table; views = set core.views t (Some (record { read_only = r; head = h; tail = seen.tail })); drain = core.drain; offsets = core.offsets; pages = core.pages }) (Ok (Looked (record { read_only = r; head = h; tail = seen.tail })))
   look_ok core t r h seen told A st =
-      let both : (fault_of core.sizes A (Look t r h) ≡ None) × (seen ≡ view_of core.sizes t A) = passed_is (fault_of core.sizes A (Look t r h)) seen (view_of core.sizes t A) (told A st) in
+      let both : (fault_of core.sizes A (Look t r h) ≡ None) × (seen ≡ view_of core.sizes t A) = unless_ok (fault_of core.sizes A (Look t r h)) seen (view_of core.sizes t A) (told A st) in
       let seated : is_protected t A ≡ true = (protected-none core.sizes A t (look-none core.sizes A t r h both.0).0).1 in
       let tail : seen_tail core.sizes t A ≡ seen.tail = sym (ap (λ (v : View). v.tail) both.1) in
       let new : View = record { read_only = r; head = h; tail = seen.tail } in
@@ -56,13 +55,13 @@ module _ {J : Type 0} (tag : J → ℕ) where
   look_fits core t r h seen at told =
       let A = at.0 in
       let st : Stands tag core A = at.1 in
-      let free : fault_of core.sizes A (Look t r h) ≡ None = (passed_is (fault_of core.sizes A (Look t r h)) seen (view_of core.sizes t A) (told A st)).0 in
+      let free : fault_of core.sizes A (Look t r h) ≡ None = (unless_ok (fault_of core.sizes A (Look t r h)) seen (view_of core.sizes t A) (told A st)).0 in
       omega (arith, (protected-none core.sizes A t (look-none core.sizes A t r h free).0).0, ap length st.views_is, length-slot_views core.sizes A)
 
   -- an accepted step that moves nothing
   nothing_moves : (core : State J) (s : Step) (r : Reply) → ((A : List Step) → DrainStays tag A s) → OffsetsStay s → PagesStay s → is_bump s ≡ false → ((t : ℕ) → enters t s ≡ false) → ((t : ℕ) → leaves t s ≡ false) → ((t : ℕ) → allocates t s ≡ false) → ((t : ℕ) → looked_read_only t s ≡ None) → ((t : ℕ) → looked_head t s ≡ None) → ((A : List Step) → answer_of core.sizes A (A ++ s ∷ []) s ≡ r) → ((A : List Step) → Stands tag core A → Ok (tt {0}) ≡ unless_fault (fault_of core.sizes A s) (tt {0})) → Made tag core s core (Ok r)
   nothing_moves core s r d o p no_bump e l a x y reply told A st =
-      let free : fault_of core.sizes A s ≡ None = (passed_is (fault_of core.sizes A s) (tt {0}) (tt {0}) (told A st)).0 in
+      let free : fault_of core.sizes A s ≡ None = (unless_ok (fault_of core.sizes A s) (tt {0}) (tt {0}) (told A st)).0 in
       accepted_step tag core core A s r free refl (reply A) (views_moved core A s core.views st free (d A) o p no_bump e l (st.views_is ∙ sym (slot_views-stay core.sizes A s e l a x y)))
 
   -- an accepted write and an accepted read

@@ -1,7 +1,7 @@
 -- Where a core stands after a raise and a shift, and its six offsets.
 use Rattle.std.proofs.Common.{◌≡◌, ℕ, ◌%◌, ◌<◌, ◌≤◌, List, [], ◌∷◌, ◌++◌, refl, sym, ap, ap₂, ◌∙◌, subst, arith, eq-eqb}
 use Rattle.std.specs.Prelude.{Some, None, Ok, Err}
-use Rattle.std.proofs.lemmas.Bool.{lt-leb, lt-ltb, le-ltb}
+use Rattle.std.proofs.lemmas.Bool.{lt-leb, lt-ltb}
 use Rattle.hl_model.specs.declared.fault.Fault.{Fault}
 use Rattle.hl_model.specs.declared.fault.Fault.TheVariants.{AboveFlushed}
 use Rattle.hl_model.specs.declared.step.Reply.TheVariants.{Raised, Shifted}
@@ -26,6 +26,7 @@ use Rattle.hl_core.proofs.TableLaws.{table_stays}
 use Rattle.hl_core.proofs.Refusals.{call_refuses, call_accepts}
 use Rattle.hl_core.proofs.QuietLaws.{safe_read_only-quiet, closed-quiet, tail-stays, pages-stay}
 use Rattle.hl_core.proofs.StandLaws.{refused_step, accepted_step, quiet_drain}
+use Rattle.hl_model.proofs.NoFaultLaws.{shift_lawful}
 
 -- the offsets after a raise and a shift
 log-raise : (sizes : Sizes) (A : List Step) (x : ℕ) → IsAccepted sizes A → fault_of sizes A (Raise x) ≡ None → log_of sizes (A ++ Raise x ∷ []) ≡ raised x (log_of sizes A)
@@ -37,9 +38,6 @@ log-shift sizes A x acc h = rw (closed-quiet sizes A (Shift x) acc refl, head-sh
 -- the fault of a shift that is above the head, at a page's start, and above the flushed offset or not
 shift_above : (page head flushed x : ℕ) → head < x → x % page ≡ 0 → flushed < x → shift_fault page head flushed x ≡ Some AboveFlushed
 shift_above page head flushed x h w f = rw (lt-leb x head h, eq-eqb (x % page) 0 w, lt-ltb flushed x f) refl
-
-shift_open : (page head flushed x : ℕ) → head < x → x % page ≡ 0 → x ≤ flushed → shift_fault page head flushed x ≡ None
-shift_open page head flushed x h w f = rw (lt-leb x head h, eq-eqb (x % page) 0 w, le-ltb flushed x f) refl
 
 module _ {J : Type 0} (tag : J → ℕ) where
   -- an accepted raise
@@ -97,7 +95,7 @@ module _ {J : Type 0} (tag : J → ℕ) where
 
   pub shift_free : (core : State J) (x told : ℕ) → told ≡ flushed_offset core.pages → core.offsets.head < x → x % core.sizes.page ≡ 0 → x ≤ told → (A : List Step) → Stands tag core A → Ok (tt {0}) ≡ unless_fault (fault_of core.sizes A (Shift x)) (tt {0})
   shift_free core x told t h w f A st =
-      sym (ap (λ o. unless_fault o (tt {0})) (shift_open core.sizes.page (head A) (flushed core.sizes A) x (omega (arith, h, ap (λ (z : Log). z.head) st.offsets_is)) w (omega (arith, f, t, flushed_is core A st))))
+      sym (ap (λ o. unless_fault o (tt {0})) (shift_lawful core.sizes.page (head A) (flushed core.sizes A) x (omega (arith, h, ap (λ (z : Log). z.head) st.offsets_is)) w (omega (arith, f, t, flushed_is core A st))))
 
   -- the six offsets
   pub six_is : (core : State J) (told : ℕ) (s : Six) → told ≡ flushed_offset core.pages → s ≡ six_of core.offsets told → (A : List Step) → Stands tag core A → s ≡ six core.sizes A

@@ -15,17 +15,18 @@ use Rattle.hl_model.specs.Epochs.{Table, table_of, is_bump, enters, current_epoc
 use Rattle.hl_model.specs.Views.{view_of, slot_views}
 use Rattle.hl_model.specs.Replies.{fault_of, acquire_fault, protected_fault, answer_of, unless_fault, unless_refused}
 use Rattle.hl_model.proofs.EpochLaws.{slot_epoch-enters, slot_epochs-acquire, slot_epochs-refresh, slot_epochs-release, epoch_of-slot_epoch}
-use Rattle.hl_model.proofs.NoFaultLaws.{protected-none}
+use Rattle.hl_model.proofs.NoFaultLaws.{protected-none, unless_ok}
 use Rattle.hl_model.proofs.ViewLaws.{slot_view-enters, slot_views-acquire, slot_views-refresh, slot_views-release, length-slot_views, view_of-slot_view}
 use Rattle.hl_epoch.specs.Faults.{acquire_fault as free_row_fault, protected_fault as row_fault}
 use Rattle.hl_epoch.specs.Table.{entered, left}
 use Rattle.hl_offsets.specs.Log.{Log}
 use Rattle.hl_core.specs.Standing.{State, Stands, IsStanding, log_of}
 use Rattle.hl_core.specs.Steps.{Stepped, Made}
-use Rattle.hl_core.proofs.TableLaws.{table_set, current-stays, acquire_fault-table, protected_fault-table}
+use Rattle.hl_core.proofs.TableLaws.{table_set, acquire_fault-table, protected_fault-table}
 use Rattle.hl_core.proofs.QuietLaws.{OffsetsStay, PagesStay, log-stays, pages-stay}
-use Rattle.hl_core.proofs.Refusals.{passed_is, call_accepts}
+use Rattle.hl_core.proofs.Refusals.{call_accepts}
 use Rattle.hl_core.proofs.StandLaws.{DrainStays, table_refused, accepted_step, quiet_drain}
+use Rattle.hl_model.proofs.LawProofs.{current-stay}
 
 -- the view of whoever enters now
 abbrev pub seen_now : Log → View
@@ -51,7 +52,7 @@ module _ {J : Type 0} (tag : J → ℕ) where
       let seen_is : view ≡ seen_now (log_of core.sizes A) = seen ∙ ap seen_now st.offsets_is in
       let views : set core.views t (Some view) ≡ slot_views core.sizes (A ++ s ∷ []) = ap₂ (λ xs (v : View). set xs t (Some v)) st.views_is seen_is ∙ sym rows in
       let epoch_is : epoch_of t (A ++ s ∷ []) ≡ epoch =
-      epoch_of-slot_epoch t (A ++ s ∷ []) (current_epoch A) (slot_epoch-enters t A s en) ∙ sym (current-stays A s no_bump) ∙ sym (ap (λ (z : Table). z.current) is) ∙ sym now in
+      epoch_of-slot_epoch t (A ++ s ∷ []) (current_epoch A) (slot_epoch-enters t A s en) ∙ sym (current-stay A s no_bump) ∙ sym (ap (λ (z : Table). z.current) is) ∙ sym now in
       let view_is : view_of core.sizes t (A ++ s ∷ []) ≡ view = seen-now core.sizes t A s en ∙ sym seen_is in
       accepted_step tag core (record { sizes = core.sizes; table = table; views = set core.views t (Some view); drain = core.drain; offsets = core.offsets; pages = core.pages }) A s (Entered epoch view) h refl (reply ∙ ap₂ (λ e v. Entered e v) epoch_is view_is)
       (slot_moved core A s table (set core.views t (Some view)) st h d o p is views)
@@ -109,12 +110,12 @@ module _ {J : Type 0} (tag : J → ℕ) where
   acquire_fits core t at h =
       let A = at.0 in
       let st : Stands tag core A = at.1 in
-      let free : acquire_fault core.sizes A t ≡ None = free_fault core t A st ∙ (passed_is (free_row_fault t core.table) (tt {0}) (tt {0}) h).0 in
+      let free : acquire_fault core.sizes A t ≡ None = free_fault core t A st ∙ (unless_ok (free_row_fault t core.table) (tt {0}) (tt {0}) h).0 in
       omega (arith, leb-false core.sizes.slots t (two_faults (leb core.sizes.slots t) (is_protected t A) NoSlot Occupied free).0, ap length st.views_is, length-slot_views core.sizes A)
 
   pub protected_fits : (core : State J) (t : ℕ) → IsStanding tag core → Ok (tt {0}) ≡ unless_fault (row_fault t core.table) (tt {0}) → t < length core.views
   protected_fits core t at h =
       let A = at.0 in
       let st : Stands tag core A = at.1 in
-      let seated : protected_fault core.sizes A t ≡ None = held_fault core t A st ∙ (passed_is (row_fault t core.table) (tt {0}) (tt {0}) h).0 in
+      let seated : protected_fault core.sizes A t ≡ None = held_fault core t A st ∙ (unless_ok (row_fault t core.table) (tt {0}) (tt {0}) h).0 in
       omega (arith, (protected-none core.sizes A t seated).0, ap length st.views_is, length-slot_views core.sizes A)

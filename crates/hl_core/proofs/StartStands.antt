@@ -7,7 +7,6 @@ use Rattle.std.proofs.lemmas.Bool.{le-ltb}
 use Rattle.hl_model.specs.declared.view.View.{View}
 use Rattle.hl_model.specs.Sizes.{Sizes, AreInRange}
 use Rattle.hl_model.specs.Epochs.{Table, slot_epochs, slot_epoch}
-use Rattle.hl_model.specs.Actions.{pending, taken}
 use Rattle.hl_model.specs.Settled.{safe_read_only, closed, settles, closes}
 use Rattle.hl_model.specs.Views.{slot_view, slot_views}
 use Rattle.hl_model.proofs.AcceptedLaws.{good-nil}
