@@ -15,10 +15,9 @@ use Rattle.hl_model.specs.Frames.{last_entered, state_of_page, frame_of}
 use Rattle.hl_model.specs.Snapshots.{six, AreInOrder}
 use Rattle.hl_model.specs.Replies.{IsAccepted}
 use Rattle.hl_model.proofs.RunLaws.{flushed_run-passes, flushed_run-fails}
-use Rattle.hl_frames.specs.Pages.{pages_below, flushed_offset, is_flushed as FLUSHED, flushed_run as FLUSHED_RUN}
+use Rattle.hl_frames.specs.Pages.{flushed_offset, is_flushed as FLUSHED, flushed_run as FLUSHED_RUN}
 use Rattle.hl_frames.specs.Answers.{state_in, state_of}
 use Rattle.hl_model.proofs.SearchLaws.{prefix_len-first}
-use Rattle.hl_model.proofs.PageFacts.{pages_more}
 use Rattle.hl_core.specs.Standing.{marked, pages_entered, pages_of}
 use Rattle.hl_core.proofs.PageRows.{frame_holds}
 use Rattle.hl_core.proofs.PageMarks.{page_some, in_order, is_flushed-is, ahead_unflushed}
@@ -110,13 +109,6 @@ pages_entered-is sizes A n some each none = by_order (cases_lt (pages_entered si
     by_order (inl lt) other = let over : pages_entered sizes A < pages_entered sizes A = entered_below sizes A (pages_entered sizes A) some (each (pages_entered sizes A) lt) in absurd (omega arith)
     by_order (inr ge) (inl gt) = absurd (both_ways (is_entered sizes n A) none (below_entered sizes A n some gt))
     by_order (inr ge) (inr le) = omega arith
-
--- sealed pages are entered
-pub sealed_within : (sizes : Sizes) (A : List Step) → AreInRange sizes → IsAccepted sizes A → pages_below (safe_read_only A) (pages_of sizes A) ≤ pages_entered sizes A
-sealed_within sizes A range a =
-    let order : AreInOrder sizes.page (six sizes A) = in_order sizes A range a in
-    pages_more sizes.page (safe_read_only A) (tail sizes A + sizes.page - 1) (page_some sizes range)
-    (omega (arith, page_some sizes range, order.safe_read_only_most, order.read_only_most))
 
 -- the next page isn't entered
 pub unentered_end : (sizes : Sizes) (A : List Step) → 0 < sizes.page → is_entered sizes (pages_entered sizes A) A ≡ false
