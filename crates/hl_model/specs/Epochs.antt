@@ -60,12 +60,16 @@ safe_among current epochs = least_or current (filter_map (λ epoch. epoch) epoch
 unfoldable pub safe_epoch : ℕ → List Step → ℕ
 safe_epoch n A = safe_among (current_epoch A) (slot_epochs n A)
 
--- what a table of epochs knows: the current epoch, each slot's epoch if it is protected, and the places of its drain list
+-- the window: how many epochs at most have ended and are not safe
+abbrev pub epoch_window : ℕ
+epoch_window = 4096
+
+-- what a table of epochs knows: the current epoch, each slot's epoch if it is protected, and its window
 pub record Table : Type 0 where
   pub current : ℕ
   pub epochs : List (Option ℕ)
-  pub drain : ℕ
+  pub window : ℕ
 
 -- the table of a list
 abbrev pub table_of : Sizes → List Step → Table
-table_of sizes A = record { current = current_epoch A; epochs = slot_epochs sizes.slots A; drain = sizes.drain }
+table_of sizes A = record { current = current_epoch A; epochs = slot_epochs sizes.slots A; window = epoch_window }
