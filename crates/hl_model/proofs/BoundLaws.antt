@@ -18,12 +18,12 @@ use Rattle.hl_model.specs.Headline.{placed}
 use Rattle.hl_model.proofs.ListLaws.{max-has, all-append, all-follows, never_falls}
 use Rattle.hl_model.proofs.AcceptedLaws.{IsAccepted-front, accepted_has}
 use Rattle.hl_model.proofs.EpochLaws.{slot_epoch-push, slot_epoch-nil, slot_epoch-range, safe_epoch-below}
-use Rattle.hl_model.proofs.ActionLaws.{actions-nil, actions-push}
-use Rattle.hl_model.proofs.DrainLaws.{finished-taken, takes-safe, protected-slot}
+use Rattle.hl_model.proofs.ActionLaws.{action_of-ticket, actions-nil, actions-push}
+use Rattle.hl_model.proofs.DrainLaws.{finished-safe, protected-slot}
 use Rattle.hl_model.proofs.LawProofs.{slot_epoch-protected, accepted_meets_no_fault}
 use Rattle.hl_model.proofs.NoFaultLaws.{raise-none, shift-none, size-none, allocate-none, look-none, write-none, protected-none}
 use Rattle.hl_model.proofs.OffsetLaws.{read_only-push, head-push, tail-push, read_only-nil, head-nil, tail-nil, read_only-grows, head-grows, tail-grows, place_of-le, place_of-one_page}
-use Rattle.hl_model.proofs.SettledLaws.{action_of-ticket, done_greatest-grows, done_greatest-le, done_greatest-has, settles-le, closes-le}
+use Rattle.hl_model.proofs.SettledLaws.{done_greatest-grows, done_greatest-le, done_greatest-has, settles-le, closes-le}
 use Rattle.hl_model.proofs.ViewLaws.{seen, seen-enters, seen-push}
 
 -- the safe read-only offset is at most the read-only offset
@@ -154,7 +154,7 @@ covered sizes stored looked offset t stores looks = accepted_has sizes (Covers s
 done-below : (sizes : Sizes) (A : List Step) (t c : ℕ) → IsAccepted sizes A → is_protected t A ≡ true → is_finished c A ≡ true → c < epoch_of t A
 done-below sizes A t c a p done =
     let seated : slot_epoch t A ≡ Some (epoch_of t A) = slot_epoch-protected t A p in
-    omega (arith, (finished-taken sizes c A a done).1, takes-safe sizes A a, safe_epoch-below sizes.slots A t (epoch_of t A) (protected-slot sizes t A a (epoch_of t A) seated) seated)
+    omega (arith, finished-safe sizes A c a done, safe_epoch-below sizes.slots A t (epoch_of t A) (protected-slot sizes t A a (epoch_of t A) seated) seated)
 
 -- so what is settled is at most what a protected slot saw
 settled-seen : (sizes : Sizes) (stored : Kind → ℕ) (looked : ℕ → Step → Option ℕ) (offset : List Step → ℕ) (A : List Step) (t : ℕ) → StoresOffset stored offset → LooksUp sizes looked offset t → IsAccepted sizes A → is_protected t A ≡ true → done_greatest stored A ≤ seen looked offset t A

@@ -1,23 +1,24 @@
 -- What holds of the drain list of every accepted list.
-use Rattle.std.proofs.Common.{◌≡◌, ℕ, zero, suc, ◌+◌, ◌-◌, ◌<◌, ◌≤◌, Bool, true, false, cond, not, ◌&&◌, leb, ltb, is_some, List, [], ◌∷◌, ◌++◌, length, take, refl, sym, ap, ◌∙◌, subst, arith, inl, inr, ◌⊎◌}
+use Rattle.std.proofs.Common.{◌≡◌, ℕ, ◌+◌, ◌-◌, ◌<◌, ◌≤◌, Bool, true, false, cond, not, ◌&&◌, ◌||◌, leb, ltb, is_some, List, [], ◌∷◌, ◌++◌, length, take, refl, sym, ap, ◌∙◌, subst, arith, append-nil, take_all, le_trans, inl, inr, ◌⊎◌}
 use Rattle.std.specs.Prelude.{◌==◌, Option, Some, None}
-use Rattle.std.specs.List.{filter}
-use Rattle.std.proofs.lemmas.Bool.{eqb-true, eqb-false, ltb-false, leb-true, leb-false, le-leb, lt-leb, lt-ltb, le-ltb, and_parts, and_right, not-true, or_cases, false_from_ne_true, cases_lt}
+use Rattle.std.specs.List.{AllByRecursion, filter, list_any}
+use Rattle.std.proofs.lemmas.Bool.{eqb-true, eqb-false, ltb-false, leb-false, and_parts, not-true, or_cases, false_from_ne_true}
 use Rattle.std.proofs.lemmas.List.{length_push}
 use Rattle.hl_model.specs.declared.action.Waiting.{Waiting}
 use Rattle.hl_model.specs.declared.fault.Fault.{Fault}
-use Rattle.hl_model.specs.declared.fault.Fault.TheVariants.{NoSlot, Occupied, NotProtected, DrainFull, EpochsSpent, Empty, NotReady, NotTaken}
+use Rattle.hl_model.specs.declared.fault.Fault.TheVariants.{NoSlot, Occupied, NotProtected, DrainFull, EpochsSpent, Empty, NotReady, NotTaken, WindowFull}
 use Rattle.hl_model.specs.declared.step.Step.{Step}
-use Rattle.hl_model.specs.declared.step.Step.TheVariants.{Acquire, Refresh, Bump, Take, Done}
+use Rattle.hl_model.specs.declared.step.Step.TheVariants.{Acquire, Refresh, Bump, Settle, Close, Bare, Take, Done}
 use Rattle.hl_model.specs.Sizes.{Sizes}
-use Rattle.hl_model.specs.Epochs.{is_bump, enters, leaves, current_epoch, is_protected, slot_epoch, safe_epoch}
-use Rattle.hl_model.specs.Actions.{is_take, is_done, finishes, bumps, takes, dones, actions, is_finished, pending, taken, is_taken, is_full, action_at}
-use Rattle.hl_model.specs.Replies.{epoch_last, fault_of, bump_fault, IsAccepted}
-use Rattle.hl_model.proofs.ListLaws.{one_where, none_where}
+use Rattle.hl_model.specs.Epochs.{epoch_window, is_bump, enters, leaves, current_epoch, is_protected, slot_epoch, safe_epoch}
+use Rattle.hl_model.specs.Actions.{stores, is_take, is_done, finishes, takes, dones, action_of, actions, is_finished, pending, front, ever_taken, taken, is_taken, is_full, action_at}
+use Rattle.hl_model.specs.Replies.{epoch_last, fault_of, bare_fault, bump_fault, IsAccepted}
+use Rattle.hl_model.proofs.ListLaws.{one_where, none_where, all-append, all-follows}
 use Rattle.hl_model.proofs.AcceptedLaws.{accepted_has}
-use Rattle.hl_model.proofs.ActionLaws.{bumps-push, takes-push, takes-stay, dones-push, current_epoch-bumps, is_finished-push, tickets-actions, length-pending, taken-stores, taken-take, taken-done, ticket-front, bumps-nil, takes-nil, taken-nil}
-use Rattle.hl_model.proofs.EpochLaws.{slot_epoch-push, slot_epoch-nil, safe_epoch-push}
-use Rattle.hl_model.proofs.TicketLaws.{of_ticket, Rising, Rising-range, Rising-take, Rising-filter, length-removed, of_ticket-filter, of_ticket-take, of_ticket-some, of_ticket-below}
+use Rattle.hl_model.proofs.ActionLaws.{takes-push, takes-stay, dones-push, is_finished-push, actions-push, actions-nil, length-actions-push, actions-rising, length-pending, ever_taken-stay, ever_taken-take, ever_taken-nil, taken-stores, taken-take, taken-done, ticket-front, takes-nil, taken-nil}
+use Rattle.hl_model.proofs.EpochLaws.{current_epoch-push, current_epoch-nil, slot_epoch-push, slot_epoch-nil, safe_epoch-push}
+use Rattle.hl_model.proofs.TicketLaws.{of_ticket, Rising, Rising-take, Rising-filter, front-new, length-removed, of_ticket-filter, find-take, any-front, found-any}
+use Rattle.hl_model.proofs.NoFaultLaws.{later_fault}
 
 -- no fault of two: neither test holds
 pub two_faults : (b c : Bool) (f g : Fault) → cond b (Some f) (cond c (Some g) None) ≡ None → (b ≡ false) × (c ≡ false)
@@ -26,14 +27,18 @@ two_faults false true f g h = cc
 two_faults false false f g h = (refl, refl)
 
 -- a take without a fault: some action is pending, and the front is safe
-pub take_fault-none : (sizes : Sizes) (A : List Step) → fault_of sizes A Take ≡ None → (0 < length (pending A)) × (takes A + 1 ≤ safe_epoch sizes.slots A)
+pub take_fault-none : (sizes : Sizes) (A : List Step) → fault_of sizes A Take ≡ None → (0 < length (pending A)) × (front A ≤ safe_epoch sizes.slots A)
 take_fault-none sizes A h =
-    let tests : ((length (pending A) == 0) ≡ false) × (ltb (safe_epoch sizes.slots A) (takes A + 1) ≡ false) = two_faults (length (pending A) == 0) (ltb (safe_epoch sizes.slots A) (takes A + 1)) Empty (NotReady (takes A + 1) (safe_epoch sizes.slots A)) h in
-    (omega (arith, eqb-false (length (pending A)) 0 tests.0), ltb-false (safe_epoch sizes.slots A) (takes A + 1) tests.1)
+    let tests : ((length (pending A) == 0) ≡ false) × (ltb (safe_epoch sizes.slots A) (front A) ≡ false) = two_faults (length (pending A) == 0) (ltb (safe_epoch sizes.slots A) (front A)) Empty (NotReady (front A) (safe_epoch sizes.slots A)) h in
+    (omega (arith, eqb-false (length (pending A)) 0 tests.0), ltb-false (safe_epoch sizes.slots A) (front A) tests.1)
 
--- a step that stores an action, without a fault: there is room, and an epoch
-pub bump_fault-none : (sizes : Sizes) (A : List Step) → bump_fault sizes A ≡ None → (is_full sizes.drain A ≡ false) × ((current_epoch A == epoch_last) ≡ false)
-bump_fault-none sizes A h = two_faults (is_full sizes.drain A) (current_epoch A == epoch_last) DrainFull EpochsSpent h
+-- a bare bump without a fault: there is an epoch, and the window has room
+pub bare_fault-none : (sizes : Sizes) (A : List Step) → bare_fault sizes A ≡ None → ((current_epoch A == epoch_last) ≡ false) × ((current_epoch A - 1 - safe_epoch sizes.slots A == epoch_window) ≡ false)
+bare_fault-none sizes A h = two_faults (current_epoch A == epoch_last) (current_epoch A - 1 - safe_epoch sizes.slots A == epoch_window) EpochsSpent WindowFull h
+
+-- a bump that stores an action, without a fault: there is room, and a bare bump would meet none
+pub bump_fault-none : (sizes : Sizes) (A : List Step) → bump_fault sizes A ≡ None → (is_full sizes.drain A ≡ false) × (bare_fault sizes A ≡ None)
+bump_fault-none sizes A h = later_fault (is_full sizes.drain A) DrainFull (bare_fault sizes A) h
 
 one_fault : (b : Bool) (f : Fault) → cond b None (Some f) ≡ None → b ≡ true
 one_fault true f h = refl
@@ -43,13 +48,16 @@ one_fault false f h = cc
 pub done_fault-none : (sizes : Sizes) (A : List Step) (c : ℕ) → fault_of sizes A (Done c) ≡ None → is_taken c A ≡ true
 done_fault-none sizes A c h = one_fault (is_taken c A) NotTaken h
 
+-- ticket c is that of an action ever taken
+abbrev pub was_taken : ℕ → List Step → Bool
+was_taken c A = list_any (λ w. w.ticket == c) (ever_taken A)
+
 -- what it is to be taken and not done
-pub is_taken-parts : (c : ℕ) (A : List Step) → is_taken c A ≡ true → (1 ≤ c) × (c ≤ takes A) × (is_finished c A ≡ false)
+pub is_taken-parts : (c : ℕ) (A : List Step) → is_taken c A ≡ true → (was_taken c A ≡ true) × (is_finished c A ≡ false)
 unfolding is_taken
 is_taken-parts c A h =
-    let outer : ((leb 1 c && leb c (takes A)) ≡ true) × (not (is_finished c A) ≡ true) = and_parts (leb 1 c && leb c (takes A)) (not (is_finished c A)) h in
-    let inner : (leb 1 c ≡ true) × (leb c (takes A) ≡ true) = and_parts (leb 1 c) (leb c (takes A)) outer.0 in
-    (leb-true 1 c inner.0, leb-true c (takes A) inner.1, not-true (is_finished c A) outer.1)
+    let parts : (was_taken c A ≡ true) × (not (is_finished c A) ≡ true) = and_parts (was_taken c A) (not (is_finished c A)) h in
+    (parts.0, not-true (is_finished c A) parts.1)
 
 dones-nil : dones [] ≡ 0
 unfolding dones
@@ -69,7 +77,7 @@ dones-stay : (A : List Step) (s : Step) → is_done s ≡ false → dones (A ++ 
 dones-stay A s e = omega (arith, dones-push A s, none_where (is_done s) e)
 
 -- the one step that takes
-is_take-only : (s : Step) → is_take s ≡ true → s ≡ Take
+pub is_take-only : (s : Step) → is_take s ≡ true → s ≡ Take
 is_take-only Take h = refl
 is_take-only _ h = cc
 
@@ -79,88 +87,98 @@ finishes-only c (Done ticket) h = ap Done (eqb-true ticket c h)
 finishes-only c _ h = cc
 
 -- no more is taken than was stored
-pub takes-le-bumps : (sizes : Sizes) (A : List Step) → IsAccepted sizes A → takes A ≤ bumps A
-takes-le-bumps sizes = accepted_has sizes (λ A. takes A ≤ bumps A) none step
+pub takes-le-actions : (sizes : Sizes) (A : List Step) → IsAccepted sizes A → takes A ≤ length (actions A)
+takes-le-actions sizes = accepted_has sizes (λ A. takes A ≤ length (actions A)) none step
   where
-    none : takes [] ≤ bumps []
+    none : takes [] ≤ length (actions [])
     none = omega (arith, takes-nil)
 
-    step : (A : List Step) (s : Step) → IsAccepted sizes A → fault_of sizes A s ≡ None → takes A ≤ bumps A → takes (A ++ s ∷ []) ≤ bumps (A ++ s ∷ [])
+    step : (A : List Step) (s : Step) → IsAccepted sizes A → fault_of sizes A s ≡ None → takes A ≤ length (actions A) → takes (A ++ s ∷ []) ≤ length (actions (A ++ s ∷ []))
     step A s a h le = by_test (is_take s) refl
       where
-        by_test : (b : Bool) → is_take s ≡ b → takes (A ++ s ∷ []) ≤ bumps (A ++ s ∷ [])
+        by_test : (b : Bool) → is_take s ≡ b → takes (A ++ s ∷ []) ≤ length (actions (A ++ s ∷ []))
         by_test true e =
-            let left : (0 < length (pending A)) × (takes A + 1 ≤ safe_epoch sizes.slots A) = take_fault-none sizes A (subst (λ (x : Step). fault_of sizes A x ≡ None) (is_take-only s e) h) in
-            omega (arith, left.0, length-pending A, takes-more A s e, bumps-push A s)
-        by_test false e = omega (arith, takes-stay A s e, bumps-push A s)
+            let left : (0 < length (pending A)) × (front A ≤ safe_epoch sizes.slots A) = take_fault-none sizes A (subst (λ (x : Step). fault_of sizes A x ≡ None) (is_take-only s e) h) in
+            omega (arith, left.0, length-pending A, takes-more A s e, length-actions-push A s)
+        by_test false e = omega (arith, takes-stay A s e, length-actions-push A s)
+
+-- what was taken stays taken
+was_taken-grows : (c : ℕ) (A : List Step) (s : Step) → was_taken c A ≡ true → was_taken c (A ++ s ∷ []) ≡ true
+unfolding ever_taken
+was_taken-grows c A s h =
+    ap (λ ws. list_any (λ w. w.ticket == c) (take (takes (A ++ s ∷ [])) ws)) (actions-push A s)
+    ∙ any-front (λ w. w.ticket == c) (takes A) (takes (A ++ s ∷ [])) (actions A) (action_of A s) (omega (arith, takes-push A s)) h
 
 -- a finished ticket was taken
-pub finished-taken : (sizes : Sizes) (c : ℕ) (A : List Step) → IsAccepted sizes A → is_finished c A ≡ true → (1 ≤ c) × (c ≤ takes A)
-finished-taken sizes c = accepted_has sizes (λ A. is_finished c A ≡ true → (1 ≤ c) × (c ≤ takes A)) none step
+pub finished-taken : (sizes : Sizes) (c : ℕ) (A : List Step) → IsAccepted sizes A → is_finished c A ≡ true → was_taken c A ≡ true
+finished-taken sizes c = accepted_has sizes (λ A. is_finished c A ≡ true → was_taken c A ≡ true) none step
   where
-    none : is_finished c [] ≡ true → (1 ≤ c) × (c ≤ takes [])
+    none : is_finished c [] ≡ true → was_taken c [] ≡ true
     none h = let no : is_finished c [] ≡ false = is_finished-nil c in cc
 
-    step : (A : List Step) (s : Step) → IsAccepted sizes A → fault_of sizes A s ≡ None → (is_finished c A ≡ true → (1 ≤ c) × (c ≤ takes A)) → is_finished c (A ++ s ∷ []) ≡ true → (1 ≤ c) × (c ≤ takes (A ++ s ∷ []))
-    step A s a h before now = by_part (or_cases (is_finished c A) (finishes c s) (sym (is_finished-push c A s) ∙ now))
+    step : (A : List Step) (s : Step) → IsAccepted sizes A → fault_of sizes A s ≡ None → (is_finished c A ≡ true → was_taken c A ≡ true) → is_finished c (A ++ s ∷ []) ≡ true → was_taken c (A ++ s ∷ []) ≡ true
+    step A s a h before now = was_taken-grows c A s (by_part (or_cases (is_finished c A) (finishes c s) (sym (is_finished-push c A s) ∙ now)))
       where
-        by_part : ((is_finished c A ≡ true) ⊎ (finishes c s ≡ true)) → (1 ≤ c) × (c ≤ takes (A ++ s ∷ []))
-        by_part (inl e) = let old : (1 ≤ c) × (c ≤ takes A) = before e in (old.0, omega (arith, old.1, takes-push A s))
-        by_part (inr e) =
-            let parts : (1 ≤ c) × (c ≤ takes A) × (is_finished c A ≡ false) = is_taken-parts c A (done_fault-none sizes A c (subst (λ (x : Step). fault_of sizes A x ≡ None) (finishes-only c s e) h)) in
-            (parts.0, omega (arith, parts.1, takes-push A s))
+        by_part : ((is_finished c A ≡ true) ⊎ (finishes c s ≡ true)) → was_taken c A ≡ true
+        by_part (inl e) = before e
+        by_part (inr e) = (is_taken-parts c A (done_fault-none sizes A c (subst (λ (x : Step). fault_of sizes A x ≡ None) (finishes-only c s e) h))).0
+
+-- no action still pending has a ticket that was taken
+pub pending-untaken : (A : List Step) (w : Waiting) (ws : List Waiting) → pending A ≡ w ∷ ws → was_taken w.ticket A ≡ false
+unfolding ever_taken pending
+pending-untaken A w ws h = front-new 0 (takes A) (actions A) w ws (actions-rising A) h
 
 -- the action that a take would name isn't done
 front-unfinished : (sizes : Sizes) (A : List Step) (w : Waiting) (ws : List Waiting) → IsAccepted sizes A → pending A ≡ w ∷ ws → is_finished w.ticket A ≡ false
 front-unfinished sizes A w ws a h =
-    false_from_ne_true (is_finished w.ticket A) (λ done. let old : (1 ≤ w.ticket) × (w.ticket ≤ takes A) = finished-taken sizes w.ticket A a done in omega (arith, old.1, ticket-front A w ws h))
+    false_from_ne_true (is_finished w.ticket A) (λ done. let was : was_taken w.ticket A ≡ true = finished-taken sizes w.ticket A a done in let new : was_taken w.ticket A ≡ false = pending-untaken A w ws h in cc)
 
 -- a take moves the first pending action behind those taken
 pub taken-next : (sizes : Sizes) (A : List Step) (w : Waiting) (ws : List Waiting) → IsAccepted sizes A → pending A ≡ w ∷ ws → taken (A ++ Take ∷ []) ≡ taken A ++ w ∷ []
 taken-next sizes A w ws a h = taken-take A w ws h (front-unfinished sizes A w ws a h)
 
--- the taken tickets rise
+-- the tickets ever taken rise
+pub ever_taken-rising : (A : List Step) → Rising 0 (ever_taken A)
+unfolding ever_taken
+ever_taken-rising A = Rising-take (takes A) 0 (actions A) (actions-rising A)
+
+-- and so do those taken
 pub Rising-taken : (A : List Step) → Rising 0 (taken A)
 unfolding taken
-Rising-taken A = Rising-filter (λ w. not (is_finished w.ticket A)) 0 (take (takes A) (actions A)) (Rising-take (takes A) 0 (actions A) (Rising-range (actions A) 1 (bumps A) 0 (omega arith) (tickets-actions A)))
+Rising-taken A = Rising-filter (λ w. not (is_finished w.ticket A)) 0 (ever_taken A) (ever_taken-rising A)
 
-taken_or_not : (done : Bool) (c m : ℕ) (o : Option Waiting) → (c ≡ 0 → o ≡ None) → cond (not done) (cond (ltb c (1 + m)) o None) None ≡ cond ((leb 1 c && leb c m) && not done) o None
-taken_or_not true c m o h = rw (and_right (leb 1 c && leb c m) false refl) refl
-taken_or_not false zero m o h = rw (h refl) (none_twice (ltb zero (1 + m)) ((leb 1 zero && leb zero m) && true))
-  where
-    none_twice : (b d : Bool) → cond {A = Option Waiting} b None None ≡ cond d None None
-    none_twice true true = refl
-    none_twice true false = refl
-    none_twice false true = refl
-    none_twice false false = refl
-taken_or_not false (suc k) m o h = by_order (cases_lt (suc k) (1 + m))
-  where
-    by_order : ((suc k < 1 + m) ⊎ (1 + m ≤ suc k)) → cond (ltb (suc k) (1 + m)) o None ≡ cond ((leb 1 (suc k) && leb (suc k) m) && true) o None
-    by_order (inl lt) = rw (lt-ltb (suc k) (1 + m) lt, le-leb 1 (suc k) (omega arith), le-leb (suc k) m (omega arith)) refl
-    by_order (inr ge) = rw (le-ltb (suc k) (1 + m) ge, le-leb 1 (suc k) (omega arith), lt-leb (suc k) m (omega arith)) refl
+-- two tests, one after the other
+both_tests : (b c : Bool) (o : Option Waiting) → cond b (cond c o None) None ≡ cond (c && b) o None
+both_tests true true o = refl
+both_tests true false o = refl
+both_tests false true o = refl
+both_tests false false o = refl
 
 -- what the taken actions have under a ticket
 pub of_ticket-taken : (c : ℕ) (A : List Step) → of_ticket c (taken A) ≡ cond (is_taken c A) (action_at c A) None
-unfolding taken is_taken action_at
+unfolding taken ever_taken is_taken action_at
 of_ticket-taken c A =
     of_ticket-filter (λ t. not (is_finished t A)) c (take (takes A) (actions A))
-    ∙ ap (λ o. cond (not (is_finished c A)) o None) (of_ticket-take c 1 (bumps A) (takes A) (actions A) (tickets-actions A))
-    ∙ taken_or_not (is_finished c A) c (takes A) (of_ticket c (actions A))
-    (λ e. of_ticket-below c 0 (actions A) (omega (arith, e)) (Rising-range (actions A) 1 (bumps A) 0 (omega arith) (tickets-actions A)))
+    ∙ ap (λ o. cond (not (is_finished c A)) o None) (find-take (λ w. w.ticket == c) (takes A) (actions A))
+    ∙ both_tests (not (is_finished c A)) (list_any (λ w. w.ticket == c) (take (takes A) (actions A))) (of_ticket c (actions A))
 
--- a taken ticket has an action
-pub action_at-some : (sizes : Sizes) (c : ℕ) (A : List Step) → IsAccepted sizes A → is_taken c A ≡ true → is_some (action_at c A) ≡ true
+-- a ticket that was taken has an action
+pub action_at-some : (c : ℕ) (A : List Step) → is_taken c A ≡ true → is_some (action_at c A) ≡ true
 unfolding action_at
-action_at-some sizes c A a h =
-    let parts : (1 ≤ c) × (c ≤ takes A) × (is_finished c A ≡ false) = is_taken-parts c A h in
-    of_ticket-some c 1 (bumps A) (actions A) (tickets-actions A) parts.0 (omega (arith, parts.1, takes-le-bumps sizes A a))
+action_at-some c A h = sym (found-any (λ w. w.ticket == c) (actions A)) ∙ was (is_taken-parts c A h).0
+  where
+    was : was_taken c A ≡ true → list_any (λ w. w.ticket == c) (actions A) ≡ true
+    unfolding ever_taken
+    was k =
+        ap (list_any (λ w. w.ticket == c)) (sym (append-nil (actions A)) ∙ sym (take_all (takes A + length (actions A)) (actions A ++ []) (omega (arith, ap length (append-nil (actions A))))))
+        ∙ any-front (λ w. w.ticket == c) (takes A) (takes A + length (actions A)) (actions A) [] (omega arith) k
 
 -- a ticket is taken and not done exactly where it is among the taken ones
-pub is_taken-found : (sizes : Sizes) (c : ℕ) (A : List Step) → IsAccepted sizes A → is_some (of_ticket c (taken A)) ≡ is_taken c A
-is_taken-found sizes c A a = ap is_some (of_ticket-taken c A) ∙ by_test (is_taken c A) refl
+pub is_taken-found : (c : ℕ) (A : List Step) → is_some (of_ticket c (taken A)) ≡ is_taken c A
+is_taken-found c A = ap is_some (of_ticket-taken c A) ∙ by_test (is_taken c A) refl
   where
     by_test : (b : Bool) → is_taken c A ≡ b → is_some (cond b (action_at c A) None) ≡ b
-    by_test true e = action_at-some sizes c A a e
+    by_test true e = action_at-some c A e
     by_test false e = refl
 
 -- the one step that finishes anything
@@ -197,7 +215,7 @@ taken-dones sizes = accepted_has sizes (λ A. length (taken A) + dones A ≡ tak
         by_test : (b d : Bool) → is_take s ≡ b → is_done s ≡ d → length (taken (A ++ s ∷ [])) + dones (A ++ s ∷ []) ≡ takes (A ++ s ∷ [])
         by_test true d e f =
             let is : s ≡ Take = is_take-only s e in
-            let some : (0 < length (pending A)) × (takes A + 1 ≤ safe_epoch sizes.slots A) = take_fault-none sizes A (subst (λ (x : Step). fault_of sizes A x ≡ None) is h) in
+            let some : (0 < length (pending A)) × (front A ≤ safe_epoch sizes.slots A) = take_fault-none sizes A (subst (λ (x : Step). fault_of sizes A x ≡ None) is h) in
             let next : (w : Waiting) × (ws : List Waiting) × (pending A ≡ w ∷ ws) = first_pending A some.0 in
             let longer : length (taken (A ++ s ∷ [])) ≡ length (taken A ++ next.0 ∷ []) = ap (λ x. length (taken (A ++ x ∷ []))) is ∙ ap length (taken-next sizes A next.0 next.1 a next.2) in
             omega (arith, longer, length_push (taken A) next.0, takes-more A s e, dones-stay A s (is_take-is_done s e))
@@ -205,37 +223,47 @@ taken-dones sizes = accepted_has sizes (λ A. length (taken A) + dones A ≡ tak
             let is : (c : ℕ) × (s ≡ Done c) = is_done-only s f in
             let held : is_taken is.0 A ≡ true = done_fault-none sizes A is.0 (subst (λ (x : Step). fault_of sizes A x ≡ None) is.1 h) in
             let shorter : length (taken (A ++ s ∷ [])) ≡ length (filter (λ w. not (is.0 == w.ticket)) (taken A)) = ap (λ x. length (taken (A ++ x ∷ []))) is.1 ∙ ap length (taken-done A is.0) in
-            omega (arith, shorter, length-removed is.0 0 (taken A) (Rising-taken A) (is_taken-found sizes is.0 A a ∙ held), takes-stay A s e, dones-more A s f)
+            omega (arith, shorter, length-removed is.0 0 (taken A) (Rising-taken A) (is_taken-found is.0 A ∙ held), takes-stay A s e, dones-more A s f)
         by_test false false e f =
-            omega (arith, ap length (taken-stores A s (takes-le-bumps sizes A a) e (λ c. finishes-none c s f)), takes-stay A s e, dones-stay A s f)
+            omega (arith, ap length (taken-stores A s (takes-le-actions sizes A a) e (λ c. finishes-none c s f)), takes-stay A s e, dones-stay A s f)
 
--- a step that bumps, without a fault
-pub bump-none : (sizes : Sizes) (A : List Step) (s : Step) → is_bump s ≡ true → fault_of sizes A s ≡ None → bump_fault sizes A ≡ None
-bump-none sizes A (Bump tag) e h = h
+-- a bump of any kind, without a fault
+pub bump-none : (sizes : Sizes) (A : List Step) (s : Step) → is_bump s ≡ true → fault_of sizes A s ≡ None → bare_fault sizes A ≡ None
+bump-none sizes A (Bump tag) e h = (bump_fault-none sizes A h).1
+bump-none sizes A Settle e h = (bump_fault-none sizes A h).1
+bump-none sizes A Close e h = (bump_fault-none sizes A h).1
+bump-none sizes A Bare e h = h
 bump-none sizes A _ e h = cc
 
-not_full : (d : ℕ) (A : List Step) → is_full d A ≡ false → (bumps A - dones A ≡ d → ⊥)
+-- one that stores an action
+pub stores-none : (sizes : Sizes) (A : List Step) (s : Step) → stores s ≡ true → fault_of sizes A s ≡ None → is_full sizes.drain A ≡ false
+stores-none sizes A (Bump tag) e h = (bump_fault-none sizes A h).0
+stores-none sizes A Settle e h = (bump_fault-none sizes A h).0
+stores-none sizes A Close e h = (bump_fault-none sizes A h).0
+stores-none sizes A _ e h = cc
+
+not_full : (d : ℕ) (A : List Step) → is_full d A ≡ false → (length (actions A) - dones A ≡ d → ⊥)
 unfolding is_full
-not_full d A h = eqb-false (bumps A - dones A) d h
+not_full d A h = eqb-false (length (actions A) - dones A) d h
 
 -- the drain list has no more actions than places
-pub bumps-dones : (sizes : Sizes) (A : List Step) → IsAccepted sizes A → bumps A - dones A ≤ sizes.drain
-bumps-dones sizes = accepted_has sizes (λ A. bumps A - dones A ≤ sizes.drain) none step
+pub actions-dones : (sizes : Sizes) (A : List Step) → IsAccepted sizes A → length (actions A) - dones A ≤ sizes.drain
+actions-dones sizes = accepted_has sizes (λ A. length (actions A) - dones A ≤ sizes.drain) none step
   where
-    none : bumps [] - dones [] ≤ sizes.drain
-    none = omega (arith, bumps-nil, dones-nil)
+    none : length (actions []) - dones [] ≤ sizes.drain
+    none = omega (arith, ap length actions-nil, dones-nil)
 
-    step : (A : List Step) (s : Step) → IsAccepted sizes A → fault_of sizes A s ≡ None → bumps A - dones A ≤ sizes.drain → bumps (A ++ s ∷ []) - dones (A ++ s ∷ []) ≤ sizes.drain
-    step A s a h before = by_test (is_bump s) refl
+    step : (A : List Step) (s : Step) → IsAccepted sizes A → fault_of sizes A s ≡ None → length (actions A) - dones A ≤ sizes.drain → length (actions (A ++ s ∷ [])) - dones (A ++ s ∷ []) ≤ sizes.drain
+    step A s a h before = by_test (stores s) refl
       where
-        by_test : (b : Bool) → is_bump s ≡ b → bumps (A ++ s ∷ []) - dones (A ++ s ∷ []) ≤ sizes.drain
+        by_test : (b : Bool) → stores s ≡ b → length (actions (A ++ s ∷ [])) - dones (A ++ s ∷ []) ≤ sizes.drain
         by_test true e =
-            omega (arith, before, not_full sizes.drain A (bump_fault-none sizes A (bump-none sizes A s e h)).0, bumps-push A s, one_where (is_bump s) e, dones-push A s)
-        by_test false e = omega (arith, before, bumps-push A s, none_where (is_bump s) e, dones-push A s)
+            omega (arith, before, not_full sizes.drain A (stores-none sizes A s e h), length-actions-push A s, one_where (stores s) e, dones-push A s)
+        by_test false e = omega (arith, before, length-actions-push A s, none_where (stores s) e, dones-push A s)
 
--- pending and taken actions are bumps less dones
-pub length-both : (sizes : Sizes) (A : List Step) → IsAccepted sizes A → length (pending A) + length (taken A) ≡ bumps A - dones A
-length-both sizes A a = omega (arith, length-pending A, taken-dones sizes A a, takes-le-bumps sizes A a)
+-- pending and taken actions are those stored less dones
+pub length-both : (sizes : Sizes) (A : List Step) → IsAccepted sizes A → length (pending A) + length (taken A) ≡ length (actions A) - dones A
+length-both sizes A a = omega (arith, length-pending A, taken-dones sizes A a, takes-le-actions sizes A a)
 
 -- the list is full where its two parts have as many actions as it has places
 pub is_full-both : (sizes : Sizes) (d : ℕ) (A : List Step) → IsAccepted sizes A → is_full d A ≡ (length (pending A) + length (taken A) == d)
@@ -243,28 +271,64 @@ unfolding is_full
 is_full-both sizes d A a = ap (λ n. n == d) (sym (length-both sizes A a))
 
 -- what was taken is safe
-pub takes-safe : (sizes : Sizes) (A : List Step) → IsAccepted sizes A → takes A ≤ safe_epoch sizes.slots A
-takes-safe sizes = accepted_has sizes (λ A. takes A ≤ safe_epoch sizes.slots A) none step
+pub ever_taken-safe : (sizes : Sizes) (A : List Step) → IsAccepted sizes A → AllByRecursion (λ w. w.ticket ≤ safe_epoch sizes.slots A) (ever_taken A)
+ever_taken-safe sizes = accepted_has sizes (λ A. AllByRecursion (λ w. w.ticket ≤ safe_epoch sizes.slots A) (ever_taken A)) none step
   where
-    none : takes [] ≤ safe_epoch sizes.slots []
-    none = omega (arith, takes-nil)
+    none : AllByRecursion (λ w. w.ticket ≤ safe_epoch sizes.slots []) (ever_taken [])
+    none = subst (AllByRecursion (λ w. w.ticket ≤ safe_epoch sizes.slots [])) (sym ever_taken-nil) tt
 
-    step : (A : List Step) (s : Step) → IsAccepted sizes A → fault_of sizes A s ≡ None → takes A ≤ safe_epoch sizes.slots A → takes (A ++ s ∷ []) ≤ safe_epoch sizes.slots (A ++ s ∷ [])
+    step : (A : List Step) (s : Step) → IsAccepted sizes A → fault_of sizes A s ≡ None → AllByRecursion (λ w. w.ticket ≤ safe_epoch sizes.slots A) (ever_taken A) → AllByRecursion (λ w. w.ticket ≤ safe_epoch sizes.slots (A ++ s ∷ [])) (ever_taken (A ++ s ∷ []))
     step A s a h before = by_test (is_take s) refl
       where
-        by_test : (b : Bool) → is_take s ≡ b → takes (A ++ s ∷ []) ≤ safe_epoch sizes.slots (A ++ s ∷ [])
+        later : AllByRecursion (λ w. w.ticket ≤ safe_epoch sizes.slots (A ++ s ∷ [])) (ever_taken A)
+        later =
+            all-follows (λ w. w.ticket ≤ safe_epoch sizes.slots A) (λ w. w.ticket ≤ safe_epoch sizes.slots (A ++ s ∷ [])) (ever_taken A)
+            (λ w le. le_trans le (safe_epoch-push sizes.slots A s)) before
+
+        by_test : (b : Bool) → is_take s ≡ b → AllByRecursion (λ w. w.ticket ≤ safe_epoch sizes.slots (A ++ s ∷ [])) (ever_taken (A ++ s ∷ []))
         by_test true e =
-            let ready : (0 < length (pending A)) × (takes A + 1 ≤ safe_epoch sizes.slots A) = take_fault-none sizes A (subst (λ (x : Step). fault_of sizes A x ≡ None) (is_take-only s e) h) in
-            omega (arith, ready.1, takes-more A s e, safe_epoch-push sizes.slots A s)
-        by_test false e = omega (arith, takes-stay A s e, safe_epoch-push sizes.slots A s)
+            let is : s ≡ Take = is_take-only s e in
+            let ready : (0 < length (pending A)) × (front A ≤ safe_epoch sizes.slots A) = take_fault-none sizes A (subst (λ (x : Step). fault_of sizes A x ≡ None) is h) in
+            let next : (w : Waiting) × (ws : List Waiting) × (pending A ≡ w ∷ ws) = first_pending A ready.0 in
+            let more : ever_taken (A ++ s ∷ []) ≡ ever_taken A ++ next.0 ∷ [] = ap (λ x. ever_taken (A ++ x ∷ [])) is ∙ ever_taken-take A next.0 next.1 next.2 in
+            subst (AllByRecursion (λ w. w.ticket ≤ safe_epoch sizes.slots (A ++ s ∷ []))) (sym more)
+            (all-append (λ w. w.ticket ≤ safe_epoch sizes.slots (A ++ s ∷ [])) (ever_taken A) (next.0 ∷ []) later
+            (omega (arith, ticket-front A next.0 next.1 next.2, ready.1, safe_epoch-push sizes.slots A s), tt))
+        by_test false e = subst (AllByRecursion (λ w. w.ticket ≤ safe_epoch sizes.slots (A ++ s ∷ []))) (sym (ever_taken-stay A s (takes-le-actions sizes A a) e)) later
 
--- the epochs that end above the safe one are at most the pending actions
-pub epochs-pending : (sizes : Sizes) (A : List Step) → IsAccepted sizes A → current_epoch A - 1 - safe_epoch sizes.slots A ≤ length (pending A)
-epochs-pending sizes A a = omega (arith, current_epoch-bumps A, takes-safe sizes A a, length-pending A)
+-- so a finished ticket is safe
+pub finished-safe : (sizes : Sizes) (A : List Step) (c : ℕ) → IsAccepted sizes A → is_finished c A ≡ true → c ≤ safe_epoch sizes.slots A
+finished-safe sizes A c a done = of_any (ever_taken A) (finished-taken sizes c A a done) (ever_taken-safe sizes A a)
+  where
+    of_any : (ws : List Waiting) → list_any (λ w. w.ticket == c) ws ≡ true → AllByRecursion (λ w. w.ticket ≤ safe_epoch sizes.slots A) ws → c ≤ safe_epoch sizes.slots A
+    of_any [] h each = cc
+    of_any (w ∷ ws) h each = by_test (w.ticket == c) refl h (λ k. of_any ws k each.1)
+      where
+        by_test : (b : Bool) → (w.ticket == c) ≡ b → (b || list_any (λ v. v.ticket == c) ws) ≡ true → (list_any (λ v. v.ticket == c) ws ≡ true → c ≤ safe_epoch sizes.slots A) → c ≤ safe_epoch sizes.slots A
+        by_test true e k later = omega (arith, each.0, eqb-true w.ticket c e)
+        by_test false e k later = later k
 
--- and at most the places of the list
-pub epochs-drain : (sizes : Sizes) (A : List Step) → IsAccepted sizes A → current_epoch A - 1 - safe_epoch sizes.slots A ≤ sizes.drain
-epochs-drain sizes A a = omega (arith, epochs-pending sizes A a, length-both sizes A a, bumps-dones sizes A a)
+-- the epochs that end above the safe one are at most those of the window
+pub epochs-window : (sizes : Sizes) (A : List Step) → IsAccepted sizes A → current_epoch A - 1 - safe_epoch sizes.slots A ≤ epoch_window
+epochs-window sizes = accepted_has sizes (λ A. current_epoch A - 1 - safe_epoch sizes.slots A ≤ epoch_window) none step
+  where
+    none : current_epoch [] - 1 - safe_epoch sizes.slots [] ≤ epoch_window
+    none = omega (arith, current_epoch-nil)
+
+    step : (A : List Step) (s : Step) → IsAccepted sizes A → fault_of sizes A s ≡ None → current_epoch A - 1 - safe_epoch sizes.slots A ≤ epoch_window → current_epoch (A ++ s ∷ []) - 1 - safe_epoch sizes.slots (A ++ s ∷ []) ≤ epoch_window
+    step A s a h before = by_test (is_bump s) refl
+      where
+        by_test : (b : Bool) → is_bump s ≡ b → current_epoch (A ++ s ∷ []) - 1 - safe_epoch sizes.slots (A ++ s ∷ []) ≤ epoch_window
+        by_test true e =
+            omega (
+              arith,
+              before,
+              eqb-false (current_epoch A - 1 - safe_epoch sizes.slots A) epoch_window (bare_fault-none sizes A (bump-none sizes A s e h)).1,
+              current_epoch-push A s,
+              one_where (is_bump s) e,
+              safe_epoch-push sizes.slots A s,
+            )
+        by_test false e = omega (arith, before, current_epoch-push A s, none_where (is_bump s) e, safe_epoch-push sizes.slots A s)
 
 protected_fault-none : (b p : Bool) (f g : Fault) → cond b (Some f) (cond p None (Some g)) ≡ None → (b ≡ false) × (p ≡ true)
 protected_fault-none true p f g h = cc

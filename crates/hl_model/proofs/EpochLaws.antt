@@ -5,7 +5,7 @@ use Rattle.std.specs.List.{filter_map, range_with_len}
 use Rattle.std.proofs.lemmas.List.{length_push, take-append-le}
 use Rattle.std.proofs.lemmas.Bool.{cond-true, cond-false}
 use Rattle.hl_model.specs.declared.step.Step.{Step}
-use Rattle.hl_model.specs.declared.step.Step.TheVariants.{Acquire, Refresh, Release, Bump, Settle, Close}
+use Rattle.hl_model.specs.declared.step.Step.TheVariants.{Acquire, Refresh, Release, Bump, Settle, Close, Bare}
 use Rattle.hl_model.specs.Lists.{until_last, least_or}
 use Rattle.hl_model.specs.Epochs.{is_bump, enters, leaves, current_epoch, mark, is_protected, up_to_mark, epoch_of, slot_epoch, slot_epochs, safe_among, safe_epoch}
 use Rattle.std.proofs.lemmas.List.FromFn.{length-map-range_with_len}
@@ -22,6 +22,7 @@ pub enters-is_bump : (t : ℕ) (s : Step) → enters t s ≡ true → is_bump s 
 enters-is_bump t (Bump tag) h = cc
 enters-is_bump t Settle h = cc
 enters-is_bump t Close h = cc
+enters-is_bump t Bare h = cc
 enters-is_bump t _ h = refl
 
 -- a step that enters does not leave

@@ -1,12 +1,11 @@
 -- What each step makes of the drain list, of the six offsets and of the pages.
-use Rattle.std.proofs.Common.{◌≡◌, ℕ, ◌+◌, ◌*◌, ◌≤◌, Bool, true, false, cond, ◌&&◌, ◌||◌, max, List, [], ◌∷◌, ◌++◌, refl, ap, ◌∙◌, append-nil}
+use Rattle.std.proofs.Common.{◌≡◌, ℕ, ◌+◌, ◌*◌, ◌≤◌, Bool, true, false, cond, ◌&&◌, ◌||◌, max, List, [], ◌∷◌, ◌++◌, length, refl, ap, ◌∙◌, append-nil}
 use Rattle.std.specs.Prelude.{◌==◌, Some, None}
 use Rattle.hl_model.specs.declared.fault.Fault.TheVariants.{NotTaken}
 use Rattle.hl_model.specs.declared.step.Step.{Step}
 use Rattle.hl_model.specs.declared.step.Step.TheVariants.{Take, Done, Raise, Shift, Allocate, FlushDone, CleanDone}
 use Rattle.hl_model.specs.Sizes.{Sizes}
-use Rattle.hl_model.specs.Epochs.{is_bump}
-use Rattle.hl_model.specs.Actions.{is_take, is_done, finishes, bumps, takes, pending, is_taken}
+use Rattle.hl_model.specs.Actions.{stores, is_take, is_done, finishes, takes, actions, pending, is_taken}
 use Rattle.hl_model.specs.Offsets.{raised_to, shifted_to, read_only, head, place_of, tail_past, tail}
 use Rattle.hl_model.specs.Settled.{settles, closes, safe_read_only, closed}
 use Rattle.hl_model.specs.Pages.{flush_of, flushes, clean_of, frees, is_flushed, is_freed, flushed}
@@ -14,24 +13,24 @@ use Rattle.hl_model.specs.Snapshots.{six}
 use Rattle.hl_model.specs.Replies.{fault_of, IsAccepted}
 use Rattle.hl_model.specs.Follows.{ActionsFollow, moves_offsets, OffsetsMove, OffsetsFollow, PagesFollow}
 use Rattle.hl_model.proofs.ActionLaws.{pending-stores, taken-stores, pending-take, pending-done, taken-done}
-use Rattle.hl_model.proofs.DrainLaws.{takes-le-bumps, taken-next, finishes-none}
+use Rattle.hl_model.proofs.DrainLaws.{takes-le-actions, taken-next, finishes-none}
 use Rattle.hl_model.proofs.OffsetLaws.{read_only-stay, head-stay, tail-push, read_only-raise, head-shift}
 use Rattle.hl_model.proofs.SettledLaws.{action_of-none, done_greatest-quiet, done_greatest-done}
 use Rattle.hl_model.proofs.WorkLaws.{is_flushed-push, is_freed-push, is_in_flight-take, is_in_flight-done, is_in_flight-stay, is_cleaning-take, is_cleaning-done, is_cleaning-stay, is_flushed-stay, is_freed-stay}
 use Rattle.hl_model.proofs.RunLaws.{flushed_run-stay}
 
--- a bump takes nothing and ends nothing
-bump-is_take : (s : Step) → is_bump s ≡ true → is_take s ≡ false
-bump-is_take Take h = cc
-bump-is_take _ h = refl
+-- a step that stores an action takes nothing and ends nothing
+stores-is_take : (s : Step) → stores s ≡ true → is_take s ≡ false
+stores-is_take Take h = cc
+stores-is_take _ h = refl
 
-bump-finishes : (c : ℕ) (s : Step) → is_bump s ≡ true → finishes c s ≡ false
-bump-finishes c (Done ticket) h = cc
-bump-finishes c _ h = refl
+stores-finishes : (c : ℕ) (s : Step) → stores s ≡ true → finishes c s ≡ false
+stores-finishes c (Done ticket) h = cc
+stores-finishes c _ h = refl
 
 pub actions_follow : ActionsFollow
 actions_follow sizes A acc = record {
-  stored = λ s b. (pending-stores A s fits (bump-is_take s b), taken-stores A s fits (bump-is_take s b) (λ c. bump-finishes c s b));
+  stored = λ s b. (pending-stores A s fits (stores-is_take s b), taken-stores A s fits (stores-is_take s b) (λ c. stores-finishes c s b));
   took = λ w others h. (pending-take A w others h, taken-next sizes A w others acc h);
   done = λ c. (pending-done A c, taken-done A c);
   others = λ s b t d. (
@@ -40,8 +39,8 @@ actions_follow sizes A acc = record {
   );
 }
   where
-    fits : takes A ≤ bumps A
-    fits = takes-le-bumps sizes A acc
+    fits : takes A ≤ length (actions A)
+    fits = takes-le-actions sizes A acc
 
 -- six offsets that are these
 six_at : (sizes : Sizes) (B : List Step) (c h f s r t : ℕ) → closed B ≡ c → head B ≡ h → flushed sizes B ≡ f → safe_read_only B ≡ s → read_only B ≡ r → tail sizes B ≡ t → six sizes B ≡ record { closed = c; head = h; flushed = f; safe_read_only = s; read_only = r; tail = t }

@@ -4,13 +4,14 @@ use Rattle.hl_model.specs.Replies.{IsAccepted}
 use Rattle.hl_model.specs.Words.{word}
 use Rattle.hl_model.specs.Laws.{HeadlineHolds}
 use Rattle.hl_model.proofs.AcceptedLaws.{IsAccepted-front}
-use Rattle.hl_model.proofs.LawProofs.{takes_count_up, taken_after_all_moved_on}
+use Rattle.hl_model.proofs.LawProofs.{takes_in_order, takes_rise, taken_after_all_moved_on}
 use Rattle.hl_model.proofs.BoundLaws.{views_are_bounded, writes_are_above_safe_read_only, places_are_on_one_page, places_are_apart}
 use Rattle.hl_model.proofs.ReuseLaws.{no_frame_is_reused_while_reached, taken_words_stay}
 
 pub headline : HeadlineHolds
 headline sizes A some acc = record {
-  taken_once = takes_count_up sizes A acc;
+  taken_in_order = takes_in_order sizes A acc;
+  taken_once = takes_rise sizes A acc;
   taken_after_all_moved_on = λ X s Y Z t e. taken_after_all_moved_on sizes X s Y Z t (subst (IsAccepted sizes) e acc);
   written_above_safe_read_only = λ X t a v Y e. writes_are_above_safe_read_only sizes X t a v Y (subst (IsAccepted sizes) e acc);
   none_reaches_reused = λ X t n Y u e. no_frame_is_reused_while_reached sizes X t n Y u some (subst (IsAccepted sizes) e acc);

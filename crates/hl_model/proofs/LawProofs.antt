@@ -1,29 +1,32 @@
 -- The laws of every list of steps.
-use Rattle.std.proofs.Common.{set, leb, ap₂, ◌≡◌, ℕ, zero, suc, ◌+◌, ◌-◌, ◌<◌, ◌≤◌, ◌↔◌, Bool, true, false, cond, ◌||◌, is_some, List, [], ◌∷◌, ◌++◌, length, take, drop, refl, sym, ap, ◌∙◌, subst, arith, append_assoc, append-nil, inl, inr, ◌⊎◌}
+use Rattle.std.proofs.Common.{set, leb, ap₂, ◌≡◌, ℕ, zero, suc, ◌+◌, ◌-◌, ◌<◌, ◌≤◌, ◌↔◌, Bool, true, false, cond, ◌||◌, is_some, List, [], ◌∷◌, ◌++◌, length, take, drop, map, refl, sym, ap, ◌∙◌, subst, arith, append_assoc, append-nil, inl, inr, ◌⊎◌}
 use Rattle.std.specs.Prelude.{◌==◌, Option, Some, None, Ok}
-use Rattle.std.specs.List.{find, list_any, count_by, range_with_len}
+use Rattle.std.specs.List.{AllByRecursion, AllPairs, list_any, count_by}
+use Rattle.std.proofs.lemmas.List.Elements.{All-from_recursion}
 use Rattle.std.proofs.lemmas.Bool.{eqb-false, both_ways, false_from_ne_true, eqb-true, cases_lt, or_parts, true_from_ne_false}
-use Rattle.std.proofs.lemmas.List.{take-append-drop, take-append-le}
+use Rattle.std.proofs.lemmas.List.{map-append, take-append-drop, take-append-le}
 use Rattle.std.proofs.Math.Seq.{take-append-add}
 use Rattle.hl_model.specs.declared.action.Kind.{Kind}
 use Rattle.hl_model.specs.declared.action.Kind.TheVariants.{User, Settle as Settling, Close as Closing}
 use Rattle.std.proofs.lemmas.List.Sums.{sum_by-append}
+use Rattle.hl_model.specs.declared.action.Waiting.{Waiting}
 use Rattle.hl_model.specs.declared.fault.Fault.TheVariants.{NoSlot, Occupied}
 use Rattle.hl_model.specs.declared.step.Step.{Step}
-use Rattle.hl_model.specs.declared.step.Step.TheVariants.{Acquire, Refresh, Release, Bump, Settle, Close, Take, Done}
+use Rattle.hl_model.specs.declared.step.Step.TheVariants.{Acquire, Refresh, Release, Bump, Settle, Close, Bare, Take, Done}
 use Rattle.hl_model.specs.Sizes.{Sizes}
 use Rattle.hl_model.specs.Lists.{until_last, gather, gather_after}
 use Rattle.hl_model.specs.Epochs.{table_of, slot_epochs, is_bump, enters, leaves, current_epoch, mark, is_protected, up_to_mark, epoch_of, slot_epoch, safe_epoch}
-use Rattle.hl_model.specs.Actions.{is_take, bumps, takes, pending, taken, action_at, front}
+use Rattle.hl_model.specs.Actions.{is_take, bumps, action_of, actions, pending, ever_taken, taken, action_at, front}
 use Rattle.hl_model.specs.Replies.{epoch_last, done_answer, kind_or_job_0, fault_of, reply_of, unless_fault, answer_of, IsAccepted}
 use Rattle.hl_model.specs.Follows.{TablesFollow}
-use Rattle.hl_model.specs.Laws.{AcceptedStepsAreAccepted, BeginningsAreAccepted, GoodByItsLastStep, SafeNeverFalls, TakenAreSafe, EpochsFitTheDrainList, AcceptedMeetsNoFault, CurrentIsAtMostLast, DrainListHoldsThem, TicketsCountUp, TakenAreThoseListed, EpochsAreInOrder, SafeIsGreatest, MarkAfterBump}
+use Rattle.hl_model.specs.Laws.{AcceptedStepsAreAccepted, BeginningsAreAccepted, GoodByItsLastStep, SafeNeverFalls, TakenAreSafe, EpochsFitTheWindow, AcceptedMeetsNoFault, CurrentIsAtMostLast, DrainListHoldsThem, number_stored, TicketsAreNumbers, TicketsRise, TakenAreThoseListed, EpochsAreInOrder, SafeIsGreatest, MarkAfterBump}
 use Rattle.hl_model.specs.Headline.{ticket_told, tickets_told, moves_on}
 use Rattle.hl_model.proofs.ListLaws.{list_any-push, gather-push, by_pushing, one_where, none_where}
 use Rattle.hl_model.proofs.AcceptedLaws.{good-push, IsAccepted-good, IsAccepted-front, IsAccepted-parts, accepted_has}
 use Rattle.hl_model.proofs.EpochLaws.{slot_epochs-acquire, slot_epochs-refresh, slot_epochs-release, slot_epochs-stay, current_epoch-nil, safe_epoch-current, current_epoch-push, safe_epoch-append, enters-is_bump, slot_epoch-stays, slot_epoch-range, is_protected-slot_epoch, epoch_of-slot_epoch, safe_epoch-below, safe_epoch-greatest}
-use Rattle.hl_model.proofs.ActionLaws.{tickets-actions, tickets-pending, range-push, current_epoch-bumps, takes-push, takes-stay, takes-nil}
-use Rattle.hl_model.proofs.DrainLaws.{takes-safe, epochs-drain, bump_fault-none, bump-none, length-both, bumps-dones, is_taken-found, two_faults, take_fault-none, protected-slot}
+use Rattle.hl_model.proofs.ActionLaws.{actions-push, actions-rising, actions-numbers, ever_taken-stay, ever_taken-take, ever_taken-nil, ticket-front, current_epoch-bumps}
+use Rattle.hl_model.proofs.DrainLaws.{is_take-only, first_pending, takes-le-actions, ever_taken-rising, ever_taken-safe, epochs-window, bare_fault-none, bump-none, length-both, actions-dones, is_taken-found, two_faults, take_fault-none, protected-slot}
+use Rattle.hl_model.proofs.TicketLaws.{found-any, tickets-rising}
 
 -- laws that are lemmas of the parts
 pub accepted_steps_are_accepted : AcceptedStepsAreAccepted
@@ -39,10 +42,10 @@ pub safe_never_falls : SafeNeverFalls
 safe_never_falls = safe_epoch-append
 
 pub taken_are_safe : TakenAreSafe
-taken_are_safe = takes-safe
+taken_are_safe sizes A a = All-from_recursion (λ w. w.ticket ≤ safe_epoch sizes.slots A) (ever_taken A) (ever_taken-safe sizes A a)
 
-pub epochs_fit_the_drain_list : EpochsFitTheDrainList
-epochs_fit_the_drain_list = epochs-drain
+pub epochs_fit_the_window : EpochsFitTheWindow
+epochs_fit_the_window = epochs-window
 
 -- a protected slot has an epoch
 pub slot_epoch-protected : (t : ℕ) (A : List Step) → is_protected t A ≡ true → slot_epoch t A ≡ Some (epoch_of t A)
@@ -80,31 +83,40 @@ current_is_at_most_last sizes = accepted_has sizes (λ A. current_epoch A ≤ ep
       where
         by_test : (b : Bool) → is_bump s ≡ b → current_epoch (A ++ s ∷ []) ≤ epoch_last
         by_test true e =
-            omega (arith, before, eqb-false (current_epoch A) epoch_last (bump_fault-none sizes A (bump-none sizes A s e h)).1, current_epoch-push A s, one_where (is_bump s) e)
+            omega (arith, before, eqb-false (current_epoch A) epoch_last (bare_fault-none sizes A (bump-none sizes A s e h)).0, current_epoch-push A s, one_where (is_bump s) e)
         by_test false e = omega (arith, before, current_epoch-push A s, none_where (is_bump s) e)
 
 pub drain_list_holds_them : DrainListHoldsThem
-drain_list_holds_them sizes A a = (length-both sizes A a, omega (arith, length-both sizes A a, bumps-dones sizes A a))
+drain_list_holds_them sizes A a = (length-both sizes A a, omega (arith, length-both sizes A a, actions-dones sizes A a))
 
-drop-range : (m a n : ℕ) → drop m (range_with_len a n) ≡ range_with_len (a + m) (n - m)
-drop-range zero a n = let same : a + zero ≡ a = omega arith in let all : n - zero ≡ n = omega arith in rw (same, all) refl
-drop-range (suc m) a zero = let none : zero - suc m ≡ zero = omega arith in rw none refl
-drop-range (suc m) a (suc n) =
-    let first : a + suc m ≡ (a + 1) + m = omega arith in
-    let rest : suc n - suc m ≡ n - m = omega arith in
-    rw (first, rest) (drop-range m (a + 1) n)
+number-stored : (A : List Step) (s : Step) → map (λ w. w.ticket) (action_of A s) ≡ number_stored A s
+number-stored A (Bump tag) = ap (λ n. n ∷ []) (current_epoch-bumps A)
+number-stored A Settle = ap (λ n. n ∷ []) (current_epoch-bumps A)
+number-stored A Close = ap (λ n. n ∷ []) (current_epoch-bumps A)
+number-stored A _ = refl
 
-pub tickets_count_up : TicketsCountUp
-tickets_count_up A =
-    let next : 1 + takes A ≡ takes A + 1 = omega arith in
-    (tickets-actions A, tickets-pending A ∙ drop-range (takes A) 1 (bumps A) ∙ ap (λ n. range_with_len n (bumps A - takes A)) next)
+pub tickets_are_numbers : TicketsAreNumbers
+tickets_are_numbers = by_pushing (λ A. map (λ w. w.ticket) (actions A) ≡ gather number_stored A) none
+    (λ A s h. ap (map (λ w. w.ticket)) (actions-push A s) ∙ map-append (λ w. w.ticket) (actions A) (action_of A s)
+    ∙ ap₂ (λ xs ys. xs ++ ys) h (number-stored A s) ∙ sym (gather-push number_stored A s))
+  where
+    none : map (λ w. w.ticket) (actions []) ≡ gather number_stored []
+    unfolding actions gather gather_after
+    none = refl
 
-found-any : {X : Type 0} (p : X → Bool) (xs : List X) → list_any p xs ≡ is_some (find p xs)
-found-any p [] = refl
-found-any p (x ∷ xs) = elim (p x) as (λ b. (b || list_any p xs) ≡ is_some (cond b (Some x) (find p xs))) [ true ↦ refl | false ↦ found-any p xs ]
+-- what holds of the ticket of each action holds of each of their tickets
+of_tickets : (P : ℕ → Type 0) (ws : List Waiting) → AllByRecursion (λ w. P w.ticket) ws → AllByRecursion P (map (λ w. w.ticket) ws)
+of_tickets P [] each = tt
+of_tickets P (w ∷ ws) each = (each.0, of_tickets P ws each.1)
+
+pub tickets_rise : TicketsRise
+tickets_rise A = (
+  tickets-rising 0 (actions A) (actions-rising A),
+  All-from_recursion (λ c. (1 ≤ c) × (c ≤ bumps A)) (map (λ w. w.ticket) (actions A)) (of_tickets (λ c. (1 ≤ c) × (c ≤ bumps A)) (actions A) (actions-numbers A)),
+)
 
 pub taken_are_those_listed : TakenAreThoseListed
-taken_are_those_listed sizes A c a = sym (found-any (λ w. w.ticket == c) (taken A) ∙ is_taken-found sizes c A a)
+taken_are_those_listed sizes A c a = sym (found-any (λ w. w.ticket == c) (taken A) ∙ is_taken-found c A)
 
 -- some element passes: there is a last one
 last_of_some : {X : Type 0} (p : X → Bool) (xs : List X) → list_any p xs ≡ true → 0 < until_last p xs
@@ -182,8 +194,8 @@ done_told B (User tag) = refl
 done_told B (Settling x) = refl
 done_told B (Closing x) = refl
 
--- an accepted take is told how many there are, and no other step is told a ticket as taken
-told : (sizes : Sizes) (A : List Step) (s : Step) → fault_of sizes A s ≡ None → ticket_told (reply_of sizes A s) ≡ cond (is_take s) (takes (A ++ s ∷ []) ∷ []) []
+-- an accepted take is told the front, and no other step is told a ticket as taken
+told : (sizes : Sizes) (A : List Step) (s : Step) → fault_of sizes A s ≡ None → ticket_told (reply_of sizes A s) ≡ cond (is_take s) (front A ∷ []) []
 told sizes A Take h = ap (λ o. ticket_told (unless_fault o (answer_of sizes A (A ++ Take ∷ []) Take))) h
 told sizes A (Done c) h = ap (λ o. ticket_told (unless_fault o (answer_of sizes A (A ++ Done c ∷ []) (Done c)))) h ∙ done_told (A ++ Done c ∷ []) (kind_or_job_0 (action_at c (A ++ Done c ∷ [])))
 told sizes A s h = ap (λ o. ticket_told (unless_fault o (answer_of sizes A (A ++ s ∷ []) s))) h
@@ -196,18 +208,26 @@ tickets_told-nil : (sizes : Sizes) → tickets_told sizes [] ≡ []
 unfolding tickets_told gather gather_after
 tickets_told-nil sizes = refl
 
--- one more number where the step takes
-counted_up : (A : List Step) (s : Step) (b : Bool) → is_take s ≡ b → range_with_len 1 (takes A) ++ cond b (takes (A ++ s ∷ []) ∷ []) [] ≡ range_with_len 1 (takes (A ++ s ∷ []))
-counted_up A s true e =
-    let more : takes (A ++ s ∷ []) ≡ suc (takes A) = omega (arith, takes-push A s, one_where (is_take s) e) in
-    let next : suc (takes A) ≡ 1 + takes A = omega arith in
-    rw more (ap (λ n. range_with_len 1 (takes A) ++ n ∷ []) next ∙ sym (range-push 1 (takes A)))
-counted_up A s false e = append-nil (range_with_len 1 (takes A)) ∙ sym (ap (range_with_len 1) (takes-stay A s e))
+-- one more ticket where the step takes
+named_next : (sizes : Sizes) (A : List Step) (s : Step) (b : Bool) → IsAccepted sizes A → fault_of sizes A s ≡ None → is_take s ≡ b → map (λ w. w.ticket) (ever_taken A) ++ cond b (front A ∷ []) [] ≡ map (λ w. w.ticket) (ever_taken (A ++ s ∷ []))
+named_next sizes A s true a h e =
+    let is : s ≡ Take = is_take-only s e in
+    let ready : (0 < length (pending A)) × (front A ≤ safe_epoch sizes.slots A) = take_fault-none sizes A (subst (λ (x : Step). fault_of sizes A x ≡ None) is h) in
+    let next : (w : Waiting) × (ws : List Waiting) × (pending A ≡ w ∷ ws) = first_pending A ready.0 in
+    ap (λ n. map (λ w. w.ticket) (ever_taken A) ++ n ∷ []) (sym (ticket-front A next.0 next.1 next.2))
+    ∙ sym (map-append (λ w. w.ticket) (ever_taken A) (next.0 ∷ []))
+    ∙ sym (ap (map (λ w. w.ticket)) (ap (λ x. ever_taken (A ++ x ∷ [])) is ∙ ever_taken-take A next.0 next.1 next.2))
+named_next sizes A s false a h e =
+    append-nil (map (λ w. w.ticket) (ever_taken A)) ∙ sym (ap (map (λ w. w.ticket)) (ever_taken-stay A s (takes-le-actions sizes A a) e))
 
-pub takes_count_up : (sizes : Sizes) (A : List Step) → IsAccepted sizes A → tickets_told sizes A ≡ range_with_len 1 (takes A)
-takes_count_up sizes = accepted_has sizes (λ A. tickets_told sizes A ≡ range_with_len 1 (takes A))
-    (tickets_told-nil sizes ∙ sym (ap (range_with_len 1) takes-nil))
-    (λ A s a h before. tickets_told-push sizes A s ∙ ap₂ (λ xs ys. xs ++ ys) before (told sizes A s h) ∙ counted_up A s (is_take s) refl)
+pub takes_in_order : (sizes : Sizes) (A : List Step) → IsAccepted sizes A → tickets_told sizes A ≡ map (λ w. w.ticket) (ever_taken A)
+takes_in_order sizes = accepted_has sizes (λ A. tickets_told sizes A ≡ map (λ w. w.ticket) (ever_taken A))
+    (tickets_told-nil sizes ∙ sym (ap (map (λ w. w.ticket)) ever_taken-nil))
+    (λ A s a h before. tickets_told-push sizes A s ∙ ap₂ (λ xs ys. xs ++ ys) before (told sizes A s h) ∙ named_next sizes A s (is_take s) a h refl)
+
+pub takes_rise : (sizes : Sizes) (A : List Step) → IsAccepted sizes A → AllPairs (λ earlier later. earlier < later) (tickets_told sizes A)
+takes_rise sizes A a =
+    subst (AllPairs (λ earlier later. earlier < later)) (sym (takes_in_order sizes A a)) (tickets-rising 0 (ever_taken A) (ever_taken-rising A))
 
 -- a protected slot that doesn't move on at an accepted step stays as it is
 stays_seated : (sizes : Sizes) (W : List Step) (t : ℕ) (s : Step) → moves_on t s ≡ false → fault_of sizes W s ≡ None → is_protected t W ≡ true → (enters t s ≡ false) × (leaves t s ≡ false)
@@ -248,14 +268,14 @@ taken_after_all_moved_on sizes X s Y Z t a b f p = true_from_ne_false (list_any 
         let before : slot_epoch t X ≡ Some (epoch_of t X) = slot_epoch-protected t X p in
         let held : slot_epoch t (X ++ s ∷ Y) ≡ Some (epoch_of t X) = keeps_epoch sizes X s t (epoch_of t X) b before Y parts.0 m in
         let low : safe_epoch sizes.slots (X ++ s ∷ Y) < epoch_of t X = safe_epoch-below sizes.slots (X ++ s ∷ Y) t (epoch_of t X) (protected-slot sizes t (X ++ s ∷ Y) parts.0 (epoch_of t X) held) held in
-        let ready : (0 < length (pending (X ++ s ∷ Y))) × (takes (X ++ s ∷ Y) + 1 ≤ safe_epoch sizes.slots (X ++ s ∷ Y)) = take_fault-none sizes (X ++ s ∷ Y) parts.1 in
+        let ready : (0 < length (pending (X ++ s ∷ Y))) × (front (X ++ s ∷ Y) ≤ safe_epoch sizes.slots (X ++ s ∷ Y)) = take_fault-none sizes (X ++ s ∷ Y) parts.1 in
         omega (arith, low, ready.1, f, (slot_epoch-range t X (epoch_of t X) before).1, current_epoch-bumps X)
 
 -- a table whose epochs and current epoch are these
 table_at : (sizes : Sizes) (A B : List Step) (current : ℕ) (epochs : List (Option ℕ)) → current_epoch B ≡ current → slot_epochs sizes.slots B ≡ epochs → table_of sizes B ≡ record (table_of sizes A) { current = current; epochs = epochs }
 table_at sizes A B current epochs c e = ap₂ (λ n es. record (table_of sizes A) { current = n; epochs = es }) c e
 
--- a step that stores nothing leaves the current epoch
+-- a step that is no bump leaves the current epoch
 pub current-stay : (A : List Step) (s : Step) → is_bump s ≡ false → current_epoch (A ++ s ∷ []) ≡ current_epoch A
 current-stay A s h = omega (arith, current_epoch-push A s, none_where (is_bump s) h)
 
@@ -267,5 +287,6 @@ tables_follow sizes A = record {
   bump = λ tag. table_at sizes A (A ++ Bump tag ∷ []) (current_epoch A + 1) (slot_epochs sizes.slots A) (current_epoch-push A (Bump tag)) (slot_epochs-stay sizes.slots A (Bump tag) (λ t. refl) (λ t. refl));
   settle = table_at sizes A (A ++ Settle ∷ []) (current_epoch A + 1) (slot_epochs sizes.slots A) (current_epoch-push A Settle) (slot_epochs-stay sizes.slots A Settle (λ t. refl) (λ t. refl));
   close = table_at sizes A (A ++ Close ∷ []) (current_epoch A + 1) (slot_epochs sizes.slots A) (current_epoch-push A Close) (slot_epochs-stay sizes.slots A Close (λ t. refl) (λ t. refl));
+  bare = table_at sizes A (A ++ Bare ∷ []) (current_epoch A + 1) (slot_epochs sizes.slots A) (current_epoch-push A Bare) (slot_epochs-stay sizes.slots A Bare (λ t. refl) (λ t. refl));
   others = λ s b e l. table_at sizes A (A ++ s ∷ []) (current_epoch A) (slot_epochs sizes.slots A) (current-stay A s b) (slot_epochs-stay sizes.slots A s e l);
 }

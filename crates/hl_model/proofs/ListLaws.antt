@@ -1,5 +1,5 @@
 -- Laws of the ways in which the definitions look back, each for one element more at the end.
-use Rattle.std.proofs.Common.{◌≡◌, ℕ, suc, ◌+◌, ◌<◌, ◌≤◌, Bool, true, false, cond, ◌||◌, min, List, [], ◌∷◌, ◌++◌, length, refl, sym, ap, ◌∙◌, arith, append_assoc, append-nil, zero-add, le_trans, subst, ◌⊎◌, inl, inr, max, le_refl, zero, ap₂}
+use Rattle.std.proofs.Common.{◌≡◌, ℕ, suc, ◌+◌, ◌<◌, ◌≤◌, Bool, true, false, cond, ◌||◌, min, List, [], ◌∷◌, ◌++◌, length, refl, sym, ap, ◌∙◌, arith, append_assoc, append-nil, zero-add, le_trans, subst, ◌⊎◌, inl, inr, max, le_refl, zero, ap₂, add-zero}
 use Rattle.std.specs.List.{list_any, count_by, AllByRecursion, find, range_with_len}
 use Rattle.std.proofs.lemmas.List.Sums.{sum_by-append}
 use Rattle.hl_model.specs.Lists.{until_last, gather_after, gather, least_or, greatest, last_given, unroll_after, unroll, greatest_below}
@@ -271,3 +271,10 @@ none_first test a n m false e later h low (inr ne) = later h (omega (arith, ne))
 pub find-range-none : (test : ℕ → Bool) (a n m : ℕ) → find test (range_with_len a n) ≡ None → a ≤ m → m < a + n → test m ≡ false
 find-range-none test a zero m h low high = absurd (omega arith)
 find-range-none test a (suc n) m h low high = none_first test a n m (test a) refl (λ f l. find-range-none test (a + 1) n m f l (omega arith)) h low (cases_eq m a)
+
+-- the numbers go on
+pub range-push : (a n : ℕ) → range_with_len a (suc n) ≡ range_with_len a n ++ (a + n) ∷ []
+range-push a zero = ap (λ x. x ∷ []) (sym (add-zero a))
+range-push a (suc n) =
+    let same : (a + 1) + n ≡ a + suc n = omega arith in
+    ap (λ l. a ∷ l) (range-push (a + 1) n ∙ ap (λ x. range_with_len (a + 1) n ++ x ∷ []) same)

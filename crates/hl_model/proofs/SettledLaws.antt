@@ -9,15 +9,16 @@ use Rattle.hl_model.specs.declared.step.Step.{Step}
 use Rattle.hl_model.specs.declared.step.Step.TheVariants.{Bump, Settle, Close, Done}
 use Rattle.hl_model.specs.Lists.{greatest}
 use Rattle.hl_model.specs.Sizes.{Sizes}
-use Rattle.hl_model.specs.Epochs.{is_bump, current_epoch}
-use Rattle.hl_model.specs.Actions.{is_done, finishes, bumps, action_of, actions, is_finished, taken, is_taken, action_at}
+use Rattle.hl_model.specs.Epochs.{current_epoch}
+use Rattle.hl_model.specs.Actions.{stores, is_done, finishes, action_of, actions, is_finished, taken, is_taken, action_at}
 use Rattle.hl_model.specs.Offsets.{read_only, head}
 use Rattle.hl_model.specs.Settled.{settles, closes, done_greatest}
 use Rattle.hl_model.specs.Replies.{fault_of, IsAccepted}
 use Rattle.hl_model.proofs.ListLaws.{by_pushing, greatest-append, greatest-has, greatest-le, greatest-each_le, greatest-max, greatest-same, all-append, all-follows, all-found}
-use Rattle.hl_model.proofs.ActionLaws.{actions-nil, actions-push, is_finished-push, is_finished-stay, current_epoch-bumps, tickets-actions}
-use Rattle.hl_model.proofs.TicketLaws.{of_ticket, Rising, Rising-range}
-use Rattle.hl_model.proofs.DrainLaws.{finishes-none, finished-taken, takes-le-bumps, action_at-some, of_ticket-taken}
+use Rattle.hl_model.proofs.ActionLaws.{action_of-ticket, actions-nil, actions-push, actions-rising, is_finished-push, is_finished-stay}
+use Rattle.hl_model.proofs.TicketLaws.{of_ticket, Rising}
+use Rattle.hl_model.proofs.DrainLaws.{finishes-none, finished-safe, action_at-some, of_ticket-taken}
+use Rattle.hl_model.proofs.EpochLaws.{safe_epoch-current}
 use Rattle.hl_model.proofs.OffsetLaws.{read_only-grows, head-grows}
 
 -- what action w counts for in the list A: what it stored, if it is done
@@ -29,29 +30,22 @@ pub done_greatest-nil : (stored : Kind → ℕ) → done_greatest stored [] ≡ 
 unfolding done_greatest greatest
 done_greatest-nil stored = ap (greatest (counted stored [])) actions-nil
 
--- what a step stores has the current epoch for its ticket
-pub action_of-ticket : (A : List Step) (s : Step) → AllByRecursion (λ w. w.ticket ≡ current_epoch A) (action_of A s)
-action_of-ticket A (Bump tag) = (refl, tt)
-action_of-ticket A Settle = (refl, tt)
-action_of-ticket A Close = (refl, tt)
-action_of-ticket A _ = tt
-
--- a step that is no bump stores nothing
-pub action_of-none : (A : List Step) (s : Step) → is_bump s ≡ false → action_of A s ≡ []
+-- a step that is no bump with an action stores nothing
+pub action_of-none : (A : List Step) (s : Step) → stores s ≡ false → action_of A s ≡ []
 action_of-none A (Bump tag) h = cc
 action_of-none A Settle h = cc
 action_of-none A Close h = cc
 action_of-none A _ h = refl
 
 -- and so leaves the actions
-pub actions-stay : (A : List Step) (s : Step) → is_bump s ≡ false → actions (A ++ s ∷ []) ≡ actions A
+pub actions-stay : (A : List Step) (s : Step) → stores s ≡ false → actions (A ++ s ∷ []) ≡ actions A
 actions-stay A s h = actions-push A s ∙ ap (λ ws. actions A ++ ws) (action_of-none A s h) ∙ append-nil (actions A)
 
 -- no action whose ticket is still to come is done
 pub is_finished-next : (sizes : Sizes) (A : List Step) → IsAccepted sizes A → is_finished (current_epoch A) A ≡ false
 is_finished-next sizes A a =
     false_from_ne_true (is_finished (current_epoch A) A)
-    (λ done. omega (arith, (finished-taken sizes (current_epoch A) A a done).1, takes-le-bumps sizes A a, current_epoch-bumps A))
+    (λ done. omega (arith, finished-safe sizes A (current_epoch A) a done, safe_epoch-current sizes.slots A))
 
 -- a new action counts for nothing
 counted-new : (sizes : Sizes) (stored : Kind → ℕ) (A : List Step) (s : Step) → IsAccepted sizes A → greatest (counted stored A) (action_of A s) ≤ 0
@@ -116,7 +110,7 @@ done_greatest-done sizes stored A c w a h found =
     ∙ greatest-max (counted stored (A ++ Done c ∷ [])) (counted stored A) (counted_alone stored c) (actions A)
     (λ v. ap (λ b. cond b (stored v.kind) 0) (is_finished-push v.ticket A (Done c)) ∙ either_counts (is_finished v.ticket A) (c == v.ticket) (stored v.kind))
     ∙ ap (λ n. max (greatest (counted stored A) (actions A)) n)
-    (alone-found stored c 0 (actions A) w (Rising-range (actions A) 1 (bumps A) 0 (omega arith) (tickets-actions A)) found)
+    (alone-found stored c 0 (actions A) w (actions-rising A) found)
 
 counted-more : (b c : Bool) (n : ℕ) → cond b n 0 ≤ cond (b || c) n 0
 counted-more true c n = le_refl n
@@ -163,9 +157,9 @@ of_ticket-ticket c (v ∷ ws) w found = by_test (v.ticket == c) refl found (of_t
     by_test false e here later = later here
 
 -- a taken ticket has one action, which is the taken one
-pub action_at-taken : (sizes : Sizes) (A : List Step) (c : ℕ) → IsAccepted sizes A → is_taken c A ≡ true → (w : Waiting) × (action_at c A ≡ Some w) × (w.ticket ≡ c) × (of_ticket c (taken A) ≡ Some w)
+pub action_at-taken : (A : List Step) (c : ℕ) → is_taken c A ≡ true → (w : Waiting) × (action_at c A ≡ Some w) × (w.ticket ≡ c) × (of_ticket c (taken A) ≡ Some w)
 unfolding action_at
-action_at-taken sizes A c a h = by_action (of_ticket c (actions A)) refl (action_at-some sizes c A a h)
+action_at-taken A c h = by_action (of_ticket c (actions A)) refl (action_at-some c A h)
   where
     by_action : (o : Option Waiting) → of_ticket c (actions A) ≡ o → is_some o ≡ true → (w : Waiting) × (of_ticket c (actions A) ≡ Some w) × (w.ticket ≡ c) × (of_ticket c (taken A) ≡ Some w)
     by_action None e some = cc

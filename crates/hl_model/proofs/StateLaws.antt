@@ -12,8 +12,7 @@ use Rattle.hl_model.specs.Epochs.{is_protected, slot_epoch, slot_epochs}
 use Rattle.hl_model.specs.Frames.{frame_of}
 use Rattle.hl_model.specs.Snapshots.{is_opened, is_at_sealed, is_at_flushed, is_at_closed, is_free, state_counts}
 use Rattle.hl_model.specs.States.{count_place}
-use Rattle.hl_model.proofs.ListLaws.{count_by-push}
-use Rattle.hl_model.proofs.ActionLaws.{range-push}
+use Rattle.hl_model.proofs.ListLaws.{count_by-push, range-push}
 use Rattle.hl_model.proofs.EpochLaws.{is_protected-slot_epoch}
 
 -- what is told of one number more

@@ -1,8 +1,10 @@
 -- Lists of actions whose tickets rise: what a look-up, a filter and a front of them have.
-use Rattle.std.proofs.Common.{eq-eqb, ◌≡◌, ℕ, zero, suc, ◌+◌, ◌<◌, ◌≤◌, Bool, true, false, cond, not, ltb, is_some, List, [], ◌∷◌, length, take, map, refl, sym, ap, ◌∙◌, arith, eqb-true, ne_eqb, lt_of_le_of_lt, le_refl, le_of_lt}
-use Rattle.std.specs.Prelude.{◌==◌, Option, None}
-use Rattle.std.specs.List.{filter, find, range_with_len}
-use Rattle.std.proofs.lemmas.Bool.{eqb-false, ltb-true, lt-ltb}
+use Rattle.std.proofs.Common.{eq-eqb, ◌≡◌, ℕ, zero, suc, ◌+◌, ◌<◌, ◌≤◌, Bool, true, false, cond, not, ◌||◌, is_some, List, [], ◌∷◌, ◌++◌, length, take, drop, map, refl, sym, ap, ◌∙◌, subst, arith, eqb-true, ne_eqb, lt_of_le_of_lt, le_of_lt}
+use Rattle.std.specs.Prelude.{◌==◌, Option, Some, None}
+use Rattle.std.specs.List.{AllByRecursion, AllPairs, filter, find, list_any}
+use Rattle.std.proofs.lemmas.Bool.{eqb-false}
+use Rattle.std.proofs.lemmas.List.Elements.{All-from_recursion}
+use Rattle.std.proofs.lemmas.List.Kept.{AllPairs-cons}
 use Rattle.hl_model.specs.declared.action.Waiting.{Waiting}
 
 -- the action of ticket c, among some
@@ -18,14 +20,25 @@ pub Rising-lower : (a b : ℕ) (ws : List Waiting) → a ≤ b → Rising b ws �
 Rising-lower a b [] le r = tt
 Rising-lower a b (w ∷ ws) le r = (lt_of_le_of_lt le r.0, r.1)
 
--- numbers in order are tickets that rise
-pub Rising-range : (ws : List Waiting) (a n b : ℕ) → b < a → map (λ w. w.ticket) ws ≡ range_with_len a n → Rising b ws
-Rising-range [] a n b lt h = tt
-Rising-range (w ∷ ws) a zero b lt h = cc
-Rising-range (w ∷ ws) a (suc n) b lt h =
-    let same : w.ticket ≡ a = cc in
-    let rest : map (λ w. w.ticket) ws ≡ range_with_len (a + 1) n = cc in
-    (omega arith, Rising-range ws (a + 1) n w.ticket (omega arith) rest)
+-- one more above all of them
+pub Rising-push : (a : ℕ) (ws : List Waiting) (w : Waiting) → Rising a ws → a < w.ticket → AllByRecursion (λ v. v.ticket < w.ticket) ws → Rising a (ws ++ w ∷ [])
+Rising-push a [] w r lt below = (lt, tt)
+Rising-push a (v ∷ ws) w r lt below = (r.0, Rising-push v.ticket ws w r.1 below.0 below.1)
+
+-- what is left behind some of them is above
+pub Rising-rest : (a m : ℕ) (ws : List Waiting) (w : Waiting) (vs : List Waiting) → Rising a ws → drop m ws ≡ w ∷ vs → a < w.ticket
+Rising-rest a zero [] w vs r h = cc
+Rising-rest a zero (x ∷ ws) w vs r h = let same : x ≡ w = cc in subst (λ (y : Waiting). a < y.ticket) same r.0
+Rising-rest a (suc m) [] w vs r h = cc
+Rising-rest a (suc m) (x ∷ ws) w vs r h = omega (arith, r.0, Rising-rest x.ticket m ws w vs r.1 h)
+
+-- and none before it has its ticket
+pub front-new : (a m : ℕ) (ws : List Waiting) (w : Waiting) (vs : List Waiting) → Rising a ws → drop m ws ≡ w ∷ vs → list_any (λ v. v.ticket == w.ticket) (take m ws) ≡ false
+front-new a zero ws w vs r h = refl
+front-new a (suc m) [] w vs r h = cc
+front-new a (suc m) (x ∷ ws) w vs r h =
+    let lower : x.ticket < w.ticket = Rising-rest x.ticket m ws w vs r.1 h in
+    rw (ne_eqb x.ticket w.ticket (λ e. omega (arith, lower, e))) (front-new x.ticket m ws w vs r.1 h)
 
 pub Rising-take : (m a : ℕ) (ws : List Waiting) → Rising a ws → Rising a (take m ws)
 Rising-take zero a ws r = tt
@@ -86,41 +99,39 @@ of_ticket-below c a [] le r = refl
 of_ticket-below c a (w ∷ ws) le r =
     rw (ne_eqb w.ticket c (λ e. omega (arith, r.0, e))) (of_ticket-below c w.ticket ws (omega (arith, r.0)) r.1)
 
-front_cons : (c a m : ℕ) (w : Waiting) (ws : List Waiting) → w.ticket ≡ a → of_ticket c (take m ws) ≡ cond (ltb c ((a + 1) + m)) (of_ticket c ws) None → (b : Bool) → (w.ticket == c) ≡ b → of_ticket c (take (suc m) (w ∷ ws)) ≡ cond (ltb c (a + suc m)) (of_ticket c (w ∷ ws)) None
-front_cons c a m w ws same later true e =
-    let here : w.ticket ≡ c = eqb-true w.ticket c e in
-    let within : ltb c (a + suc m) ≡ true = lt-ltb c (a + suc m) (omega arith) in
-    rw (e, within) refl
-front_cons c a m w ws same later false e =
-    let bound : a + suc m ≡ (a + 1) + m = omega arith in
-    rw (e, bound) later
+found_front : {X : Type 0} (p : X → Bool) (x : X) (m : ℕ) (xs : List X) → find p (take m xs) ≡ cond (list_any p (take m xs)) (find p xs) None → (b : Bool) → p x ≡ b → find p (take (suc m) (x ∷ xs)) ≡ cond (list_any p (take (suc m) (x ∷ xs))) (find p (x ∷ xs)) None
+found_front p x m xs later true e = rw e refl
+found_front p x m xs later false e = rw e later
 
-none_taken : (c a n : ℕ) (ws : List Waiting) → map (λ w. w.ticket) ws ≡ range_with_len a n → (b : Bool) → ltb c (a + zero) ≡ b → None ≡ cond b (of_ticket c ws) None
-none_taken c a n ws h true e =
-    let lower : c < a = omega (arith, ltb-true c (a + zero) e) in
-    sym (of_ticket-below c c ws (le_refl c) (Rising-range ws a n c lower h))
-none_taken c a n ws h false e = refl
+-- a look-up among the first m finds what one among all does, or nothing
+pub find-take : {X : Type 0} (p : X → Bool) (m : ℕ) (xs : List X) → find p (take m xs) ≡ cond (list_any p (take m xs)) (find p xs) None
+find-take p zero xs = refl
+find-take p (suc m) [] = refl
+find-take p (suc m) (x ∷ xs) = found_front p x m xs (find-take p m xs) (p x) refl
 
--- a look-up among the first m, where the tickets are the numbers from a on
-pub of_ticket-take : (c a n m : ℕ) (ws : List Waiting) → map (λ w. w.ticket) ws ≡ range_with_len a n → of_ticket c (take m ws) ≡ cond (ltb c (a + m)) (of_ticket c ws) None
-of_ticket-take c a n zero [] h = sym (cond_none (ltb c (a + zero)))
-of_ticket-take c a n (suc m) [] h = sym (cond_none (ltb c (a + suc m)))
-of_ticket-take c a n zero (w ∷ ws) h = none_taken c a n (w ∷ ws) h (ltb c (a + zero)) refl
-of_ticket-take c a zero (suc m) (w ∷ ws) h = cc
-of_ticket-take c a (suc n) (suc m) (w ∷ ws) h =
-    let same : w.ticket ≡ a = cc in
-    let rest : map (λ w. w.ticket) ws ≡ range_with_len (a + 1) n = cc in
-    front_cons c a m w ws same (of_ticket-take c (a + 1) n m ws rest) (w.ticket == c) refl
+-- what passes among the first passes among more
+pub any-front : {X : Type 0} (p : X → Bool) (m n : ℕ) (xs ys : List X) → m ≤ n → list_any p (take m xs) ≡ true → list_any p (take n (xs ++ ys)) ≡ true
+any-front p zero n xs ys le h = cc
+any-front p (suc m) n [] ys le h = cc
+any-front p (suc m) zero (x ∷ xs) ys le h = absurd (omega (arith, le))
+any-front p (suc m) (suc n) (x ∷ xs) ys le h = by_test (p x) (any-front p m n xs ys (omega (arith, le))) h
+  where
+    by_test : (b : Bool) → (list_any p (take m xs) ≡ true → list_any p (take n (xs ++ ys)) ≡ true) → (b || list_any p (take m xs)) ≡ true → (b || list_any p (take n (xs ++ ys))) ≡ true
+    by_test true later k = refl
+    by_test false later k = later k
 
-some_cons : (c : ℕ) (w : Waiting) (ws : List Waiting) (b : Bool) → (w.ticket == c) ≡ b → ((w.ticket ≡ c → ⊥) → is_some (of_ticket c ws) ≡ true) → is_some (of_ticket c (w ∷ ws)) ≡ true
-some_cons c w ws true e later = rw e refl
-some_cons c w ws false e later = rw e (later (λ same. eqb-false w.ticket c e same))
+-- some element passes exactly where a look-up finds one
+pub found-any : {X : Type 0} (p : X → Bool) (xs : List X) → list_any p xs ≡ is_some (find p xs)
+found-any p [] = refl
+found-any p (x ∷ xs) = elim (p x) as (λ b. (b || list_any p xs) ≡ is_some (cond b (Some x) (find p xs))) [ true ↦ refl | false ↦ found-any p xs ]
 
--- a number from a on is a ticket where it is below a + n
-pub of_ticket-some : (c a n : ℕ) (ws : List Waiting) → map (λ w. w.ticket) ws ≡ range_with_len a n → a ≤ c → c < a + n → is_some (of_ticket c ws) ≡ true
-of_ticket-some c a zero ws h low high = absurd (omega arith)
-of_ticket-some c a (suc n) [] h low high = cc
-of_ticket-some c a (suc n) (w ∷ ws) h low high =
-    let same : w.ticket ≡ a = cc in
-    let rest : map (λ w. w.ticket) ws ≡ range_with_len (a + 1) n = cc in
-    some_cons c w ws (w.ticket == c) refl (λ ne. of_ticket-some c (a + 1) n ws rest (omega (arith, same, ne)) (omega arith))
+-- each ticket is below all later ones
+pub tickets-rising : (a : ℕ) (ws : List Waiting) → Rising a ws → AllPairs (λ earlier later. earlier < later) (map (λ w. w.ticket) ws)
+tickets-rising a [] r = λ i j d lt within. absurd (omega (arith, within))
+tickets-rising a (w ∷ ws) r =
+    AllPairs-cons (λ earlier later. earlier < later) w.ticket (map (λ v. v.ticket) ws)
+    (All-from_recursion (λ later. w.ticket < later) (map (λ v. v.ticket) ws) (above w.ticket ws r.1)) (tickets-rising w.ticket ws r.1)
+  where
+    above : (b : ℕ) (vs : List Waiting) → Rising b vs → AllByRecursion (λ later. b < later) (map (λ v. v.ticket) vs)
+    above b [] k = tt
+    above b (v ∷ vs) k = (k.0, above b vs (Rising-lower b v.ticket vs (le_of_lt k.0) k.1))

@@ -1,5 +1,5 @@
 -- The drain list, looked up in one flat list of steps (FASTER's actions, stored by a bump of the epoch).
-use Rattle.std.specs.Prelude.{ℕ, ◌+◌, ◌-◌, ◌==◌, nat_le, Bool, true, false, ◌&&◌, not, Option, List, [], ◌∷◌, take, drop, filter, find, count_by}
+use Rattle.std.specs.Prelude.{ℕ, ◌-◌, ◌==◌, Bool, true, false, ◌&&◌, not, Option, List, [], ◌∷◌, take, drop, length, filter, find, count_by}
 use Rattle.std.specs.List.{list_any}
 use Rattle.hl_model.specs.declared.action.Kind.TheVariants.{User, Settle as Settling, Close as Closing}
 use Rattle.hl_model.specs.declared.action.Waiting.{Waiting}
@@ -8,6 +8,13 @@ use Rattle.hl_model.specs.declared.step.Step.TheVariants.{Bump, Settle, Close, T
 use Rattle.hl_model.specs.Lists.{gather}
 use Rattle.hl_model.specs.Epochs.{is_bump, current_epoch}
 use Rattle.hl_model.specs.Offsets.{read_only, head}
+
+-- a bump that stores an action
+abbrev pub stores : Step → Bool
+stores (Bump tag) = true
+stores Settle = true
+stores Close = true
+stores _ = false
 
 -- a step that takes an action
 abbrev pub is_take : Step → Bool
@@ -24,7 +31,7 @@ abbrev pub finishes : ℕ → Step → Bool
 finishes c (Done ticket) = ticket == c
 finishes c _ = false
 
--- how many bumps, takes and dones
+-- how many bumps of any kind, takes and dones
 unfoldable pub bumps : List Step → ℕ
 bumps A = count_by is_bump A
 
@@ -34,7 +41,8 @@ takes A = count_by is_take A
 unfoldable pub dones : List Step → ℕ
 dones A = count_by is_done A
 
--- the action that a step stores: a bump's ticket is the current epoch before it, so the j-th bump has ticket j; a settle stores the read-only offset before it, a close the head
+-- the action that a step stores, under the number of its bump, which is the current epoch before it: the ticket; a
+-- settle stores the read-only offset before it, a close the head
 abbrev pub action_of : List Step → Step → List Waiting
 action_of before (Bump tag) = record { ticket = current_epoch before; kind = User tag } ∷ []
 action_of before Settle = record { ticket = current_epoch before; kind = Settling (read_only before) } ∷ []
@@ -53,21 +61,30 @@ is_finished c A = list_any (finishes c) A
 unfoldable pub pending : List Step → List Waiting
 pending A = drop (takes A) (actions A)
 
--- the ticket of the oldest pending action, if there is one: the next take names it
+-- the ticket of the first of some actions; 0 where there is none
+abbrev pub first_ticket : List Waiting → ℕ
+first_ticket [] = 0
+first_ticket (w ∷ ws) = w.ticket
+
+-- the ticket of the oldest pending action: the next take names it; 0 where none is pending, and no take is accepted
 abbrev pub front : List Step → ℕ
-front A = takes A + 1
+front A = first_ticket (pending A)
 
--- the actions taken and not done: those of the first m whose ticket no done names
+-- the actions ever taken: the first m
+unfoldable pub ever_taken : List Step → List Waiting
+ever_taken A = take (takes A) (actions A)
+
+-- the actions taken and not done: those ever taken whose ticket no done names
 unfoldable pub taken : List Step → List Waiting
-taken A = filter (λ w. not (is_finished w.ticket A)) (take (takes A) (actions A))
+taken A = filter (λ w. not (is_finished w.ticket A)) (ever_taken A)
 
--- ticket c is that of an action taken and not done
+-- ticket c is that of an action taken and not done: one ever taken has it, and no done names it
 unfoldable pub is_taken : ℕ → List Step → Bool
-is_taken c A = nat_le 1 c && nat_le c (takes A) && not (is_finished c A)
+is_taken c A = list_any (λ w. w.ticket == c) (ever_taken A) && not (is_finished c A)
 
--- a list of d places is full: bumps less dones are d
+-- a list of d places is full: the actions stored less the dones are d
 unfoldable pub is_full : ℕ → List Step → Bool
-is_full d A = bumps A - dones A == d
+is_full d A = length (actions A) - dones A == d
 
 -- the action of ticket c
 unfoldable pub action_at : ℕ → List Step → Option Waiting

@@ -2,15 +2,16 @@
 use Rattle.std.specs.Prelude.{ℕ, ◌+◌, ◌-◌, ◌==◌, nat_lt, Bool, true, false, if◌then◌else◌, Option, Some, None, List, take, map, count_by}
 use Rattle.std.specs.List.{filter_map, range_with_len}
 use Rattle.hl_model.specs.declared.step.Step.{Step}
-use Rattle.hl_model.specs.declared.step.Step.TheVariants.{Acquire, Refresh, Release, Bump, Settle, Close}
+use Rattle.hl_model.specs.declared.step.Step.TheVariants.{Acquire, Refresh, Release, Bump, Settle, Close, Bare}
 use Rattle.hl_model.specs.Lists.{until_last, least_or}
 use Rattle.hl_model.specs.Sizes.{Sizes}
 
--- a step that raises the current epoch
+-- a bump: a step that raises the current epoch
 abbrev pub is_bump : Step → Bool
 is_bump (Bump tag) = true
 is_bump Settle = true
 is_bump Close = true
+is_bump Bare = true
 is_bump _ = false
 
 -- a step at which the thread of slot t takes the current epoch for its own
@@ -24,7 +25,7 @@ abbrev pub leaves : ℕ → Step → Bool
 leaves t (Release u) = u == t
 leaves t _ = false
 
--- the current epoch: 1 and one more for each bump
+-- the current epoch: 1 and one more for each bump, so the j-th bump ends epoch j, which is its number
 unfoldable pub current_epoch : List Step → ℕ
 current_epoch A = 1 + count_by is_bump A
 

@@ -1,7 +1,7 @@
 -- The numbers of faults.
 use Rattle.std.specs.Prelude.{ℕ}
 use Rattle.hl_model.specs.declared.fault.Fault.{Fault}
-use Rattle.hl_model.specs.declared.fault.Fault.TheVariants.{NoSlot, Occupied, NotProtected, Stale, DrainFull, EpochsSpent, Empty, NotReady, NotTaken, NotAbove, AboveTail, NotPage, AboveFlushed, Size, Busy, SpaceSpent, Below, Beyond, Evicted, NoneSealed, NotInFlight, NoneClosed, NotCleaning, NoJob, TouchesFull, Stranger, JournalFull, Device, OutOfMemory, BadLine, Stream}
+use Rattle.hl_model.specs.declared.fault.Fault.TheVariants.{NoSlot, Occupied, NotProtected, Stale, DrainFull, EpochsSpent, Empty, NotReady, NotTaken, NotAbove, AboveTail, NotPage, AboveFlushed, Size, Busy, SpaceSpent, Below, Beyond, Evicted, NoneSealed, NotInFlight, NoneClosed, NotCleaning, NoJob, TouchesFull, Stranger, JournalFull, Device, OutOfMemory, BadLine, Stream, WindowFull}
 
 -- the number by which a fault is known
 abbrev pub number_of : Fault → ℕ
@@ -36,3 +36,4 @@ number_of Device = 28
 number_of OutOfMemory = 29
 number_of (BadLine n) = 30
 number_of Stream = 31
+number_of WindowFull = 32

@@ -3,17 +3,18 @@ use Rattle.std.specs.Prelude.{ℕ, ◌≡◌, ◌↔◌, ◌+◌, ◌==◌, Bool
 use Rattle.std.specs.List.{list_any}
 use Rattle.hl_model.specs.declared.action.Waiting.{Waiting}
 use Rattle.hl_model.specs.declared.step.Step.{Step}
-use Rattle.hl_model.specs.declared.step.Step.TheVariants.{Acquire, Refresh, Release, Bump, Settle, Close, Take, Done, Raise, Shift, Allocate, FlushTake, FlushDone, CleanTake, CleanDone}
+use Rattle.hl_model.specs.declared.step.Step.TheVariants.{Acquire, Refresh, Release, Bump, Settle, Close, Bare, Take, Done, Raise, Shift, Allocate, FlushTake, FlushDone, CleanTake, CleanDone}
 use Rattle.hl_model.specs.Sizes.{Sizes}
 use Rattle.hl_model.specs.Epochs.{table_of, slot_epochs, is_bump, enters, leaves, current_epoch}
-use Rattle.hl_model.specs.Actions.{is_take, is_done, action_of, pending, taken, is_taken, action_at}
+use Rattle.hl_model.specs.Actions.{stores, is_take, is_done, action_of, pending, taken, is_taken, action_at}
 use Rattle.hl_model.specs.Offsets.{tail, place_of}
 use Rattle.hl_model.specs.Settled.{settles, closes, safe_read_only, closed}
 use Rattle.hl_model.specs.Pages.{Work, marks, next_page, flush_of, takes_to_flush, flushing, clean_of, takes_to_clean, cleaning, is_flushed, is_in_flight, is_freed, is_cleaning, next_to_flush, next_to_clean, flushed}
 use Rattle.hl_model.specs.Snapshots.{six}
 use Rattle.hl_model.specs.Replies.{fault_of, IsAccepted}
 
--- what each step makes of the table of a list: an acquire and a refresh set the slot's epoch to the current one, a release ends it, a bump, a settle and a close raise the current one, and no other step changes anything
+-- what each step makes of the table of a list: an acquire and a refresh set the slot's epoch to the current one, a release
+-- ends it, a bump of any kind raises the current one, and no other step changes anything
 pub record TablesMove (sizes : Sizes) (A : List Step) : Type 0 where
   pub acquire : (t : ℕ) → table_of sizes (A ++ Acquire t ∷ []) ≡ record (table_of sizes A) { epochs = slice_set (slot_epochs sizes.slots A) t (Some (current_epoch A)) }
   pub refresh : (t : ℕ) → table_of sizes (A ++ Refresh t ∷ []) ≡ record (table_of sizes A) { epochs = slice_set (slot_epochs sizes.slots A) t (Some (current_epoch A)) }
@@ -21,6 +22,7 @@ pub record TablesMove (sizes : Sizes) (A : List Step) : Type 0 where
   pub bump : (tag : ℕ) → table_of sizes (A ++ Bump tag ∷ []) ≡ record (table_of sizes A) { current = current_epoch A + 1 }
   pub settle : table_of sizes (A ++ Settle ∷ []) ≡ record (table_of sizes A) { current = current_epoch A + 1 }
   pub close : table_of sizes (A ++ Close ∷ []) ≡ record (table_of sizes A) { current = current_epoch A + 1 }
+  pub bare : table_of sizes (A ++ Bare ∷ []) ≡ record (table_of sizes A) { current = current_epoch A + 1 }
   pub others : (s : Step) → is_bump s ≡ false → ((t : ℕ) → enters t s ≡ false) → ((t : ℕ) → leaves t s ≡ false) → table_of sizes (A ++ s ∷ []) ≡ table_of sizes A
 
 -- so does each step after every list
@@ -30,13 +32,13 @@ TablesFollow = (sizes : Sizes) (A : List Step) → TablesMove sizes A
 -- what each step makes of the pending and the taken actions of a list
 pub record ActionsMove (A : List Step) : Type 0 where
   -- a bump, a settle and a close store their action behind the pending ones
-  pub stored : (s : Step) → is_bump s ≡ true → (pending (A ++ s ∷ []) ≡ pending A ++ action_of A s) × (taken (A ++ s ∷ []) ≡ taken A)
+  pub stored : (s : Step) → stores s ≡ true → (pending (A ++ s ∷ []) ≡ pending A ++ action_of A s) × (taken (A ++ s ∷ []) ≡ taken A)
   -- a take moves the first pending action behind the taken ones
   pub took : (w : Waiting) (others : List Waiting) → pending A ≡ w ∷ others → (pending (A ++ Take ∷ []) ≡ others) × (taken (A ++ Take ∷ []) ≡ taken A ++ w ∷ [])
   -- a done removes the taken action of its ticket
   pub done : (c : ℕ) → (pending (A ++ Done c ∷ []) ≡ pending A) × (taken (A ++ Done c ∷ []) ≡ filter (λ w. not (c == w.ticket)) (taken A))
   -- no other step changes them
-  pub others : (s : Step) → is_bump s ≡ false → is_take s ≡ false → is_done s ≡ false → (pending (A ++ s ∷ []) ≡ pending A) × (taken (A ++ s ∷ []) ≡ taken A)
+  pub others : (s : Step) → stores s ≡ false → is_take s ≡ false → is_done s ≡ false → (pending (A ++ s ∷ []) ≡ pending A) × (taken (A ++ s ∷ []) ≡ taken A)
 
 -- so does each step after an accepted list
 abbrev pub ActionsFollow : Type 0

@@ -1,6 +1,6 @@
 -- The headline, of one list of steps; but for its replies and quantities, which a core's `run` tells. That it holds of every accepted list is the law `headline`.
-use Rattle.std.specs.Prelude.{ℕ, ◌≡◌, ◌+◌, ◌-◌, ◌/◌, ◌≤◌, ◌⊎◌, ◌==◌, Bool, true, false, Result, Ok, List, [], ◌∷◌, ◌++◌}
-use Rattle.std.specs.List.{list_any, range_with_len}
+use Rattle.std.specs.Prelude.{ℕ, ◌≡◌, ◌+◌, ◌-◌, ◌/◌, ◌<◌, ◌≤◌, ◌⊎◌, ◌==◌, Bool, true, false, Result, Ok, List, [], ◌∷◌, ◌++◌, map}
+use Rattle.std.specs.List.{list_any, AllPairs}
 use Rattle.hl_model.specs.declared.fault.Fault.{Fault}
 use Rattle.hl_model.specs.declared.step.Reply.{Reply}
 use Rattle.hl_model.specs.declared.step.Reply.TheVariants.{Taken}
@@ -9,7 +9,7 @@ use Rattle.hl_model.specs.declared.step.Step.TheVariants.{Refresh, Release, Take
 use Rattle.hl_model.specs.Lists.{gather}
 use Rattle.hl_model.specs.Sizes.{Sizes}
 use Rattle.hl_model.specs.Epochs.{is_bump, is_protected}
-use Rattle.hl_model.specs.Actions.{bumps, takes, front}
+use Rattle.hl_model.specs.Actions.{bumps, front, ever_taken}
 use Rattle.hl_model.specs.Offsets.{tail, place_of, is_entered}
 use Rattle.hl_model.specs.Settled.{safe_read_only, closed}
 use Rattle.hl_model.specs.Views.{seen_read_only, seen_head}
@@ -39,9 +39,12 @@ placed sizes A n = place_of sizes.page (tail sizes A) n
 
 -- what is promised of a list of steps, wherever it is cut
 pub record Headline (sizes : Sizes) (A : List Step) : Type 0 where
-  -- an action is taken at most once: the takes name 1, 2, 3 and so on
-  pub taken_once : tickets_told sizes A ≡ range_with_len 1 (takes A)
-  -- where the ticket of the bump s is taken, each slot that was protected before the bump has refreshed or left between the two
+  -- the takes name the tickets of the first actions in their order, none left out
+  pub taken_in_order : tickets_told sizes A ≡ map (λ w. w.ticket) (ever_taken A)
+  -- an action is taken at most once: the tickets named rise
+  pub taken_once : AllPairs (λ earlier later. earlier < later) (tickets_told sizes A)
+  -- where the ticket of the bump s, its number, is taken, each slot that was protected before the bump has refreshed or left
+  -- between the two
   pub taken_after_all_moved_on : (X : List Step) (s : Step) (Y Z : List Step) (t : ℕ) → A ≡ (X ++ s ∷ Y) ++ Take ∷ Z → is_bump s ≡ true → front (X ++ s ∷ Y) ≡ bumps X + 1 → is_protected t X ≡ true → list_any (moves_on t) Y ≡ true
   -- no accepted write lies below the safe read-only offset
   pub written_above_safe_read_only : (X : List Step) (t a v : ℕ) (Y : List Step) → A ≡ X ++ Write t a v ∷ Y → safe_read_only X ≤ a

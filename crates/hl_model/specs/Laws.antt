@@ -1,10 +1,11 @@
 -- What holds of every accepted list of steps, and where no acceptance is asked for of every list, in the subject's own words. Each statement is the contract of a function of the module laws.
-use Rattle.std.specs.Prelude.{map, None, ℕ, ◌≡◌, ◌↔◌, ◌+◌, ◌-◌, ◌<◌, ◌≤◌, ◌==◌, true, List, [], ◌∷◌, ◌++◌, length}
-use Rattle.std.specs.List.{list_any, range_with_len}
+use Rattle.std.specs.Prelude.{map, All, None, ℕ, ◌≡◌, ◌↔◌, ◌+◌, ◌-◌, ◌<◌, ◌≤◌, ◌==◌, true, if◌then◌else◌, List, [], ◌∷◌, ◌++◌, length}
+use Rattle.std.specs.List.{list_any, AllPairs}
 use Rattle.hl_model.specs.declared.step.Step.{Step}
+use Rattle.hl_model.specs.Lists.{gather}
 use Rattle.hl_model.specs.Sizes.{Sizes}
-use Rattle.hl_model.specs.Epochs.{is_bump, current_epoch, mark, is_protected, epoch_of, safe_epoch}
-use Rattle.hl_model.specs.Actions.{bumps, takes, dones, front, actions, pending, taken, is_taken}
+use Rattle.hl_model.specs.Epochs.{epoch_window, is_bump, current_epoch, mark, is_protected, epoch_of, safe_epoch}
+use Rattle.hl_model.specs.Actions.{stores, bumps, dones, actions, ever_taken, pending, taken, is_taken}
 use Rattle.hl_model.specs.Offsets.{read_only, head, tail}
 use Rattle.hl_model.specs.Settled.{safe_read_only, closed}
 use Rattle.hl_model.specs.Pages.{flushed}
@@ -48,25 +49,38 @@ SafeIsGreatest = (slots : ℕ) (A : List Step) (c : ℕ) → (c ≤ safe_epoch s
 abbrev pub MarkAfterBump : Type 0
 MarkAfterBump = (X : List Step) (s : Step) (Y : List Step) (t : ℕ) → is_bump s ≡ true → is_protected t (X ++ s ∷ Y) ≡ true → (bumps X + 1 < epoch_of t (X ++ s ∷ Y)) ↔ (length X + 1 < mark t (X ++ s ∷ Y))
 
--- the epochs that ended above the safe one are at most the places of the drain list
-abbrev pub EpochsFitTheDrainList : Type 0
-EpochsFitTheDrainList = (sizes : Sizes) (A : List Step) → IsAccepted sizes A → current_epoch A - 1 - safe_epoch sizes.slots A ≤ sizes.drain
+-- the epochs that ended above the safe one are at most those of the window
+abbrev pub EpochsFitTheWindow : Type 0
+EpochsFitTheWindow = (sizes : Sizes) (A : List Step) → IsAccepted sizes A
+    → current_epoch A - 1 - safe_epoch sizes.slots A ≤ epoch_window
 
--- pending and taken actions are the bumps less the dones, and at most the places of the drain list
+-- pending and taken actions are the actions stored less the dones, and at most the places of the drain list
 abbrev pub DrainListHoldsThem : Type 0
-DrainListHoldsThem = (sizes : Sizes) (A : List Step) → IsAccepted sizes A → (length (pending A) + length (taken A) ≡ bumps A - dones A) × (length (pending A) + length (taken A) ≤ sizes.drain)
+DrainListHoldsThem = (sizes : Sizes) (A : List Step) → IsAccepted sizes A
+    → (length (pending A) + length (taken A) ≡ length (actions A) - dones A)
+    × (length (pending A) + length (taken A) ≤ sizes.drain)
 
--- the tickets of all actions are 1, 2, 3 and so on, and those of the pending ones go on from the front
-abbrev pub TicketsCountUp : Type 0
-TicketsCountUp = (A : List Step) → (map (λ w. w.ticket) (actions A) ≡ range_with_len 1 (bumps A)) × (map (λ w. w.ticket) (pending A) ≡ range_with_len (front A) (bumps A - takes A))
+-- the number that a step uses for a ticket: a bump that stores an action is the one after the bumps before it
+abbrev pub number_stored : List Step → Step → List ℕ
+number_stored before s = if stores s then (bumps before + 1) ∷ [] else []
+
+-- the tickets of all actions are the numbers of the bumps that stored them, none left out
+abbrev pub TicketsAreNumbers : Type 0
+TicketsAreNumbers = (A : List Step) → map (λ w. w.ticket) (actions A) ≡ gather number_stored A
+
+-- and so they rise, and are at most the bumps
+abbrev pub TicketsRise : Type 0
+TicketsRise = (A : List Step) → AllPairs (λ earlier later. earlier < later) (map (λ w. w.ticket) (actions A))
+    × All (λ c. (1 ≤ c) × (c ≤ bumps A)) (map (λ w. w.ticket) (actions A))
 
 -- a ticket is taken and not done exactly where a taken action has it
 abbrev pub TakenAreThoseListed : Type 0
 TakenAreThoseListed = (sizes : Sizes) (A : List Step) (c : ℕ) → IsAccepted sizes A → is_taken c A ≡ list_any (λ w. w.ticket == c) (taken A)
 
--- each ticket taken is safe
+-- each ticket taken is safe, whether it is done or not
 abbrev pub TakenAreSafe : Type 0
-TakenAreSafe = (sizes : Sizes) (A : List Step) → IsAccepted sizes A → takes A ≤ safe_epoch sizes.slots A
+TakenAreSafe = (sizes : Sizes) (A : List Step) → IsAccepted sizes A
+    → All (λ w. w.ticket ≤ safe_epoch sizes.slots A) (ever_taken A)
 
 -- the offsets of each accepted list are in order
 abbrev pub OffsetsAreInOrder : Type 0

@@ -4,15 +4,15 @@ use Rattle.hl_model.specs.declared.action.Kind.{Kind}
 use Rattle.hl_model.specs.declared.action.Kind.TheVariants.{User, Settle as Settling, Close as Closing}
 use Rattle.hl_model.specs.declared.action.Waiting.{Waiting}
 use Rattle.hl_model.specs.declared.fault.Fault.{Fault}
-use Rattle.hl_model.specs.declared.fault.Fault.TheVariants.{NoSlot, Occupied, NotProtected, Stale, DrainFull, EpochsSpent, Empty, NotReady, NotTaken, NotAbove, AboveTail, NotPage, AboveFlushed, Size, Busy, SpaceSpent, Below, Beyond, Evicted, NoneSealed, NotInFlight, NoneClosed, NotCleaning}
+use Rattle.hl_model.specs.declared.fault.Fault.TheVariants.{NoSlot, Occupied, NotProtected, Stale, DrainFull, EpochsSpent, Empty, NotReady, NotTaken, NotAbove, AboveTail, NotPage, AboveFlushed, Size, Busy, SpaceSpent, Below, Beyond, Evicted, NoneSealed, NotInFlight, NoneClosed, NotCleaning, WindowFull}
 use Rattle.hl_model.specs.declared.step.Reply.{Reply}
-use Rattle.hl_model.specs.declared.step.Reply.TheVariants.{Entered, Left, Ticket, Taken, Ran, Settled, Closed, Raised, Shifted, At, Looked, Written, Readable, Value, Page, Flushed, Freed}
+use Rattle.hl_model.specs.declared.step.Reply.TheVariants.{Entered, Left, Ticket, Bumped, Taken, Ran, Settled, Closed, Raised, Shifted, At, Looked, Written, Readable, Value, Page, Flushed, Freed}
 use Rattle.hl_model.specs.declared.step.Step.{Step}
-use Rattle.hl_model.specs.declared.step.Step.TheVariants.{Acquire, Refresh, Release, Bump, Settle, Close, Take, Done, Raise, Shift, Allocate, Look, Write, Read, FlushTake, FlushDone, CleanTake, CleanDone}
+use Rattle.hl_model.specs.declared.step.Step.TheVariants.{Acquire, Refresh, Release, Bump, Settle, Close, Bare, Take, Done, Raise, Shift, Allocate, Look, Write, Read, FlushTake, FlushDone, CleanTake, CleanDone}
 use Rattle.hl_model.specs.Lists.{gather}
 use Rattle.hl_model.specs.Sizes.{Sizes}
-use Rattle.hl_model.specs.Epochs.{current_epoch, is_protected, epoch_of, safe_epoch}
-use Rattle.hl_model.specs.Actions.{takes, bumps, front, pending, is_taken, is_full, action_at}
+use Rattle.hl_model.specs.Epochs.{epoch_window, current_epoch, is_protected, epoch_of, safe_epoch}
+use Rattle.hl_model.specs.Actions.{bumps, front, pending, is_taken, is_full, action_at}
 use Rattle.hl_model.specs.Offsets.{read_only, head, tail, place_of, is_entered}
 use Rattle.hl_model.specs.Settled.{safe_read_only, closed}
 use Rattle.hl_model.specs.Views.{seen_read_only, seen_head, seen_tail, view_of}
@@ -32,9 +32,17 @@ acquire_fault sizes A t = if nat_le sizes.slots t then Some NoSlot else if is_pr
 abbrev pub protected_fault : Sizes → List Step → ℕ → Option Fault
 protected_fault sizes A t = if nat_le sizes.slots t then Some NoSlot else if is_protected t A then None else Some NotProtected
 
--- the fault of a step that stores an action
+-- the fault of a bare bump: the current epoch is the last, or as many epochs have ended and are not safe as the window
+-- allows
+abbrev pub bare_fault : Sizes → List Step → Option Fault
+bare_fault sizes A =
+    if current_epoch A == epoch_last then Some EpochsSpent
+    else if current_epoch A - 1 - safe_epoch sizes.slots A == epoch_window then Some WindowFull
+    else None
+
+-- the fault of a bump that stores an action
 abbrev pub bump_fault : Sizes → List Step → Option Fault
-bump_fault sizes A = if is_full sizes.drain A then Some DrainFull else if current_epoch A == epoch_last then Some EpochsSpent else None
+bump_fault sizes A = if is_full sizes.drain A then Some DrainFull else bare_fault sizes A
 
 -- the fault of a take
 abbrev pub take_fault : Sizes → List Step → Option Fault
@@ -102,6 +110,7 @@ fault_of sizes A (Release t) = protected_fault sizes A t
 fault_of sizes A (Bump tag) = bump_fault sizes A
 fault_of sizes A Settle = bump_fault sizes A
 fault_of sizes A Close = bump_fault sizes A
+fault_of sizes A Bare = bare_fault sizes A
 fault_of sizes A Take = take_fault sizes A
 fault_of sizes A (Done ticket) = if is_taken ticket A then None else Some NotTaken
 fault_of sizes A (Raise x) = raise_fault (read_only A) (tail sizes A) x
@@ -134,7 +143,8 @@ answer_of sizes A B (Release t) = Left
 answer_of sizes A B (Bump tag) = Ticket (bumps B)
 answer_of sizes A B Settle = Ticket (bumps B)
 answer_of sizes A B Close = Ticket (bumps B)
-answer_of sizes A B Take = Taken (takes B)
+answer_of sizes A B Bare = Bumped (bumps B)
+answer_of sizes A B Take = Taken (front A)
 answer_of sizes A B (Done ticket) = done_answer B (kind_or_job_0 (action_at ticket B))
 answer_of sizes A B (Raise x) = Raised (read_only B)
 answer_of sizes A B (Shift x) = Shifted (head B)

@@ -5,9 +5,9 @@ use Rattle.hl_model.specs.declared.action.Waiting.{Waiting}
 use Rattle.hl_model.specs.declared.fault.Fault.{Fault}
 use Rattle.hl_model.specs.declared.fault.Fault.TheVariants.{NoSlot, Occupied, NotProtected, DrainFull, Empty, NotReady, NotTaken}
 use Rattle.hl_model.specs.declared.step.Reply.{Reply}
-use Rattle.hl_model.specs.declared.step.Reply.TheVariants.{Entered, Left, Ticket, Taken, Ran}
+use Rattle.hl_model.specs.declared.step.Reply.TheVariants.{Entered, Left, Ticket, Bumped, Taken, Ran}
 use Rattle.hl_model.specs.declared.step.Step.{Step}
-use Rattle.hl_model.specs.declared.step.Step.TheVariants.{Acquire, Refresh, Release, Bump, Take, Done}
+use Rattle.hl_model.specs.declared.step.Step.TheVariants.{Acquire, Refresh, Release, Bump, Bare, Take, Done}
 use Rattle.hl_model.specs.declared.view.View.{View}
 use Rattle.hl_model.specs.Sizes.{Sizes}
 use Rattle.hl_model.specs.Epochs.{current_epoch, safe_epoch}
@@ -65,3 +65,19 @@ TwoThreads = Gives small
 -- actions wait in the order of their bumps
 abbrev pub BothWait : Type 0
 BothWait = Gives small (Acquire 1 ∷ Bump 9 ∷ Bump 8 ∷ []) (Ok (Entered 1 at_start) ∷ Ok (Ticket 1) ∷ Ok (Ticket 2) ∷ []) 3 0 (job 1 9 ∷ job 2 8 ∷ []) []
+
+-- bare bumps raise the epoch and take no place: tickets have gaps
+abbrev pub BareBumps : Type 0
+BareBumps = Gives (record small { drain = 1 })
+    (Acquire 0 ∷ Bare ∷ Bump 5 ∷ Bare ∷ Bump 6 ∷ Take ∷ Refresh 0 ∷ Take ∷ Done 1 ∷ Done 2 ∷ Bump 6 ∷ Take ∷ [])
+    (Ok (Entered 1 at_start) ∷ Ok (Bumped 1) ∷ Ok (Ticket 2) ∷ Ok (Bumped 3) ∷ Err DrainFull ∷ Err (NotReady 2 0)
+        ∷ Ok (Entered 4 at_start) ∷ Ok (Taken 2) ∷ Err NotTaken ∷ Ok (Ran 5) ∷ Ok (Ticket 4) ∷ Err (NotReady 4 3) ∷ [])
+    5 3 (job 4 6 ∷ []) []
+
+-- tickets run ahead of the takes by several bare bumps, and dones come out of order
+abbrev pub TicketsRunAhead : Type 0
+TicketsRunAhead = Gives (record small { drain = 3 })
+    (Bare ∷ Bare ∷ Bare ∷ Bump 5 ∷ Bare ∷ Bump 6 ∷ Bare ∷ Bump 7 ∷ Take ∷ Take ∷ Done 2 ∷ Done 6 ∷ Take ∷ Done 6 ∷ Done 4 ∷ [])
+    (Ok (Bumped 1) ∷ Ok (Bumped 2) ∷ Ok (Bumped 3) ∷ Ok (Ticket 4) ∷ Ok (Bumped 5) ∷ Ok (Ticket 6) ∷ Ok (Bumped 7) ∷ Ok (Ticket 8)
+        ∷ Ok (Taken 4) ∷ Ok (Taken 6) ∷ Err NotTaken ∷ Ok (Ran 6) ∷ Ok (Taken 8) ∷ Err NotTaken ∷ Ok (Ran 5) ∷ [])
+    9 8 [] (job 8 7 ∷ [])

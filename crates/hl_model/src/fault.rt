@@ -99,10 +99,13 @@ pub enum Fault {
     /// A reader or a writer failed.
     #[error("fault 31 Stream")]
     Stream,
+    /// 4,096 epochs have ended and aren't safe.
+    #[error("fault 32 WindowFull")]
+    WindowFull,
 }
 
 impl Fault {
-    /// Its number, 1 to 31.
+    /// Its number, 1 to 32.
     pub fn number(self) -> u8
         ensures { result ≡ number_of self }
     {
@@ -138,6 +141,7 @@ impl Fault {
             Fault::OutOfMemory => 29,
             Fault::BadLine { .. } => 30,
             Fault::Stream => 31,
+            Fault::WindowFull => 32,
         }
     }
 }

@@ -2,7 +2,7 @@
 //! definitions alone carry them, so they hold of whatever meets the definitions.
 
 ghost use Rattle.hl_model.specs.Follows.{TablesFollow, ActionsFollow, OffsetsFollow, PagesFollow, OutSinceItsTake};
-ghost use Rattle.hl_model.specs.Laws.{HeadlineHolds, AcceptedMeetsNoFault, GoodByItsLastStep, CurrentIsAtMostLast, DrainListHoldsThem, TicketsCountUp, TakenAreThoseListed, TakenAreSafe, AcceptedStepsAreAccepted, BeginningsAreAccepted, EpochsAreInOrder, SafeNeverFalls, SafeIsGreatest, MarkAfterBump, EpochsFitTheDrainList, OffsetsAreInOrder, OffsetsNeverFall};
+ghost use Rattle.hl_model.specs.Laws.{HeadlineHolds, AcceptedMeetsNoFault, GoodByItsLastStep, CurrentIsAtMostLast, DrainListHoldsThem, TicketsAreNumbers, TicketsRise, TakenAreThoseListed, TakenAreSafe, AcceptedStepsAreAccepted, BeginningsAreAccepted, EpochsAreInOrder, SafeNeverFalls, SafeIsGreatest, MarkAfterBump, EpochsFitTheWindow, OffsetsAreInOrder, OffsetsNeverFall};
 
 /// The accepted steps of any list are an accepted list.
 #[tactic(auto, using(crate::proofs::LawProofs::accepted_steps_are_accepted))]
@@ -38,10 +38,10 @@ pub fn mark_after_bump()
     ensures { MarkAfterBump }
 {}
 
-/// After an accepted list, the epochs that ended and aren't safe are at most the places of the drain list.
-#[tactic(auto, using(crate::proofs::LawProofs::epochs_fit_the_drain_list))]
-pub fn epochs_fit_the_drain_list()
-    ensures { EpochsFitTheDrainList }
+/// After an accepted list, the epochs that ended and aren't safe are at most 4,096, the window.
+#[tactic(auto, using(crate::proofs::LawProofs::epochs_fit_the_window))]
+pub fn epochs_fit_the_window()
+    ensures { EpochsFitTheWindow }
 {}
 
 /// A step of an accepted list meets no fault after those before it.
@@ -62,15 +62,23 @@ pub fn current_is_at_most_last()
     ensures { CurrentIsAtMostLast }
 {}
 
-/// Pending and taken actions are the bumps less the dones, and at most the places of the drain list.
+/// Pending and taken actions are the actions stored less the dones, and at most the places of the drain list.
 #[tactic(auto, using(crate::proofs::LawProofs::drain_list_holds_them))]
 pub fn drain_list_holds_them()
     ensures { DrainListHoldsThem }
 {}
 
-/// The j-th bump's action has ticket j, and the pending ones go on from the front.
-pub fn tickets_count_up()
-    ensures { TicketsCountUp }
+/// The j-th bump of any kind has number j. A bump that stores an action gives its number to the action for a ticket, and
+/// no other number is a ticket.
+#[tactic(auto, using(crate::proofs::LawProofs::tickets_are_numbers))]
+pub fn tickets_are_numbers()
+    ensures { TicketsAreNumbers }
+{}
+
+/// The tickets of all actions rise in the order in which these were stored, from 1 up to the number of bumps.
+#[tactic(auto, using(crate::proofs::LawProofs::tickets_rise))]
+pub fn tickets_rise()
+    ensures { TicketsRise }
 {}
 
 /// A ticket is taken and not done exactly where a taken action has it.
@@ -79,7 +87,7 @@ pub fn taken_are_those_listed()
     ensures { TakenAreThoseListed }
 {}
 
-/// Each ticket taken is at most the safe epoch.
+/// Each ticket ever taken is at most the safe epoch.
 #[tactic(auto, using(crate::proofs::LawProofs::taken_are_safe))]
 pub fn taken_are_safe()
     ensures { TakenAreSafe }

@@ -18,6 +18,8 @@ pub enum Step {
     Settle,
     /// As a bump; its action raises the closed offset to what the head is now.
     Close,
+    /// The current epoch rises by one, and nothing is stored.
+    Bare,
     /// Takes the oldest pending action, once its ticket is safe.
     Take,
     /// The taken action of this ticket was carried out.
@@ -53,6 +55,8 @@ pub enum Reply {
     Left,
     /// To a bump, a settle and a close: the ticket of its action.
     Ticket(u64),
+    /// To a bare bump: the epoch that ended, the number of the bump.
+    Bumped(u64),
     /// To a take: the ticket of the action taken.
     Taken(u64),
     /// To a done of a job, where jobs are known by their tags alone: its tag.

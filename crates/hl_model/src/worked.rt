@@ -1,7 +1,7 @@
 //! Worked examples as theorems: the definitions alone, computed by the checker, give what was written by hand.
 #![tactic(auto, unfolding(crate::proofs::OnLiterals::on_literals))]
 
-ghost use Rattle.hl_model.specs.Worked.{FirstAction, NobodyProtected, FullDrainList, TwoThreads, BothWait};
+ghost use Rattle.hl_model.specs.Worked.{FirstAction, NobodyProtected, FullDrainList, TwoThreads, BothWait, BareBumps, TicketsRunAhead};
 ghost use Rattle.hl_model.specs.WorkedBorders.{EmptyLog, AtBorders, LastAddress};
 ghost use Rattle.hl_model.specs.WorkedPages.{FuzzyRegion, SwappedDones, Looks, SkippedWord, RaisesAndShifts, OutOfOrderFlush, FailedFlush, StaleReader, WordsOfAPage};
 
@@ -28,6 +28,16 @@ pub fn two_threads()
 /// Actions wait in the order of their bumps.
 pub fn both_wait()
     ensures { BothWait }
+{}
+
+/// Bare bumps raise the epoch and take no place in the drain list: tickets have gaps.
+pub fn bare_bumps()
+    ensures { BareBumps }
+{}
+
+/// Tickets run ahead of the takes by several bare bumps, and dones come out of order.
+pub fn tickets_run_ahead()
+    ensures { TicketsRunAhead }
 {}
 
 /// A thread writes below a read-only offset that it has not seen, until every thread has moved on.
