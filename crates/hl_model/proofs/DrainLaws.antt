@@ -162,16 +162,17 @@ of_ticket-taken c A =
     ∙ ap (λ o. cond (not (is_finished c A)) o None) (find-take (λ w. w.ticket == c) (takes A) (actions A))
     ∙ both_tests (not (is_finished c A)) (list_any (λ w. w.ticket == c) (take (takes A) (actions A))) (of_ticket c (actions A))
 
--- a ticket that was taken has an action
+-- what was ever taken was stored
+was_stored : (c : ℕ) (A : List Step) → was_taken c A ≡ true → list_any (λ w. w.ticket == c) (actions A) ≡ true
+unfolding ever_taken
+was_stored c A h =
+    ap (list_any (λ w. w.ticket == c)) (sym (append-nil (actions A)) ∙ sym (take_all (takes A + length (actions A)) (actions A ++ []) (omega (arith, ap length (append-nil (actions A))))))
+    ∙ any-front (λ w. w.ticket == c) (takes A) (takes A + length (actions A)) (actions A) [] (omega arith) h
+
+-- a taken ticket has an action
 pub action_at-some : (c : ℕ) (A : List Step) → is_taken c A ≡ true → is_some (action_at c A) ≡ true
 unfolding action_at
-action_at-some c A h = sym (found-any (λ w. w.ticket == c) (actions A)) ∙ was (is_taken-parts c A h).0
-  where
-    was : was_taken c A ≡ true → list_any (λ w. w.ticket == c) (actions A) ≡ true
-    unfolding ever_taken
-    was k =
-        ap (list_any (λ w. w.ticket == c)) (sym (append-nil (actions A)) ∙ sym (take_all (takes A + length (actions A)) (actions A ++ []) (omega (arith, ap length (append-nil (actions A))))))
-        ∙ any-front (λ w. w.ticket == c) (takes A) (takes A + length (actions A)) (actions A) [] (omega arith) k
+action_at-some c A h = sym (found-any (λ w. w.ticket == c) (actions A)) ∙ was_stored c A (is_taken-parts c A h).0
 
 -- a ticket is taken and not done exactly where it is among the taken ones
 pub is_taken-found : (c : ℕ) (A : List Step) → is_some (of_ticket c (taken A)) ≡ is_taken c A

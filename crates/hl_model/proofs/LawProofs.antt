@@ -95,14 +95,14 @@ number-stored A Settle = ap (λ n. n ∷ []) (current_epoch-bumps A)
 number-stored A Close = ap (λ n. n ∷ []) (current_epoch-bumps A)
 number-stored A _ = refl
 
+no_tickets : map (λ w. w.ticket) (actions []) ≡ gather number_stored []
+unfolding actions gather gather_after
+no_tickets = refl
+
 pub tickets_are_numbers : TicketsAreNumbers
-tickets_are_numbers = by_pushing (λ A. map (λ w. w.ticket) (actions A) ≡ gather number_stored A) none
+tickets_are_numbers = by_pushing (λ A. map (λ w. w.ticket) (actions A) ≡ gather number_stored A) no_tickets
     (λ A s h. ap (map (λ w. w.ticket)) (actions-push A s) ∙ map-append (λ w. w.ticket) (actions A) (action_of A s)
     ∙ ap₂ (λ xs ys. xs ++ ys) h (number-stored A s) ∙ sym (gather-push number_stored A s))
-  where
-    none : map (λ w. w.ticket) (actions []) ≡ gather number_stored []
-    unfolding actions gather gather_after
-    none = refl
 
 -- what holds of the ticket of each action holds of each of their tickets
 of_tickets : (P : ℕ → Type 0) (ws : List Waiting) → AllByRecursion (λ w. P w.ticket) ws → AllByRecursion P (map (λ w. w.ticket) ws)

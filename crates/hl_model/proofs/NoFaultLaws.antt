@@ -29,7 +29,7 @@ unless_ok None v x h = (refl, cc)
 unless_ok (Some g) v x h = cc
 
 -- no fault of a test, and none of what comes behind it
-later_fault : (b : Bool) (f : Fault) (rest : Option Fault) → cond b (Some f) rest ≡ None → (b ≡ false) × (rest ≡ None)
+pub later_fault : (b : Bool) (f : Fault) (rest : Option Fault) → cond b (Some f) rest ≡ None → (b ≡ false) × (rest ≡ None)
 later_fault true f rest h = cc
 later_fault false f rest h = (refl, h)
 

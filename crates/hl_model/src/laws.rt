@@ -76,7 +76,6 @@ pub fn tickets_are_numbers()
 {}
 
 /// The tickets of all actions rise in the order in which these were stored, from 1 up to the number of bumps.
-#[tactic(auto, using(crate::proofs::LawProofs::tickets_rise))]
 pub fn tickets_rise()
     ensures { TicketsRise }
 {}
