@@ -165,7 +165,7 @@ module _ {J : Type 0} (tag : J → ℕ) where
 
   -- a ticket that the list's taken actions lack
   not_taken : (core : State J) (A : List Step) (c : ℕ) → Stands tag core A → find (has_ticket c) core.drain.taken ≡ None → is_taken c A ≡ false
-  not_taken core A c st h = sym (is_taken-found core.sizes c A st.accepted) ∙ ap (λ ws. is_some (find (has_ticket c) ws)) (sym st.taken_is) ∙ ap is_some h
+  not_taken core A c st h = sym (is_taken-found c A) ∙ ap (λ ws. is_some (find (has_ticket c) ws)) (sym st.taken_is) ∙ ap is_some h
 
   -- a refused done
   pub done_err : (core : State J) (c : ℕ) (f : Fault) (drain : Lists J) → Err f ≡ kind_or_fault (find (has_ticket c) core.drain.taken) → drain ≡ core.drain → Made tag core (Done c) (record { sizes = core.sizes; table = core.table; views = core.views; drain = drain; offsets = core.offsets; pages = core.pages }) (Err f)

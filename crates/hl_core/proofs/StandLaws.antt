@@ -11,7 +11,7 @@ use Rattle.hl_model.specs.Views.{slot_views}
 use Rattle.hl_model.specs.Replies.{fault_of, answer_of, unless_fault, unless_refused}
 use Rattle.hl_model.proofs.AcceptedLaws.{IsAccepted-push}
 use Rattle.hl_model.proofs.ActionLaws.{pending-stores, taken-stores}
-use Rattle.hl_model.proofs.DrainLaws.{takes-le-bumps}
+use Rattle.hl_model.proofs.DrainLaws.{takes-le-actions}
 use Rattle.hl_offsets.specs.Log.{Log}
 use Rattle.hl_frames.specs.Pages.{Pages}
 use Rattle.hl_core.specs.Standing.{State, Stands, log_of, pages_of}
@@ -56,8 +56,8 @@ module _ {J : Type 0} (tag : J → ℕ) where
     table_is = t;
     views_is = v;
     limit_is = st.limit_is;
-    pending_is = st.pending_is ∙ sym (pending-stores A s (takes-le-bumps core.sizes A st.accepted) quiet.takes_none ∙ ap (λ z. pending A ++ z) quiet.stores_none ∙ append-nil (pending A));
-    taken_is = st.taken_is ∙ sym (taken-stores A s (takes-le-bumps core.sizes A st.accepted) quiet.takes_none quiet.ends_none);
+    pending_is = st.pending_is ∙ sym (pending-stores A s (takes-le-actions core.sizes A st.accepted) quiet.takes_none ∙ ap (λ z. pending A ++ z) quiet.stores_none ∙ append-nil (pending A));
+    taken_is = st.taken_is ∙ sym (taken-stores A s (takes-le-actions core.sizes A st.accepted) quiet.takes_none quiet.ends_none);
     ordered = st.ordered;
     offsets_is = o;
     pages_is = p;

@@ -6,7 +6,7 @@ use Rattle.std.proofs.Math.Nat.{div-eq_of_lt}
 use Rattle.std.proofs.lemmas.Bool.{le-ltb}
 use Rattle.hl_model.specs.declared.view.View.{View}
 use Rattle.hl_model.specs.Sizes.{Sizes, AreInRange}
-use Rattle.hl_model.specs.Epochs.{Table, slot_epochs, slot_epoch}
+use Rattle.hl_model.specs.Epochs.{epoch_window, Table, slot_epochs, slot_epoch}
 use Rattle.hl_model.specs.Settled.{safe_read_only, closed, settles, closes}
 use Rattle.hl_model.specs.Views.{slot_view, slot_views}
 use Rattle.hl_model.proofs.AcceptedLaws.{good-nil}
@@ -61,11 +61,11 @@ pages-nil sizes r =
     ap₂ (λ (xs : List (Option Held)) (n : ℕ). record { page = sizes.page; frames = xs; entered = n }) (row_same (held_of sizes []) None 0 sizes.frames (λ f l u. held-nil sizes f page (omega (arith, u)))) (sym (entered-nil sizes page))
 
 -- before the first step
-pub stands_start : {J : Type 0} (tag : J → ℕ) (sizes : Sizes) (slots places limit : ℕ) (table : Table) (views : List (Option View)) (drain : Lists J) (offsets : Log) (pages : Pages) → AreInRange sizes → slots ≡ sizes.slots → places ≡ sizes.drain → limit ≡ sizes.drain → table ≡ opened slots places 1 → views ≡ replicate slots None → drain ≡ record { limit = limit; pending = []; taken = [] } → offsets ≡ started sizes.page → pages ≡ opened_pages sizes.page sizes.frames → Stands tag (record { sizes = sizes; table = table; views = views; drain = drain; offsets = offsets; pages = pages }) []
-stands_start {J = J} tag sizes slots places limit table views drain offsets pages r s p l t v d o q = record {
+pub stands_start : {J : Type 0} (tag : J → ℕ) (sizes : Sizes) (slots limit : ℕ) (table : Table) (views : List (Option View)) (drain : Lists J) (offsets : Log) (pages : Pages) → AreInRange sizes → slots ≡ sizes.slots → limit ≡ sizes.drain → table ≡ opened slots epoch_window 1 → views ≡ replicate slots None → drain ≡ record { limit = limit; pending = []; taken = [] } → offsets ≡ started sizes.page → pages ≡ opened_pages sizes.page sizes.frames → Stands tag (record { sizes = sizes; table = table; views = views; drain = drain; offsets = offsets; pages = pages }) []
+stands_start {J = J} tag sizes slots limit table views drain offsets pages r s l t v d o q = record {
   in_range = r;
   accepted = good-nil sizes;
-  table_is = t ∙ ap₂ (λ n m. opened n m 1) s p ∙ ap₂ (make sizes.drain) (sym current_epoch-nil) (epochs-nil sizes);
+  table_is = t ∙ ap (λ n. opened n epoch_window 1) s ∙ ap₂ make (sym current_epoch-nil) (epochs-nil sizes);
   views_is = v ∙ ap (λ (n : ℕ). replicate n None) s ∙ views-nil sizes;
   limit_is = ap (λ (z : Lists J). z.limit) d ∙ l;
   pending_is = ap (λ (z : Lists J). map (waiting_of tag) z.pending) d ∙ sym pending-nil;

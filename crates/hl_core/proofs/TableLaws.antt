@@ -5,22 +5,22 @@ use Rattle.std.proofs.lemmas.Bool.{leb-false}
 use Rattle.hl_model.specs.declared.fault.Fault.TheVariants.{NoSlot, Occupied, NotProtected}
 use Rattle.hl_model.specs.declared.step.Step.{Step}
 use Rattle.hl_model.specs.Sizes.{Sizes}
-use Rattle.hl_model.specs.Epochs.{Table, table_of, is_bump, enters, leaves, current_epoch, slot_epochs, is_protected}
+use Rattle.hl_model.specs.Epochs.{epoch_window, Table, table_of, is_bump, enters, leaves, current_epoch, slot_epochs, is_protected}
 use Rattle.hl_model.specs.Replies.{acquire_fault, protected_fault}
 use Rattle.hl_model.proofs.EpochLaws.{slot_epochs-stay, length-slot_epochs, slot_epochs-at, is_protected-slot_epoch}
 use Rattle.hl_epoch.specs.Faults.{acquire_fault as free_row_fault, protected_fault as row_fault}
 use Rattle.hl_model.proofs.LawProofs.{current-stay}
 
-abbrev pub make : ℕ → ℕ → List (Option ℕ) → Table
-make drain current epochs = record { current = current; epochs = epochs; drain = drain }
+abbrev pub make : ℕ → List (Option ℕ) → Table
+make current epochs = record { current = current; epochs = epochs; window = epoch_window }
 
 -- the table after a step that sets one slot
-pub table_set : (sizes : Sizes) (A : List Step) (s : Step) (slots : List (Option ℕ)) → is_bump s ≡ false → slot_epochs sizes.slots (A ++ s ∷ []) ≡ slots → make sizes.drain (current_epoch A) slots ≡ table_of sizes (A ++ s ∷ [])
-table_set sizes A s slots h e = ap₂ (make sizes.drain) (sym (current-stay A s h)) (sym e)
+pub table_set : (sizes : Sizes) (A : List Step) (s : Step) (slots : List (Option ℕ)) → is_bump s ≡ false → slot_epochs sizes.slots (A ++ s ∷ []) ≡ slots → make (current_epoch A) slots ≡ table_of sizes (A ++ s ∷ [])
+table_set sizes A s slots h e = ap₂ make (sym (current-stay A s h)) (sym e)
 
--- the table after a step that moves no slot and stores nothing
+-- the table after a step that moves no slot and is no bump
 pub table_stays : (sizes : Sizes) (A : List Step) (s : Step) (table : Table) → table ≡ table_of sizes A → is_bump s ≡ false → ((t : ℕ) → enters t s ≡ false) → ((t : ℕ) → leaves t s ≡ false) → table ≡ table_of sizes (A ++ s ∷ [])
-table_stays sizes A s table t no_bump e l = t ∙ ap₂ (make sizes.drain) (sym (current-stay A s no_bump)) (sym (slot_epochs-stay sizes.slots A s e l))
+table_stays sizes A s table t no_bump e l = t ∙ ap₂ make (sym (current-stay A s no_bump)) (sym (slot_epochs-stay sizes.slots A s e l))
 
 protected_at : (sizes : Sizes) (A : List Step) (t : ℕ) → leb sizes.slots t ≡ false → is_some (get_or (slot_epochs sizes.slots A) t None) ≡ is_protected t A
 protected_at sizes A t h = ap is_some (slot_epochs-at sizes.slots A t None (leb-false sizes.slots t h)) ∙ sym (is_protected-slot_epoch t A)

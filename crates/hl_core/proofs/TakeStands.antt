@@ -9,10 +9,10 @@ use Rattle.hl_model.specs.declared.step.Reply.TheVariants.{Taken}
 use Rattle.hl_model.specs.declared.step.Step.{Step}
 use Rattle.hl_model.specs.declared.step.Step.TheVariants.{Take}
 use Rattle.hl_model.specs.Epochs.{safe_epoch}
-use Rattle.hl_model.specs.Actions.{pending, takes}
+use Rattle.hl_model.specs.Actions.{pending, front}
 use Rattle.hl_model.specs.Replies.{take_fault, unless_fault}
 use Rattle.hl_model.proofs.AcceptedLaws.{IsAccepted-push}
-use Rattle.hl_model.proofs.ActionLaws.{takes-push, pending-take, ticket-front}
+use Rattle.hl_model.proofs.ActionLaws.{pending-take, ticket-front}
 use Rattle.hl_model.proofs.DrainLaws.{taken-next}
 use Rattle.hl_model.proofs.ViewLaws.{slot_views-stay}
 use Rattle.hl_epoch.specs.Table.{safe_of}
@@ -50,7 +50,7 @@ module _ {J : Type 0} (tag : J → ℕ) where
 
   -- the fault of a take, by the pending actions and the safe epoch
   pub take_empty : (core : State J) (A : List Step) → Stands tag core A → core.drain.pending ≡ [] → take_fault core.sizes A ≡ Some Empty
-  take_empty core A st p = fault_empty (length (pending A)) (takes A + 1) (safe_epoch core.sizes.slots A) (sym (ap length st.pending_is) ∙ ap (λ z. length (map (waiting_of tag) z)) p)
+  take_empty core A st p = fault_empty (length (pending A)) (front A) (safe_epoch core.sizes.slots A) (sym (ap length st.pending_is) ∙ ap (λ z. length (map (waiting_of tag) z)) p)
 
   first_is : (core : State J) (A : List Step) (oldest : ℕ × Action J) (later : List (ℕ × Action J)) → Stands tag core A → core.drain.pending ≡ oldest ∷ later → pending A ≡ waiting_of tag oldest ∷ map (waiting_of tag) later
   first_is core A oldest later st p = sym st.pending_is ∙ ap (map (waiting_of tag)) p
@@ -58,16 +58,16 @@ module _ {J : Type 0} (tag : J → ℕ) where
   pub take_early : (core : State J) (A : List Step) (oldest : ℕ × Action J) (later : List (ℕ × Action J)) → Stands tag core A → core.drain.pending ≡ oldest ∷ later → safe_of core.table < oldest.0 → take_fault core.sizes A ≡ Some (NotReady oldest.0 (safe_of core.table))
   take_early core A oldest later st p early =
       let first : pending A ≡ waiting_of tag oldest ∷ map (waiting_of tag) later = first_is core A oldest later st p in
-      let front : oldest.0 ≡ takes A + 1 = ticket-front A (waiting_of tag oldest) (map (waiting_of tag) later) first in
+      let front : oldest.0 ≡ front A = ticket-front A (waiting_of tag oldest) (map (waiting_of tag) later) first in
       let safe : safe_of core.table ≡ safe_epoch core.sizes.slots A = safe_is core A st in
-      fault_early (length (pending A)) (takes A + 1) (safe_epoch core.sizes.slots A) (omega (arith, ap length first)) (omega (arith, early, front, safe))
+      fault_early (length (pending A)) (front A) (safe_epoch core.sizes.slots A) (omega (arith, ap length first)) (omega (arith, early, front, safe))
       ∙ ap₂ (λ n m. Some (NotReady n m)) (sym front) (sym safe)
 
   pub take_ready : (core : State J) (A : List Step) (oldest : ℕ × Action J) (later : List (ℕ × Action J)) → Stands tag core A → core.drain.pending ≡ oldest ∷ later → oldest.0 ≤ safe_of core.table → take_fault core.sizes A ≡ None
   take_ready core A oldest later st p ready =
       let first : pending A ≡ waiting_of tag oldest ∷ map (waiting_of tag) later = first_is core A oldest later st p in
-      let front : oldest.0 ≡ takes A + 1 = ticket-front A (waiting_of tag oldest) (map (waiting_of tag) later) first in
-      fault_ready (length (pending A)) (takes A + 1) (safe_epoch core.sizes.slots A) (omega (arith, ap length first)) (omega (arith, ready, front, safe_is core A st))
+      let front : oldest.0 ≡ front A = ticket-front A (waiting_of tag oldest) (map (waiting_of tag) later) first in
+      fault_ready (length (pending A)) (front A) (safe_epoch core.sizes.slots A) (omega (arith, ap length first)) (omega (arith, ready, front, safe_is core A st))
 
   -- the list from which an entry was taken, and its ticket is safe
   record TakenFrom (entries : List (ℕ × Action J)) (safe : ℕ) (entry : ℕ × Action J) : Type 0 where
@@ -130,21 +130,21 @@ module _ {J : Type 0} (tag : J → ℕ) where
       free : take_fault core.sizes A ≡ None
       free = take_ready core A entry parts.later st parts.first (omega (arith, parts.ready, s))
 
-      reply : Taken (takes (A ++ Take ∷ [])) ≡ Taken entry.0
-      reply = ap (λ n. Taken n) (takes-push A Take ∙ sym (ticket-front A (waiting_of tag entry) (map (waiting_of tag) parts.later) first))
+      reply : Taken (front A) ≡ Taken entry.0
+      reply = ap (λ n. Taken n) (sym (ticket-front A (waiting_of tag entry) (map (waiting_of tag) parts.later) first))
 
   -- whether the oldest pending action may be taken
   pub early_told : (core : State J) (ws rest : List Waiting) (w : Waiting) (safe : ℕ) → ws ≡ map (waiting_of tag) core.drain.pending → ws ≡ w ∷ rest → safe ≡ safe_of core.table → safe < w.ticket → (A : List Step) → Stands tag core A → Err (NotReady w.ticket safe) ≡ unless_fault (take_fault core.sizes A) (tt {0})
   early_told core ws rest w safe e some s early A st =
       let first : pending A ≡ w ∷ rest = sym st.pending_is ∙ sym e ∙ some in
-      let front : w.ticket ≡ takes A + 1 = ticket-front A w rest first in
+      let front : w.ticket ≡ front A = ticket-front A w rest first in
       let same : safe ≡ safe_epoch core.sizes.slots A = s ∙ safe_is core A st in
       ap₂ (λ n m. Err (NotReady n m)) front same
-      ∙ sym (ap (λ o. unless_fault o (tt {0})) (fault_early (length (pending A)) (takes A + 1) (safe_epoch core.sizes.slots A) (omega (arith, ap length first)) (omega (arith, early, front, same))))
+      ∙ sym (ap (λ o. unless_fault o (tt {0})) (fault_early (length (pending A)) (front A) (safe_epoch core.sizes.slots A) (omega (arith, ap length first)) (omega (arith, early, front, same))))
 
   pub ready_told : (core : State J) (ws rest : List Waiting) (w : Waiting) (safe : ℕ) → ws ≡ map (waiting_of tag) core.drain.pending → ws ≡ w ∷ rest → safe ≡ safe_of core.table → w.ticket ≤ safe → (A : List Step) → Stands tag core A → Ok (tt {0}) ≡ unless_fault (take_fault core.sizes A) (tt {0})
   ready_told core ws rest w safe e some s ready A st =
       let first : pending A ≡ w ∷ rest = sym st.pending_is ∙ sym e ∙ some in
-      let front : w.ticket ≡ takes A + 1 = ticket-front A w rest first in
+      let front : w.ticket ≡ front A = ticket-front A w rest first in
       let same : safe ≡ safe_epoch core.sizes.slots A = s ∙ safe_is core A st in
-      sym (ap (λ o. unless_fault o (tt {0})) (fault_ready (length (pending A)) (takes A + 1) (safe_epoch core.sizes.slots A) (omega (arith, ap length first)) (omega (arith, ready, front, same))))
+      sym (ap (λ o. unless_fault o (tt {0})) (fault_ready (length (pending A)) (front A) (safe_epoch core.sizes.slots A) (omega (arith, ap length first)) (omega (arith, ready, front, same))))

@@ -1,2 +1,3 @@
+pub mod Rise
 pub mod Standing
 pub mod Steps

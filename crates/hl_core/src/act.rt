@@ -6,7 +6,7 @@ use hl_epoch::Epochs;
 use hl_model::{Fault, Reply, Step, Tagged};
 
 impl<E: Epochs, J: Tagged + Drop> Core<E, J> {
-    /// Makes a step of which no job goes in or comes out: any but a bump, a settle, a close and a take. The faults
+    /// Makes a step of which no job goes in or comes out: any but a take and a bump that stores an action. The faults
     /// are tried in their order, and a refused step changes nothing.
     pub fn act(&mut self, step: &Step) -> Result<Reply, Fault>
         requires { is_acted step.now ≡ true }
@@ -19,6 +19,7 @@ impl<E: Epochs, J: Tagged + Drop> Core<E, J> {
             Step::Acquire { t } => self.acquire(t),
             Step::Refresh { t } => self.refresh(t),
             Step::Release { t } => self.release(t),
+            Step::Bare => self.bare(),
             Step::Done { ticket } => self.done(ticket),
             Step::Raise { x } => self.raise(x),
             Step::Shift { x } => self.shift(x),

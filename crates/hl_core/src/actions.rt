@@ -1,9 +1,10 @@
 ghost use Rattle.std.specs.Prelude.{◌≡◌, [], ◌∷◌, ◌++◌, IfOk, OnErr, IfErr};
-ghost use Rattle.hl_model.specs.declared.step.Step.TheVariants.{Take as TAKE, Done as DONE};
+ghost use Rattle.hl_model.specs.declared.step.Step.TheVariants.{Bare as BARE, Take as TAKE, Done as DONE};
 ghost use Rattle.hl_epoch.specs.Table.{safe_of};
 ghost use Rattle.hl_action.specs.Firings.{IsSafe};
 ghost use Rattle.hl_core.specs.Steps.{Made, asking, stored, job_in, bump_told, take_told, CameOut};
 
+use crate::rise::end_epoch;
 use crate::state::Core;
 use hl_action::Firing;
 use hl_drain::{Action, Ask};
@@ -16,7 +17,7 @@ impl<E: Epochs, J: Tagged + Drop> Core<E, J> {
     /// A settle and a close store the read-only offset and the head as they stand now.
     ///
     /// Faults, with what was asked for handed back: `DrainFull` where the drain list has no room, `EpochsSpent` where
-    /// the current epoch is the last.
+    /// the current epoch is the last, `WindowFull` where 4,096 epochs have ended and aren't safe.
     pub fn bump(&mut self, ask: Ask<J>) -> Result<u64, (Fault, Ask<J>)>
         ensures made { Made J.tag self.old (asking J.tag ask) self.new (bump_told result) }
         ensures refused { IfErr result (λ back. (back.1 ≡ ask) × (self.new ≡ self.old)) }
@@ -27,7 +28,7 @@ impl<E: Epochs, J: Tagged + Drop> Core<E, J> {
         if !self.drain.has_room() {
             return Err((Fault::DrainFull, ask));
         }
-        let ticket = match self.table.bump() {
+        let ticket = match end_epoch(&mut self.table) {
             Ok(ticket) => ticket,
             Err(fault) => return Err((fault, ask)),
         };
@@ -36,6 +37,17 @@ impl<E: Epochs, J: Tagged + Drop> Core<E, J> {
             // The list had room.
             Err(_) => unreachable!(),
         }
+    }
+
+    /// Ends the current epoch, and stores nothing; the answer is the epoch that ended.
+    pub(crate) fn bare(&mut self) -> Result<Reply, Fault>
+        ensures made { Made J.tag self.old BARE self.new result }
+        ensures refused { OnErr result (self.new ≡ self.old) }
+        ensures jobs { self.new.drain.pending ≡ self.old.drain.pending }
+        ensures sizes { self.new.sizes ≡ self.old.sizes }
+    {
+        let ended = end_epoch(&mut self.table)?;
+        Ok(Reply::Bumped(ended))
     }
 
     /// Takes the oldest pending action: the answer is its firing, its ticket and the safe epoch of now, and its job.

@@ -2,15 +2,13 @@ ghost use Rattle.std.specs.Prelude.{◌≡◌, ◌==◌, Bool, List};
 ghost use Rattle.std.specs.List.{list_any};
 ghost use Rattle.hl_model.specs.declared.step.Step.{Step as STEP};
 ghost use Rattle.hl_model.specs.declared.step.Step.TheVariants.{Take as TAKE, Done as DONE, Raise as RAISE, Shift as SHIFT, FlushTake as FLUSH_TAKE, FlushDone as FLUSH_DONE, CleanTake as CLEAN_TAKE, CleanDone as CLEAN_DONE};
-ghost use Rattle.hl_model.specs.Replies.{acquire_fault, bump_fault, fault_of, unless_fault};
+ghost use Rattle.hl_model.specs.Replies.{acquire_fault, bare_fault, bump_fault, fault_of, unless_fault};
 ghost use Rattle.hl_core.specs.Standing.{Stands};
 
+use crate::rise::may_end_epoch;
 use crate::state::Core;
 use hl_epoch::Epochs;
 use hl_model::{Fault, Step, Tagged, Waiting};
-
-// The greatest epoch.
-const EPOCH_LAST: u64 = 1 << 62;
 
 impl<E: Epochs, J: Tagged> Core<E, J> {
     /// The fault that the step would meet, or `Ok` where it would be accepted. Changes nothing.
@@ -21,6 +19,7 @@ impl<E: Epochs, J: Tagged> Core<E, J> {
             Step::Acquire { t } => self.may_acquire(t),
             Step::Refresh { t } | Step::Release { t } => self.seen(t).map(|_| ()),
             Step::Bump { .. } | Step::Settle | Step::Close => self.may_bump(),
+            Step::Bare => self.may_bare(),
             Step::Take => self.may_take(),
             Step::Done { ticket } => self.may_end(ticket),
             Step::Raise { x } => self.may_raise(x),
@@ -52,10 +51,13 @@ impl<E: Epochs, J: Tagged> Core<E, J> {
         if !self.drain.has_room() {
             return Err(Fault::DrainFull);
         }
-        if self.table.current() == EPOCH_LAST {
-            return Err(Fault::EpochsSpent);
-        }
-        Ok(())
+        self.may_bare()
+    }
+
+    fn may_bare(&self) -> Result<(), Fault>
+        ensures { (A : List STEP) → Stands J.tag self.now A → result ≡ unless_fault (bare_fault self.now.sizes A) tt }
+    {
+        may_end_epoch(&self.table)
     }
 
     fn may_take(&self) -> Result<(), Fault>

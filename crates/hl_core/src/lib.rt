@@ -37,6 +37,7 @@ mod check;
 mod log;
 mod pages;
 mod queries;
+mod rise;
 mod run;
 mod slots;
 mod state;

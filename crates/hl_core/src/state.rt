@@ -1,5 +1,6 @@
 ghost use Rattle.std.specs.Prelude.{◌≡◌, [], replicate, IfOk, IfErr};
 
+use crate::rise::EPOCH_WINDOW;
 use hl_drain::Drain;
 use hl_epoch::Epochs;
 use hl_frames::Frames;
@@ -43,7 +44,7 @@ impl<E: Epochs + Drop, J: Tagged + Drop> Core<E, J> {
         let slots = params.slots();
         let views = unprotected(alloc, slots as usize)?;
         let frames = Frames::open(alloc, params)?;
-        let table = E::make(alloc, slots, params.drain())?;
+        let table = E::make(alloc, slots, EPOCH_WINDOW)?;
         let drain = Drain::open(alloc, params.drain())?;
         Ok(Core {
             params,
