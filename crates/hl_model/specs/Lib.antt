@@ -4,8 +4,6 @@ pub mod Faults
 pub mod Follows
 pub mod Frames
 pub mod Headline
-pub mod Histories
-pub mod Kept
 pub mod Laws
 pub mod Lists
 pub mod Offsets
@@ -15,10 +13,8 @@ pub mod Replies
 pub mod Settled
 pub mod Sizes
 pub mod Snapshots
-pub mod States
 pub mod Views
 pub mod Words
 pub mod Worked
 pub mod WorkedBorders
 pub mod WorkedPages
-pub mod Works

@@ -4,13 +4,6 @@
 //!
 //! After FASTER (Chandramouli, Prasaad, Kossmann, Levandoski, Hunter, Barnett, SIGMOD 2018): the current and
 //! the safe epoch, actions stored by a bump, and the offsets of the HybridLog.
-//!
-//! # The slow form
-//!
-//! [`Plain`] keeps the list of accepted steps, and computes each answer from that list as the definitions say. Beside
-//! it are only the marks of pages: which went out to be flushed or cleaned, and which came back. It is what every fast
-//! form is compared with: after n steps a step looks at about n² of them at most. A step behind the first F may take
-//! memory for itself; no query does.
 #![tactic(auto)]
 
 mod action;
@@ -19,7 +12,6 @@ mod fault;
 mod frame;
 pub mod laws;
 mod params;
-mod plain;
 mod snapshot;
 mod step;
 mod view;
@@ -30,7 +22,6 @@ pub use address::{cell_of, page_of};
 pub use fault::Fault;
 pub use frame::FrameState;
 pub use params::Params;
-pub use plain::Plain;
 pub use snapshot::Snapshot;
 pub use step::{Reply, Step};
 pub use view::{Six, View};

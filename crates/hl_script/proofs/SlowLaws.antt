@@ -23,7 +23,7 @@ use Rattle.hl_model.proofs.DrainLaws.{takes-le-bumps, done_fault-none, is_taken-
 use Rattle.hl_model.proofs.LawProofs.{current_is_at_most_last}
 use Rattle.hl_model.proofs.NoFaultLaws.{unless_err, unless_ok}
 use Rattle.hl_line.specs.declared.line.Line.TheVariants.{Step as Makes}
-use Rattle.hl_model.specs.Histories.{History, IsHistory, begun, Answers}
+use Rattle.hl_plain.specs.Histories.{History, IsHistory, begun, Answers}
 use Rattle.hl_script.specs.Answers.{bears, lacks_job, line_fault, shown, line_answer, line_reply, with_line}
 use Rattle.hl_script.specs.Text.{below}
 use Rattle.hl_script.specs.Slow.{kind_is_below, tag_is_below, IsSlow, SumFits}

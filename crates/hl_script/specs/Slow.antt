@@ -10,7 +10,7 @@ use Rattle.hl_model.specs.declared.step.Step.{Step}
 use Rattle.hl_model.specs.declared.step.Step.TheVariants.{Done}
 use Rattle.hl_model.specs.Sizes.{Sizes}
 use Rattle.hl_model.specs.Actions.{actions}
-use Rattle.hl_model.specs.Histories.{History}
+use Rattle.hl_plain.specs.Histories.{History}
 use Rattle.hl_script.specs.Text.{below}
 
 -- the tag of a job is below a number

@@ -6,7 +6,8 @@ ghost use Rattle.hl_script.specs.Slow.{IsSlow, SumFits};
 
 use crate::stepping::{Opening, Stepping};
 use arrayvec::ArrayVec;
-use hl_model::{Fault, FrameState, Params, Plain, Reply, Snapshot, Step, Waiting};
+use hl_model::{Fault, FrameState, Params, Reply, Snapshot, Step, Waiting};
+use hl_plain::Plain;
 use std::alloc::Global;
 
 /// A script without jobs: the tags below a number count as having one.

@@ -1,0 +1,4 @@
+pub mod Histories
+pub mod Kept
+pub mod States
+pub mod Works

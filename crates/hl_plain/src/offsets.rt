@@ -1,0 +1,85 @@
+//! The offsets that a list of steps moves.
+
+ghost use Rattle.std.specs.Prelude.{◌≡◌, ◌+◌, ◌^◌, ◌≤◌};
+ghost use Rattle.hl_plain.specs.Histories.{TailFits};
+ghost use Rattle.hl_model.specs.Offsets.{raised_to, shifted_to, read_only, head, place_of, tail_past, tail};
+
+use hl_model::{Params, Step};
+
+/// No record ends above it.
+pub const SPACE: u64 = 1 << 48;
+
+// The address to which a step raises the read-only offset, or 0.
+fn raised_to(step: &Step) -> u64
+    ensures { result ≡ raised_to step.now }
+{
+    match *step {
+        Step::Raise { x } => x,
+        _ => 0,
+    }
+}
+
+// The address to which a step shifts the head, or 0.
+fn shifted_to(step: &Step) -> u64
+    ensures { result ≡ shifted_to step.now }
+{
+    match *step {
+        Step::Shift { x } => x,
+        _ => 0,
+    }
+}
+
+/// The read-only offset.
+#[tactic(auto, unfolding(hl_model::specs::Offsets::read_only), using(crate::proofs::FoldLaws::greatest_fold))]
+pub fn read_only(steps: &[Step]) -> u64
+    ensures { result ≡ read_only steps.now }
+{
+    steps.iter().fold(0, |most, step| most.max(raised_to(step)))
+}
+
+/// The head.
+#[tactic(auto, unfolding(hl_model::specs::Offsets::head), using(crate::proofs::FoldLaws::greatest_fold))]
+pub fn head(steps: &[Step]) -> u64
+    ensures { result ≡ head steps.now }
+{
+    steps
+        .iter()
+        .fold(0, |most, step| most.max(shifted_to(step)))
+}
+
+/// Where a record of n words is placed, told the tail. The tail and the record are within the space.
+pub fn place_of(params: Params, tail: u64, n: u64) -> u64
+    requires tail { tail ≤ 2 ^ 48 }
+    requires words { n ≤ 2 ^ 48 }
+    ensures { result ≡ place_of params.page tail n }
+{
+    let page = params.page();
+    if tail % page + n <= page {
+        tail
+    } else {
+        (tail / page + 1) * page
+    }
+}
+
+// The tail after a step, told the tail before it; neither is above the space.
+fn tail_past(params: Params, tail: u64, step: &Step) -> u64
+    requires { tail_past params.page tail step.now ≤ 2 ^ 48 }
+    ensures { result ≡ tail_past params.page tail step.now }
+{
+    match *step {
+        Step::Allocate { n, .. } => place_of(params, tail, n) + n,
+        _ => tail,
+    }
+}
+
+/// The tail, which is within the space.
+pub fn tail(params: Params, steps: &[Step]) -> u64
+    requires { TailFits params steps.now }
+    ensures { result ≡ tail params steps.now }
+{
+    let mut end = 0;
+    for step in steps {
+        end = tail_past(params, end, step);
+    }
+    end
+}
