@@ -1,9 +1,8 @@
 //! The drain list of a list of steps.
 
-ghost use Rattle.std.specs.Prelude.{◌≡◌, ◌≤◌, ℕ, [], length, IfSome};
-ghost use Rattle.std.specs.List.{cons_option};
-ghost use Rattle.hl_model.specs.Actions.{is_take, is_done, finishes, bumps, takes, dones, action_of, actions, is_finished, pending, is_taken, is_full, action_at};
-ghost use Rattle.hl_model.specs.Epochs.{current_epoch};
+ghost use Rattle.std.specs.Prelude.{◌≡◌, ◌≤◌, ◌==◌, ℕ, [], length};
+ghost use Rattle.std.specs.List.{cons_option, list_any};
+ghost use Rattle.hl_model.specs.Actions.{stores, is_take, is_done, finishes, bumps, takes, dones, action_of, actions, is_finished, pending, front, ever_taken, is_taken, is_full, action_at};
 ghost use Rattle.hl_model.specs.Settled.{settles, closes, done_greatest, safe_read_only, closed};
 ghost use Rattle.hl_model.specs.Replies.{kind_or_job_0};
 ghost use Rattle.hl_model.specs.declared.action.Kind.{Kind};
@@ -13,13 +12,29 @@ use crate::offsets::{head, read_only};
 use arrayvec::ArrayVec;
 use hl_model::{Kind, Step, Waiting};
 
-/// How many actions were stored.
+/// How many bumps there were.
 #[tactic(auto, unfolding(hl_model::specs::Actions::bumps))]
 pub fn bumps(steps: &[Step]) -> u64
     ensures value { result ≡ bumps steps.now }
     ensures most { result ≤ length steps.now }
 {
     steps.iter().filter(|step| is_bump(step)).count() as u64
+}
+
+// Whether a step stores an action.
+fn stores(step: &Step) -> bool
+    ensures { result ≡ stores step.now }
+{
+    matches!(step, Step::Bump { .. } | Step::Settle | Step::Close)
+}
+
+/// How many actions were stored.
+#[tactic(auto, using(crate::proofs::PendingLaws::stored_count))]
+pub fn stored(steps: &[Step]) -> u64
+    ensures value { result ≡ length (actions steps.now) }
+    ensures most { result ≤ length steps.now }
+{
+    steps.iter().filter(|step| stores(step)).count() as u64
 }
 
 /// How many actions were taken.
@@ -62,26 +77,41 @@ pub fn is_finished(ticket: u64, steps: &[Step]) -> bool
     steps.iter().any(|step| finishes(ticket, step))
 }
 
+// Whether the action of this ticket was ever taken.
+fn was_taken(ticket: u64, steps: &[Step]) -> bool
+    ensures { result ≡ list_any (λ w. w.ticket == ticket) (ever_taken steps.now) }
+{
+    let taken = takes(steps);
+    for (i, step) in steps.iter().enumerate() {
+        let before = &steps[..i];
+        if let Some(waiting) = action_of(before, step) {
+            if waiting.ticket == ticket && stored(before) < taken {
+                return true;
+            }
+        }
+    }
+    false
+}
+
 /// Whether the action of this ticket was taken and isn't done.
 #[tactic(auto, unfolding(hl_model::specs::Actions::is_taken))]
 pub fn is_taken(ticket: u64, steps: &[Step]) -> bool
     ensures { result ≡ is_taken ticket steps.now }
 {
-    1 <= ticket && ticket <= takes(steps) && !is_finished(ticket, steps)
+    was_taken(ticket, steps) && !is_finished(ticket, steps)
 }
 
-/// Whether bumps less dones are as many as the places.
+/// Whether the actions stored less the dones are as many as the places.
 #[tactic(auto, unfolding(hl_model::specs::Actions::is_full))]
 pub fn is_full(places: u64, steps: &[Step]) -> bool
     ensures { result ≡ is_full places steps.now }
 {
-    bumps(steps).saturating_sub(dones(steps)) == places
+    stored(steps).saturating_sub(dones(steps)) == places
 }
 
 // The action that a step stores, told the steps before it.
 fn action_of(before: &[Step], step: &Step) -> Option<Waiting>
-    ensures action { cons_option result [] ≡ action_of before.now step.now }
-    ensures ticket { IfSome result (λ w. w.ticket ≡ current_epoch before.now) }
+    ensures { cons_option result [] ≡ action_of before.now step.now }
 {
     let kind = match *step {
         Step::Bump { tag } => Kind::User(tag),
@@ -103,13 +133,25 @@ pub fn pending(steps: &[Step]) -> ArrayVec<Waiting, 64>
     let taken = takes(steps);
     let mut row = ArrayVec::new();
     for (i, step) in steps.iter().enumerate() {
-        if let Some(waiting) = action_of(&steps[..i], step) {
-            if taken < waiting.ticket {
+        let before = &steps[..i];
+        if let Some(waiting) = action_of(before, step) {
+            if taken <= stored(before) {
                 row.push(waiting);
             }
         }
     }
     row
+}
+
+/// The ticket of the oldest pending action, or 0 where none is pending.
+pub fn front(steps: &[Step]) -> u64
+    requires { length (pending steps.now) ≤ 64 }
+    ensures { result ≡ front steps.now }
+{
+    match pending(steps).first() {
+        Some(oldest) => oldest.ticket,
+        None => 0,
+    }
 }
 
 /// The kind of the action of this ticket, or a job of tag 0 where there is none.

@@ -12,7 +12,10 @@ use hl_model::Step;
 pub fn is_bump(step: &Step) -> bool
     ensures { result ≡ is_bump step.now }
 {
-    matches!(step, Step::Bump { .. } | Step::Settle | Step::Close)
+    matches!(
+        step,
+        Step::Bump { .. } | Step::Settle | Step::Close | Step::Bare
+    )
 }
 
 // Whether at a step the thread of slot t takes the current epoch for its own.

@@ -6,10 +6,10 @@ ghost use Rattle.hl_model.specs.Actions.{is_taken, pending};
 ghost use Rattle.hl_model.specs.Offsets.{tail};
 ghost use Rattle.hl_model.specs.Pages.{is_out, flushed};
 ghost use Rattle.hl_plain.specs.Works.{as_mark};
-ghost use Rattle.hl_model.specs.Replies.{acquire_fault, protected_fault, bump_fault, take_fault, raise_fault, shift_fault, allocate_fault, look_fault, beyond_fault, write_fault, read_fault};
+ghost use Rattle.hl_model.specs.Replies.{acquire_fault, protected_fault, bare_fault, bump_fault, take_fault, raise_fault, shift_fault, allocate_fault, look_fault, beyond_fault, write_fault, read_fault};
 ghost use Rattle.hl_model.specs.Offsets.{read_only, head};
 
-use crate::actions::{bumps, is_full, is_taken, takes};
+use crate::actions::{bumps, front, is_full, is_taken, stored, takes};
 use crate::epochs::{current_epoch, is_protected, safe_epoch};
 use crate::frames::may_enter;
 use crate::offsets::{SPACE, head, place_of, read_only, tail};
@@ -19,6 +19,9 @@ use hl_model::{Fault, Params, Step};
 
 /// No epoch comes after it.
 const EPOCH_LAST: u64 = 1 << 62;
+
+/// How many epochs at most have ended and are not safe.
+const EPOCH_WINDOW: u64 = 4096;
 
 /// The fault of a step that wants slot t unprotected.
 pub fn acquire_fault(params: Params, t: u64, steps: &[Step]) -> Option<Fault>
@@ -46,27 +49,39 @@ pub fn protected_fault(params: Params, t: u64, steps: &[Step]) -> Option<Fault>
     }
 }
 
-/// The fault of a step that stores an action.
-pub fn bump_fault(params: Params, steps: &[Step]) -> Option<Fault>
-    ensures { result ≡ bump_fault params steps.now }
+/// The fault of a bare bump.
+pub fn bare_fault(params: Params, steps: &[Step]) -> Option<Fault>
+    ensures { result ≡ bare_fault params steps.now }
 {
-    if is_full(params.drain(), steps) {
-        Some(Fault::DrainFull)
-    } else if current_epoch(steps) == EPOCH_LAST {
+    let ended = bumps(steps);
+    if current_epoch(steps) == EPOCH_LAST {
         Some(Fault::EpochsSpent)
+    } else if ended.saturating_sub(safe_epoch(params.slots(), steps)) == EPOCH_WINDOW {
+        Some(Fault::WindowFull)
     } else {
         None
     }
 }
 
+/// The fault of a bump that stores an action.
+pub fn bump_fault(params: Params, steps: &[Step]) -> Option<Fault>
+    ensures { result ≡ bump_fault params steps.now }
+{
+    if is_full(params.drain(), steps) {
+        Some(Fault::DrainFull)
+    } else {
+        bare_fault(params, steps)
+    }
+}
+
 /// The fault of a take.
 pub fn take_fault(params: Params, steps: &[Step]) -> Option<Fault>
+    requires { length (pending steps.now) ≤ 64 }
     ensures { result ≡ take_fault params steps.now }
 {
-    let taken = takes(steps);
-    let front = taken + 1;
+    let front = front(steps);
     let safe = safe_epoch(params.slots(), steps);
-    if bumps(steps) <= taken {
+    if stored(steps) <= takes(steps) {
         Some(Fault::Empty)
     } else if safe < front {
         Some(Fault::NotReady { front, safe })

@@ -1,7 +1,8 @@
 //! What each step is answered.
 
-ghost use Rattle.std.specs.Prelude.{◌≡◌, ◌^◌, ◌≤◌, None, map, unwrap_or};
+ghost use Rattle.std.specs.Prelude.{◌≡◌, ◌^◌, ◌≤◌, None, length, map, unwrap_or};
 ghost use Rattle.hl_plain.specs.Histories.{TailFits};
+ghost use Rattle.hl_model.specs.Actions.{pending};
 ghost use Rattle.hl_model.specs.Epochs.{epoch_of};
 ghost use Rattle.hl_model.specs.Offsets.{tail};
 ghost use Rattle.hl_model.specs.Pages.{flushing, cleaning, marks, flushed};
@@ -9,10 +10,10 @@ ghost use Rattle.hl_model.specs.Replies.{fault_of, done_answer, answer_of, with_
 ghost use Rattle.hl_model.specs.Views.{view_of};
 ghost use Rattle.hl_plain.specs.Works.{as_mark};
 
-use crate::actions::{bumps, closed, kind_at, safe_read_only, takes};
+use crate::actions::{bumps, closed, front, kind_at, safe_read_only};
 use crate::epochs::epoch_of;
 use crate::faults::{
-    acquire_fault, allocate_fault, bump_fault, done_fault, look_fault, protected_fault,
+    acquire_fault, allocate_fault, bare_fault, bump_fault, done_fault, look_fault, protected_fault,
     raise_fault, read_fault, return_fault, shift_fault, take_fault, write_fault,
 };
 use crate::offsets::{head, place_of, read_only, tail};
@@ -31,6 +32,7 @@ pub fn fault_of(
 ) -> Option<Fault>
     requires flushes { map as_mark flushes.now ≡ marks (flushing params) steps.now }
     requires cleans { map as_mark cleans.now ≡ marks (cleaning params) steps.now }
+    requires pending { length (pending steps.now) ≤ 64 }
     requires tail { TailFits params steps.now }
     requires flushed { flushed params steps.now ≤ 2 ^ 48 }
     ensures { result ≡ fault_of params steps.now step.now }
@@ -39,6 +41,7 @@ pub fn fault_of(
         Step::Acquire { t } => acquire_fault(params, t, steps),
         Step::Refresh { t } | Step::Release { t } => protected_fault(params, t, steps),
         Step::Bump { .. } | Step::Settle | Step::Close => bump_fault(params, steps),
+        Step::Bare => bare_fault(params, steps),
         Step::Take => take_fault(params, steps),
         Step::Done { ticket } => done_fault(ticket, steps),
         Step::Raise { x } => raise_fault(params, x, steps),
@@ -86,6 +89,7 @@ pub fn answer_of(
     requires flushes { map as_mark flushes.now ≡ marks (flushing params) before.now }
     requires cleans { map as_mark cleans.now ≡ marks (cleaning params) before.now }
     requires accepted { fault_of params before.now step.now ≡ None }
+    requires pending { length (pending before.now) ≤ 64 }
     requires tail_before { TailFits params before.now }
     requires tail { TailFits params steps.now }
     requires flushed { flushed params steps.now ≤ 2 ^ 48 }
@@ -95,7 +99,8 @@ pub fn answer_of(
         Step::Acquire { t } | Step::Refresh { t } => entered(params, t, steps),
         Step::Release { .. } => Reply::Left,
         Step::Bump { .. } | Step::Settle | Step::Close => Reply::Ticket(bumps(steps)),
-        Step::Take => Reply::Taken(takes(steps)),
+        Step::Bare => Reply::Bumped(bumps(steps)),
+        Step::Take => Reply::Taken(front(before)),
         Step::Done { ticket } => done_answer(kind_at(ticket, steps), steps),
         Step::Raise { .. } => Reply::Raised(read_only(steps)),
         Step::Shift { .. } => Reply::Shifted(head(steps)),

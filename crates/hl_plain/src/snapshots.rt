@@ -11,7 +11,7 @@ ghost use Rattle.hl_model.specs.Replies.{IsAccepted};
 ghost use Rattle.hl_plain.specs.States.{count_place};
 ghost use Rattle.hl_model.specs.Snapshots.{six, state_counts, frame_states, snapshot_of};
 
-use crate::actions::{bumps, closed, dones, safe_read_only, takes};
+use crate::actions::{closed, dones, safe_read_only, stored, takes};
 use crate::epochs::{current_epoch, is_protected, safe_epoch};
 use crate::frames::frame_of;
 use crate::offsets::{head, read_only, tail};
@@ -75,8 +75,8 @@ pub fn snapshot_of(params: Params, steps: &[Step]) -> Snapshot
     ensures { result ≡ snapshot_of params steps.now }
 {
     // Of the actions that are stored and not done, those that aren't pending are taken.
-    let pending = bumps(steps).saturating_sub(takes(steps));
-    let held = bumps(steps).saturating_sub(dones(steps));
+    let pending = stored(steps).saturating_sub(takes(steps));
+    let held = stored(steps).saturating_sub(dones(steps));
     Snapshot {
         epoch: current_epoch(steps),
         safe: safe_epoch(params.slots(), steps),

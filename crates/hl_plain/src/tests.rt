@@ -2,7 +2,7 @@
 
 use crate::Plain;
 use Step::{
-    Acquire, Allocate, CleanDone, CleanTake, Close, Done, FlushDone, FlushTake, Raise, Read,
+    Acquire, Allocate, Bare, CleanDone, CleanTake, Close, Done, FlushDone, FlushTake, Raise, Read,
     Refresh, Settle, Shift, Take, Write,
 };
 use hl_model::{Fault, FrameState, Kind, Params, Reply, Six, Snapshot, Step, View, Waiting};
@@ -33,35 +33,36 @@ fn a_page_that_a_stale_reader_reaches_is_not_reused(rt: HostRuntime) -> Result<(
     let mut plain = Plain::open(rt.alloc(), params)?;
     let rows = [
         (Acquire { t: 0 }, entered(1, 0, 0, 0)),
+        (Bare, Ok(Reply::Bumped(1))),
         (Allocate { t: 0, n: 4 }, Ok(Reply::At(0))),
         (Allocate { t: 0, n: 4 }, Ok(Reply::At(4))),
         (Write { t: 0, a: 0, v: 11 }, Ok(Reply::Written)),
-        (Acquire { t: 1 }, entered(1, 0, 0, 8)),
+        (Acquire { t: 1 }, entered(2, 0, 0, 8)),
         (Raise { x: 8 }, Ok(Reply::Raised(8))),
-        (Settle, Ok(Reply::Ticket(1))),
-        (Refresh { t: 0 }, entered(2, 8, 0, 8)),
-        (Refresh { t: 1 }, entered(2, 8, 0, 8)),
-        (Take, Ok(Reply::Taken(1))),
-        (Done { ticket: 1 }, Ok(Reply::Settled(8))),
+        (Settle, Ok(Reply::Ticket(2))),
+        (Refresh { t: 0 }, entered(3, 8, 0, 8)),
+        (Refresh { t: 1 }, entered(3, 8, 0, 8)),
+        (Take, Ok(Reply::Taken(2))),
+        (Done { ticket: 2 }, Ok(Reply::Settled(8))),
         (FlushTake, Ok(Reply::Page(0))),
         (FlushDone { page: 0, ok: true }, Ok(Reply::Flushed(4))),
         (Shift { x: 4 }, Ok(Reply::Shifted(4))),
-        (Close, Ok(Reply::Ticket(2))),
-        (Refresh { t: 0 }, entered(3, 8, 4, 8)),
+        (Close, Ok(Reply::Ticket(3))),
+        (Refresh { t: 0 }, entered(4, 8, 4, 8)),
         (Read { t: 1, a: 0 }, Ok(Reply::Value(11))),
-        (Take, Err(Fault::NotReady { front: 2, safe: 1 })),
+        (Take, Err(Fault::NotReady { front: 3, safe: 2 })),
         (Allocate { t: 0, n: 1 }, Err(Fault::Busy { page: 2 })),
     ];
     run(&rt, &mut plain, &rows);
     let waiting = Waiting {
-        ticket: 2,
+        ticket: 3,
         kind: Kind::Close(4),
     };
     assert_eq!(rt; plain.pending().as_slice(), &[waiting][..]);
     let rows = [
-        (Refresh { t: 1 }, entered(3, 8, 4, 8)),
-        (Take, Ok(Reply::Taken(2))),
-        (Done { ticket: 2 }, Ok(Reply::Closed(4))),
+        (Refresh { t: 1 }, entered(4, 8, 4, 8)),
+        (Take, Ok(Reply::Taken(3))),
+        (Done { ticket: 3 }, Ok(Reply::Closed(4))),
         (Read { t: 1, a: 0 }, Err(Fault::Evicted { head: 4 })),
         (CleanTake, Ok(Reply::Page(0))),
         (CleanDone { page: 0 }, Ok(Reply::Freed(0))),
@@ -69,8 +70,8 @@ fn a_page_that_a_stale_reader_reaches_is_not_reused(rt: HostRuntime) -> Result<(
     ];
     run(&rt, &mut plain, &rows);
     let snapshot = Snapshot {
-        epoch: 3,
-        safe: 2,
+        epoch: 4,
+        safe: 3,
         protected: 2,
         pending: 0,
         taken: 0,
@@ -88,6 +89,6 @@ fn a_page_that_a_stale_reader_reaches_is_not_reused(rt: HostRuntime) -> Result<(
     assert!(rt; plain.params().frames() == 2);
     assert_eq!(rt; plain.frame(0), (FrameState::Opened, Some(2)));
     assert_eq!(rt; plain.view(2), None);
-    assert_eq!(rt; plain.steps().len(), 23);
+    assert_eq!(rt; plain.steps().len(), 24);
     Ok(())
 }

@@ -1,7 +1,16 @@
+use Rattle.std.proofs.Common.{arith, ◌≡◌, ◌∙◌, ◌∷◌, [], length, take, ap, ap₂}
+use Rattle.std.proofs.Math.Seq.{take-append_seam}
 use Rattle.hl_model.specs.Pages.{flushing, cleaning}
 use Rattle.hl_plain.proofs.TailLaws.{TailFits-take}
-use Rattle.hl_plain.proofs.HistoryLaws.{tail_fits, flushed_fits, history_pushed, marks_kept}
+use Rattle.hl_plain.proofs.HistoryLaws.{tail_fits, flushed_fits, pending_fits, history_pushed, marks_kept}
 use Rattle.hl_plain.proofs.plain.accept.Goals as goal
+
+pub answer_of-reply-requires-clause-pending : goal.answer_of-reply-requires-clause-pending
+answer_of-reply-requires-clause-pending c =
+    let A = c.args.steps.now.items in
+    let long : c.len-count.result ≡ length A = omega (arith, c.len-count.ensures, c.deref.ensures.len, ap length c.deref.ensures.value) in
+    let same : take c.len-count.result c.push_reserved.new.self.items ≡ A = ap₂ take long c.push_reserved.ensures.items ∙ take-append_seam A (c.args.step.now ∷ []) in
+    rw (c.deref-5.ensures.value, same) (pending_fits c.args.params A c.requires.kept.history)
 
 pub answer_of-reply-requires-clause-tail_before : goal.answer_of-reply-requires-clause-tail_before
 answer_of-reply-requires-clause-tail_before c =

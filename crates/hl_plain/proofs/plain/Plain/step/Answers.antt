@@ -1,7 +1,10 @@
 use Rattle.std.proofs.Common.{arith}
 use Rattle.std.proofs.lemmas.Grind.{common_steps}
-use Rattle.hl_plain.proofs.HistoryLaws.{tail_fits, flushed_fits, flushes-le, cleans-le}
+use Rattle.hl_plain.proofs.HistoryLaws.{tail_fits, flushed_fits, pending_fits, flushes-le, cleans-le}
 use Rattle.hl_plain.proofs.plain.Plain.step.Goals as goal
+
+pub fault_of-requires-clause-pending : goal.fault_of-requires-clause-pending
+fault_of-requires-clause-pending c = rw c.deref.ensures.value (pending_fits c.self.inside.params c.self.inside.steps.items c.self.invariant.kept.history)
 
 pub fault_of-requires-clause-tail : goal.fault_of-requires-clause-tail
 fault_of-requires-clause-tail c = rw c.deref.ensures.value (tail_fits c.self.inside.params c.self.inside.steps.items c.self.invariant.kept.history)
