@@ -129,7 +129,7 @@ unfolding ever_taken pending
 pending-untaken A w ws h = front-new 0 (takes A) (actions A) w ws (actions-rising A) h
 
 -- the action that a take would name isn't done
-front-unfinished : (sizes : Sizes) (A : List Step) (w : Waiting) (ws : List Waiting) → IsAccepted sizes A → pending A ≡ w ∷ ws → is_finished w.ticket A ≡ false
+pub front-unfinished : (sizes : Sizes) (A : List Step) (w : Waiting) (ws : List Waiting) → IsAccepted sizes A → pending A ≡ w ∷ ws → is_finished w.ticket A ≡ false
 front-unfinished sizes A w ws a h =
     false_from_ne_true (is_finished w.ticket A) (λ done. let was : was_taken w.ticket A ≡ true = finished-taken sizes w.ticket A a done in let new : was_taken w.ticket A ≡ false = pending-untaken A w ws h in cc)
 
