@@ -34,7 +34,7 @@ returns-in-Err g c = λ has standing.
       here.0,
       Consumes-kept (g.R.Read.remaining c.args.reader.now) (g.R.Read.remaining c.loop-turn.reader) (g.R.Read.remaining c.read.new.self) here.0 here.2 c.in-Err.ensures.bytes,
       ran_out (g.M.Machine.stands c.loop-turn.machine) has here.0 here.1 (g.W.Write.contents c.args.out.now) (g.W.Write.contents c.flush.new.self) c.loop-turn.progress
-      (at_flushed (g.W.Write.contents c.args.out.now) (g.W.Write.contents c.loop-turn.out) (g.W.Write.contents c.flush.new.self) here.3 c.flush.ensures.bytes),
+          (at_flushed (g.W.Write.contents c.args.out.now) (g.W.Write.contents c.loop-turn.out) (g.W.Write.contents c.flush.new.self) here.3 c.flush.ensures.bytes),
     )
 
 pub returns-then-is_err : goal.returns-then-is_err
@@ -43,7 +43,7 @@ returns-then-is_err g c = λ has standing.
       here.0,
       here.2,
       ran_out (g.M.Machine.stands c.loop-turn.machine) has here.0 here.1 (g.W.Write.contents c.args.out.now) (g.W.Write.contents c.flush.new.self) c.loop-turn.progress
-      (at_flushed (g.W.Write.contents c.args.out.now) (g.W.Write.contents c.loop-turn.out) (g.W.Write.contents c.flush.new.self) here.3 c.flush.ensures.bytes),
+          (at_flushed (g.W.Write.contents c.args.out.now) (g.W.Write.contents c.loop-turn.out) (g.W.Write.contents c.flush.new.self) here.3 c.flush.ensures.bytes),
     )
 
 pub loop-turn-preserved : goal.loop-turn-preserved
