@@ -53,7 +53,8 @@ impl<J> Pending<J> {
     ) -> Result<(), Action<J>>
         requires { visits.old < 2 ^ 63 }
         ensures room { IsOk result ↔ (length self.old.ring.items < self.old.ring.capacity) }
-        ensures ok { OnOk result (self.new.ring ≡ buffer (self.old.ring.items ++ (ticket, action) ∷ []) self.old.ring.capacity) }
+        ensures ok { OnOk result (self.new.ring ≡
+            buffer (self.old.ring.items ++ (ticket, action) ∷ []) self.old.ring.capacity) }
         ensures err { IfErr result (λ back. (back ≡ action) × (self.new ≡ self.old)) }
         ensures visit { visits.new ≡ visits.old + 1 }
     {
