@@ -1,13 +1,13 @@
 -- The safe epoch, found by a climb over empty places.
 use Rattle.std.proofs.Common.{◌≡◌, ℕ, ◌+◌, ◌^◌, ◌<◌, ◌≤◌, Some, None, List, length, get_or, get_or-set_other, inl, inr, ap, ◌∙◌, arith}
-use Rattle.std.proofs.lemmas.Bool.{cases_lt, cases_eq, lt-leb, ne_eqb}
+use Rattle.std.proofs.lemmas.Bool.{cases_lt, cases_eq, ne_eqb}
 use Rattle.std.proofs.lemmas.Bool.Decides.{nat_tests}
 use Rattle.hl_model.specs.Epochs.{Table}
 use Rattle.hl_model.specs.Lists.{least_or}
 use Rattle.hl_epoch.specs.Table.{epoch_at, safe_of, entered, IsTable}
 use Rattle.hl_epoch.proofs.Least.{protected, least_or-at, least_or-most, least_or-greatest}
 use Rattle.hl_epoch.proofs.Tables.{IsTable-entered, safe_of-next, safe_of-entered}
-use Rattle.hl_epoch.specs.Faults.{protected_fault, bump_fault}
+use Rattle.hl_epoch.specs.Faults.{bump_fault}
 use Rattle.hl_counts.specs.Tallies.{count_at, visited, IsTally}
 use Rattle.hl_counts.proofs.Rings.{count_at-some, slot_of_count}
 
@@ -73,7 +73,3 @@ visited-bumped T counts low r is tally low_is rises below passed =
 -- the current epoch rises unless it is the last
 pub bump_fault-none : (T : Table) → (T.current ≡ 2 ^ 62 → ⊥) → bump_fault T ≡ None
 bump_fault-none T below = rw (ne_eqb T.current (2 ^ 62) below)
-
--- a protected slot's refresh and release meet no fault
-pub protected_fault-none : (t epoch : ℕ) (T : Table) → t < length T.epochs → epoch_at t T ≡ Some epoch → protected_fault t T ≡ None
-protected_fault-none t epoch T within at = rw (lt-leb (length T.epochs) t within, at)

@@ -1,8 +1,8 @@
--- A ring of counts: how many slots stand at each epoch. Epoch e is counted at place e modulo the ring's length.
+-- A ring of counts: how many slots stand at each epoch. The place of an epoch is the epoch modulo the ring's length.
 use Rattle.std.specs.Prelude.{◌≡◌, ℕ, ◌+◌, ◌-◌, ◌%◌, ◌<◌, ◌==◌, nat_lt, Bool, false, if◌then◌else◌, Option, Some, None, List, length, count_by, slice_index, slice_set}
 
 -- what a ring knows: the count of each place, and the turns: how many places were visited
-pub record Tally : Type 0 where
+pub record RingRecord : Type 0 where
   pub counts : List ℕ
   pub turns : ℕ
 
@@ -30,9 +30,10 @@ is_counted n place (Some epoch) = epoch % n == place
 -- each place holds how many slots are counted there
 pub record IsTally (epochs : List (Option ℕ)) (counts : List ℕ) : Type 0 where
   pub some : 0 < length counts
-  pub each : (place : ℕ) → place < length counts → slice_index counts place ≡ count_by (is_counted (length counts) place) epochs
+  pub each : (place : ℕ) → place < length counts →
+      slice_index counts place ≡ count_by (is_counted (length counts) place) epochs
 
--- the places that a climb visits, from one number up to another below the current epoch: those of the epochs that it
--- passes, and that of the next one, which stops it unless it is the current one
+-- how many places a climb visits, from one number up to another below the current epoch: those of the epochs that it
+-- passes, and that of the next one, which stops it, unless that is the current one
 abbrev pub visited : ℕ → ℕ → ℕ → ℕ
 visited from risen current = (risen - from) + (if nat_lt (risen + 1) current then 1 else 0)

@@ -1,4 +1,4 @@
-ghost use Rattle.std.specs.Prelude.{◌≡◌, ℕ, ◌+◌, ◌-◌, ◌^◌, ◌<◌, ◌≤◌, Some, length, IfOk, IfErr, OnOk};
+ghost use Rattle.std.specs.Prelude.{◌≡◌, ℕ, ◌+◌, ◌-◌, ◌^◌, ◌<◌, ◌≤◌, Some, None, length, IfOk, IfErr, OnOk};
 ghost use Rattle.hl_model.specs.Epochs.{Table};
 ghost use Rattle.hl_model.specs.Replies.{unless_fault, unless_refused};
 ghost use Rattle.hl_epoch.specs.Faults.{acquire_fault, protected_fault, bump_fault};
@@ -72,6 +72,7 @@ impl CountTable {
     fn protected_at(&self, t: u64) -> Result<u64, Fault>
         ensures ok { IfOk result (λ epoch. epoch_at t self.now.table ≡ Some epoch) }
         ensures within { OnOk result (t < length self.now.table.epochs) }
+        ensures accepted { OnOk result (protected_fault t self.now.table ≡ None) }
         ensures err { IfErr result (λ fault. protected_fault t self.now.table ≡ Some fault) }
     {
         match self.epochs.get(t as usize) {
@@ -110,16 +111,15 @@ impl Epochs for CountTable {
         }
     }
 
-    /// A turn at the old epoch, one at the current epoch, and one for each place at which the safe epoch looks as it
-    /// moves: at most W + 2, whatever S is.
+    /// A turn at the old epoch, one at the current epoch, and those of the climb: at most W + 2, whatever S is.
     fn refresh(&mut self, t: u64) -> Result<(), Fault>
         ensures answer { result ≡ unless_fault (protected_fault t self.old.table) tt }
         ensures effect { let old = self.old.table
             in self.new.table ≡ unless_refused (protected_fault t old) old (entered t old) }
         ensures rising { safe_of self.old.table ≤ safe_of self.new.table }
         ensures valid { IsTable self.new.table }
-        ensures turns { let old = self.old
-            in self.new.turns ≡ unless_refused (protected_fault t old.table) old.turns (2 + climb old.table self.new.table) }
+        ensures turns { let old = self.old in let visits = 2 + climb old.table self.new.table
+            in self.new.turns ≡ unless_refused (protected_fault t old.table) old.turns visits }
         ensures few { OnOk result (self.new.turns ≤ self.old.table.window + 2) }
     {
         let old = self.protected_at(t)?;
@@ -131,17 +131,16 @@ impl Epochs for CountTable {
         Ok(())
     }
 
-    /// A turn at the old epoch, and one for each place at which the safe epoch looks as it moves: at most W + 1,
-    /// whatever S is.
+    /// A turn at the old epoch, and those of the climb: at most W + 1, whatever S is.
     fn release(&mut self, t: u64) -> Result<(), Fault>
         ensures answer { result ≡ unless_fault (protected_fault t self.old.table) tt }
         ensures effect { let old = self.old.table
             in self.new.table ≡ unless_refused (protected_fault t old) old (left t old) }
         ensures rising { safe_of self.old.table ≤ safe_of self.new.table }
         ensures valid { IsTable self.new.table }
-        ensures turns { let old = self.old
-            in self.new.turns ≡ unless_refused (protected_fault t old.table) old.turns (1 + climb old.table self.new.table) }
-        ensures few { OnOk result (self.new.turns ≤ self.old.table.window + 2) }
+        ensures turns { let old = self.old in let visits = 1 + climb old.table self.new.table
+            in self.new.turns ≡ unless_refused (protected_fault t old.table) old.turns visits }
+        ensures few { OnOk result (self.new.turns ≤ self.old.table.window + 1) }
     {
         let epoch = self.protected_at(t)?;
         self.ring.restart();
@@ -155,7 +154,8 @@ impl Epochs for CountTable {
     fn bump(&mut self) -> Result<u64, Fault>
         requires { let old = self.old.table in old.current - 1 - safe_of old < old.window }
         ensures answer { let old = self.old.table in result ≡ unless_fault (bump_fault old) old.current }
-        ensures effect { let old = self.old.table in self.new.table ≡ unless_refused (bump_fault old) old (bumped old) }
+        ensures effect { let old = self.old.table
+            in self.new.table ≡ unless_refused (bump_fault old) old (bumped old) }
         ensures rising { safe_of self.old.table ≤ safe_of self.new.table }
         ensures valid { IsTable self.new.table }
         ensures turns { self.new.turns ≡ unless_refused (bump_fault self.old.table) self.old.turns 1 }

@@ -17,9 +17,9 @@ pub struct Ring {
 
 impl Model for Ring {
     ghost use Rattle.std.specs.Prelude.{◌≡◌, ◌<◌, vec_len, vec_capacity};
-    ghost use Rattle.hl_counts.specs.Tallies.{Tally};
+    ghost use Rattle.hl_counts.specs.Tallies.{RingRecord};
 
-    ghost Value = { Tally };
+    ghost Value = { RingRecord };
 
     ghost view = { λ a. record { counts = a.counts.items; turns = a.turns } };
 
@@ -102,8 +102,8 @@ impl Ring {
         self.counts[place] == 0
     }
 
-    /// How far a number rises below the current epoch before an epoch at which a slot is counted. One turn for each
-    /// epoch that it passes, and one for the epoch that stops it.
+    /// How far a number climbs below the current epoch before an epoch at which a slot is counted. One turn for
+    /// each epoch that it passes, and one for the epoch that stops it.
     pub fn risen(&mut self, from: u64, current: u64) -> u64
         requires below { from < current }
         requires few { self.old.turns + (current - from) < 2 ^ 32 }

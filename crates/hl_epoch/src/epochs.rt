@@ -10,8 +10,9 @@ use std::alloc::Global;
 /// The last epoch: none comes after it.
 pub const EPOCH_LAST: u64 = 1 << 62;
 
-/// A table of epochs: S slots, each protected with an epoch or not, the current epoch, and W, the window: how many
-/// epochs at most have ended and are not safe. Once it is made, no call takes memory. A refused call changes nothing.
+/// A table of epochs: S slots, each protected with an epoch or not, the current epoch, and W, the window: how
+/// many epochs at most have ended and are not safe. Once it is made, no call takes memory. A refused call
+/// changes nothing.
 pub trait Epochs: Sized {
     /// What the table knows.
     ghost table: { Self → Table };
@@ -33,7 +34,8 @@ pub trait Epochs: Sized {
     /// Faults: `NoSlot` where t is S or more, `Occupied` where the slot is protected.
     fn acquire(&mut self, t: u64) -> Result<(), Fault>
         ensures answer { result ≡ unless_fault (acquire_fault t (table self.old)) tt }
-        ensures effect { let old = table self.old in table self.new ≡ unless_refused (acquire_fault t old) old (entered t old) }
+        ensures effect { let old = table self.old
+            in table self.new ≡ unless_refused (acquire_fault t old) old (entered t old) }
         ensures rising { safe_of (table self.old) ≤ safe_of (table self.new) }
         ensures valid { IsTable (table self.new) };
 
@@ -42,7 +44,8 @@ pub trait Epochs: Sized {
     /// Faults: `NoSlot` where t is S or more, `NotProtected` where the slot is not protected.
     fn refresh(&mut self, t: u64) -> Result<(), Fault>
         ensures answer { result ≡ unless_fault (protected_fault t (table self.old)) tt }
-        ensures effect { let old = table self.old in table self.new ≡ unless_refused (protected_fault t old) old (entered t old) }
+        ensures effect { let old = table self.old
+            in table self.new ≡ unless_refused (protected_fault t old) old (entered t old) }
         ensures rising { safe_of (table self.old) ≤ safe_of (table self.new) }
         ensures valid { IsTable (table self.new) };
 
@@ -51,18 +54,20 @@ pub trait Epochs: Sized {
     /// Faults: `NoSlot` where t is S or more, `NotProtected` where the slot is not protected.
     fn release(&mut self, t: u64) -> Result<(), Fault>
         ensures answer { result ≡ unless_fault (protected_fault t (table self.old)) tt }
-        ensures effect { let old = table self.old in table self.new ≡ unless_refused (protected_fault t old) old (left t old) }
+        ensures effect { let old = table self.old
+            in table self.new ≡ unless_refused (protected_fault t old) old (left t old) }
         ensures rising { safe_of (table self.old) ≤ safe_of (table self.new) }
         ensures valid { IsTable (table self.new) };
 
-    /// Raises the current epoch by one, and gives the epoch that ended: the ticket of the caller's action, if it has
-    /// one. It wants fewer than W epochs that have ended and are not safe.
+    /// Raises the current epoch by one, and gives the epoch that ended: the ticket of the caller's action, if it
+    /// has one. It wants fewer than W epochs that have ended and are not safe.
     ///
     /// Fault: `EpochsSpent` where the current epoch is the last, 2^62.
     fn bump(&mut self) -> Result<u64, Fault>
         requires { let old = table self.old in old.current - 1 - safe_of old < old.window }
         ensures answer { let old = table self.old in result ≡ unless_fault (bump_fault old) old.current }
-        ensures effect { let old = table self.old in table self.new ≡ unless_refused (bump_fault old) old (bumped old) }
+        ensures effect { let old = table self.old
+            in table self.new ≡ unless_refused (bump_fault old) old (bumped old) }
         ensures rising { safe_of (table self.old) ≤ safe_of (table self.new) }
         ensures valid { IsTable (table self.new) };
 

@@ -24,7 +24,8 @@ impl Model for ScanTable {
 
     ghost view = { λ a. record { current = a.current; epochs = a.epochs.items; window = a.window } };
 
-    ghost invariant = { λ a. IsTable (record { current = a.current; epochs = a.epochs.items; window = a.window })
+    ghost invariant = { λ a.
+        IsTable (record { current = a.current; epochs = a.epochs.items; window = a.window })
         × (vec_capacity a.epochs ≡ vec_len a.epochs) };
 }
 

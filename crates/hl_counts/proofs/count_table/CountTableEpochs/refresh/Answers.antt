@@ -4,7 +4,7 @@ use Rattle.hl_epoch.proofs.Tables.{IsTable-entered, safe_of-entered}
 use Rattle.hl_counts.specs.Tallies.{added, removed, IsTally}
 use Rattle.hl_counts.specs.Kept.{table_in}
 use Rattle.hl_counts.proofs.Rings.{IsTally-moved, count_at-some, length-added, length-removed}
-use Rattle.hl_counts.proofs.Climbs.{safe_of-risen, protected_fault-none}
+use Rattle.hl_counts.proofs.Climbs.{safe_of-risen}
 use Rattle.hl_counts.proofs.count_table.CountTableEpochs.refresh.Goals as goal
 
 pub invariant_of-self : goal.invariant_of-self
@@ -37,8 +37,5 @@ returns-clause-rising c = rw (← c.self.view_is) (safe_of-entered _ _ c.self.in
 
 pub returns-clause-turns : goal.returns-clause-turns
 returns-clause-turns c =
-    let T = table_in c.self.inside in
-    let at : epoch_at c.args.t T ≡ Some c.in_ok-old.old = ap (λ v. epoch_at c.args.t v.table) c.self.view_is ∙ c.in_ok-old.ensures.ok in
-    let within : c.args.t < length T.epochs = rw (← c.self.view_is) at c.in_ok-old.ensures.within in
-    rw (← c.self.view_is, protected_fault-none c.args.t c.in_ok-old.old T within at, ← c.self.invariant.safe, ← (invariant_of-self c).safe)
-    (omega (arith, c.risen-self-inside.ensures.turns, c.add.ensures.turns, c.remove.ensures.turns, c.restart.ensures.turns))
+    let accepted = rw (← c.self.view_is) at c.in_ok-old.ensures.accepted in
+    rw (← c.self.view_is, accepted, ← c.self.invariant.safe, ← (invariant_of-self c).safe) (omega (arith, c.risen-self-inside.ensures.turns, c.add.ensures.turns, c.remove.ensures.turns, c.restart.ensures.turns))

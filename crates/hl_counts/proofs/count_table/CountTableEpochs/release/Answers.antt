@@ -4,7 +4,7 @@ use Rattle.hl_epoch.proofs.Tables.{IsTable-left, safe_of-left}
 use Rattle.hl_counts.specs.Tallies.{removed, IsTally}
 use Rattle.hl_counts.specs.Kept.{table_in}
 use Rattle.hl_counts.proofs.Rings.{IsTally-left, count_at-some, length-removed}
-use Rattle.hl_counts.proofs.Climbs.{safe_of-risen, protected_fault-none}
+use Rattle.hl_counts.proofs.Climbs.{safe_of-risen}
 use Rattle.hl_counts.proofs.count_table.CountTableEpochs.release.Goals as goal
 
 pub invariant_of-self : goal.invariant_of-self
@@ -36,8 +36,5 @@ returns-clause-rising c = rw (← c.self.view_is) (safe_of-left _ _ c.self.invar
 
 pub returns-clause-turns : goal.returns-clause-turns
 returns-clause-turns c =
-    let T = table_in c.self.inside in
-    let at : epoch_at c.args.t T ≡ Some c.in_ok-epoch.epoch = ap (λ v. epoch_at c.args.t v.table) c.self.view_is ∙ c.in_ok-epoch.ensures.ok in
-    let within : c.args.t < length T.epochs = rw (← c.self.view_is) at c.in_ok-epoch.ensures.within in
-    rw (← c.self.view_is, protected_fault-none c.args.t c.in_ok-epoch.epoch T within at, ← c.self.invariant.safe, ← (invariant_of-self c).safe)
-    (omega (arith, c.risen-self-inside.ensures.turns, c.remove.ensures.turns, c.restart.ensures.turns))
+    let accepted = rw (← c.self.view_is) at c.in_ok-epoch.ensures.accepted in
+    rw (← c.self.view_is, accepted, ← c.self.invariant.safe, ← (invariant_of-self c).safe) (omega (arith, c.risen-self-inside.ensures.turns, c.remove.ensures.turns, c.restart.ensures.turns))

@@ -1,9 +1,9 @@
 use Rattle.std.proofs.Common.{◌≡◌, ℕ, ◌+◌, ◌-◌, ◌<◌, ◌≤◌}
-use Rattle.hl_counts.specs.Tallies.{Tally, count_at}
+use Rattle.hl_counts.specs.Tallies.{RingRecord, count_at}
 use Rattle.hl_counts.proofs.ring.Ring.risen.Given as goal
 
 -- the number rose over empty places, one turn each
-pub record IsRisen (from risen current : ℕ) (old new : Tally) : Type 0 where
+pub record IsRisen (from risen current : ℕ) (old new : RingRecord) : Type 0 where
   pub rises : from ≤ risen
   pub below : risen < current
   pub passed : (e : ℕ) → from < e → e ≤ risen → count_at e old.counts ≡ 0
