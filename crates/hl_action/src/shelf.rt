@@ -16,7 +16,7 @@ pub struct Shelf<F: Task, P: Promise> {
 }
 
 impl<F: Task, P: Promise> Model for Shelf<F, P> {
-    ghost use Rattle.std.specs.Prelude.{List, Option};
+    ghost use Rattle.std.specs.Prelude.{◌≡◌, List, length, Option, vec_capacity};
     ghost use Rattle.hl_action.specs.Jobs.{KeptRecord};
     ghost use Rattle.hl_action.specs.Shelves.{AreAtTheirTags};
 
@@ -24,7 +24,8 @@ impl<F: Task, P: Promise> Model for Shelf<F, P> {
 
     ghost view = { λ a. a.places.items };
 
-    ghost invariant = { λ a. AreAtTheirTags a.places.items };
+    // The row has as many places as it was opened with: it never grows or shrinks.
+    ghost invariant = { λ a. AreAtTheirTags a.places.items × (vec_capacity a.places ≡ length a.places.items) };
 }
 
 impl<F: Task, P: Promise> Drop for Shelf<F, P> {

@@ -1,10 +1,11 @@
-ghost use Rattle.std.specs.Prelude.{◌≡◌, ℕ, ◌+◌, ◌<◌, ◌^◌};
+ghost use Rattle.std.specs.Prelude.{◌≡◌, ◌+◌};
+ghost use Rattle.hl_action.specs.Firings.{IsSafe};
 ghost use Rattle.hl_action.specs.Jobs.{CanBeCalled, AnswersKeep};
 
 use crate::{Call, Firing, Kept, Outcome, Promise, Ready, Shelf, Task};
-use hl_model::{Fault, Tagged};
+use hl_model::Fault;
 use std::alloc::Global;
-use std::test::Fail;
+use std::sync::atomic::{AtomicU64, Ordering};
 
 // Each job answers its tag and the ticket that it is run under, added up.
 struct TagAndTicket;
@@ -13,116 +14,86 @@ impl Promise for TagAndTicket {
     ghost keeps = { λ tag firing answer. answer ≡ tag + firing.ticket };
 }
 
-// A job as a struct, whose type has a name.
+// A job of tag 7, which counts its calls.
 #[derive(Drop)]
-struct AddTicket {
-    tag: u64,
+struct Counted<'a> {
+    calls: &'a AtomicU64,
 }
 
-impl Task for AddTicket {
-    ghost can = { λ job firing. job.tag + firing.ticket < 2 ^ 64 };
+impl<'a> Task for Counted<'a> {
+    ghost can = { λ job firing. IsSafe firing };
 
-    ghost gives = { λ job firing answer. answer ≡ job.tag + firing.ticket };
+    ghost gives = { λ job firing answer. answer ≡ 7 + firing.ticket };
 
     fn call(self, firing: Firing) -> u64 {
-        self.tag + firing.ticket()
+        self.calls.fetch_add(1, Ordering::SeqCst);
+        7 + firing.ticket()
     }
 }
 
-fn stored(tag: u64) -> Kept<AddTicket, TagAndTicket>
-    requires { tag < 1000 }
-    ensures { result.tag ≡ tag }
+fn ready<F: Task>(job: F) -> Ready<F, TagAndTicket>
+    requires callable { CanBeCalled (F.can job) }
+    requires keeps { AnswersKeep (F.gives job) (λ firing answer. answer ≡ 7 + firing.ticket) }
 {
-    Kept::new(tag, AddTicket { tag })
+    Ready::of(1000, Firing::new(1, 4), Some(Kept::new(7, job)))
 }
 
-fn tag_of(kept: Option<Kept<AddTicket, TagAndTicket>>) -> Option<u64> {
-    kept.map(|kept| kept.tag())
+// Runs a job of tag 7 under ticket 1.
+fn run_seven<F: Task>(job: F) -> Outcome
+    requires callable { CanBeCalled (F.can job) }
+    requires keeps { AnswersKeep (F.gives job) (λ firing answer. answer ≡ 7 + firing.ticket) }
+{
+    ready(job).run().done()
 }
 
 #[test]
-fn shelf(rt: HostRuntime) -> Result<(), Fail> {
-    let mut shelf = Shelf::open(rt.alloc(), 3)?;
-    assert_eq!(rt; tag_of(shelf.put(stored(3))), Some(3));
-    assert_eq!(rt; tag_of(shelf.put(stored(1))), None);
-    assert!(rt; shelf.has(1));
-    assert_eq!(rt; tag_of(shelf.put(stored(1))), Some(1));
-    assert_eq!(rt; tag_of(shelf.take(1)), Some(1));
-    assert_eq!(rt; tag_of(shelf.take(1)), None);
-    assert!(rt; !shelf.has(1));
+fn a_closure_runs(rt: HostRuntime) {
+    let outcome = run_seven(Call(|firing: Firing| 7 + firing.ticket()));
+    assert!(rt; outcome.origin == 1000 && outcome.ticket == 1 && outcome.answer == Some(8));
+}
+
+// What becomes of a job.
+#[derive(Clone, Copy)]
+enum End {
+    Forsaken,
+    ShelfDropped,
+    TakenAndRun,
+}
+
+// Brings a job to its end.
+fn spend(alloc: Global, end: End, calls: &AtomicU64) -> Result<(), Fault> {
+    let job = Counted { calls };
+    let mut shelf = Shelf::<_, TagAndTicket>::open(alloc, 8)?;
+    match end {
+        End::Forsaken => ready(job).forsake(),
+        End::ShelfDropped => drop(shelf.put(Kept::new(7, job))),
+        End::TakenAndRun => {
+            shelf.put(Kept::new(7, job));
+            Ready::of(0, Firing::new(1, 4), shelf.take(7))
+                .run()
+                .forsake();
+        }
+    }
+    Ok(())
+}
+
+#[test]
+fn a_job_is_called_by_its_run_alone(rt: HostRuntime) -> Result<(), Fault> {
+    let rows = [
+        ("forsaken", End::Forsaken, 0),
+        ("dropped with its shelf", End::ShelfDropped, 0),
+        ("taken and run", End::TakenAndRun, 1),
+    ];
+    for (name, end, expected) in rows {
+        let calls = AtomicU64::new(0);
+        spend(rt.alloc(), end, &calls)?;
+        assert_eq!(rt; calls.load(Ordering::SeqCst), expected, "{name}");
+    }
     Ok(())
 }
 
 #[test]
 fn refused_memory(rt: HostRuntime) {
-    let shelf = Shelf::<AddTicket, TagAndTicket>::open(rt.alloc(), 1 << 62);
+    let shelf = Shelf::<Counted<'static>, TagAndTicket>::open(rt.alloc(), 1 << 62);
     assert!(rt; matches!(shelf, Err(Fault::OutOfMemory)));
-}
-
-// Runs a job of tag 7 under ticket 1, with epoch 4 safe.
-fn run_seven<F: Task>(job: F) -> Outcome
-    requires callable { CanBeCalled (F.can job) }
-    requires keeps { AnswersKeep (F.gives job) (λ firing answer. answer ≡ 7 + firing.ticket) }
-{
-    let kept = Kept::<F, TagAndTicket>::new(7, job);
-    let ready = Ready::of(1000, Firing::new(1, 4), Some(kept));
-    ready.run().done()
-}
-
-#[test]
-fn a_job_runs(rt: HostRuntime) {
-    let seven = 7;
-    let outcome = run_seven(Call(move |firing: Firing| seven + firing.ticket()));
-    assert_eq!(rt; outcome.origin, 1000);
-    assert_eq!(rt; outcome.ticket, 1);
-    assert_eq!(rt; outcome.answer, Some(8));
-    assert_eq!(rt; run_seven(AddTicket { tag: 7 }).answer, Some(8));
-}
-
-#[test]
-fn no_job_no_answer(rt: HostRuntime) {
-    let ready = Ready::<AddTicket, TagAndTicket>::of(1000, Firing::new(2, 2), None);
-    assert_eq!(rt; ready.ticket(), 2);
-    assert_eq!(rt; ready.tag(), None);
-    let ran = ready.run();
-    assert_eq!(rt; ran.origin(), 1000);
-    assert_eq!(rt; ran.ticket(), 2);
-    assert_eq!(rt; ran.answer(), None);
-    ran.forsake();
-}
-
-#[test]
-fn an_action_is_forsaken(rt: HostRuntime) {
-    let ready = Ready::of(1000, Firing::new(2, 5), Some(stored(9)));
-    assert_eq!(rt; ready.tag(), Some(9));
-    ready.forsake();
-    assert_eq!(rt; Firing::new(2, 5).safe(), 5);
-}
-
-// Puts a thousand jobs that `make` makes on a shelf, takes each, runs it under ticket 5, and adds up the answers.
-fn serve<F: Task, M: Fn(u64) -> F>(alloc: Global, make: M) -> Result<u64, Fail>
-    requires callable { M.IsAlwaysCallable make }
-    requires jobs { (tag : ℕ) (job : F) → tag < 1000 → M.post make tag job → CanBeCalled (F.can job) }
-    requires answers { (tag : ℕ) (job : F) → tag < 1000 → M.post make tag job → AnswersKeep (F.gives job) (λ firing answer. answer ≡ tag + firing.ticket) }
-{
-    let mut shelf = Shelf::<F, TagAndTicket>::open(alloc, 1000)?;
-    for tag in 0..1000 {
-        shelf.put(Kept::new(tag, make(tag)));
-    }
-    let mut sum = 0u64;
-    for tag in 0..1000 {
-        let ran = Ready::of(0, Firing::new(5, 5), shelf.take(tag)).run();
-        sum = sum.wrapping_add(ran.done().answer.unwrap_or(0));
-    }
-    Ok(sum)
-}
-
-#[test]
-fn a_thousand_jobs_of_one_closure(rt: HostRuntime) -> Result<(), Fail> {
-    // 0 + 1 + .. + 999 is 499,500, and each answer adds the ticket, 5.
-    let sum = serve(rt.alloc(), |tag: u64| {
-        Call(move |firing: Firing| tag.wrapping_add(firing.ticket()))
-    })?;
-    assert_eq!(rt; sum, 504_500);
-    Ok(())
 }

@@ -12,7 +12,7 @@ use Rattle.hl_model.specs.declared.step.Step.{Step}
 use Rattle.hl_model.specs.declared.step.Step.TheVariants.{Take, Done, Write, Read, CleanDone, Allocate}
 use Rattle.hl_model.specs.Sizes.{Sizes}
 use Rattle.hl_model.specs.Epochs.{safe_epoch}
-use Rattle.hl_model.specs.Actions.{pending, takes, is_take, finishes, action_at}
+use Rattle.hl_model.specs.Actions.{pending, front, is_take, finishes, action_at}
 use Rattle.hl_model.specs.Words.{word, page_words}
 use Rattle.hl_model.specs.declared.frame.FrameState.{FrameState}
 use Rattle.hl_model.specs.Frames.{last_entered, frame_of}
@@ -208,7 +208,7 @@ module _ {F : Type 0} where
   moved_take keeps engine A core_new firing job origin held st moved safe out pushed =
       let h = (free_of engine A Take core_new (Taken firing.ticket) moved).0 in
       let first = first_pending engine A core_new firing.ticket job st out in
-      let ticket : firing.ticket ≡ takes A + 1 = ticket-front A (waiting_of job_tag (firing.ticket, out.action)) (map (waiting_of job_tag) core_new.drain.pending) first in
+      let ticket : firing.ticket ≡ front A = ticket-front A (waiting_of job_tag (firing.ticket, out.action)) (map (waiting_of job_tag) core_new.drain.pending) first in
       let safe_is : firing.safe ≡ safe_epoch engine.core.sizes.slots A = safe ∙ ap safe_of st.core_stands.table_is in
       moved_accepted keeps engine A Take core_new engine.words held (Ok (Taken firing.ticket)) (Ok (Taken firing.ticket)) moved h
       (told_same keeps engine.core.sizes A Take (Ok (Taken firing.ticket)) refl moved.reply)

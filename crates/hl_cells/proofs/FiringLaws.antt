@@ -10,12 +10,12 @@ use Rattle.hl_model.specs.declared.step.Step.TheVariants.{Take, Done}
 use Rattle.hl_model.specs.Lists.{gather, gather_after}
 use Rattle.hl_model.specs.Sizes.{Sizes}
 use Rattle.hl_model.specs.Epochs.{safe_epoch}
-use Rattle.hl_model.specs.Actions.{takes, taken, is_take, is_finished, finishes}
+use Rattle.hl_model.specs.Actions.{front, pending, taken, is_take, is_finished, finishes}
 use Rattle.hl_model.specs.Replies.{fault_of, IsAccepted}
 use Rattle.hl_model.proofs.ListLaws.{gather-push}
 use Rattle.hl_model.proofs.ActionLaws.{is_finished-push, is_finished-stay, taken-done, taken-stores, ticket-front, not_or, filter_twice, taken-nil}
 use Rattle.hl_model.proofs.AcceptedLaws.{accepted_has}
-use Rattle.hl_model.proofs.DrainLaws.{taken-next, finished-taken, take_fault-none, takes-le-bumps, first_pending}
+use Rattle.hl_model.proofs.DrainLaws.{taken-next, front-unfinished, take_fault-none, takes-le-actions, first_pending}
 use Rattle.hl_action.specs.Firings.{FiringRecord}
 use Rattle.hl_cells.specs.HeldActions.{firings, firing_of, undone_firings}
 
@@ -50,22 +50,18 @@ undone-stay sizes A s e h =
     ap (filter (λ (f : FiringRecord). not (is_finished f.ticket (A ++ s ∷ [])))) (firings-stay sizes A s e)
     ∙ filter_agree (λ (f : FiringRecord). not (is_finished f.ticket (A ++ s ∷ []))) (λ (f : FiringRecord). not (is_finished f.ticket A)) (λ f. ap not (is_finished-stay f.ticket A s (h f.ticket))) (firings sizes A)
 
--- no done names a ticket that is to come
-unfinished_next : (sizes : Sizes) (A : List Step) → IsAccepted sizes A → is_finished (takes A + 1) A ≡ false
-unfinished_next sizes A acc = by_test (is_finished (takes A + 1) A) refl
-  where
-    by_test : (b : Bool) → is_finished (takes A + 1) A ≡ b → is_finished (takes A + 1) A ≡ false
-    by_test true e = let known = finished-taken sizes (takes A + 1) A acc e in absurd (omega (arith, known.1))
-    by_test false e = e
+-- no done names the ticket of the oldest pending action
+unfinished_next : (sizes : Sizes) (A : List Step) (w : Waiting) (ws : List Waiting) → IsAccepted sizes A → pending A ≡ w ∷ ws → is_finished (front A) A ≡ false
+unfinished_next sizes A w ws acc first = ap (λ c. is_finished c A) (sym (ticket-front A w ws first)) ∙ front-unfinished sizes A w ws acc first
 
 -- a take's firing is undone
-pub undone-take : (sizes : Sizes) (A : List Step) → IsAccepted sizes A → undone_firings sizes (A ++ Take ∷ []) ≡ undone_firings sizes A ++ record { ticket = takes A + 1; safe = safe_epoch sizes.slots A } ∷ []
+pub undone-take : (sizes : Sizes) (A : List Step) (w : Waiting) (ws : List Waiting) → IsAccepted sizes A → pending A ≡ w ∷ ws → undone_firings sizes (A ++ Take ∷ []) ≡ undone_firings sizes A ++ record { ticket = front A; safe = safe_epoch sizes.slots A } ∷ []
 unfolding undone_firings
-undone-take sizes A acc =
+undone-take sizes A w ws acc first =
     filter_agree (λ (f : FiringRecord). not (is_finished f.ticket (A ++ Take ∷ []))) (λ (f : FiringRecord). not (is_finished f.ticket A)) (λ f. ap not (is_finished-stay f.ticket A Take refl)) (firings sizes (A ++ Take ∷ []))
     ∙ ap (filter (λ (f : FiringRecord). not (is_finished f.ticket A))) (firings-push sizes A Take)
     ∙ filter-append (λ (f : FiringRecord). not (is_finished f.ticket A)) (firings sizes A) (firing_of sizes A Take)
-    ∙ ap (λ (b : Bool). filter (λ (f : FiringRecord). not (is_finished f.ticket A)) (firings sizes A) ++ cond (not b) (firing_of sizes A Take) []) (unfinished_next sizes A acc)
+    ∙ ap (λ (b : Bool). filter (λ (f : FiringRecord). not (is_finished f.ticket A)) (firings sizes A) ++ cond (not b) (firing_of sizes A Take) []) (unfinished_next sizes A w ws acc first)
 
 -- a done leaves the firings of other tickets
 pub undone-done : (sizes : Sizes) (A : List Step) (c : ℕ) → undone_firings sizes (A ++ Done c ∷ []) ≡ filter (λ f. not (c == f.ticket)) (undone_firings sizes A)
@@ -92,14 +88,14 @@ same_tickets sizes A = map (λ f. f.ticket) (undone_firings sizes A) ≡ map (λ
 tickets-quiet : (sizes : Sizes) (A : List Step) (s : Step) → IsAccepted sizes A → is_take s ≡ false → ((c : ℕ) → finishes c s ≡ false) → same_tickets sizes A → same_tickets sizes (A ++ s ∷ [])
 unfolding same_tickets
 tickets-quiet sizes A s acc e h same =
-    ap (map (λ (f : FiringRecord). f.ticket)) (undone-stay sizes A s e h) ∙ same ∙ sym (ap (map (λ (w : Waiting). w.ticket)) (taken-stores A s (takes-le-bumps sizes A acc) e h))
+    ap (map (λ (f : FiringRecord). f.ticket)) (undone-stay sizes A s e h) ∙ same ∙ sym (ap (map (λ (w : Waiting). w.ticket)) (taken-stores A s (takes-le-actions sizes A acc) e h))
 
 tickets-step : (sizes : Sizes) (A : List Step) (s : Step) → IsAccepted sizes A → fault_of sizes A s ≡ None → same_tickets sizes A → same_tickets sizes (A ++ s ∷ [])
 unfolding same_tickets
 tickets-step sizes A Take acc free same =
     let first = first_pending A (take_fault-none sizes A free).0 in
-    ap (map (λ (f : FiringRecord). f.ticket)) (undone-take sizes A acc)
-    ∙ map-append (λ (f : FiringRecord). f.ticket) (undone_firings sizes A) (record { ticket = takes A + 1; safe = safe_epoch sizes.slots A } ∷ [])
+    ap (map (λ (f : FiringRecord). f.ticket)) (undone-take sizes A first.0 first.1 acc first.2)
+    ∙ map-append (λ (f : FiringRecord). f.ticket) (undone_firings sizes A) (record { ticket = front A; safe = safe_epoch sizes.slots A } ∷ [])
     ∙ ap₂ (λ ns n. ns ++ n ∷ []) same (sym (ticket-front A first.0 first.1 first.2))
     ∙ sym (map-append (λ (w : Waiting). w.ticket) (taken A) (first.0 ∷ []))
     ∙ sym (ap (map (λ (w : Waiting). w.ticket)) (taken-next sizes A first.0 first.1 acc first.2))

@@ -9,10 +9,10 @@ use Rattle.hl_model.specs.declared.step.Step.{Step}
 use Rattle.hl_model.specs.declared.step.Step.TheVariants.{Take, Done}
 use Rattle.hl_model.specs.Sizes.{Sizes}
 use Rattle.hl_model.specs.Epochs.{safe_epoch}
-use Rattle.hl_model.specs.Actions.{takes, taken, pending, actions, is_take, is_taken, is_finished, finishes, action_at}
+use Rattle.hl_model.specs.Actions.{front, taken, pending, actions, is_take, is_taken, is_finished, finishes, action_at}
 use Rattle.hl_model.specs.Replies.{IsAccepted}
 use Rattle.hl_model.proofs.ActionLaws.{taken-done, taken-stores, taken-nil}
-use Rattle.hl_model.proofs.DrainLaws.{taken-next, takes-le-bumps, is_taken-parts, Rising-taken, length-both, bumps-dones}
+use Rattle.hl_model.proofs.DrainLaws.{taken-next, takes-le-actions, is_taken-parts, Rising-taken, length-both, actions-dones}
 use Rattle.hl_model.proofs.SettledLaws.{action_at-taken}
 use Rattle.hl_model.proofs.TicketLaws.{Rising}
 use Rattle.hl_action.specs.Firings.{FiringRecord}
@@ -93,17 +93,17 @@ holds-nil {F = F} sizes held e = record {
 pub holds-quiet : {F : Type 0} (sizes : Sizes) (A : List Step) (s : Step) (held : Row F) → IsAccepted sizes A → is_take s ≡ false → ((c : ℕ) → finishes c s ≡ false) → Holds sizes A held → Holds sizes (A ++ s ∷ []) held
 holds-quiet sizes A s held acc e h holds = record {
   firings_is = holds.firings_is ∙ sym (undone-stay sizes A s e h);
-  jobs_is = holds.jobs_is ∙ sym (ap (map (λ (w : Waiting). tag_of w.kind)) (taken-stores A s (takes-le-bumps sizes A acc) e h));
+  jobs_is = holds.jobs_is ∙ sym (ap (map (λ (w : Waiting). tag_of w.kind)) (taken-stores A s (takes-le-actions sizes A acc) e h));
   room = holds.room;
 }
 
 -- a take: the action is held with its firing
-pub holds-take : {F : Type 0} (sizes : Sizes) (A : List Step) (w : Waiting) (ws : List Waiting) (ready : ReadyRecord F) (held held_new : Row F) → IsAccepted sizes A → pending A ≡ w ∷ ws → ready.firing ≡ record { ticket = takes A + 1; safe = safe_epoch sizes.slots A } → tag_held ready ≡ tag_of w.kind → held_new ≡ record { room = held.room; actions = held.actions ++ ready ∷ [] } → Holds sizes A held → Holds sizes (A ++ Take ∷ []) held_new
+pub holds-take : {F : Type 0} (sizes : Sizes) (A : List Step) (w : Waiting) (ws : List Waiting) (ready : ReadyRecord F) (held held_new : Row F) → IsAccepted sizes A → pending A ≡ w ∷ ws → ready.firing ≡ record { ticket = front A; safe = safe_epoch sizes.slots A } → tag_held ready ≡ tag_of w.kind → held_new ≡ record { room = held.room; actions = held.actions ++ ready ∷ [] } → Holds sizes A held → Holds sizes (A ++ Take ∷ []) held_new
 holds-take {F = F} sizes A w ws ready held held_new acc first fires_is tag_is e holds = record {
   firings_is = ap (λ (z : Row F). map (λ (r : ReadyRecord F). r.firing) z.actions) e
       ∙ map-append (λ (r : ReadyRecord F). r.firing) held.actions (ready ∷ [])
       ∙ ap₂ (λ fs f. fs ++ f ∷ []) holds.firings_is fires_is
-      ∙ sym (undone-take sizes A acc);
+      ∙ sym (undone-take sizes A w ws acc first);
   jobs_is = ap (λ (z : Row F). map tag_held z.actions) e
       ∙ map-append tag_held held.actions (ready ∷ [])
       ∙ ap₂ (λ ts t. ts ++ t ∷ []) holds.jobs_is tag_is
@@ -116,7 +116,7 @@ holds-take {F = F} sizes A w ws ready held held_new acc first fires_is tag_is e 
 pub holds-fits : {F : Type 0} (sizes : Sizes) (A : List Step) (w : Waiting) (ws : List Waiting) (held : Row F) → IsAccepted sizes A → pending A ≡ w ∷ ws → Holds sizes A held → length held.actions < held.room
 holds-fits {F = F} sizes A w ws held acc first holds =
     let same : length held.actions ≡ length (taken A) = sym (length-map held.actions tag_held) ∙ ap length holds.jobs_is ∙ length-map (taken A) (λ (w : Waiting). tag_of w.kind) in
-    omega (arith, same, ap length first, length-both sizes A acc, bumps-dones sizes A acc, holds.room)
+    omega (arith, same, ap length first, length-both sizes A acc, actions-dones sizes A acc, holds.room)
 
 -- what is held of a ticket that is taken and not done: its firing, and its job as the drain list knows it
 pub record Found {F : Type 0} (sizes : Sizes) (A : List Step) (c : ℕ) (held : Row F) : Type 0 where
@@ -166,7 +166,7 @@ held_tickets {F = F} sizes A held acc holds =
 pub holds-found : {F : Type 0} (sizes : Sizes) (A : List Step) (c : ℕ) (held : Row F) → IsAccepted sizes A → is_taken c A ≡ true → Holds sizes A held → Found sizes A c held
 unfolding firing_at undone_firings
 holds-found {F = F} sizes A c held acc is holds =
-    let w = action_at-taken sizes A c acc is in
+    let w = action_at-taken A c is in
     let r = found_pair (fires {F = F} c) (λ (w : Waiting). w.ticket == c) (λ (r : ReadyRecord F). r.firing.ticket) (λ (w : Waiting). w.ticket) tag_held (λ (w : Waiting). tag_of w.kind) c held.actions (taken A) w.0 (λ r. refl) (λ w. refl) (held_tickets sizes A held acc holds) holds.jobs_is w.3 in
     record {
       ready = r.0;
@@ -181,7 +181,7 @@ holds-found {F = F} sizes A c held acc is holds =
     }
   where
     unfinished : (f : FiringRecord) → is_of c f ≡ true → not (is_finished f.ticket A) ≡ true
-    unfinished f e = ap (λ n. not (is_finished n A)) (eqb-true f.ticket c e) ∙ ap not (is_taken-parts c A is).2
+    unfinished f e = ap (λ n. not (is_finished n A)) (eqb-true f.ticket c e) ∙ ap not (is_taken-parts c A is).1
 
 -- a done: its action is held no longer
 pub holds-done : {F : Type 0} (sizes : Sizes) (A : List Step) (c : ℕ) (held held_new : Row F) → IsAccepted sizes A → held_new ≡ record { room = held.room; actions = remove held.actions (position_or_len (fires c) held.actions) } → Holds sizes A held → Holds sizes (A ++ Done c ∷ []) held_new

@@ -7,7 +7,7 @@ use Rattle.hl_model.specs.declared.step.Step.TheVariants.{Take}
 use Rattle.hl_model.specs.Lists.{gather}
 use Rattle.hl_model.specs.Sizes.{Sizes}
 use Rattle.hl_model.specs.Epochs.{safe_epoch}
-use Rattle.hl_model.specs.Actions.{takes, taken, is_finished}
+use Rattle.hl_model.specs.Actions.{front, taken, is_finished}
 use Rattle.hl_action.specs.Firings.{FiringRecord}
 use Rattle.hl_action.specs.Jobs.{ReadyRecord}
 
@@ -36,7 +36,7 @@ tag_of _ = None
 
 -- the firing of the action that a step takes: its ticket, and the safe epoch before the step
 abbrev pub firing_of : Sizes → List Step → Step → List FiringRecord
-firing_of sizes before Take = record { ticket = takes before + 1; safe = safe_epoch sizes.slots before } ∷ []
+firing_of sizes before Take = record { ticket = front before; safe = safe_epoch sizes.slots before } ∷ []
 firing_of sizes before _ = []
 
 -- the firings of all actions ever taken, in the order of their takes

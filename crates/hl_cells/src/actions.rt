@@ -19,7 +19,7 @@ impl<E: Epochs + Drop, F: Task, P: Promise> Engine<E, F, P> {
     /// under this ticket until the done of its action runs it.
     ///
     /// Faults, with the job handed back: `DrainFull` where the drain list has no room, `EpochsSpent` where the current
-    /// epoch is the last.
+    /// epoch is the last, `WindowFull` where 4,096 epochs have ended and aren't safe.
     pub fn bump(&mut self, kept: Kept<F, P>) -> Result<u64, (Fault, Kept<F, P>)>
         ensures moved { Moves P.keeps self.old (BUMP kept.tag) self.new (ticket_told result) }
         ensures jobs { IfOk result (JobStored kept self.old self.new) }

@@ -58,16 +58,16 @@ module _ {J : Type 0} (tag : J → ℕ) where
   pub take_early : (core : State J) (A : List Step) (oldest : ℕ × Action J) (later : List (ℕ × Action J)) → Stands tag core A → core.drain.pending ≡ oldest ∷ later → safe_of core.table < oldest.0 → take_fault core.sizes A ≡ Some (NotReady oldest.0 (safe_of core.table))
   take_early core A oldest later st p early =
       let first : pending A ≡ waiting_of tag oldest ∷ map (waiting_of tag) later = first_is core A oldest later st p in
-      let front : oldest.0 ≡ front A = ticket-front A (waiting_of tag oldest) (map (waiting_of tag) later) first in
+      let named : oldest.0 ≡ front A = ticket-front A (waiting_of tag oldest) (map (waiting_of tag) later) first in
       let safe : safe_of core.table ≡ safe_epoch core.sizes.slots A = safe_is core A st in
-      fault_early (length (pending A)) (front A) (safe_epoch core.sizes.slots A) (omega (arith, ap length first)) (omega (arith, early, front, safe))
-      ∙ ap₂ (λ n m. Some (NotReady n m)) (sym front) (sym safe)
+      fault_early (length (pending A)) (front A) (safe_epoch core.sizes.slots A) (omega (arith, ap length first)) (omega (arith, early, named, safe))
+      ∙ ap₂ (λ n m. Some (NotReady n m)) (sym named) (sym safe)
 
   pub take_ready : (core : State J) (A : List Step) (oldest : ℕ × Action J) (later : List (ℕ × Action J)) → Stands tag core A → core.drain.pending ≡ oldest ∷ later → oldest.0 ≤ safe_of core.table → take_fault core.sizes A ≡ None
   take_ready core A oldest later st p ready =
       let first : pending A ≡ waiting_of tag oldest ∷ map (waiting_of tag) later = first_is core A oldest later st p in
-      let front : oldest.0 ≡ front A = ticket-front A (waiting_of tag oldest) (map (waiting_of tag) later) first in
-      fault_ready (length (pending A)) (front A) (safe_epoch core.sizes.slots A) (omega (arith, ap length first)) (omega (arith, ready, front, safe_is core A st))
+      let named : oldest.0 ≡ front A = ticket-front A (waiting_of tag oldest) (map (waiting_of tag) later) first in
+      fault_ready (length (pending A)) (front A) (safe_epoch core.sizes.slots A) (omega (arith, ap length first)) (omega (arith, ready, named, safe_is core A st))
 
   -- the list from which an entry was taken, and its ticket is safe
   record TakenFrom (entries : List (ℕ × Action J)) (safe : ℕ) (entry : ℕ × Action J) : Type 0 where
@@ -137,14 +137,14 @@ module _ {J : Type 0} (tag : J → ℕ) where
   pub early_told : (core : State J) (ws rest : List Waiting) (w : Waiting) (safe : ℕ) → ws ≡ map (waiting_of tag) core.drain.pending → ws ≡ w ∷ rest → safe ≡ safe_of core.table → safe < w.ticket → (A : List Step) → Stands tag core A → Err (NotReady w.ticket safe) ≡ unless_fault (take_fault core.sizes A) (tt {0})
   early_told core ws rest w safe e some s early A st =
       let first : pending A ≡ w ∷ rest = sym st.pending_is ∙ sym e ∙ some in
-      let front : w.ticket ≡ front A = ticket-front A w rest first in
+      let named : w.ticket ≡ front A = ticket-front A w rest first in
       let same : safe ≡ safe_epoch core.sizes.slots A = s ∙ safe_is core A st in
-      ap₂ (λ n m. Err (NotReady n m)) front same
-      ∙ sym (ap (λ o. unless_fault o (tt {0})) (fault_early (length (pending A)) (front A) (safe_epoch core.sizes.slots A) (omega (arith, ap length first)) (omega (arith, early, front, same))))
+      ap₂ (λ n m. Err (NotReady n m)) named same
+      ∙ sym (ap (λ o. unless_fault o (tt {0})) (fault_early (length (pending A)) (front A) (safe_epoch core.sizes.slots A) (omega (arith, ap length first)) (omega (arith, early, named, same))))
 
   pub ready_told : (core : State J) (ws rest : List Waiting) (w : Waiting) (safe : ℕ) → ws ≡ map (waiting_of tag) core.drain.pending → ws ≡ w ∷ rest → safe ≡ safe_of core.table → w.ticket ≤ safe → (A : List Step) → Stands tag core A → Ok (tt {0}) ≡ unless_fault (take_fault core.sizes A) (tt {0})
   ready_told core ws rest w safe e some s ready A st =
       let first : pending A ≡ w ∷ rest = sym st.pending_is ∙ sym e ∙ some in
-      let front : w.ticket ≡ front A = ticket-front A w rest first in
+      let named : w.ticket ≡ front A = ticket-front A w rest first in
       let same : safe ≡ safe_epoch core.sizes.slots A = s ∙ safe_is core A st in
-      sym (ap (λ o. unless_fault o (tt {0})) (fault_ready (length (pending A)) (front A) (safe_epoch core.sizes.slots A) (omega (arith, ap length first)) (omega (arith, ready, front, same))))
+      sym (ap (λ o. unless_fault o (tt {0})) (fault_ready (length (pending A)) (front A) (safe_epoch core.sizes.slots A) (omega (arith, ap length first)) (omega (arith, ready, named, same))))

@@ -1,7 +1,7 @@
-ghost use Rattle.std.specs.Prelude.{◌≡◌};
+ghost use Rattle.std.specs.Prelude.{◌≡◌, ◌-◌, ◌<◌, OnOk};
 ghost use Rattle.hl_model.specs.Epochs.{epoch_window};
 ghost use Rattle.hl_model.specs.Replies.{unless_fault, unless_refused};
-ghost use Rattle.hl_epoch.specs.Table.{bumped};
+ghost use Rattle.hl_epoch.specs.Table.{bumped, safe_of};
 ghost use Rattle.hl_core.specs.Rise.{rise_fault};
 
 use hl_epoch::Epochs;
@@ -26,7 +26,8 @@ pub(crate) fn end_epoch<E: Epochs>(table: &mut E) -> Result<u64, Fault>
 /// Whether the current epoch of a table may end: it isn't the last, and the window has room.
 pub(crate) fn may_end_epoch<E: Epochs>(table: &E) -> Result<(), Fault>
     requires { (E.table table.now).window ≡ epoch_window }
-    ensures { result ≡ unless_fault (rise_fault (E.table table.now)) tt }
+    ensures answer { result ≡ unless_fault (rise_fault (E.table table.now)) tt }
+    ensures room { let T = E.table table.now in OnOk result (T.current - 1 - safe_of T < T.window) }
 {
     let current = table.current();
     if current == EPOCH_LAST {

@@ -8,7 +8,7 @@ use Rattle.std.proofs.lemmas.List.Quantifiers.{all_pairs_push}
 use Rattle.hl_model.specs.declared.action.Waiting.{Waiting}
 use Rattle.hl_drain.specs.declared.action.Action.{Action}
 use Rattle.hl_drain.specs.Actions.{waiting_of}
-use Rattle.hl_drain.specs.Lists.{Lists, IsDrain, count_of, tickets, has_ticket, after_done}
+use Rattle.hl_drain.specs.Lists.{Lists, IsDrain, count_of, tickets, has_ticket, after_give_up, after_done}
 use Rattle.hl_drain.proofs.Rising.{Rises, tickets_of, rises_head, rises_tail}
 
 -- what is true of the tickets of a list, and of later ones, stays true where some leave the list
@@ -33,6 +33,19 @@ rises_filter p (x ∷ xs) later h =
       | true ↦ AllPairs-cons (λ a b. a < b) x.ticket (tickets_of (filter p xs) ++ later) above rest
       | false ↦ rest
     ]
+
+-- what is true of the numbers of a list stays true where one leaves it
+all_skip : (P : ℕ → Type 0) (xs : List ℕ) (y : ℕ) (ys : List ℕ) → All P (xs ++ y ∷ ys) → All P (xs ++ ys)
+all_skip P [] y ys h = All-tail P y ys h
+all_skip P (x ∷ xs) y ys h =
+    All-cons P x (xs ++ ys) (All-head P x (xs ++ y ∷ ys) h) (all_skip P xs y ys (All-tail P x (xs ++ y ∷ ys) h))
+
+-- numbers rise where one leaves them
+rises_skip : (xs : List ℕ) (y : ℕ) (ys : List ℕ) → Rises (xs ++ y ∷ ys) → Rises (xs ++ ys)
+rises_skip [] y ys h = rises_tail y ys h
+rises_skip (x ∷ xs) y ys h =
+    AllPairs-cons (λ a b. a < b) x (xs ++ ys)
+    (all_skip (λ z. x < z) xs y ys (rises_head x (xs ++ y ∷ ys) h)) (rises_skip xs y ys (rises_tail x (xs ++ y ∷ ys) h))
 
 module _ {J : Type 0} where
   -- a put adds its ticket behind all others
@@ -59,6 +72,21 @@ module _ {J : Type 0} where
     limit_most = known.limit_most;
     within_limit = simp length-append (omega (arith, ap length front));
     rising = rw (tickets-take tag lists entry later front) known.rising;
+  }
+
+  -- a drain list is one after its oldest pending action was given up
+  pub IsDrain-give_up : (lists : Lists J) (pending : List (ℕ × Action J)) → lists.pending ≡ pending → IsDrain lists → IsDrain (after_give_up lists)
+  IsDrain-give_up lists [] none known = record {
+    limit_least = known.limit_least;
+    limit_most = known.limit_most;
+    within_limit = rw none (rw none at known.within_limit);
+    rising = rw none (rw none at known.rising);
+  }
+  IsDrain-give_up lists (entry ∷ later) front known = record {
+    limit_least = known.limit_least;
+    limit_most = known.limit_most;
+    within_limit = rw front (omega (arith, ap length front));
+    rising = rw front (rises_skip (tickets_of lists.taken) entry.0 (map (λ entry. entry.0) later) (rw front at known.rising));
   }
 
   -- a drain list is one after a done

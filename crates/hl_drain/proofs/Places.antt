@@ -1,6 +1,8 @@
 -- The place of a ticket among the taken actions, and what a list is without it.
-use Rattle.std.proofs.Common.{◌≡◌, ℕ, ◌<◌, ◌≤◌, not, ltb, cond, Some, None, Ok, Err, List, [], ◌∷◌, ◌++◌, length, map, filter, find, remove, position, get_or, All, arith, suc, one-add, append-nil, inl, inr, sym, ap, ◌∙◌, refl}
-use Rattle.std.specs.List.{position_or_len}
+use Rattle.std.proofs.Common.{rules, ◌≡◌, ℕ, Option, Result, drop, ◌<◌, ◌≤◌, not, ltb, cond, Some, None, Ok, Err, List, [], ◌∷◌, ◌++◌, length, map, filter, find, remove, position, get_or, All, arith, suc, one-add, append-nil, inl, inr, sym, ap, ◌∙◌, refl}
+use Rattle.std.specs.List.{position_or_len, slice_get}
+use Rattle.std.specs.Option.{ok_or}
+use Rattle.std.specs.Result.{IsOk, OnOk}
 use Rattle.std.proofs.lemmas.Bool.Decides.{eqb_tells}
 use Rattle.std.proofs.lemmas.Bool.{ne_eqb, cases_lt, lt-ltb, le-ltb}
 use Rattle.std.proofs.lemmas.List.{take_all, drop_all}
@@ -13,9 +15,14 @@ use Rattle.hl_drain.specs.Lists.{Lists, IsDrain, has_ticket, done_answer, after_
 use Rattle.hl_drain.proofs.Rising.{Rises, tickets_of, rises_head, rises_tail}
 
 -- the first element of a list, and the list without it, are the list
-pub split_front : {X : Type 0} (xs ys : List X) (x : X) → 0 < length xs → x ≡ get_or xs 0 x → ys ≡ remove xs 0 → xs ≡ x ∷ ys
-split_front [] ys x within is rest = absurd (omega arith)
-split_front (y ∷ xs) ys x within is rest = cc
+pub split_front : {X E : Type 0} (xs : List X) (x : X) (e : E) (o : Option X) → ok_or o e ≡ Ok x → o ≡ slice_get xs 0 → xs ≡ x ∷ drop 1 xs
+split_front [] x e o found is = let missing = rw is at found in cc
+split_front (y ∷ xs) x e o found is = let there = rw is at found in cc
+
+-- what is true where a result has a value is true where it has one
+pub ok_of : {X E : Type 0} (r : Result X E) (P : Type 0) → IsOk r → OnOk r P → P
+ok_of (Ok x) P ok holds = holds
+ok_of (Err e) P ok holds = absurd (search rules)
 
 -- where all tickets are above one, none of them is it
 none_have_ticket : (t : ℕ) (xs : List Waiting) (later : List ℕ) → All (λ y. t < y) (tickets_of xs ++ later) → filter (λ w. not (has_ticket t w)) xs ≡ xs

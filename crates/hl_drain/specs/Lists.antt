@@ -67,6 +67,10 @@ module _ {J : Type 0} where
   after_take tag (Ok entry) lists =
       record lists { pending = drop 1 lists.pending; taken = lists.taken ++ waiting_of tag entry ∷ [] }
 
+  -- the lists after the oldest pending action, if there is one, was given up
+  abbrev pub after_give_up : Lists J → Lists J
+  after_give_up lists = record lists { pending = drop 1 lists.pending }
+
   -- what a done answers: the kind of the taken action of this ticket
   abbrev pub done_answer : Lists J → ℕ → Result Kind Fault
   done_answer lists ticket = kind_or_fault (find (has_ticket ticket) lists.taken)

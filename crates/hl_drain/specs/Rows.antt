@@ -1,15 +1,16 @@
 -- The lists that two rows hold.
-use Rattle.std.specs.Prelude.{◌≤◌, vec_capacity}
+use Rattle.std.specs.Prelude.{◌≡◌, ◌≤◌, vec_capacity}
 use Rattle.hl_drain.specs.declared.drain.Drain.TheInside.{Inside}
 use Rattle.hl_drain.specs.Lists.{Lists, IsDrain}
 
 module _ {J : Type 0} where
   -- the rows' entries in order
   abbrev pub lists_of : Inside J → Lists J
-  lists_of a = record { limit = a.limit; pending = a.pending.items; taken = a.taken.items }
+  lists_of a = record { limit = a.limit; pending = a.pending.ring.items; taken = a.taken.items }
 
-  -- the lists are in order, and no row has to grow
+  -- the lists are in order, each row has the places that it was opened with, and a take visits at most one
   pub record IsKept (a : Inside J) : Type 0 where
     pub lists : IsDrain (lists_of a)
-    pub room_pending : a.limit ≤ vec_capacity a.pending
-    pub room_taken : a.limit ≤ vec_capacity a.taken
+    pub places_pending : a.pending.ring.capacity ≡ a.limit
+    pub places_taken : vec_capacity a.taken ≡ a.limit
+    pub turns : a.last_take ≤ 1

@@ -1,6 +1,8 @@
-ghost use Rattle.std.specs.Prelude.{◌≡◌, ◌↔◌, ◌<◌, ◌≤◌, ◌==◌, [], map, position, All, IsTrue, IfOk, IfErr, OnErr};
+ghost use Rattle.std.specs.Prelude.{◌≡◌, ◌↔◌, ◌<◌, ◌≤◌, ◌==◌, [], map, position, slice_get, All, IsTrue, IfOk, IfErr, OnErr, IfNone};
 
 use crate::action::Action;
+use crate::pending::Pending;
+use crate::visits::Visits;
 use arrayvec::ArrayVec;
 use hl_model::{Fault, Kind, Tagged, Waiting};
 use std::alloc::Global;
@@ -10,9 +12,10 @@ use std::marker::Model;
 #[derive(Drop)]
 pub struct Drain<J> {
     limit: usize,
-    // Both rows have room for `limit` entries from the start.
-    pending: Vec<(u64, Action<J>)>,
+    // Both rows have `limit` places from the start, and keep them.
+    pending: Pending<J>,
     taken: Vec<Waiting>,
+    last_take: Visits,
 }
 
 impl<J> Model for Drain<J> {
@@ -28,7 +31,7 @@ impl<J> Model for Drain<J> {
 }
 
 impl<J> Drain<J> {
-    ghost use Rattle.hl_drain.specs.Lists.{IsDrain, count_of, tickets, put_answer, after_put, has_ticket, done_answer, after_done};
+    ghost use Rattle.hl_drain.specs.Lists.{IsDrain, count_of, tickets, put_answer, after_put, after_give_up, has_ticket, done_answer, after_done};
 
     /// An empty list for at most `d` actions, 1 to 64.
     ///
@@ -42,11 +45,12 @@ impl<J> Drain<J> {
         let limit = d as usize;
         // The row of actions comes last: where it is refused, none is left to be dropped, and `J` may forbid that.
         let taken = Vec::with_capacity(alloc, limit).map_err(|_| Fault::OutOfMemory)?;
-        let pending = Vec::with_capacity(alloc, limit).map_err(|_| Fault::OutOfMemory)?;
+        let pending = Pending::open(alloc, limit).map_err(|_| Fault::OutOfMemory)?;
         Ok(Drain {
             limit,
             pending,
             taken,
+            last_take: Visits::none(),
         })
     }
 
@@ -63,8 +67,9 @@ impl<J> Drain<J> {
         if !self.has_room() {
             return Err((Fault::DrainFull, action));
         }
-        self.pending.push_reserved((ticket, action));
-        Ok(())
+        self.pending
+            .push(ticket, action, &mut Visits::none())
+            .map_err(|action| (Fault::DrainFull, action))
     }
 
     /// The taken action of this ticket, an epoch, was carried out: it leaves the list. The answer is its kind.
@@ -80,6 +85,25 @@ impl<J> Drain<J> {
             return Err(Fault::NotTaken);
         };
         Ok(self.taken.remove(place).kind)
+    }
+
+    /// Gives up the oldest pending action, with its ticket, whatever is safe: it leaves the list, and nobody took
+    /// it. `None` where none is pending.
+    pub fn give_up(&mut self) -> Option<(u64, Action<J>)>
+        ensures answer { result ≡ slice_get self.old.pending 0 }
+        ensures lists { self.new ≡ after_give_up self.old }
+        ensures none { IfNone result (self.new ≡ self.old) }
+        ensures known { IsDrain self.new }
+    {
+        self.pending.pop(&mut Visits::none())
+    }
+
+    /// How many pending places the last accepted `take` visited.
+    pub fn turns(&self) -> u64
+        ensures bound { result ≤ 1 }
+        ensures known { IsDrain self.now }
+    {
+        self.last_take.count()
     }
 
     /// The taken actions that aren't done, oldest first.
@@ -127,15 +151,14 @@ impl<J: Tagged> Drain<J> {
         ensures refused { OnErr result (self.new ≡ self.old) }
         ensures known { IsDrain self.new }
     {
-        let Some(oldest) = self.pending.first() else {
-            return Err(Fault::Empty);
-        };
-        let front = oldest.0;
+        let front = self.pending.front().ok_or(Fault::Empty)?;
         if front > safe {
             return Err(Fault::NotReady { front, safe });
         }
-        let (ticket, action) = self.pending.remove(0);
+        let mut visits = Visits::none();
+        let (ticket, action) = self.pending.pop(&mut visits).ok_or(Fault::Empty)?;
         self.taken.push_reserved(action.waiting(ticket));
+        self.last_take = visits;
         Ok((ticket, action))
     }
 
@@ -145,7 +168,7 @@ impl<J: Tagged> Drain<J> {
         ensures known { IsDrain self.now }
     {
         let mut row = ArrayVec::new();
-        for (ticket, action) in &self.pending {
+        for (ticket, action) in self.pending.iter() {
             row.push(action.waiting(*ticket));
         }
         row

@@ -50,14 +50,14 @@ unfolding safe_among
 below_current T in_range least = omega (arith, least_or-most T.current T.epochs (λ t epoch e. (in_range t epoch e).1))
 
 -- a table, from ranges of its parts
-IsTable-from_range : (T : Table) → 1 ≤ T.current → T.current ≤ 2 ^ 62 → 1 ≤ length T.epochs → length T.epochs ≤ 64 → 1 ≤ T.drain → T.drain ≤ 64 → AreInRange T → T.current - 1 - safe_of T ≤ T.drain → IsTable T
-IsTable-from_range T current_least current_most slots_least slots_most drain_least drain_most in_range lag_most = record {
+IsTable-from_range : (T : Table) → 1 ≤ T.current → T.current ≤ 2 ^ 62 → 1 ≤ length T.epochs → length T.epochs ≤ 64 → 1 ≤ T.window → T.window ≤ 4096 → AreInRange T → T.current - 1 - safe_of T ≤ T.window → IsTable T
+IsTable-from_range T current_least current_most slots_least slots_most window_least window_most in_range lag_most = record {
   current_least = current_least;
   current_most = current_most;
   slots_least = slots_least;
   slots_most = slots_most;
-  drain_least = drain_least;
-  drain_most = drain_most;
+  window_least = window_least;
+  window_most = window_most;
   safe_most = below_current T in_range current_least;
   above_safe = below_epochs T in_range;
   at_most_current = λ t epoch e. (in_range t epoch e).1;
@@ -67,21 +67,21 @@ IsTable-from_range T current_least current_most slots_least slots_most drain_lea
 -- where a slot enters the current epoch the table stays one
 pub IsTable-entered : (t : ℕ) (T : Table) → IsTable T → IsTable (entered t T)
 IsTable-entered t T is =
-    IsTable-from_range (entered t T) is.current_least is.current_most (simp length-set is.slots_least) (simp length-set is.slots_most) is.drain_least is.drain_most
+    IsTable-from_range (entered t T) is.current_least is.current_most (simp length-set is.slots_least) (simp length-set is.slots_most) is.window_least is.window_most
     (λ u epoch e. elim (get_or-set_some T.epochs t u T.current epoch e) [ inl was ↦ AreInRange-from_table T is u epoch was | inr same ↦ (omega (arith, is.current_least), omega arith) ])
     (omega (arith, safe_of-entered t T is, is.lag_most))
 
 -- where a slot is left the table stays one
 pub IsTable-left : (t : ℕ) (T : Table) → IsTable T → IsTable (left t T)
 IsTable-left t T is =
-    IsTable-from_range (left t T) is.current_least is.current_most (simp length-set is.slots_least) (simp length-set is.slots_most) is.drain_least is.drain_most
+    IsTable-from_range (left t T) is.current_least is.current_most (simp length-set is.slots_least) (simp length-set is.slots_most) is.window_least is.window_most
     (λ u epoch e. AreInRange-from_table T is u epoch (get_or-set_none T.epochs t u epoch e))
     (omega (arith, safe_of-left t T is, is.lag_most))
 
 -- where the current epoch rises, and one more may have ended and not be safe, the table stays one
-pub IsTable-bumped : (T : Table) → IsTable T → T.current < 2 ^ 62 → T.current - 1 - safe_of T < T.drain → IsTable (bumped T)
+pub IsTable-bumped : (T : Table) → IsTable T → T.current < 2 ^ 62 → T.current - 1 - safe_of T < T.window → IsTable (bumped T)
 IsTable-bumped T is below lag =
-    IsTable-from_range (bumped T) (omega arith) (omega arith) is.slots_least is.slots_most is.drain_least is.drain_most
+    IsTable-from_range (bumped T) (omega arith) (omega arith) is.slots_least is.slots_most is.window_least is.window_most
     (λ u epoch e. (omega (arith, is.above_safe u epoch e), omega (arith, is.at_most_current u epoch e)))
     (omega (arith, safe_of-bumped T is))
 
@@ -101,13 +101,13 @@ get_or-nobody (suc slots) zero = refl
 get_or-nobody (suc slots) (suc t) = get_or-nobody slots t
 
 -- where nobody is protected the safe epoch is the current one less 1
-safe_of-opened : (slots drain current : ℕ) → safe_of (opened slots drain current) ≡ current - 1
+pub safe_of-opened : (slots window current : ℕ) → safe_of (opened slots window current) ≡ current - 1
 unfolding safe_among least_or
-safe_of-opened slots drain current = ap (λ epochs. least_or current epochs - 1) (protected-nobody slots)
+safe_of-opened slots window current = ap (λ epochs. least_or current epochs - 1) (protected-nobody slots)
 
 -- a table in which nobody is protected
-pub IsTable-opened : (slots drain current : ℕ) → 1 ≤ slots → slots ≤ 64 → 1 ≤ drain → drain ≤ 64 → 1 ≤ current → current ≤ 2 ^ 62 → IsTable (opened slots drain current)
-IsTable-opened slots drain current slots_least slots_most drain_least drain_most current_least current_most =
-    IsTable-from_range (opened slots drain current) current_least current_most (simp length-replicate slots_least) (simp length-replicate slots_most) drain_least drain_most
+pub IsTable-opened : (slots window current : ℕ) → 1 ≤ slots → slots ≤ 64 → 1 ≤ window → window ≤ 4096 → 1 ≤ current → current ≤ 2 ^ 62 → IsTable (opened slots window current)
+IsTable-opened slots window current slots_least slots_most window_least window_most current_least current_most =
+    IsTable-from_range (opened slots window current) current_least current_most (simp length-replicate slots_least) (simp length-replicate slots_most) window_least window_most
     (λ t epoch e. absurd (cc (get_or-nobody slots t)))
-    (omega (arith, safe_of-opened slots drain current))
+    (omega (arith, safe_of-opened slots window current))

@@ -12,19 +12,19 @@ safe_of T = safe_among T.current T.epochs
 
 -- nobody is protected
 abbrev pub opened : ℕ → ℕ → ℕ → Table
-opened slots drain current = record { current = current; epochs = replicate slots None; drain = drain }
+opened slots window current = record { current = current; epochs = replicate slots None; window = window }
 
 -- slot t's epoch is the current one
 abbrev pub entered : ℕ → Table → Table
-entered t T = record { current = T.current; epochs = slice_set T.epochs t (Some T.current); drain = T.drain }
+entered t T = record { current = T.current; epochs = slice_set T.epochs t (Some T.current); window = T.window }
 
 -- slot t is protected no longer
 abbrev pub left : ℕ → Table → Table
-left t T = record { current = T.current; epochs = slice_set T.epochs t None; drain = T.drain }
+left t T = record { current = T.current; epochs = slice_set T.epochs t None; window = T.window }
 
 -- the current epoch is one more
 abbrev pub bumped : Table → Table
-bumped T = record { current = T.current + 1; epochs = T.epochs; drain = T.drain }
+bumped T = record { current = T.current + 1; epochs = T.epochs; window = T.window }
 
 -- what is true of every table
 pub record IsTable (T : Table) : Type 0 where
@@ -32,9 +32,9 @@ pub record IsTable (T : Table) : Type 0 where
   pub current_most : T.current ≤ 2 ^ 62
   pub slots_least : 1 ≤ length T.epochs
   pub slots_most : length T.epochs ≤ 64
-  pub drain_least : 1 ≤ T.drain
-  pub drain_most : T.drain ≤ 64
+  pub window_least : 1 ≤ T.window
+  pub window_most : T.window ≤ 4096
   pub safe_most : safe_of T < T.current
   pub above_safe : (t epoch : ℕ) → epoch_at t T ≡ Some epoch → safe_of T < epoch
   pub at_most_current : (t epoch : ℕ) → epoch_at t T ≡ Some epoch → epoch ≤ T.current
-  pub lag_most : T.current - 1 - safe_of T ≤ T.drain
+  pub lag_most : T.current - 1 - safe_of T ≤ T.window

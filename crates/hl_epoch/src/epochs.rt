@@ -7,22 +7,25 @@ ghost use Rattle.hl_epoch.specs.Table.{epoch_at, safe_of, opened, entered, left,
 use hl_model::Fault;
 use std::alloc::Global;
 
-/// A table of epochs: S slots, each protected with an epoch or not, the current epoch, and D, the places of
-/// the drain list of whoever bumps. Once it is made, no call takes memory. A refused call changes nothing.
+/// The last epoch: none comes after it.
+pub const EPOCH_LAST: u64 = 1 << 62;
+
+/// A table of epochs: S slots, each protected with an epoch or not, the current epoch, and W, the window: how
+/// many epochs at most have ended and are not safe. Once it is made, no call takes memory. A refused call
+/// changes nothing.
 pub trait Epochs: Sized {
     /// What the table knows.
     ghost table: { Self → Table };
 
-    /// A table at epoch 1 with this many slots, none protected, for a drain list of `drain` places. Both
-    /// are 1 to 64.
+    /// A table at epoch 1 with this many slots, 1 to 64, none protected, and this window, 1 to 4,096.
     ///
     /// Fault: `OutOfMemory` where memory is refused.
-    fn make(alloc: Global, slots: u64, drain: u64) -> Result<Self, Fault>
+    fn make(alloc: Global, slots: u64, window: u64) -> Result<Self, Fault>
         requires slots_least { 1 ≤ slots }
         requires slots_most { slots ≤ 64 }
-        requires drain_least { 1 ≤ drain }
-        requires drain_most { drain ≤ 64 }
-        ensures ok { IfOk result (λ made. table made ≡ opened slots drain 1) }
+        requires window_least { 1 ≤ window }
+        requires window_most { window ≤ 4096 }
+        ensures ok { IfOk result (λ made. table made ≡ opened slots window 1) }
         ensures err { IfErr result (λ fault. fault ≡ Fault.OutOfMemory) }
         ensures valid { IfOk result (λ made. IsTable (table made)) };
 
@@ -31,7 +34,8 @@ pub trait Epochs: Sized {
     /// Faults: `NoSlot` where t is S or more, `Occupied` where the slot is protected.
     fn acquire(&mut self, t: u64) -> Result<(), Fault>
         ensures answer { result ≡ unless_fault (acquire_fault t (table self.old)) tt }
-        ensures effect { let old = table self.old in table self.new ≡ unless_refused (acquire_fault t old) old (entered t old) }
+        ensures effect { let old = table self.old
+            in table self.new ≡ unless_refused (acquire_fault t old) old (entered t old) }
         ensures rising { safe_of (table self.old) ≤ safe_of (table self.new) }
         ensures valid { IsTable (table self.new) };
 
@@ -40,7 +44,8 @@ pub trait Epochs: Sized {
     /// Faults: `NoSlot` where t is S or more, `NotProtected` where the slot is not protected.
     fn refresh(&mut self, t: u64) -> Result<(), Fault>
         ensures answer { result ≡ unless_fault (protected_fault t (table self.old)) tt }
-        ensures effect { let old = table self.old in table self.new ≡ unless_refused (protected_fault t old) old (entered t old) }
+        ensures effect { let old = table self.old
+            in table self.new ≡ unless_refused (protected_fault t old) old (entered t old) }
         ensures rising { safe_of (table self.old) ≤ safe_of (table self.new) }
         ensures valid { IsTable (table self.new) };
 
@@ -49,18 +54,20 @@ pub trait Epochs: Sized {
     /// Faults: `NoSlot` where t is S or more, `NotProtected` where the slot is not protected.
     fn release(&mut self, t: u64) -> Result<(), Fault>
         ensures answer { result ≡ unless_fault (protected_fault t (table self.old)) tt }
-        ensures effect { let old = table self.old in table self.new ≡ unless_refused (protected_fault t old) old (left t old) }
+        ensures effect { let old = table self.old
+            in table self.new ≡ unless_refused (protected_fault t old) old (left t old) }
         ensures rising { safe_of (table self.old) ≤ safe_of (table self.new) }
         ensures valid { IsTable (table self.new) };
 
-    /// Raises the current epoch by one, and gives the epoch that ended: the ticket of the caller's action.
-    /// It wants fewer than D epochs that have ended and are not safe, which a drain list with room shows.
+    /// Raises the current epoch by one, and gives the epoch that ended: the ticket of the caller's action, if it
+    /// has one. It wants fewer than W epochs that have ended and are not safe.
     ///
     /// Fault: `EpochsSpent` where the current epoch is the last, 2^62.
     fn bump(&mut self) -> Result<u64, Fault>
-        requires { let old = table self.old in old.current - 1 - safe_of old < old.drain }
+        requires { let old = table self.old in old.current - 1 - safe_of old < old.window }
         ensures answer { let old = table self.old in result ≡ unless_fault (bump_fault old) old.current }
-        ensures effect { let old = table self.old in table self.new ≡ unless_refused (bump_fault old) old (bumped old) }
+        ensures effect { let old = table self.old
+            in table self.new ≡ unless_refused (bump_fault old) old (bumped old) }
         ensures rising { safe_of (table self.old) ≤ safe_of (table self.new) }
         ensures valid { IsTable (table self.new) };
 
@@ -69,7 +76,7 @@ pub trait Epochs: Sized {
         ensures value { result ≡ (table self.now).current }
         ensures valid { IsTable (table self.now) };
 
-    /// The safe epoch: every protected slot's epoch is above it. It is below the current one, by D + 1 at most.
+    /// The safe epoch: every protected slot's epoch is above it. It is below the current one, by W + 1 at most.
     fn safe(&self) -> u64
         ensures value { result ≡ safe_of (table self.now) }
         ensures valid { IsTable (table self.now) };

@@ -23,21 +23,24 @@
 //! never falls, and always `safe < E_t <= E`, as in FASTER (Chandramouli, Prasaad, Kossmann, Levandoski,
 //! Hunter, Barnett, SIGMOD 2018, the section on its epoch protection framework).
 //!
-//! # Bumps and the drain list
+//! # Bumps and the window
 //!
-//! A bump ends an epoch c, and its caller stores an action with c as its ticket, to be taken once c is safe.
-//! The list of such actions, the drain list, is the caller's and has D places. It keeps each action until its
-//! ticket is safe, so the epochs that have ended and are not safe are at most the actions in it. A bump wants
-//! room for one more, `current - 1 - safe < D`, and a caller whose list has room knows that there is. So
-//! the slots' epochs are among the D + 1 numbers up to the current one, and a table may count threads by
-//! epoch in a ring of D + 1 places in place of a scan of its slots.
+//! A bump ends an epoch c, and gives that number. Its caller may store an action under it, the action's
+//! ticket, to be taken once c is safe. A bare bump stores none: it only raises the epoch. The actions and the
+//! list that keeps them are the caller's.
+//!
+//! The window W, 1 to 4,096, bounds the epochs that have ended and are not safe: `current - 1 - safe` is at
+//! most W. A bump makes one more, so it wants `current - 1 - safe < W`; whoever bumps sees to it, by asking
+//! the table. So the slots' epochs are among the W + 1 numbers up to the current one, and a table may count
+//! slots by epoch in a ring of W + 1 places in place of a scan of its slots.
 //!
 //! # What a contract sees
 //!
 //! [`Epochs`] is the table as callers use it. Its clauses see a plain record: the current epoch, each slot's
-//! epoch, and D. Each answer and each change is an equation on that record, and beside it each call tells what
-//! is true of every table (`IsTable`), and each change that the safe epoch did not fall. [`ScanTable`] is a row
-//! of slots, scanned for the least epoch.
+//! epoch, and W. Each answer and each change is an equation on that record, and beside it each call tells
+//! what is true of every table (`IsTable`), and each change that the safe epoch did not fall. [`ScanTable`]
+//! is a row of slots, scanned for the least epoch. Its row has the memory that opening took, no more and no
+//! less, from then on.
 //!
 //! # Where this differs from FASTER's LightEpoch
 //!
@@ -51,7 +54,9 @@
 #![tactic(auto)]
 
 mod epochs;
+mod rows;
 mod scan;
 
-pub use epochs::Epochs;
+pub use epochs::{EPOCH_LAST, Epochs};
+pub use rows::filled;
 pub use scan::ScanTable;

@@ -1,57 +1,55 @@
-ghost use Rattle.std.specs.Prelude.{◌≡◌, ℕ, ◌+◌, ◌^◌, ◌≤◌, IfOk, IfErr};
+ghost use Rattle.std.specs.Prelude.{◌≡◌, ℕ, ◌+◌, ◌^◌, ◌≤◌, IfOk, IfErr, vec_len, vec_capacity};
 ghost use Rattle.hl_model.specs.Epochs.{Table};
 ghost use Rattle.hl_model.specs.Replies.{unless_fault};
 ghost use Rattle.hl_epoch.specs.Faults.{protected_fault};
 ghost use Rattle.hl_epoch.specs.Table.{safe_of, opened, IsTable};
 
-use crate::epochs::Epochs;
+use crate::epochs::{EPOCH_LAST, Epochs};
+use crate::rows::filled;
 use hl_model::Fault;
 use std::alloc::Global;
 use std::marker::Model;
-
-/// No epoch comes after it.
-const EPOCH_LAST: u64 = 1 << 62;
 
 /// A table of epochs that is a row of slots. A call on a slot looks at that slot alone, `safe` at each.
 #[derive(Drop)]
 pub struct ScanTable {
     current: u64,
+    // It has no room beside its slots.
     epochs: Vec<Option<u64>>,
-    drain: u64,
+    window: u64,
 }
 
 impl Model for ScanTable {
     ghost Value = { Table };
 
-    ghost view = { λ a. record { current = a.current; epochs = a.epochs.items; drain = a.drain } };
+    ghost view = { λ a. record { current = a.current; epochs = a.epochs.items; window = a.window } };
 
-    ghost invariant = { λ a. IsTable (record { current = a.current; epochs = a.epochs.items; drain = a.drain }) };
+    ghost invariant = { λ a.
+        IsTable (record { current = a.current; epochs = a.epochs.items; window = a.window })
+        × (vec_capacity a.epochs ≡ vec_len a.epochs) };
 }
 
 impl ScanTable {
-    /// A table that goes on at this current epoch, 1 to 2^62, with this many slots, none protected, for a drain
-    /// list of `drain` places. Both are 1 to 64. At epoch 1 it is what `make` gives.
+    /// A table that goes on at this current epoch, 1 to 2^62, with this many slots, 1 to 64, none
+    /// protected, and this window, 1 to 4,096. At epoch 1 it is what `make` gives.
     ///
     /// Fault: `OutOfMemory` where memory is refused.
-    pub fn resume(alloc: Global, slots: u64, drain: u64, current: u64) -> Result<ScanTable, Fault>
+    pub fn resume(alloc: Global, slots: u64, window: u64, current: u64) -> Result<ScanTable, Fault>
         requires slots_least { 1 ≤ slots }
         requires slots_most { slots ≤ 64 }
-        requires drain_least { 1 ≤ drain }
-        requires drain_most { drain ≤ 64 }
+        requires window_least { 1 ≤ window }
+        requires window_most { window ≤ 4096 }
         requires current_least { 1 ≤ current }
         requires current_most { current ≤ 2 ^ 62 }
-        ensures ok { IfOk result (λ made. made ≡ opened slots drain current) }
+        ensures ok { IfOk result (λ made. made ≡ opened slots window current) }
         ensures err { IfErr result (λ fault. fault ≡ Fault.OutOfMemory) }
         ensures valid { IfOk result IsTable }
     {
-        match vec![in alloc; None; slots as usize] {
-            Ok(epochs) => Ok(ScanTable {
-                current,
-                epochs,
-                drain,
-            }),
-            Err(_) => Err(Fault::OutOfMemory),
-        }
+        Ok(ScanTable {
+            current,
+            epochs: filled(alloc, slots, None)?,
+            window,
+        })
     }
 
     // The place of slot t in the row, if the slot is protected.
@@ -78,8 +76,8 @@ impl ScanTable {
 impl Epochs for ScanTable {
     ghost table = { λ t. t };
 
-    fn make(alloc: Global, slots: u64, drain: u64) -> Result<ScanTable, Fault> {
-        ScanTable::resume(alloc, slots, drain, 1)
+    fn make(alloc: Global, slots: u64, window: u64) -> Result<ScanTable, Fault> {
+        ScanTable::resume(alloc, slots, window, 1)
     }
 
     fn acquire(&mut self, t: u64) -> Result<(), Fault> {

@@ -1,5 +1,5 @@
 -- The pages that a list of rows holds.
-use Rattle.std.specs.Prelude.{◌≡◌, ◌≤◌, ◌^◌, All, map}
+use Rattle.std.specs.Prelude.{◌≡◌, ◌≤◌, ◌^◌, All, map, length, vec_capacity}
 use Rattle.hl_image.specs.declared.memory.MemoryWriter.TheInside.{Inside}
 use Rattle.hl_image.specs.Pages.{Pages}
 
@@ -8,7 +8,8 @@ abbrev pub pages_of : Inside → Pages
 pages_of a =
     record { images = map (λ place. place.image) a.rows.items; size = a.size; writes = a.writes; fails_at = a.fails_at; failures = a.failures }
 
--- each row is as long as an image
+-- the rows have the room that opening made, exactly, and each is as long as an image
 pub record IsKept (a : Inside) : Type 0 where
+  pub room : vec_capacity a.rows ≡ length a.rows.items
   pub sizes : All (λ place. place.size ≡ a.size) a.rows.items
   pub failures_most : a.failures ≤ 2 ^ 62

@@ -24,47 +24,6 @@ fn image_of_four_words(rt: HostRuntime) {
     assert_eq!(rt; out, IMAGE);
 }
 
-#[test]
-fn image_begins_with_the_page(rt: HostRuntime) {
-    let mut out = [9; 8];
-    image_of(0x0102_0304_0506_0708, &[], &mut out);
-    assert_eq!(rt; out, [1, 2, 3, 4, 5, 6, 7, 8]);
-}
-
-#[test]
-fn memory_keeps_what_was_written(rt: HostRuntime) -> Result<(), Fail> {
-    let mut writer = MemoryWriter::open(rt.alloc(), 2, 40)?;
-    writer.fail_at(1);
-    assert_eq!(rt; writer.write_page(0, &IMAGE), Err(Fault::Device));
-    assert_eq!(rt; writer.failures(), 1);
-    assert_eq!(rt; writer.image(0), None);
-    assert_eq!(rt; writer.write_page(0, &IMAGE), Ok(()));
-    assert_eq!(rt; writer.failures(), 1);
-    assert_eq!(rt; writer.image(0), Some(IMAGE.as_slice()));
-    assert_eq!(rt; writer.image(1), None);
-    assert_eq!(rt; writer.image(2), None);
-    Ok(())
-}
-
-#[test]
-fn memory_refuses_other_pages_and_lengths(rt: HostRuntime) -> Result<(), Fail> {
-    let mut writer = MemoryWriter::open(rt.alloc(), 2, 40)?;
-    assert_eq!(rt; writer.write_page(2, &IMAGE), Err(Fault::Device));
-    assert_eq!(rt; writer.write_page(1, &IMAGE[..39]), Err(Fault::Device));
-    assert_eq!(rt; writer.failures(), 2);
-    assert_eq!(rt; writer.image(1), None);
-    Ok(())
-}
-
-#[test]
-fn line_of_four_words(rt: HostRuntime) -> Result<(), Fail> {
-    let mut writer = HexWriter::new(Vec::new(rt.alloc()));
-    assert_eq!(rt; writer.write_page(0, &IMAGE), Ok(()));
-    assert_eq!(rt; writer.failures(), 0);
-    assert_eq!(rt; writer.into_inner().as_slice(), LINE.as_bytes());
-    Ok(())
-}
-
 // A page is written, and no failure counted.
 fn accepts_page_0<W: PageWriter>(rt: &impl Abort, writer: &mut W) {
     assert_eq!(rt; writer.write_page(0, &IMAGE), Ok(()));
@@ -82,8 +41,7 @@ fn writers_by_the_trait(rt: HostRuntime) -> Result<(), Fail> {
     Ok(())
 }
 
-/// Takes up to seven bytes a call while it has room, and answers by an error in one call: the call `fails_at`,
-/// counted from 1.
+/// Takes up to seven bytes a call, and answers by an error in one call: the call `fails_at`, counted from 1.
 #[derive(Drop)]
 struct Short {
     taken: Vec<u8>,
@@ -106,23 +64,9 @@ impl Write for Short {
 }
 
 #[test]
-fn a_line_in_short_writes(rt: HostRuntime) -> Result<(), Fail> {
-    let taken = Vec::new(rt.alloc());
-    let mut writer = HexWriter::new(Short {
-        taken,
-        calls: 0,
-        fails_at: 0,
-    });
-    assert_eq!(rt; writer.write_page(0, &IMAGE), Ok(()));
-    assert_eq!(rt; writer.into_inner().taken.as_slice(), LINE.as_bytes());
-    Ok(())
-}
-
-#[test]
 fn a_write_that_fails_in_mid_line(rt: HostRuntime) -> Result<(), Fail> {
-    let taken = Vec::new(rt.alloc());
     let mut writer = HexWriter::new(Short {
-        taken,
+        taken: Vec::new(rt.alloc()),
         calls: 0,
         fails_at: 3,
     });
@@ -135,26 +79,4 @@ fn a_write_that_fails_in_mid_line(rt: HostRuntime) -> Result<(), Fail> {
     assert!(rt; below.taken.ends_with(LINE.as_bytes()));
     assert!(rt; below.taken.len() == 13 + LINE.len() && below.calls == 18);
     Ok(())
-}
-
-/// An image of 4,096 words.
-#[test]
-fn the_longest_line(rt: HostRuntime) -> Result<(), Fail> {
-    let image = vec![in rt.alloc(); 0xa5; 8 + 8 * 4096]?;
-    let mut writer = HexWriter::new(Vec::new(rt.alloc()));
-    assert_eq!(rt; writer.write_page(0, &image), Ok(()));
-    let line = writer.into_inner();
-    assert_eq!(rt; line.len(), 7 + 2 * image.len());
-    assert!(rt; line.ends_with(b"a5a5\n"));
-    Ok(())
-}
-
-#[test]
-fn a_writer_that_takes_no_more(rt: HostRuntime) {
-    let mut room = [0; 10];
-    let mut writer = HexWriter::new(room.as_mut_slice());
-    assert_eq!(rt; writer.write_page(0, &IMAGE), Err(Fault::Device));
-    assert_eq!(rt; writer.write_page(0, &IMAGE), Err(Fault::Device));
-    assert_eq!(rt; writer.failures(), 2);
-    assert_eq!(rt; room, *b"image 0000");
 }

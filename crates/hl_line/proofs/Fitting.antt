@@ -76,7 +76,7 @@ beside_fits word (row ∷ rows) h = either_fits StepFits (bytes_eq word row.0) (
 -- with numbers of 64 bits, each step of the tables fits
 keywords_fit : (a b c : ℕ) → a < 2 ^ 64 → b < 2 ^ 64 → c < 2 ^ 64 → AreFitting (epoch_steps a ++ word_steps a b c)
 keywords_fit a b c ha hb hc =
-    (ha, (ha, (ha, (ha, (tt, (tt, (tt, (ha, (ha, (ha, ((ha, hb), ((ha, (hb, hc)), ((ha, (hb, hc)), ((ha, hb), tt))))))))))))))
+    (ha, (ha, (ha, (ha, (tt, (tt, (tt, (tt, (ha, (ha, (ha, ((ha, hb), ((ha, (hb, hc)), ((ha, (hb, hc)), ((ha, hb), tt)))))))))))))))
 
 -- whatever words stand after the keyword, the step fits
 step_with_fits : (keyword first second third : List ℕ) → IfSome (step_with keyword first second third) StepFits

@@ -5,7 +5,7 @@ use Rattle.std.proofs.lemmas.List.{append-nil}
 use Rattle.std.proofs.lemmas.Slice.Eq.{bytes_eq-Decides}
 use Rattle.hl_model.specs.Sizes.{Sizes, AreInRange}
 use Rattle.hl_model.specs.declared.step.Step.{Step}
-use Rattle.hl_model.specs.declared.step.Step.TheVariants.{Acquire, Refresh, Release, Bump, Settle, Close, Take, Done, Raise, Shift, Allocate, Look, Write, Read, FlushTake, FlushDone, CleanTake, CleanDone}
+use Rattle.hl_model.specs.declared.step.Step.TheVariants.{Acquire, Refresh, Release, Bump, Settle, Close, Bare, Take, Done, Raise, Shift, Allocate, Look, Write, Read, FlushTake, FlushDone, CleanTake, CleanDone}
 use Rattle.hl_line.specs.declared.line.Line.{Line}
 use Rattle.hl_line.specs.declared.line.Line.TheVariants.{Config, Step as Makes, Status, Pending, Frames}
 use Rattle.hl_line.specs.Lines.{worded, step_spelling, spelling, StepFits, Fits}
@@ -78,6 +78,7 @@ guess_of-step (Release t) h = ap (λ n. Some (Makes (Release n))) (last_number t
 guess_of-step (Bump tag) h = ap (λ n. Some (Makes (Bump n))) (last_number tag h)
 guess_of-step Settle h = refl
 guess_of-step Close h = refl
+guess_of-step Bare h = refl
 guess_of-step Take h = refl
 guess_of-step (Done ticket) h = ap (λ n. Some (Makes (Done n))) (last_number ticket h)
 guess_of-step (Raise x) h = ap (λ n. Some (Makes (Raise n))) (last_number x h)

@@ -7,7 +7,7 @@ use Rattle.std.proofs.lemmas.List.{append-nil}
 use Rattle.std.proofs.lemmas.List.Elements.{All-nil, All-cons, All-append, All-push, All-head, All-tail}
 use Rattle.hl_model.specs.Sizes.{Sizes, AreInRange}
 use Rattle.hl_model.specs.declared.step.Step.{Step}
-use Rattle.hl_model.specs.declared.step.Step.TheVariants.{Acquire, Refresh, Release, Bump, Settle, Close, Take, Done, Raise, Shift, Allocate, Look, Write, Read, FlushTake, FlushDone, CleanTake, CleanDone}
+use Rattle.hl_model.specs.declared.step.Step.TheVariants.{Acquire, Refresh, Release, Bump, Settle, Close, Bare, Take, Done, Raise, Shift, Allocate, Look, Write, Read, FlushTake, FlushDone, CleanTake, CleanDone}
 use Rattle.hl_line.specs.declared.line.Line.{Line}
 use Rattle.hl_line.specs.declared.line.Line.TheVariants.{Config, Step as Makes, Status, Pending, Frames}
 use Rattle.hl_line.specs.Lines.{spaced, worded, ending, step_spelling, spelling, StepFits, Fits}
@@ -68,6 +68,7 @@ step_short (Release t) h = omega (arith, number_length (codes "release") t h)
 step_short (Bump tag) h = omega (arith, number_length (codes "bump") tag h)
 step_short Settle h = omega (arith, word_length (codes "settle"))
 step_short Close h = omega (arith, word_length (codes "close"))
+step_short Bare h = omega (arith, word_length (codes "bare"))
 step_short Take h = omega (arith, word_length (codes "take"))
 step_short (Done ticket) h = omega (arith, number_length (codes "done") ticket h)
 step_short (Raise x) h = omega (arith, number_length (codes "raise") x h)
@@ -164,6 +165,7 @@ step_free (Release t) h = worded_free (codes "release") (t ∷ []) refl (one_fit
 step_free (Bump tag) h = worded_free (codes "bump") (tag ∷ []) refl (one_fits tag h)
 step_free Settle h = worded_free (codes "settle") [] refl none_fit
 step_free Close h = worded_free (codes "close") [] refl none_fit
+step_free Bare h = worded_free (codes "bare") [] refl none_fit
 step_free Take h = worded_free (codes "take") [] refl none_fit
 step_free (Done ticket) h = worded_free (codes "done") (ticket ∷ []) refl (one_fits ticket h)
 step_free (Raise x) h = worded_free (codes "raise") (x ∷ []) refl (one_fits x h)

@@ -2,7 +2,7 @@
 use Rattle.std.specs.Prelude.{ℕ, ◌^◌, ◌<◌, Bool, true, false, List, [], ◌∷◌, ◌++◌, codes, decimal}
 use Rattle.std.specs.List.{flat_map}
 use Rattle.hl_model.specs.declared.step.Step.{Step}
-use Rattle.hl_model.specs.declared.step.Step.TheVariants.{Acquire, Refresh, Release, Bump, Settle, Close, Take, Done, Raise, Shift, Allocate, Look, Write, Read, FlushTake, FlushDone, CleanTake, CleanDone}
+use Rattle.hl_model.specs.declared.step.Step.TheVariants.{Acquire, Refresh, Release, Bump, Settle, Close, Bare, Take, Done, Raise, Shift, Allocate, Look, Write, Read, FlushTake, FlushDone, CleanTake, CleanDone}
 use Rattle.hl_model.specs.Sizes.{AreInRange}
 use Rattle.hl_line.specs.declared.line.Line.{Line}
 use Rattle.hl_line.specs.declared.line.Line.TheVariants.{Config, Step as Makes, Status, Pending, Frames}
@@ -28,6 +28,7 @@ step_spelling (Release t) = worded (codes "release") (t ∷ [])
 step_spelling (Bump tag) = worded (codes "bump") (tag ∷ [])
 step_spelling Settle = worded (codes "settle") []
 step_spelling Close = worded (codes "close") []
+step_spelling Bare = worded (codes "bare") []
 step_spelling Take = worded (codes "take") []
 step_spelling (Done ticket) = worded (codes "done") (ticket ∷ [])
 step_spelling (Raise x) = worded (codes "raise") (x ∷ [])
@@ -57,6 +58,7 @@ StepFits (Release t) = t < 2 ^ 64
 StepFits (Bump tag) = tag < 2 ^ 64
 StepFits Settle = Unit {0}
 StepFits Close = Unit {0}
+StepFits Bare = Unit {0}
 StepFits Take = Unit {0}
 StepFits (Done ticket) = ticket < 2 ^ 64
 StepFits (Raise x) = x < 2 ^ 64

@@ -4,7 +4,7 @@ use Rattle.std.specs.Int.{is_power_of_two}
 use Rattle.std.specs.List.{before_first, after_first}
 use Rattle.std.specs.Map.{lookup}
 use Rattle.hl_model.specs.declared.step.Step.{Step}
-use Rattle.hl_model.specs.declared.step.Step.TheVariants.{Acquire, Refresh, Release, Bump, Settle, Close, Take, Done, Raise, Shift, Allocate, Look, Write, Read, FlushTake, FlushDone, CleanTake, CleanDone}
+use Rattle.hl_model.specs.declared.step.Step.TheVariants.{Acquire, Refresh, Release, Bump, Settle, Close, Bare, Take, Done, Raise, Shift, Allocate, Look, Write, Read, FlushTake, FlushDone, CleanTake, CleanDone}
 use Rattle.hl_model.specs.Sizes.{Sizes}
 use Rattle.hl_line.specs.declared.line.Line.{Line}
 use Rattle.hl_line.specs.declared.line.Line.TheVariants.{Config, Step as Makes, Status, Pending, Frames}
@@ -51,6 +51,7 @@ epoch_steps a =
     ∷ (codes "bump", Bump a)
     ∷ (codes "settle", Settle)
     ∷ (codes "close", Close)
+    ∷ (codes "bare", Bare)
     ∷ (codes "take", Take)
     ∷ (codes "done", Done a)
     ∷ []

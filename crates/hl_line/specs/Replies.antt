@@ -1,9 +1,9 @@
 -- The bytes of a reply's line, without its LF.
 use Rattle.std.specs.Prelude.{ℕ, List, [], ◌∷◌, ◌++◌, codes}
 use Rattle.hl_model.specs.declared.step.Reply.{Reply}
-use Rattle.hl_model.specs.declared.step.Reply.TheVariants.{Entered, Left, Ticket, Taken, Ran, Answer, Settled, Closed, Raised, Shifted, At, Looked, Written, Readable, Value, Page, Flushed, Freed}
+use Rattle.hl_model.specs.declared.step.Reply.TheVariants.{Entered, Left, Ticket, Bumped, Taken, Ran, Answer, Settled, Closed, Raised, Shifted, At, Looked, Written, Readable, Value, Page, Flushed, Freed}
 use Rattle.hl_model.specs.declared.fault.Fault.{Fault}
-use Rattle.hl_model.specs.declared.fault.Fault.TheVariants.{NoSlot, Occupied, NotProtected, Stale, DrainFull, EpochsSpent, Empty, NotReady, NotTaken, NotAbove, AboveTail, NotPage, AboveFlushed, Size, Busy, SpaceSpent, Below, Beyond, Evicted, NoneSealed, NotInFlight, NoneClosed, NotCleaning, NoJob, TouchesFull, Stranger, JournalFull, Device, OutOfMemory, BadLine, Stream}
+use Rattle.hl_model.specs.declared.fault.Fault.TheVariants.{NoSlot, Occupied, NotProtected, Stale, DrainFull, EpochsSpent, Empty, NotReady, NotTaken, NotAbove, AboveTail, NotPage, AboveFlushed, Size, Busy, SpaceSpent, Below, Beyond, Evicted, NoneSealed, NotInFlight, NoneClosed, NotCleaning, NoJob, TouchesFull, Stranger, JournalFull, Device, OutOfMemory, BadLine, Stream, WindowFull}
 use Rattle.hl_model.specs.Faults.{number_of}
 use Rattle.hl_line.specs.Lines.{worded}
 
@@ -13,6 +13,7 @@ reply_text (Entered epoch view) =
     worded (codes "epoch") (epoch ∷ []) ++ worded (codes " view") (view.read_only ∷ view.head ∷ view.tail ∷ [])
 reply_text Left = worded (codes "left") []
 reply_text (Ticket ticket) = worded (codes "ticket") (ticket ∷ [])
+reply_text (Bumped epoch) = worded (codes "bumped") (epoch ∷ [])
 reply_text (Taken ticket) = worded (codes "taken") (ticket ∷ [])
 reply_text (Ran tag) = worded (codes "ran") (tag ∷ [])
 reply_text (Answer answer) = worded (codes "answer") (answer ∷ [])
@@ -62,6 +63,7 @@ name_of Device = codes "Device"
 name_of OutOfMemory = codes "OutOfMemory"
 name_of (BadLine n) = codes "BadLine"
 name_of Stream = codes "Stream"
+name_of WindowFull = codes "WindowFull"
 
 -- the fields of a fault, each by its name and its number
 abbrev pub fields_of : Fault → List ℕ

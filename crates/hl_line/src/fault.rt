@@ -43,6 +43,7 @@ fn name(fault: Fault) -> &'static str
         Fault::OutOfMemory => "OutOfMemory",
         Fault::BadLine { .. } => "BadLine",
         Fault::Stream => "Stream",
+        Fault::WindowFull => "WindowFull",
     }
 }
 

@@ -24,6 +24,7 @@ fn spelled_reply(reply: Reply) -> ArrayString<160>
         }
         Reply::Left => spelled("left", &[]),
         Reply::Ticket(ticket) => spelled("ticket", &[ticket]),
+        Reply::Bumped(epoch) => spelled("bumped", &[epoch]),
         Reply::Taken(ticket) => spelled("taken", &[ticket]),
         Reply::Ran(tag) => spelled("ran", &[tag]),
         Reply::Answer(answer) => spelled("answer", &[answer]),

@@ -21,6 +21,7 @@ pub(crate) fn print_step(step: Step) -> ArrayString<80>
         Step::Bump { tag } => spelled("bump", &[tag]),
         Step::Settle => spelled("settle", &[]),
         Step::Close => spelled("close", &[]),
+        Step::Bare => spelled("bare", &[]),
         Step::Take => spelled("take", &[]),
         Step::Done { ticket } => spelled("done", &[ticket]),
         Step::Raise { x } => spelled("raise", &[x]),
@@ -77,6 +78,8 @@ fn epoch_step(keyword: &[u8], a: u64) -> Option<Step>
         Some(Step::Settle)
     } else if keyword == b"close".as_slice() {
         Some(Step::Close)
+    } else if keyword == b"bare".as_slice() {
+        Some(Step::Bare)
     } else if keyword == b"take".as_slice() {
         Some(Step::Take)
     } else if keyword == b"done".as_slice() {

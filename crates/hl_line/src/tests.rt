@@ -2,14 +2,24 @@ use super::*;
 use hl_model::{Fault, Params, Reply, Step, View};
 use std::test::Fail;
 
+// The contracts say which bytes are a line, and how each is printed. These rows show both, once for each number of words.
 #[test]
-fn reads_a_config_and_each_query(rt: HostRuntime) -> Result<(), Fail> {
+fn reads_and_prints_lines(rt: HostRuntime) -> Result<(), Fail> {
     let sizes = Params::checked(4, 2, 2, 2).ok_or("sizes in range")?;
+    let (t, a, v) = (1, 5, u64::MAX);
     let lines = [
-        ("config 4 2 2 2", Line::Config(sizes)),
-        ("status", Line::Status),
-        ("pending", Line::Pending),
         ("frames", Line::Frames),
+        ("done 7", Line::Step(Step::Done { ticket: 7 })),
+        ("alloc 0 3", Line::Step(Step::Allocate { t: 0, n: 3 })),
+        (
+            "write 1 5 18446744073709551615",
+            Line::Step(Step::Write { t, a, v }),
+        ),
+        (
+            "flush done 0 failed",
+            Line::Step(Step::FlushDone { page: 0, ok: false }),
+        ),
+        ("config 4 2 2 2", Line::Config(sizes)),
     ];
     for (text, line) in lines {
         assert_eq!(rt; read_line(text.as_bytes()), Some(line), "{text}");
@@ -19,178 +29,33 @@ fn reads_a_config_and_each_query(rt: HostRuntime) -> Result<(), Fail> {
 }
 
 #[test]
-fn reads_each_step_of_the_epochs_and_actions(rt: HostRuntime) {
-    let ticket = u64::MAX;
-    let steps = [
-        ("acquire 0", Step::Acquire { t: 0 }),
-        ("refresh 1", Step::Refresh { t: 1 }),
-        ("release 12", Step::Release { t: 12 }),
-        ("bump 7", Step::Bump { tag: 7 }),
-        ("settle", Step::Settle),
-        ("close", Step::Close),
-        ("take", Step::Take),
-        ("done 1", Step::Done { ticket: 1 }),
-        ("done 18446744073709551615", Step::Done { ticket }),
-    ];
-    for (text, step) in steps {
-        let line = Line::Step(step);
-        assert_eq!(rt; read_line(text.as_bytes()), Some(line), "{text}");
-        assert_eq!(rt; print_line(&line).as_str(), text);
-    }
-}
-
-#[test]
-fn reads_each_step_of_the_offsets_words_and_pages(rt: HostRuntime) {
-    let (t, read_only, head) = (1, 9, 4);
-    let v = u64::MAX;
-    let steps = [
-        ("raise 9", Step::Raise { x: 9 }),
-        ("shift 4", Step::Shift { x: 4 }),
-        ("alloc 0 3", Step::Allocate { t: 0, n: 3 }),
-        ("look 1 9 4", Step::Look { t, read_only, head }),
-        ("write 1 5 258", Step::Write { t, a: 5, v: 258 }),
-        ("write 1 5 18446744073709551615", Step::Write { t, a: 5, v }),
-        ("read 1 5", Step::Read { t, a: 5 }),
-        ("flush take", Step::FlushTake),
-        ("flush done 2 ok", Step::FlushDone { page: 2, ok: true }),
-        (
-            "flush done 0 failed",
-            Step::FlushDone { page: 0, ok: false },
-        ),
-        ("clean take", Step::CleanTake),
-        ("clean done 3", Step::CleanDone { page: 3 }),
-    ];
-    for (text, step) in steps {
-        let line = Line::Step(step);
-        assert_eq!(rt; read_line(text.as_bytes()), Some(line), "{text}");
-        assert_eq!(rt; print_line(&line).as_str(), text);
-    }
-}
-
-#[test]
 fn refuses_what_is_no_line(rt: HostRuntime) {
     let texts = [
-        "",
-        " ",
-        "bump 07",
-        "bump  7",
-        " bump 7",
-        "bump",
-        "bump ",
-        "bump +7",
-        "bump 7a",
-        "Bump 7",
-        "acquire 0 ",
-        "acquire 0\r",
-        "done 18446744073709551616",
-        "write 0 1 18446744073709551616",
-        "config 6 2 2 2",
-        "aaaaaaaaaaaaaaaaaaaaaaaaaaaaaaaaaaaaaaaaaaaaaaaaaaaaaaaaaaaaaaaaaaaaaaaaaaaaaaaaa",
+        ("a leading zero", "bump 07"),
+        ("a space at the end", "acquire 0 "),
+        ("a CR", "acquire 0\r"),
+        ("a number above the greatest", "done 18446744073709551616"),
+        ("a number too many", "settle 1"),
+        ("a page that is no number", "flush done m ok"),
+        ("sizes out of range", "config 6 2 2 2"),
     ];
-    for text in texts {
-        assert_eq!(rt; read_line(text.as_bytes()), None, "{text}");
+    for (name, text) in texts {
+        assert_eq!(rt; read_line(text.as_bytes()), None, "{name}");
     }
 }
 
 #[test]
-fn refuses_a_number_too_few_or_too_many(rt: HostRuntime) {
-    let texts = [
-        "config 4 2 2",
-        "config 4 2 2 2 2",
-        "settle 1",
-        "close 1",
-        "take 1",
-        "done 1 2",
-        "raise",
-        "shift 4 4",
-        "alloc 0",
-        "alloc 0 3 1",
-        "look 0 1",
-        "look 0 1 2 3",
-        "write 0 1",
-        "read 0",
-        "status 1",
-        "pending 1",
-        "frames 2",
-    ];
-    for text in texts {
-        assert_eq!(rt; read_line(text.as_bytes()), None, "{text}");
-    }
-}
-
-#[test]
-fn refuses_what_only_looks_like_a_flush_or_a_clean(rt: HostRuntime) {
-    let texts = [
-        "flush",
-        "flush ",
-        "flush  take",
-        "flush take ",
-        "flush take 1",
-        "flush done",
-        "flush done 1",
-        "flush done 1 ",
-        "flush done ok",
-        "flush done m ok",
-        "flush done m OK",
-        "flush done 1 OK",
-        "flush done 1 fail",
-        "flush done 01 ok",
-        "flush done 1  ok",
-        "flush done 1 ok ",
-        "flush done 1 ok 1",
-        "flush clean",
-        "clean",
-        "clean done",
-        "clean done 1 ok",
-        "clean done 18446744073709551616",
-        "clean take 1",
-        "take flush",
-    ];
-    for text in texts {
-        assert_eq!(rt; read_line(text.as_bytes()), None, "{text}");
-    }
-}
-
-#[test]
-fn prints_each_reply(rt: HostRuntime) {
+fn prints_a_reply_with_its_view(rt: HostRuntime) {
     let view = View {
         read_only: 4,
         head: 0,
         tail: 9,
     };
-    let replies = [
-        (
-            Reply::Entered {
-                epoch: 1,
-                view: View::default(),
-            },
-            "epoch 1 view 0 0 0",
-        ),
-        (Reply::Entered { epoch: 2, view }, "epoch 2 view 4 0 9"),
-        (Reply::Left, "left"),
-        (Reply::Ticket(1), "ticket 1"),
-        (Reply::Taken(1), "taken 1"),
-        (Reply::Ran(7), "ran 7"),
-        (Reply::Answer(8), "answer 8"),
-        (Reply::Settled(4), "safe_read_only 4"),
-        (Reply::Closed(8), "closed 8"),
-        (Reply::Raised(9), "read_only 9"),
-        (Reply::Shifted(4), "head 4"),
-        (Reply::At(0), "at 0"),
-        (Reply::Looked(view), "view 4 0 9"),
-        (Reply::Written, "written"),
-        (Reply::Readable, "readable"),
-        (Reply::Value(258), "value 258"),
-        (Reply::Value(u64::MAX), "value 18446744073709551615"),
-        (Reply::Page(2), "page 2"),
-        (Reply::Flushed(12), "flushed 12"),
-        (Reply::Freed(3), "freed 3"),
-    ];
-    for (reply, text) in replies {
-        assert_eq!(rt; print_reply(&reply).as_str(), text);
-    }
+    let reply = Reply::Entered { epoch: 2, view };
+    assert_eq!(rt; print_reply(&reply).as_str(), "epoch 2 view 4 0 9");
 }
 
+// No clause says what a `Display` writes.
 #[test]
 fn prints_each_fault_as_it_is_displayed(rt: HostRuntime) -> Result<(), Fail> {
     let faults = [

@@ -129,7 +129,7 @@ unfolding ever_taken pending
 pending-untaken A w ws h = front-new 0 (takes A) (actions A) w ws (actions-rising A) h
 
 -- the action that a take would name isn't done
-front-unfinished : (sizes : Sizes) (A : List Step) (w : Waiting) (ws : List Waiting) → IsAccepted sizes A → pending A ≡ w ∷ ws → is_finished w.ticket A ≡ false
+pub front-unfinished : (sizes : Sizes) (A : List Step) (w : Waiting) (ws : List Waiting) → IsAccepted sizes A → pending A ≡ w ∷ ws → is_finished w.ticket A ≡ false
 front-unfinished sizes A w ws a h =
     false_from_ne_true (is_finished w.ticket A) (λ done. let was : was_taken w.ticket A ≡ true = finished-taken sizes w.ticket A a done in let new : was_taken w.ticket A ≡ false = pending-untaken A w ws h in cc)
 
@@ -297,9 +297,9 @@ ever_taken-safe sizes = accepted_has sizes (λ A. AllByRecursion (λ w. w.ticket
             (omega (arith, ticket-front A next.0 next.1 next.2, ready.1, safe_epoch-push sizes.slots A s), tt))
         by_test false e = subst (AllByRecursion (λ w. w.ticket ≤ safe_epoch sizes.slots (A ++ s ∷ []))) (sym (ever_taken-stay A s (takes-le-actions sizes A a) e)) later
 
--- so a finished ticket is safe
-pub finished-safe : (sizes : Sizes) (A : List Step) (c : ℕ) → IsAccepted sizes A → is_finished c A ≡ true → c ≤ safe_epoch sizes.slots A
-finished-safe sizes A c a done = of_any (ever_taken A) (finished-taken sizes c A a done) (ever_taken-safe sizes A a)
+-- so a ticket that was taken is safe
+pub was_taken-safe : (sizes : Sizes) (A : List Step) (c : ℕ) → IsAccepted sizes A → was_taken c A ≡ true → c ≤ safe_epoch sizes.slots A
+was_taken-safe sizes A c a was = of_any (ever_taken A) was (ever_taken-safe sizes A a)
   where
     of_any : (ws : List Waiting) → list_any (λ w. w.ticket == c) ws ≡ true → AllByRecursion (λ w. w.ticket ≤ safe_epoch sizes.slots A) ws → c ≤ safe_epoch sizes.slots A
     of_any [] h each = cc
@@ -308,6 +308,10 @@ finished-safe sizes A c a done = of_any (ever_taken A) (finished-taken sizes c A
         by_test : (b : Bool) → (w.ticket == c) ≡ b → (b || list_any (λ v. v.ticket == c) ws) ≡ true → (list_any (λ v. v.ticket == c) ws ≡ true → c ≤ safe_epoch sizes.slots A) → c ≤ safe_epoch sizes.slots A
         by_test true e k later = omega (arith, each.0, eqb-true w.ticket c e)
         by_test false e k later = later k
+
+-- and so is a finished one
+pub finished-safe : (sizes : Sizes) (A : List Step) (c : ℕ) → IsAccepted sizes A → is_finished c A ≡ true → c ≤ safe_epoch sizes.slots A
+finished-safe sizes A c a done = was_taken-safe sizes A c a (finished-taken sizes c A a done)
 
 -- the epochs that end above the safe one are at most those of the window
 pub epochs-window : (sizes : Sizes) (A : List Step) → IsAccepted sizes A → current_epoch A - 1 - safe_epoch sizes.slots A ≤ epoch_window

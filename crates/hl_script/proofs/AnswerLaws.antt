@@ -13,7 +13,7 @@ use Rattle.hl_model.specs.Sizes.{Sizes}
 use Rattle.hl_model.specs.Frames.{frame_of}
 use Rattle.hl_model.specs.Snapshots.{snapshot_of}
 use Rattle.hl_model.specs.Replies.{fault_of, unless_fault}
-use Rattle.hl_model.proofs.ActionLaws.{range-push}
+use Rattle.hl_model.proofs.ListLaws.{range-push}
 use Rattle.hl_script.specs.declared.machine.Broken.{Broken}
 use Rattle.hl_script.specs.declared.machine.Broken.TheVariants.{OutOfMemory as NoMemory, Stream}
 use Rattle.hl_script.specs.Answers.{lacks_job, line_fault, line_answer, quantities_text, status_text, frame_text, result_text}

@@ -1,7 +1,7 @@
 -- What the parts of a run make of where it stands.
 use Rattle.std.proofs.Common.{◌≡◌, ◌≢◌, ◌<◌, ◌≤◌, ◌⊎◌, inl, inr, ℕ, ◌+◌, Bool, true, false, cond, eqb, List, [], ◌∷◌, ◌++◌, length, take, refl, sym, ap, ◌∙◌, subst, append_assoc, append-nil, arith}
 use Rattle.std.specs.Prelude.{Option, Some, None, Result, Ok, Err}
-use Rattle.std.specs.Io.KnownBytes.{Appends, Consumes, IsAtEnd}
+use Rattle.std.specs.Io.KnownBytes.{Appends, Consumes, Keeps, IsAtEnd}
 use Rattle.std.proofs.lemmas.Bool.{eqb-true, false≢true}
 use Rattle.std.proofs.lemmas.List.{length_push}
 use Rattle.hl_line.specs.declared.line.Line.{Line}
@@ -15,7 +15,7 @@ use Rattle.hl_script.specs.Answers.{accepted, accepted_after}
 use Rattle.hl_script.specs.Text.{answers, bad_text, text, count_of}
 use Rattle.hl_script.specs.Outcomes.{WroteWholeLines, WroteAll, WroteUpTo, AppendsFront}
 use Rattle.hl_script.specs.Engine.{answered, Answered, Refuses, Stopped, Judges, Reached, Faces, At, JudgedGood, Judged, Fed, Ended, Ran}
-use Rattle.hl_script.proofs.KnownLaws.{Appends-nothing, Appends-more, Consumes-more, front-more, front-longer, at_end_left}
+use Rattle.hl_script.proofs.KnownLaws.{Appends-nothing, Appends-more, Appends-kept, Consumes-more, front-more, front-longer, at_end_left}
 use Rattle.hl_script.proofs.LineLaws.{IsBad, faces_bad, faces_good}
 use Rattle.hl_script.proofs.ReachLaws.{IsGood, reached_start, reached_byte, reached_end, reached_long, reached_last, reached_line, reached_unfinished, reached_whole, reached_done, reached_last_line, whole-end}
 use Rattle.hl_script.proofs.TextLaws.{answers-nil, answers-push, answers-front, accepted-length}
@@ -190,6 +190,14 @@ ended_line old stands has done before from mid to p q count at ne j c =
 -- the input ended in a bad line, or a line that was not answered
 pub ended_stop : (old stands : (ℕ → Bool) → List Line → Type 0) (lacks : Line → Bool) (has : ℕ → Bool) (done : List ℕ) (before : List Line) (from mid to : Option (List ℕ)) (p q : Progress) (stop : Stop) → At old has done before from mid p → p.line.items ≢ [] → Judged stands lacks has before p.line.items from to q (Err stop) → Stopped has lacks from to stop done
 ended_stop old stands lacks has done before from mid to p q stop at ne j = j done (reached_last done before p.line.items at.stood.reached ne)
+
+-- what was written went out
+pub at_flushed : {stands : (ℕ → Bool) → List Line → Type 0} {has : ℕ → Bool} {done : List ℕ} {before : List Line} {p : Progress} (from mid to : Option (List ℕ)) → At stands has done before from mid p → Keeps mid to → At stands has done before from to p
+at_flushed {stands} {has} {done} {before} {p} from mid to at kept = record {
+  standing = at.standing;
+  stood = at.stood;
+  wrote = Appends-kept from mid to (answers has before) at.wrote kept;
+}
 
 -- a read failed, or no more are made
 pub ran_out : (stands : (ℕ → Bool) → List Line → Type 0) (has : ℕ → Bool) (done : List ℕ) (before : List Line) (from to : Option (List ℕ)) (p : Progress) → At stands has done before from to p → WroteWholeLines has from to done

@@ -14,12 +14,13 @@ use Rattle.hl_model.specs.declared.step.Reply.TheVariants.{Ran}
 use Rattle.hl_model.specs.declared.step.Step.{Step}
 use Rattle.hl_model.specs.declared.step.Step.TheVariants.{Bump, Settle, Close, Done}
 use Rattle.hl_model.specs.Sizes.{Sizes}
-use Rattle.hl_model.specs.Epochs.{current_epoch}
-use Rattle.hl_model.specs.Actions.{takes, is_finished, action_of, actions, action_at}
+use Rattle.hl_model.specs.Epochs.{current_epoch, safe_epoch}
+use Rattle.hl_model.specs.Actions.{action_of, actions, action_at}
 use Rattle.hl_model.specs.Replies.{fault_of, answer_of, done_answer, kind_or_job_0, unless_fault, extended, with_word, word_reply_of, IsAccepted}
 use Rattle.hl_model.proofs.AcceptedLaws.{extended-none, IsAccepted-parts}
-use Rattle.hl_model.proofs.ActionLaws.{current_epoch-bumps, actions-nil, actions-push}
-use Rattle.hl_model.proofs.DrainLaws.{takes-le-bumps, done_fault-none, is_taken-parts}
+use Rattle.hl_model.proofs.ActionLaws.{actions-nil, actions-push}
+use Rattle.hl_model.proofs.DrainLaws.{done_fault-none, is_taken-parts, was_taken-safe}
+use Rattle.hl_model.proofs.EpochLaws.{safe_epoch-current}
 use Rattle.hl_model.proofs.LawProofs.{current_is_at_most_last}
 use Rattle.hl_model.proofs.NoFaultLaws.{unless_err, unless_ok}
 use Rattle.hl_line.specs.declared.line.Line.TheVariants.{Step as Makes}
@@ -66,9 +67,9 @@ ran_below tags B tag (Some w) known h = by_kind w.kind (known w refl) h
 -- a ticket that is taken is below the greatest epoch
 ticket_most : (sizes : Sizes) (A : List Step) (c : ℕ) → IsAccepted sizes A → fault_of sizes A (Done c) ≡ None → c < 2 ^ 62
 ticket_most sizes A c a free =
-    let parts : (1 ≤ c) × (c ≤ takes A) × (is_finished c A ≡ false) = is_taken-parts c A (done_fault-none sizes A c free) in
+    let safe : c ≤ safe_epoch sizes.slots A = was_taken-safe sizes A c a (is_taken-parts c A (done_fault-none sizes A c free)).0 in
     let last : current_epoch A ≤ 2 ^ 62 = current_is_at_most_last sizes A a in
-    omega (arith, parts.1, takes-le-bumps sizes A a, current_epoch-bumps A, last)
+    omega (arith, safe, safe_epoch-current sizes.slots A, last)
 
 -- what an accepted step was answered and made
 record Went (tags : ℕ) (h after : History) (has : ℕ → Bool) (sizes : Sizes) (A : List Step) (step : Step) (reply : Reply) : Type 0 where

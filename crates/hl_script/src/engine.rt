@@ -130,8 +130,9 @@ fn finish<M: Machine, W: Write>(
     Ok(progress.count())
 }
 
-/// Has a machine answer the lines that a reader gives, and writes the answers. It makes at most 2^32 reads, and
-/// no read or write after one that failed. The answer is how many steps were accepted, None for no line.
+/// Has a machine answer the lines that a reader gives, and writes the answers. They go out before each read, so
+/// that who awaits them can go on. It makes at most 2^32 reads, and no read, write or flush after one that failed.
+/// The answer is how many steps were accepted, None for no line.
 pub(crate) fn run<M: Machine, R: Read, W: Write>(
     machine: &mut M,
     reader: &mut R,
@@ -144,6 +145,9 @@ pub(crate) fn run<M: Machine, R: Read, W: Write>(
     let mut progress = Progress::new();
     let mut buffer = [0; CHUNK];
     for _turn in 0..TURNS {
+        if out.flush().is_err() {
+            return Err(Stop::Reader);
+        }
         match reader.read(&mut buffer) {
             Ok(0) => return finish(machine, &mut progress, out),
             Ok(count) => take_bytes(machine, &mut progress, &buffer[..count], out)?,

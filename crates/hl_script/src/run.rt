@@ -28,15 +28,15 @@ pub struct Finished<E: Epochs, F: Task> {
 }
 
 /// Runs the script that the reader gives, with the jobs on the shelf, over an engine whose table of epochs is an E,
-/// and writes its text. A job is run at its done, under the firing of its take. The answer is None where there was no
-/// line. The engine stands at the accepted steps, which keep the headline. Jobs whose actions aren't done at the end go
-/// with the engine.
+/// and writes its text. What was answered is flushed before each read. A job is run at its done, under the firing of its
+/// take. The answer is None where there was no line. The engine stands at the accepted steps, which keep the headline.
+/// Jobs whose actions aren't done at the end go with the engine.
 ///
 /// - `BadLine` with the number of the first line that is no step, when its LF or its 81st byte was read, or at the
 ///   end of the input: the text was written, whose last line tells that number. Bytes behind it may have been read.
 /// - `OutOfMemory` where memory was refused at line 1; nothing was written.
-/// - `Stream` where a read failed, or 2^32 reads gave no end: the text of the whole lines was written. Or where a
-///   write failed or took no byte: the beginning of the text was written. Neither is tried again.
+/// - `Stream` where a read or the flush before it failed, or 2^32 reads gave no end: the text of the whole lines was
+///   written. Or where a write failed or took no byte: the beginning of the text was written. None is tried again.
 pub fn run_text<E: Epochs + Drop, F: Task, R: Read, W: Write>(
     alloc: Global,
     reader: &mut R,

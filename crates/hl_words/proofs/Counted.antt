@@ -1,7 +1,7 @@
 -- The rule by counts, which doesn't depend on the riders' order, and what each step does to it.
-use Rattle.std.proofs.Common.{◌≡◌, ℕ, ◌+◌, ◌<◌, ◌≤◌, ◌==◌, ◌&&◌, ◌⊎◌, Bool, true, false, List, [], ◌∷◌, ◌++◌, length, set, Some, None, refl, ap, sym, ◌∙◌, inl, inr, ⊎_elim, subst, arith}
+use Rattle.std.proofs.Common.{◌≡◌, ℕ, suc, ◌+◌, ◌<◌, ◌≤◌, ◌==◌, ◌&&◌, ◌⊎◌, Bool, true, false, List, [], ◌∷◌, ◌++◌, length, set, Some, None, refl, ap, sym, ◌∙◌, inl, inr, ⊎_elim, subst, arith}
 use Rattle.std.specs.Prelude.{if◌then◌else◌, slice_index}
-use Rattle.std.specs.List.{AllByRecursion as Every, sum_by}
+use Rattle.std.specs.List.{AllByRecursion as Every, Contains, sum_by}
 use Rattle.std.proofs.lemmas.Bool.{eq-eqb, ne_eqb, cases_eq}
 use Rattle.std.proofs.lemmas.List.{get_or-set_same, get_or-set_other}
 use Rattle.std.proofs.lemmas.List.Sums.{sum_by-cons, sum_by-append}
@@ -10,8 +10,8 @@ use Rattle.hl_words.specs.declared.view.OffsetWords.{OffsetWords}
 use Rattle.hl_words.specs.declared.view.RiderView.{RiderView}
 use Rattle.hl_words.specs.declared.which.Which.{Which}
 use Rattle.hl_words.specs.declared.which.Which.TheVariants.{ReadOnly, Head}
-use Rattle.hl_words.specs.Views.{offset_of, with_offset, touched, with_loaded}
-use Rattle.hl_words.specs.Rule.{last_store, IsQuiet, IsLawful, IsElsewhere, IsRuled}
+use Rattle.hl_words.specs.Views.{newest, offset_of, with_offset, place_of, touched, with_loaded}
+use Rattle.hl_words.specs.Rule.{last_store, IsQuiet, IsLawful, IsElsewhere, AreLoads, IsRuled}
 use Rattle.hl_words.proofs.Cut.{SomeOf, every_front, every_back, every_append, every_weaker, some_front, some_back, some_parts, every_at, every_from, some_at, some_from}
 use Rattle.hl_words.proofs.Counts.{stores, all_stores, More, last_is_store, none_stores, elsewhere_more, more_elsewhere, lawful_weaker, quiet}
 
@@ -19,15 +19,33 @@ use Rattle.hl_words.proofs.Counts.{stores, all_stores, More, last_is_store, none
 abbrev pub Cell : List RiderView → ℕ → ℕ → Type 0
 Cell riders c w = ((w ≡ 0) × Every (λ r. last_store c r.touches ≡ None) riders) ⊎ SomeOf (λ r. last_store c r.touches ≡ Some w) riders
 
--- the rider loaded no offset above these
+-- what the rider loaded of the offset words are loads of these stores
 abbrev pub Below : OffsetWords → RiderView → Type 0
-Below last r = (r.offsets.read_only ≤ last.read_only) × (r.offsets.head ≤ last.head)
+Below last r = AreLoads last.read_only r.offsets.read_only × AreLoads last.head r.offsets.head
+
+-- the newest value of a word is 0 or one of its stores
+newest_stored : (stores : List ℕ) → (newest stores ≡ 0) ⊎ Contains stores (newest stores)
+newest_stored [] = inl refl
+newest_stored (x ∷ before) = inr (0, omega arith, refl)
+
+-- one more load, of the newest value
+load_newest : (stores loads : List ℕ) (x : ℕ) → x ≡ newest stores → AreLoads stores loads → AreLoads stores (x ∷ loads)
+load_newest stores loads x is h =
+    (omega (arith, is), (subst (λ v. (v ≡ 0) ⊎ Contains stores v) (sym is) (newest_stored stores), h.1))
+
+-- one more store, which isn't below the newest
+store_more : (stores loads : List ℕ) (x : ℕ) → newest stores ≤ x → AreLoads stores loads → AreLoads (x ∷ stores) loads
+store_more stores loads x le h = (
+  omega (arith, le, h.0),
+  every_weaker (λ v. (v ≡ 0) ⊎ Contains stores v) (λ v. (v ≡ 0) ⊎ Contains (x ∷ stores) v) loads
+      (λ v one. ⊎_elim (λ z. inl z) (λ s. inr (suc s.0, omega (arith, s.1), s.2)) one) h.1,
+)
 
 pub record IsCounted (cells : ℕ) (words : List ℕ) (last : OffsetWords) (riders : List RiderView) : Type 0 where
   pub cell : (c : ℕ) → c < cells → Cell riders c (slice_index words c)
   pub load : Every (λ r. IsLawful (More riders r) r.touches) riders
-  pub read_only : slice_index words cells ≡ last.read_only
-  pub head : slice_index words (cells + 1) ≡ last.head
+  pub read_only : slice_index words cells ≡ newest last.read_only
+  pub head : slice_index words (cells + 1) ≡ newest last.head
   pub offset : Every (Below last) riders
 
 -- the two forms of the rule say the same
@@ -215,15 +233,10 @@ module _ (front : List RiderView) (r : RiderView) (back : List RiderView) where
       (below which found (every_back (Below last) front (r ∷ back) h.offset).0)
     where
       below : (which : Which) → x ≡ offset_of which last → Below last r → Below last (with_loaded which x r)
-      below ReadOnly e b = (omega arith, b.1)
-      below Head e b = (b.0, omega arith)
+      below ReadOnly e b = (load_newest last.read_only r.offsets.read_only x e b.0, b.1)
+      below Head e b = (b.0, load_newest last.head r.offsets.head x e b.1)
 
--- where an offset word lies
-abbrev pub place_of : Which → ℕ → ℕ
-place_of ReadOnly cells = cells
-place_of Head cells = cells + 1
-
--- an offset word is the master's last store
+-- an offset word is the master's newest store
 pub found_offset : (which : Which) (cells : ℕ) (words : List ℕ) (last : OffsetWords) (riders : List RiderView) → IsCounted cells words last riders → slice_index words (place_of which cells) ≡ offset_of which last
 found_offset ReadOnly cells words last riders h = h.read_only
 found_offset Head cells words last riders h = h.head
@@ -237,7 +250,7 @@ after_set ReadOnly cells words last riders x width le h =
       load = h.load;
       read_only = get_or-set_same words cells x 0 (omega arith);
       head = get_or-set_other words cells (cells + 1) x 0 (λ e. omega arith) ∙ h.head;
-      offset = every_weaker (Below last) (Below (with_offset ReadOnly x last)) riders (λ r b. (omega (arith, b.0), b.1)) h.offset;
+      offset = every_weaker (Below last) (Below (with_offset ReadOnly x last)) riders (λ r b. (store_more last.read_only r.offsets.read_only x le b.0, b.1)) h.offset;
     }
 after_set Head cells words last riders x width le h =
     record {
@@ -245,5 +258,5 @@ after_set Head cells words last riders x width le h =
       load = h.load;
       read_only = get_or-set_other words (cells + 1) cells x 0 (λ e. omega arith) ∙ h.read_only;
       head = get_or-set_same words (cells + 1) x 0 (omega arith);
-      offset = every_weaker (Below last) (Below (with_offset Head x last)) riders (λ r b. (b.0, omega (arith, b.1))) h.offset;
+      offset = every_weaker (Below last) (Below (with_offset Head x last)) riders (λ r b. (b.0, store_more last.head r.offsets.head x le b.1)) h.offset;
     }

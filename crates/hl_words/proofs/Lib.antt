@@ -3,3 +3,4 @@ pub mod Counts
 pub mod Counted
 pub mod Steps
 pub mod Dealing
+pub mod WordAt

@@ -13,12 +13,12 @@ use Rattle.hl_words.specs.declared.view.SeatView.{SeatView}
 use Rattle.hl_words.specs.declared.view.Room.{Room}
 use Rattle.hl_words.specs.declared.which.Which.{Which}
 use Rattle.hl_words.specs.declared.which.Which.TheVariants.{ReadOnly, Head}
-use Rattle.hl_words.specs.Views.{no_offsets, offset_of, with_offset, unused, touched, with_loaded}
+use Rattle.hl_words.specs.Views.{place_of, no_offsets, offset_of, with_offset, unused, touched, with_loaded}
 use Rattle.hl_words.specs.Rule.{last_store, IsRuled, IsLawful}
 use Rattle.hl_words.specs.Seats.{seat_of, rider_seat, spent_seat, first_seat, riders_in, IsKept, Holds, Stores, Loads, Looks, Sets, left_seat, right_seat, joined_seat}
 use Rattle.hl_words.proofs.Cut.{every_back}
 use Rattle.hl_words.proofs.Counts.{More}
-use Rattle.hl_words.proofs.Counted.{IsCounted, Below, counted_from, ruled_from, to_front, from_front, after_store, after_load, after_look, after_set, place_of, found_offset}
+use Rattle.hl_words.proofs.Counted.{IsCounted, Below, counted_from, ruled_from, to_front, from_front, after_store, after_load, after_look, after_set, found_offset}
 
 abbrev Nothing : Type 0
 Nothing = Unit {0}
@@ -118,8 +118,8 @@ module _ (room : Room) (slots : ℕ) (id : ℕ) where
       ))
     where
       at_most : (which : Which) (last : OffsetWords) (r : RiderView) (x : ℕ) → x ≡ offset_of which last → Below last r → offset_of which r.offsets ≤ x
-      at_most ReadOnly last r x e b = omega (arith, b.0)
-      at_most Head last r x e b = omega (arith, b.1)
+      at_most ReadOnly last r x e b = omega (arith, b.0.0)
+      at_most Head last r x e b = omega (arith, b.1.0)
 
       only : (x : ℕ) (r : RiderView) → offset_of which r.offsets ≤ x → (i : ℕ) (q : RiderView) → slice_get (r ∷ []) i ≡ Some q → offset_of which q.offsets ≤ x
       only x r le zero q e = let same : r ≡ q = cc e in subst (λ (p : RiderView). offset_of which p.offsets ≤ x) same le
@@ -267,5 +267,5 @@ module _ (room : Room) where
         load = each (λ r. IsLawful (More (replicate room.riders unused) r) r.touches) tt room.riders;
         read_only = zeros (room.cells + 2) room.cells;
         head = zeros (room.cells + 2) (room.cells + 1);
-        offset = each (Below no_offsets) (omega arith, omega arith) room.riders;
+        offset = each (Below no_offsets) ((omega arith, tt), (omega arith, tt)) room.riders;
       }

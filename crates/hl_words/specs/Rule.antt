@@ -1,10 +1,11 @@
 -- The rule that cells, offset words, the master's stores and the riders' stores and loads meet between any two steps.
 use Rattle.std.specs.Prelude.{ℕ, ◌≡◌, ◌≢◌, ◌+◌, ◌<◌, ◌≤◌, ◌==◌, ◌⊎◌, if◌then◌else◌, List, [], ◌∷◌, Option, Some, None, slice_get, slice_index}
-use Rattle.std.specs.List.{Contains}
+use Rattle.std.specs.List.{AllByRecursion, Contains}
 use Rattle.hl_words.specs.declared.view.Touch.{Touch}
 use Rattle.hl_words.specs.declared.view.Touch.TheVariants.{Stored, Loaded}
 use Rattle.hl_words.specs.declared.view.OffsetWords.{OffsetWords}
 use Rattle.hl_words.specs.declared.view.RiderView.{RiderView}
+use Rattle.hl_words.specs.Views.{newest}
 
 -- what these touches last stored into the cell; the newest stands first
 abbrev pub last_store : ℕ → List Touch → Option ℕ
@@ -40,10 +41,14 @@ IsLawful Elsewhere (Loaded c v ∷ before) = ((last_store c before ≡ Some v) �
 abbrev pub IsCell : List RiderView → ℕ → ℕ → Type 0
 IsCell riders c w = ((w ≡ 0) × EachRider (λ i r. last_store c r.touches ≡ None) riders) ⊎ SomeRider (λ i r. last_store c r.touches ≡ Some w) riders
 
--- The rule on words, the master's last stores and the riders' views: first the cells, then the read-only word and the head word
-pub record IsRuled (cells : ℕ) (words : List ℕ) (last : OffsetWords) (riders : List RiderView) : Type 0 where
+-- each load of an offset word is of 0 or of one of its stores, and the newest load is at most the newest store
+abbrev pub AreLoads : List ℕ → List ℕ → Type 0
+AreLoads stores loads = (newest loads ≤ newest stores) × AllByRecursion (λ x. (x ≡ 0) ⊎ Contains stores x) loads
+
+-- The rule on words, the master's stores and the riders' views: first the cells, then the read-only word and the head word
+pub record IsRuled (cells : ℕ) (words : List ℕ) (stores : OffsetWords) (riders : List RiderView) : Type 0 where
   pub cell : (c : ℕ) → c < cells → IsCell riders c (slice_index words c)
   pub load : EachRider (λ i r. IsLawful (IsElsewhere riders i) r.touches) riders
-  pub read_only : slice_index words cells ≡ last.read_only
-  pub head : slice_index words (cells + 1) ≡ last.head
-  pub offset : EachRider (λ i r. (r.offsets.read_only ≤ last.read_only) × (r.offsets.head ≤ last.head)) riders
+  pub read_only : slice_index words cells ≡ newest stores.read_only
+  pub head : slice_index words (cells + 1) ≡ newest stores.head
+  pub offset : EachRider (λ i r. AreLoads stores.read_only r.offsets.read_only × AreLoads stores.head r.offsets.head) riders

@@ -66,7 +66,7 @@ Loads s before found after = after ≡ (moved (touched (Loaded s.word found)) be
 abbrev pub Looks : Which → Step (Unit {0}) → Me (Unit {0}) SeatView → ℕ → Me (Unit {0}) SeatView → Type 0
 Looks which s before found after = (after ≡ (moved (with_loaded which found) before.0, before.1)) × EachRider (λ i r. offset_of which r.offsets ≤ found) before.0.riders
 
--- of a store of an offset word: it is the master's last
+-- of a store of an offset word: it is the master's newest
 abbrev pub Sets : Which → Step (Unit {0}) → Me (Unit {0}) SeatView → ℕ → Me (Unit {0}) SeatView → Type 0
 Sets which s before found after = after ≡ (seat_of (with_offset which s.first before.0.offsets) before.0.riders, before.1)
 

@@ -14,7 +14,7 @@ pub record RiderState : Type 0 where
   pub view : RiderView
   pub share : ℕ
 
--- the master's last stores of the offset words, and how many journal steps were entered in all
+-- the master's stores of the offset words, and how many journal steps were entered in all
 pub record MasterState : Type 0 where
   pub offsets : OffsetWords
   pub total : ℕ
@@ -24,7 +24,12 @@ pub record WordsState : Type 0 where
   pub cells : ℕ
   pub riders : ℕ
 
--- the same of a seed, with the names of its table and of its ledger
+-- the words at their end: so many cells, and then the two offset words
+pub record LastState : Type 0 where
+  pub cells : ℕ
+  pub words : List ℕ
+
+-- how many cells and how many riders a seed has, with the names of its table and of its ledger
 pub record SeedState : Type 0 where
   pub cells : ℕ
   pub riders : ℕ

@@ -1,5 +1,5 @@
 -- What a rider's view is after one more store or load, and the two offset words by name.
-use Rattle.std.specs.Prelude.{ℕ, [], ◌∷◌}
+use Rattle.std.specs.Prelude.{ℕ, ◌+◌, List, [], ◌∷◌}
 use Rattle.hl_words.specs.declared.view.Touch.{Touch}
 use Rattle.hl_words.specs.declared.view.Touch.TheVariants.{Stored, Loaded}
 use Rattle.hl_words.specs.declared.view.OffsetWords.{OffsetWords}
@@ -7,19 +7,29 @@ use Rattle.hl_words.specs.declared.view.RiderView.{RiderView}
 use Rattle.hl_words.specs.declared.which.Which.{Which}
 use Rattle.hl_words.specs.declared.which.Which.TheVariants.{ReadOnly, Head}
 
--- both offset words before any store
+-- both offset words before any store or load
 abbrev pub no_offsets : OffsetWords
-no_offsets = record { read_only = 0; head = 0 }
+no_offsets = record { read_only = []; head = [] }
 
--- the one of the two
+-- the newest of these values, which stands first, or the 0 that a word has before any store
+abbrev pub newest : List ℕ → ℕ
+newest [] = 0
+newest (x ∷ before) = x
+
+-- the newest of the one of the two
 abbrev pub offset_of : Which → OffsetWords → ℕ
-offset_of ReadOnly o = o.read_only
-offset_of Head o = o.head
+offset_of ReadOnly o = newest o.read_only
+offset_of Head o = newest o.head
 
--- the same with x for one of the two
+-- the same with x as the newest of the one
 abbrev pub with_offset : Which → ℕ → OffsetWords → OffsetWords
-with_offset ReadOnly x o = record { read_only = x; head = o.head }
-with_offset Head x o = record { read_only = o.read_only; head = x }
+with_offset ReadOnly x o = record { read_only = x ∷ o.read_only; head = o.head }
+with_offset Head x o = record { read_only = o.read_only; head = x ∷ o.head }
+
+-- where an offset word lies, behind this many cells
+abbrev pub place_of : Which → ℕ → ℕ
+place_of ReadOnly cells = cells
+place_of Head cells = cells + 1
 
 -- the view of a rider that did nothing
 abbrev pub unused : RiderView

@@ -2,32 +2,32 @@
 //!
 //! A `Seed` becomes `Words`, which threads share by a `&`, one `Master` and some `Rider`s. A rider stores into cells and
 //! loads any word. The master alone stores the offset words, which never fall, and counts the journal steps that
-//! riders enter. At the end `Words::close` takes them all back.
+//! riders enter. At the end `Words::close` takes them all back, and gives the `LastWords`, to be read alone.
 //!
 //! What each value witnesses:
 //!
-//! - a **rider**: what it stored into cells and loaded from them, in order, the greatest value that it loaded of each
-//!   offset word, and its share: how many journal steps it entered;
-//! - the **master**: its last store of each offset word, and how many journal steps all riders entered;
+//! - a **rider**: what it stored into cells and loaded from them, in order, what it loaded of each offset word, and its
+//!   share: how many journal steps it entered;
+//! - the **master**: its stores of each offset word, and how many journal steps all riders entered;
 //! - a **seed**: that its words and its ledger are new. It is used up by `Words::open`;
 //! - a **realm**: nothing by itself. It names one seed in types, so that a rider, a master and words of one realm belong
 //!   together. Code that opens a seed is a function over `L: Realm`, and is called with `Brand`.
 //!
 //! The rule, in `specs/Rule.antt`, holds between any two steps: a cell is 0 where no rider stored into it, else it is some
 //! rider's last store there; a load is of the rider's last store before it, or of a value that another rider stores, or
-//! of 0 where the rider had seen nothing else there; an offset word is the master's last store, and no rider loaded a
-//! greater one. `close` says it of exactly what the riders stored and loaded that are handed in, with some values of the
-//! words.
+//! of 0 where the rider had seen nothing else there; an offset word is the master's last store, and each that a rider
+//! loaded is one of the master's stores, or 0, and at most the last. `close` says it of exactly what the riders stored and loaded that are handed in, and of what the words
+//! hold then, which `LastWords` tells.
 //!
 //! Only the types keep the following, and no contract says it: that the rule holds while threads still run (the contract
-//! of one load says just that the rider noted it), and of the values that the words really have; that a rider is used by
-//! one thread at a time; that values of two seeds, whose types differ, are never mixed; that words may be shared by
-//! threads, and that a rider may go to another. Nothing is said of the order of two threads' stores into one cell, nor
-//! that a load finds the latest.
+//! of one load says just that the rider noted it); that a rider is used by one thread at a time; that values of two
+//! seeds, whose types differ, are never mixed; that words may be shared by threads, and that a rider may go to another.
+//! Nothing is said of the order of two threads' stores into one cell, nor that a load finds the latest.
 //!
 //! No call waits. Memory is taken by `Seed::make` and `Words::open` alone.
 #![tactic(auto)]
 
+mod last;
 mod master;
 mod rider;
 mod rule;
@@ -36,6 +36,7 @@ mod view;
 mod which;
 mod words;
 
+pub use last::LastWords;
 pub use master::Master;
 pub use rider::Rider;
 pub use seed::{Realm, Seed};

@@ -9,11 +9,11 @@ use std::process::Abort;
 use std::test::*;
 use std::thread::{Threads, join};
 
-/// Eight cells, and two riders.
+/// The greatest sizes, 256 frames of 4,096 words for 128 riders, of whom two store and load.
 #[test]
 fn shared_words(rt: HostRuntime) -> Result<(), Fail> {
-    let params = Params::checked(4, 2, 2, 4).ok_or("sizes in range")?;
-    let seed = Seed::make(rt.alloc(), params, 2)?;
+    let params = Params::checked(4096, 256, 64, 64).ok_or("sizes in range")?;
+    let seed = Seed::make(rt.alloc(), params, 128)?;
     two_riders::<Brand, _>(&rt, rt.alloc(), seed)
 }
 
@@ -23,19 +23,18 @@ fn two_riders<L: Realm + Send + Sync, R: Threads + Abort + Sync>(
     seed: Seed,
 ) -> Result<(), Fail>
     requires seed { IsSeedOf L.name L.parts L.table seed }
-    requires sizes { (seed.cells ≡ 8) × (seed.riders ≡ 2) }
+    requires sizes { seed.cells ≡ 2 ^ 20 }
 {
+    const LAST: u64 = (1 << 20) - 1;
     let (words, mut master, mut riders) = Words::<L>::open(alloc, seed)?;
     let mut other = riders.pop().ok_or("a rider")?;
     let mut rider = riders.pop().ok_or("a rider")?;
-    words.store_cell(&mut rider, 1, 5);
-    words.store_cell(&mut rider, 1, 6);
-    assert_eq!(rt; words.load_cell(&mut other, 1), 6);
-    assert_eq!(rt; words.load_cell(&mut rider, 1), 6);
+    words.store_cell(&mut rider, LAST, 5);
+    words.store_cell(&mut rider, LAST, 6);
+    assert_eq!(rt; words.load_cell(&mut other, LAST), 6);
     words.store_offset(&mut master, Which::ReadOnly, 4);
-    words.store_offset(&mut master, Which::ReadOnly, 4);
-    words.store_offset(&mut master, Which::ReadOnly, 8);
-    assert_eq!(rt; words.load_offset(&mut other, Which::ReadOnly), 8);
+    words.store_offset(&mut master, Which::ReadOnly, 1 << 48);
+    assert_eq!(rt; words.load_offset(&mut other, Which::ReadOnly), 1 << 48);
     assert_eq!(rt; words.load_offset(&mut other, Which::Head), 0);
     master.enter(&mut rider, 3);
     assert!(rt; rider.share() == 3 && master.total() == 3);
@@ -50,12 +49,12 @@ fn two_riders<L: Realm + Send + Sync, R: Threads + Abort + Sync>(
     );
     assert!(rt; first.1 && second.1);
     riders.push(first.0)?;
-    let Err((words, master, mut riders)) = words.close(master, riders) else {
+    riders.push(second.0)?;
+    let Ok(last) = words.close(master, riders) else {
         panic!(rt; "a rider is missing")
     };
-    assert!(rt; riders.len() == 1 && master.total() == 3);
-    riders.push(second.0)?;
-    assert!(rt; words.close(master, riders).is_ok());
+    assert!(rt; last.cell(0) == 0 && last.cell(LAST) == 6);
+    assert!(rt; last.offset(Which::ReadOnly) == 1 << 48 && last.offset(Which::Head) == 0);
     Ok(())
 }
 
@@ -76,27 +75,4 @@ fn store_and_load<L: Realm>(
         lawful &= loaded == own + i || (other <= loaded && loaded < other + 1000);
     }
     (rider, lawful)
-}
-
-/// The greatest sizes: 256 frames of 4,096 words, for 128 riders.
-#[test]
-fn the_greatest_words_open(rt: HostRuntime) -> Result<(), Fail> {
-    let params = Params::checked(4096, 256, 64, 64).ok_or("sizes in range")?;
-    let seed = Seed::make(rt.alloc(), params, 128)?;
-    last_cell::<Brand, _>(&rt, rt.alloc(), seed)
-}
-
-fn last_cell<L: Realm, R: Abort>(rt: &R, alloc: Global, seed: Seed) -> Result<(), Fail>
-    requires seed { IsSeedOf L.name L.parts L.table seed }
-    requires sizes { seed.cells ≡ 2 ^ 20 }
-{
-    let (words, mut master, mut riders) = Words::<L>::open(alloc, seed)?;
-    assert_eq!(rt; riders.len(), 128);
-    let mut rider = riders.pop().ok_or("a rider")?;
-    words.store_cell(&mut rider, (1 << 20) - 1, u64::MAX);
-    words.store_offset(&mut master, Which::Head, 1 << 48);
-    assert_eq!(rt; words.load_cell(&mut rider, (1 << 20) - 1), u64::MAX);
-    assert_eq!(rt; words.load_offset(&mut rider, Which::Head), 1 << 48);
-    assert_eq!(rt; words.load_offset(&mut rider, Which::ReadOnly), 0);
-    Ok(())
 }

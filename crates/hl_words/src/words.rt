@@ -5,6 +5,7 @@ ghost use Rattle.hl_words.specs.Views.{no_offsets, offset_of, with_offset, store
 ghost use Rattle.hl_words.specs.Rule.{IsRuled};
 ghost use Rattle.hl_words.specs.States.{IsSeedOf, IsMasterSeat, new_rider};
 
+use crate::last::LastWords;
 use crate::master::Master;
 use crate::rider::Rider;
 use crate::rule::{Deal, LoadCell, LoadHead, LoadReadOnly, StoreCell, StoreHead, StoreReadOnly};
@@ -110,7 +111,8 @@ impl<L: Realm> Words<L> {
         }
     }
 
-    /// Loads an offset word, in words of the log. It isn't below what this rider loaded of it before.
+    /// Loads an offset word, in words of the log. It isn't below what this rider loaded of it before. The rider's view
+    /// has the load; that it is one of the master's stores, or 0, is what `close` tells of all loads.
     pub fn load_offset(&self, rider: &mut Rider<L>, which: Which) -> u64
         ensures view { rider.new ≡ record { view = with_loaded which result rider.old.view; share = rider.old.share } }
         ensures rises { offset_of which rider.old.view.offsets ≤ result }
@@ -123,17 +125,18 @@ impl<L: Realm> Words<L> {
         }
     }
 
-    /// Ends the words. Where a rider is missing, all is handed back. Else the master's total is the sum of the riders'
-    /// shares, and the rule holds of the master's last stores and of exactly what these riders stored and loaded, with
-    /// some values of the words: nobody can load those any more.
+    /// Ends the words, and tells what each one holds. Where a rider is missing, all is handed back. Else the master's
+    /// total is the sum of the riders' shares, and the rule holds of what the words hold, of the master's stores, and
+    /// of exactly what these riders stored and loaded.
     pub fn close(
         self,
         master: Master<L>,
         riders: Vec<Rider<L>>,
-    ) -> Result<(), (Words<L>, Master<L>, Vec<Rider<L>>)>
+    ) -> Result<LastWords, (Words<L>, Master<L>, Vec<Rider<L>>)>
         ensures all { OnOk result (length riders.items ≡ self.riders) }
         ensures total { OnOk result (master.total ≡ sum_by (λ r. r.share) riders.items) }
-        ensures rule { OnOk result ((words : List ℕ) × IsRuled self.cells words master.offsets (map (λ r. r.view) riders.items)) }
+        ensures cells { IfOk result (λ last. last.cells ≡ self.cells) }
+        ensures rule { IfOk result (λ last. IsRuled self.cells last.words master.offsets (map (λ r. r.view) riders.items)) }
         ensures missing { IfErr result (λ _. length riders.items ≢ self.riders) }
         ensures back { IfErr result (λ back. (back.0 ≡ self) × (back.1 ≡ master) × (back.2 ≡ riders)) }
     {
@@ -148,8 +151,8 @@ impl<L: Realm> Words<L> {
         } = master;
         gather(&self.table, &mut seat, &mut share, riders);
         book.audit(&mut share);
-        self.table.close_with(seat).free();
-        Ok(())
+        let cells = self.room.cells;
+        Ok(LastWords::of(self.table.close_with(seat), cells))
     }
 }
 

@@ -13,5 +13,5 @@ own_tag places tag (Some kept) all here is = all tag kept (get_or_default places
 
 pub returns-clause-own_tag : goal.returns-clause-own_tag
 returns-clause-own_tag g c =
-    own_tag c.self.inside.places.items c.args.tag c.take.result c.self.invariant (ltb-true _ _ (sym c.in_ok-get_mut.ensures.item.0))
+    own_tag c.self.inside.places.items c.args.tag c.take.result c.self.invariant.0 (ltb-true _ _ (sym c.in_ok-get_mut.ensures.item.0))
     (cc (c.take.ensures.value, c.in_ok-get_mut.ensures.value))

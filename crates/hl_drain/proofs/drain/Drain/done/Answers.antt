@@ -1,4 +1,4 @@
-use Rattle.std.proofs.Common.{sym, arith}
+use Rattle.std.proofs.Common.{sym, ◌∙◌}
 use Rattle.hl_drain.proofs.DrainLaws.{IsDrain-done}
 use Rattle.hl_drain.proofs.Places.{done_missing, done_found}
 use Rattle.hl_drain.proofs.drain.Drain.done.Goals as goal
@@ -14,8 +14,9 @@ invariant_of-self g c =
     let at = done_found _ _ _ _ _ c.self.view_is c.self.invariant.lists c.in-Some.ensures.place c.remove.ensures.value in
     record {
       lists = rw (c.remove.ensures.items, ← at.1) (IsDrain-done c.args.self.now c.args.ticket c.place_of.ensures.known);
-      room_pending = omega arith;
-      room_taken = omega arith;
+      places_pending = c.self.invariant.places_pending;
+      places_taken = c.remove.ensures.capacity ∙ c.self.invariant.places_taken;
+      turns = c.self.invariant.turns;
     }
 
 pub returns-clause-answer : goal.returns-clause-answer

@@ -1,18 +1,21 @@
-use Rattle.std.proofs.Common.{arith}
+use Rattle.std.proofs.Common.{ℕ, ◌∙◌, sym, arith, drop}
+use Rattle.hl_drain.specs.declared.action.Action.{Action}
 use Rattle.hl_drain.specs.Rows.{lists_of}
 use Rattle.hl_drain.proofs.DrainLaws.{IsDrain-take}
 use Rattle.hl_drain.proofs.Places.{split_front}
 use Rattle.hl_drain.proofs.drain.Drain.take.Goals as goal
 
-pub invariant_of-self : goal.invariant_of-self
-invariant_of-self g c =
-    let front = split_front c.self.inside.pending.items c.remove-ticket.new.self.items c.remove-ticket.result (omega arith) c.remove-ticket.ensures.value c.remove-ticket.ensures.items in
+pub invariant_of-self-2 : goal.invariant_of-self-2
+invariant_of-self-2 g c =
+    let oldest : ℕ × Action g.row.J.Denot = (c.in_ok-ticket.ticket, c.in_ok-ticket.action) in
+    let front = split_front c.self.inside.pending.ring.items oldest _ _ (sym c.ok_or-2.ensures.value ∙ c.in_ok-ticket.was) c.pop.ensures.value in
     record {
-      lists = rw (c.push_reserved.ensures.items, c.waiting.ensures)
-          (IsDrain-take g.J.Tagged.tag (lists_of c.self.inside) c.remove-ticket.result c.remove-ticket.new.self.items front c.self.invariant.lists);
-      room_pending = omega arith;
-      room_taken = omega arith;
+      lists = rw (c.pop.ensures.rest, c.push_reserved.ensures.items, c.waiting.ensures)
+          (IsDrain-take g.J.Tagged.tag (lists_of c.self.inside) oldest (drop 1 c.self.inside.pending.ring.items) front c.self.invariant.lists);
+      places_pending = rw c.pop.ensures.rest c.self.invariant.places_pending;
+      places_taken = c.push_reserved.ensures.capacity ∙ c.self.invariant.places_taken;
+      turns = omega arith;
     }
 
 pub returns-clause-known : goal.returns-clause-known
-returns-clause-known g c = (invariant_of-self g c).lists
+returns-clause-known g c = (invariant_of-self-2 g c).lists

@@ -13,4 +13,4 @@ returns-clause-value c =
     let min_is = min_from_yields_List {v = λ x. x} c.filter_map-epochs.result c.min.result c.min.ensures.ran (YieldsList-from_filter_map _ (λ epoch. epoch) (YieldsList-from_slice inside.epochs.items cc) c.filter_map-epochs.ensures.closure (λ x r q k. search (rules, tests))) in
     let least : unwrap_or c.min.result inside.current ≡ least_or inside.current (protected inside.epochs.items) =
     ap (λ o. unwrap_or o inside.current) (sym (option_map_id c.min.result) ∙ min_is) ∙ least_or-reduce inside.current (protected inside.epochs.items) in
-    rw (← c.self.view_is) (c.unwrap_or.ensures ∙ least ∙ sym (safe_of-next _ c.self.invariant))
+    rw (← c.self.view_is) (c.unwrap_or.ensures ∙ least ∙ sym (safe_of-next _ c.self.invariant.0))

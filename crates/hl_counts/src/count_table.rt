@@ -1,0 +1,187 @@
+ghost use Rattle.std.specs.Prelude.{◌≡◌, ℕ, ◌+◌, ◌-◌, ◌^◌, ◌<◌, ◌≤◌, Some, None, length, IfOk, IfErr, OnOk};
+ghost use Rattle.hl_model.specs.Epochs.{Table};
+ghost use Rattle.hl_model.specs.Replies.{unless_fault, unless_refused};
+ghost use Rattle.hl_epoch.specs.Faults.{acquire_fault, protected_fault, bump_fault};
+ghost use Rattle.hl_epoch.specs.Table.{epoch_at, safe_of, opened, entered, left, bumped, IsTable};
+ghost use Rattle.hl_counts.specs.Counted.{climb};
+
+use crate::ring::Ring;
+use hl_epoch::{EPOCH_LAST, Epochs, filled};
+use hl_model::Fault;
+use std::alloc::Global;
+use std::marker::Model;
+
+/// A table of epochs that is a row of slots, a ring of counts of their epochs, and the safe epoch.
+#[derive(Drop)]
+pub struct CountTable {
+    current: u64,
+    safe: u64,
+    // It has no room beside its slots.
+    epochs: Vec<Option<u64>>,
+    window: u64,
+    ring: Ring,
+}
+
+impl Model for CountTable {
+    ghost use Rattle.hl_counts.specs.Counted.{Counted};
+
+    ghost Value = { Counted };
+
+    ghost use Rattle.hl_counts.specs.Kept.{counted_in, IsKept};
+
+    ghost view = { counted_in };
+
+    ghost invariant = { IsKept };
+}
+
+impl CountTable {
+    /// A table that goes on at this current epoch, 1 to 2^62, with this many slots, 1 to 64, none
+    /// protected, and this window, 1 to 4,096. At epoch 1 it is what `make` gives.
+    ///
+    /// Fault: `OutOfMemory` where memory is refused.
+    pub fn resume(alloc: Global, slots: u64, window: u64, current: u64) -> Result<CountTable, Fault>
+        requires slots_least { 1 ≤ slots }
+        requires slots_most { slots ≤ 64 }
+        requires window_least { 1 ≤ window }
+        requires window_most { window ≤ 4096 }
+        requires current_least { 1 ≤ current }
+        requires current_most { current ≤ 2 ^ 62 }
+        ensures ok { IfOk result (λ made. made.table ≡ opened slots window current) }
+        ensures turns { IfOk result (λ made. made.turns ≡ 0) }
+        ensures err { IfErr result (λ fault. fault ≡ Fault.OutOfMemory) }
+        ensures valid { IfOk result (λ made. IsTable made.table) }
+    {
+        Ok(CountTable {
+            current,
+            safe: current - 1,
+            epochs: filled(alloc, slots, None)?,
+            window,
+            ring: Ring::make(alloc, window + 1)?,
+        })
+    }
+
+    /// How many ring places the last accepted call of `acquire`, `refresh`, `release` and `bump` visited.
+    /// 0 before the first.
+    pub fn turns(&self) -> u64
+        ensures { result ≡ self.now.turns }
+    {
+        self.ring.turns()
+    }
+
+    // The epoch of slot t, if the slot is protected.
+    fn protected_at(&self, t: u64) -> Result<u64, Fault>
+        ensures ok { IfOk result (λ epoch. epoch_at t self.now.table ≡ Some epoch) }
+        ensures within { OnOk result (t < length self.now.table.epochs) }
+        ensures accepted { OnOk result (protected_fault t self.now.table ≡ None) }
+        ensures err { IfErr result (λ fault. protected_fault t self.now.table ≡ Some fault) }
+    {
+        match self.epochs.get(t as usize) {
+            None => Err(Fault::NoSlot),
+            Some(None) => Err(Fault::NotProtected),
+            Some(Some(epoch)) => Ok(*epoch),
+        }
+    }
+}
+
+impl Epochs for CountTable {
+    ghost table = { λ t. t.table };
+
+    fn make(alloc: Global, slots: u64, window: u64) -> Result<CountTable, Fault> {
+        CountTable::resume(alloc, slots, window, 1)
+    }
+
+    /// One turn.
+    fn acquire(&mut self, t: u64) -> Result<(), Fault>
+        ensures answer { result ≡ unless_fault (acquire_fault t self.old.table) tt }
+        ensures effect { let old = self.old.table
+            in self.new.table ≡ unless_refused (acquire_fault t old) old (entered t old) }
+        ensures rising { safe_of self.old.table ≤ safe_of self.new.table }
+        ensures valid { IsTable self.new.table }
+        ensures turns { self.new.turns ≡ unless_refused (acquire_fault t self.old.table) self.old.turns 1 }
+    {
+        match self.epochs.get(t as usize) {
+            None => Err(Fault::NoSlot),
+            Some(Some(_)) => Err(Fault::Occupied),
+            Some(None) => {
+                self.ring.restart();
+                self.ring.add(self.current);
+                self.epochs[t as usize] = Some(self.current);
+                Ok(())
+            }
+        }
+    }
+
+    /// A turn at the old epoch, one at the current epoch, and those of the climb: at most W + 2, whatever S is.
+    fn refresh(&mut self, t: u64) -> Result<(), Fault>
+        ensures answer { result ≡ unless_fault (protected_fault t self.old.table) tt }
+        ensures effect { let old = self.old.table
+            in self.new.table ≡ unless_refused (protected_fault t old) old (entered t old) }
+        ensures rising { safe_of self.old.table ≤ safe_of self.new.table }
+        ensures valid { IsTable self.new.table }
+        ensures turns { let old = self.old in let visits = 2 + climb old.table self.new.table
+            in self.new.turns ≡ unless_refused (protected_fault t old.table) old.turns visits }
+        ensures few { OnOk result (self.new.turns ≤ self.old.table.window + 2) }
+    {
+        let old = self.protected_at(t)?;
+        self.ring.restart();
+        self.ring.remove(old);
+        self.ring.add(self.current);
+        self.epochs[t as usize] = Some(self.current);
+        self.safe = self.ring.risen(self.safe, self.current);
+        Ok(())
+    }
+
+    /// A turn at the old epoch, and those of the climb: at most W + 1, whatever S is.
+    fn release(&mut self, t: u64) -> Result<(), Fault>
+        ensures answer { result ≡ unless_fault (protected_fault t self.old.table) tt }
+        ensures effect { let old = self.old.table
+            in self.new.table ≡ unless_refused (protected_fault t old) old (left t old) }
+        ensures rising { safe_of self.old.table ≤ safe_of self.new.table }
+        ensures valid { IsTable self.new.table }
+        ensures turns { let old = self.old in let visits = 1 + climb old.table self.new.table
+            in self.new.turns ≡ unless_refused (protected_fault t old.table) old.turns visits }
+        ensures few { OnOk result (self.new.turns ≤ self.old.table.window + 1) }
+    {
+        let epoch = self.protected_at(t)?;
+        self.ring.restart();
+        self.ring.remove(epoch);
+        self.epochs[t as usize] = None;
+        self.safe = self.ring.risen(self.safe, self.current);
+        Ok(())
+    }
+
+    /// One turn, at the epoch that comes next after the safe one.
+    fn bump(&mut self) -> Result<u64, Fault>
+        requires { let old = self.old.table in old.current - 1 - safe_of old < old.window }
+        ensures answer { let old = self.old.table in result ≡ unless_fault (bump_fault old) old.current }
+        ensures effect { let old = self.old.table
+            in self.new.table ≡ unless_refused (bump_fault old) old (bumped old) }
+        ensures rising { safe_of self.old.table ≤ safe_of self.new.table }
+        ensures valid { IsTable self.new.table }
+        ensures turns { self.new.turns ≡ unless_refused (bump_fault self.old.table) self.old.turns 1 }
+    {
+        let ended = self.current;
+        if ended == EPOCH_LAST {
+            return Err(Fault::EpochsSpent);
+        }
+        self.current = ended + 1;
+        self.ring.restart();
+        self.safe = self.ring.risen(self.safe, ended + 1);
+        Ok(ended)
+    }
+
+    fn current(&self) -> u64 {
+        self.current
+    }
+
+    fn safe(&self) -> u64 {
+        self.safe
+    }
+
+    fn epoch_of(&self, t: u64) -> Option<u64> {
+        *self.epochs.get(t as usize)?
+    }
+}
+
+#[cfg(test)]
+mod tests;

@@ -1,0 +1,126 @@
+ghost use Rattle.std.specs.Prelude.{◌≡◌, ℕ, ◌+◌, ◌-◌, ◌%◌, ◌^◌, ◌<◌, ◌≤◌, ◌==◌, length, replicate, IfOk, IfErr};
+ghost use Rattle.hl_counts.specs.Tallies.{count_at, added, removed, visited};
+
+use hl_epoch::filled;
+use hl_model::Fault;
+use std::alloc::Global;
+use std::marker::Model;
+
+/// A ring of counts, one for each epoch of a run no longer than the ring, and the turns: how many places were
+/// visited since `restart`. A place is looked at or changed only after a `visit` of it, which ticks.
+#[derive(Drop)]
+pub struct Ring {
+    // It has no room beside its places.
+    counts: Vec<u8>,
+    turns: u64,
+}
+
+impl Model for Ring {
+    ghost use Rattle.std.specs.Prelude.{◌≡◌, ◌<◌, vec_len, vec_capacity};
+    ghost use Rattle.hl_counts.specs.Tallies.{RingRecord};
+
+    ghost Value = { RingRecord };
+
+    ghost view = { λ a. record { counts = a.counts.items; turns = a.turns } };
+
+    ghost invariant = { λ a. (0 < vec_len a.counts) × (vec_capacity a.counts ≡ vec_len a.counts) };
+}
+
+impl Ring {
+    /// A ring of this many places, which count nothing.
+    ///
+    /// Fault: `OutOfMemory` where memory is refused.
+    pub fn make(alloc: Global, places: u64) -> Result<Ring, Fault>
+        requires { 0 < places }
+        ensures counts { IfOk result (λ made. made.counts ≡ replicate places 0) }
+        ensures turns { IfOk result (λ made. made.turns ≡ 0) }
+        ensures err { IfErr result (λ fault. fault ≡ Fault.OutOfMemory) }
+    {
+        Ok(Ring {
+            counts: filled(alloc, places, 0)?,
+            turns: 0,
+        })
+    }
+
+    /// How many places were visited since `restart`.
+    pub fn turns(&self) -> u64
+        ensures { result ≡ self.now.turns }
+    {
+        self.turns
+    }
+
+    /// Counts the turns anew.
+    pub fn restart(&mut self)
+        ensures counts { self.new.counts ≡ self.old.counts }
+        ensures turns { self.new.turns ≡ 0 }
+    {
+        self.turns = 0;
+    }
+
+    // The place of an epoch. Here a turn ticks.
+    fn visit(&mut self, epoch: u64) -> usize
+        requires { self.old.turns < 2 ^ 32 }
+        ensures place { result ≡ epoch % length self.old.counts }
+        ensures within { result < length self.old.counts }
+        ensures counts { self.new.counts ≡ self.old.counts }
+        ensures turns { self.new.turns ≡ self.old.turns + 1 }
+    {
+        self.turns += 1;
+        (epoch % self.counts.len() as u64) as usize
+    }
+
+    /// Counts one slot more at an epoch. One turn.
+    pub fn add(&mut self, epoch: u64)
+        requires few { self.old.turns < 2 ^ 32 }
+        requires room { count_at epoch self.old.counts < 255 }
+        ensures counts { self.new.counts ≡ added epoch self.old.counts }
+        ensures turns { self.new.turns ≡ self.old.turns + 1 }
+    {
+        let place = self.visit(epoch);
+        self.counts[place] += 1;
+    }
+
+    /// Counts one slot less at an epoch. One turn.
+    pub fn remove(&mut self, epoch: u64)
+        requires few { self.old.turns < 2 ^ 32 }
+        requires some { 0 < count_at epoch self.old.counts }
+        ensures counts { self.new.counts ≡ removed epoch self.old.counts }
+        ensures turns { self.new.turns ≡ self.old.turns + 1 }
+    {
+        let place = self.visit(epoch);
+        self.counts[place] -= 1;
+    }
+
+    // Whether no slot is counted at an epoch. One turn.
+    fn is_empty_at(&mut self, epoch: u64) -> bool
+        requires { self.old.turns < 2 ^ 32 }
+        ensures value { result ≡ (count_at epoch self.old.counts == 0) }
+        ensures counts { self.new.counts ≡ self.old.counts }
+        ensures turns { self.new.turns ≡ self.old.turns + 1 }
+    {
+        let place = self.visit(epoch);
+        self.counts[place] == 0
+    }
+
+    /// How far a number climbs below the current epoch before an epoch at which a slot is counted. One turn for
+    /// each epoch that it passes, and one for the epoch that stops it.
+    pub fn risen(&mut self, from: u64, current: u64) -> u64
+        requires below { from < current }
+        requires few { self.old.turns + (current - from) < 2 ^ 32 }
+        ensures rises { from ≤ result }
+        ensures stays_below { result < current }
+        ensures passed { (e : ℕ) → from < e → e ≤ result → count_at e self.old.counts ≡ 0 }
+        ensures stopped { result + 1 < current → 0 < count_at (result + 1) self.old.counts }
+        ensures counts { self.new.counts ≡ self.old.counts }
+        ensures turns { self.new.turns ≡ self.old.turns + visited from result current }
+    {
+        let mut risen = from;
+        while risen + 1 < current {
+            if !self.is_empty_at(risen + 1) {
+                return risen;
+            }
+            risen += 1;
+        }
+        risen
+    }
+}

@@ -1,0 +1,13 @@
+use Rattle.std.proofs.Common.{◌+◌, ap, ◌∙◌}
+use Rattle.std.specs.Prelude.{slice_index}
+use Rattle.std.specs.Slots.{slots_items}
+use Rattle.hl_words.proofs.WordAt.{read_at}
+use Rattle.hl_words.proofs.last.LastWords.offset.Goals as goal
+
+pub returns-in-ReadOnly : goal.returns-in-ReadOnly
+returns-in-ReadOnly c =
+    rw c.in-ReadOnly.is (read_at (slots_items c.self.inside.closed.words) c.self.inside.cells c.word.result c.word.ensures ∙ ap (λ l. slice_index l.words l.cells) c.self.view_is)
+
+pub returns-in-Head : goal.returns-in-Head
+returns-in-Head c =
+    rw c.in-Head.is (read_at (slots_items c.self.inside.closed.words) (c.self.inside.cells + 1) c.word-in-Head.result c.word-in-Head.ensures ∙ ap (λ l. slice_index l.words (l.cells + 1)) c.self.view_is)

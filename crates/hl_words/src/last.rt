@@ -1,0 +1,65 @@
+ghost use Rattle.std.specs.Prelude.{◌≡◌, ◌+◌, ◌^◌, ◌<◌, ◌≤◌, slice_index};
+ghost use Rattle.std.specs.Slots.{slots_items, slots_len, IsFull};
+ghost use Rattle.hl_words.specs.States.{LastState};
+ghost use Rattle.hl_words.specs.Views.{place_of};
+
+use crate::which::Which;
+use atomic_table::Closed;
+use std::alloc::Global;
+use std::marker::Model;
+
+/// The words at their end, when nobody can store into them any more. Contracts see what each one holds.
+pub struct LastWords {
+    closed: Closed<(), Global>,
+    cells: usize,
+}
+
+impl Model for LastWords {
+    ghost use Rattle.std.specs.Prelude.{◌≡◌, ◌+◌, ◌^◌, ◌≤◌};
+    ghost use Rattle.std.specs.Slots.{slots_items, slots_len, IsFull};
+    ghost use Rattle.hl_words.specs.States.{LastState};
+
+    ghost Value = { LastState };
+
+    ghost view = { λ l. record { cells = l.cells; words = slots_items l.closed.words } };
+
+    ghost invariant = { λ l. IsFull l.closed.words × (slots_len l.closed.words ≡ l.cells + 2) × (slots_len l.closed.slots ≡ 0) × (l.cells ≤ 2 ^ 20) };
+}
+
+impl Drop for LastWords {
+    fn drop(self) {
+        let LastWords { closed, cells: _ } = self;
+        closed.free();
+    }
+}
+
+impl LastWords {
+    /// The words of a table that was closed.
+    pub(crate) fn of(closed: Closed<(), Global>, cells: usize) -> LastWords
+        requires full { IsFull closed.words }
+        requires words { slots_len closed.words ≡ cells + 2 }
+        requires no_slot { slots_len closed.slots ≡ 0 }
+        requires few { cells ≤ 2 ^ 20 }
+        ensures { result ≡ record { cells = cells; words = slots_items closed.words } }
+    {
+        LastWords { closed, cells }
+    }
+
+    /// What a cell holds.
+    pub fn cell(&self, cell: u64) -> u64
+        requires { cell < self.now.cells }
+        ensures { result ≡ slice_index self.now.words cell }
+    {
+        self.closed.word(cell as usize)
+    }
+
+    /// What an offset word holds, in words of the log.
+    pub fn offset(&self, which: Which) -> u64
+        ensures { result ≡ slice_index self.now.words (place_of which self.now.cells) }
+    {
+        match which {
+            Which::ReadOnly => self.closed.word(self.cells),
+            Which::Head => self.closed.word(self.cells + 1),
+        }
+    }
+}
