@@ -1,7 +1,7 @@
 ghost use Rattle.std.specs.Prelude.{◌≡◌, ℕ, None, [], IfOk, IfErr};
 
+use crate::cells::Cells;
 use crate::held::Held;
-use crate::row::zeros;
 use hl_action::{Kept, Promise, Task};
 use hl_core::Core;
 use hl_drain::Drain;
@@ -14,8 +14,7 @@ use std::marker::Model;
 /// done. The answers of its jobs keep the promise P.
 pub struct Engine<E: Epochs, F: Task, P: Promise> {
     pub(crate) core: Core<E, Kept<F, P>>,
-    // The words of the frames, one frame behind the other.
-    pub(crate) words: Vec<u64>,
+    pub(crate) words: Cells,
     pub(crate) held: Held<F, P>,
 }
 
@@ -24,9 +23,9 @@ impl<E: Epochs, F: Task, P: Promise> Model for Engine<E, F, P> {
 
     ghost Value = { Whole F };
 
-    ghost view = { λ a. record { core = a.core; words = a.words.items; held = a.held } };
+    ghost view = { λ a. record { core = a.core; words = a.words; held = a.held } };
 
-    ghost invariant = { λ a. IsEngine (record { core = a.core; words = a.words.items; held = a.held }) };
+    ghost invariant = { λ a. IsEngine (record { core = a.core; words = a.words; held = a.held }) };
 }
 
 impl<E: Epochs + Drop, F: Task, P: Promise> Drop for Engine<E, F, P> {
@@ -53,8 +52,7 @@ impl<E: Epochs + Drop, F: Task, P: Promise> Engine<E, F, P> {
         ensures err { IfErr result (λ fault. fault ≡ Fault.OutOfMemory) }
     {
         let core = Core::open(alloc, params)?;
-        let cells = params.frames() * params.page();
-        let words = zeros(alloc, cells as usize)?;
+        let words = Cells::zeros(alloc, params.frames() * params.page())?;
         let held = Held::open(alloc, params.drain())?;
         Ok(Engine { core, words, held })
     }

@@ -29,10 +29,10 @@
 #![tactic(auto)]
 
 mod actions;
+mod cells;
 mod engine;
 mod held;
 mod queries;
-mod row;
 mod step;
 mod undone;
 mod words;

@@ -9,7 +9,6 @@ ghost use Rattle.hl_cells.specs.EngineSteps.{Moves};
 ghost use Rattle.hl_cells.specs.Jobs.{JobsStay};
 
 use crate::engine::Engine;
-use crate::row::{part, zero};
 use hl_action::{Promise, Task};
 use hl_epoch::Epochs;
 use hl_model::{Fault, Reply, Step, cell_of};
@@ -25,7 +24,7 @@ impl<E: Epochs + Drop, F: Task, P: Promise> Engine<E, F, P> {
     {
         self.core.check(&Step::Read { t, a })?;
         let cell = self.cell_of(a);
-        Ok(self.words[cell])
+        Ok(self.words.word(cell))
     }
 
     /// Slot t writes v to the word at address a.
@@ -44,7 +43,7 @@ impl<E: Epochs + Drop, F: Task, P: Promise> Engine<E, F, P> {
     {
         let cell = self.cell_of(a);
         self.core.act(&Step::Write { t, a, v })?;
-        self.words[cell] = v;
+        self.words.set(cell, v);
         Ok(())
     }
 
@@ -54,7 +53,7 @@ impl<E: Epochs + Drop, F: Task, P: Promise> Engine<E, F, P> {
         requires { Shows self.now page }
         ensures { (A : List STEP) → EngineStands self.now A → result.now ≡ page_words self.now.core.sizes page A }
     {
-        part(&self.words, self.first_cell(page), self.page_len())
+        self.words.part(self.first_cell(page), self.page_len())
     }
 
     /// Reads the word at address a as a step.
@@ -66,7 +65,7 @@ impl<E: Epochs + Drop, F: Task, P: Promise> Engine<E, F, P> {
     {
         let cell = self.cell_of(a);
         self.core.act(&Step::Read { t, a })?;
-        Ok(Reply::Value(self.words[cell]))
+        Ok(Reply::Value(self.words.word(cell)))
     }
 
     /// A page's cleaning ends: its words become 0, and its frame is free.
@@ -79,7 +78,7 @@ impl<E: Epochs + Drop, F: Task, P: Promise> Engine<E, F, P> {
         let start = self.first_cell(page);
         let len = self.page_len();
         let reply = self.core.act(&Step::CleanDone { page })?;
-        zero(&mut self.words, start, len);
+        self.words.zero(start, len);
         Ok(reply)
     }
 
