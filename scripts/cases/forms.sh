@@ -31,13 +31,12 @@ slot() {
 
 # Sends a line to the program and sets reply to its answer.
 ask() {
-    echo "$1" >&"${talk[1]}"
-    read -r -t 10 reply <&"${talk[0]}"
+    echo "$1" >&"$to" && read -r -t 10 reply <&"$from"
 }
 
 # Asks for the status, and sets where the script stands.
 look() {
-    ask status
+    ask status || return
     read -r _ _ epoch _ safe _ pending _ taken _ closed _ head _ flushed _ safe_read_only _ read_only _ tail <<< "$reply"
     takes="$((epoch - 1 - pending))"
 }
@@ -152,7 +151,7 @@ same_text() {
     local line="config $*" n t reply epoch safe pending taken closed head flushed safe_read_only read_only tail takes
     local page="$1" frames="$2" slots="$3" in_hand=0 random=7 made=0
     coproc talk { exec timeout 100 "$program" run; }
-    local pid="$talk_PID"
+    local pid="$talk_PID" to="${talk[1]}" from="${talk[0]}"
     : > "$room/script" > "$room/expected"
     while ask "$line"; do
         echo "$line" >> "$room/script"
@@ -161,13 +160,13 @@ same_text() {
             taken*) in_hand="${reply#taken }" ;;
             answer* | safe_read_only* | closed*) [ "$line" != "done $in_hand" ] || in_hand=0 ;;
         esac
-        look
+        look || break
         made="$((made + 1))"
         [ "$made" -lt 1000 ] || break
         next_line
     done
-    kill "$pid"
-    wait "$pid"
+    kill "$pid" || true
+    wait "$pid" || true
     cat "$room/expected" >> "$room/texts"
     [ "$made" = 1000 ] || { echo "no answer to '$line'"; return 1; }
     ((tail / page >= 3 * frames)) || { echo "only $((tail / page)) pages"; return 1; }

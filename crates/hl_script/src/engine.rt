@@ -12,7 +12,7 @@ use itoa::Buffer;
 use std::io::{Read, Write};
 
 /// How many bytes a read may give.
-const CHUNK: usize = 4096;
+const CHUNK: usize = 16384;
 
 /// How many reads a run may make.
 const TURNS: u64 = 1 << 32;

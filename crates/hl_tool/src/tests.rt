@@ -69,32 +69,46 @@ const ITS_TEXT_AND_IMAGE: &str =
 #[test]
 fn the_text_is_out_at_the_end_or_the_status_is_1(rt: HostRuntime) {
     let cases = [
-        (["hl_tool", "run"].as_slice(), SEALED_PAGE, ITS_TEXT, 0),
-        (["hl_tool", "slow"].as_slice(), SEALED_PAGE, ITS_TEXT, 0),
         (
+            "run",
+            ["hl_tool", "run"].as_slice(),
+            SEALED_PAGE,
+            ITS_TEXT,
+            0,
+        ),
+        (
+            "slow",
+            ["hl_tool", "slow"].as_slice(),
+            SEALED_PAGE,
+            ITS_TEXT,
+            0,
+        ),
+        (
+            "flush",
             ["hl_tool", "run", "--flush"].as_slice(),
             SEALED_PAGE,
             ITS_TEXT_AND_IMAGE,
             0,
         ),
         (
+            "a bad line",
             ["hl_tool", "run", "--flush"].as_slice(),
             "config 6 2 2 2\n",
             "line 1: not a step\n",
             2,
         ),
     ];
-    for (words, script, text, wanted) in cases {
+    for (name, words, script, text, wanted) in cases {
         let mut reader = script.as_bytes();
         let mut writer = LateWriter::new(rt.alloc(), 1000, false);
         let (status, errors) = status_of(&rt, words, &mut reader, &mut writer);
-        assert_eq!(rt; status, wanted, "{text}");
-        assert!(rt; writer.out.as_slice() == text.as_bytes(), "{text}");
-        assert!(rt; writer.held.is_empty() && errors.is_empty(), "{text}");
+        assert_eq!(rt; status, wanted, "{name}");
+        assert!(rt; writer.out.as_slice() == text.as_bytes(), "{name}");
+        assert!(rt; writer.held.is_empty() && errors.is_empty(), "{name}");
         let mut reader = script.as_bytes();
         let mut writer = LateWriter::new(rt.alloc(), 1000, true);
         let (status, errors) = status_of(&rt, words, &mut reader, &mut writer);
-        assert_eq!(rt; status, 1, "{text}");
+        assert_eq!(rt; status, 1, "{name}");
         assert_eq!(rt; errors.as_slice(), b"fault 31 Stream\n".as_slice());
     }
 }
@@ -102,21 +116,25 @@ fn the_text_is_out_at_the_end_or_the_status_is_1(rt: HostRuntime) {
 #[test]
 fn helps_and_refuses_other_words(rt: HostRuntime) {
     let cases = [
-        (["hl_tool", "--help"].as_slice(), 0),
-        (["hl_tool", "walk"].as_slice(), 2),
-        (["hl_tool"].as_slice(), 2),
-        (["hl_tool", "run", "fast"].as_slice(), 2),
-        (["hl_tool", "run", "--flash"].as_slice(), 2),
-        (["hl_tool", "slow", "--flush"].as_slice(), 2),
+        ("help", ["hl_tool", "--help"].as_slice(), 0),
+        ("another command", ["hl_tool", "walk"].as_slice(), 2),
+        ("no command", ["hl_tool"].as_slice(), 2),
+        ("a word too many", ["hl_tool", "run", "fast"].as_slice(), 2),
+        ("another flag", ["hl_tool", "run", "--flash"].as_slice(), 2),
+        (
+            "a flag of run",
+            ["hl_tool", "slow", "--flush"].as_slice(),
+            2,
+        ),
     ];
-    for (words, wanted) in cases {
+    for (name, words, wanted) in cases {
         let mut reader = b"config 4 2 2 2\n".as_slice();
         let mut writer = LateWriter::new(rt.alloc(), 10000, false);
         let (status, errors) = status_of(&rt, words, &mut reader, &mut writer);
-        assert_eq!(rt; status, wanted);
+        assert_eq!(rt; status, wanted, "{name}");
         // Help is the text that was asked for; a reason goes to the user.
-        assert_eq!(rt; writer.out.is_empty(), wanted == 2);
-        assert_eq!(rt; errors.is_empty(), wanted == 0);
+        assert_eq!(rt; writer.out.is_empty(), wanted == 2, "{name}");
+        assert_eq!(rt; errors.is_empty(), wanted == 0, "{name}");
     }
     let mut writer = LateWriter::new(rt.alloc(), 10000, true);
     let (status, _) = status_of(&rt, &["hl_tool", "--help"], &mut NoReader, &mut writer);

@@ -10,6 +10,6 @@ invariant-loop-turn g l = record {
   fed : (has : ℕ → Bool) → g.M.Machine.stands l.fn.machine has []
       → (done : List ℕ) × (before : List Line) × Consumes (g.R.Read.remaining l.fn.reader) (g.R.Read.remaining l.reader) done
       × At (g.M.Machine.stands l.machine) has done before (g.W.Write.contents l.fn.out) (g.W.Write.contents l.out) l.progress;
-  lines : l.progress.lines ≤ 4096 * l._turn;
-  steps : l.progress.steps ≤ 4096 * l._turn;
+  lines : l.progress.lines ≤ 16384 * l._turn;
+  steps : l.progress.steps ≤ 16384 * l._turn;
 }
