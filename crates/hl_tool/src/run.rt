@@ -5,7 +5,8 @@ ghost use Rattle.hl_action.specs.Jobs.{CanBeCalled, AnswersKeep};
 use crate::status::{DONE, REFUSED, failed};
 use hl_action::{Call, Firing, Kept, Shelf, Task};
 use hl_cells::Engine;
-use hl_epoch::{Epochs, ScanTable};
+use hl_counts::CountTable;
+use hl_epoch::Epochs;
 use hl_flush::flush_one;
 use hl_image::HexWriter;
 use hl_model::Fault;
@@ -76,7 +77,7 @@ fn serve<F: Task, M: Fn(u64) -> F, R: Read, W: Write>(
     for tag in 0..TAGS {
         shelf.put(Kept::new(tag, make(tag)));
     }
-    let ended: Option<Finished<ScanTable, F>> = run_text(alloc, reader, writer, shelf)?;
+    let ended: Option<Finished<CountTable, F>> = run_text(alloc, reader, writer, shelf)?;
     let Some(finished) = ended else {
         return Ok(());
     };
