@@ -11,10 +11,10 @@ use Rattle.hl_epoch.specs.Faults.{bump_fault}
 use Rattle.hl_counts.specs.Tallies.{count_at, visited, IsTally}
 use Rattle.hl_counts.proofs.Rings.{count_at-some, slot_of_count}
 
--- a number is the safe epoch, if it rose to there from no more than the safe epoch over empty places, and was stopped by
+-- a number is the safe epoch, if it climbed to there from no more than the safe epoch over empty places, and was stopped by
 -- a place that counts somebody or by the current epoch
-pub safe_of-risen : (T : Table) (counts : List ℕ) (low r : ℕ) → IsTable T → IsTally T.epochs counts → low ≤ safe_of T → T.current ≤ low + length counts → low ≤ r → r < T.current → ((e : ℕ) → low < e → e ≤ r → count_at e counts ≡ 0) → (r + 1 < T.current → 0 < count_at (r + 1) counts) → r ≡ safe_of T
-safe_of-risen T counts low r is tally least_most near rises below passed stopped =
+pub safe_of-climb : (T : Table) (counts : List ℕ) (low r : ℕ) → IsTable T → IsTally T.epochs counts → low ≤ safe_of T → T.current ≤ low + length counts → low ≤ r → r < T.current → ((e : ℕ) → low < e → e ≤ r → count_at e counts ≡ 0) → (r + 1 < T.current → 0 < count_at (r + 1) counts) → r ≡ safe_of T
+safe_of-climb T counts low r is tally least_most near rises below passed stopped =
     let least : ℕ = least_or T.current (protected T.epochs) in
     let next : safe_of T + 1 ≡ least = safe_of-next T is in
     let above = λ (t e : ℕ) (at : get_or T.epochs t None ≡ Some e). is.above_safe t e at in
@@ -46,8 +46,8 @@ safe_of-acquired t T is free =
     omega (arith, safe_of-entered t T is)
 
 -- somebody stands at the epoch that comes next after the safe one, unless that is the current one
-stands : (T : Table) (counts : List ℕ) → IsTable T → IsTally T.epochs counts → safe_of T + 1 < T.current → 0 < count_at (safe_of T + 1) counts
-stands T counts is tally below =
+next_counted : (T : Table) (counts : List ℕ) → IsTable T → IsTally T.epochs counts → safe_of T + 1 < T.current → 0 < count_at (safe_of T + 1) counts
+next_counted T counts is tally below =
     let next : ℕ = safe_of T + 1 in
     let nobody = λ (none : count_at next counts ≤ 0).
     least_or-greatest (next + 1) T.current T.epochs (omega arith)
@@ -65,7 +65,7 @@ visited-bumped T counts low r is tally low_is rises below passed =
       | inl up ↦
           let none : count_at (low + 1) counts ≡ 0 = passed (low + 1) (omega arith) (omega arith) in
           let last : T.current ≤ low + 1 =
-          elim (cases_lt (safe_of T + 1) T.current) [ inl short ↦ absurd (omega (arith, none, ap (λ n. count_at (n + 1) counts) low_is, stands T counts is tally short)) | inr end ↦ omega arith ] in
+          elim (cases_lt (safe_of T + 1) T.current) [ inl short ↦ absurd (omega (arith, none, ap (λ n. count_at (n + 1) counts) low_is, next_counted T counts is tally short)) | inr end ↦ omega arith ] in
           grind (arith, nat_tests)
       | inr same ↦ grind (arith, nat_tests)
     ]

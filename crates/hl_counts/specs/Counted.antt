@@ -9,6 +9,6 @@ pub record Counted : Type 0 where
   pub table : Table
   pub turns : ℕ
 
--- the turns by which the safe epoch moves from one table's to another's
-abbrev pub climb : Table → Table → ℕ
-climb old new = visited (safe_of old) (safe_of new) new.current
+-- the turns of a climb from one table's safe epoch to another's
+abbrev pub climb_turns : Table → Table → ℕ
+climb_turns old new = visited (safe_of old) (safe_of new) new.current

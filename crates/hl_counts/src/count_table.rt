@@ -3,7 +3,7 @@ ghost use Rattle.hl_model.specs.Epochs.{Table};
 ghost use Rattle.hl_model.specs.Replies.{unless_fault, unless_refused};
 ghost use Rattle.hl_epoch.specs.Faults.{acquire_fault, protected_fault, bump_fault};
 ghost use Rattle.hl_epoch.specs.Table.{epoch_at, safe_of, opened, entered, left, bumped, IsTable};
-ghost use Rattle.hl_counts.specs.Counted.{climb};
+ghost use Rattle.hl_counts.specs.Counted.{climb_turns};
 
 use crate::ring::Ring;
 use hl_epoch::{EPOCH_LAST, Epochs, filled};
@@ -36,7 +36,7 @@ impl Model for CountTable {
 
 impl CountTable {
     /// A table that goes on at this current epoch, 1 to 2^62, with this many slots, 1 to 64, none
-    /// protected, and this window, 1 to 4,096. At epoch 1 it is what `make` gives.
+    /// protected, and this window, 1 to 4,096, with no turns yet. At epoch 1 it is what `make` gives.
     ///
     /// Fault: `OutOfMemory` where memory is refused.
     pub fn resume(alloc: Global, slots: u64, window: u64, current: u64) -> Result<CountTable, Fault>
@@ -60,8 +60,7 @@ impl CountTable {
         })
     }
 
-    /// How many ring places the last accepted call of `acquire`, `refresh`, `release` and `bump` visited.
-    /// 0 before the first.
+    /// How many ring places were visited by the last accepted call of `acquire`, `refresh`, `release` or `bump`.
     pub fn turns(&self) -> u64
         ensures { result ≡ self.now.turns }
     {
@@ -118,7 +117,7 @@ impl Epochs for CountTable {
             in self.new.table ≡ unless_refused (protected_fault t old) old (entered t old) }
         ensures rising { safe_of self.old.table ≤ safe_of self.new.table }
         ensures valid { IsTable self.new.table }
-        ensures turns { let old = self.old in let visits = 2 + climb old.table self.new.table
+        ensures turns { let old = self.old in let visits = 2 + climb_turns old.table self.new.table
             in self.new.turns ≡ unless_refused (protected_fault t old.table) old.turns visits }
         ensures few { OnOk result (self.new.turns ≤ self.old.table.window + 2) }
     {
@@ -127,7 +126,7 @@ impl Epochs for CountTable {
         self.ring.remove(old);
         self.ring.add(self.current);
         self.epochs[t as usize] = Some(self.current);
-        self.safe = self.ring.risen(self.safe, self.current);
+        self.safe = self.ring.climb(self.safe, self.current);
         Ok(())
     }
 
@@ -138,7 +137,7 @@ impl Epochs for CountTable {
             in self.new.table ≡ unless_refused (protected_fault t old) old (left t old) }
         ensures rising { safe_of self.old.table ≤ safe_of self.new.table }
         ensures valid { IsTable self.new.table }
-        ensures turns { let old = self.old in let visits = 1 + climb old.table self.new.table
+        ensures turns { let old = self.old in let visits = 1 + climb_turns old.table self.new.table
             in self.new.turns ≡ unless_refused (protected_fault t old.table) old.turns visits }
         ensures few { OnOk result (self.new.turns ≤ self.old.table.window + 1) }
     {
@@ -146,7 +145,7 @@ impl Epochs for CountTable {
         self.ring.restart();
         self.ring.remove(epoch);
         self.epochs[t as usize] = None;
-        self.safe = self.ring.risen(self.safe, self.current);
+        self.safe = self.ring.climb(self.safe, self.current);
         Ok(())
     }
 
@@ -166,7 +165,7 @@ impl Epochs for CountTable {
         }
         self.current = ended + 1;
         self.ring.restart();
-        self.safe = self.ring.risen(self.safe, ended + 1);
+        self.safe = self.ring.climb(self.safe, ended + 1);
         Ok(ended)
     }
 

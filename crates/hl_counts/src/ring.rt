@@ -104,7 +104,7 @@ impl Ring {
 
     /// How far a number climbs below the current epoch before an epoch at which a slot is counted. One turn for
     /// each epoch that it passes, and one for the epoch that stops it.
-    pub fn risen(&mut self, from: u64, current: u64) -> u64
+    pub fn climb(&mut self, from: u64, current: u64) -> u64
         requires below { from < current }
         requires few { self.old.turns + (current - from) < 2 ^ 32 }
         ensures rises { from ≤ result }

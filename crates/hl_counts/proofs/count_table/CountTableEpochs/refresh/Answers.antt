@@ -4,7 +4,7 @@ use Rattle.hl_epoch.proofs.Tables.{IsTable-entered, safe_of-entered}
 use Rattle.hl_counts.specs.Tallies.{added, removed, IsTally}
 use Rattle.hl_counts.specs.Kept.{table_in}
 use Rattle.hl_counts.proofs.Rings.{IsTally-moved, count_at-some, length-added, length-removed}
-use Rattle.hl_counts.proofs.Climbs.{safe_of-risen}
+use Rattle.hl_counts.proofs.Climbs.{safe_of-climb}
 use Rattle.hl_counts.proofs.count_table.CountTableEpochs.refresh.Goals as goal
 
 pub invariant_of-self : goal.invariant_of-self
@@ -15,7 +15,7 @@ invariant_of-self c =
     let epoch = c.in_ok-old.old in
     let at : epoch_at c.args.t T ≡ Some epoch = ap (λ v. epoch_at c.args.t v.table) c.self.view_is ∙ c.in_ok-old.ensures.ok in
     let within : c.args.t < length T.epochs = rw (← c.self.view_is) at c.in_ok-old.ensures.within in
-    let climb = c.risen-self-inside.ensures in
+    let climb = c.climb-self-inside.ensures in
     let less : c.remove.new.self.counts ≡ removed epoch counts = c.remove.ensures.counts ∙ ap (removed epoch) c.restart.ensures.counts in
     let moved : c.add.new.self.counts ≡ added T.current (removed epoch counts) = c.add.ensures.counts ∙ ap (added T.current) less in
     let tally : IsTally (entered c.args.t T).epochs c.add.new.self.counts = rw moved (IsTally-moved T.epochs counts c.args.t epoch T.current is.tally within at (count_at-some T.epochs counts c.args.t epoch is.tally at)) in
@@ -23,7 +23,7 @@ invariant_of-self c =
     let table = IsTable-entered c.args.t T is.table in
     record {
       table = table;
-      safe = safe_of-risen (entered c.args.t T) c.add.new.self.counts c.self.inside.safe c.risen-self-inside.result table tally (omega (arith, safe_of-entered c.args.t T is.table, is.safe)) (omega (arith, is.places, is.safe, is.table.lag_most)) climb.rises climb.stays_below climb.passed climb.stopped;
+      safe = safe_of-climb (entered c.args.t T) c.add.new.self.counts c.self.inside.safe c.climb-self-inside.result table tally (omega (arith, safe_of-entered c.args.t T is.table, is.safe)) (omega (arith, is.places, is.safe, is.table.lag_most)) climb.rises climb.stays_below climb.passed climb.stopped;
       tally = rw climb.counts tally;
       places = ap length climb.counts ∙ places ∙ is.places;
       exact = is.exact;
@@ -38,4 +38,4 @@ returns-clause-rising c = rw (← c.self.view_is) (safe_of-entered _ _ c.self.in
 pub returns-clause-turns : goal.returns-clause-turns
 returns-clause-turns c =
     let accepted = rw (← c.self.view_is) at c.in_ok-old.ensures.accepted in
-    rw (← c.self.view_is, accepted, ← c.self.invariant.safe, ← (invariant_of-self c).safe) (omega (arith, c.risen-self-inside.ensures.turns, c.add.ensures.turns, c.remove.ensures.turns, c.restart.ensures.turns))
+    rw (← c.self.view_is, accepted, ← c.self.invariant.safe, ← (invariant_of-self c).safe) (omega (arith, c.climb-self-inside.ensures.turns, c.add.ensures.turns, c.remove.ensures.turns, c.restart.ensures.turns))
