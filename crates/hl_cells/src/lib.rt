@@ -40,4 +40,6 @@ mod words;
 pub use engine::Engine;
 
 #[cfg(test)]
+mod job_tests;
+#[cfg(test)]
 mod tests;
