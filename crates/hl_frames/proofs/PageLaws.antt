@@ -137,7 +137,7 @@ next_to_clean-found T closed q found =
     ((neither (is_freed q T) (is_cleaning q T) at.0).0, omega (arith, at.2))
 
 -- the page that a frame holds lacks a mark that doesn't count
-unmarked-at : (mark : Held → Bool) (q : ℕ) (held : Held) → held.page ≡ q → left_or_marked mark q (Some held) ≡ false → mark held ≡ false
+pub unmarked-at : (mark : Held → Bool) (q : ℕ) (held : Held) → held.page ≡ q → left_or_marked mark q (Some held) ≡ false → mark held ≡ false
 unmarked-at mark q held lies e = rw (le-ltb q held.page (omega arith), eq-eqb q held.page (sym lies)) at e
 
 -- the page that a frame holds has a mark that counts
@@ -145,7 +145,7 @@ left_or_marked-at : (mark : Held → Bool) (q : ℕ) (held : Held) → held.page
 left_or_marked-at mark q held lies e = rw (le-ltb q held.page (omega arith), eq-eqb q held.page (sym lies)) at e
 
 -- what a frame holds has a mark of its page
-marked-at : (mark : Held → Bool) (q : ℕ) (held : Held) → is_marked mark q (Some held) ≡ true → mark held ≡ true
+pub marked-at : (mark : Held → Bool) (q : ℕ) (held : Held) → is_marked mark q (Some held) ≡ true → mark held ≡ true
 marked-at mark q held e =
     elim (eqb_tells q held.page) [
       | inl is ↦ rw is.0 at e
@@ -153,7 +153,7 @@ marked-at mark q held e =
     ]
 
 -- the page of what a frame holds
-page-at : (T : Pages) (q : ℕ) (held : Held) → page_in (held_for q T) ≡ Some q → held_for q T ≡ Some held → held.page ≡ q
+pub page-at : (T : Pages) (q : ℕ) (held : Held) → page_in (held_for q T) ≡ Some q → held_for q T ≡ Some held → held.page ≡ q
 page-at T q held lies e = let lies' = rw e at lies in cc
 
 -- the marks stay right where the flush of a page begins
