@@ -1,18 +1,22 @@
 -- What the stored pages tell, and how calls move them.
-use Rattle.std.proofs.Common.{◌≡◌, ℕ, ◌+◌, ◌*◌, ◌%◌, ◌^◌, ◌<◌, ◌≤◌, Bool, true, false, not, min, Option, Some, None, find, length, zero-add, refl, sym, ap, ◌∙◌, arith, inl, inr}
+use Rattle.std.proofs.Common.{◌≡◌, ℕ, ◌+◌, ◌*◌, ◌%◌, ◌^◌, ◌<◌, ◌≤◌, Bool, true, false, not, ◌||◌, min, Option, Some, None, find, length, get_or, set, zero-add, refl, sym, ap, ◌∙◌, arith, inl, inr}
 use Rattle.std.specs.List.{range_with_len, prefix_len}
 use Rattle.std.specs.Bool.{then_some}
+use Rattle.std.specs.Option.{option_map, MatchOption, IsSomeAnd}
+use Rattle.std.proofs.lemmas.List.{get_or_read}
 use Rattle.std.proofs.Math.Dec.{leb}
 use Rattle.std.proofs.lemmas.Bool.{cases_eq, cases_lt, le-leb, lt-leb}
 use Rattle.std.proofs.lemmas.List.FromFn.{length-range_with_len, get_or-range_with_len}
 use Rattle.std.proofs.lemmas.List.Sums.{prefix_len_passes, prefix_len_stops}
 use Rattle.std.proofs.Math.Nat.{min-eq_left, min-eq_right, mul-le-mul_left, mul-le-mul_right}
 use Rattle.hl_model.proofs.SearchLaws.{find-first, find-missing, prefix_len-first}
-use Rattle.hl_frames.specs.Pages.{Pages, is_flushed, pages_below, flushed_run}
-use Rattle.hl_frames.specs.IsFrames.{IsFrames}
-use Rattle.hl_frames.specs.Kept.{IsLeast, IsFirst}
-use Rattle.hl_frames.proofs.PageLaws.{run_within, left-flushed}
-use Rattle.hl_frames.proofs.MarkLaws.{next-left_or_marked}
+use Rattle.hl_frames.specs.Pages.{Pages, held_for, is_flushed, is_in_flight, is_cleaning, is_unflushed, is_uncleaned, pages_below, flushed_run}
+use Rattle.hl_frames.specs.IsFrames.{page_in, IsFrames}
+use Rattle.hl_frames.specs.declared.held.Held.{Held}
+use Rattle.hl_frames.specs.Answers.{changed, entered, flush_begun, flush_ended, clean_begun, clean_ended}
+use Rattle.hl_frames.specs.Kept.{IsLeast, IsFirst, AreStored}
+use Rattle.hl_frames.proofs.PageLaws.{run_within, left-flushed, IsFrames-flush_begun, IsFrames-clean_ended}
+use Rattle.hl_frames.proofs.MarkLaws.{next-left_or_marked, flushed-begun, unflushed-begun, unflushed-begun_own, uncleaned-begun, unflushed-ended, unflushed-ended_ok, unflushed-ended_failed, uncleaned-ended, uncleaned-clean_begun, uncleaned-clean_begun_own, flushed-clean_begun, unflushed-clean_begun, uncleaned-clean_ended, flushed-clean_ended, unflushed-clean_ended}
 
 -- where the same pages wait, the least of them stays
 pub least-same : (waits waits' : ℕ → Bool) (q : ℕ) → ((k : ℕ) → waits' k ≡ waits k) → IsLeast waits q → IsLeast waits' q
@@ -148,3 +152,55 @@ run-recent T is =
       | inl before ↦ let e = left-flushed T (flushed_run T) is (omega arith) in let f = run-stops T is in absurd cc
       | inr recent ↦ recent
     ]
+
+-- a row in which a frame is changed
+pub row-changed : (T : Pages) (q place : ℕ) (o v : Option Held) (change : Held → Held) → place ≡ q % length T.frames → place < length T.frames → o ≡ get_or T.frames place o → v ≡ option_map change o → set T.frames place v ≡ (changed q change T).frames
+row-changed T q place o v change placed there was is =
+    let held : o ≡ get_or T.frames place None = get_or_read T.frames place o there was None in
+    rw (is, held, placed) refl
+
+-- what is mapped
+pub mapped : {Q : Held → Held → Type 0} (change : Held → Held) (o r : Option Held) → ((x y : Held) → Q x y → y ≡ change x) → MatchOption o (r ≡ None) (λ x. IsSomeAnd r (Q x)) → r ≡ option_map change o
+mapped change None r is e = e
+mapped change (Some x) None is e = absurd e
+mapped change (Some x) (Some y) is e = rw (is x y e) refl
+
+not-or-first : (a b : Bool) → not (a || b) ≡ true → a ≡ false
+not-or-first true b e = absurd cc
+not-or-first false b e = refl
+
+-- the stored pages after each call
+pub stored-begun : (T : Pages) (run q next to_clean : ℕ) → IsFrames T → AreStored T run q to_clean → page_in (held_for q T) ≡ Some q → ((k : ℕ) → q + 1 ≤ k → k < next → is_unflushed (flush_begun q T) k ≡ false) → is_unflushed (flush_begun q T) next ≡ true → AreStored (flush_begun q T) run next to_clean
+stored-begun T run q next to_clean is stored lies taken waits = record {
+  flushed = stored.flushed ∙ run-same T (flush_begun q T) is (IsFrames-flush_begun T q is lies (not-or-first (is_flushed q T) (is_in_flight q T) stored.unflushed.here)) (λ k. flushed-begun T q k is);
+  unflushed = least-next (is_unflushed T) (is_unflushed (flush_begun q T)) q next stored.unflushed (λ k other. unflushed-begun T q k is lies other) (unflushed-begun_own T q is lies) taken waits;
+  uncleaned = first-same (is_uncleaned T) (is_uncleaned (flush_begun q T)) to_clean (λ k. uncleaned-begun T q k is) stored.uncleaned;
+}
+
+pub stored-ended_ok : (T : Pages) (q run run' to_flush to_clean : ℕ) → IsFrames T → is_in_flight q T ≡ true → AreStored T run to_flush to_clean → run' ≡ flushed_run (flush_ended q true T) → AreStored (flush_ended q true T) run' to_flush to_clean
+stored-ended_ok T q run run' to_flush to_clean is flies stored moved = record {
+  flushed = moved;
+  unflushed = least-same (is_unflushed T) (is_unflushed (flush_ended q true T)) to_flush (λ k. unflushed-ended_ok T q k is flies) stored.unflushed;
+  uncleaned = first-same (is_uncleaned T) (is_uncleaned (flush_ended q true T)) to_clean (λ k. uncleaned-ended T q k true is) stored.uncleaned;
+}
+
+pub stored-ended_failed : (T : Pages) (q run run' to_flush to_clean : ℕ) → IsFrames T → is_in_flight q T ≡ true → AreStored T run to_flush to_clean → run' ≡ flushed_run (flush_ended q false T) → AreStored (flush_ended q false T) run' (min to_flush q) to_clean
+stored-ended_failed T q run run' to_flush to_clean is flies stored moved = record {
+  flushed = moved;
+  unflushed = least-lower (is_unflushed T) (is_unflushed (flush_ended q false T)) to_flush q stored.unflushed (λ k other. unflushed-ended T q k false is flies other) (unflushed-ended_failed T q is flies);
+  uncleaned = first-same (is_uncleaned T) (is_uncleaned (flush_ended q false T)) to_clean (λ k. uncleaned-ended T q k false is) stored.uncleaned;
+}
+
+pub stored-clean_begun : (T : Pages) (run to_flush q : ℕ) → IsFrames T → IsFrames (clean_begun q T) → AreStored T run to_flush q → page_in (held_for q T) ≡ Some q → AreStored (clean_begun q T) run to_flush (q + 1)
+stored-clean_begun T run to_flush q is is' stored lies = record {
+  flushed = stored.flushed ∙ run-same T (clean_begun q T) is is' (λ k. flushed-clean_begun T q k is);
+  unflushed = least-same (is_unflushed T) (is_unflushed (clean_begun q T)) to_flush (λ k. unflushed-clean_begun T q k is) stored.unflushed;
+  uncleaned = first-next (is_uncleaned T) (is_uncleaned (clean_begun q T)) q stored.uncleaned (λ k other. uncleaned-clean_begun T q k is lies other) (uncleaned-clean_begun_own T q is lies);
+}
+
+pub stored-clean_ended : (T : Pages) (q run to_flush to_clean : ℕ) → IsFrames T → is_cleaning q T ≡ true → AreStored T run to_flush to_clean → AreStored (clean_ended q T) run to_flush to_clean
+stored-clean_ended T q run to_flush to_clean is cleans stored = record {
+  flushed = stored.flushed ∙ run-same T (clean_ended q T) is (IsFrames-clean_ended T q is cleans) (λ k. flushed-clean_ended T q k is);
+  unflushed = least-same (is_unflushed T) (is_unflushed (clean_ended q T)) to_flush (λ k. unflushed-clean_ended T q k is) stored.unflushed;
+  uncleaned = first-same (is_uncleaned T) (is_uncleaned (clean_ended q T)) to_clean (λ k. uncleaned-clean_ended T q k is cleans) stored.uncleaned;
+}

@@ -20,6 +20,12 @@ pub record IsFirst (waits : ℕ → Bool) (q : ℕ) : Type 0 where
   pub before : (k : ℕ) → k < q → waits k ≡ false
   pub behind : (k : ℕ) → q ≤ k → waits k ≡ true
 
+-- the stored pages: where the flushed run ends, and which page waits next
+pub record AreStored (T : Pages) (run to_flush to_clean : ℕ) : Type 0 where
+  pub flushed : run ≡ flushed_run T
+  pub unflushed : IsLeast (is_unflushed T) to_flush
+  pub uncleaned : IsFirst (is_uncleaned T) to_clean
+
 -- the bounds of each call, where there are so many frames
 pub record AreTurns (turns : Turns) (frames : ℕ) : Type 0 where
   pub enter : turns.enter ≤ 1
@@ -29,9 +35,7 @@ pub record AreTurns (turns : Turns) (frames : ℕ) : Type 0 where
 -- what is true of the fields
 pub record IsKept (a : Inside) : Type 0 where
   pub pages : IsFrames (pages_of a)
-  -- the row has room for its frames, and no more
+  pub stored : AreStored (pages_of a) a.run a.to_flush a.to_clean
+  -- the row has room for its frames, and for no more
   pub room : vec_capacity a.held ≡ length a.held.items
-  pub run : a.run ≡ flushed_run (pages_of a)
-  pub to_flush : IsLeast (is_unflushed (pages_of a)) a.to_flush
-  pub to_clean : IsFirst (is_uncleaned (pages_of a)) a.to_clean
   pub turns : AreTurns a.turns (length a.held.items)
