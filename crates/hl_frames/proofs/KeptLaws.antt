@@ -10,13 +10,13 @@ use Rattle.std.proofs.lemmas.List.FromFn.{length-range_with_len, get_or-range_wi
 use Rattle.std.proofs.lemmas.List.Sums.{prefix_len_passes, prefix_len_stops}
 use Rattle.std.proofs.Math.Nat.{min-eq_left, min-eq_right, mul-le-mul_left, mul-le-mul_right}
 use Rattle.hl_model.proofs.SearchLaws.{find-first, find-missing, prefix_len-first}
-use Rattle.hl_frames.specs.Pages.{Pages, held_for, is_flushed, is_in_flight, is_cleaning, is_unflushed, is_uncleaned, pages_below, flushed_run}
+use Rattle.hl_frames.specs.Pages.{Pages, held_for, is_flushed, is_in_flight, is_cleaning, is_unflushed, is_uncleaned, may_enter, pages_below, flushed_run}
 use Rattle.hl_frames.specs.IsFrames.{page_in, IsFrames}
 use Rattle.hl_frames.specs.declared.held.Held.{Held}
 use Rattle.hl_frames.specs.Answers.{changed, entered, flush_begun, flush_ended, clean_begun, clean_ended}
 use Rattle.hl_frames.specs.Kept.{IsLeast, IsFirst, AreStored}
 use Rattle.hl_frames.proofs.PageLaws.{run_within, left-flushed, IsFrames-flush_begun, IsFrames-clean_ended}
-use Rattle.hl_frames.proofs.MarkLaws.{next-left_or_marked, flushed-begun, unflushed-begun, unflushed-begun_own, uncleaned-begun, unflushed-ended, unflushed-ended_ok, unflushed-ended_failed, uncleaned-ended, uncleaned-clean_begun, uncleaned-clean_begun_own, flushed-clean_begun, unflushed-clean_begun, uncleaned-clean_ended, flushed-clean_ended, unflushed-clean_ended}
+use Rattle.hl_frames.proofs.MarkLaws.{next-left_or_marked, flushed-begun, unflushed-begun, unflushed-begun_own, uncleaned-begun, unflushed-ended, unflushed-ended_ok, unflushed-ended_failed, uncleaned-ended, uncleaned-clean_begun, uncleaned-clean_begun_own, flushed-clean_begun, unflushed-clean_begun, uncleaned-clean_ended, flushed-entered, unflushed-entered, uncleaned-entered, flushed-clean_ended, unflushed-clean_ended}
 
 -- where the same pages wait, the least of them stays
 pub least-same : (waits waits' : ℕ → Bool) (q : ℕ) → ((k : ℕ) → waits' k ≡ waits k) → IsLeast waits q → IsLeast waits' q
@@ -165,11 +165,41 @@ mapped change None r is e = e
 mapped change (Some x) None is e = absurd e
 mapped change (Some x) (Some y) is e = rw (is x y e) refl
 
+then_some-is : (b : Bool) (least q : ℕ) → then_some b least ≡ Some q → least ≡ q
+then_some-is true least q e = cc
+then_some-is false least q e = absurd cc
+
 not-or-first : (a b : Bool) → not (a || b) ≡ true → a ≡ false
 not-or-first true b e = absurd cc
 not-or-first false b e = refl
 
+-- the run that a walk found, from where it was
+pub run-walked : (T T' : Pages) (run r : ℕ) → IsFrames T' → run ≡ flushed_run T → ((q : ℕ) → is_flushed q T ≡ true → is_flushed q T' ≡ true) → ((q : ℕ) → run ≤ q → q < r → is_flushed q T' ≡ true) → (r < T'.entered → is_flushed r T' ≡ false) → r ≤ T'.entered → r ≡ flushed_run T'
+run-walked T T' run r is' was keeps walked stops most =
+    run-is T' r is'
+    (λ q below. elim (cases_lt q run) [
+      | inl before ↦ keeps q (run-flushed T q (omega arith))
+      | inr from ↦ walked q from below
+    ])
+    (elim (cases_lt r T'.entered) [
+      | inl below ↦ stops below
+      | inr last ↦ let at : r ≡ T'.entered = omega arith in rw at (next-left_or_marked (λ held. held.flushed) T' is')
+    ])
+
+-- a page that is found is the least that waits
+pub found-least : (T : Pages) (waits : ℕ → Bool) (least q offset : ℕ) → IsFrames T → IsLeast waits least → find waits (range_with_len 0 (pages_below offset T)) ≡ Some q → least ≡ q
+found-least T waits least q offset is stored found = then_some-is (leb ((least + 1) * T.page) offset) least q (least-found T waits least offset is stored ∙ found)
+
 -- the stored pages after each call
+pub stored-entered : (T : Pages) (q run to_flush to_clean : ℕ) → IsFrames T → q ≡ T.entered → may_enter q T ≡ true → IsFrames (entered q T) → AreStored T run to_flush to_clean → AreStored (entered q T) run to_flush to_clean
+stored-entered T q run to_flush to_clean is next may is' stored =
+    let free : may_enter T.entered T ≡ true = rw (← next) may in
+    record {
+      flushed = stored.flushed ∙ run-same T (entered q T) is is' (λ k. rw next (flushed-entered T k is free));
+      unflushed = least-same (is_unflushed T) (is_unflushed (entered q T)) to_flush (λ k. rw next (unflushed-entered T k is free)) stored.unflushed;
+      uncleaned = first-same (is_uncleaned T) (is_uncleaned (entered q T)) to_clean (λ k. rw next (uncleaned-entered T k is free)) stored.uncleaned;
+    }
+
 pub stored-begun : (T : Pages) (run q next to_clean : ℕ) → IsFrames T → AreStored T run q to_clean → page_in (held_for q T) ≡ Some q → ((k : ℕ) → q + 1 ≤ k → k < next → is_unflushed (flush_begun q T) k ≡ false) → is_unflushed (flush_begun q T) next ≡ true → AreStored (flush_begun q T) run next to_clean
 stored-begun T run q next to_clean is stored lies taken waits = record {
   flushed = stored.flushed ∙ run-same T (flush_begun q T) is (IsFrames-flush_begun T q is lies (not-or-first (is_flushed q T) (is_in_flight q T) stored.unflushed.here)) (λ k. flushed-begun T q k is);
@@ -177,19 +207,23 @@ stored-begun T run q next to_clean is stored lies taken waits = record {
   uncleaned = first-same (is_uncleaned T) (is_uncleaned (flush_begun q T)) to_clean (λ k. uncleaned-begun T q k is) stored.uncleaned;
 }
 
-pub stored-ended_ok : (T : Pages) (q run run' to_flush to_clean : ℕ) → IsFrames T → is_in_flight q T ≡ true → AreStored T run to_flush to_clean → run' ≡ flushed_run (flush_ended q true T) → AreStored (flush_ended q true T) run' to_flush to_clean
-stored-ended_ok T q run run' to_flush to_clean is flies stored moved = record {
-  flushed = moved;
-  unflushed = least-same (is_unflushed T) (is_unflushed (flush_ended q true T)) to_flush (λ k. unflushed-ended_ok T q k is flies) stored.unflushed;
-  uncleaned = first-same (is_uncleaned T) (is_uncleaned (flush_ended q true T)) to_clean (λ k. uncleaned-ended T q k true is) stored.uncleaned;
-}
+pub stored-ended_ok : (T : Pages) (q : ℕ) (ok : Bool) (run run' to_flush to_clean : ℕ) → IsFrames T → is_in_flight q T ≡ true → ok ≡ true → AreStored T run to_flush to_clean → run' ≡ flushed_run (flush_ended q ok T) → AreStored (flush_ended q ok T) run' to_flush to_clean
+stored-ended_ok T q ok run run' to_flush to_clean is flies good stored moved =
+    rw good
+    (record {
+      flushed = rw good at moved;
+      unflushed = least-same (is_unflushed T) (is_unflushed (flush_ended q true T)) to_flush (λ k. unflushed-ended_ok T q k is flies) stored.unflushed;
+      uncleaned = first-same (is_uncleaned T) (is_uncleaned (flush_ended q true T)) to_clean (λ k. uncleaned-ended T q k true is) stored.uncleaned;
+    })
 
-pub stored-ended_failed : (T : Pages) (q run run' to_flush to_clean : ℕ) → IsFrames T → is_in_flight q T ≡ true → AreStored T run to_flush to_clean → run' ≡ flushed_run (flush_ended q false T) → AreStored (flush_ended q false T) run' (min to_flush q) to_clean
-stored-ended_failed T q run run' to_flush to_clean is flies stored moved = record {
-  flushed = moved;
-  unflushed = least-lower (is_unflushed T) (is_unflushed (flush_ended q false T)) to_flush q stored.unflushed (λ k other. unflushed-ended T q k false is flies other) (unflushed-ended_failed T q is flies);
-  uncleaned = first-same (is_uncleaned T) (is_uncleaned (flush_ended q false T)) to_clean (λ k. uncleaned-ended T q k false is) stored.uncleaned;
-}
+pub stored-ended_failed : (T : Pages) (q : ℕ) (ok : Bool) (run run' to_flush to_clean : ℕ) → IsFrames T → is_in_flight q T ≡ true → ok ≡ false → AreStored T run to_flush to_clean → run' ≡ flushed_run (flush_ended q ok T) → AreStored (flush_ended q ok T) run' (min to_flush q) to_clean
+stored-ended_failed T q ok run run' to_flush to_clean is flies failed stored moved =
+    rw failed
+    (record {
+      flushed = rw failed at moved;
+      unflushed = least-lower (is_unflushed T) (is_unflushed (flush_ended q false T)) to_flush q stored.unflushed (λ k other. unflushed-ended T q k false is flies other) (unflushed-ended_failed T q is flies);
+      uncleaned = first-same (is_uncleaned T) (is_uncleaned (flush_ended q false T)) to_clean (λ k. uncleaned-ended T q k false is) stored.uncleaned;
+    })
 
 pub stored-clean_begun : (T : Pages) (run to_flush q : ℕ) → IsFrames T → IsFrames (clean_begun q T) → AreStored T run to_flush q → page_in (held_for q T) ≡ Some q → AreStored (clean_begun q T) run to_flush (q + 1)
 stored-clean_begun T run to_flush q is is' stored lies = record {

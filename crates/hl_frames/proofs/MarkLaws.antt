@@ -1,5 +1,5 @@
 -- What each call makes of the tests of a page.
-use Rattle.std.proofs.Common.{◌≡◌, ℕ, ◌+◌, ◌-◌, ◌%◌, ◌<◌, ◌≤◌, ◌==◌, ◌||◌, ◌⊎◌, Bool, true, false, not, Option, Some, None, List, length, get_or, set, length-set, get_or-set_same, get_or-set_other, refl, sym, ap, ◌∙◌, arith, inl, inr}
+use Rattle.std.proofs.Common.{◌≡◌, ℕ, ◌+◌, ◌-◌, ◌%◌, ◌<◌, ◌≤◌, ◌==◌, ◌||◌, ◌&&◌, ◌⊎◌, Bool, true, false, not, Option, Some, None, List, length, get_or, set, length-set, get_or-set_same, get_or-set_other, refl, sym, ap, ◌∙◌, arith, inl, inr}
 use Rattle.std.specs.Prelude.{nat_lt}
 use Rattle.std.specs.Option.{option_map}
 use Rattle.std.proofs.lemmas.Bool.{cases_eq, cases_lt, lt-ltb, le-ltb, eq-eqb}
@@ -8,7 +8,7 @@ use Rattle.std.proofs.Math.Nat.{mod-eq_of_lt, add-mod_right}
 use Rattle.hl_frames.specs.declared.held.Held.{Held}
 use Rattle.hl_frames.specs.Pages.{Pages, held_for, left_or_marked, is_marked, is_flushed, is_in_flight, is_freed, is_cleaning, is_unflushed, is_uncleaned, may_enter}
 use Rattle.hl_frames.specs.Answers.{unmarked, changed, entered, flush_begun, flush_ended, clean_begun, clean_ended}
-use Rattle.hl_frames.specs.IsFrames.{page_in, IsFrames}
+use Rattle.hl_frames.specs.IsFrames.{AreMarks, page_in, IsFrames}
 use Rattle.hl_frames.proofs.PageLaws.{within, page-at, marked-at, unmarked-at, mod-apart}
 
 -- a page that lies in its frame is held there
@@ -276,3 +276,110 @@ next-unflushed T is = neither-both (is_flushed T.entered T) (is_in_flight T.ente
 
 pub next-uncleaned : (T : Pages) → IsFrames T → is_uncleaned T T.entered ≡ true
 next-uncleaned T is = neither-both (is_freed T.entered T) (is_cleaning T.entered T) (next-left_or_marked (λ held. held.freed) T is) (next-is_marked (λ held. held.cleaning) T is)
+
+-- where the next page may be entered, the page F before it is freed
+next-freed : (T : Pages) (held : Held) → may_enter T.entered T ≡ true → held_for T.entered T ≡ Some held → held.page + length T.frames ≡ T.entered → held.freed ≡ true
+next-freed T held may there next =
+    let past : nat_lt T.entered (length T.frames) ≡ false = le-ltb T.entered (length T.frames) (omega arith) in
+    let before : T.entered - length T.frames ≡ held.page = omega arith in
+    let place : T.entered % length T.frames ≡ held.page % length T.frames = ap (λ n. n % length T.frames) (sym next) ∙ add-mod_right held.page (length T.frames) in
+    let lies : held_for held.page T ≡ Some held = rw (← place) there in
+    let freed : is_freed held.page T ≡ true = rw (past, before) at may in
+    sym (left_or_marked-own (λ held. held.freed) held.page held refl) ∙ (rw lies at freed)
+
+and-false : (b c : Bool) → c ≡ false → (b && c) ≡ false
+and-false true c e = e
+and-false false c e = refl
+
+-- a page at or below another, with no mark that counts
+past-unmarked : (mark : Held → Bool) (k : ℕ) (held : Held) → held.page ≤ k → mark held ≡ false → left_or_marked mark k (Some held) ≡ false
+past-unmarked mark k held past e = rw (le-ltb k held.page past) (and-false (k == held.page) (mark held) e)
+
+-- a page at or above another, with a mark that counts
+before-marked : (mark : Held → Bool) (k : ℕ) (held : Held) → k ≤ held.page → mark held ≡ true → left_or_marked mark k (Some held) ≡ true
+before-marked mark k held before e =
+    elim (cases_lt k held.page) [
+      | inl less ↦ rw (lt-ltb k held.page less) refl
+      | inr most ↦ left_or_marked-own mark k held (omega arith) ∙ e
+    ]
+
+-- where the next page is entered, each page is flushed and freed as before
+pub entered-left_or_marked : (mark : Held → Bool) (T : Pages) (k : ℕ) → IsFrames T → may_enter T.entered T ≡ true → ((held : Held) → AreMarks held → held.freed ≡ true → mark held ≡ true) → mark (unmarked T.entered) ≡ false → left_or_marked mark k (held_for k (entered T.entered T)) ≡ left_or_marked mark k (held_for k T)
+entered-left_or_marked mark T k is may left bare =
+    let F : ℕ = length T.frames in
+    let q : ℕ = T.entered in
+    let place : ℕ = q % F in
+    rw (length-set T.frames place (Some (unmarked q)))
+    (elim (cases_eq (k % F) place) [
+      | inl at ↦
+          rw (at, get_or-set_same T.frames place (Some (unmarked q)) None (within T q is))
+          (elim (next-holds T is) [
+            | inl none ↦
+                let past : q ≤ k = elim (cases_lt k q) [
+                  | inl less ↦ let own = mod-eq_of_lt {n = k} {m = F} (omega (arith, none.0)) in let next = mod-eq_of_lt none.0 in absurd (omega arith)
+                  | inr most ↦ most
+                ] in
+                rw none.1 (past-unmarked mark k (unmarked q) past bare)
+            | inr some ↦
+                let freed = next-freed T some.0 may some.1.0 some.1.1 in
+                let marked : mark some.0 ≡ true = left some.0 (is.marks place some.0 some.1.0) freed in
+                rw some.1.0
+                (elim (cases_lt k q) [
+                  | inl less ↦
+                      let before : k ≤ some.0.page = elim (cases_lt q (k + F)) [
+                        | inl near ↦ absurd (mod-apart F k q less near at)
+                        | inr far ↦ omega (arith, some.1.1)
+                      ] in
+                      rw (lt-ltb k q less) (sym (before-marked mark k some.0 before marked))
+                  | inr past ↦
+                      past-unmarked mark k (unmarked q) past bare
+                      ∙ sym (left_or_marked-other mark k some.0 (λ same. omega (arith, some.1.1, is.frames_least)) ∙ le-ltb k some.0.page (omega (arith, some.1.1)))
+                ])
+          ])
+      | inr other ↦ ap (left_or_marked mark k) (get_or-set_other T.frames place (k % F) (Some (unmarked q)) None other)
+    ])
+
+-- and none is in flight or being cleaned that wasn't
+pub entered-is_marked : (mark : Held → Bool) (T : Pages) (k : ℕ) → IsFrames T → may_enter T.entered T ≡ true → ((held : Held) → AreMarks held → held.freed ≡ true → mark held ≡ false) → mark (unmarked T.entered) ≡ false → is_marked mark k (held_for k (entered T.entered T)) ≡ is_marked mark k (held_for k T)
+entered-is_marked mark T k is may left bare =
+    let F : ℕ = length T.frames in
+    let q : ℕ = T.entered in
+    let place : ℕ = q % F in
+    rw (length-set T.frames place (Some (unmarked q)))
+    (elim (cases_eq (k % F) place) [
+      | inl at ↦
+          rw (at, get_or-set_same T.frames place (Some (unmarked q)) None (within T q is))
+          (and-false (k == q) (mark (unmarked q)) bare
+          ∙ (elim (next-holds T is) [
+            | inl none ↦ rw none.1 refl
+            | inr some ↦
+                let freed = next-freed T some.0 may some.1.0 some.1.1 in
+                rw some.1.0 (sym (and-false (k == some.0.page) (mark some.0) (left some.0 (is.marks place some.0 some.1.0) freed)))
+          ]))
+      | inr other ↦ ap (is_marked mark k) (get_or-set_other T.frames place (k % F) (Some (unmarked q)) None other)
+    ])
+
+pub flushed-entered : (T : Pages) (k : ℕ) → IsFrames T → may_enter T.entered T ≡ true → is_flushed k (entered T.entered T) ≡ is_flushed k T
+flushed-entered T k is may = entered-left_or_marked (λ held. held.flushed) T k is may (λ held marks freed. marks.freed_flushed freed) refl
+
+never : (b : Bool) → (b ≡ true → ⊥) → b ≡ false
+never true refused = absurd (refused refl)
+never false refused = refl
+
+freed-unflying : (held : Held) → AreMarks held → held.freed ≡ true → held.in_flight ≡ false
+freed-unflying held marks freed = never held.in_flight (λ flies. let e = marks.in_flight_unflushed flies in let f = marks.freed_flushed freed in absurd cc)
+
+freed-uncleaning : (held : Held) → AreMarks held → held.freed ≡ true → held.cleaning ≡ false
+freed-uncleaning held marks freed = never held.cleaning (λ cleans. let e = marks.cleaning_unfreed cleans in absurd cc)
+
+pub unflushed-entered : (T : Pages) (k : ℕ) → IsFrames T → may_enter T.entered T ≡ true → is_unflushed (entered T.entered T) k ≡ is_unflushed T k
+unflushed-entered T k is may =
+    same-neither (is_flushed k (entered T.entered T)) (is_in_flight k (entered T.entered T)) (is_flushed k T) (is_in_flight k T)
+    (flushed-entered T k is may)
+    (entered-is_marked (λ held. held.in_flight) T k is may freed-unflying refl)
+
+pub uncleaned-entered : (T : Pages) (k : ℕ) → IsFrames T → may_enter T.entered T ≡ true → is_uncleaned (entered T.entered T) k ≡ is_uncleaned T k
+uncleaned-entered T k is may =
+    same-neither (is_freed k (entered T.entered T)) (is_cleaning k (entered T.entered T)) (is_freed k T) (is_cleaning k T)
+    (entered-left_or_marked (λ held. held.freed) T k is may (λ held marks freed. freed) refl)
+    (entered-is_marked (λ held. held.cleaning) T k is may freed-uncleaning refl)

@@ -1,0 +1,41 @@
+use Rattle.std.proofs.Common.{◌≡◌, ◌∙◌, arith, true, Some, refl, sym, length-set}
+use Rattle.std.specs.Prelude.{slice_set}
+use Rattle.hl_frames.specs.Pages.{may_enter}
+use Rattle.hl_frames.specs.IsFrames.{IsFrames}
+use Rattle.hl_frames.specs.Answers.{entered, unmarked}
+use Rattle.hl_frames.specs.Kept.{pages_of}
+use Rattle.hl_frames.proofs.PageLaws.{IsFrames-entered}
+use Rattle.hl_frames.proofs.KeptLaws.{stored-entered}
+use Rattle.hl_frames.proofs.frames.Frames.enter.Goals as goal
+
+-- the page may be entered
+free : (c : goal.After-self-3-1) → may_enter c.args.page (pages_of c.self.inside) ≡ true
+free c = rw (← c.self.view_is) at (sym c.may_enter.ensures.free ∙ c.if-not-may_enter.false)
+
+-- the row after the page is entered
+row : (c : goal.After-self-3-1) → slice_set c.self.inside.held.items c.place_of-place.result (Some (unmarked c.args.page)) ≡ (entered c.args.page (pages_of c.self.inside)).frames
+row c =
+    let place = rw (← c.self.view_is) at c.place_of-place.ensures.place in
+    rw place refl
+
+-- the pages are those of frames
+known : (c : goal.After-self-3-1) → IsFrames (entered c.args.page (pages_of c.self.inside))
+known c =
+    let next = rw (← c.self.view_is) at c.requires.next in
+    let space = rw (← c.self.view_is) at c.requires.within_space in
+    IsFrames-entered (pages_of c.self.inside) c.args.page c.self.invariant.pages next space
+
+pub invariant_of-self : goal.invariant_of-self
+invariant_of-self c =
+    let a = c.self.inside in
+    let kept = c.self.invariant in
+    let next = rw (← c.self.view_is) at c.requires.next in
+    record {
+      pages = rw (row c) (known c);
+      stored = rw (row c) (stored-entered (pages_of a) c.args.page a.run a.to_flush a.to_clean kept.pages next (free c) (known c) kept.stored);
+      room = kept.room ∙ sym (length-set _ _ _);
+      turns = rw length-set (record { enter = omega arith; flush_done = kept.turns.flush_done; clean_done = kept.turns.clean_done });
+    }
+
+pub returns-clause-known : goal.returns-clause-known
+returns-clause-known c = rw (row c) (known c)
