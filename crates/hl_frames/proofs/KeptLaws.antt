@@ -1,6 +1,6 @@
 -- What the stored pages tell, and how calls move them.
-use Rattle.std.proofs.Common.{◌≡◌, ℕ, ◌+◌, ◌*◌, ◌%◌, ◌^◌, ◌<◌, ◌≤◌, Bool, true, false, not, ◌||◌, min, Option, Some, None, find, length, get_or, set, zero-add, refl, sym, ap, ◌∙◌, arith, inl, inr}
-use Rattle.std.specs.List.{range_with_len, prefix_len}
+use Rattle.std.proofs.Common.{◌≡◌, ℕ, ◌+◌, ◌*◌, ◌%◌, ◌^◌, ◌<◌, ◌≤◌, Bool, true, false, not, ◌||◌, min, Option, Some, None, find, length, get_or, set, zero-add, refl, sym, ◌∙◌, arith, inl, inr}
+use Rattle.std.specs.List.{range_with_len}
 use Rattle.std.specs.Bool.{then_some}
 use Rattle.std.specs.Option.{option_map, MatchOption, IsSomeAnd}
 use Rattle.std.proofs.lemmas.List.{get_or_read}

@@ -1,5 +1,5 @@
 -- What each call makes of the tests of a page.
-use Rattle.std.proofs.Common.{◌≡◌, ℕ, ◌+◌, ◌-◌, ◌%◌, ◌<◌, ◌≤◌, ◌==◌, ◌||◌, ◌&&◌, ◌⊎◌, Bool, true, false, not, Option, Some, None, List, length, get_or, set, length-set, get_or-set_same, get_or-set_other, refl, sym, ap, ◌∙◌, arith, inl, inr}
+use Rattle.std.proofs.Common.{◌≡◌, ℕ, ◌+◌, ◌-◌, ◌%◌, ◌<◌, ◌≤◌, ◌==◌, ◌||◌, ◌&&◌, ◌⊎◌, Bool, true, false, not, Option, Some, None, length, get_or, length-set, get_or-set_same, get_or-set_other, refl, sym, ap, ◌∙◌, arith, inl, inr}
 use Rattle.std.specs.Prelude.{nat_lt}
 use Rattle.std.specs.Option.{option_map}
 use Rattle.std.proofs.lemmas.Bool.{cases_eq, cases_lt, lt-ltb, le-ltb, eq-eqb}
@@ -9,7 +9,7 @@ use Rattle.hl_frames.specs.declared.held.Held.{Held}
 use Rattle.hl_frames.specs.Pages.{Pages, held_for, left_or_marked, is_marked, is_flushed, is_in_flight, is_freed, is_cleaning, is_unflushed, is_uncleaned, may_enter}
 use Rattle.hl_frames.specs.Answers.{unmarked, changed, entered, flush_begun, flush_ended, clean_begun, clean_ended}
 use Rattle.hl_frames.specs.IsFrames.{AreMarks, page_in, IsFrames}
-use Rattle.hl_frames.proofs.PageLaws.{within, page-at, marked-at, unmarked-at, mod-apart}
+use Rattle.hl_frames.proofs.PageLaws.{within, page-at, marked-at, mod-apart}
 
 -- a page that lies in its frame is held there
 pub lying : (q : ℕ) (o : Option Held) → page_in o ≡ Some q → (held : Held) × ((o ≡ Some held) × (held.page ≡ q))

@@ -1,6 +1,5 @@
 -- What the fields keep beside the row of frames.
-use Rattle.std.specs.Prelude.{◌≡◌, ℕ, ◌+◌, ◌<◌, ◌≤◌, Bool, true, false, Option, List, length, vec_capacity}
-use Rattle.hl_frames.specs.declared.held.Held.{Held}
+use Rattle.std.specs.Prelude.{◌≡◌, ℕ, ◌+◌, ◌<◌, ◌≤◌, Bool, true, false, length, vec_capacity}
 use Rattle.hl_frames.specs.declared.turns.Turns.{Turns}
 use Rattle.hl_frames.specs.declared.frames.Frames.TheInside.{Inside}
 use Rattle.hl_frames.specs.Pages.{Pages, is_unflushed, is_uncleaned, flushed_run}

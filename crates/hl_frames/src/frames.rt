@@ -113,7 +113,10 @@ impl Frames {
             return Err(Fault::NoneSealed);
         };
         let place = self.place_of(page);
-        self.held[place] = self.held[place].map(|held| Held { in_flight: true, ..held });
+        self.held[place] = self.held[place].map(|held| Held {
+            in_flight: true,
+            ..held
+        });
         self.to_flush = skip_taken(&self.held, page + 1, self.entered);
         Ok(page)
     }
@@ -162,7 +165,10 @@ impl Frames {
             return Err(Fault::NoneClosed);
         };
         let place = self.place_of(page);
-        self.held[place] = self.held[place].map(|held| Held { cleaning: true, ..held });
+        self.held[place] = self.held[place].map(|held| Held {
+            cleaning: true,
+            ..held
+        });
         self.to_clean = page + 1;
         Ok(page)
     }

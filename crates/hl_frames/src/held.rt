@@ -1,6 +1,3 @@
-ghost use Rattle.std.specs.Prelude.{◌≡◌};
-ghost use Rattle.hl_frames.specs.Pages.{left_or_marked};
-
 /// What a frame holds: the page that was entered in it last, with that page's marks.
 #[derive(Clone, Copy, Debug, PartialEq, Eq)]
 pub struct Held {

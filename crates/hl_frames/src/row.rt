@@ -35,6 +35,9 @@ pub(crate) fn skip_flushed(row: &[Option<Held>], from: u64, end: u64) -> Walk
     ensures least { from ≤ result.page }
     ensures most { result.page ≤ end }
     ensures turns { result.turns + from ≤ end }
+
+    // One turn for each page that it goes over, and one for the page at which it stops.
+    ensures each_once { result.turns + from ≤ result.page + 1 }
 {
     let mut turns = 0;
     for page in from..end {

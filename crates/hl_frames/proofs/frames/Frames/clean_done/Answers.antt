@@ -1,8 +1,7 @@
 use Rattle.std.proofs.Common.{◌≡◌, ◌∙◌, rules, arith, true, false, sym, length-set}
-use Rattle.std.specs.Option.{option_map}
 use Rattle.std.specs.Prelude.{slice_set}
 use Rattle.hl_frames.specs.declared.held.Held.{Held}
-use Rattle.hl_frames.specs.Pages.{is_cleaning, Pages}
+use Rattle.hl_frames.specs.Pages.{is_cleaning}
 use Rattle.hl_frames.specs.IsFrames.{IsFrames}
 use Rattle.hl_frames.specs.Answers.{clean_ended}
 use Rattle.hl_frames.specs.Kept.{pages_of}

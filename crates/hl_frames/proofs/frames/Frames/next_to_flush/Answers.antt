@@ -1,4 +1,4 @@
-use Rattle.std.proofs.Common.{arith, ◌∙◌, ◌≡◌, ◌≤◌, sym}
+use Rattle.std.proofs.Common.{arith, ◌∙◌, ◌≤◌}
 use Rattle.hl_frames.specs.Pages.{is_unflushed}
 use Rattle.hl_frames.specs.Kept.{pages_of}
 use Rattle.hl_frames.proofs.KeptLaws.{least-found, end_fits, number_fits, least-below}
