@@ -6,6 +6,7 @@ use Rattle.hl_action.specs.Firings.{FiringRecord}
 use Rattle.hl_action.specs.Jobs.{KeptRecord}
 use Rattle.hl_action.specs.Shelves.{job_of, has_place}
 use Rattle.hl_model.specs.declared.fault.Fault.{Fault}
+use Rattle.hl_model.specs.declared.fault.Fault.TheVariants.{NoJob}
 use Rattle.hl_model.specs.declared.step.Reply.{Reply}
 use Rattle.hl_model.specs.declared.step.Reply.TheVariants.{Ran, Answer, Ticket}
 use Rattle.hl_model.specs.declared.step.Step.{Step}
@@ -20,7 +21,7 @@ use Rattle.hl_script.specs.Answers.{bears, lacks_job, line_fault, shown, line_an
 use Rattle.hl_script.specs.Text.{tags_on}
 use Rattle.hl_script.specs.Fast.{adds, AreLeft, IsFast}
 use Rattle.hl_script.proofs.AnswerLaws.{fault_kept}
-use Rattle.hl_script.proofs.ShelfLaws.{left_stays, left_bumped, left_back}
+use Rattle.hl_script.proofs.ShelfLaws.{left_stays, left_bumped, left_missed, left_back}
 use Rattle.hl_model.proofs.NoFaultLaws.{unless_err, unless_ok}
 
 -- what is found passes the test
@@ -115,6 +116,23 @@ fast_steps shelf old new has sizes A step result sh no_bump moved =
 not_back : (a b : Bool) → a ≡ not b → (a ≡ true → b ≡ false) × (a ≡ false → b ≡ true)
 not_back a true h = ((λ e. cc), (λ e. refl))
 not_back a false h = ((λ e. refl), (λ e. cc))
+
+-- a bump of a tag whose job isn't on the shelf
+pub fast_lacks : {F : Type 0} (shelf after : List (Option (KeptRecord F))) (now : Whole F) (has : ℕ → Bool) (sizes : Sizes) (A : List Step) (tag : ℕ) → IsFast shelf now has sizes A → job_of shelf tag ≡ None → after ≡ set shelf tag None → (Err NoJob ≡ line_reply has sizes A (Bump tag)) × IsFast after now has sizes (with_line has sizes A (Makes (Bump tag)))
+fast_lacks shelf after now has sizes A tag sh none e = (
+  sym (ap (λ o. unless_fault o (line_answer sizes A (Bump tag))) fault_is),
+  record {
+    sizes_is = sh.sizes_is;
+    standing = subst (EngineStands now) (sym stays) sh.standing;
+    left = subst (λ B. AreLeft has B after) (sym stays) (λ t. ap (λ z. tags_on z t) e ∙ left_missed tag shelf none t ∙ sh.left t);
+  },
+)
+  where
+    fault_is : line_fault has sizes A (Bump tag) ≡ Some NoJob
+    fault_is = ap (λ b. cond b (Some NoJob) (fault_of sizes A (Bump tag))) ((not_back (tags_on shelf tag) (lacks_job has A (Bump tag)) (sh.left tag)).1 (ap is_some none))
+
+    stays : with_line has sizes A (Makes (Bump tag)) ≡ A
+    stays = ap (λ o. cond (is_none o) (A ++ Bump tag ∷ []) A) fault_is
 
 -- the tag of a job on the shelf has one
 has_job : {F : Type 0} (shelf : List (Option (KeptRecord F))) (has : ℕ → Bool) (A : List Step) (tag : ℕ) (kept : KeptRecord F) → AreLeft has A shelf → job_of shelf tag ≡ Some kept → lacks_job has A (Bump tag) ≡ false

@@ -1,6 +1,10 @@
 use Rattle.std.proofs.Common.{sym}
-use Rattle.hl_script.proofs.FastLaws.{fast_bumps, fast_refuses}
+use Rattle.hl_script.proofs.FastLaws.{fast_bumps, fast_lacks, fast_refuses}
 use Rattle.hl_script.proofs.fast.Fast.bump.Goals as goal
+
+pub returns-in_default : goal.returns-in_default
+returns-in_default g c = λ has sizes A standing.
+    fast_lacks c.args.self.now.shelf c.take.new.self c.args.self.now.engine has sizes A c.args.tag standing (sym c.in_default.ensures.value) c.in_default.ensures.after
 
 pub returns-in-Ok : goal.returns-in-Ok
 returns-in-Ok g c = λ has sizes A standing.
