@@ -1,5 +1,5 @@
 -- What a bump, a settle and a close have in common, and where a core stands after one.
-use Rattle.std.proofs.Common.{◌≡◌, ◌≢◌, ℕ, zero, suc, ◌+◌, ◌-◌, ◌<◌, ◌≤◌, Bool, true, false, cond, not, eqb, List, [], ◌∷◌, ◌++◌, length, map, take, drop, refl, sym, ap, ap₂, ◌∙◌, subst, arith}
+use Rattle.std.proofs.Common.{◌≡◌, ℕ, zero, suc, ◌+◌, ◌<◌, ◌≤◌, Bool, true, false, cond, not, List, [], ◌∷◌, ◌++◌, length, map, take, drop, refl, sym, ap, ap₂, ◌∙◌, subst, arith}
 use Rattle.std.specs.Prelude.{Some, None, Result, Ok, Err, All}
 use Rattle.std.specs.List.{filter, AllByRecursion}
 use Rattle.std.proofs.lemmas.Bool.{eq-eqb, ne_eqb}
@@ -12,7 +12,7 @@ use Rattle.hl_model.specs.declared.step.Reply.TheVariants.{Ticket, Bumped}
 use Rattle.hl_model.specs.declared.step.Step.{Step}
 use Rattle.hl_model.specs.declared.step.Step.TheVariants.{Bare}
 use Rattle.hl_model.specs.Sizes.{Sizes}
-use Rattle.hl_model.specs.Epochs.{epoch_window, Table, table_of, is_bump, enters, leaves, current_epoch, slot_epochs, safe_epoch}
+use Rattle.hl_model.specs.Epochs.{epoch_window, Table, table_of, is_bump, enters, leaves, current_epoch, safe_epoch}
 use Rattle.hl_model.specs.Actions.{is_take, finishes, action_of, actions, pending, ever_taken, taken, takes, bumps, is_finished, is_full}
 use Rattle.hl_model.specs.Views.{allocates, looked_read_only, looked_head}
 use Rattle.hl_model.specs.Replies.{fault_of, answer_of, bare_fault, bump_fault, unless_fault, unless_refused}

@@ -1,19 +1,21 @@
 -- What the frames of a core answer, wherever it stands.
-use Rattle.std.proofs.Common.{◌≡◌, ℕ, ◌≤◌, ◌<◌, Bool, cond, ltb, List, length, arith, sym, ap, ap₂, ◌∙◌, subst}
+use Rattle.std.proofs.Common.{◌≡◌, ℕ, ◌+◌, ◌-◌, ◌*◌, ◌/◌, ◌≤◌, ◌<◌, Bool, cond, ltb, List, length, arith, sym, ap, ap₂, ◌∙◌, subst}
 use Rattle.std.specs.Prelude.{Option, Some, None}
 use Rattle.std.specs.Int.{div_ceil}
+use Rattle.std.proofs.Math.Nat.{le-div_iff_mul-le, div-mul-le_self}
 use Rattle.hl_model.specs.declared.fault.Fault.TheVariants.{NoneSealed, NotInFlight, NoneClosed, NotCleaning}
 use Rattle.hl_model.specs.declared.frame.FrameState.{FrameState}
 use Rattle.hl_model.specs.declared.step.Step.{Step}
 use Rattle.hl_model.specs.declared.step.Step.TheVariants.{FlushTake, FlushDone, CleanTake, CleanDone}
 use Rattle.hl_model.specs.Offsets.{tail, is_entered}
-use Rattle.hl_model.specs.Settled.{closed}
+use Rattle.hl_model.specs.Settled.{safe_read_only, closed}
 use Rattle.hl_model.specs.Pages.{is_in_flight, is_cleaning, next_to_flush, next_to_clean}
 use Rattle.hl_model.specs.Frames.{may_enter, frame_of}
 use Rattle.hl_model.specs.Replies.{fault_of, unless_fault, unless_page}
-use Rattle.hl_frames.specs.Pages.{Pages, flushed_offset, is_in_flight as IN_FLIGHT, is_cleaning as CLEANING, may_enter as MAY_ENTER, next_to_flush as NEXT_TO_FLUSH, next_to_clean as NEXT_TO_CLEAN}
+use Rattle.hl_model.proofs.OrderLaws.{offsets_are_in_order}
+use Rattle.hl_frames.specs.Pages.{Pages, pages_below, flushed_offset, is_in_flight as IN_FLIGHT, is_cleaning as CLEANING, may_enter as MAY_ENTER, next_to_flush as NEXT_TO_FLUSH, next_to_clean as NEXT_TO_CLEAN}
 use Rattle.hl_frames.specs.Answers.{state_of}
-use Rattle.hl_core.specs.Standing.{State, Stands, IsStanding}
+use Rattle.hl_core.specs.Standing.{State, Stands, IsStanding, pages_entered}
 use Rattle.hl_core.proofs.PageRows.{length-frames}
 use Rattle.hl_core.proofs.PageMarks.{page_some, next_to_flush-is, next_to_clean-is, is_in_flight-is, is_cleaning-is, may_enter-is}
 use Rattle.hl_core.proofs.PageOffsets.{ceil-starts, closed_within, frame_of-is}
@@ -54,6 +56,16 @@ module _ {J : Type 0} (tag : J → ℕ) (core : State J) where
   closed_fits (A, st) =
       subst (λ (n : ℕ). n ≤ flushed_offset core.pages) (sym (ap (λ log. log.closed) st.offsets_is))
       (subst (λ (pages : Pages). closed A ≤ flushed_offset pages) (sym st.pages_is) (closed_within core.sizes A st.in_range st.accepted))
+
+  -- sealed pages are entered
+  pub sealed_fits : IsStanding tag core → pages_below core.offsets.safe_read_only core.pages ≤ core.pages.entered
+  sealed_fits (A, st) =
+      let some : 0 < core.sizes.page = page_some core.sizes st.in_range in
+      let order = offsets_are_in_order core.sizes A some st.accepted in
+      let starts : safe_read_only A / core.sizes.page * core.sizes.page ≤ tail core.sizes A + core.sizes.page - 1 = omega (arith, div-mul-le_self (safe_read_only A) core.sizes.page, order.safe_read_only_most, order.read_only_most, some) in
+      let entered : safe_read_only A / core.sizes.page ≤ pages_entered core.sizes A = (le-div_iff_mul-le some).1 starts in
+      subst (λ (n : ℕ). pages_below n core.pages ≤ core.pages.entered) (sym (ap (λ log. log.safe_read_only) st.offsets_is))
+      (subst (λ (pages : Pages). pages_below (safe_read_only A) pages ≤ pages.entered) (sym st.pages_is) entered)
 
   -- what a flush take would be answered
   pub may_flush : (sro : ℕ) (o : Option ℕ) → sro ≡ core.offsets.safe_read_only → o ≡ NEXT_TO_FLUSH sro core.pages → (A : List Step) → Stands tag core A → unless_fault (unless_page NoneSealed o) (tt {0}) ≡ unless_fault (fault_of core.sizes A FlushTake) (tt {0})

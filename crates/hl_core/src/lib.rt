@@ -28,7 +28,8 @@
 //! whatever list the core stood, the reply is the definitions' reply after that list, and the core then stands at
 //! the list with the step, where it was accepted. It holds over every table that meets `Epochs`.
 //!
-//! No call after [`Core::open`] takes memory.
+//! No call after [`Core::open`] takes memory: that the row of views has a place for each slot, and no more, is in the
+//! type too.
 #![tactic(auto)]
 
 mod act;

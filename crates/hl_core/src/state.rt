@@ -1,4 +1,4 @@
-ghost use Rattle.std.specs.Prelude.{◌≡◌, [], replicate, IfOk, IfErr};
+ghost use Rattle.std.specs.Prelude.{◌≡◌, [], replicate, vec_capacity, IfOk, IfErr};
 
 use crate::rise::EPOCH_WINDOW;
 use hl_drain::Drain;
@@ -22,13 +22,14 @@ pub struct Core<E: Epochs, J: Tagged> {
 }
 
 impl<E: Epochs, J: Tagged> Model for Core<E, J> {
-    ghost use Rattle.hl_core.specs.Standing.{State, IsStanding};
+    ghost use Rattle.std.specs.Prelude.{vec_capacity};
+    ghost use Rattle.hl_core.specs.Standing.{State, IsKept};
 
     ghost Value = { State J };
 
     ghost view = { λ a. record { sizes = a.params; table = E.table a.table; views = a.views.items; drain = a.drain; offsets = a.offsets; pages = a.frames } };
 
-    ghost invariant = { λ a. IsStanding J.tag (record { sizes = a.params; table = E.table a.table; views = a.views.items; drain = a.drain; offsets = a.offsets; pages = a.frames }) };
+    ghost invariant = { λ a. IsKept J.tag (record { sizes = a.params; table = E.table a.table; views = a.views.items; drain = a.drain; offsets = a.offsets; pages = a.frames }) (vec_capacity a.views) };
 }
 
 impl<E: Epochs + Drop, J: Tagged + Drop> Core<E, J> {
@@ -75,7 +76,14 @@ impl<E: Epochs + Drop, J: Tagged + Drop> Core<E, J> {
 /// A row with a place for each slot, none of which is protected.
 fn unprotected(alloc: Global, slots: usize) -> Result<Vec<Option<View>>, Fault>
     ensures ok { IfOk result (λ made. made.items ≡ replicate slots None) }
+    ensures room { IfOk result (λ made. vec_capacity made ≡ slots) }
     ensures err { IfErr result (λ fault. fault ≡ Fault.OutOfMemory) }
 {
-    vec![in alloc; None; slots].map_err(|_| Fault::OutOfMemory)
+    let Ok(mut views) = Vec::with_capacity(alloc, slots) else {
+        return Err(Fault::OutOfMemory);
+    };
+    for _ in 0..slots {
+        views.push_reserved(None);
+    }
+    Ok(views)
 }

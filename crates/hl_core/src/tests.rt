@@ -1,11 +1,12 @@
+//! That a core opens and makes steps where there is memory, over a table of epochs and with jobs of its caller's.
+//! What each step is answered is a theorem; the rows here are from the worked examples.
+
 use crate::Core;
 use hl_drain::{Action, Ask};
-use hl_epoch::ScanTable;
-use hl_model::{Fault, FrameState, Kind, Params, Reply, Six, Step, Tag, Tagged, View, Waiting};
+use hl_epoch::{Epochs, ScanTable};
+use hl_model::{Fault, Params, Reply, Six, Snapshot, Step, Tag, Tagged, View};
 use std::alloc::Global;
 use std::process::Abort;
-
-mod pages;
 
 type Row = (Step, Result<Reply, Fault>);
 
@@ -18,306 +19,90 @@ fn entered(epoch: u64, read_only: u64, head: u64, tail: u64) -> Result<Reply, Fa
     Ok(Reply::Entered { epoch, view })
 }
 
-fn looked(read_only: u64, head: u64, tail: u64) -> Result<Reply, Fault> {
-    Ok(Reply::Looked(View {
-        read_only,
-        head,
-        tail,
-    }))
+fn sizes(rt: &impl Abort) -> Params {
+    Params::checked(4, 2, 2, 2).expect(rt, "the sizes are in range")
 }
 
-fn sizes(rt: &impl Abort, drain: u64) -> Params {
-    Params::checked(4, 2, 2, drain).expect(rt, "the sizes are in range")
-}
-
-// Makes the steps from an empty core, and gives the core.
-fn walk(
+// Makes the steps at once, each of which is to be answered as its row says.
+fn go_on<E: Epochs + Drop, const N: usize>(
     rt: &impl Abort,
-    alloc: Global,
-    drain: u64,
-    rows: &[Row],
-) -> Result<Core<ScanTable, Tag>, Fault> {
-    let mut core = Core::open(alloc, sizes(rt, drain))?;
-    go_on(rt, &mut core, rows);
-    Ok(core)
-}
-
-// Makes the steps, each told by `check` before.
-fn go_on(rt: &impl Abort, core: &mut Core<ScanTable, Tag>, rows: &[Row]) {
-    for (step, expected) in rows {
-        assert_eq!(rt; core.check(step), expected.map(|_| ()));
-        let mut results = [Err(Fault::Empty)];
-        core.run(&[*step], &mut results);
-        assert_eq!(rt; results[0], *expected);
+    core: &mut Core<E, Tag>,
+    rows: [Row; N],
+) {
+    let steps = rows.map(|row| row.0);
+    let mut results = [Err(Fault::NoSlot); N];
+    core.run(&steps, &mut results);
+    for (i, row) in rows.iter().enumerate() {
+        assert_eq!(rt; results[i], row.1, "row {i}");
     }
 }
 
-#[test]
-fn first_action(rt: HostRuntime) -> Result<(), Fault> {
+// A page that a slow reader reaches is closed, and its frame is used again only when it is cleaned.
+fn stale_reader<E: Epochs + Drop>(rt: &impl Abort, alloc: Global) -> Result<(), Fault> {
+    let mut core = Core::<E, Tag>::open(alloc, sizes(rt))?;
     let rows = [
         (Step::Acquire { t: 0 }, entered(1, 0, 0, 0)),
-        (Step::Bump { tag: 7 }, Ok(Reply::Ticket(1))),
-        (Step::Take, Err(Fault::NotReady { front: 1, safe: 0 })),
-        (Step::Refresh { t: 0 }, entered(2, 0, 0, 0)),
-        (Step::Take, Ok(Reply::Taken(1))),
-        (Step::Done { ticket: 1 }, Ok(Reply::Ran(7))),
-        (Step::Take, Err(Fault::Empty)),
-    ];
-    let core = walk(&rt, rt.alloc(), 2, &rows)?;
-    assert_eq!(rt; core.snapshot().epoch, 2);
-    assert_eq!(rt; core.snapshot().safe, 1);
-    Ok(())
-}
-
-#[test]
-fn nobody_protected(rt: HostRuntime) -> Result<(), Fault> {
-    let rows = [
-        (Step::Bump { tag: 3 }, Ok(Reply::Ticket(1))),
-        (Step::Take, Ok(Reply::Taken(1))),
-        (Step::Done { ticket: 1 }, Ok(Reply::Ran(3))),
-        (Step::Release { t: 0 }, Err(Fault::NotProtected)),
-    ];
-    walk(&rt, rt.alloc(), 2, &rows)?;
-    Ok(())
-}
-
-#[test]
-fn full_drain_list(rt: HostRuntime) -> Result<(), Fault> {
-    let rows = [
-        (Step::Acquire { t: 0 }, entered(1, 0, 0, 0)),
-        (Step::Bump { tag: 1 }, Ok(Reply::Ticket(1))),
-        (Step::Bump { tag: 2 }, Ok(Reply::Ticket(2))),
-        (Step::Bump { tag: 3 }, Err(Fault::DrainFull)),
-        (Step::Refresh { t: 0 }, entered(3, 0, 0, 0)),
-        (Step::Take, Ok(Reply::Taken(1))),
-        (Step::Bump { tag: 3 }, Err(Fault::DrainFull)),
-        (Step::Settle, Err(Fault::DrainFull)),
-        (Step::Close, Err(Fault::DrainFull)),
-        (Step::Done { ticket: 1 }, Ok(Reply::Ran(1))),
-        (Step::Bump { tag: 3 }, Ok(Reply::Ticket(3))),
-        (Step::Take, Ok(Reply::Taken(2))),
-        (Step::Done { ticket: 2 }, Ok(Reply::Ran(2))),
-    ];
-    let core = walk(&rt, rt.alloc(), 2, &rows)?;
-    let left = [Waiting {
-        ticket: 3,
-        kind: Kind::User(3),
-    }];
-    assert_eq!(rt; core.pending().as_slice(), left.as_slice());
-    let mut drain = core.into_drain();
-    assert_eq!(rt; drain.take(3), Ok((3, Action::User(Tag(3)))));
-    Ok(())
-}
-
-#[test]
-fn fuzzy_region(rt: HostRuntime) -> Result<(), Fault> {
-    let rows = [
-        (Step::Acquire { t: 0 }, entered(1, 0, 0, 0)),
-        (Step::Allocate { t: 0, n: 4 }, Ok(Reply::At(0))),
-        (Step::Raise { x: 4 }, Ok(Reply::Raised(4))),
-        (Step::Acquire { t: 1 }, entered(1, 4, 0, 4)),
-        (Step::Settle, Ok(Reply::Ticket(1))),
-        (Step::Write { t: 0, a: 1, v: 99 }, Ok(Reply::Written)),
-        (
-            Step::Write { t: 1, a: 1, v: 5 },
-            Err(Fault::Below { read_only: 4 }),
-        ),
-        (Step::Refresh { t: 1 }, entered(2, 4, 0, 4)),
-        (Step::Take, Err(Fault::NotReady { front: 1, safe: 0 })),
-        (Step::Refresh { t: 0 }, entered(2, 4, 0, 4)),
-        (Step::Take, Ok(Reply::Taken(1))),
-        (
-            Step::Write { t: 0, a: 1, v: 7 },
-            Err(Fault::Below { read_only: 4 }),
-        ),
-        (Step::Done { ticket: 1 }, Ok(Reply::Settled(4))),
-    ];
-    let core = walk(&rt, rt.alloc(), 4, &rows)?;
-    assert_eq!(rt; core.frame(0), (FrameState::Sealed, Some(0)));
-    assert_eq!(rt; core.frame(1), (FrameState::Free, None));
-    Ok(())
-}
-
-#[test]
-fn swapped_dones(rt: HostRuntime) -> Result<(), Fault> {
-    let rows = [
-        (Step::Acquire { t: 0 }, entered(1, 0, 0, 0)),
+        (Step::Bare, Ok(Reply::Bumped(1))),
         (Step::Allocate { t: 0, n: 4 }, Ok(Reply::At(0))),
         (Step::Allocate { t: 0, n: 4 }, Ok(Reply::At(4))),
-        (Step::Raise { x: 4 }, Ok(Reply::Raised(4))),
-        (Step::Settle, Ok(Reply::Ticket(1))),
+        (Step::Acquire { t: 1 }, entered(2, 0, 0, 8)),
         (Step::Raise { x: 8 }, Ok(Reply::Raised(8))),
         (Step::Settle, Ok(Reply::Ticket(2))),
-        (Step::Release { t: 0 }, Ok(Reply::Left)),
-        (Step::Take, Ok(Reply::Taken(1))),
+        (Step::Refresh { t: 0 }, entered(3, 8, 0, 8)),
+        (Step::Write { t: 1, a: 1, v: 7 }, Ok(Reply::Written)),
+        (Step::Refresh { t: 1 }, entered(3, 8, 0, 8)),
         (Step::Take, Ok(Reply::Taken(2))),
         (Step::Done { ticket: 2 }, Ok(Reply::Settled(8))),
-        (Step::Done { ticket: 1 }, Ok(Reply::Settled(8))),
-        (Step::Done { ticket: 1 }, Err(Fault::NotTaken)),
+        (Step::FlushTake, Ok(Reply::Page(0))),
+        (Step::FlushDone { page: 0, ok: true }, Ok(Reply::Flushed(4))),
+        (Step::Shift { x: 4 }, Ok(Reply::Shifted(4))),
+        (Step::Close, Ok(Reply::Ticket(3))),
+        (Step::Read { t: 1, a: 0 }, Ok(Reply::Readable)),
+        (Step::Refresh { t: 0 }, entered(4, 8, 4, 8)),
+        (Step::Take, Err(Fault::NotReady { front: 3, safe: 2 })),
+        (Step::Release { t: 1 }, Ok(Reply::Left)),
+        (Step::Take, Ok(Reply::Taken(3))),
+        (Step::Done { ticket: 3 }, Ok(Reply::Closed(4))),
+        (Step::Allocate { t: 0, n: 1 }, Err(Fault::Busy { page: 2 })),
+        (Step::CleanTake, Ok(Reply::Page(0))),
+        (Step::CleanDone { page: 0 }, Ok(Reply::Freed(0))),
+        (Step::Allocate { t: 0, n: 1 }, Ok(Reply::At(8))),
+        (Step::Bump { tag: 9 }, Ok(Reply::Ticket(4))),
     ];
-    walk(&rt, rt.alloc(), 4, &rows)?;
+    go_on(rt, &mut core, rows);
+    let snapshot = Snapshot {
+        epoch: 5,
+        safe: 3,
+        protected: 1,
+        pending: 1,
+        taken: 0,
+        six: Six {
+            closed: 4,
+            head: 4,
+            flushed: 4,
+            safe_read_only: 8,
+            read_only: 8,
+            tail: 9,
+        },
+        frames: [1, 1, 0, 0, 0],
+    };
+    assert_eq!(rt; core.snapshot(), snapshot);
+    assert_eq!(rt; core.check(&Step::Acquire { t: 2 }), Err(Fault::NoSlot));
+    let seen = View {
+        read_only: 8,
+        head: 4,
+        tail: 9,
+    };
+    assert_eq!(rt; core.view(0), Some(seen));
+    assert_eq!(rt; core.pending().len(), 1);
+    let mut drain = core.into_drain();
+    assert_eq!(rt; drain.take(4), Ok((4, Action::User(Tag(9)))));
     Ok(())
 }
 
 #[test]
-fn looks(rt: HostRuntime) -> Result<(), Fault> {
-    let rows = [
-        (Step::Acquire { t: 0 }, entered(1, 0, 0, 0)),
-        (Step::Allocate { t: 0, n: 4 }, Ok(Reply::At(0))),
-        (Step::Raise { x: 4 }, Ok(Reply::Raised(4))),
-        (
-            Step::Look {
-                t: 0,
-                read_only: 4,
-                head: 0,
-            },
-            looked(4, 0, 4),
-        ),
-        (
-            Step::Write { t: 0, a: 1, v: 1 },
-            Err(Fault::Below { read_only: 4 }),
-        ),
-        (
-            Step::Look {
-                t: 0,
-                read_only: 2,
-                head: 0,
-            },
-            Err(Fault::Stale),
-        ),
-        (
-            Step::Look {
-                t: 0,
-                read_only: 900,
-                head: 0,
-            },
-            looked(900, 0, 4),
-        ),
-        (Step::Refresh { t: 0 }, entered(1, 4, 0, 4)),
-    ];
-    walk(&rt, rt.alloc(), 4, &rows)?;
-    Ok(())
-}
-
-#[test]
-fn sizes_and_skipped_word(rt: HostRuntime) -> Result<(), Fault> {
-    let rows = [
-        (Step::Acquire { t: 0 }, entered(1, 0, 0, 0)),
-        (Step::Allocate { t: 0, n: 3 }, Ok(Reply::At(0))),
-        (Step::Allocate { t: 0, n: 2 }, Ok(Reply::At(4))),
-        (Step::Allocate { t: 0, n: 0 }, Err(Fault::Size)),
-        (Step::Allocate { t: 0, n: 5 }, Err(Fault::Size)),
-        (Step::Write { t: 0, a: 3, v: 8 }, Ok(Reply::Written)),
-        (
-            Step::Write { t: 0, a: 6, v: 8 },
-            Err(Fault::Beyond { tail: 6 }),
-        ),
-    ];
-    walk(&rt, rt.alloc(), 4, &rows)?;
-    Ok(())
-}
-
-#[test]
-fn raises_and_shifts(rt: HostRuntime) -> Result<(), Fault> {
-    let rows = [
-        (Step::Acquire { t: 0 }, entered(1, 0, 0, 0)),
-        (Step::Allocate { t: 0, n: 4 }, Ok(Reply::At(0))),
-        (Step::Raise { x: 0 }, Err(Fault::NotAbove)),
-        (Step::Raise { x: 5 }, Err(Fault::AboveTail)),
-        (Step::Raise { x: 4 }, Ok(Reply::Raised(4))),
-        (Step::Raise { x: 4 }, Err(Fault::NotAbove)),
-        (Step::Shift { x: 0 }, Err(Fault::NotAbove)),
-        (Step::Shift { x: 3 }, Err(Fault::NotPage)),
-        (Step::Shift { x: 4 }, Err(Fault::AboveFlushed)),
-    ];
-    walk(&rt, rt.alloc(), 4, &rows)?;
-    Ok(())
-}
-
-#[test]
-fn protection(rt: HostRuntime) -> Result<(), Fault> {
-    let rows = [
-        (Step::Acquire { t: 0 }, entered(1, 0, 0, 0)),
-        (Step::Release { t: 0 }, Ok(Reply::Left)),
-        (Step::Write { t: 0, a: 0, v: 1 }, Err(Fault::NotProtected)),
-        (Step::Acquire { t: 0 }, entered(1, 0, 0, 0)),
-        (Step::Acquire { t: 0 }, Err(Fault::Occupied)),
-        (Step::Acquire { t: 2 }, Err(Fault::NoSlot)),
-    ];
-    walk(&rt, rt.alloc(), 2, &rows)?;
-    Ok(())
-}
-
-#[test]
-fn greatest_numbers(rt: HostRuntime) -> Result<(), Fault> {
-    let rows = [
-        (Step::Acquire { t: 0 }, entered(1, 0, 0, 0)),
-        (Step::Acquire { t: u64::MAX }, Err(Fault::NoSlot)),
-        (Step::Raise { x: u64::MAX }, Err(Fault::AboveTail)),
-        (Step::Shift { x: u64::MAX }, Err(Fault::NotPage)),
-        (Step::Shift { x: u64::MAX - 3 }, Err(Fault::AboveFlushed)),
-        (Step::Allocate { t: 0, n: u64::MAX }, Err(Fault::Size)),
-        (
-            Step::Write {
-                t: 0,
-                a: u64::MAX,
-                v: 1,
-            },
-            Err(Fault::Beyond { tail: 0 }),
-        ),
-        (
-            Step::Read { t: 0, a: u64::MAX },
-            Err(Fault::Beyond { tail: 0 }),
-        ),
-        (Step::Done { ticket: u64::MAX }, Err(Fault::NotTaken)),
-        (
-            Step::FlushDone {
-                page: u64::MAX,
-                ok: true,
-            },
-            Err(Fault::NotInFlight),
-        ),
-        (Step::CleanDone { page: u64::MAX }, Err(Fault::NotCleaning)),
-        (
-            Step::Look {
-                t: 0,
-                read_only: u64::MAX,
-                head: u64::MAX,
-            },
-            looked(u64::MAX, u64::MAX, 0),
-        ),
-        (
-            Step::Write { t: 0, a: 0, v: 1 },
-            Err(Fault::Below {
-                read_only: u64::MAX,
-            }),
-        ),
-        (Step::Refresh { t: 0 }, entered(1, 0, 0, 0)),
-    ];
-    walk(&rt, rt.alloc(), 4, &rows)?;
-    Ok(())
-}
-
-// One run of a whole row gives the same as its steps one by one.
-#[test]
-fn a_row_at_once(rt: HostRuntime) -> Result<(), Fault> {
-    let steps = [
-        Step::Bump { tag: 3 },
-        Step::Take,
-        Step::Take,
-        Step::Done { ticket: 1 },
-    ];
-    let mut results = [Err(Fault::NoSlot); 4];
-    let mut core = Core::<ScanTable, Tag>::open(rt.alloc(), sizes(&rt, 2))?;
-    core.run(&steps, &mut results);
-    let expected = [
-        Ok(Reply::Ticket(1)),
-        Ok(Reply::Taken(1)),
-        Err(Fault::Empty),
-        Ok(Reply::Ran(3)),
-    ];
-    assert_eq!(rt; results, expected);
-    Ok(())
+fn over_a_table_that_scans(rt: HostRuntime) -> Result<(), Fault> {
+    stale_reader::<ScanTable>(&rt, rt.alloc())
 }
 
 /// A job that can be neither copied nor made from nothing.
@@ -336,19 +121,14 @@ impl Tagged for Job {
 
 #[test]
 fn jobs_come_back(rt: HostRuntime) -> Result<(), Fault> {
-    let mut core = Core::<ScanTable, Job>::open(rt.alloc(), sizes(&rt, 1))?;
+    let mut core = Core::<ScanTable, Job>::open(rt.alloc(), sizes(&rt))?;
     assert_eq!(rt; core.bump(Ask::User(Job { tag: 7 })), Ok(1));
-    assert_eq!(rt;
-        core.bump(Ask::User(Job { tag: 8 })),
-        Err((Fault::DrainFull, Ask::User(Job { tag: 8 })))
-    );
+    assert_eq!(rt; core.bump(Ask::Settle), Ok(2));
+    let refused = Err((Fault::DrainFull, Ask::User(Job { tag: 8 })));
+    assert_eq!(rt; core.bump(Ask::User(Job { tag: 8 })), refused);
     let (firing, job) = core.take()?;
     assert_eq!(rt; firing.ticket(), 1);
     assert_eq!(rt; job, Some(Job { tag: 7 }));
     assert_eq!(rt; core.act(&Step::Done { ticket: 1 }), Ok(Reply::Ran(7)));
-    assert_eq!(rt; core.bump(Ask::Settle), Ok(2));
-    let (_, job) = core.take()?;
-    assert_eq!(rt; job, None);
-    assert_eq!(rt; core.act(&Step::Done { ticket: 2 }), Ok(Reply::Settled(0)));
     Ok(())
 }

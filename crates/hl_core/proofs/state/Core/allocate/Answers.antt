@@ -1,4 +1,4 @@
-use Rattle.std.proofs.Common.{sym, arith}
+use Rattle.std.proofs.Common.{rules, sym, arith}
 use Rattle.std.proofs.lemmas.Result.{err_from_is_err_and}
 use Rattle.hl_core.proofs.SlotStands.{still_stands}
 use Rattle.hl_core.proofs.AllocateStands.{size_refused, enter_next, enter_fits, enter_refused, seen_fits, entered_as, entered_before, entered_now, allocate_ok}
@@ -12,11 +12,11 @@ returns-in_err-place-clause-made g c =
 
 pub enter-requires-clause-next : goal.enter-requires-clause-next
 enter-requires-clause-next g c =
-    enter_next g.J.Tagged.tag _ c.args.n c.in_ok-place.place c.page.result c.self.invariant c.in_ok-place.ensures.answer c.page.ensures.value (entered_as g.J.Tagged.tag _ _ _ _ c.if-not-is_entered.true (rw (sym c.self.view_is) at c.is_entered.ensures))
+    enter_next g.J.Tagged.tag _ c.args.n c.in_ok-place.place c.page.result c.self.invariant.standing c.in_ok-place.ensures.answer c.page.ensures.value (entered_as g.J.Tagged.tag _ _ _ _ c.if-not-is_entered.true (rw (sym c.self.view_is) at c.is_entered.ensures))
 
 pub enter-requires-clause-within_space : goal.enter-requires-clause-within_space
 enter-requires-clause-within_space g c =
-    enter_fits g.J.Tagged.tag _ c.args.n c.in_ok-place.place c.page.result c.self.invariant c.in_ok-place.ensures.answer c.page.ensures.value
+    enter_fits g.J.Tagged.tag _ c.args.n c.in_ok-place.place c.page.result c.self.invariant.standing c.in_ok-place.ensures.answer c.page.ensures.value
 
 pub returns-in_err-enter-clause-made : goal.returns-in_err-enter-clause-made
 returns-in_err-enter-clause-made g c =
@@ -27,8 +27,8 @@ returns-in_err-enter-clause-made g c =
 pub index_mut-requires : goal.index_mut-requires
 index_mut-requires g c =
     elim c.if-not-is_entered.branch [
-      | then-not-is_entered+in_ok-enter w ↦ rw w.self-inside-is (omega (arith, seen_fits g.J.Tagged.tag _ c.args.t c.in_ok-seen.seen c.self.invariant (rw (sym c.self.view_is) at c.in_ok-seen.ensures), c.self.inside.views.ok))
-      | else-not-is_entered w ↦ rw w.self-inside-is (omega (arith, seen_fits g.J.Tagged.tag _ c.args.t c.in_ok-seen.seen c.self.invariant (rw (sym c.self.view_is) at c.in_ok-seen.ensures), c.self.inside.views.ok))
+      | then-not-is_entered+in_ok-enter w ↦ rw w.self-inside-is (omega (arith, seen_fits g.J.Tagged.tag _ c.args.t c.in_ok-seen.seen c.self.invariant.standing (rw (sym c.self.view_is) at c.in_ok-seen.ensures), c.self.inside.views.ok))
+      | else-not-is_entered w ↦ rw w.self-inside-is (omega (arith, seen_fits g.J.Tagged.tag _ c.args.t c.in_ok-seen.seen c.self.invariant.standing (rw (sym c.self.view_is) at c.in_ok-seen.ensures), c.self.inside.views.ok))
     ]
 
 pub invariant_of-self-2 : goal.invariant_of-self-2
@@ -36,14 +36,20 @@ invariant_of-self-2 g c =
     elim c.if-not-is_entered.branch [
       | then-not-is_entered+in_ok-enter w ↦
           rw w.self-inside-is
-          (still_stands g.J.Tagged.tag _ _ _ _ c.self.invariant
-          (allocate_ok g.J.Tagged.tag _ c.args.t c.args.n c.in_ok-place-2.place c.tail-tail.result c.in_ok-seen.seen c.allocate.new.self w.enter.new.self (rw (sym c.self.view_is) at c.in_ok-seen.ensures) (rw w.self-inside-is at c.in_ok-place-2.ensures.answer) (rw w.self-inside-is at c.in_ok-place-2.ensures.effect) c.tail-tail.ensures.value
-          (entered_now g.J.Tagged.tag _ c.args.t c.args.n c.in_ok-place.place c.page.result w.enter.new.self c.in_ok-place.ensures.answer c.page.ensures.value (entered_as g.J.Tagged.tag _ _ _ _ w.if-not-is_entered.true (rw (sym c.self.view_is) at c.is_entered.ensures)) w.in_ok-enter.ensures.answer w.in_ok-enter.ensures.pages)))
+          (record {
+            standing = still_stands g.J.Tagged.tag _ _ _ _ c.self.invariant.standing
+                (allocate_ok g.J.Tagged.tag _ c.args.t c.args.n c.in_ok-place-2.place c.tail-tail.result c.in_ok-seen.seen c.allocate.new.self w.enter.new.self (rw (sym c.self.view_is) at c.in_ok-seen.ensures) (rw w.self-inside-is at c.in_ok-place-2.ensures.answer) (rw w.self-inside-is at c.in_ok-place-2.ensures.effect) c.tail-tail.ensures.value
+                (entered_now g.J.Tagged.tag _ c.args.t c.args.n c.in_ok-place.place c.page.result w.enter.new.self c.in_ok-place.ensures.answer c.page.ensures.value (entered_as g.J.Tagged.tag _ _ _ _ w.if-not-is_entered.true (rw (sym c.self.view_is) at c.is_entered.ensures)) w.in_ok-enter.ensures.answer w.in_ok-enter.ensures.pages));
+            exact = search rules;
+          })
       | else-not-is_entered w ↦
           rw w.self-inside-is
-          (still_stands g.J.Tagged.tag _ _ _ _ c.self.invariant
-          (allocate_ok g.J.Tagged.tag _ c.args.t c.args.n c.in_ok-place-2.place c.tail-tail.result c.in_ok-seen.seen c.allocate.new.self _ (rw (sym c.self.view_is) at c.in_ok-seen.ensures) (rw w.self-inside-is at c.in_ok-place-2.ensures.answer) (rw w.self-inside-is at c.in_ok-place-2.ensures.effect) c.tail-tail.ensures.value
-          (entered_before g.J.Tagged.tag _ c.args.t c.args.n c.in_ok-place.place c.page.result c.in_ok-place.ensures.answer c.page.ensures.value (entered_as g.J.Tagged.tag _ _ _ _ w.if-not-is_entered.false (rw (sym c.self.view_is) at c.is_entered.ensures)))))
+          (record {
+            standing = still_stands g.J.Tagged.tag _ _ _ _ c.self.invariant.standing
+                (allocate_ok g.J.Tagged.tag _ c.args.t c.args.n c.in_ok-place-2.place c.tail-tail.result c.in_ok-seen.seen c.allocate.new.self _ (rw (sym c.self.view_is) at c.in_ok-seen.ensures) (rw w.self-inside-is at c.in_ok-place-2.ensures.answer) (rw w.self-inside-is at c.in_ok-place-2.ensures.effect) c.tail-tail.ensures.value
+                (entered_before g.J.Tagged.tag _ c.args.t c.args.n c.in_ok-place.place c.page.result c.in_ok-place.ensures.answer c.page.ensures.value (entered_as g.J.Tagged.tag _ _ _ _ w.if-not-is_entered.false (rw (sym c.self.view_is) at c.is_entered.ensures))));
+            exact = search rules;
+          })
     ]
 
 pub returns-clause-made : goal.returns-clause-made

@@ -10,8 +10,10 @@ returns-in_err-ended-clause-made g c =
     rw (p.1, p.2, sym c.self.view_is) (bare_err g.J.Tagged.tag _ c.in_err-ended.field-0.0 (g.E.Epochs.table c.end_epoch.new.table) c.in_err-ended.ensures.answer c.in_err-ended.ensures.effect)
 
 pub invariant_of-self-2 : goal.invariant_of-self-2
-invariant_of-self-2 g c =
-    still_stands g.J.Tagged.tag _ _ _ _ c.self.invariant (bare_ok g.J.Tagged.tag _ c.in_ok-ended.ended (g.E.Epochs.table c.end_epoch.new.table) c.in_ok-ended.ensures.answer c.in_ok-ended.ensures.effect)
+invariant_of-self-2 g c = record {
+  standing = still_stands g.J.Tagged.tag _ _ _ _ c.self.invariant.standing (bare_ok g.J.Tagged.tag _ c.in_ok-ended.ended (g.E.Epochs.table c.end_epoch.new.table) c.in_ok-ended.ensures.answer c.in_ok-ended.ensures.effect);
+  exact = c.self.invariant.exact;
+}
 
 pub returns-clause-made : goal.returns-clause-made
 returns-clause-made g c =

@@ -10,8 +10,10 @@ returns-in_err-flushed-clause-made g c =
     rw (p.1, p.2, sym c.self.view_is) (flush_done_err g.J.Tagged.tag _ c.args.page c.args.ok c.in_err-flushed.field-0.0 c.flush_done.new.self c.in_err-flushed.ensures.answer c.in_err-flushed.ensures.pages)
 
 pub invariant_of-self-2 : goal.invariant_of-self-2
-invariant_of-self-2 g c =
-    still_stands g.J.Tagged.tag _ _ _ _ c.self.invariant (flush_done_ok g.J.Tagged.tag _ c.args.page c.args.ok c.in_ok-flushed.flushed c.flush_done.new.self c.in_ok-flushed.ensures.answer c.in_ok-flushed.ensures.pages)
+invariant_of-self-2 g c = record {
+  standing = still_stands g.J.Tagged.tag _ _ _ _ c.self.invariant.standing (flush_done_ok g.J.Tagged.tag _ c.args.page c.args.ok c.in_ok-flushed.flushed c.flush_done.new.self c.in_ok-flushed.ensures.answer c.in_ok-flushed.ensures.pages);
+  exact = c.self.invariant.exact;
+}
 
 pub returns-clause-made : goal.returns-clause-made
 returns-clause-made g c =

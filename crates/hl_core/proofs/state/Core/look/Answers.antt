@@ -1,4 +1,4 @@
-use Rattle.std.proofs.Common.{sym, arith}
+use Rattle.std.proofs.Common.{rules, sym, arith}
 use Rattle.std.proofs.lemmas.Result.{err_from_is_err_and}
 use Rattle.hl_model.specs.Views.{view_of}
 use Rattle.hl_core.proofs.LookStands.{refused_by, look_ok, look_fits}
@@ -11,10 +11,13 @@ returns-in_err-seen-clause-made g c =
     rw (p.1, p.2) (refused_by g.J.Tagged.tag _ _ c.in_err-seen.field-0.0 (view_of c.args.self.now.sizes c.args.t) c.in_err-seen.ensures)
 
 pub index_mut-requires : goal.index_mut-requires
-index_mut-requires g c = omega (arith, look_fits g.J.Tagged.tag _ c.args.t c.args.read_only c.args.head c.in_ok-seen.seen c.self.invariant (rw (sym c.self.view_is) at c.in_ok-seen.ensures), c.self.inside.views.ok)
+index_mut-requires g c = omega (arith, look_fits g.J.Tagged.tag _ c.args.t c.args.read_only c.args.head c.in_ok-seen.seen c.self.invariant.standing (rw (sym c.self.view_is) at c.in_ok-seen.ensures), c.self.inside.views.ok)
 
 pub invariant_of-self : goal.invariant_of-self
-invariant_of-self g c = still_stands g.J.Tagged.tag _ _ _ _ c.self.invariant (look_ok g.J.Tagged.tag _ c.args.t c.args.read_only c.args.head c.in_ok-seen.seen (rw (sym c.self.view_is) at c.in_ok-seen.ensures))
+invariant_of-self g c = record {
+  standing = still_stands g.J.Tagged.tag _ _ _ _ c.self.invariant.standing (look_ok g.J.Tagged.tag _ c.args.t c.args.read_only c.args.head c.in_ok-seen.seen (rw (sym c.self.view_is) at c.in_ok-seen.ensures));
+  exact = search rules;
+}
 
 pub returns-clause-made : goal.returns-clause-made
 returns-clause-made g c = rw (sym c.self.view_is) (look_ok g.J.Tagged.tag _ c.args.t c.args.read_only c.args.head c.in_ok-seen.seen (rw (sym c.self.view_is) at c.in_ok-seen.ensures))

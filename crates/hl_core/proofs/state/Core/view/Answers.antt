@@ -14,4 +14,4 @@ returns-clause-value g c =
 pub returns-clause-bounded : goal.returns-clause-bounded
 returns-clause-bounded g c =
     let h = c.in_ok-get.ensures.lookup.3 in
-    rw (sym c.self.view_is) (view_bounded g.J.Tagged.tag _ c.args.t c.deref.result.now c.in_ok-get.field-0.now c.self.invariant c.deref.ensures.value h.0 (sym (h.1 None)))
+    rw (sym c.self.view_is) (view_bounded g.J.Tagged.tag _ c.args.t c.deref.result.now c.in_ok-get.field-0.now c.self.invariant.standing c.deref.ensures.value h.0 (sym (h.1 None)))
