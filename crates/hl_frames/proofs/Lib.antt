@@ -1,2 +1,3 @@
 pub mod PageLaws
-pub mod RowLaws
+pub mod MarkLaws
+pub mod KeptLaws

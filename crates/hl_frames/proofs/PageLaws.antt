@@ -1,8 +1,7 @@
 -- What each call makes of the pages stays true of all frames.
-use Rattle.std.proofs.Common.{◌≡◌, ℕ, zero, suc, ◌+◌, ◌-◌, ◌*◌, ◌/◌, ◌%◌, ◌^◌, ◌<◌, ◌≤◌, ◌↔◌, Bool, true, false, not, ◌||◌, Option, Some, None, List, length, replicate, get_or, set, length-set, get_or-set_same, get_or-set_other, zero-add, refl, sym, ap, ◌∙◌, arith, inl, inr}
+use Rattle.std.proofs.Common.{◌≡◌, ℕ, ◌+◌, ◌-◌, ◌*◌, ◌/◌, ◌%◌, ◌^◌, ◌<◌, ◌≤◌, Bool, true, false, not, ◌||◌, Option, Some, None, List, length, get_or, set, length-set, get_or-set_same, get_or-set_other, zero-add, refl, sym, ap, ◌∙◌, arith, inl, inr}
 use Rattle.std.specs.Option.{option_map}
 use Rattle.std.proofs.lemmas.Bool.{cases_eq, cases_lt, lt-ltb, le-ltb, eq-eqb}
-use Rattle.std.proofs.lemmas.List.{length-replicate}
 use Rattle.std.proofs.Math.Nat.{div-add-mod, mul-le-mul_left, mod-lt, mod-le, add-mod_right, le-div_iff_mul-le, div-le_of_le-mul, mul-le-mul_right, mul_comm}
 use Rattle.hl_frames.specs.declared.held.Held.{Held}
 use Rattle.std.specs.List.{range_with_len}
@@ -10,7 +9,7 @@ use Rattle.std.proofs.lemmas.List.FromFn.{length-range_with_len, get_or-range_wi
 use Rattle.std.proofs.lemmas.List.Sums.{prefix_len-le-length, prefix_len_passes}
 use Rattle.std.proofs.lemmas.Bool.Decides.{eqb_tells}
 use Rattle.hl_frames.specs.Pages.{Pages, held_for, left_or_marked, is_marked, is_flushed, is_in_flight, is_freed, is_cleaning, pages_below, is_unflushed, is_uncleaned, next_to_flush, next_to_clean, flushed_run, flushed_offset}
-use Rattle.hl_frames.specs.Answers.{opened, unmarked, changed, entered, flush_begun, flush_ended, clean_begun, clean_ended}
+use Rattle.hl_frames.specs.Answers.{unmarked, changed, entered, flush_begun, flush_ended, clean_begun, clean_ended}
 use Rattle.hl_frames.specs.IsFrames.{AreMarks, page_in, HasLeft, IsFrames}
 use Rattle.hl_model.proofs.ListLaws.{find-range}
 
@@ -24,7 +23,7 @@ pub left-flushed : (T : Pages) (q : ℕ) → IsFrames T → q < T.entered - leng
 left-flushed T q is before = left-marked (λ held. held.flushed) q (held_for q T) (is.left q (omega arith))
 
 -- pages that left their frames are freed
-pub left-freed : (T : Pages) (q : ℕ) → IsFrames T → q < T.entered - length T.frames → is_freed q T ≡ true
+left-freed : (T : Pages) (q : ℕ) → IsFrames T → q < T.entered - length T.frames → is_freed q T ≡ true
 left-freed T q is before = left-marked (λ held. held.freed) q (held_for q T) (is.left q (omega arith))
 
 -- a page lies in a frame
@@ -37,12 +36,6 @@ HasLeft-same q None None same left = left
 HasLeft-same q None (Some held) same left = absurd left
 HasLeft-same q (Some held) None same left = absurd cc
 HasLeft-same q (Some held) (Some held') same left = let e : held'.page ≡ held.page = cc in omega arith
-
--- no frame of these holds anything
-pub get_or-replicate_none : {X : Type 0} (n f : ℕ) → get_or {A = Option X} (replicate n None) f None ≡ None
-get_or-replicate_none zero f = refl
-get_or-replicate_none (suc n) zero = refl
-get_or-replicate_none (suc n) (suc f) = get_or-replicate_none n f
 
 -- no page lies in an empty frame
 empty-same : (o o' : Option Held) → page_in o' ≡ page_in o → o ≡ None → o' ≡ None
@@ -61,7 +54,7 @@ changed-was change None held e = absurd cc
 changed-was change (Some was) held e = (was, (refl, cc))
 
 -- where marks of one page change, all frames stay frames
-pub IsFrames-changed : (T : Pages) (q : ℕ) (change : Held → Held) → IsFrames T → ((held : Held) → (change held).page ≡ held.page) → ((held : Held) → held_for q T ≡ Some held → AreMarks (change held)) → IsFrames (changed q change T)
+IsFrames-changed : (T : Pages) (q : ℕ) (change : Held → Held) → IsFrames T → ((held : Held) → (change held).page ≡ held.page) → ((held : Held) → held_for q T ≡ Some held → AreMarks (change held)) → IsFrames (changed q change T)
 IsFrames-changed T q change is keeps marks =
     let F : ℕ = length T.frames in
     let place : ℕ = q % F in
@@ -145,7 +138,7 @@ left_or_marked-at : (mark : Held → Bool) (q : ℕ) (held : Held) → held.page
 left_or_marked-at mark q held lies e = rw (le-ltb q held.page (omega arith), eq-eqb q held.page (sym lies)) at e
 
 -- what a frame holds has a mark of its page
-marked-at : (mark : Held → Bool) (q : ℕ) (held : Held) → is_marked mark q (Some held) ≡ true → mark held ≡ true
+pub marked-at : (mark : Held → Bool) (q : ℕ) (held : Held) → is_marked mark q (Some held) ≡ true → mark held ≡ true
 marked-at mark q held e =
     elim (eqb_tells q held.page) [
       | inl is ↦ rw is.0 at e
@@ -153,7 +146,7 @@ marked-at mark q held e =
     ]
 
 -- the page of what a frame holds
-page-at : (T : Pages) (q : ℕ) (held : Held) → page_in (held_for q T) ≡ Some q → held_for q T ≡ Some held → held.page ≡ q
+pub page-at : (T : Pages) (q : ℕ) (held : Held) → page_in (held_for q T) ≡ Some q → held_for q T ≡ Some held → held.page ≡ q
 page-at T q held lies e = let lies' = rw e at lies in cc
 
 -- the marks stay right where the flush of a page begins
@@ -281,27 +274,4 @@ IsFrames-entered T q is next space =
                 rw (← is') (record { in_flight_unflushed = λ never. refl; cleaning_flushed = λ never. absurd cc; cleaning_unfreed = λ never. refl; freed_flushed = λ never. absurd cc })
             | inr other ↦ is.marks f held (sym (get_or-set_other T.frames place f (Some (unmarked q)) None other) ∙ e)
           ];
-    }
-
--- a page ends at or below an offset where it is below the number of pages that do
-ends-below : (q offset page : ℕ) → 0 < page → (q < offset / page) ↔ ((q + 1) * page ≤ offset)
-ends-below q offset page some =
-    let fits : (q + 1 ≤ offset / page) ↔ ((q + 1) * page ≤ offset) = le-div_iff_mul-le some in
-    (λ below. fits.0 (omega arith), λ ends. omega (arith, fits.1 ends))
-
--- frames in which nothing was entered
-pub IsFrames-opened : (page frames : ℕ) → 4 ≤ page → page ≤ 4096 → 2 ≤ frames → frames ≤ 256 → IsFrames (opened page frames)
-IsFrames-opened page frames page_least page_most frames_least frames_most =
-    let none : (f : ℕ) → get_or (replicate frames None) f None ≡ None = λ f. get_or-replicate_none frames f in
-    record {
-      page_least = page_least;
-      page_most = page_most;
-      frames_least = rw length-replicate frames_least;
-      frames_most = rw length-replicate frames_most;
-      within_space = omega arith;
-      ends = λ q offset. ends-below q offset page (omega arith);
-      held = λ q below recent. absurd (omega arith);
-      left = λ q before. absurd (omega arith);
-      empty = λ f past. none f;
-      marks = λ f held e. absurd (cc (none f));
     }

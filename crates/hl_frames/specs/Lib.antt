@@ -1,4 +1,5 @@
 pub mod Pages
 pub mod Answers
 pub mod IsFrames
-pub mod Rows
+pub mod Row
+pub mod Kept

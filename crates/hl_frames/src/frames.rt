@@ -1,9 +1,11 @@
-ghost use Rattle.std.specs.Prelude.{◌≡◌, ◌-◌, ◌/◌, ◌%◌, ◌^◌, ◌<◌, ◌≤◌, replicate, length, slice_index_or, IfOk, IfErr, OnErr};
-ghost use Rattle.hl_frames.specs.Pages.{is_flushed, is_in_flight, is_freed, is_cleaning, is_unflushed, is_uncleaned, may_enter, pages_below, next_to_flush, next_to_clean, flushed_run, flushed_offset};
+ghost use Rattle.std.specs.Prelude.{◌≡◌, ◌+◌, ◌/◌, ◌%◌, ◌^◌, ◌<◌, ◌≤◌, length, slice_index_or, IfOk, IfErr, OnErr};
+ghost use Rattle.hl_frames.specs.Pages.{held_for, is_in_flight, is_cleaning, may_enter, pages_below, next_to_flush, next_to_clean, flushed_offset};
 ghost use Rattle.hl_frames.specs.Answers.{opened, page_or, after_take, enter_answer, after_enter, flush_begun, flush_done_answer, after_flush_done, clean_begun, clean_done_answer, after_clean_done, state_of};
 ghost use Rattle.hl_frames.specs.IsFrames.{IsFrames};
 
 use crate::held::Held;
+use crate::row::{free_row, is_cleaning, is_freed, is_in_flight, skip_flushed, skip_taken};
+use crate::turns::Turns;
 use hl_model::{Fault, FrameState, Params};
 use std::alloc::Global;
 use std::marker::Model;
@@ -13,13 +15,14 @@ use std::marker::Model;
 pub struct Frames {
     words: u64,
     entered: u64,
-    // Each row has a place for each frame, with a page of that frame: the one entered last, and the last one that
-    // was flushed, is in flight, was freed, is being cleaned. A mark counts where it names the page entered last.
-    last: Vec<Option<u64>>,
-    flushed: Vec<Option<u64>>,
-    in_flight: Vec<Option<u64>>,
-    freed: Vec<Option<u64>>,
-    cleaning: Vec<Option<u64>>,
+    held: Vec<Option<Held>>,
+    // The least page that isn't flushed: so many pages are, from page 0 on.
+    run: u64,
+    // The least page that is neither flushed nor in flight.
+    to_flush: u64,
+    // The least page that is neither freed nor being cleaned; nor is any above it.
+    to_clean: u64,
+    turns: Turns,
 }
 
 impl Model for Frames {
@@ -27,7 +30,7 @@ impl Model for Frames {
 
     ghost Value = { Pages };
 
-    ghost use Rattle.hl_frames.specs.Rows.{pages_of, IsKept};
+    ghost use Rattle.hl_frames.specs.Kept.{pages_of, IsKept};
 
     ghost view = { pages_of };
 
@@ -37,21 +40,24 @@ impl Model for Frames {
 impl Frames {
     /// Frames that hold nothing, for pages of the sizes that `params` gives.
     ///
-    /// `OutOfMemory` where memory for the rows was refused.
+    /// `OutOfMemory` where memory for the row was refused.
     pub fn open(alloc: Global, params: Params) -> Result<Frames, Fault>
         ensures ok { IfOk result (λ made. made ≡ opened params.page params.frames) }
         ensures err { IfErr result (λ fault. fault ≡ Fault.OutOfMemory) }
         ensures known { IfOk result IsFrames }
     {
-        let frames = params.frames() as usize;
         Ok(Frames {
             words: params.page(),
             entered: 0,
-            last: row(alloc, frames)?,
-            flushed: row(alloc, frames)?,
-            in_flight: row(alloc, frames)?,
-            freed: row(alloc, frames)?,
-            cleaning: row(alloc, frames)?,
+            held: free_row(alloc, params.frames())?,
+            run: 0,
+            to_flush: 0,
+            to_clean: 0,
+            turns: Turns {
+                enter: 0,
+                flush_done: 0,
+                clean_done: 0,
+            },
         })
     }
 
@@ -71,12 +77,15 @@ impl Frames {
             return Err(Fault::Busy { page });
         }
         let place = self.place_of(page);
-        self.last[place] = Some(page);
-        self.flushed[place] = None;
-        self.in_flight[place] = None;
-        self.freed[place] = None;
-        self.cleaning[place] = None;
+        self.held[place] = Some(Held {
+            page,
+            flushed: false,
+            in_flight: false,
+            freed: false,
+            cleaning: false,
+        });
         self.entered = page + 1;
+        self.turns.enter = 1;
         Ok(())
     }
 
@@ -85,8 +94,8 @@ impl Frames {
         ensures free { result ≡ may_enter page self.now }
         ensures known { IsFrames self.now }
     {
-        let frames = self.last.len() as u64;
-        page < frames || self.is_freed(page - frames)
+        let frames = self.held.len() as u64;
+        page < frames || is_freed(self.held_for(page - frames), page - frames)
     }
 
     /// Takes the least sealed page that is neither flushed nor in flight: it then is in flight. `sro` is the safe
@@ -104,7 +113,11 @@ impl Frames {
             return Err(Fault::NoneSealed);
         };
         let place = self.place_of(page);
-        self.in_flight[place] = Some(page);
+        self.held[place] = self.held[place].map(|held| Held {
+            in_flight: true,
+            ..held
+        });
+        self.to_flush = skip_taken(&self.held, page + 1, self.entered);
         Ok(page)
     }
 
@@ -122,9 +135,19 @@ impl Frames {
             return Err(Fault::NotInFlight);
         }
         let place = self.place_of(page);
-        self.in_flight[place] = None;
-        self.flushed[place] = ok.then_some(page);
-        Ok(self.flushed_until())
+        self.held[place] = self.held[place].map(|held| Held {
+            in_flight: false,
+            flushed: ok,
+            ..held
+        });
+        let walk = skip_flushed(&self.held, self.run, self.entered);
+        self.run = walk.page;
+        self.turns.flush_done = 1 + walk.turns;
+        if !ok {
+            // The page waits again.
+            self.to_flush = self.to_flush.min(page);
+        }
+        Ok(self.run * self.words)
     }
 
     /// Takes the least closed page that is neither freed nor being cleaned: it then is being cleaned. `closed` is
@@ -142,7 +165,11 @@ impl Frames {
             return Err(Fault::NoneClosed);
         };
         let place = self.place_of(page);
-        self.cleaning[place] = Some(page);
+        self.held[place] = self.held[place].map(|held| Held {
+            cleaning: true,
+            ..held
+        });
+        self.to_clean = page + 1;
         Ok(page)
     }
 
@@ -159,9 +186,22 @@ impl Frames {
             return Err(Fault::NotCleaning);
         }
         let place = self.place_of(page);
-        self.cleaning[place] = None;
-        self.freed[place] = Some(page);
+        self.held[place] = self.held[place].map(|held| Held {
+            cleaning: false,
+            freed: true,
+            ..held
+        });
+        self.turns.clean_done = 1;
         Ok(())
+    }
+
+    /// What a frame holds, below F: its last entered page, with that page's marks. None where nothing was entered.
+    pub fn marks(&self, frame: u64) -> Option<Held>
+        requires { frame < length self.now.frames }
+        ensures held { result ≡ slice_index_or self.now.frames frame None }
+        ensures known { IsFrames self.now }
+    {
+        self.held[frame as usize]
     }
 
     /// The state of a frame, below F, and its last entered page; None where it is free. `sro` is the safe read-only
@@ -174,7 +214,7 @@ impl Frames {
         ensures state { result ≡ state_of frame sro closed self.now }
         ensures known { IsFrames self.now }
     {
-        let Some(held) = self.held(frame as usize) else {
+        let Some(held) = self.marks(frame) else {
             return (FrameState::Free, None);
         };
         let page = held.page;
@@ -196,20 +236,7 @@ impl Frames {
         ensures offset { result ≡ flushed_offset self.now }
         ensures known { IsFrames self.now }
     {
-        self.flushed_run() * self.words
-    }
-
-    // How many pages from page 0 on are flushed.
-    fn flushed_run(&self) -> u64
-        ensures run { result ≡ flushed_run self.now }
-        ensures known { IsFrames self.now }
-    {
-        for page in self.oldest()..self.entered {
-            if !self.is_flushed(page) {
-                return page;
-            }
-        }
-        self.entered
+        self.run * self.words
     }
 
     /// The page that `flush_take` would take: the least one below the safe read-only offset, a word's address, that is
@@ -218,12 +245,8 @@ impl Frames {
         ensures page { result ≡ next_to_flush sro self.now }
         ensures known { IsFrames self.now }
     {
-        for page in self.oldest()..sro / self.words {
-            if self.is_unflushed(page) {
-                return Some(page);
-            }
-        }
-        None
+        let end = (self.to_flush + 1) * self.words;
+        (end <= sro).then_some(self.to_flush)
     }
 
     /// The page that `clean_take` would take: the least one below the closed offset, a word's address, that is neither
@@ -232,70 +255,31 @@ impl Frames {
         ensures page { result ≡ next_to_clean closed self.now }
         ensures known { IsFrames self.now }
     {
-        for page in self.oldest()..closed / self.words {
-            if self.is_uncleaned(page) {
-                return Some(page);
-            }
-        }
-        None
-    }
-
-    // The oldest page that a frame may hold: those before it are flushed and freed.
-    fn oldest(&self) -> u64
-        ensures page { result ≡ self.now.entered - length self.now.frames }
-        ensures known { IsFrames self.now }
-    {
-        self.entered.saturating_sub(self.last.len() as u64)
-    }
-
-    fn is_unflushed(&self, page: u64) -> bool
-        ensures { result ≡ is_unflushed self.now page }
-    {
-        !(self.is_flushed(page) || self.is_in_flight(page))
-    }
-
-    fn is_uncleaned(&self, page: u64) -> bool
-        ensures { result ≡ is_uncleaned self.now page }
-    {
-        !(self.is_freed(page) || self.is_cleaning(page))
-    }
-
-    fn is_flushed(&self, page: u64) -> bool
-        ensures { result ≡ is_flushed page self.now }
-    {
-        match self.held(self.place_of(page)) {
-            None => false,
-            Some(held) => page < held.page || page == held.page && held.flushed,
-        }
+        let end = (self.to_clean + 1) * self.words;
+        (end <= closed).then_some(self.to_clean)
     }
 
     /// Whether a page is in flight.
     pub fn is_in_flight(&self, page: u64) -> bool
         ensures { result ≡ is_in_flight page self.now }
     {
-        match self.held(self.place_of(page)) {
-            None => false,
-            Some(held) => page == held.page && held.in_flight,
-        }
-    }
-
-    fn is_freed(&self, page: u64) -> bool
-        ensures { result ≡ is_freed page self.now }
-    {
-        match self.held(self.place_of(page)) {
-            None => false,
-            Some(held) => page < held.page || page == held.page && held.freed,
-        }
+        is_in_flight(self.held_for(page), page)
     }
 
     /// Whether a page is being cleaned.
     pub fn is_cleaning(&self, page: u64) -> bool
         ensures { result ≡ is_cleaning page self.now }
     {
-        match self.held(self.place_of(page)) {
-            None => false,
-            Some(held) => page == held.page && held.cleaning,
-        }
+        is_cleaning(self.held_for(page), page)
+    }
+
+    /// How many frames of the row the last accepted call of each kind visited.
+    pub fn turns(&self) -> Turns
+        ensures enter { result.enter ≤ 1 }
+        ensures flush_done { result.flush_done ≤ length self.now.frames + 2 }
+        ensures clean_done { result.clean_done ≤ 1 }
+    {
+        self.turns
     }
 
     // The frame of a page.
@@ -303,44 +287,15 @@ impl Frames {
         ensures place { result ≡ page % length self.now.frames }
         ensures within { result < length self.now.frames }
     {
-        (page % self.last.len() as u64) as usize
+        (page % self.held.len() as u64) as usize
     }
 
-    // What a frame holds.
-    fn held(&self, frame: usize) -> Option<Held>
-        requires { frame < length self.now.frames }
-        ensures value { result ≡ slice_index_or self.now.frames frame None }
-        ensures known { IsFrames self.now }
+    // What the frame of a page holds.
+    fn held_for(&self, page: u64) -> Option<Held>
+        ensures { result ≡ held_for page self.now }
     {
-        let page = self.last[frame]?;
-        Some(Held {
-            page,
-            flushed: names(self.flushed[frame], page),
-            in_flight: names(self.in_flight[frame], page),
-            freed: names(self.freed[frame], page),
-            cleaning: names(self.cleaning[frame], page),
-        })
+        self.held[self.place_of(page)]
     }
-}
-
-ghost use Rattle.hl_frames.specs.Rows.{names};
-
-// Whether a row's place names this page.
-fn names(named: Option<u64>, page: u64) -> bool
-    ensures { result ≡ names named page }
-{
-    match named {
-        None => false,
-        Some(named) => named == page,
-    }
-}
-
-// A row with a place for each frame, none of which names a page.
-fn row(alloc: Global, frames: usize) -> Result<Vec<Option<u64>>, Fault>
-    ensures ok { IfOk result (λ made. made.items ≡ replicate frames None) }
-    ensures err { IfErr result (λ fault. fault ≡ Fault.OutOfMemory) }
-{
-    vec![in alloc; None; frames].map_err(|_| Fault::OutOfMemory)
 }
 
 #[cfg(test)]

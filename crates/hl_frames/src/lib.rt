@@ -8,7 +8,8 @@
 //!
 //! Pages are numbered from 0, and are entered in that order. With F frames page p lies in frame `p mod F`. So a
 //! frame holds one page after another, each F after the one before, and page p may be entered where `p < F`, or
-//! page p - F is freed. What a frame holds is the page that was entered in it last.
+//! page p - F is freed. What a frame holds is the page that was entered in it last, with that page's marks
+//! ([`Held`]): one row has it for each frame.
 //!
 //! # A page's way
 //!
@@ -25,20 +26,51 @@
 //! # The flushed offset
 //!
 //! It is the end of the longest run of flushed pages 0, 1, 2, .. So a flush that is done before that of an earlier
-//! page leaves it where it is.
+//! page leaves it where it is. The run is stored, and a flush done moves it over the marks, so to ask for the
+//! flushed offset is to read a number.
+//!
+//! # Where takes look
+//!
+//! Two more pages are stored, and neither depends on the offsets that the caller hands in:
+//!
+//! - the least page that is neither flushed nor in flight. It is the next to be flushed, once it is sealed. A take
+//!   moves it up to the next such page. A failed flush moves it down where the page that failed is less: that page
+//!   waits again, and is the next. A flush that ends well leaves it where it is, however late the answer comes: its
+//!   page was not waiting.
+//! - the least page that is neither freed nor being cleaned. All above it are so too, since takes are in order and
+//!   no clean fails: a take moves it up by one.
+//!
+//! # What a call costs
+//!
+//! A turn is a visit of one frame in the row.
+//!
+//! | call | turns |
+//! |---|---|
+//! | `enter`, `clean_take`, `clean_done`, `marks`, `state`, each question of one page | 1 |
+//! | `flushed_until`, `next_to_flush`, `next_to_clean` | none |
+//! | `flush_done` | at most F + 2: one for the page, and one for each page that the run is moved over, with the one at which it stops |
+//! | `flush_take` | at most F: one for the page, and one for each page up to the next that waits |
+//!
+//! The run never goes back, so each page is moved over once: n flush dones take at most 2 n turns, and one for each
+//! page that was flushed. Takes pass each page once too, but for a failed flush: the take of the page that failed
+//! moves over the pages behind it again, at most F - 1 of them. Else a take that comes in order takes two turns.
+//!
+//! [`Frames::turns`] tells the turns of the last `enter`, `flush_done` and `clean_done`, and its clauses bound them.
 //!
 //! # What a contract sees
 //!
-//! The words of a page, what each frame holds with its marks ([`Held`]), and how many pages were entered. Each
-//! answer and each change is an equation on these, and each call tells besides what is true of all frames
-//! (`IsFrames`). The read-only, safe read-only, head and closed offsets are the caller's: it hands in the ones that
-//! a call needs.
+//! The words of a page, what each frame holds, and how many pages were entered. Each answer and each change is an
+//! equation on these, and each call tells besides what is true of all frames (`IsFrames`). The read-only, safe
+//! read-only, head and closed offsets are the caller's: it hands in the ones that a call needs.
 //!
-//! No call after [`Frames::open`] takes memory.
+//! No call after [`Frames::open`] takes memory: the row has room for exactly F frames, and keeps it.
 #![tactic(auto)]
 
 mod frames;
 mod held;
+mod row;
+mod turns;
 
 pub use frames::Frames;
 pub use held::Held;
+pub use turns::Turns;

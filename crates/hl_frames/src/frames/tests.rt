@@ -24,111 +24,29 @@ fn clean_take(rt: &impl Abort, frames: &mut Frames, closed: u64) -> Result<u64, 
     frames.clean_take(closed)
 }
 
-fn state(
-    rt: &impl Abort,
-    frames: &Frames,
-    frame: u64,
-    sro: u64,
-    closed: u64,
-) -> (FrameState, Option<u64>) {
-    assert!(rt; frames.place_of(frame) == frame as usize);
-    assert!(rt; sro / frames.words <= frames.entered && closed <= frames.flushed_until());
-    frames.state(frame, sro, closed)
-}
-
+// Out of order, with a flush that fails while later pages are in flight.
 #[test]
-fn flushes_and_cleans_out_of_order(rt: HostRuntime) -> Result<(), Fail> {
-    let mut frames = frames_of(&rt, rt.alloc(), 2)?;
-    assert!(rt; frames.may_enter(0));
-    enter(&rt, &mut frames, 0)?;
-    enter(&rt, &mut frames, 1)?;
-    assert_eq!(rt; flush_take(&rt, &mut frames, 8), Ok(0));
-    assert_eq!(rt; flush_take(&rt, &mut frames, 8), Ok(1));
-    assert_eq!(rt; flush_take(&rt, &mut frames, 8), Err(Fault::NoneSealed));
+fn goes_round_after_a_failed_flush(rt: HostRuntime) -> Result<(), Fail> {
+    let mut frames = frames_of(&rt, rt.alloc(), 3)?;
+    for page in 0..3 {
+        assert_eq!(rt; enter(&rt, &mut frames, page), Ok(()));
+    }
+    for page in 0..3u64 {
+        assert_eq!(rt; flush_take(&rt, &mut frames, 12), Ok(page));
+    }
     assert_eq!(rt; frames.flush_done(1, true), Ok(0));
-    assert_eq!(rt; frames.flushed_until(), 0);
-    assert_eq!(rt; frames.flush_done(0, true), Ok(8));
-    assert_eq!(rt; frames.flushed_until(), 8);
-    assert_eq!(rt;
-        state(&rt, &frames, 0, 8, 0),
-        (FrameState::Flushed, Some(0))
-    );
-    assert_eq!(rt;
-        state(&rt, &frames, 1, 8, 0),
-        (FrameState::Flushed, Some(1))
-    );
-
-    // All closed, and cleaned out of order.
+    assert_eq!(rt; frames.flush_done(0, false), Ok(0));
+    assert_eq!(rt; frames.flush_done(2, true), Ok(0));
+    assert_eq!(rt; flush_take(&rt, &mut frames, 12), Ok(0));
+    assert_eq!(rt; flush_take(&rt, &mut frames, 12), Err(Fault::NoneSealed));
+    assert_eq!(rt; frames.flush_done(0, true), Ok(12));
+    // The page itself, and the three that the run is moved over.
+    assert_eq!(rt; frames.turns().flush_done, 4);
     assert_eq!(rt; clean_take(&rt, &mut frames, 8), Ok(0));
+    assert_eq!(rt; enter(&rt, &mut frames, 3), Err(Fault::Busy { page: 3 }));
+    assert_eq!(rt; frames.clean_done(0), Ok(()));
+    assert_eq!(rt; enter(&rt, &mut frames, 3), Ok(()));
     assert_eq!(rt; clean_take(&rt, &mut frames, 8), Ok(1));
     assert_eq!(rt; clean_take(&rt, &mut frames, 8), Err(Fault::NoneClosed));
-    assert_eq!(rt; frames.clean_done(1), Ok(()));
-    assert_eq!(rt; enter(&rt, &mut frames, 2), Err(Fault::Busy { page: 2 }));
-    assert_eq!(rt; state(&rt, &frames, 0, 8, 8), (FrameState::Closed, Some(0)));
-    assert_eq!(rt; state(&rt, &frames, 1, 8, 8), (FrameState::Free, None));
-    assert_eq!(rt; frames.clean_done(0), Ok(()));
-    assert_eq!(rt; frames.clean_done(0), Err(Fault::NotCleaning));
-    assert_eq!(rt; enter(&rt, &mut frames, 2), Ok(()));
-    assert_eq!(rt; state(&rt, &frames, 0, 8, 8), (FrameState::Opened, Some(2)));
-    assert_eq!(rt; state(&rt, &frames, 1, 8, 8), (FrameState::Free, None));
-    Ok(())
-}
-
-#[test]
-fn takes_a_page_again_whose_flush_failed(rt: HostRuntime) -> Result<(), Fail> {
-    let mut frames = frames_of(&rt, rt.alloc(), 2)?;
-    enter(&rt, &mut frames, 0)?;
-    enter(&rt, &mut frames, 1)?;
-    assert_eq!(rt; flush_take(&rt, &mut frames, 8), Ok(0));
-    assert_eq!(rt; frames.flush_done(0, false), Ok(0));
-    assert_eq!(rt; flush_take(&rt, &mut frames, 8), Ok(0));
-    assert_eq!(rt; frames.flush_done(0, true), Ok(4));
-    assert_eq!(rt; frames.flush_done(0, true), Err(Fault::NotInFlight));
-    Ok(())
-}
-
-// What a stale reader may still reach is closed no sooner than it has refreshed, and closed isn't free.
-#[test]
-fn enters_only_what_is_freed(rt: HostRuntime) -> Result<(), Fail> {
-    let mut frames = frames_of(&rt, rt.alloc(), 2)?;
-    enter(&rt, &mut frames, 0)?;
-    enter(&rt, &mut frames, 1)?;
-    assert_eq!(rt; enter(&rt, &mut frames, 2), Err(Fault::Busy { page: 2 }));
-    assert_eq!(rt; flush_take(&rt, &mut frames, 8), Ok(0));
-    assert_eq!(rt; frames.flush_done(0, true), Ok(4));
-    assert_eq!(rt; enter(&rt, &mut frames, 2), Err(Fault::Busy { page: 2 }));
-    assert_eq!(rt; state(&rt, &frames, 0, 8, 4), (FrameState::Closed, Some(0)));
-    assert_eq!(rt; state(&rt, &frames, 1, 8, 4), (FrameState::Sealed, Some(1)));
-    assert_eq!(rt; clean_take(&rt, &mut frames, 4), Ok(0));
-    assert!(rt; !frames.may_enter(2));
-    assert_eq!(rt; frames.clean_done(0), Ok(()));
-    assert_eq!(rt; enter(&rt, &mut frames, 2), Ok(()));
-    assert_eq!(rt; state(&rt, &frames, 0, 8, 4), (FrameState::Opened, Some(2)));
-    assert_eq!(rt; state(&rt, &frames, 1, 8, 4), (FrameState::Sealed, Some(1)));
-    Ok(())
-}
-
-#[test]
-fn goes_round_the_most_frames(rt: HostRuntime) -> Result<(), Fail> {
-    let mut frames = frames_of(&rt, rt.alloc(), 256)?;
-    for page in 0..256 {
-        enter(&rt, &mut frames, page)?;
-    }
-    assert_eq!(rt;
-        enter(&rt, &mut frames, 256),
-        Err(Fault::Busy { page: 256 })
-    );
-    for page in 0..256u64 {
-        assert_eq!(rt; flush_take(&rt, &mut frames, 1024), Ok(page));
-        assert_eq!(rt; frames.flush_done(page, true), Ok(page * 4 + 4));
-    }
-    assert_eq!(rt; clean_take(&rt, &mut frames, 1024), Ok(0));
-    assert_eq!(rt; frames.clean_done(0), Ok(()));
-    assert_eq!(rt; enter(&rt, &mut frames, 256), Ok(()));
-    assert_eq!(rt;
-        enter(&rt, &mut frames, 257),
-        Err(Fault::Busy { page: 257 })
-    );
-    assert_eq!(rt; frames.flushed_until(), 1024);
     Ok(())
 }

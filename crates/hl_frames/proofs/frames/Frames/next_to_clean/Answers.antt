@@ -1,11 +1,23 @@
-use Rattle.std.proofs.Common.{sym, ◌∙◌}
+use Rattle.std.proofs.Common.{arith, ◌∙◌, ◌≤◌}
 use Rattle.hl_frames.specs.Pages.{is_uncleaned}
-use Rattle.hl_frames.proofs.RowLaws.{least-found, none-found}
+use Rattle.hl_frames.specs.Kept.{pages_of}
+use Rattle.hl_frames.proofs.KeptLaws.{least-found, end_fits, number_fits, least-below, first-least}
+use Rattle.hl_frames.proofs.MarkLaws.{next-uncleaned}
 use Rattle.hl_frames.proofs.frames.Frames.next_to_clean.Goals as goal
 
-pub returns-then-is_uncleaned-clause-page : goal.returns-then-is_uncleaned-clause-page
-returns-then-is_uncleaned-clause-page c =
-    sym (least-found c.self.inside _ (is_uncleaned c.args.self.now) c.args.closed _ c.self.view_is c.loop-page.invariant c.loop-page-test.true (sym c.is_uncleaned.ensures ∙ c.if-is_uncleaned.true))
+-- the stored page is entered, or the next
+most : (c : goal.After-self) → c.self.inside.to_clean ≤ c.self.inside.entered
+most c =
+    let kept = c.self.invariant in
+    least-below (is_uncleaned (pages_of c.self.inside)) c.self.inside.to_clean c.self.inside.entered (next-uncleaned (pages_of c.self.inside) kept.pages) (first-least (is_uncleaned (pages_of c.self.inside)) c.self.inside.to_clean kept.stored.uncleaned)
+
+pub overflow_add-end : goal.overflow_add-end
+overflow_add-end c = omega (arith, number_fits (pages_of c.self.inside) c.self.inside.to_clean c.self.invariant.pages (most c))
+
+pub overflow_mul-end : goal.overflow_mul-end
+overflow_mul-end c = omega (arith, end_fits (pages_of c.self.inside) c.self.inside.to_clean c.self.invariant.pages (most c))
 
 pub returns-clause-page : goal.returns-clause-page
-returns-clause-page c = sym (none-found c.self.inside _ (is_uncleaned c.args.self.now) c.args.closed _ c.self.view_is c.loop-page.invariant c.loop-page-test.false)
+returns-clause-page c =
+    rw (← c.self.view_is)
+    (c.then_some.ensures ∙ least-found (pages_of c.self.inside) (is_uncleaned (pages_of c.self.inside)) c.self.inside.to_clean c.args.closed c.self.invariant.pages (first-least (is_uncleaned (pages_of c.self.inside)) c.self.inside.to_clean c.self.invariant.stored.uncleaned))

@@ -1,0 +1,40 @@
+-- What the fields keep beside the row of frames.
+use Rattle.std.specs.Prelude.{◌≡◌, ℕ, ◌+◌, ◌<◌, ◌≤◌, Bool, true, false, length, vec_capacity}
+use Rattle.hl_frames.specs.declared.turns.Turns.{Turns}
+use Rattle.hl_frames.specs.declared.frames.Frames.TheInside.{Inside}
+use Rattle.hl_frames.specs.Pages.{Pages, is_unflushed, is_uncleaned, flushed_run}
+use Rattle.hl_frames.specs.IsFrames.{IsFrames}
+
+-- the pages of these fields
+abbrev pub pages_of : Inside → Pages
+pages_of a = record { page = a.words; frames = a.held.items; entered = a.entered }
+
+-- page q is the least that waits
+pub record IsLeast (waits : ℕ → Bool) (q : ℕ) : Type 0 where
+  pub before : (k : ℕ) → k < q → waits k ≡ false
+  pub here : waits q ≡ true
+
+-- the pages that wait are q and those above it
+pub record IsFirst (waits : ℕ → Bool) (q : ℕ) : Type 0 where
+  pub before : (k : ℕ) → k < q → waits k ≡ false
+  pub behind : (k : ℕ) → q ≤ k → waits k ≡ true
+
+-- the stored pages: where the flushed run ends, and which page waits next
+pub record AreStored (T : Pages) (run to_flush to_clean : ℕ) : Type 0 where
+  pub flushed : run ≡ flushed_run T
+  pub unflushed : IsLeast (is_unflushed T) to_flush
+  pub uncleaned : IsFirst (is_uncleaned T) to_clean
+
+-- the bounds of each call, where there are so many frames
+pub record AreTurns (turns : Turns) (frames : ℕ) : Type 0 where
+  pub enter : turns.enter ≤ 1
+  pub flush_done : turns.flush_done ≤ frames + 2
+  pub clean_done : turns.clean_done ≤ 1
+
+-- what is true of the fields
+pub record IsKept (a : Inside) : Type 0 where
+  pub pages : IsFrames (pages_of a)
+  pub stored : AreStored (pages_of a) a.run a.to_flush a.to_clean
+  -- the row has room for its frames, and for no more
+  pub room : vec_capacity a.held ≡ length a.held.items
+  pub turns : AreTurns a.turns (length a.held.items)
