@@ -19,13 +19,13 @@ use Rattle.hl_frames.proofs.PageLaws.{run_within, left-flushed, IsFrames-flush_b
 use Rattle.hl_frames.proofs.MarkLaws.{next-left_or_marked, flushed-begun, unflushed-begun, unflushed-begun_own, uncleaned-begun, unflushed-ended, unflushed-ended_ok, unflushed-ended_failed, uncleaned-ended, uncleaned-clean_begun, uncleaned-clean_begun_own, flushed-clean_begun, unflushed-clean_begun, uncleaned-clean_ended, flushed-entered, unflushed-entered, uncleaned-entered, flushed-clean_ended, unflushed-clean_ended}
 
 -- where the same pages wait, the least of them stays
-pub least-same : (waits waits' : ℕ → Bool) (q : ℕ) → ((k : ℕ) → waits' k ≡ waits k) → IsLeast waits q → IsLeast waits' q
+least-same : (waits waits' : ℕ → Bool) (q : ℕ) → ((k : ℕ) → waits' k ≡ waits k) → IsLeast waits q → IsLeast waits' q
 least-same waits waits' q same least = record {
   before = λ k below. same k ∙ least.before k below;
   here = same q ∙ least.here;
 }
 
-pub first-same : (waits waits' : ℕ → Bool) (q : ℕ) → ((k : ℕ) → waits' k ≡ waits k) → IsFirst waits q → IsFirst waits' q
+first-same : (waits waits' : ℕ → Bool) (q : ℕ) → ((k : ℕ) → waits' k ≡ waits k) → IsFirst waits q → IsFirst waits' q
 first-same waits waits' q same first = record {
   before = λ k below. same k ∙ first.before k below;
   behind = λ k from. same k ∙ first.behind k from;
@@ -35,7 +35,7 @@ pub first-least : (waits : ℕ → Bool) (q : ℕ) → IsFirst waits q → IsLea
 first-least waits q first = record { before = first.before; here = first.behind q (omega arith) }
 
 -- where page p waits again, the lesser of it and the least is the least
-pub least-lower : (waits waits' : ℕ → Bool) (q p : ℕ) → IsLeast waits q → ((k : ℕ) → (k ≡ p → ⊥) → waits' k ≡ waits k) → waits' p ≡ true → IsLeast waits' (min q p)
+least-lower : (waits waits' : ℕ → Bool) (q p : ℕ) → IsLeast waits q → ((k : ℕ) → (k ≡ p → ⊥) → waits' k ≡ waits k) → waits' p ≡ true → IsLeast waits' (min q p)
 least-lower waits waits' q p least same again =
     elim (cases_lt p q) [
       | inl below ↦
@@ -58,7 +58,7 @@ least-lower waits waits' q p least same again =
     ]
 
 -- where the least waits no longer, the next that waits is the least
-pub least-next : (waits waits' : ℕ → Bool) (q r : ℕ) → IsLeast waits q → ((k : ℕ) → (k ≡ q → ⊥) → waits' k ≡ waits k) → waits' q ≡ false → ((k : ℕ) → q + 1 ≤ k → k < r → waits' k ≡ false) → waits' r ≡ true → IsLeast waits' r
+least-next : (waits waits' : ℕ → Bool) (q r : ℕ) → IsLeast waits q → ((k : ℕ) → (k ≡ q → ⊥) → waits' k ≡ waits k) → waits' q ≡ false → ((k : ℕ) → q + 1 ≤ k → k < r → waits' k ≡ false) → waits' r ≡ true → IsLeast waits' r
 least-next waits waits' q r least same taken between next = record {
   before = λ k below.
       elim (cases_lt k q) [
@@ -72,7 +72,7 @@ least-next waits waits' q r least same taken between next = record {
   here = next;
 }
 
-pub first-next : (waits waits' : ℕ → Bool) (q : ℕ) → IsFirst waits q → ((k : ℕ) → (k ≡ q → ⊥) → waits' k ≡ waits k) → waits' q ≡ false → IsFirst waits' (q + 1)
+first-next : (waits waits' : ℕ → Bool) (q : ℕ) → IsFirst waits q → ((k : ℕ) → (k ≡ q → ⊥) → waits' k ≡ waits k) → waits' q ≡ false → IsFirst waits' (q + 1)
 first-next waits waits' q first same taken = record {
   before = λ k below.
       elim (cases_eq k q) [
@@ -115,13 +115,13 @@ pub number_fits : (T : Pages) (q : ℕ) → IsFrames T → q ≤ T.entered → q
 number_fits T q is most = omega (arith, end_fits T q is most, mul-le-mul_left (q + 1) is.page_least)
 
 -- the flushed run is of flushed pages
-pub run-flushed : (T : Pages) (q : ℕ) → q < flushed_run T → is_flushed q T ≡ true
+run-flushed : (T : Pages) (q : ℕ) → q < flushed_run T → is_flushed q T ≡ true
 run-flushed T q below =
     let entered : q < T.entered = omega (arith, run_within T) in
     rw (get_or-range_with_len, zero-add) at (prefix_len_passes (λ k. is_flushed k T) (range_with_len 0 T.entered) q 0 below)
 
 -- where it stops, the page isn't flushed
-pub run-stops : (T : Pages) → IsFrames T → is_flushed (flushed_run T) T ≡ false
+run-stops : (T : Pages) → IsFrames T → is_flushed (flushed_run T) T ≡ false
 run-stops T is =
     elim (cases_lt (flushed_run T) T.entered) [
       | inl below ↦
@@ -133,7 +133,7 @@ run-stops T is =
     ]
 
 -- it is so many pages, where these are flushed and the next isn't
-pub run-is : (T : Pages) (r : ℕ) → IsFrames T → ((q : ℕ) → q < r → is_flushed q T ≡ true) → is_flushed r T ≡ false → r ≡ flushed_run T
+run-is : (T : Pages) (r : ℕ) → IsFrames T → ((q : ℕ) → q < r → is_flushed q T ≡ true) → is_flushed r T ≡ false → r ≡ flushed_run T
 run-is T r is flushed stops =
     let most : r ≤ T.entered = elim (cases_lt T.entered r) [
       | inl less ↦ let e = flushed T.entered less in let f = next-left_or_marked (λ held. held.flushed) T is in absurd cc
@@ -142,7 +142,7 @@ run-is T r is flushed stops =
     omega (arith, prefix_len-first (λ k. is_flushed k T) 0 T.entered r (λ q from below. flushed q below) (omega arith) (omega arith) (λ below. stops))
 
 -- where the same pages are flushed, it stays
-pub run-same : (T T' : Pages) → IsFrames T → IsFrames T' → ((q : ℕ) → is_flushed q T' ≡ is_flushed q T) → flushed_run T ≡ flushed_run T'
+run-same : (T T' : Pages) → IsFrames T → IsFrames T' → ((q : ℕ) → is_flushed q T' ≡ is_flushed q T) → flushed_run T ≡ flushed_run T'
 run-same T T' is is' same = run-is T' (flushed_run T) is' (λ q below. same q ∙ run-flushed T q below) (same (flushed_run T) ∙ run-stops T is)
 
 -- it is at most F pages below those entered

@@ -12,12 +12,12 @@ use Rattle.hl_frames.specs.IsFrames.{AreMarks, page_in, IsFrames}
 use Rattle.hl_frames.proofs.PageLaws.{within, page-at, marked-at, mod-apart}
 
 -- a page that lies in its frame is held there
-pub lying : (q : ℕ) (o : Option Held) → page_in o ≡ Some q → (held : Held) × ((o ≡ Some held) × (held.page ≡ q))
+lying : (q : ℕ) (o : Option Held) → page_in o ≡ Some q → (held : Held) × ((o ≡ Some held) × (held.page ≡ q))
 lying q None lies = absurd cc
 lying q (Some held) lies = (held, (refl, cc))
 
 -- a page whose mark counts lies in its frame
-pub marked-lies : (mark : Held → Bool) (q : ℕ) (o : Option Held) → is_marked mark q o ≡ true → page_in o ≡ Some q
+marked-lies : (mark : Held → Bool) (q : ℕ) (o : Option Held) → is_marked mark q o ≡ true → page_in o ≡ Some q
 marked-lies mark q None e = absurd cc
 marked-lies mark q (Some held) e =
     elim (eqb_tells q held.page) [
@@ -26,10 +26,10 @@ marked-lies mark q (Some held) e =
     ]
 
 -- where a frame holds a page, its mark tells
-pub left_or_marked-own : (mark : Held → Bool) (q : ℕ) (held : Held) → held.page ≡ q → left_or_marked mark q (Some held) ≡ mark held
+left_or_marked-own : (mark : Held → Bool) (q : ℕ) (held : Held) → held.page ≡ q → left_or_marked mark q (Some held) ≡ mark held
 left_or_marked-own mark q held lies = rw (le-ltb q held.page (omega arith), eq-eqb q held.page (sym lies)) refl
 
-pub is_marked-own : (mark : Held → Bool) (q : ℕ) (held : Held) → held.page ≡ q → is_marked mark q (Some held) ≡ mark held
+is_marked-own : (mark : Held → Bool) (q : ℕ) (held : Held) → held.page ≡ q → is_marked mark q (Some held) ≡ mark held
 is_marked-own mark q held lies = rw (eq-eqb q held.page (sym lies)) refl
 
 or-false : (b : Bool) → (b || false) ≡ b
@@ -37,14 +37,14 @@ or-false true = refl
 or-false false = refl
 
 -- of another page only its number counts
-pub left_or_marked-other : (mark : Held → Bool) (k : ℕ) (held : Held) → (k ≡ held.page → ⊥) → left_or_marked mark k (Some held) ≡ nat_lt k held.page
+left_or_marked-other : (mark : Held → Bool) (k : ℕ) (held : Held) → (k ≡ held.page → ⊥) → left_or_marked mark k (Some held) ≡ nat_lt k held.page
 left_or_marked-other mark k held other =
     elim (eqb_tells k held.page) [
       | inl is ↦ absurd (other is.1)
       | inr not_eq ↦ rw not_eq.0 (or-false (nat_lt k held.page))
     ]
 
-pub is_marked-other : (mark : Held → Bool) (k : ℕ) (held : Held) → (k ≡ held.page → ⊥) → is_marked mark k (Some held) ≡ false
+is_marked-other : (mark : Held → Bool) (k : ℕ) (held : Held) → (k ≡ held.page → ⊥) → is_marked mark k (Some held) ≡ false
 is_marked-other mark k held other =
     elim (eqb_tells k held.page) [
       | inl is ↦ absurd (other is.1)
@@ -52,7 +52,7 @@ is_marked-other mark k held other =
     ]
 
 -- what the frame of page q holds after it is changed
-pub changed-here : (T : Pages) (q : ℕ) (change : Held → Held) → IsFrames T → held_for q (changed q change T) ≡ option_map change (held_for q T)
+changed-here : (T : Pages) (q : ℕ) (change : Held → Held) → IsFrames T → held_for q (changed q change T) ≡ option_map change (held_for q T)
 changed-here T q change is =
     let place : ℕ = q % length T.frames in
     rw (length-set T.frames place (option_map change (get_or T.frames place None)))
@@ -63,7 +63,7 @@ same-option test change None same = refl
 same-option test change (Some held) same = same held refl
 
 -- a test of any page's frame is as it was, where it is as it was for what is changed
-pub changed-same : (test : Option Held → Bool) (T : Pages) (q k : ℕ) (change : Held → Held) → IsFrames T → ((held : Held) → held_for q T ≡ Some held → test (Some (change held)) ≡ test (Some held)) → test (held_for k (changed q change T)) ≡ test (held_for k T)
+changed-same : (test : Option Held → Bool) (T : Pages) (q k : ℕ) (change : Held → Held) → IsFrames T → ((held : Held) → held_for q T ≡ Some held → test (Some (change held)) ≡ test (Some held)) → test (held_for k (changed q change T)) ≡ test (held_for k T)
 changed-same test T q k change is same =
     let place : ℕ = q % length T.frames in
     let v : Option Held = option_map change (get_or T.frames place None) in
@@ -74,14 +74,14 @@ changed-same test T q k change is same =
     ])
 
 -- marks of other pages stay
-pub changed-left_or_marked : (mark : Held → Bool) (T : Pages) (q k : ℕ) (change : Held → Held) → IsFrames T → ((held : Held) → (change held).page ≡ held.page) → page_in (held_for q T) ≡ Some q → (k ≡ q → ⊥) → left_or_marked mark k (held_for k (changed q change T)) ≡ left_or_marked mark k (held_for k T)
+changed-left_or_marked : (mark : Held → Bool) (T : Pages) (q k : ℕ) (change : Held → Held) → IsFrames T → ((held : Held) → (change held).page ≡ held.page) → page_in (held_for q T) ≡ Some q → (k ≡ q → ⊥) → left_or_marked mark k (held_for k (changed q change T)) ≡ left_or_marked mark k (held_for k T)
 changed-left_or_marked mark T q k change is keeps lies other =
     changed-same (left_or_marked mark k) T q k change is
     (λ held e.
     let page = page-at T q held lies e in
     left_or_marked-other mark k (change held) (λ at. other (at ∙ keeps held ∙ page)) ∙ ap (λ p. nat_lt k p) (keeps held) ∙ sym (left_or_marked-other mark k held (λ at. other (at ∙ page))))
 
-pub changed-is_marked : (mark : Held → Bool) (T : Pages) (q k : ℕ) (change : Held → Held) → IsFrames T → ((held : Held) → (change held).page ≡ held.page) → page_in (held_for q T) ≡ Some q → (k ≡ q → ⊥) → is_marked mark k (held_for k (changed q change T)) ≡ is_marked mark k (held_for k T)
+changed-is_marked : (mark : Held → Bool) (T : Pages) (q k : ℕ) (change : Held → Held) → IsFrames T → ((held : Held) → (change held).page ≡ held.page) → page_in (held_for q T) ≡ Some q → (k ≡ q → ⊥) → is_marked mark k (held_for k (changed q change T)) ≡ is_marked mark k (held_for k T)
 changed-is_marked mark T q k change is keeps lies other =
     changed-same (is_marked mark k) T q k change is
     (λ held e.
@@ -89,11 +89,11 @@ changed-is_marked mark T q k change is keeps lies other =
     is_marked-other mark k (change held) (λ at. other (at ∙ keeps held ∙ page)) ∙ sym (is_marked-other mark k held (λ at. other (at ∙ page))))
 
 -- the marks of the page itself
-pub changed-own : (mark : Held → Bool) (T : Pages) (q : ℕ) (change : Held → Held) (held : Held) → IsFrames T → ((held : Held) → (change held).page ≡ held.page) → held.page ≡ q → held_for q T ≡ Some held → left_or_marked mark q (held_for q (changed q change T)) ≡ mark (change held)
+changed-own : (mark : Held → Bool) (T : Pages) (q : ℕ) (change : Held → Held) (held : Held) → IsFrames T → ((held : Held) → (change held).page ≡ held.page) → held.page ≡ q → held_for q T ≡ Some held → left_or_marked mark q (held_for q (changed q change T)) ≡ mark (change held)
 changed-own mark T q change held is keeps lies e =
     rw (changed-here T q change is, e) (left_or_marked-own mark q (change held) (keeps held ∙ lies))
 
-pub changed-own_marked : (mark : Held → Bool) (T : Pages) (q : ℕ) (change : Held → Held) (held : Held) → IsFrames T → ((held : Held) → (change held).page ≡ held.page) → held.page ≡ q → held_for q T ≡ Some held → is_marked mark q (held_for q (changed q change T)) ≡ mark (change held)
+changed-own_marked : (mark : Held → Bool) (T : Pages) (q : ℕ) (change : Held → Held) (held : Held) → IsFrames T → ((held : Held) → (change held).page ≡ held.page) → held.page ≡ q → held_for q T ≡ Some held → is_marked mark q (held_for q (changed q change T)) ≡ mark (change held)
 changed-own_marked mark T q change held is keeps lies e =
     rw (changed-here T q change is, e) (is_marked-own mark q (change held) (keeps held ∙ lies))
 
@@ -136,11 +136,11 @@ uncleaned-begun T q k is =
     (changed-same (is_marked (λ held. held.cleaning) k) T q k change is (λ held e. refl))
 
 -- where the flush of a page ends, it is flushed or waits again, and others as before
-pub flushed-ended : (T : Pages) (q k : ℕ) (ok : Bool) → IsFrames T → is_in_flight q T ≡ true → (k ≡ q → ⊥) → is_flushed k (flush_ended q ok T) ≡ is_flushed k T
+flushed-ended : (T : Pages) (q k : ℕ) (ok : Bool) → IsFrames T → is_in_flight q T ≡ true → (k ≡ q → ⊥) → is_flushed k (flush_ended q ok T) ≡ is_flushed k T
 flushed-ended T q k ok is flies other =
     changed-left_or_marked (λ held. held.flushed) T q k (λ held. record held { in_flight = false; flushed = ok }) is (λ held. refl) (marked-lies (λ held. held.in_flight) q (held_for q T) flies) other
 
-pub flushed-ended_own : (T : Pages) (q : ℕ) (ok : Bool) → IsFrames T → is_in_flight q T ≡ true → is_flushed q (flush_ended q ok T) ≡ ok
+flushed-ended_own : (T : Pages) (q : ℕ) (ok : Bool) → IsFrames T → is_in_flight q T ≡ true → is_flushed q (flush_ended q ok T) ≡ ok
 flushed-ended_own T q ok is flies =
     let at = lying q (held_for q T) (marked-lies (λ held. held.in_flight) q (held_for q T) flies) in
     changed-own (λ held. held.flushed) T q (λ held. record held { in_flight = false; flushed = ok }) at.0 is (λ held. refl) at.1.1 at.1.0
@@ -152,7 +152,7 @@ unflushed-ended T q k ok is flies other =
     (changed-is_marked (λ held. held.in_flight) T q k (λ held. record held { in_flight = false; flushed = ok }) is (λ held. refl) (marked-lies (λ held. held.in_flight) q (held_for q T) flies) other)
 
 -- a page in flight isn't flushed
-pub flies-unflushed : (T : Pages) (q : ℕ) → IsFrames T → is_in_flight q T ≡ true → is_flushed q T ≡ false
+flies-unflushed : (T : Pages) (q : ℕ) → IsFrames T → is_in_flight q T ≡ true → is_flushed q T ≡ false
 flies-unflushed T q is flies =
     let at = lying q (held_for q T) (marked-lies (λ held. held.in_flight) q (held_for q T) flies) in
     let marks = is.marks (q % length T.frames) at.0 at.1.0 in
@@ -239,7 +239,7 @@ unflushed-clean_ended T q k is =
     (changed-same (is_marked (λ held. held.in_flight) k) T q k (λ held. record held { cleaning = false; freed = true }) is (λ held e. refl))
 
 -- the next page's frame is empty, or holds the page F before it
-pub next-holds : (T : Pages) → IsFrames T → ((T.entered < length T.frames) × (held_for T.entered T ≡ None)) ⊎ ((held : Held) × ((held_for T.entered T ≡ Some held) × (held.page + length T.frames ≡ T.entered)))
+next-holds : (T : Pages) → IsFrames T → ((T.entered < length T.frames) × (held_for T.entered T ≡ None)) ⊎ ((held : Held) × ((held_for T.entered T ≡ Some held) × (held.page + length T.frames ≡ T.entered)))
 next-holds T is =
     elim (cases_lt T.entered (length T.frames)) [
       | inl first ↦ inl (first, is.empty (T.entered % length T.frames) (omega (arith, mod-eq_of_lt first)))
@@ -262,7 +262,7 @@ next-left_or_marked mark T is =
           rw some.1.0 (left_or_marked-other mark T.entered some.0 other ∙ le-ltb T.entered some.0.page (omega (arith, some.1.1)))
     ]
 
-pub next-is_marked : (mark : Held → Bool) (T : Pages) → IsFrames T → is_marked mark T.entered (held_for T.entered T) ≡ false
+next-is_marked : (mark : Held → Bool) (T : Pages) → IsFrames T → is_marked mark T.entered (held_for T.entered T) ≡ false
 next-is_marked mark T is =
     elim (next-holds T is) [
       | inl none ↦ rw none.1 refl
@@ -304,7 +304,7 @@ before-marked mark k held before e =
     ]
 
 -- where the next page is entered, each page is flushed and freed as before
-pub entered-left_or_marked : (mark : Held → Bool) (T : Pages) (k : ℕ) → IsFrames T → may_enter T.entered T ≡ true → ((held : Held) → AreMarks held → held.freed ≡ true → mark held ≡ true) → mark (unmarked T.entered) ≡ false → left_or_marked mark k (held_for k (entered T.entered T)) ≡ left_or_marked mark k (held_for k T)
+entered-left_or_marked : (mark : Held → Bool) (T : Pages) (k : ℕ) → IsFrames T → may_enter T.entered T ≡ true → ((held : Held) → AreMarks held → held.freed ≡ true → mark held ≡ true) → mark (unmarked T.entered) ≡ false → left_or_marked mark k (held_for k (entered T.entered T)) ≡ left_or_marked mark k (held_for k T)
 entered-left_or_marked mark T k is may left bare =
     let F : ℕ = length T.frames in
     let q : ℕ = T.entered in
@@ -340,7 +340,7 @@ entered-left_or_marked mark T k is may left bare =
     ])
 
 -- and none is in flight or being cleaned that wasn't
-pub entered-is_marked : (mark : Held → Bool) (T : Pages) (k : ℕ) → IsFrames T → may_enter T.entered T ≡ true → ((held : Held) → AreMarks held → held.freed ≡ true → mark held ≡ false) → mark (unmarked T.entered) ≡ false → is_marked mark k (held_for k (entered T.entered T)) ≡ is_marked mark k (held_for k T)
+entered-is_marked : (mark : Held → Bool) (T : Pages) (k : ℕ) → IsFrames T → may_enter T.entered T ≡ true → ((held : Held) → AreMarks held → held.freed ≡ true → mark held ≡ false) → mark (unmarked T.entered) ≡ false → is_marked mark k (held_for k (entered T.entered T)) ≡ is_marked mark k (held_for k T)
 entered-is_marked mark T k is may left bare =
     let F : ℕ = length T.frames in
     let q : ℕ = T.entered in

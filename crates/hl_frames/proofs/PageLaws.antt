@@ -1,5 +1,5 @@
 -- What each call makes of the pages stays true of all frames.
-use Rattle.std.proofs.Common.{◌≡◌, ℕ, zero, suc, ◌+◌, ◌-◌, ◌*◌, ◌/◌, ◌%◌, ◌^◌, ◌<◌, ◌≤◌, Bool, true, false, not, ◌||◌, Option, Some, None, List, length, replicate, get_or, set, length-set, get_or-set_same, get_or-set_other, zero-add, refl, sym, ap, ◌∙◌, arith, inl, inr}
+use Rattle.std.proofs.Common.{◌≡◌, ℕ, ◌+◌, ◌-◌, ◌*◌, ◌/◌, ◌%◌, ◌^◌, ◌<◌, ◌≤◌, Bool, true, false, not, ◌||◌, Option, Some, None, List, length, get_or, set, length-set, get_or-set_same, get_or-set_other, zero-add, refl, sym, ap, ◌∙◌, arith, inl, inr}
 use Rattle.std.specs.Option.{option_map}
 use Rattle.std.proofs.lemmas.Bool.{cases_eq, cases_lt, lt-ltb, le-ltb, eq-eqb}
 use Rattle.std.proofs.Math.Nat.{div-add-mod, mul-le-mul_left, mod-lt, mod-le, add-mod_right, le-div_iff_mul-le, div-le_of_le-mul, mul-le-mul_right, mul_comm}
@@ -23,7 +23,7 @@ pub left-flushed : (T : Pages) (q : ℕ) → IsFrames T → q < T.entered - leng
 left-flushed T q is before = left-marked (λ held. held.flushed) q (held_for q T) (is.left q (omega arith))
 
 -- pages that left their frames are freed
-pub left-freed : (T : Pages) (q : ℕ) → IsFrames T → q < T.entered - length T.frames → is_freed q T ≡ true
+left-freed : (T : Pages) (q : ℕ) → IsFrames T → q < T.entered - length T.frames → is_freed q T ≡ true
 left-freed T q is before = left-marked (λ held. held.freed) q (held_for q T) (is.left q (omega arith))
 
 -- a page lies in a frame
@@ -36,12 +36,6 @@ HasLeft-same q None None same left = left
 HasLeft-same q None (Some held) same left = absurd left
 HasLeft-same q (Some held) None same left = absurd cc
 HasLeft-same q (Some held) (Some held') same left = let e : held'.page ≡ held.page = cc in omega arith
-
--- no frame of these holds anything
-pub get_or-replicate_none : {X : Type 0} (n f : ℕ) → get_or {A = Option X} (replicate n None) f None ≡ None
-get_or-replicate_none zero f = refl
-get_or-replicate_none (suc n) zero = refl
-get_or-replicate_none (suc n) (suc f) = get_or-replicate_none n f
 
 -- no page lies in an empty frame
 empty-same : (o o' : Option Held) → page_in o' ≡ page_in o → o ≡ None → o' ≡ None
@@ -60,7 +54,7 @@ changed-was change None held e = absurd cc
 changed-was change (Some was) held e = (was, (refl, cc))
 
 -- where marks of one page change, all frames stay frames
-pub IsFrames-changed : (T : Pages) (q : ℕ) (change : Held → Held) → IsFrames T → ((held : Held) → (change held).page ≡ held.page) → ((held : Held) → held_for q T ≡ Some held → AreMarks (change held)) → IsFrames (changed q change T)
+IsFrames-changed : (T : Pages) (q : ℕ) (change : Held → Held) → IsFrames T → ((held : Held) → (change held).page ≡ held.page) → ((held : Held) → held_for q T ≡ Some held → AreMarks (change held)) → IsFrames (changed q change T)
 IsFrames-changed T q change is keeps marks =
     let F : ℕ = length T.frames in
     let place : ℕ = q % F in
@@ -136,7 +130,7 @@ next_to_clean-found T closed q found =
     ((neither (is_freed q T) (is_cleaning q T) at.0).0, omega (arith, at.2))
 
 -- the page that a frame holds lacks a mark that doesn't count
-pub unmarked-at : (mark : Held → Bool) (q : ℕ) (held : Held) → held.page ≡ q → left_or_marked mark q (Some held) ≡ false → mark held ≡ false
+unmarked-at : (mark : Held → Bool) (q : ℕ) (held : Held) → held.page ≡ q → left_or_marked mark q (Some held) ≡ false → mark held ≡ false
 unmarked-at mark q held lies e = rw (le-ltb q held.page (omega arith), eq-eqb q held.page (sym lies)) at e
 
 -- the page that a frame holds has a mark that counts

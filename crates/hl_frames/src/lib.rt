@@ -35,8 +35,8 @@
 //!
 //! - the least page that is neither flushed nor in flight. It is the next to be flushed, once it is sealed. A take
 //!   moves it up to the next such page. A failed flush moves it down where the page that failed is less: that page
-//!   waits again, and is the next. A late answer, to a flush that other pages have overtaken, leaves it where it
-//!   is: the page was not waiting.
+//!   waits again, and is the next. A flush that ends well leaves it where it is, however late the answer comes: its
+//!   page was not waiting.
 //! - the least page that is neither freed nor being cleaned. All above it are so too, since takes are in order and
 //!   no clean fails: a take moves it up by one.
 //!
@@ -49,11 +49,11 @@
 //! | `enter`, `clean_take`, `clean_done`, `marks`, `state`, each question of one page | 1 |
 //! | `flushed_until`, `next_to_flush`, `next_to_clean` | none |
 //! | `flush_done` | at most F + 2: one for the page, and one for each page that the run is moved over, with the one at which it stops |
-//! | `flush_take` | at most F + 1: one for the page, and one for each page up to the next that waits |
+//! | `flush_take` | at most F: one for the page, and one for each page up to the next that waits |
 //!
-//! The run never goes back, so each page is moved over once: n flush dones take at most 2 n turns and one for each
-//! page. Takes pass each page once too, but for a failed flush: the next take moves over the pages behind the one
-//! that failed again, at most F of them.
+//! The run never goes back, so each page is moved over once: n flush dones take at most 2 n turns, and one for each
+//! page that was flushed. Takes pass each page once too, but for a failed flush: the take of the page that failed
+//! moves over the pages behind it again, at most F - 1 of them. Else a take that comes in order takes two turns.
 //!
 //! [`Frames::turns`] tells the turns of the last `enter`, `flush_done` and `clean_done`, and its clauses bound them.
 //!

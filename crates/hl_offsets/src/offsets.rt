@@ -176,15 +176,28 @@ impl Offsets {
         if n == 0 || n > self.page {
             return Err(Fault::Size);
         }
-        let place = if self.tail % self.page + n <= self.page {
-            self.tail
-        } else {
-            (self.tail / self.page + 1) * self.page
-        };
+        let place = self.place_for(n);
         if place + n > SPACE {
             return Err(Fault::SpaceSpent);
         }
         Ok(place)
+    }
+
+    // Where n words, at most P, lie on one page at or above the tail. P is a power of two, so the low bits of the tail
+    // count the words before it on its page.
+    fn place_for(&self, n: u64) -> u64
+        requires { n ≤ self.now.page }
+        ensures place { result ≡ place_of self.now.page self.now.tail n }
+        ensures least { self.now.tail ≤ result }
+        ensures most { result ≤ self.now.tail + self.now.page }
+        ensures valid { IsLog self.now }
+    {
+        let before = self.tail & (self.page - 1);
+        if before + n <= self.page {
+            self.tail
+        } else {
+            self.tail - before + self.page
+        }
     }
 
     /// The closed offset: nobody reads below it.
