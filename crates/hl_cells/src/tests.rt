@@ -1,36 +1,14 @@
-ghost use Rattle.std.specs.Prelude.{◌≡◌, ◌+◌, ◌<◌, ◌^◌, false, IfSome, All};
+ghost use Rattle.std.specs.Prelude.{◌≡◌, ◌<◌, ◌^◌, false, IfSome, All};
 ghost use Rattle.hl_cells.specs.EngineSteps.{is_job_bump};
 
 use crate::Engine;
 use hl_action::{Firing, Kept, Promise, Task};
 use hl_epoch::ScanTable;
-use hl_model::{Fault, Params, Reply, Step, Tagged, View};
+use hl_model::{Fault, Params, Reply, Step, View};
 use std::alloc::Global;
 use std::test::Fail;
 
-// Each job answers its tag and the ticket that it is run under, added up.
-struct Sum;
-
-impl Promise for Sum {
-    ghost keeps = { λ tag firing answer. answer ≡ tag + firing.ticket };
-}
-
-#[derive(Drop)]
-struct AddTicket {
-    tag: u64,
-}
-
-impl Task for AddTicket {
-    ghost can = { λ job firing. job.tag + firing.ticket < 2 ^ 64 };
-
-    ghost gives = { λ job firing answer. answer ≡ job.tag + firing.ticket };
-
-    fn call(self, firing: Firing) -> u64 {
-        self.tag + firing.ticket()
-    }
-}
-
-type TestEngine = Engine<ScanTable, AddTicket, Sum>;
+type TestEngine = Engine<ScanTable, Tells, Anything>;
 
 // Any answer will do.
 struct Anything;
@@ -55,19 +33,7 @@ impl Task for Tells {
     }
 }
 
-fn job(tag: u64) -> Kept<AddTicket, Sum>
-    requires { tag < 1000 }
-{
-    Kept::new(tag, AddTicket { tag })
-}
-
-fn open<F: Task, P: Promise>(
-    alloc: Global,
-    p: u64,
-    f: u64,
-    s: u64,
-    d: u64,
-) -> Result<Engine<ScanTable, F, P>, Fault> {
+fn open(alloc: Global, p: u64, f: u64, s: u64, d: u64) -> Result<TestEngine, Fault> {
     match Params::checked(p, f, s, d) {
         Some(params) => Engine::open(alloc, params),
         None => Err(Fault::Size),
@@ -105,125 +71,8 @@ fn holds(engine: &TestEngine, f: u64, words: &[u64]) -> bool {
     }
 }
 
-// A slow thread reads the first page until it moves on; the page's frame is used again only then, and shows 0.
-#[test]
-fn stale_reader_words(rt: HostRuntime) -> Result<(), Fail> {
-    let mut engine: TestEngine = open(rt.alloc(), 4, 2, 2, 4)?;
-    assert_eq!(rt; engine.step(&Step::Acquire { t: 0 }), entered(1, 0, 0, 0));
-    assert_eq!(rt;
-        engine.step(&Step::Allocate { t: 0, n: 4 }),
-        Ok(Reply::At(0))
-    );
-    assert_eq!(rt;
-        engine.step(&Step::Allocate { t: 0, n: 4 }),
-        Ok(Reply::At(4))
-    );
-    assert_eq!(rt;
-        engine.step(&Step::Write { t: 0, a: 0, v: 11 }),
-        Ok(Reply::Written)
-    );
-    assert_eq!(rt; engine.write(0, 1, 12), Ok(()));
-    assert_eq!(rt; engine.write(0, 2, 13), Ok(()));
-    assert_eq!(rt; engine.write(0, 3, 14), Ok(()));
-    assert_eq!(rt; engine.step(&Step::Acquire { t: 1 }), entered(1, 0, 0, 8));
-    assert_eq!(rt;
-        engine.step(&Step::Allocate { t: 0, n: 1 }),
-        Err(Fault::Busy { page: 2 })
-    );
-    assert_eq!(rt; engine.step(&Step::Raise { x: 8 }), Ok(Reply::Raised(8)));
-    assert_eq!(rt; engine.step(&Step::Settle), Ok(Reply::Ticket(1)));
-    assert_eq!(rt; engine.step(&Step::Refresh { t: 0 }), entered(2, 8, 0, 8));
-    assert_eq!(rt; engine.step(&Step::Refresh { t: 1 }), entered(2, 8, 0, 8));
-    assert_eq!(rt; engine.step(&Step::Take), Ok(Reply::Taken(1)));
-    assert_eq!(rt;
-        engine.step(&Step::Done { ticket: 1 }),
-        Ok(Reply::Settled(8))
-    );
-    assert_eq!(rt; engine.step(&Step::FlushTake), Ok(Reply::Page(0)));
-    assert_eq!(rt;
-        engine.step(&Step::FlushDone { page: 0, ok: true }),
-        Ok(Reply::Flushed(4))
-    );
-    assert_eq!(rt; engine.step(&Step::Shift { x: 4 }), Ok(Reply::Shifted(4)));
-    assert_eq!(rt; engine.step(&Step::Close), Ok(Reply::Ticket(2)));
-    assert_eq!(rt;
-        engine.step(&Step::Read { t: 1, a: 0 }),
-        Ok(Reply::Value(11))
-    );
-    assert_eq!(rt; engine.step(&Step::Refresh { t: 0 }), entered(3, 8, 4, 8));
-    assert_eq!(rt;
-        engine.step(&Step::Take),
-        Err(Fault::NotReady { front: 2, safe: 1 })
-    );
-    assert_eq!(rt;
-        engine.step(&Step::Allocate { t: 0, n: 1 }),
-        Err(Fault::Busy { page: 2 })
-    );
-    assert_eq!(rt; engine.step(&Step::Refresh { t: 1 }), entered(3, 8, 4, 8));
-    assert_eq!(rt; engine.step(&Step::Take), Ok(Reply::Taken(2)));
-    assert_eq!(rt;
-        engine.step(&Step::Done { ticket: 2 }),
-        Ok(Reply::Closed(4))
-    );
-    assert_eq!(rt; engine.read(1, 0), Err(Fault::Evicted { head: 4 }));
-    assert_eq!(rt;
-        engine.step(&Step::Allocate { t: 0, n: 1 }),
-        Err(Fault::Busy { page: 2 })
-    );
-    assert_eq!(rt; engine.snapshot().frames, [0, 1, 0, 1, 0]);
-    assert_eq!(rt; engine.step(&Step::CleanTake), Ok(Reply::Page(0)));
-    assert_eq!(rt;
-        engine.step(&Step::CleanDone { page: 0 }),
-        Ok(Reply::Freed(0))
-    );
-    assert_eq!(rt;
-        engine.step(&Step::Allocate { t: 0, n: 1 }),
-        Ok(Reply::At(8))
-    );
-    assert_eq!(rt; engine.read(0, 8), Ok(0));
-    assert_eq!(rt; engine.write(0, 8, 21), Ok(()));
-    assert_eq!(rt;
-        engine.step(&Step::Read { t: 0, a: 8 }),
-        Ok(Reply::Value(21))
-    );
-    assert_eq!(rt; engine.snapshot().frames, [1, 1, 0, 0, 0]);
-    Ok(())
-}
-
-#[test]
-fn a_job_answers_at_its_done(rt: HostRuntime) -> Result<(), Fail> {
-    let mut engine: TestEngine = open(rt.alloc(), 4, 2, 1, 2)?;
-    assert_eq!(rt; engine.bump(job(7)).ok(), Some(1));
-    assert_eq!(rt; engine.bump(job(9)).ok(), Some(2));
-    // The drain list has two places.
-    match engine.bump(job(5)) {
-        Ok(_) => assert!(rt; false),
-        Err((fault, kept)) => {
-            assert_eq!(rt; fault, Fault::DrainFull);
-            assert_eq!(rt; kept.tag(), 5);
-        }
-    }
-    assert_eq!(rt; engine.step(&Step::Settle), Err(Fault::DrainFull));
-    assert_eq!(rt; engine.step(&Step::Take), Ok(Reply::Taken(1)));
-    assert_eq!(rt; engine.step(&Step::Take), Ok(Reply::Taken(2)));
-    assert_eq!(rt;
-        engine.step(&Step::Done { ticket: 2 }),
-        Ok(Reply::Answer(11))
-    );
-    assert_eq!(rt;
-        engine.step(&Step::Done { ticket: 2 }),
-        Err(Fault::NotTaken)
-    );
-    assert_eq!(rt;
-        engine.step(&Step::Done { ticket: 1 }),
-        Ok(Reply::Answer(8))
-    );
-    assert_eq!(rt; engine.snapshot().taken, 0);
-    Ok(())
-}
-
 // What a caller knows by the clauses alone: the done of its ticket is answered by its own job.
-fn own_answer(engine: &mut Engine<ScanTable, Tells, Anything>, number: u64) -> Option<u64>
+fn own_answer(engine: &mut TestEngine, number: u64) -> Option<u64>
     ensures { IfSome result (λ answer. answer ≡ number) }
 {
     let ticket = engine.bump(Kept::new(7, Tells { number })).ok()?;
@@ -237,7 +86,7 @@ fn own_answer(engine: &mut Engine<ScanTable, Tells, Anything>, number: u64) -> O
 // A tag names no job: of two with one tag each runs under the ticket of its own bump.
 #[test]
 fn two_jobs_of_one_tag(rt: HostRuntime) -> Result<(), Fail> {
-    let mut engine: Engine<ScanTable, Tells, Anything> = open(rt.alloc(), 4, 2, 1, 3)?;
+    let mut engine: TestEngine = open(rt.alloc(), 4, 2, 1, 3)?;
     let first = Kept::new(7, Tells { number: 50 });
     let second = Kept::new(7, Tells { number: 60 });
     assert_eq!(rt; engine.bump(first).ok(), Some(1));
