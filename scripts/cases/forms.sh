@@ -2,7 +2,7 @@
 # program for the status before each, so that pages go on and most kinds of refusals come too.
 
 # The beginnings of the lines that the texts are to have, together.
-beginnings=(opened "epoch " left "ticket " "taken " "answer " "safe_read_only " "closed " "read_only " "head " "at "
+beginnings=(opened "epoch " left "ticket " "bumped " "taken " "answer " "safe_read_only " "closed " "read_only " "head " "at "
     "view " written "value " "page " "flushed " "freed " "status " pending "frames "
     "fault "{1,2,3,4,5,7,8,9,10,11,12,13,14,15,17,18,19,20,21,22,23,24}" ")
 
@@ -38,7 +38,6 @@ ask() {
 look() {
     ask status || return
     read -r _ _ epoch _ safe _ pending _ taken _ closed _ head _ flushed _ safe_read_only _ read_only _ tail <<< "$reply"
-    takes="$((epoch - 1 - pending))"
 }
 
 # Sets line to a step of the epochs and their actions.
@@ -54,7 +53,8 @@ action() {
         8) line=settle ;;
         9) line=close ;;
         1[0-2]) line=take ;;
-        *) below "$((taken > 1 ? taken : 1))" && line="done $((takes > n ? takes - n : 0))" ;;
+        13) line=bare ;;
+        *) near "$last_taken" && line="done $n" ;;
     esac
 }
 
@@ -102,8 +102,9 @@ next_of_pages() {
     if ((in_hand > 0)); then
         line="done $in_hand"
     elif ((pending > 0)); then
+        below 2
         line="refresh $t"
-        ((takes < safe)) && line=take
+        ((n == 0)) || line=take
     elif ((read_only < tail)); then
         below 2
         line="raise $tail"
@@ -148,8 +149,8 @@ next_line() {
 
 # A script of 1,000 lines with these sizes has one text in both forms, and that is what was answered line by line.
 same_text() {
-    local line="config $*" n t reply epoch safe pending taken closed head flushed safe_read_only read_only tail takes
-    local page="$1" frames="$2" slots="$3" in_hand=0 random=7 made=0
+    local line="config $*" n t reply epoch safe pending taken closed head flushed safe_read_only read_only tail
+    local page="$1" frames="$2" slots="$3" in_hand=0 last_taken=0 random=7 made=0
     coproc talk { exec timeout 100 "$program" run; }
     local pid="$talk_PID" to="${talk[1]}" from="${talk[0]}"
     : > "$room/script" > "$room/expected"
@@ -157,7 +158,7 @@ same_text() {
         echo "$line" >> "$room/script"
         echo "$reply" >> "$room/expected"
         case "$reply" in
-            taken*) in_hand="${reply#taken }" ;;
+            taken*) in_hand="${reply#taken }" last_taken="$in_hand" ;;
             answer* | safe_read_only* | closed*) [ "$line" != "done $in_hand" ] || in_hand=0 ;;
         esac
         look || break
