@@ -23,17 +23,13 @@ fn sizes(rt: &impl Abort) -> Params {
     Params::checked(4, 2, 2, 2).expect(rt, "the sizes are in range")
 }
 
-// Makes the steps at once, each of which is to be answered as its row says.
-fn go_on<E: Epochs + Drop, const N: usize>(
-    rt: &impl Abort,
-    core: &mut Core<E, Tag>,
-    rows: [Row; N],
-) {
-    let steps = rows.map(|row| row.0);
-    let mut results = [Err(Fault::NoSlot); N];
-    core.run(&steps, &mut results);
-    for (i, row) in rows.iter().enumerate() {
-        assert_eq!(rt; results[i], row.1, "row {i}");
+// Makes the steps, each of which is to be answered as its row says.
+fn go_on<E: Epochs + Drop>(rt: &impl Abort, core: &mut Core<E, Tag>, rows: &[Row]) {
+    for (step, expected) in rows {
+        assert_eq!(rt; core.check(step), expected.map(|_| ()));
+        let mut results = [Err(Fault::Empty)];
+        core.run(&[*step], &mut results);
+        assert_eq!(rt; results[0], *expected);
     }
 }
 
@@ -69,7 +65,7 @@ fn stale_reader<E: Epochs + Drop>(rt: &impl Abort, alloc: Global) -> Result<(), 
         (Step::Allocate { t: 0, n: 1 }, Ok(Reply::At(8))),
         (Step::Bump { tag: 9 }, Ok(Reply::Ticket(4))),
     ];
-    go_on(rt, &mut core, rows);
+    go_on(rt, &mut core, &rows);
     let snapshot = Snapshot {
         epoch: 5,
         safe: 3,
