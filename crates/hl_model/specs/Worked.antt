@@ -71,7 +71,7 @@ abbrev pub BareBumps : Type 0
 BareBumps = Gives (record small { drain = 1 })
     (Acquire 0 ∷ Bare ∷ Bump 5 ∷ Bare ∷ Bump 6 ∷ Take ∷ Refresh 0 ∷ Take ∷ Done 1 ∷ Done 2 ∷ Bump 6 ∷ Take ∷ [])
     (Ok (Entered 1 at_start) ∷ Ok (Bumped 1) ∷ Ok (Ticket 2) ∷ Ok (Bumped 3) ∷ Err DrainFull ∷ Err (NotReady 2 0)
-        ∷ Ok (Entered 4 at_start) ∷ Ok (Taken 2) ∷ Err NotTaken ∷ Ok (Ran 5) ∷ Ok (Ticket 4) ∷ Err (NotReady 4 3) ∷ [])
+    ∷ Ok (Entered 4 at_start) ∷ Ok (Taken 2) ∷ Err NotTaken ∷ Ok (Ran 5) ∷ Ok (Ticket 4) ∷ Err (NotReady 4 3) ∷ [])
     5 3 (job 4 6 ∷ []) []
 
 -- tickets run ahead of the takes by several bare bumps, and dones come out of order
@@ -79,5 +79,5 @@ abbrev pub TicketsRunAhead : Type 0
 TicketsRunAhead = Gives (record small { drain = 3 })
     (Bare ∷ Bare ∷ Bare ∷ Bump 5 ∷ Bare ∷ Bump 6 ∷ Bare ∷ Bump 7 ∷ Take ∷ Take ∷ Done 2 ∷ Done 6 ∷ Take ∷ Done 6 ∷ Done 4 ∷ [])
     (Ok (Bumped 1) ∷ Ok (Bumped 2) ∷ Ok (Bumped 3) ∷ Ok (Ticket 4) ∷ Ok (Bumped 5) ∷ Ok (Ticket 6) ∷ Ok (Bumped 7) ∷ Ok (Ticket 8)
-        ∷ Ok (Taken 4) ∷ Ok (Taken 6) ∷ Err NotTaken ∷ Ok (Ran 6) ∷ Ok (Taken 8) ∷ Err NotTaken ∷ Ok (Ran 5) ∷ [])
+    ∷ Ok (Taken 4) ∷ Ok (Taken 6) ∷ Err NotTaken ∷ Ok (Ran 6) ∷ Ok (Taken 8) ∷ Err NotTaken ∷ Ok (Ran 5) ∷ [])
     9 8 [] (job 8 7 ∷ [])
