@@ -14,7 +14,8 @@ use hl_model::{Params, Six, Step};
 /// flushed offset, and a close follows where the closed offset is below. No offset falls: what is already there is
 /// left out. (FASTER keeps its read-only and head offsets at constant lags behind the tail.)
 ///
-/// At these offsets neither the raise nor the shift is refused, where the six are in order.
+/// At these offsets neither the raise nor the shift is refused, where the six are in order. The settle and the close
+/// may meet `DrainFull`, `EpochsSpent` or `WindowFull`.
 pub fn lag_steps(params: Params, six: Six, mutable: u64, resident: u64) -> ArrayVec<Step, 4>
     requires mutable_least { 1 ≤ mutable }
     requires mutable_most { mutable ≤ resident }
