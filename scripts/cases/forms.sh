@@ -53,7 +53,7 @@ action() {
         8) line=settle ;;
         9) line=close ;;
         1[0-2]) line=take ;;
-        13) line=bare ;;
+        13) below 2 && line="$([ "$n" = 0 ] && echo bare || echo "refresh $t")" ;;
         *) near "$last_taken" && line="done $n" ;;
     esac
 }
@@ -102,9 +102,10 @@ next_of_pages() {
     if ((in_hand > 0)); then
         line="done $in_hand"
     elif ((pending > 0)); then
-        below 2
+        # The front is above the last ticket taken; a slot that moves on may make it safe.
+        below 3
         line="refresh $t"
-        ((n == 0)) || line=take
+        ((safe <= last_taken || n == 0)) || line=take
     elif ((read_only < tail)); then
         below 2
         line="raise $tail"
@@ -150,7 +151,7 @@ next_line() {
 # A script of 1,000 lines with these sizes has one text in both forms, and that is what was answered line by line.
 same_text() {
     local line="config $*" n t reply epoch safe pending taken closed head flushed safe_read_only read_only tail
-    local page="$1" frames="$2" slots="$3" in_hand=0 last_taken=0 random=7 made=0
+    local page="$1" frames="$2" slots="$3" in_hand=0 last_taken=0 random=1 made=0
     coproc talk { exec timeout 100 "$program" run; }
     local pid="$talk_PID" to="${talk[1]}" from="${talk[0]}"
     : > "$room/script" > "$room/expected"
