@@ -2,6 +2,7 @@
 //! What each step is answered is a theorem; the rows here are from the worked examples.
 
 use crate::Core;
+use hl_counts::CountTable;
 use hl_drain::{Action, Ask};
 use hl_epoch::{Epochs, ScanTable};
 use hl_model::{Fault, Params, Reply, Six, Snapshot, Step, Tag, Tagged, View};
@@ -99,6 +100,11 @@ fn stale_reader<E: Epochs + Drop>(rt: &impl Abort, alloc: Global) -> Result<(), 
 #[test]
 fn over_a_table_that_scans(rt: HostRuntime) -> Result<(), Fault> {
     stale_reader::<ScanTable>(&rt, rt.alloc())
+}
+
+#[test]
+fn over_a_table_that_counts(rt: HostRuntime) -> Result<(), Fault> {
+    stale_reader::<CountTable>(&rt, rt.alloc())
 }
 
 /// A job that can be neither copied nor made from nothing.

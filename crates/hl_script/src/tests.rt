@@ -2,7 +2,8 @@ ghost use Rattle.std.specs.Prelude.{◌≡◌, ◌+◌, ◌<◌, ◌≤◌, ◌^
 
 use super::{Finished, Sum, run_text, slow_text};
 use hl_action::{Firing, Kept, Shelf, Task};
-use hl_epoch::ScanTable;
+use hl_counts::CountTable;
+use hl_epoch::{Epochs, ScanTable};
 use hl_model::Fault;
 use std::alloc::Global;
 use std::io;
@@ -35,18 +36,39 @@ fn shelf_of(alloc: Global, n: u64) -> Result<Shelf<AddTicket, Sum>, Fault>
     Ok(shelf)
 }
 
-/// Runs a script with the tags below a number, and gives how many steps were accepted.
-fn run_jobs<R: Read, W: Write>(
+/// Runs a script with the tags 0 to 7 over a table of epochs, and gives how many steps were accepted.
+fn run_jobs<E: Epochs + Drop, R: Read, W: Write>(
     alloc: Global,
     reader: &mut R,
     writer: &mut W,
-    tags: u64,
-) -> Result<Option<u64>, Fault>
-    requires { tags ≤ 1000 }
-{
-    let shelf = shelf_of(alloc, tags)?;
-    let ended: Option<Finished<ScanTable, AddTicket>> = run_text(alloc, reader, writer, shelf)?;
+) -> Result<Option<u64>, Fault> {
+    let shelf = shelf_of(alloc, 8)?;
+    let ended: Option<Finished<E, AddTicket>> = run_text(alloc, reader, writer, shelf)?;
     Ok(ended.map(|end| end.accepted))
+}
+
+/// The forms of a run: the fast one over a table that scans and over one that counts, and the slow one.
+#[derive(Clone, Copy)]
+enum Form {
+    Scanning,
+    Counting,
+    Slow,
+}
+
+const FORMS: [Form; 3] = [Form::Scanning, Form::Counting, Form::Slow];
+
+/// Runs a script in a form, with the tags 0 to 7.
+fn run_form<R: Read, W: Write>(
+    form: Form,
+    alloc: Global,
+    reader: &mut R,
+    writer: &mut W,
+) -> Result<Option<u64>, Fault> {
+    match form {
+        Form::Scanning => run_jobs::<ScanTable, R, W>(alloc, reader, writer),
+        Form::Counting => run_jobs::<CountTable, R, W>(alloc, reader, writer),
+        Form::Slow => slow_text(alloc, reader, writer, 8),
+    }
 }
 
 /// Gives one byte a read. The read after `left` of them is interrupted, and one more would go on.
@@ -133,7 +155,7 @@ impl Write for CountingWriter {
 fn writes_nothing_where_memory_is_refused(rt: HostRuntime) {
     let mut reader = FIRST_ACTION.as_bytes();
     let mut writer = CountingWriter { bytes: 0 };
-    match run_jobs(rt.alloc(), &mut reader, &mut writer, 8) {
+    match run_form(Form::Counting, rt.alloc(), &mut reader, &mut writer) {
         Err(Fault::OutOfMemory) => assert_eq!(rt; writer.bytes, 0),
         answer => {
             assert_eq!(rt; answer, Ok(Some(5)));
@@ -175,17 +197,14 @@ fn answers_what_came_before_a_read_that_fails(rt: HostRuntime) {
         ),
     ];
     for (name, script, left, text, wanted) in cases {
-        let bytes = script.as_bytes();
-        let mut reader = SlowReader { bytes, left };
-        let mut writer = Vec::new(rt.alloc());
-        let answer = run_jobs(rt.alloc(), &mut reader, &mut writer, 8);
-        assert_eq!(rt; answer, wanted, "{name}");
-        assert!(rt; writer.as_slice() == text.as_bytes(), "{name}");
-        let mut reader = SlowReader { bytes, left };
-        let mut writer = Vec::new(rt.alloc());
-        let answer = slow_text(rt.alloc(), &mut reader, &mut writer, 8);
-        assert_eq!(rt; answer, wanted, "{name}");
-        assert!(rt; writer.as_slice() == text.as_bytes(), "{name}");
+        for form in FORMS {
+            let bytes = script.as_bytes();
+            let mut reader = SlowReader { bytes, left };
+            let mut writer = Vec::new(rt.alloc());
+            let answer = run_form(form, rt.alloc(), &mut reader, &mut writer);
+            assert_eq!(rt; answer, wanted, "{name}");
+            assert!(rt; writer.as_slice() == text.as_bytes(), "{name}");
+        }
     }
 }
 
@@ -204,7 +223,7 @@ fn stops_at_a_writer_that_fails(rt: HostRuntime) {
         ),
     ];
     for (name, left, flushes, fails, taken) in cases {
-        for slow in [false, true] {
+        for form in FORMS {
             let mut reader = SlowReader {
                 bytes: FIRST_ACTION.as_bytes(),
                 left: 1000,
@@ -216,11 +235,7 @@ fn stops_at_a_writer_that_fails(rt: HostRuntime) {
                 fails,
                 calls_after: 0,
             };
-            let answer = if slow {
-                slow_text(rt.alloc(), &mut reader, &mut writer, 8)
-            } else {
-                run_jobs(rt.alloc(), &mut reader, &mut writer, 8)
-            };
+            let answer = run_form(form, rt.alloc(), &mut reader, &mut writer);
             assert_eq!(rt; answer, Err(Fault::Stream), "{name}");
             assert!(rt; writer.taken.as_slice() == taken.as_bytes(), "{name}");
             assert_eq!(rt; writer.calls_after, 1, "{name}");
