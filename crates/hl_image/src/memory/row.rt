@@ -13,6 +13,7 @@ pub(crate) struct Row {
 }
 
 impl Model for Row {
+    ghost use Rattle.std.specs.Prelude.{◌≡◌, length, vec_capacity};
     ghost use Rattle.hl_image.specs.Pages.{Place};
 
     ghost Value = { Place };
@@ -20,6 +21,9 @@ impl Model for Row {
     ghost use Rattle.hl_image.specs.Places.{place_of};
 
     ghost view = { place_of };
+
+    // It has no room beside its bytes.
+    ghost invariant = { λ a. vec_capacity a.bytes ≡ length a.bytes.items };
 }
 
 impl Row {
@@ -30,7 +34,10 @@ impl Row {
         ensures ok { IfOk result (λ row. row ≡ record { size = size; image = None }) }
         ensures err { IfErr result (λ fault. fault ≡ Fault.OutOfMemory) }
     {
-        let bytes = vec![in alloc; 0; size].map_err(|_| Fault::OutOfMemory)?;
+        let mut bytes = Vec::with_capacity(alloc, size).map_err(|_| Fault::OutOfMemory)?;
+        for _ in 0..size {
+            bytes.push_reserved(0);
+        }
         Ok(Row {
             bytes,
             is_written: false,
