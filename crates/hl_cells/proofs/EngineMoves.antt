@@ -29,7 +29,7 @@ use Rattle.hl_action.specs.Jobs.{KeptRecord, ReadyRecord}
 use Rattle.hl_drain.specs.declared.action.Action.{Action}
 use Rattle.hl_drain.specs.declared.action.Action.TheVariants.{User as UserAction, Settle as SettleAction, Close as CloseAction}
 use Rattle.hl_drain.specs.Actions.{waiting_of}
-use Rattle.hl_frames.specs.declared.held.Held.{Held}
+use Rattle.hl_model.specs.declared.frame.Held.{Held}
 use Rattle.hl_frames.specs.Pages.{Pages}
 use Rattle.hl_core.specs.Standing.{State, Stands, marked, held_of}
 use Rattle.hl_core.specs.Steps.{Stepped, CameOut, job_in}

@@ -18,7 +18,7 @@ use Rattle.hl_model.proofs.FrameLaws.{last_entered-some}
 use Rattle.hl_model.proofs.FrameFacts.{sealed_entered, unfreed_last}
 use Rattle.hl_model.proofs.PageFacts.{ends_below}
 use Rattle.hl_model.proofs.ViewLaws.{eqb-other}
-use Rattle.hl_frames.specs.declared.held.Held.{Held}
+use Rattle.hl_model.specs.declared.frame.Held.{Held}
 use Rattle.hl_frames.specs.Pages.{Pages, held_for}
 use Rattle.hl_frames.specs.Answers.{changed, entered, flush_begun, flush_ended, clean_begun, clean_ended}
 use Rattle.hl_core.specs.Standing.{marked, held_of, pages_of}

@@ -10,7 +10,7 @@ use Rattle.hl_model.specs.Offsets.{is_entered}
 use Rattle.hl_model.specs.Frames.{last_entered}
 use Rattle.hl_model.proofs.RowLaws.{row_at}
 use Rattle.hl_model.proofs.FrameLaws.{IsLastOf, last_entered-is, last_entered-none, last_entered-cases, entered_below, unentered_above, next_of_frame}
-use Rattle.hl_frames.specs.declared.held.Held.{Held}
+use Rattle.hl_model.specs.declared.frame.Held.{Held}
 use Rattle.hl_frames.specs.Pages.{held_for, left_or_marked, is_marked}
 use Rattle.hl_core.specs.Standing.{marked, held_of, pages_of}
 

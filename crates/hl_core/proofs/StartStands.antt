@@ -20,7 +20,7 @@ use Rattle.hl_epoch.specs.Table.{opened}
 use Rattle.hl_drain.specs.Actions.{waiting_of}
 use Rattle.hl_drain.specs.Lists.{Lists, IsDrain}
 use Rattle.hl_offsets.specs.Log.{Log, started}
-use Rattle.hl_frames.specs.declared.held.Held.{Held}
+use Rattle.hl_model.specs.declared.frame.Held.{Held}
 use Rattle.hl_frames.specs.Answers.{opened as opened_pages}
 use Rattle.hl_frames.specs.Pages.{Pages}
 use Rattle.hl_core.specs.Standing.{Stands, log_of, marked, held_of, pages_of, pages_entered}

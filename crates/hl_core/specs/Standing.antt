@@ -12,10 +12,11 @@ use Rattle.hl_model.specs.Views.{slot_views}
 use Rattle.hl_model.specs.Pages.{is_flushed, is_in_flight, is_freed, is_cleaning}
 use Rattle.hl_model.specs.Frames.{last_entered}
 use Rattle.hl_model.specs.Replies.{IsAccepted}
+use Rattle.hl_model.specs.Bases.{held_of}
 use Rattle.hl_drain.specs.Actions.{waiting_of}
 use Rattle.hl_drain.specs.Lists.{Lists, IsDrain}
 use Rattle.hl_offsets.specs.Log.{Log}
-use Rattle.hl_frames.specs.declared.held.Held.{Held}
+use Rattle.hl_model.specs.declared.frame.Held.{Held}
 use Rattle.hl_frames.specs.Pages.{Pages}
 
 -- what a core keeps: its sizes, the table of epochs, each slot's view if it is protected, the drain list, five offsets, the frames with their pages
@@ -30,14 +31,6 @@ pub record State (J : Type 0) : Type 0 where
 -- the offsets of a list
 abbrev pub log_of : Sizes → List Step → Log
 log_of sizes A = record { page = sizes.page; closed = closed A; head = head A; safe_read_only = safe_read_only A; read_only = read_only A; tail = tail sizes A }
-
--- a page with its marks
-abbrev pub marked : Sizes → List Step → ℕ → Held
-marked sizes A p = record { page = p; flushed = is_flushed sizes p A; in_flight = is_in_flight sizes p A; freed = is_freed sizes p A; cleaning = is_cleaning sizes p A }
-
--- what frame f holds: its last entered page, with its marks
-abbrev pub held_of : Sizes → List Step → ℕ → Option Held
-held_of sizes A f = option_map (marked sizes A) (last_entered sizes f A)
 
 -- how many pages begin below the tail: those are entered
 abbrev pub pages_entered : Sizes → List Step → ℕ

@@ -6,8 +6,8 @@ ghost use Rattle.hl_epoch.specs.Table.{epoch_at, safe_of, opened, entered, left,
 ghost use Rattle.hl_counts.specs.Counted.{climb_turns};
 
 use crate::ring::Ring;
-use hl_epoch::{EPOCH_LAST, Epochs, filled};
-use hl_model::Fault;
+use hl_epoch::{EPOCH_LAST, Epochs};
+use hl_model::{Fault, filled};
 use std::alloc::Global;
 use std::marker::Model;
 

@@ -1,8 +1,7 @@
 ghost use Rattle.std.specs.Prelude.{◌≡◌, ℕ, ◌+◌, ◌-◌, ◌%◌, ◌^◌, ◌<◌, ◌≤◌, ◌==◌, length, replicate, IfOk, IfErr};
 ghost use Rattle.hl_counts.specs.Tallies.{count_at, added, removed, visited};
 
-use hl_epoch::filled;
-use hl_model::Fault;
+use hl_model::{Fault, filled};
 use std::alloc::Global;
 use std::marker::Model;
 

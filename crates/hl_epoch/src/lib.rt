@@ -54,9 +54,7 @@
 #![tactic(auto)]
 
 mod epochs;
-mod rows;
 mod scan;
 
 pub use epochs::{EPOCH_LAST, Epochs};
-pub use rows::filled;
 pub use scan::ScanTable;

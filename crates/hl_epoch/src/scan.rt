@@ -5,8 +5,7 @@ ghost use Rattle.hl_epoch.specs.Faults.{protected_fault};
 ghost use Rattle.hl_epoch.specs.Table.{safe_of, opened, IsTable};
 
 use crate::epochs::{EPOCH_LAST, Epochs};
-use crate::rows::filled;
-use hl_model::Fault;
+use hl_model::{Fault, filled};
 use std::alloc::Global;
 use std::marker::Model;
 

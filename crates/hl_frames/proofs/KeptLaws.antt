@@ -12,7 +12,7 @@ use Rattle.std.proofs.Math.Nat.{min-eq_left, min-eq_right, mul-le-mul_left, mul-
 use Rattle.hl_model.proofs.SearchLaws.{find-first, find-missing, prefix_len-first}
 use Rattle.hl_frames.specs.Pages.{Pages, held_for, is_flushed, is_in_flight, is_cleaning, is_unflushed, is_uncleaned, may_enter, pages_below, flushed_run}
 use Rattle.hl_frames.specs.IsFrames.{page_in, IsFrames}
-use Rattle.hl_frames.specs.declared.held.Held.{Held}
+use Rattle.hl_model.specs.declared.frame.Held.{Held}
 use Rattle.hl_frames.specs.Answers.{changed, entered, flush_begun, flush_ended, clean_begun, clean_ended}
 use Rattle.hl_frames.specs.Kept.{IsLeast, IsFirst, AreStored}
 use Rattle.hl_frames.proofs.PageLaws.{run_within, left-flushed, IsFrames-flush_begun, IsFrames-clean_ended}

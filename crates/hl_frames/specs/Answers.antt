@@ -3,7 +3,7 @@ use Rattle.std.specs.Prelude.{ℕ, ◌+◌, ◌%◌, nat_lt, Bool, true, false, 
 use Rattle.std.specs.Option.{option_map}
 use Rattle.hl_model.specs.declared.fault.Fault.{Fault}
 use Rattle.hl_model.specs.declared.fault.Fault.TheVariants.{Busy, NotInFlight, NotCleaning}
-use Rattle.hl_frames.specs.declared.held.Held.{Held}
+use Rattle.hl_model.specs.declared.frame.Held.{Held}
 use Rattle.hl_model.specs.declared.frame.FrameState.{FrameState}
 use Rattle.hl_model.specs.declared.frame.FrameState.TheVariants.{Opened, Sealed, Flushed, Closed, Free}
 use Rattle.hl_frames.specs.Pages.{Pages, held_for, may_enter, is_in_flight, is_cleaning, pages_below, flushed_offset}

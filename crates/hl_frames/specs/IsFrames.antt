@@ -1,7 +1,7 @@
 -- What is true of all frames.
 use Rattle.std.specs.Prelude.{◌≡◌, ℕ, ◌+◌, ◌*◌, ◌^◌, ◌<◌, ◌≤◌, ◌↔◌, true, false, Option, Some, None, length, slice_index_or}
 use Rattle.std.specs.Option.{option_map}
-use Rattle.hl_frames.specs.declared.held.Held.{Held}
+use Rattle.hl_model.specs.declared.frame.Held.{Held}
 use Rattle.hl_frames.specs.Pages.{Pages, held_for, pages_below}
 
 -- what is true of the marks of a page that a frame holds

@@ -1,7 +1,7 @@
 -- The pages that frames hold, with the marks of each. A page that left its frame was flushed and freed there.
 use Rattle.std.specs.Prelude.{ℕ, ◌*◌, ◌/◌, ◌%◌, ◌-◌, ◌==◌, ◌&&◌, ◌||◌, nat_lt, not, Bool, true, false, if◌then◌else◌, Option, Some, None, List, length, find, slice_index_or}
 use Rattle.std.specs.List.{range_with_len, prefix_len}
-use Rattle.hl_frames.specs.declared.held.Held.{Held}
+use Rattle.hl_model.specs.declared.frame.Held.{Held}
 
 -- the words of a page; what each frame holds, None where nothing was entered; how many pages were entered, 0 and on
 pub record Pages : Type 0 where

@@ -1,6 +1,6 @@
 -- The pages that a row of frames tells alone.
 use Rattle.std.specs.Prelude.{Option, List}
-use Rattle.hl_frames.specs.declared.held.Held.{Held}
+use Rattle.hl_model.specs.declared.frame.Held.{Held}
 use Rattle.hl_frames.specs.Pages.{Pages}
 
 -- these frames, with nothing said of the words of a page or of how many were entered

@@ -3,10 +3,9 @@ ghost use Rattle.hl_frames.specs.Pages.{held_for, is_in_flight, is_cleaning, may
 ghost use Rattle.hl_frames.specs.Answers.{opened, page_or, after_take, enter_answer, after_enter, flush_begun, flush_done_answer, after_flush_done, clean_begun, clean_done_answer, after_clean_done, state_of};
 ghost use Rattle.hl_frames.specs.IsFrames.{IsFrames};
 
-use crate::held::Held;
-use crate::row::{free_row, is_cleaning, is_freed, is_in_flight, skip_flushed, skip_taken};
+use crate::row::{is_cleaning, is_freed, is_in_flight, skip_flushed, skip_taken};
 use crate::turns::Turns;
-use hl_model::{Fault, FrameState, Params};
+use hl_model::{Fault, FrameState, Held, Params, filled};
 use std::alloc::Global;
 use std::marker::Model;
 
@@ -49,7 +48,7 @@ impl Frames {
         Ok(Frames {
             words: params.page(),
             entered: 0,
-            held: free_row(alloc, params.frames())?,
+            held: filled(alloc, params.frames(), None)?,
             run: 0,
             to_flush: 0,
             to_clean: 0,

@@ -9,7 +9,7 @@
 //! Pages are numbered from 0, and are entered in that order. With F frames page p lies in frame `p mod F`. So a
 //! frame holds one page after another, each F after the one before, and page p may be entered where `p < F`, or
 //! page p - F is freed. What a frame holds is the page that was entered in it last, with that page's marks
-//! ([`Held`]): one row has it for each frame.
+//! ([`Held`](hl_model::Held)): one row has it for each frame.
 //!
 //! # A page's way
 //!
@@ -67,10 +67,8 @@
 #![tactic(auto)]
 
 mod frames;
-mod held;
 mod row;
 mod turns;
 
 pub use frames::Frames;
-pub use held::Held;
 pub use turns::Turns;

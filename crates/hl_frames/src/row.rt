@@ -1,23 +1,8 @@
-ghost use Rattle.std.specs.Prelude.{◌≡◌, ℕ, ◌+◌, ◌<◌, ◌≤◌, true, false, replicate, length, vec_capacity, IfOk, IfErr};
+ghost use Rattle.std.specs.Prelude.{◌≡◌, ℕ, ◌+◌, ◌<◌, ◌≤◌, true, false, length};
 ghost use Rattle.hl_frames.specs.Row.{pages_in};
 ghost use Rattle.hl_frames.specs.Pages.{is_flushed, is_unflushed};
 
-use crate::held::Held;
-use hl_model::Fault;
-use std::alloc::Global;
-
-/// A row of frames in which nothing was entered, with room for no more frames.
-pub(crate) fn free_row(alloc: Global, frames: u64) -> Result<Vec<Option<Held>>, Fault>
-    ensures free { IfOk result (λ row. row.items ≡ replicate frames None) }
-    ensures room { IfOk result (λ row. vec_capacity row ≡ frames) }
-    ensures err { IfErr result (λ fault. fault ≡ Fault.OutOfMemory) }
-{
-    let mut row = Vec::with_capacity(alloc, frames as usize).map_err(|_| Fault::OutOfMemory)?;
-    for _ in 0..frames {
-        row.push_reserved(None);
-    }
-    Ok(row)
-}
+use hl_model::Held;
 
 /// The page at which a walk over pages stopped, and how many frames it visited.
 #[derive(Drop)]

@@ -8,10 +8,13 @@
 
 mod action;
 mod address;
+mod base;
 mod fault;
 mod frame;
 pub mod laws;
 mod params;
+mod rows;
+mod slot;
 mod snapshot;
 mod step;
 mod view;
@@ -19,9 +22,12 @@ pub mod worked;
 
 pub use action::{Kind, Tag, Tagged, Waiting};
 pub use address::{cell_of, page_of};
+pub use base::{Base, Quantities};
 pub use fault::Fault;
-pub use frame::FrameState;
+pub use frame::{FrameState, Held};
 pub use params::Params;
+pub use rows::filled;
+pub use slot::Slot;
 pub use snapshot::Snapshot;
 pub use step::{Reply, Step};
 pub use view::{Six, View};

@@ -2,6 +2,7 @@
 #![tactic(auto, unfolding(crate::proofs::OnLiterals::on_literals))]
 
 ghost use Rattle.hl_model.specs.Worked.{FirstAction, NobodyProtected, FullDrainList, TwoThreads, BothWait, BareBumps, TicketsRunAhead};
+ghost use Rattle.hl_model.specs.WorkedBases.{CutDrainList, CutPages};
 ghost use Rattle.hl_model.specs.WorkedBorders.{EmptyLog, AtBorders, LastAddress};
 ghost use Rattle.hl_model.specs.WorkedPages.{FuzzyRegion, SwappedDones, Looks, SkippedWord, RaisesAndShifts, OutOfOrderFlush, FailedFlush, StaleReader, WordsOfAPage};
 
@@ -98,4 +99,14 @@ pub fn at_borders()
 /// The last address takes one word, and nothing lies behind it.
 pub fn last_address()
     ensures { LastAddress }
+{}
+
+/// A list cut where one action is taken and one is pending, and what follows.
+pub fn cut_drain_list()
+    ensures { CutDrainList }
+{}
+
+/// A list cut where one page is in flight and another is being cleaned, and what follows.
+pub fn cut_pages()
+    ensures { CutPages }
 {}

@@ -1,6 +1,6 @@
 use Rattle.std.proofs.Common.{◌≡◌, ◌∙◌, rules, arith, true, false, sym, length-set}
 use Rattle.std.specs.Prelude.{slice_set}
-use Rattle.hl_frames.specs.declared.held.Held.{Held}
+use Rattle.hl_model.specs.declared.frame.Held.{Held}
 use Rattle.hl_frames.specs.Pages.{is_cleaning}
 use Rattle.hl_frames.specs.IsFrames.{IsFrames}
 use Rattle.hl_frames.specs.Answers.{clean_ended}

@@ -1,6 +1,6 @@
 use Rattle.std.proofs.Common.{◌≡◌, ◌∙◌, ◌<◌, rules, arith, true, false, Some, sym, length-set}
 use Rattle.std.specs.Prelude.{slice_set}
-use Rattle.hl_frames.specs.declared.held.Held.{Held}
+use Rattle.hl_model.specs.declared.frame.Held.{Held}
 use Rattle.hl_frames.specs.Pages.{held_for, is_flushed, is_freed, is_uncleaned, next_to_clean}
 use Rattle.hl_frames.specs.IsFrames.{page_in, IsFrames}
 use Rattle.hl_frames.specs.Answers.{clean_begun}

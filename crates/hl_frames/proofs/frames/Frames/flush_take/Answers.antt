@@ -1,7 +1,7 @@
 use Rattle.std.proofs.Common.{◌≡◌, ◌∙◌, ◌<◌, rules, arith, true, false, Some, inl, inr, sym, length-set}
 use Rattle.std.specs.Prelude.{slice_set}
 use Rattle.std.proofs.lemmas.Bool.{cases_lt}
-use Rattle.hl_frames.specs.declared.held.Held.{Held}
+use Rattle.hl_model.specs.declared.frame.Held.{Held}
 use Rattle.hl_frames.specs.Pages.{held_for, is_flushed, is_unflushed, next_to_flush}
 use Rattle.hl_frames.specs.IsFrames.{page_in, IsFrames}
 use Rattle.hl_frames.specs.Answers.{flush_begun}

@@ -1,6 +1,6 @@
 ghost use Rattle.std.specs.Prelude.{◌≡◌, IfOk, IfErr, replicate, vec_len, vec_capacity};
 
-use hl_model::Fault;
+use crate::fault::Fault;
 use std::alloc::Global;
 
 /// A row of n copies of x, with no room beside them.

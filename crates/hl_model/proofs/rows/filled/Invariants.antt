@@ -1,5 +1,5 @@
 use Rattle.std.proofs.Common.{◌≡◌, replicate, vec_len, vec_capacity}
-use Rattle.hl_epoch.proofs.rows.filled.Given as goal
+use Rattle.hl_model.proofs.rows.filled.Given as goal
 
 -- as many copies were pushed as turns are over, into a row with room for n
 abbrev pub invariant-loop : goal.invariant-loop

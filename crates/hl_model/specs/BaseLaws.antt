@@ -1,0 +1,30 @@
+-- What joins the quantities of a base and the steps since with those of the whole list.
+use Rattle.std.specs.Prelude.{◌≡◌, List, ◌++◌, Result}
+use Rattle.hl_model.specs.declared.step.Step.{Step}
+use Rattle.hl_model.specs.Sizes.{Sizes}
+use Rattle.hl_model.specs.Replies.{fault_of, reply_of, good, IsAccepted, replies_after}
+use Rattle.hl_model.specs.Bases.{base_of}
+use Rattle.hl_model.specs.AfterReplies.{base_after, fault_after, reply_after, good_from, replies_from}
+
+-- an accepted list may be cut to its base
+pub record IsCut (sizes : Sizes) (A L : List Step) : Type 0 where
+  -- the replies to the steps of L from the base are those after the list
+  pub replies : replies_from (base_of sizes A) L ≡ replies_after sizes A L
+  -- what is accepted from the base is what is accepted behind the list
+  pub accepted : good sizes (A ++ L) ≡ A ++ good_from (base_of sizes A) L
+  -- the base of both together is that of the whole list
+  pub together : base_after (base_of sizes A) (good_from (base_of sizes A) L) ≡ base_of sizes (good sizes (A ++ L))
+
+-- so may each accepted list, whatever steps follow
+abbrev pub ListsMayBeCut : Type 0
+ListsMayBeCut = (sizes : Sizes) (A L : List Step) → IsAccepted sizes A → IsCut sizes A L
+
+-- what a step more meets: where A and then L is an accepted list
+pub record IsCutHere (sizes : Sizes) (A L : List Step) : Type 0 where
+  pub base : base_after (base_of sizes A) L ≡ base_of sizes (A ++ L)
+  pub fault : (s : Step) → fault_after (base_of sizes A) L s ≡ fault_of sizes (A ++ L) s
+  pub reply : (s : Step) → reply_after (base_of sizes A) L s ≡ reply_of sizes (A ++ L) s
+
+-- so at each place of an accepted list
+abbrev pub CutsAnywhere : Type 0
+CutsAnywhere = (sizes : Sizes) (A L : List Step) → IsAccepted sizes (A ++ L) → IsCutHere sizes A L

@@ -1,0 +1,83 @@
+-- Worked examples of bases: a list, its base, the steps that follow, their replies, and the base of both, by hand.
+use Rattle.std.specs.Prelude.{ℕ, ◌≡◌, true, false, Option, Some, None, Result, Ok, Err, List, [], ◌∷◌}
+use Rattle.hl_model.specs.declared.action.Kind.TheVariants.{User, Settle as Settling}
+use Rattle.hl_model.specs.declared.action.Waiting.{Waiting}
+use Rattle.hl_model.specs.declared.fault.Fault.{Fault}
+use Rattle.hl_model.specs.declared.fault.Fault.TheVariants.{DrainFull, NotReady, NotTaken, Below, Evicted, Busy, NoneSealed, NotInFlight, NoneClosed, NotCleaning}
+use Rattle.hl_model.specs.declared.frame.Held.{Held}
+use Rattle.hl_model.specs.declared.slot.Slot.{Slot}
+use Rattle.hl_model.specs.declared.step.Reply.{Reply}
+use Rattle.hl_model.specs.declared.step.Reply.TheVariants.{Entered, Ticket, Taken, Ran, Settled, At, Written, Readable, Page, Flushed, Freed}
+use Rattle.hl_model.specs.declared.step.Step.{Step}
+use Rattle.hl_model.specs.declared.step.Step.TheVariants.{Acquire, Refresh, Release, Bump, Settle, Close, Take, Done, Raise, Shift, Allocate, Write, Read, FlushTake, FlushDone, CleanTake, CleanDone}
+use Rattle.hl_model.specs.declared.view.Six.{Six}
+use Rattle.hl_model.specs.declared.view.View.{View}
+use Rattle.hl_model.specs.Worked.{small, job}
+use Rattle.hl_model.specs.Bases.{Base, base_of}
+use Rattle.hl_model.specs.AfterReplies.{base_after, good_from, replies_from}
+
+-- a page with no mark
+abbrev pub bare_page : ℕ → Held
+bare_page p = record { page = p; flushed = false; in_flight = false; freed = false; cleaning = false }
+
+-- what a slot has
+abbrev pub slot_at : ℕ → ℕ → ℕ → ℕ → Slot
+slot_at epoch read_only head tail =
+    record { epoch = epoch; view = record { read_only = read_only; head = head; tail = tail } }
+
+-- a list has this base; from it the steps of another are answered so, and both together have that base
+pub record Cuts (A : List Step) (b : Base) (L : List Step) (told : List (Result Reply Fault)) (c : Base) : Type 0 where
+  pub base_is : base_of small A ≡ b
+  pub told_is : replies_from b L ≡ told
+  pub both_is : base_after b (good_from b L) ≡ c
+
+-- cut where one action is taken and one is pending: each is done once, and its place is free then
+abbrev pub CutDrainList : Type 0
+CutDrainList = Cuts
+    (Acquire 0 ∷ Allocate 0 4 ∷ Raise 4 ∷ Bump 7 ∷ Settle ∷ Refresh 0 ∷ Take ∷ [])
+    (record {
+      sizes = small;
+      epoch = 3;
+      slots = Some (slot_at 3 4 0 4) ∷ None ∷ [];
+      waiting = record { ticket = 2; kind = Settling 4 } ∷ [];
+      taken = job 1 7 ∷ [];
+      six = record { closed = 0; head = 0; flushed = 0; safe_read_only = 0; read_only = 4; tail = 4 };
+      frames = Some (bare_page 0) ∷ None ∷ [];
+    })
+    (Bump 9 ∷ Take ∷ Done 2 ∷ Done 2 ∷ Done 1 ∷ Write 0 3 1 ∷ Read 0 3 ∷ Allocate 0 1 ∷ Write 0 4 6 ∷ Bump 9 ∷ Acquire 1 ∷ Take ∷ [])
+    (Err DrainFull ∷ Ok (Taken 2) ∷ Ok (Settled 4) ∷ Err NotTaken ∷ Ok (Ran 7) ∷ Err (Below 4) ∷ Ok Readable ∷ Ok (At 4) ∷ Ok Written ∷ Ok (Ticket 3) ∷ Ok (Entered 4 (record { read_only = 4; head = 0; tail = 5 })) ∷ Err (NotReady 3 2) ∷ [])
+    (record {
+      sizes = small;
+      epoch = 4;
+      slots = Some (slot_at 3 4 0 5) ∷ Some (slot_at 4 4 0 5) ∷ [];
+      waiting = job 3 9 ∷ [];
+      taken = [];
+      six = record { closed = 0; head = 0; flushed = 0; safe_read_only = 4; read_only = 4; tail = 5 };
+      frames = Some (bare_page 0) ∷ Some (bare_page 1) ∷ [];
+    })
+
+-- cut where one page is in flight and another is being cleaned: a failed flush is taken again, a frame is entered again
+-- once its page is freed
+abbrev pub CutPages : Type 0
+CutPages = Cuts
+    (Acquire 0 ∷ Allocate 0 4 ∷ Allocate 0 4 ∷ Raise 8 ∷ Release 0 ∷ Settle ∷ Take ∷ Done 1 ∷ FlushTake ∷ FlushDone 0 true ∷ Shift 4 ∷ Close ∷ Take ∷ Done 2 ∷ CleanTake ∷ FlushTake ∷ [])
+    (record {
+      sizes = small;
+      epoch = 3;
+      slots = None ∷ None ∷ [];
+      waiting = [];
+      taken = [];
+      six = record { closed = 4; head = 4; flushed = 4; safe_read_only = 8; read_only = 8; tail = 8 };
+      frames = Some (record (bare_page 0) { flushed = true; cleaning = true }) ∷ Some (record (bare_page 1) { in_flight = true }) ∷ [];
+    })
+    (Acquire 0 ∷ FlushTake ∷ CleanTake ∷ Allocate 0 1 ∷ FlushDone 1 false ∷ FlushTake ∷ FlushDone 1 true ∷ FlushDone 1 true ∷ CleanDone 1 ∷ CleanDone 0 ∷ Allocate 0 1 ∷ Read 0 3 ∷ [])
+    (Ok (Entered 3 (record { read_only = 8; head = 4; tail = 8 })) ∷ Err NoneSealed ∷ Err NoneClosed ∷ Err (Busy 2) ∷ Ok (Flushed 4) ∷ Ok (Page 1) ∷ Ok (Flushed 8) ∷ Err NotInFlight ∷ Err NotCleaning ∷ Ok (Freed 0) ∷ Ok (At 8) ∷ Err (Evicted 4) ∷ [])
+    (record {
+      sizes = small;
+      epoch = 3;
+      slots = Some (slot_at 3 8 4 9) ∷ None ∷ [];
+      waiting = [];
+      taken = [];
+      six = record { closed = 4; head = 4; flushed = 8; safe_read_only = 8; read_only = 8; tail = 9 };
+      frames = Some (bare_page 2) ∷ Some (record (bare_page 1) { flushed = true }) ∷ [];
+    })
