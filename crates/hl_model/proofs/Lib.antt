@@ -1,6 +1,11 @@
 pub mod AcceptedLaws
 pub mod ActionLaws
+pub mod AppendLaws
+pub mod BaseStart
 pub mod BoundLaws
+pub mod CutActions
+pub mod CutOffsets
+pub mod CutSettled
 pub mod DrainLaws
 pub mod EpochLaws
 pub mod FollowLaws
