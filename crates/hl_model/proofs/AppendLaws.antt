@@ -91,7 +91,7 @@ list_any-either p q [] = refl
 list_any-either p q (x ∷ xs) =
     ap (λ b. (p x || q x) || b) (list_any-either p q xs) ∙ either_core (p x) (q x) (list_any p xs) (list_any q xs)
 
-ltb-add : (n v u : ℕ) → ltb (n + v) (n + u) ≡ ltb v u
+pub ltb-add : (n v u : ℕ) → ltb (n + v) (n + u) ≡ ltb v u
 ltb-add n v u = by_order (cases_lt v u)
   where
     by_order : ((v < u) ⊎ (u ≤ v)) → ltb (n + v) (n + u) ≡ ltb v u

@@ -6,6 +6,7 @@ pub mod BoundLaws
 pub mod CutActions
 pub mod CutOffsets
 pub mod CutSettled
+pub mod CutViews
 pub mod DrainLaws
 pub mod EpochLaws
 pub mod FollowLaws
