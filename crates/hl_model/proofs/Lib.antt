@@ -7,6 +7,7 @@ pub mod CutActions
 pub mod CutOffsets
 pub mod CutSettled
 pub mod CutViews
+pub mod CutWork
 pub mod DrainLaws
 pub mod EpochLaws
 pub mod FollowLaws
@@ -27,6 +28,7 @@ pub mod RunLaws
 pub mod SearchLaws
 pub mod SettledLaws
 pub mod TicketLaws
+pub mod UnpagedLaws
 pub mod ViewLaws
 pub mod WordLaws
 pub mod WorkLaws
