@@ -5,6 +5,8 @@ pub mod BaseStart
 pub mod BoundLaws
 pub mod CutActions
 pub mod CutOffsets
+pub mod CutPages
+pub mod CutRows
 pub mod CutSettled
 pub mod CutViews
 pub mod CutWork
