@@ -4,6 +4,7 @@ pub mod AppendLaws
 pub mod BaseStart
 pub mod BoundLaws
 pub mod CutActions
+pub mod CutFaults
 pub mod CutOffsets
 pub mod CutPages
 pub mod CutRows
