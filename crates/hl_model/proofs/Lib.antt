@@ -5,8 +5,10 @@ pub mod BaseStart
 pub mod BoundLaws
 pub mod CutActions
 pub mod CutFaults
+pub mod CutLaws
 pub mod CutOffsets
 pub mod CutPages
+pub mod CutReplies
 pub mod CutRows
 pub mod CutSettled
 pub mod CutViews
