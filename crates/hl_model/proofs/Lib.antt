@@ -1,5 +1,7 @@
 pub mod AcceptedLaws
 pub mod ActionLaws
+pub mod BaseRooms
+pub mod BaseStart
 pub mod BoundLaws
 pub mod DrainLaws
 pub mod EpochLaws
