@@ -31,7 +31,8 @@ use Rattle.hl_drain.specs.declared.action.Action.TheVariants.{User as UserAction
 use Rattle.hl_drain.specs.Actions.{waiting_of}
 use Rattle.hl_model.specs.declared.frame.Held.{Held}
 use Rattle.hl_frames.specs.Pages.{Pages}
-use Rattle.hl_core.specs.Standing.{State, Stands, marked, held_of}
+use Rattle.hl_model.specs.Bases.{marked, held_of}
+use Rattle.hl_core.specs.Standing.{State, Stands}
 use Rattle.hl_core.specs.Steps.{Stepped, CameOut, job_in}
 use Rattle.hl_cells.specs.CellWords.{shown_page, cell_word, cell_words, cell_at}
 use Rattle.hl_cells.specs.HeldActions.{Row, Holds, firing_at, fires, tag_of}

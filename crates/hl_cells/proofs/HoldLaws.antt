@@ -9,7 +9,7 @@ use Rattle.hl_model.specs.declared.step.Step.{Step}
 use Rattle.hl_model.specs.declared.step.Step.TheVariants.{Take, Done}
 use Rattle.hl_model.specs.Sizes.{Sizes}
 use Rattle.hl_model.specs.Epochs.{safe_epoch}
-use Rattle.hl_model.specs.Actions.{front, taken, pending, actions, is_take, is_taken, is_finished, finishes, action_at}
+use Rattle.hl_model.specs.Actions.{front, taken, pending, is_take, is_taken, is_finished, finishes, action_at}
 use Rattle.hl_model.specs.Replies.{IsAccepted}
 use Rattle.hl_model.proofs.ActionLaws.{taken-done, taken-stores, taken-nil}
 use Rattle.hl_model.proofs.DrainLaws.{taken-next, takes-le-actions, is_taken-parts, Rising-taken, length-both, actions-dones}

@@ -1,5 +1,5 @@
 -- The taken actions that aren't done, each with its firing and its job.
-use Rattle.std.specs.Prelude.{◌≡◌, ℕ, ◌+◌, ◌==◌, ◌≤◌, Bool, not, Option, Some, None, option_map, List, [], ◌∷◌, map, filter, find}
+use Rattle.std.specs.Prelude.{◌≡◌, ℕ, ◌==◌, ◌≤◌, Bool, not, Option, Some, None, option_map, List, [], ◌∷◌, map, filter, find}
 use Rattle.hl_model.specs.declared.action.Kind.{Kind}
 use Rattle.hl_model.specs.declared.action.Kind.TheVariants.{User}
 use Rattle.hl_model.specs.declared.step.Step.{Step}

@@ -1,7 +1,6 @@
 ghost use Rattle.std.specs.Prelude.{◌≡◌, ◌+◌, ◌<◌, ◌≤◌, [], take, drop, replicate, ◌++◌, length, slice_index_or, slice_set, IfOk, IfErr};
 
-use hl_epoch::filled;
-use hl_model::Fault;
+use hl_model::{Fault, filled};
 use std::alloc::Global;
 use std::marker::Model;
 

@@ -13,7 +13,8 @@ use Rattle.hl_model.proofs.RowLaws.{rows_same, rows_set}
 use Rattle.hl_model.proofs.NoFaultLaws.{size-none}
 use Rattle.hl_model.proofs.FrameLaws.{IsLastOf, last_entered-is, last_entered-some, is_entered-allocate, entered_below, unentered_above}
 use Rattle.hl_frames.specs.Answers.{unmarked, entered}
-use Rattle.hl_core.specs.Standing.{marked, held_of, pages_entered, pages_of}
+use Rattle.hl_model.specs.Bases.{marked, held_of}
+use Rattle.hl_core.specs.Standing.{pages_entered, pages_of}
 use Rattle.hl_core.proofs.PageRows.{length-frames}
 use Rattle.hl_core.proofs.PageMarks.{page_some, frames_some, ahead_unflushed, ahead_unflown, ahead_unfreed, ahead_uncleaned}
 use Rattle.hl_core.proofs.PageOffsets.{below_entered, unentered_end, pages_entered-is}

@@ -21,7 +21,8 @@ use Rattle.hl_model.proofs.ViewLaws.{eqb-other}
 use Rattle.hl_model.specs.declared.frame.Held.{Held}
 use Rattle.hl_frames.specs.Pages.{Pages, held_for}
 use Rattle.hl_frames.specs.Answers.{changed, entered, flush_begun, flush_ended, clean_begun, clean_ended}
-use Rattle.hl_core.specs.Standing.{marked, held_of, pages_of}
+use Rattle.hl_model.specs.Bases.{marked, held_of}
+use Rattle.hl_core.specs.Standing.{pages_of}
 use Rattle.hl_core.proofs.PageRows.{length-frames, held_for-is}
 use Rattle.hl_core.proofs.PageMarks.{page_some, frames_some, kept, closed_sealed}
 

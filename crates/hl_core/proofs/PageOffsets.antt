@@ -18,7 +18,8 @@ use Rattle.hl_model.proofs.RunLaws.{flushed_run-passes, flushed_run-fails}
 use Rattle.hl_frames.specs.Pages.{flushed_offset, is_flushed as FLUSHED, flushed_run as FLUSHED_RUN}
 use Rattle.hl_frames.specs.Answers.{state_in, state_of}
 use Rattle.hl_model.proofs.SearchLaws.{prefix_len-first}
-use Rattle.hl_core.specs.Standing.{marked, pages_entered, pages_of}
+use Rattle.hl_model.specs.Bases.{marked}
+use Rattle.hl_core.specs.Standing.{pages_entered, pages_of}
 use Rattle.hl_core.proofs.PageRows.{frame_holds}
 use Rattle.hl_core.proofs.PageMarks.{page_some, in_order, is_flushed-is, ahead_unflushed}
 

@@ -12,7 +12,8 @@ use Rattle.hl_model.proofs.RowLaws.{row_at}
 use Rattle.hl_model.proofs.FrameLaws.{IsLastOf, last_entered-is, last_entered-none, last_entered-cases, entered_below, unentered_above, next_of_frame}
 use Rattle.hl_model.specs.declared.frame.Held.{Held}
 use Rattle.hl_frames.specs.Pages.{held_for, left_or_marked, is_marked}
-use Rattle.hl_core.specs.Standing.{marked, held_of, pages_of}
+use Rattle.hl_model.specs.Bases.{marked, held_of}
+use Rattle.hl_core.specs.Standing.{pages_of}
 
 -- there is a place for each frame
 pub length-frames : (sizes : Sizes) (A : List Step) → length (pages_of sizes A).frames ≡ sizes.frames

@@ -1,17 +1,15 @@
 -- A core at the empty list.
-use Rattle.std.proofs.Common.{◌≡◌, ℕ, zero, suc, ◌+◌, ◌-◌, ◌*◌, ◌/◌, ◌<◌, ◌≤◌, ltb, is_some, List, [], ◌∷◌, map, replicate, refl, sym, ap, ap₂, ◌∙◌, subst, arith}
-use Rattle.std.specs.Prelude.{Option, None, option_map}
-use Rattle.std.specs.List.{range_with_len}
+use Rattle.std.proofs.Common.{◌≡◌, ℕ, ◌+◌, ◌-◌, ◌/◌, ◌<◌, is_some, List, [], map, replicate, refl, sym, ap, ap₂, ◌∙◌, subst, arith}
+use Rattle.std.specs.Prelude.{Option, None}
 use Rattle.std.proofs.Math.Nat.{div-eq_of_lt}
-use Rattle.std.proofs.lemmas.Bool.{le-ltb}
 use Rattle.hl_model.specs.declared.view.View.{View}
 use Rattle.hl_model.specs.Sizes.{Sizes, AreInRange}
 use Rattle.hl_model.specs.Epochs.{epoch_window, Table, slot_epochs, slot_epoch}
 use Rattle.hl_model.specs.Settled.{safe_read_only, closed, settles, closes}
 use Rattle.hl_model.specs.Views.{slot_view, slot_views}
 use Rattle.hl_model.proofs.AcceptedLaws.{good-nil}
+use Rattle.hl_model.proofs.BaseStart.{row_same, held_of-nil}
 use Rattle.hl_model.proofs.EpochLaws.{current_epoch-nil, slot_epoch-nil, is_protected-slot_epoch}
-use Rattle.hl_model.proofs.FrameLaws.{last_entered-none}
 use Rattle.hl_model.proofs.OffsetLaws.{read_only-nil, head-nil, tail-nil}
 use Rattle.hl_model.proofs.SettledLaws.{done_greatest-nil}
 use Rattle.hl_model.proofs.ViewLaws.{slot_view-unprotected}
@@ -23,13 +21,9 @@ use Rattle.hl_offsets.specs.Log.{Log, started}
 use Rattle.hl_model.specs.declared.frame.Held.{Held}
 use Rattle.hl_frames.specs.Answers.{opened as opened_pages}
 use Rattle.hl_frames.specs.Pages.{Pages}
-use Rattle.hl_core.specs.Standing.{Stands, log_of, marked, held_of, pages_of, pages_entered}
+use Rattle.hl_model.specs.Bases.{held_of}
+use Rattle.hl_core.specs.Standing.{Stands, log_of, pages_of, pages_entered}
 use Rattle.hl_core.proofs.TableLaws.{make}
-
--- a row of numbers that all give the same
-row_same : {X : Type 0} (f : ℕ → X) (x : X) (a n : ℕ) → ((t : ℕ) → a ≤ t → t < a + n → f t ≡ x) → replicate n x ≡ map f (range_with_len a n)
-row_same f x a zero h = refl
-row_same f x a (suc n) h = ap₂ (λ y l. y ∷ l) (sym (h a (omega arith) (omega arith))) (row_same f x (a + 1) n (λ t l u. h t (omega (arith, l)) (omega (arith, u))))
 
 slot_view-nil : (sizes : Sizes) (t : ℕ) → slot_view sizes t [] ≡ None
 slot_view-nil sizes t = slot_view-unprotected sizes t [] (is_protected-slot_epoch t [] ∙ ap (λ (o : Option ℕ). is_some o) (slot_epoch-nil t))
@@ -48,17 +42,13 @@ log-nil sizes =
     let safe_is : safe_read_only [] ≡ 0 = done_greatest-nil settles in
     rw (closed_is, head-nil, safe_is, read_only-nil, tail-nil sizes) refl
 
-held-nil : (sizes : Sizes) (f : ℕ) → 0 < sizes.page → f < sizes.frames → held_of sizes [] f ≡ None
-held-nil sizes f page lt =
-    ap (option_map (marked sizes [])) (last_entered-none sizes f [] page lt (ap (ltb (f * sizes.page)) (tail-nil sizes) ∙ le-ltb (f * sizes.page) 0 (omega arith)))
-
 entered-nil : (sizes : Sizes) → 0 < sizes.page → pages_entered sizes [] ≡ 0
 entered-nil sizes page = ap (λ (n : ℕ). (n + sizes.page - 1) / sizes.page) (tail-nil sizes) ∙ div-eq_of_lt (omega (arith, page))
 
 pages-nil : (sizes : Sizes) → AreInRange sizes → opened_pages sizes.page sizes.frames ≡ pages_of sizes []
 pages-nil sizes r =
     let page : 0 < sizes.page = omega (arith, r.page_least) in
-    ap₂ (λ (xs : List (Option Held)) (n : ℕ). record { page = sizes.page; frames = xs; entered = n }) (row_same (held_of sizes []) None 0 sizes.frames (λ f l u. held-nil sizes f page (omega (arith, u)))) (sym (entered-nil sizes page))
+    ap₂ (λ (xs : List (Option Held)) (n : ℕ). record { page = sizes.page; frames = xs; entered = n }) (row_same (held_of sizes []) None 0 sizes.frames (λ f l u. held_of-nil sizes f page (omega (arith, u)))) (sym (entered-nil sizes page))
 
 -- before the first step
 pub stands_start : {J : Type 0} (tag : J → ℕ) (sizes : Sizes) (slots limit : ℕ) (table : Table) (views : List (Option View)) (drain : Lists J) (offsets : Log) (pages : Pages) → AreInRange sizes → slots ≡ sizes.slots → limit ≡ sizes.drain → table ≡ opened slots epoch_window 1 → views ≡ replicate slots None → drain ≡ record { limit = limit; pending = []; taken = [] } → offsets ≡ started sizes.page → pages ≡ opened_pages sizes.page sizes.frames → Stands tag (record { sizes = sizes; table = table; views = views; drain = drain; offsets = offsets; pages = pages }) []

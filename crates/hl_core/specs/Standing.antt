@@ -1,5 +1,5 @@
 -- What a core keeps, and when it stands at a list of steps.
-use Rattle.std.specs.Prelude.{◌≡◌, ℕ, ◌+◌, ◌-◌, ◌/◌, Option, option_map, List, map}
+use Rattle.std.specs.Prelude.{◌≡◌, ℕ, ◌+◌, ◌-◌, ◌/◌, Option, List, map}
 use Rattle.std.specs.List.{range_with_len}
 use Rattle.hl_model.specs.declared.step.Step.{Step}
 use Rattle.hl_model.specs.declared.view.View.{View}
@@ -9,14 +9,11 @@ use Rattle.hl_model.specs.Actions.{pending, taken}
 use Rattle.hl_model.specs.Offsets.{read_only, head, tail}
 use Rattle.hl_model.specs.Settled.{safe_read_only, closed}
 use Rattle.hl_model.specs.Views.{slot_views}
-use Rattle.hl_model.specs.Pages.{is_flushed, is_in_flight, is_freed, is_cleaning}
-use Rattle.hl_model.specs.Frames.{last_entered}
 use Rattle.hl_model.specs.Replies.{IsAccepted}
 use Rattle.hl_model.specs.Bases.{held_of}
 use Rattle.hl_drain.specs.Actions.{waiting_of}
 use Rattle.hl_drain.specs.Lists.{Lists, IsDrain}
 use Rattle.hl_offsets.specs.Log.{Log}
-use Rattle.hl_model.specs.declared.frame.Held.{Held}
 use Rattle.hl_frames.specs.Pages.{Pages}
 
 -- what a core keeps: its sizes, the table of epochs, each slot's view if it is protected, the drain list, five offsets, the frames with their pages

@@ -1,10 +1,10 @@
-ghost use Rattle.std.specs.Prelude.{◌≡◌, [], replicate, vec_capacity, IfOk, IfErr};
+ghost use Rattle.std.specs.Prelude.{◌≡◌, [], IfOk, IfErr};
 
 use crate::rise::EPOCH_WINDOW;
 use hl_drain::Drain;
 use hl_epoch::Epochs;
 use hl_frames::Frames;
-use hl_model::{Fault, Params, Tagged, View};
+use hl_model::{Fault, Params, Tagged, View, filled};
 use hl_offsets::Offsets;
 use std::alloc::Global;
 use std::marker::Model;
@@ -43,7 +43,7 @@ impl<E: Epochs + Drop, J: Tagged + Drop> Core<E, J> {
         ensures err { IfErr result (λ fault. fault ≡ Fault.OutOfMemory) }
     {
         let slots = params.slots();
-        let views = unprotected(alloc, slots as usize)?;
+        let views = filled(alloc, slots, None)?;
         let frames = Frames::open(alloc, params)?;
         let table = E::make(alloc, slots, EPOCH_WINDOW)?;
         let drain = Drain::open(alloc, params.drain())?;
@@ -71,19 +71,4 @@ impl<E: Epochs + Drop, J: Tagged + Drop> Core<E, J> {
         } = self;
         drain
     }
-}
-
-/// A row with a place for each slot, none of which is protected.
-fn unprotected(alloc: Global, slots: usize) -> Result<Vec<Option<View>>, Fault>
-    ensures ok { IfOk result (λ made. made.items ≡ replicate slots None) }
-    ensures room { IfOk result (λ made. vec_capacity made ≡ slots) }
-    ensures err { IfErr result (λ fault. fault ≡ Fault.OutOfMemory) }
-{
-    let Ok(mut views) = Vec::with_capacity(alloc, slots) else {
-        return Err(Fault::OutOfMemory);
-    };
-    for _ in 0..slots {
-        views.push_reserved(None);
-    }
-    Ok(views)
 }

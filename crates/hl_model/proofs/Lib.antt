@@ -1,6 +1,7 @@
 pub mod AcceptedLaws
 pub mod ActionLaws
 pub mod AppendLaws
+pub mod BaseRooms
 pub mod BaseStart
 pub mod BoundLaws
 pub mod CutActions

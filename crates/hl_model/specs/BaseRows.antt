@@ -1,5 +1,5 @@
 -- What a base keeps in its rows.
-use Rattle.std.specs.Prelude.{◌≡◌, ◌≤◌, vec_capacity}
+use Rattle.std.specs.Prelude.{◌≤◌, vec_capacity}
 use Rattle.hl_model.specs.declared.base.Base.TheInside.{Inside}
 use Rattle.hl_model.specs.Bases.{Base, IsBase}
 

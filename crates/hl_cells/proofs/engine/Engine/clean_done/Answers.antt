@@ -1,4 +1,4 @@
-use Rattle.std.proofs.Common.{refl, sym, ◌∙◌}
+use Rattle.std.proofs.Common.{refl, sym}
 use Rattle.std.specs.Prelude.{Ok}
 use Rattle.hl_model.specs.declared.step.Step.TheVariants.{CleanDone as CLEAN_DONE}
 use Rattle.std.proofs.lemmas.Result.{err_from_is_err_and}

@@ -1,0 +1,26 @@
+use Rattle.std.proofs.Common.{[], replicate, ap, ◌∙◌, arith, None}
+use Rattle.hl_model.proofs.AcceptedLaws.{good-nil}
+use Rattle.hl_model.proofs.BaseStart.{all_zeros, opening-base}
+use Rattle.hl_model.proofs.base.Base.opening.Goals as goal
+
+pub invariant_of-result : goal.invariant_of-result
+invariant_of-result c =
+    let sizes = c.args.params in
+    let d = c.default.ensures in
+    let zeros = all_zeros c.default.result d.0 d.1.0 d.1.1.0 d.1.1.1.0 d.1.1.1.1.0 d.1.1.1.1.1 in
+    let slots = c.in_ok-slots.ensures.items ∙ ap (λ n. replicate n None) c.slots.ensures.value in
+    let frames = c.in_ok-frames.ensures.items ∙ ap (λ n. replicate n None) c.frames.ensures.value in
+    record {
+      base = record { steps = []; accepted = good-nil sizes; is = opening-base sizes _ _ _ _ _ c.slots.ensures.in_range slots c.in_ok-waiting.ensures.empty c.in_ok-taken.ensures.empty zeros frames };
+      waiting_room = omega (arith, c.in_ok-waiting.ensures.room);
+      taken_room = omega (arith, c.in_ok-taken.ensures.room);
+    }
+
+pub returns-clause-ok : goal.returns-clause-ok
+returns-clause-ok c =
+    let sizes = c.args.params in
+    let d = c.default.ensures in
+    let zeros = all_zeros c.default.result d.0 d.1.0 d.1.1.0 d.1.1.1.0 d.1.1.1.1.0 d.1.1.1.1.1 in
+    let slots = c.in_ok-slots.ensures.items ∙ ap (λ n. replicate n None) c.slots.ensures.value in
+    let frames = c.in_ok-frames.ensures.items ∙ ap (λ n. replicate n None) c.frames.ensures.value in
+    opening-base sizes _ _ _ _ _ c.slots.ensures.in_range slots c.in_ok-waiting.ensures.empty c.in_ok-taken.ensures.empty zeros frames
