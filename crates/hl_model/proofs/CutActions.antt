@@ -1,5 +1,5 @@
 -- The drain list of a base and the steps since, and the offsets that done actions settle.
-use Rattle.std.proofs.Common.{◌≡◌, ℕ, suc, zero, ◌+◌, ◌<◌, ◌≤◌, Bool, true, false, cond, not, ◌||◌, ◌&&◌, max, List, [], ◌∷◌, ◌++◌, length, take, drop, refl, sym, ap, ap₂, ◌∙◌, subst, arith, append_assoc}
+use Rattle.std.proofs.Common.{◌≡◌, ℕ, suc, zero, ◌+◌, ◌<◌, ◌≤◌, Bool, false, cond, not, ◌||◌, ◌&&◌, List, [], ◌∷◌, ◌++◌, length, take, drop, refl, sym, ap, ap₂, ◌∙◌, subst, arith, append_assoc}
 use Rattle.std.specs.Prelude.{◌==◌}
 use Rattle.std.specs.List.{AllByRecursion, filter, list_any}
 use Rattle.std.proofs.Math.Seq.{drop-append-add, take-append-add}
@@ -13,19 +13,17 @@ use Rattle.hl_model.specs.declared.action.Kind.TheVariants.{User, Settle as Sett
 use Rattle.hl_model.specs.declared.action.Waiting.{Waiting}
 use Rattle.hl_model.specs.declared.step.Step.{Step}
 use Rattle.hl_model.specs.declared.step.Step.TheVariants.{Bump, Settle, Close}
-use Rattle.hl_model.specs.Lists.{gather, greatest}
+use Rattle.hl_model.specs.Lists.{gather}
 use Rattle.hl_model.specs.Sizes.{Sizes}
 use Rattle.hl_model.specs.Actions.{is_take, finishes, takes, action_of, actions, is_finished, pending, ever_taken, taken}
-use Rattle.hl_model.specs.Settled.{settles, closes, done_greatest, safe_read_only, closed}
 use Rattle.hl_model.specs.Replies.{IsAccepted}
 use Rattle.hl_model.specs.Bases.{base_of}
-use Rattle.hl_model.specs.AfterActions.{stored_by, stored_after, waiting_after, ever_taken_after, taken_after, done_greatest_after, safe_read_only_after, closed_after}
-use Rattle.hl_model.proofs.AcceptedLaws.{IsAccepted-front}
+use Rattle.hl_model.specs.AfterActions.{stored_by, stored_after, waiting_after, ever_taken_after, taken_after}
 use Rattle.hl_model.proofs.ActionLaws.{actions-rising, filter_twice, not_or}
 use Rattle.hl_model.proofs.AppendLaws.{gather-append, gather-same}
 use Rattle.hl_model.proofs.CutOffsets.{epoch_after-is, read_only_after-is, head_after-is}
 use Rattle.hl_model.proofs.DrainLaws.{takes-le-actions, finished-taken}
-use Rattle.hl_model.proofs.ListLaws.{greatest-append, greatest-max, all-follows}
+use Rattle.hl_model.proofs.ListLaws.{all-follows}
 use Rattle.hl_model.proofs.TicketLaws.{Rising, Rising-lower}
 
 one_action : (c d : ℕ) (k l : Kind) → c ≡ d → k ≡ l → ◌≡◌ {A = List Waiting} (record { ticket = c; kind = k } ∷ []) (record { ticket = d; kind = l } ∷ [])
@@ -154,10 +152,10 @@ filter-same_on p q (x ∷ xs) a = filter_cons x (p x) (q x) (filter p xs) (filte
 pub taken_after-is : (sizes : Sizes) (A L : List Step) → IsAccepted sizes A → taken_after (base_of sizes A) L ≡ taken (A ++ L)
 unfolding taken_after ever_taken_after stored_after base_of taken
 taken_after-is sizes A L a = sym (
-  ap (filter now) (ever_taken-append sizes A L a) ∙ filter-append now (ever_taken A) rest
-  ∙ ap₂ (λ k l. k ++ l) early late
-  ∙ sym (filter-append since (filter (λ w. not (is_finished w.ticket A)) (ever_taken A)) rest)
-)
+    ap (filter now) (ever_taken-append sizes A L a) ∙ filter-append now (ever_taken A) rest
+    ∙ ap₂ (λ k l. k ++ l) early late
+    ∙ sym (filter-append since (filter (λ w. not (is_finished w.ticket A)) (ever_taken A)) rest)
+    )
   where
     rest : List Waiting
     rest = taken_since sizes A L

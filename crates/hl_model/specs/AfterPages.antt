@@ -61,7 +61,7 @@ cleaning_after b = record {
 unfoldable pub flushed_run_after : Base → List Step → ℕ
 flushed_run_after b L =
     prefix_len (λ p. is_complete_after (flushing_after b) p L)
-        (range_with_len 0 (max (b.six.tail / b.sizes.page + 1) (greatest flushes_below L)))
+    (range_with_len 0 (max (b.six.tail / b.sizes.page + 1) (greatest flushes_below L)))
 
 -- the flushed offset
 abbrev pub flushed_after : Base → List Step → ℕ
@@ -71,7 +71,7 @@ flushed_after b L = b.sizes.page * flushed_run_after b L
 unfoldable pub last_entered_after : Base → ℕ → List Step → Option ℕ
 last_entered_after b f L =
     greatest_below (λ p. nat_lt (p * b.sizes.page) (tail_after b L) && p % b.sizes.frames == f)
-        (tail_after b L / b.sizes.page + 1)
+    (tail_after b L / b.sizes.page + 1)
 
 -- a page with its marks
 abbrev pub marked_after : Base → List Step → ℕ → Held

@@ -1,9 +1,8 @@
 -- What each step is answered after a base and the steps since, by the quantities alone, and which steps are accepted.
-use Rattle.std.specs.Prelude.{ℕ, ◌≡◌, ◌+◌, ◌-◌, ◌*◌, ◌/◌, ◌==◌, nat_le, nat_lt, Bool, ◌||◌, if◌then◌else◌, Option, Some, None, is_none, is_some, unwrap_or, Result, List, [], ◌∷◌, ◌++◌, length, map, find}
+use Rattle.std.specs.Prelude.{ℕ, ◌≡◌, ◌+◌, ◌-◌, ◌*◌, ◌/◌, ◌==◌, nat_le, nat_lt, ◌||◌, if◌then◌else◌, Option, Some, None, is_none, is_some, unwrap_or, Result, List, [], ◌∷◌, ◌++◌, length, map, find}
 use Rattle.std.specs.List.{list_any, range_with_len}
 use Rattle.hl_model.specs.declared.action.Kind.{Kind}
 use Rattle.hl_model.specs.declared.action.Kind.TheVariants.{User, Settle as Settling, Close as Closing}
-use Rattle.hl_model.specs.declared.action.Waiting.{Waiting}
 use Rattle.hl_model.specs.declared.fault.Fault.{Fault}
 use Rattle.hl_model.specs.declared.fault.Fault.TheVariants.{NoSlot, Occupied, NotProtected, Stale, DrainFull, EpochsSpent, Empty, NotReady, NotTaken, Busy, Below, Beyond, Evicted, NoneSealed, NotInFlight, NoneClosed, NotCleaning, WindowFull}
 use Rattle.hl_model.specs.declared.slot.Slot.{Slot}
@@ -87,7 +86,7 @@ page_fault_at b q =
 abbrev pub allocate_fault_at : Base → ℕ → Option Fault
 allocate_fault_at b n =
     or_fault (size_fault b.sizes.page b.six.tail n)
-        (page_fault_at b (place_of b.sizes.page b.six.tail n / b.sizes.page))
+    (page_fault_at b (place_of b.sizes.page b.six.tail n / b.sizes.page))
 
 -- the fault of a look at these offsets, told the view
 abbrev pub look_fault_of : ℕ → ℕ → View → Option Fault

@@ -35,9 +35,9 @@ unfoldable pub slot_after : Base → ℕ → List Step → Option Slot
 slot_after b t L =
     if has_moved t L
     then (if is_protected t L
-        then Some (record {
-          epoch = epoch_after b (up_to_mark t L);
-          view = seen_since b t (present_after b (up_to_mark t L)) L;
-        })
-        else None)
+    then Some (record {
+      epoch = epoch_after b (up_to_mark t L);
+      view = seen_since b t (present_after b (up_to_mark t L)) L;
+    })
+    else None)
     else option_map (λ slot. record { epoch = slot.epoch; view = seen_since b t slot.view L }) (slot_in b t)

@@ -1,5 +1,5 @@
 -- What joins the quantities of a base and the steps since with those of the whole list.
-use Rattle.std.specs.Prelude.{◌≡◌, List, ◌++◌, Result}
+use Rattle.std.specs.Prelude.{◌≡◌, List, ◌++◌}
 use Rattle.hl_model.specs.declared.step.Step.{Step}
 use Rattle.hl_model.specs.Sizes.{Sizes}
 use Rattle.hl_model.specs.Replies.{fault_of, reply_of, good, IsAccepted, replies_after}

@@ -1,7 +1,6 @@
 -- Worked examples of bases: a list, its base, the steps that follow, their replies, and the base of both, by hand.
-use Rattle.std.specs.Prelude.{ℕ, ◌≡◌, true, false, Option, Some, None, Result, Ok, Err, List, [], ◌∷◌}
-use Rattle.hl_model.specs.declared.action.Kind.TheVariants.{User, Settle as Settling}
-use Rattle.hl_model.specs.declared.action.Waiting.{Waiting}
+use Rattle.std.specs.Prelude.{ℕ, ◌≡◌, true, false, Some, None, Result, Ok, Err, List, [], ◌∷◌}
+use Rattle.hl_model.specs.declared.action.Kind.TheVariants.{Settle as Settling}
 use Rattle.hl_model.specs.declared.fault.Fault.{Fault}
 use Rattle.hl_model.specs.declared.fault.Fault.TheVariants.{DrainFull, NotReady, NotTaken, Below, Evicted, Busy, NoneSealed, NotInFlight, NoneClosed, NotCleaning}
 use Rattle.hl_model.specs.declared.frame.Held.{Held}
@@ -10,8 +9,6 @@ use Rattle.hl_model.specs.declared.step.Reply.{Reply}
 use Rattle.hl_model.specs.declared.step.Reply.TheVariants.{Entered, Ticket, Taken, Ran, Settled, At, Written, Readable, Page, Flushed, Freed}
 use Rattle.hl_model.specs.declared.step.Step.{Step}
 use Rattle.hl_model.specs.declared.step.Step.TheVariants.{Acquire, Refresh, Release, Bump, Settle, Close, Take, Done, Raise, Shift, Allocate, Write, Read, FlushTake, FlushDone, CleanTake, CleanDone}
-use Rattle.hl_model.specs.declared.view.Six.{Six}
-use Rattle.hl_model.specs.declared.view.View.{View}
 use Rattle.hl_model.specs.Worked.{small, job}
 use Rattle.hl_model.specs.Bases.{Base, base_of}
 use Rattle.hl_model.specs.AfterReplies.{base_after, good_from, replies_from}
