@@ -28,3 +28,10 @@ pub record IsCutHere (sizes : Sizes) (A L : List Step) : Type 0 where
 -- so at each place of an accepted list
 abbrev pub CutsAnywhere : Type 0
 CutsAnywhere = (sizes : Sizes) (A L : List Step) → IsAccepted sizes (A ++ L) → IsCutHere sizes A L
+
+-- an action is taken after every slot that was protected in a base, at its ticket or before, has refreshed or left since
+abbrev pub TakenAfterAllMovedSince : Type 0
+TakenAfterAllMovedSince =
+    (sizes : Sizes) (A X : List Step) (t : ℕ) (slot : Slot) → IsAccepted sizes (A ++ X ++ Take ∷ [])
+    → slot_in (base_of sizes A) t ≡ Some slot → slot.epoch ≤ first_ticket (waiting_after (base_of sizes A) X)
+    → list_any (moves_on t) X ≡ true
