@@ -1,7 +1,7 @@
 -- The fault that each step meets at the base of an accepted list.
-use Rattle.std.proofs.Common.{◌≡◌, ℕ, ◌+◌, ◌-◌, ◌*◌, ◌/◌, ◌<◌, Bool, true, false, cond, not, ◌||◌, leb, ltb, is_some, List, [], ◌∷◌, length, map, find, refl, sym, ap, ap₂, ◌∙◌}
+use Rattle.std.proofs.Common.{◌≡◌, ℕ, ◌-◌, ◌/◌, ◌<◌, Bool, true, false, cond, not, ◌||◌, leb, ltb, is_some, List, [], ◌∷◌, length, map, refl, sym, ap, ap₂, ◌∙◌}
 use Rattle.std.specs.Prelude.{◌==◌, Option, Some, None, option_map}
-use Rattle.std.specs.List.{range_with_len, list_any}
+use Rattle.std.specs.List.{range_with_len}
 use Rattle.std.proofs.lemmas.Bool.{leb-false}
 use Rattle.hl_model.specs.declared.fault.Fault.{Fault}
 use Rattle.hl_model.specs.declared.fault.Fault.TheVariants.{NoSlot, Occupied, NotProtected, DrainFull, EpochsSpent, Empty, NotReady, NotTaken, Busy, NoneSealed, NotInFlight, NoneClosed, NotCleaning, WindowFull}
@@ -11,14 +11,13 @@ use Rattle.hl_model.specs.declared.step.Step.TheVariants.{Acquire, Refresh, Rele
 use Rattle.hl_model.specs.declared.view.View.{View}
 use Rattle.hl_model.specs.Sizes.{Sizes}
 use Rattle.hl_model.specs.Epochs.{epoch_window, current_epoch, is_protected, epoch_of, slot_epoch, slot_epochs, safe_among, safe_epoch}
-use Rattle.hl_model.specs.Actions.{pending, front, taken, is_taken, is_full}
+use Rattle.hl_model.specs.Actions.{pending, front}
 use Rattle.hl_model.specs.Offsets.{is_entered, tail, place_of}
 use Rattle.hl_model.specs.Settled.{safe_read_only, closed, pages_below}
 use Rattle.hl_model.specs.Views.{view_of}
 use Rattle.hl_model.specs.Pages.{is_flushed, is_in_flight, is_freed, is_cleaning, next_page, next_to_flush, next_to_clean}
-use Rattle.hl_model.specs.Frames.{may_enter}
 use Rattle.hl_model.specs.Replies.{epoch_last, acquire_fault, protected_fault, bare_fault, bump_fault, take_fault, or_fault, size_fault, page_fault, allocate_fault, unless_page, fault_of, IsAccepted}
-use Rattle.hl_model.specs.Bases.{Base, base_of, slot_of, slot_in, safe_in, flushed_in, in_flight_in, freed_in, cleaning_in, to_flush_in, to_clean_in}
+use Rattle.hl_model.specs.Bases.{base_of, slot_of, slot_in, safe_in, flushed_in, in_flight_in, freed_in, cleaning_in, to_flush_in, to_clean_in}
 use Rattle.hl_model.specs.AfterReplies.{acquire_fault_at, seen_fault, view_fault_at, bare_fault_at, bump_fault_at, take_fault_at, page_fault_at, allocate_fault_at, look_fault_of, write_fault_of, read_fault_of, fault_at}
 use Rattle.hl_model.proofs.AppendLaws.{find-same}
 use Rattle.hl_model.proofs.CutRows.{flushed_in-is, freed_in-is, in_flight_in-is, cleaning_in-is}

@@ -1,6 +1,6 @@
 -- An accepted list may be cut to its base.
-use Rattle.std.proofs.Common.{◌≡◌, ℕ, ◌+◌, cond, is_none, List, [], ◌∷◌, ◌++◌, refl, sym, ap, ap₂, ◌∙◌, subst, append_assoc, append-nil}
-use Rattle.std.specs.Prelude.{Option, Some, None, Ok, Err}
+use Rattle.std.proofs.Common.{◌≡◌, ℕ, cond, is_none, List, [], ◌∷◌, ◌++◌, refl, sym, ap, ap₂, ◌∙◌, subst, append_assoc, append-nil}
+use Rattle.std.specs.Prelude.{Option, Some, None, Ok}
 use Rattle.hl_model.specs.declared.action.Waiting.{Waiting}
 use Rattle.hl_model.specs.declared.fault.Fault.{Fault}
 use Rattle.hl_model.specs.declared.frame.Held.{Held}
@@ -8,7 +8,6 @@ use Rattle.hl_model.specs.declared.slot.Slot.{Slot}
 use Rattle.hl_model.specs.declared.step.Step.{Step}
 use Rattle.hl_model.specs.declared.view.Six.{Six}
 use Rattle.hl_model.specs.Sizes.{Sizes}
-use Rattle.hl_model.specs.Snapshots.{six}
 use Rattle.hl_model.specs.Replies.{fault_of, unless_fault, answer_of, reply_of, extended, good_after, good, IsAccepted, replies_after}
 use Rattle.hl_model.specs.Bases.{Base, slot_of, held_of, base_of}
 use Rattle.hl_model.specs.AfterViews.{slot_after}

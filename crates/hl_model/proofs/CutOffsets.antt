@@ -1,5 +1,5 @@
 -- The epoch and the offsets that steps move, of a base and the steps since.
-use Rattle.std.proofs.Common.{◌≡◌, ℕ, ◌+◌, cond, List, ◌++◌, sym, arith}
+use Rattle.std.proofs.Common.{◌≡◌, cond, List, ◌++◌, sym, arith}
 use Rattle.std.proofs.lemmas.List.Sums.{sum_by-append, fold-append}
 use Rattle.hl_model.specs.declared.step.Step.{Step}
 use Rattle.hl_model.specs.Sizes.{Sizes}

@@ -1,5 +1,5 @@
 -- Pages and frames of a base and the steps since.
-use Rattle.std.proofs.Common.{◌≡◌, ℕ, ◌+◌, ◌*◌, ◌/◌, ◌%◌, ◌<◌, ◌≤◌, true, false, ◌&&◌, ◌||◌, ltb, max, List, ◌++◌, refl, sym, ap, ◌∙◌, arith, inl, inr, ◌⊎◌, Bool}
+use Rattle.std.proofs.Common.{◌≡◌, ℕ, ◌+◌, ◌*◌, ◌/◌, ◌%◌, ◌<◌, true, false, ◌&&◌, ltb, max, List, ◌++◌, refl, sym, ap, ◌∙◌, arith, inl, inr, ◌⊎◌, Bool}
 use Rattle.std.specs.Prelude.{◌==◌, Option, option_map, Some, None}
 use Rattle.std.proofs.lemmas.Bool.{or_from, both_ways, false_from_ne_true}
 use Rattle.hl_model.specs.declared.frame.Held.{Held}
@@ -8,12 +8,10 @@ use Rattle.hl_model.specs.Lists.{greatest, greatest_below}
 use Rattle.hl_model.specs.Sizes.{Sizes}
 use Rattle.hl_model.specs.Offsets.{tail}
 use Rattle.hl_model.specs.Settled.{safe_read_only, closed, pages_below}
-use Rattle.hl_model.specs.Pages.{is_out, is_complete, marks, flushing, is_flushed, is_in_flight, is_freed, is_cleaning, flushes_below, flushed_run, flushed}
+use Rattle.hl_model.specs.Pages.{is_complete, is_flushed, is_in_flight, is_freed, is_cleaning, flushes_below, flushed_run, flushed}
 use Rattle.hl_model.specs.Frames.{last_entered}
 use Rattle.hl_model.specs.Replies.{IsAccepted}
 use Rattle.hl_model.specs.Bases.{base_of, marked, held_of, flushed_in}
-use Rattle.hl_model.specs.AfterOffsets.{tail_after}
-use Rattle.hl_model.specs.AfterActions.{safe_read_only_after, closed_after}
 use Rattle.hl_model.specs.AfterPages.{is_complete_after, is_out_after, marks_after, flushing_after, cleaning_after, flushed_run_after, flushed_after, last_entered_after, marked_after, held_after}
 use Rattle.hl_model.proofs.AcceptedLaws.{IsAccepted-front}
 use Rattle.hl_model.proofs.CutOffsets.{tail_after-is}

@@ -1,20 +1,18 @@
 -- The answer to each accepted step, at the base of the list before it and that of the list with it.
-use Rattle.std.proofs.Common.{◌≡◌, ℕ, ◌+◌, ◌<◌, Bool, true, false, cond, List, [], ◌∷◌, ◌++◌, find, refl, sym, ap, ap₂, ◌∙◌, arith}
-use Rattle.std.specs.Prelude.{◌==◌, Option, Some, None, unwrap_or}
+use Rattle.std.proofs.Common.{◌≡◌, ℕ, ◌<◌, true, false, cond, List, [], ◌∷◌, ◌++◌, refl, sym, ap, ◌∙◌, arith}
+use Rattle.std.specs.Prelude.{Some, None, unwrap_or}
 use Rattle.std.proofs.lemmas.Bool.{eq-eqb}
 use Rattle.hl_model.specs.declared.action.Kind.{Kind}
 use Rattle.hl_model.specs.declared.action.Kind.TheVariants.{User, Settle as Settling, Close as Closing}
 use Rattle.hl_model.specs.declared.action.Waiting.{Waiting}
-use Rattle.hl_model.specs.declared.slot.Slot.{Slot}
-use Rattle.hl_model.specs.declared.step.Reply.{Reply}
 use Rattle.hl_model.specs.declared.step.Reply.TheVariants.{Entered, Ticket, Bumped, Looked, Page}
 use Rattle.hl_model.specs.declared.step.Step.{Step}
 use Rattle.hl_model.specs.declared.step.Step.TheVariants.{Acquire, Refresh, Release, Bump, Settle, Close, Bare, Take, Done, Raise, Shift, Allocate, Look, Write, Read, FlushTake, FlushDone, CleanTake, CleanDone}
 use Rattle.hl_model.specs.Sizes.{Sizes}
 use Rattle.hl_model.specs.Epochs.{is_bump, enters, leaves, current_epoch, is_protected, epoch_of}
-use Rattle.hl_model.specs.Actions.{bumps, taken, is_taken, action_at}
+use Rattle.hl_model.specs.Actions.{bumps, taken, action_at}
 use Rattle.hl_model.specs.Views.{view_of}
-use Rattle.hl_model.specs.Replies.{protected_fault, fault_of, done_answer, kind_or_job_0, answer_of, IsAccepted}
+use Rattle.hl_model.specs.Replies.{fault_of, done_answer, kind_or_job_0, answer_of, IsAccepted}
 use Rattle.hl_model.specs.Bases.{base_of, slot_of, slot_in}
 use Rattle.hl_model.specs.AfterReplies.{entered_at, looked_at, done_answer_at, answer_at}
 use Rattle.hl_model.proofs.ActionLaws.{bumps-push, current_epoch-bumps}

@@ -11,7 +11,7 @@ use Rattle.hl_model.specs.Offsets.{is_entered}
 use Rattle.hl_model.specs.Pages.{is_flushed, is_in_flight, is_freed, is_cleaning}
 use Rattle.hl_model.specs.Frames.{last_entered}
 use Rattle.hl_model.specs.Replies.{IsAccepted}
-use Rattle.hl_model.specs.Bases.{Base, base_of, marked, held_of, completed_in, marked_in, held_in, flushed_in, freed_in, in_flight_in, cleaning_in}
+use Rattle.hl_model.specs.Bases.{base_of, marked, held_of, completed_in, marked_in, held_in, flushed_in, freed_in, in_flight_in, cleaning_in}
 use Rattle.hl_model.proofs.FrameFacts.{sealed_entered, freed_flushed, flushed_entered, cleaning_flushed, in_flight_unfreed}
 use Rattle.hl_model.proofs.FrameLaws.{IsLastOf, last_entered-is, last_entered-none, last_entered-cases, entered_below, unentered_above, next_of_frame}
 use Rattle.hl_model.proofs.PageFacts.{round_freed, in_flight_sealed, cleaning_unfreed}

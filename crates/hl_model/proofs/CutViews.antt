@@ -1,26 +1,26 @@
 -- What a protected slot knows, of a base and the steps since.
-use Rattle.std.proofs.Common.{◌≡◌, ℕ, zero, suc, ◌+◌, ◌<◌, ◌≤◌, Bool, true, false, cond, ◌||◌, ltb, max, List, [], ◌∷◌, ◌++◌, length, take, drop, refl, sym, ap, ap₂, ◌∙◌, arith, inl, inr, ◌⊎◌}
+use Rattle.std.proofs.Common.{◌≡◌, ℕ, zero, suc, ◌+◌, ◌<◌, ◌≤◌, Bool, true, false, cond, ltb, max, List, [], ◌∷◌, ◌++◌, length, take, drop, refl, sym, ap, ap₂, ◌∙◌, arith, inl, inr, ◌⊎◌}
 use Rattle.std.specs.Prelude.{Option, Some, None, option_map}
 use Rattle.std.specs.List.{list_any}
 use Rattle.std.proofs.Math.Seq.{drop-append-add, take-append-add}
-use Rattle.std.proofs.lemmas.Bool.{lt-ltb, le-ltb, ltb-true, ltb-false, or_parts, both_ways, true_from_ne_false, cases_lt}
+use Rattle.std.proofs.lemmas.Bool.{lt-ltb, le-ltb, ltb-true, or_parts, true_from_ne_false, cases_lt}
 use Rattle.std.proofs.lemmas.List.{take-append-le, drop-append-le}
 use Rattle.hl_model.specs.declared.slot.Slot.{Slot}
 use Rattle.hl_model.specs.declared.step.Step.{Step}
-use Rattle.hl_model.specs.declared.view.View.{View}
 use Rattle.hl_model.specs.Lists.{until_last, last_given}
 use Rattle.hl_model.specs.Sizes.{Sizes}
 use Rattle.hl_model.specs.Epochs.{enters, leaves, current_epoch, mark, is_protected, up_to_mark, epoch_of}
 use Rattle.hl_model.specs.Offsets.{read_only, head, tail}
 use Rattle.hl_model.specs.Views.{since_mark, looked_read_only, looked_head, allocates, seen_read_only, seen_head, seen_tail, view_of}
-use Rattle.hl_model.specs.Bases.{Base, base_of, slot_of, slot_in}
+use Rattle.hl_model.specs.Bases.{base_of, slot_of, slot_in}
 use Rattle.hl_model.specs.AfterEpochs.{epoch_after, has_moved}
-use Rattle.hl_model.specs.AfterOffsets.{read_only_after, head_after, tail_after}
+use Rattle.hl_model.specs.AfterOffsets.{tail_after}
 use Rattle.hl_model.specs.AfterViews.{present_after, own_tail, seen_since, slot_after}
 use Rattle.hl_model.proofs.AppendLaws.{until_last-none, until_last-some, until_last-append, last_given-append, later-append, list_any-either, ltb-add}
 use Rattle.hl_model.proofs.CutOffsets.{epoch_after-is, read_only_after-is, head_after-is, tail_after-is}
 use Rattle.hl_model.proofs.ListLaws.{until_last-le}
 use Rattle.hl_model.proofs.RowLaws.{row_at}
+use Rattle.hl_model.proofs.ViewLaws.{mark-le}
 
 -- what slot t has in a base
 pub slot_in-is : (sizes : Sizes) (A : List Step) (t : ℕ) → t < sizes.slots → slot_in (base_of sizes A) t ≡ slot_of sizes t A
@@ -53,10 +53,6 @@ mark-since t A L h = until_last-append (enters t) A L ∙ ap (λ b. cond b (leng
 mark-before : (t : ℕ) (A L : List Step) → list_any (enters t) L ≡ false → mark t (A ++ L) ≡ mark t A
 unfolding mark
 mark-before t A L h = until_last-append (enters t) A L ∙ ap (λ b. cond b (length A + until_last (enters t) L) (until_last (enters t) A)) h
-
-mark-le : (t : ℕ) (A : List Step) → mark t A ≤ length A
-unfolding mark
-mark-le t A = until_last-le (enters t) A
 
 -- the steps up to its mark and after it, where it entered since
 up_to-since : (t : ℕ) (A L : List Step) → list_any (enters t) L ≡ true → up_to_mark t (A ++ L) ≡ A ++ up_to_mark t L

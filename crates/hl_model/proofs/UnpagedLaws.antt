@@ -1,12 +1,12 @@
 -- Sizes without words or without frames: no accepted list has a page.
-use Rattle.std.proofs.Common.{◌≡◌, ℕ, ◌+◌, ◌-◌, ◌*◌, ◌/◌, ◌%◌, ◌<◌, ◌≤◌, true, false, cond, ◌||◌, ltb, List, [], ◌∷◌, ◌++◌, refl, sym, ap, ◌∙◌, arith, inl, inr, ◌⊎◌}
+use Rattle.std.proofs.Common.{◌≡◌, ℕ, ◌+◌, ◌-◌, ◌*◌, ◌/◌, ◌%◌, ◌<◌, ◌≤◌, true, false, ltb, List, [], ◌∷◌, ◌++◌, ap, ◌∙◌, arith, inl, inr, ◌⊎◌}
 use Rattle.std.specs.Prelude.{◌==◌, None}
 use Rattle.std.proofs.Math.Nat.{div-zero}
 use Rattle.std.proofs.lemmas.Bool.{and_left, le-ltb, both_ways, false_from_ne_true, or_cases, cases_lt}
 use Rattle.hl_model.specs.declared.step.Step.{Step}
 use Rattle.hl_model.specs.declared.step.Step.TheVariants.{Allocate}
 use Rattle.hl_model.specs.Sizes.{Sizes}
-use Rattle.hl_model.specs.Offsets.{tail, tail_past, place_of, is_entered}
+use Rattle.hl_model.specs.Offsets.{tail, place_of, is_entered}
 use Rattle.hl_model.specs.Settled.{safe_read_only, closed}
 use Rattle.hl_model.specs.Pages.{flushing, cleaning, is_flushed, is_in_flight, is_freed, is_cleaning}
 use Rattle.hl_model.specs.Frames.{last_entered, may_enter}
