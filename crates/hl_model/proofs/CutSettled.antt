@@ -1,6 +1,6 @@
 -- The offsets that done actions settle, of a base and the steps since.
 use Rattle.std.proofs.Common.{◌≡◌, ℕ, ◌≤◌, Bool, true, false, cond, not, ◌||◌, max, List, [], ◌∷◌, ◌++◌, take, drop, refl, sym, ap, ◌∙◌, arith}
-use Rattle.std.specs.List.{AllByRecursion, filter}
+use Rattle.std.specs.List.{filter}
 use Rattle.std.proofs.lemmas.List.{take-append-drop}
 use Rattle.hl_model.specs.declared.action.Kind.{Kind}
 use Rattle.hl_model.specs.declared.action.Waiting.{Waiting}
