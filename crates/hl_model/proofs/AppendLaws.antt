@@ -1,9 +1,11 @@
--- Laws of the ways in which the definitions look back, for two lists in a row.
-use Rattle.std.proofs.Common.{◌≡◌, ℕ, suc, ◌+◌, ◌<◌, ◌≤◌, Bool, true, false, cond, ◌||◌, ltb, List, [], ◌∷◌, ◌++◌, length, find, refl, sym, ap, ap₂, ◌∙◌, arith, append_assoc, append-nil, inl, inr, ◌⊎◌}
+-- Laws of the ways in which the definitions look back, for two lists in a row, and for functions that agree.
+use Rattle.std.proofs.Common.{◌≡◌, ℕ, suc, ◌+◌, ◌<◌, ◌≤◌, Bool, true, false, cond, ◌||◌, ltb, List, [], ◌∷◌, ◌++◌, length, find, take, drop, refl, sym, ap, ap₂, ◌∙◌, arith, append_assoc, append-nil, inl, inr, ◌⊎◌}
 use Rattle.std.specs.Prelude.{Option, Some, unwrap_or}
 use Rattle.std.specs.List.{list_any}
 use Rattle.std.proofs.lemmas.Bool.{lt-ltb, le-ltb, cases_lt}
+use Rattle.std.proofs.lemmas.List.{length-take-le, take-append-drop}
 use Rattle.std.proofs.lemmas.List.Folds.{list_any-append}
+use Rattle.std.proofs.Math.Seq.{drop-append-add, take-append-add}
 use Rattle.hl_model.specs.Lists.{until_last, gather_after, gather, last_given}
 use Rattle.hl_model.proofs.ListLaws.{until_last-le, gather-push, by_pushing}
 
@@ -121,3 +123,19 @@ find_core x b c k l e f = rw (e, f) refl
 pub find-same : {X : Type 0} (p q : X → Bool) (xs : List X) → ((x : X) → p x ≡ q x) → find p xs ≡ find q xs
 find-same p q [] h = refl
 find-same p q (x ∷ xs) h = find_core x (p x) (q x) (find p xs) (find q xs) (h x) (find-same p q xs h)
+
+-- two lists in a row, parted within the first
+parted : {X : Type 0} (m : ℕ) (xs ys : List X) → xs ++ ys ≡ take m xs ++ (drop m xs ++ ys)
+parted m xs ys = ap (λ l. l ++ ys) (sym (take-append-drop m xs)) ∙ append_assoc (take m xs) (drop m xs) ys
+
+-- what is behind m and n elements
+pub drop_both : {X : Type 0} (m n : ℕ) (xs ys : List X) → m ≤ length xs → drop (m + n) (xs ++ ys) ≡ drop n (drop m xs ++ ys)
+drop_both m n xs ys le =
+    ap₂ (λ k l. drop (k + n) l) (sym (length-take-le m xs le)) (parted m xs ys)
+    ∙ drop-append-add (take m xs) (drop m xs ++ ys) n
+
+-- and these themselves
+pub take_both : {X : Type 0} (m n : ℕ) (xs ys : List X) → m ≤ length xs → take (m + n) (xs ++ ys) ≡ take m xs ++ take n (drop m xs ++ ys)
+take_both m n xs ys le =
+    ap₂ (λ k l. take (k + n) l) (sym (length-take-le m xs le)) (parted m xs ys)
+    ∙ take-append-add (take m xs) (drop m xs ++ ys) n

@@ -1,10 +1,9 @@
--- The drain list of a base and the steps since, and the offsets that done actions settle.
-use Rattle.std.proofs.Common.{◌≡◌, ℕ, suc, zero, ◌+◌, ◌<◌, ◌≤◌, Bool, false, cond, not, ◌||◌, ◌&&◌, List, [], ◌∷◌, ◌++◌, length, take, drop, refl, sym, ap, ap₂, ◌∙◌, subst, arith, append_assoc}
+-- The drain list of a base and the steps since.
+use Rattle.std.proofs.Common.{◌≡◌, ℕ, suc, zero, ◌+◌, ◌<◌, Bool, false, cond, not, ◌||◌, ◌&&◌, List, [], ◌∷◌, ◌++◌, take, drop, refl, sym, ap, ap₂, ◌∙◌, subst, arith}
 use Rattle.std.specs.Prelude.{◌==◌}
 use Rattle.std.specs.List.{AllByRecursion, filter, list_any}
-use Rattle.std.proofs.Math.Seq.{drop-append-add, take-append-add}
 use Rattle.std.proofs.lemmas.Bool.{ne_eqb, both_ways, false_from_ne_true}
-use Rattle.std.proofs.lemmas.List.{length-take-le, take-append-drop, take-append-le, drop-append-le}
+use Rattle.std.proofs.lemmas.List.{take-append-le, drop-append-le}
 use Rattle.std.proofs.lemmas.List.Elements.{filter-append, filter_agree}
 use Rattle.std.proofs.lemmas.List.Folds.{list_any-append}
 use Rattle.std.proofs.lemmas.List.Sums.{sum_by-append}
@@ -20,10 +19,10 @@ use Rattle.hl_model.specs.Replies.{IsAccepted}
 use Rattle.hl_model.specs.Bases.{base_of}
 use Rattle.hl_model.specs.AfterActions.{stored_by, stored_after, waiting_after, ever_taken_after, taken_after}
 use Rattle.hl_model.proofs.ActionLaws.{actions-rising, filter_twice, not_or}
-use Rattle.hl_model.proofs.AppendLaws.{gather-append, gather-same}
+use Rattle.hl_model.proofs.AppendLaws.{gather-append, gather-same, drop_both, take_both}
 use Rattle.hl_model.proofs.CutOffsets.{epoch_after-is, read_only_after-is, head_after-is}
 use Rattle.hl_model.proofs.DrainLaws.{takes-le-actions, finished-taken}
-use Rattle.hl_model.proofs.ListLaws.{all-follows}
+use Rattle.hl_model.proofs.ListLaws.{all-follows, all-with, all-drop, all-take, filter-same_on}
 use Rattle.hl_model.proofs.TicketLaws.{Rising, Rising-lower}
 
 one_action : (c d : ℕ) (k l : Kind) → c ≡ d → k ≡ l → ◌≡◌ {A = List Waiting} (record { ticket = c; kind = k } ∷ []) (record { ticket = d; kind = l } ∷ [])
@@ -47,29 +46,15 @@ actions-append sizes A L =
     gather-append action_of A L
     ∙ ap (λ ws. gather action_of A ++ ws) (gather-same (λ before s. action_of (A ++ before) s) (stored_by (base_of sizes A)) (stored_by-is sizes A) L)
 
+-- takes
 pub takes-append : (A L : List Step) → takes (A ++ L) ≡ takes A + takes L
 unfolding takes
 takes-append A L = sum_by-append (λ s. cond (is_take s) 1 0) A L
 
+-- dones
 pub is_finished-append : (c : ℕ) (A L : List Step) → is_finished c (A ++ L) ≡ (is_finished c A || is_finished c L)
 unfolding is_finished
 is_finished-append c A L = list_any-append (finishes c) A L
-
--- two lists in a row, parted within the first
-parted : {X : Type 0} (m : ℕ) (xs ys : List X) → xs ++ ys ≡ take m xs ++ (drop m xs ++ ys)
-parted m xs ys = ap (λ l. l ++ ys) (sym (take-append-drop m xs)) ∙ append_assoc (take m xs) (drop m xs) ys
-
--- what is behind m and n elements
-drop_both : {X : Type 0} (m n : ℕ) (xs ys : List X) → m ≤ length xs → drop (m + n) (xs ++ ys) ≡ drop n (drop m xs ++ ys)
-drop_both m n xs ys le =
-    ap₂ (λ k l. drop (k + n) l) (sym (length-take-le m xs le)) (parted m xs ys)
-    ∙ drop-append-add (take m xs) (drop m xs ++ ys) n
-
--- and these themselves
-take_both : {X : Type 0} (m n : ℕ) (xs ys : List X) → m ≤ length xs → take (m + n) (xs ++ ys) ≡ take m xs ++ take n (drop m xs ++ ys)
-take_both m n xs ys le =
-    ap₂ (λ k l. take (k + n) l) (sym (length-take-le m xs le)) (parted m xs ys)
-    ∙ take-append-add (take m xs) (drop m xs ++ ys) n
 
 -- the pending actions
 pub waiting_after-is : (sizes : Sizes) (A L : List Step) → IsAccepted sizes A → waiting_after (base_of sizes A) L ≡ pending (A ++ L)
@@ -88,21 +73,7 @@ ever_taken-append sizes A L a =
     ap₂ take (takes-append A L) (actions-append sizes A L)
     ∙ take_both (takes A) (takes L) (actions A) (stored_since sizes A L) (takes-le-actions sizes A a)
 
--- what follows from what two facts say of each element
-all-with : {X : Type 0} (P Q R : X → Type 0) (xs : List X) → ((x : X) → P x → Q x → R x) → AllByRecursion P xs → AllByRecursion Q xs → AllByRecursion R xs
-all-with P Q R [] h a b = tt
-all-with P Q R (x ∷ xs) h a b = (h x a.0 b.0, all-with P Q R xs h a.1 b.1)
-
-all-drop : {X : Type 0} (P : X → Type 0) (m : ℕ) (xs : List X) → AllByRecursion P xs → AllByRecursion P (drop m xs)
-all-drop P zero xs a = a
-all-drop P (suc m) [] a = tt
-all-drop P (suc m) (x ∷ xs) a = all-drop P m xs a.1
-
-pub all-take : {X : Type 0} (P : X → Type 0) (m : ℕ) (xs : List X) → AllByRecursion P xs → AllByRecursion P (take m xs)
-all-take P zero xs a = tt
-all-take P (suc m) [] a = tt
-all-take P (suc m) (x ∷ xs) a = (a.0, all-take P m xs a.1)
-
+-- all those whose tickets rise from above a are above
 rising_above : (a : ℕ) (ws : List Waiting) → Rising a ws → AllByRecursion (λ w. a < w.ticket) ws
 rising_above a [] r = tt
 rising_above a (w ∷ ws) r = (r.0, rising_above a ws (Rising-lower a w.ticket ws (omega (arith, r.0)) r.1))
@@ -139,14 +110,6 @@ undone_since sizes A L a =
     (undone_behind sizes A (actions A ++ stored_since sizes A L) a
     (subst (Rising 0) (actions-append sizes A L) (actions-rising (A ++ L)))
     (take-append-le (takes A) (actions A) (stored_since sizes A L) (takes-le-actions sizes A a)))
-
-filter_cons : {X : Type 0} (x : X) (b c : Bool) (xs ys : List X) → b ≡ c → xs ≡ ys → cond b (x ∷ xs) xs ≡ cond c (x ∷ ys) ys
-filter_cons x b c xs ys e f = rw (e, f) refl
-
--- tests that agree on each element leave the same
-filter-same_on : {X : Type 0} (p q : X → Bool) (xs : List X) → AllByRecursion (λ x. p x ≡ q x) xs → filter p xs ≡ filter q xs
-filter-same_on p q [] a = refl
-filter-same_on p q (x ∷ xs) a = filter_cons x (p x) (q x) (filter p xs) (filter q xs) a.0 (filter-same_on p q xs a.1)
 
 -- the actions taken and not done
 pub taken_after-is : (sizes : Sizes) (A L : List Step) → IsAccepted sizes A → taken_after (base_of sizes A) L ≡ taken (A ++ L)

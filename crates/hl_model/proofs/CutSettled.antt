@@ -1,6 +1,6 @@
 -- The offsets that done actions settle, of a base and the steps since.
 use Rattle.std.proofs.Common.{◌≡◌, ℕ, ◌≤◌, Bool, true, false, cond, not, ◌||◌, max, List, [], ◌∷◌, ◌++◌, take, drop, refl, sym, ap, ◌∙◌, arith}
-use Rattle.std.specs.List.{AllByRecursion, filter}
+use Rattle.std.specs.List.{filter}
 use Rattle.std.proofs.lemmas.List.{take-append-drop}
 use Rattle.hl_model.specs.declared.action.Kind.{Kind}
 use Rattle.hl_model.specs.declared.action.Waiting.{Waiting}
@@ -14,15 +14,9 @@ use Rattle.hl_model.specs.Bases.{base_of}
 use Rattle.hl_model.specs.AfterActions.{stored_after, ever_taken_after, done_greatest_after, safe_read_only_after, closed_after}
 use Rattle.hl_model.proofs.AcceptedLaws.{IsAccepted-front}
 use Rattle.hl_model.proofs.ActionLaws.{actions-rising}
-use Rattle.hl_model.proofs.CutActions.{stored_since, taken_since, is_finished-append, ever_taken-append, IsUndone, undone_behind, undone_since, all-take}
-use Rattle.hl_model.proofs.ListLaws.{greatest-append, greatest-max, greatest-le, all-follows}
+use Rattle.hl_model.proofs.CutActions.{stored_since, taken_since, is_finished-append, ever_taken-append, IsUndone, undone_behind, undone_since}
+use Rattle.hl_model.proofs.ListLaws.{greatest-append, greatest-max, greatest-le, greatest-same_on, all-follows, all-take}
 use Rattle.hl_model.proofs.SettledLaws.{counted, either_counts}
-
--- the greatest of numbers that agree on each element
-greatest-same_on : {X : Type 0} (f g : X → ℕ) (xs : List X) → AllByRecursion (λ x. f x ≡ g x) xs → greatest f xs ≡ greatest g xs
-unfolding greatest
-greatest-same_on f g [] a = refl
-greatest-same_on f g (x ∷ xs) a = omega (arith, a.0, greatest-same_on f g xs a.1)
 
 -- the actions that were taken are all that count
 taken_count : (sizes : Sizes) (stored : Kind → ℕ) (A : List Step) → IsAccepted sizes A → done_greatest stored A ≡ greatest (counted stored A) (ever_taken A)

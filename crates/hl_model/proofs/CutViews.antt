@@ -20,6 +20,7 @@ use Rattle.hl_model.proofs.AppendLaws.{until_last-none, until_last-some, until_l
 use Rattle.hl_model.proofs.CutOffsets.{epoch_after-is, read_only_after-is, head_after-is, tail_after-is}
 use Rattle.hl_model.proofs.ListLaws.{until_last-le}
 use Rattle.hl_model.proofs.RowLaws.{row_at}
+use Rattle.hl_model.proofs.ViewLaws.{mark-le}
 
 -- what slot t has in a base
 pub slot_in-is : (sizes : Sizes) (A : List Step) (t : ℕ) → t < sizes.slots → slot_in (base_of sizes A) t ≡ slot_of sizes t A
@@ -52,10 +53,6 @@ mark-since t A L h = until_last-append (enters t) A L ∙ ap (λ b. cond b (leng
 mark-before : (t : ℕ) (A L : List Step) → list_any (enters t) L ≡ false → mark t (A ++ L) ≡ mark t A
 unfolding mark
 mark-before t A L h = until_last-append (enters t) A L ∙ ap (λ b. cond b (length A + until_last (enters t) L) (until_last (enters t) A)) h
-
-mark-le : (t : ℕ) (A : List Step) → mark t A ≤ length A
-unfolding mark
-mark-le t A = until_last-le (enters t) A
 
 -- the steps up to its mark and after it, where it entered since
 up_to-since : (t : ℕ) (A L : List Step) → list_any (enters t) L ≡ true → up_to_mark t (A ++ L) ≡ A ++ up_to_mark t L
