@@ -1,5 +1,6 @@
 pub mod AllocateStands
 pub mod AskStands
+pub mod BaseStands
 pub mod DoneStands
 pub mod FrameCounts
 pub mod LookStands

@@ -21,6 +21,14 @@
 //! tags [`Core::step`] makes every step, and [`Core::run`] a row of them. [`Core::check`] tells the fault that a step
 //! would meet.
 //!
+//! # A core's base
+//!
+//! [`Core::base_into`] writes the quantities into a [`Base`](hl_model::Base): what is left of a list of steps when it
+//! is cut, without jobs. What a slot saw, a ticket that waits or is taken, a page's marks: each has its row there, and
+//! the base is the one that hl_model defines for the list at which the core stands. So later steps may be judged from
+//! the base, and the steps up to it need not be kept. It takes no memory, so it may be called as often as one likes:
+//! the rows are built on the stack, and the base keeps its own.
+//!
 //! # Standing at a list
 //!
 //! A core stands at a list of accepted steps where its quantities are those that hl_model defines for the list:
@@ -34,6 +42,7 @@
 
 mod act;
 mod actions;
+mod base;
 mod check;
 mod log;
 mod pages;
