@@ -44,6 +44,3 @@ mod slots;
 mod state;
 
 pub use state::Core;
-
-#[cfg(test)]
-mod tests;

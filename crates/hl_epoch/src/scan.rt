@@ -124,6 +124,3 @@ impl Epochs for ScanTable {
         *self.epochs.get(t as usize)?
     }
 }
-
-#[cfg(test)]
-mod tests;

@@ -297,6 +297,3 @@ impl Frames {
         self.held[self.place_of(page)]
     }
 }
-
-#[cfg(test)]
-mod tests;
