@@ -28,6 +28,3 @@ pub use ran::{Outcome, Ran};
 pub use ready::Ready;
 pub use shelf::Shelf;
 pub use task::{Call, Task};
-
-#[cfg(test)]
-mod tests;

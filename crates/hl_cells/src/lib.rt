@@ -38,8 +38,3 @@ mod undone;
 mod words;
 
 pub use engine::Engine;
-
-#[cfg(test)]
-mod job_tests;
-#[cfg(test)]
-mod tests;

@@ -53,6 +53,3 @@ mod slots;
 mod state;
 
 pub use state::Core;
-
-#[cfg(test)]
-mod tests;

@@ -181,6 +181,3 @@ impl Epochs for CountTable {
         *self.epochs.get(t as usize)?
     }
 }
-
-#[cfg(test)]
-mod tests;

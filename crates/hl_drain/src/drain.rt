@@ -174,6 +174,3 @@ impl<J: Tagged> Drain<J> {
         row
     }
 }
-
-#[cfg(test)]
-mod tests;

@@ -123,6 +123,3 @@ impl Epochs for ScanTable {
         *self.epochs.get(t as usize)?
     }
 }
-
-#[cfg(test)]
-mod tests;

@@ -93,6 +93,3 @@ where
         Err(_) => unreachable!(),
     }
 }
-
-#[cfg(test)]
-mod tests;

@@ -48,6 +48,3 @@ fn push_if(steps: &mut ArrayVec<Step, 4>, is_wanted: bool, step: Step)
         steps.push(step);
     }
 }
-
-#[cfg(test)]
-mod tests;

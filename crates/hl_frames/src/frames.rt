@@ -296,6 +296,3 @@ impl Frames {
         self.held[self.place_of(page)]
     }
 }
-
-#[cfg(test)]
-mod tests;

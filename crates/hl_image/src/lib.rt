@@ -41,6 +41,3 @@ pub use hex::HexWriter;
 pub use image::image_of;
 pub use memory::MemoryWriter;
 pub use writer::PageWriter;
-
-#[cfg(test)]
-mod tests;

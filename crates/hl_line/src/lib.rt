@@ -42,8 +42,6 @@ mod print;
 mod read;
 mod reply;
 mod steps;
-#[cfg(test)]
-mod tests;
 mod text;
 mod word;
 

@@ -258,6 +258,3 @@ impl Offsets {
         }
     }
 }
-
-#[cfg(test)]
-mod tests;

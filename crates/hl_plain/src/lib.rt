@@ -37,6 +37,3 @@ mod views;
 mod words;
 
 pub use plain::Plain;
-
-#[cfg(test)]
-mod tests;

@@ -52,6 +52,3 @@ mod sum;
 pub use hl_line::{Line, print_fault, print_line, print_reply, read_line};
 pub use run::{Finished, run_text, slow_text};
 pub use sum::Sum;
-
-#[cfg(test)]
-mod tests;

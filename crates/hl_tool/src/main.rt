@@ -5,8 +5,6 @@
 mod command;
 mod run;
 mod status;
-#[cfg(test)]
-mod tests;
 
 use std::io::{BufWriter, ErrorKind, Write};
 use std::process::ExitCode;

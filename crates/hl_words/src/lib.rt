@@ -43,6 +43,3 @@ pub use seed::{Realm, Seed};
 pub use view::{OffsetWords, RiderView, Touch};
 pub use which::Which;
 pub use words::Words;
-
-#[cfg(test)]
-mod tests;

@@ -1,42 +1,16 @@
-ghost use Rattle.std.specs.Prelude.{◌≡◌, ◌+◌, ◌-◌, ◌<◌, ◌^◌, min};
+ghost use Rattle.std.specs.Prelude.{◌≡◌, ◌+◌, ◌-◌, ◌^◌, min};
 
-use super::*;
-use hl_action::{Firing, Promise, Task};
-use hl_epoch::ScanTable;
-use hl_image::MemoryWriter;
-use hl_model::Params;
+use crate::image::IMAGE;
+use crate::jobs::{TestEngine, small_engine};
+use hl_flush::{flush_one, lag_steps};
+use hl_image::{MemoryWriter, PageWriter};
+use hl_model::{Fault, Params, Six, Step};
 use std::alloc::Global;
 use std::test::Fail;
 
-// Jobs of which none is stored.
-struct Unasked;
-
-impl Promise for Unasked {
-    ghost keeps = { λ tag firing answer. answer ≡ tag };
-}
-
-#[derive(Drop)]
-struct Tells {
-    tag: u64,
-}
-
-impl Task for Tells {
-    ghost can = { λ job firing. job.tag < 2 ^ 64 };
-
-    ghost gives = { λ job firing answer. answer ≡ job.tag };
-
-    fn call(self, _firing: Firing) -> u64 {
-        self.tag
-    }
-}
-
-type TestEngine = Engine<ScanTable, Tells, Unasked>;
-
-// An engine with pages of 4 words, after an allocation of one, which has the words 1, 0, 0 and 258. It is sealed, and
-// nobody is protected.
+// An engine after an allocation of one page, which has the words 1, 0, 0 and 258. It is sealed, and nobody is protected.
 fn sealed(alloc: Global) -> Result<TestEngine, Fault> {
-    let params = Params::checked(4, 2, 2, 4).ok_or(Fault::Size)?;
-    let mut engine = Engine::open(alloc, params)?;
+    let mut engine = small_engine(alloc)?;
     engine.step(&Step::Acquire { t: 0 })?;
     engine.step(&Step::Allocate { t: 0, n: 4 })?;
     engine.write(0, 0, 1)?;
@@ -69,7 +43,7 @@ fn a_failed_flush_is_made_again(rt: HostRuntime) -> Result<(), Fail> {
         assert_eq!(rt; flush(rt.alloc(), &mut engine, &mut writer), wanted);
         assert_eq!(rt; writer.failures(), 1);
     }
-    assert!(rt; writer.image(0).is_some());
+    assert_eq!(rt; writer.image(0), Some(IMAGE.as_slice()));
     assert_eq!(rt; engine.six().flushed, 4);
     Ok(())
 }
@@ -108,5 +82,33 @@ fn a_writer_that_always_fails(rt: HostRuntime) -> Result<(), Fail> {
         assert_eq!(rt; writer.calls, calls);
     }
     assert_eq!(rt; engine.six().flushed, 0);
+    Ok(())
+}
+
+// The greatest number of steps, those that are late, and none.
+#[test]
+fn steps_to_the_lag(rt: HostRuntime) -> Result<(), Fail> {
+    let params = Params::checked(4, 8, 2, 4).ok_or("sizes in range")?;
+    let raise = Step::Raise { x: 16 };
+    let shift = Step::Shift { x: 8 };
+    let all = [raise, Step::Settle, shift, Step::Close];
+    let late = [Step::Settle, Step::Close];
+    let cases = [
+        ("all four", [0, 0, 8, 8, 8, 17], all.as_slice()),
+        ("what is behind", [0, 8, 8, 8, 16, 17], late.as_slice()),
+        ("one page", [0, 0, 0, 0, 0, 4], [].as_slice()),
+    ];
+    for (name, offsets, wanted) in cases {
+        let [closed, head, flushed, safe_read_only, read_only, tail] = offsets;
+        let six = Six {
+            closed,
+            head,
+            flushed,
+            safe_read_only,
+            read_only,
+            tail,
+        };
+        assert_eq!(rt; lag_steps(params, six, 1, 2).as_slice(), wanted, "{name}");
+    }
     Ok(())
 }

@@ -1,10 +1,10 @@
 ghost use Rattle.std.specs.Prelude.{◌≡◌, ◌+◌, ◌<◌, ◌≤◌, ◌^◌};
 
-use super::{Finished, Sum, run_text, slow_text};
 use hl_action::{Firing, Kept, Shelf, Task};
 use hl_counts::CountTable;
 use hl_epoch::{Epochs, ScanTable};
 use hl_model::Fault;
+use hl_script::{Finished, Sum, run_text, slow_text};
 use std::alloc::Global;
 use std::io;
 use std::io::{Read, Write};

@@ -1,8 +1,8 @@
 ghost use Rattle.std.specs.Prelude.{◌≡◌, ◌+◌, ◌<◌, ◌≤◌, ◌^◌};
 ghost use Rattle.hl_words.specs.States.{IsSeedOf};
 
-use super::*;
-use hl_model::{Fault, Params};
+use hl_model::Params;
+use hl_words::{Realm, Rider, Seed, Which, Words};
 use std::alloc::Global;
 use std::marker::Brand;
 use std::process::Abort;

@@ -1,6 +1,6 @@
 use Rattle.std.proofs.Common.{◌≡◌, [], ◌∷◌}
 use Rattle.hl_model.specs.declared.action.Kind.TheVariants.{Settle}
-use Rattle.hl_drain.proofs.drain.tests.long_waiting_action.Given as goal
+use Rattle.hl_tests.proofs.drain.long_waiting_action.Given as goal
 
 -- no action is pending, and the first one waits for its done
 abbrev pub invariant-loop-c : goal.invariant-loop-c

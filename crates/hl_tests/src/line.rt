@@ -1,58 +1,13 @@
-use super::*;
-use hl_model::{Fault, Params, Reply, Step, View};
+use hl_line::{Line, print_fault, print_line, read_line};
+use hl_model::{Fault, Step};
 use std::test::Fail;
 
-// The contracts say which bytes are a line, and how each is printed. These rows show both, once for each number of words.
+// The program prints no line of a script.
 #[test]
-fn reads_and_prints_lines(rt: HostRuntime) -> Result<(), Fail> {
-    let sizes = Params::checked(4, 2, 2, 2).ok_or("sizes in range")?;
-    let (t, a, v) = (1, 5, u64::MAX);
-    let lines = [
-        ("frames", Line::Frames),
-        ("done 7", Line::Step(Step::Done { ticket: 7 })),
-        ("alloc 0 3", Line::Step(Step::Allocate { t: 0, n: 3 })),
-        (
-            "write 1 5 18446744073709551615",
-            Line::Step(Step::Write { t, a, v }),
-        ),
-        (
-            "flush done 0 failed",
-            Line::Step(Step::FlushDone { page: 0, ok: false }),
-        ),
-        ("config 4 2 2 2", Line::Config(sizes)),
-    ];
-    for (text, line) in lines {
-        assert_eq!(rt; read_line(text.as_bytes()), Some(line), "{text}");
-        assert_eq!(rt; print_line(&line).as_str(), text);
-    }
-    Ok(())
-}
-
-#[test]
-fn refuses_what_is_no_line(rt: HostRuntime) {
-    let texts = [
-        ("a leading zero", "bump 07"),
-        ("a space at the end", "acquire 0 "),
-        ("a CR", "acquire 0\r"),
-        ("a number above the greatest", "done 18446744073709551616"),
-        ("a number too many", "settle 1"),
-        ("a page that is no number", "flush done m ok"),
-        ("sizes out of range", "config 6 2 2 2"),
-    ];
-    for (name, text) in texts {
-        assert_eq!(rt; read_line(text.as_bytes()), None, "{name}");
-    }
-}
-
-#[test]
-fn prints_a_reply_with_its_view(rt: HostRuntime) {
-    let view = View {
-        read_only: 4,
-        head: 0,
-        tail: 9,
-    };
-    let reply = Reply::Entered { epoch: 2, view };
-    assert_eq!(rt; print_reply(&reply).as_str(), "epoch 2 view 4 0 9");
+fn prints_a_line(rt: HostRuntime) {
+    let line = Line::Step(Step::FlushDone { page: 0, ok: false });
+    assert_eq!(rt; print_line(&line).as_str(), "flush done 0 failed");
+    assert_eq!(rt; read_line(b"flush done 0 failed"), Some(line));
 }
 
 // No clause says what a `Display` writes.

@@ -1,6 +1,9 @@
+//! Both tables of epochs, by the trait that they meet.
 ghost use Rattle.std.specs.Prelude.{◌≡◌};
 
-use super::*;
+use hl_counts::CountTable;
+use hl_epoch::{Epochs, ScanTable};
+use hl_model::Fault;
 use std::process::Abort;
 use std::test::Fail;
 
@@ -31,16 +34,23 @@ fn full_window<E: Epochs>(rt: &impl Abort, table: &mut E) -> Result<(), Fault>
 }
 
 #[test]
-fn tells_epochs_by_the_trait(rt: HostRuntime) -> Result<(), Fail> {
-    let mut table = ScanTable::make(rt.alloc(), 2, 2)?;
+fn window_of_each_table(rt: HostRuntime) -> Result<(), Fail> {
+    full_window(&rt, &mut ScanTable::make(rt.alloc(), 2, 2)?)?;
+    let mut table = CountTable::make(rt.alloc(), 2, 2)?;
     full_window(&rt, &mut table)?;
+    assert_eq!(rt; table.turns(), 1);
+    // The two places of the slot, and the one that the safe epoch passes.
+    table.refresh(0)?;
+    assert_eq!(rt; table.turns(), 3);
     Ok(())
 }
 
+// No script reaches it.
 #[test]
-fn ends_at_the_last_epoch(rt: HostRuntime) -> Result<(), Fail> {
-    let mut table = ScanTable::resume(rt.alloc(), 1, 1, 1 << 62)?;
-    assert!(rt; table.current() - 1 - table.safe() < 1);
-    assert_eq!(rt; table.bump(), Err(Fault::EpochsSpent));
+fn last_epoch_of_each_table(rt: HostRuntime) -> Result<(), Fail> {
+    let mut scans = ScanTable::resume(rt.alloc(), 1, 2, 1 << 62)?;
+    assert_eq!(rt; bump_with_room(&rt, &mut scans), Err(Fault::EpochsSpent));
+    let mut counts = CountTable::resume(rt.alloc(), 1, 2, 1 << 62)?;
+    assert_eq!(rt; bump_with_room(&rt, &mut counts), Err(Fault::EpochsSpent));
     Ok(())
 }

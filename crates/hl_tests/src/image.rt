@@ -1,4 +1,4 @@
-use super::*;
+use hl_image::{HexWriter, MemoryWriter, PageWriter, image_of};
 use hl_model::Fault;
 use std::io;
 use std::io::{ErrorKind, Write};
@@ -6,7 +6,7 @@ use std::process::Abort;
 use std::test::Fail;
 
 /// The image of page 0 with the words 1, 0, 0 and 258.
-const IMAGE: [u8; 40] = [
+pub(crate) const IMAGE: [u8; 40] = [
     0, 0, 0, 0, 0, 0, 0, 0, //
     0, 0, 0, 0, 0, 0, 0, 1, //
     0, 0, 0, 0, 0, 0, 0, 0, //
@@ -17,26 +17,22 @@ const IMAGE: [u8; 40] = [
 const LINE: &str =
     "image 00000000000000000000000000000001000000000000000000000000000000000000000000000102\n";
 
-#[test]
-fn image_of_four_words(rt: HostRuntime) {
-    let mut out = [9; 40];
-    image_of(0, &[1, 0, 0, 258], &mut out);
-    assert_eq!(rt; out, IMAGE);
-}
-
 // A page is written, and no failure counted.
-fn accepts_page_0<W: PageWriter>(rt: &impl Abort, writer: &mut W) {
-    assert_eq!(rt; writer.write_page(0, &IMAGE), Ok(()));
+fn accepts_page_0<W: PageWriter>(rt: &impl Abort, writer: &mut W, image: &[u8]) {
+    assert_eq!(rt; writer.write_page(0, image), Ok(()));
     assert_eq!(rt; writer.failures(), 0);
 }
 
 #[test]
 fn writers_by_the_trait(rt: HostRuntime) -> Result<(), Fail> {
+    let mut image = [9; 40];
+    image_of(0, &[1, 0, 0, 258], &mut image);
+    assert_eq!(rt; image, IMAGE);
     let mut memory = MemoryWriter::open(rt.alloc(), 1, 40)?;
-    accepts_page_0(&rt, &mut memory);
+    accepts_page_0(&rt, &mut memory, &image);
     assert_eq!(rt; memory.image(0), Some(IMAGE.as_slice()));
     let mut lines = HexWriter::new(Vec::new(rt.alloc()));
-    accepts_page_0(&rt, &mut lines);
+    accepts_page_0(&rt, &mut lines, &image);
     assert_eq!(rt; lines.into_inner().as_slice(), LINE.as_bytes());
     Ok(())
 }
