@@ -1,7 +1,7 @@
 ghost use Rattle.std.specs.Prelude.{◌≡◌, ◌+◌};
+ghost use Rattle.hl_action.specs.Firings.{IsSafe};
 ghost use Rattle.hl_action.specs.Jobs.{CanBeCalled, AnswersKeep};
 
-use crate::jobs::{Anything, Counted};
 use hl_action::{Call, Firing, Kept, Outcome, Promise, Ready, Shelf, Task};
 use hl_model::Fault;
 use std::alloc::Global;
@@ -27,6 +27,29 @@ fn run_seven<F: Task>(job: F) -> Outcome
 fn a_closure_runs(rt: HostRuntime) {
     let outcome = run_seven(Call(|firing: Firing| 7 + firing.ticket()));
     assert!(rt; outcome.origin == 1000 && outcome.ticket == 1 && outcome.answer == Some(8));
+}
+
+// Any answer will do.
+struct Anything;
+
+impl Promise for Anything {
+    ghost keeps = { λ tag firing answer. answer ≡ answer };
+}
+
+// Counts its calls.
+#[derive(Drop)]
+struct Counted<'a> {
+    calls: &'a AtomicU64,
+}
+
+impl<'a> Task for Counted<'a> {
+    ghost can = { λ job firing. IsSafe firing };
+
+    ghost gives = { λ job firing answer. answer ≡ answer };
+
+    fn call(self, _firing: Firing) -> u64 {
+        self.calls.fetch_add(1, Ordering::SeqCst)
+    }
 }
 
 // What becomes of a job.

@@ -1,16 +1,15 @@
-use crate::jobs::Job;
 use hl_drain::{Action, Drain};
 use hl_model::{Fault, Kind, Tag};
 
 #[test]
 fn actions_come_and_go(rt: HostRuntime) -> Result<(), Fault> {
-    let mut drain = Drain::open(rt.alloc(), 2)?;
-    assert_eq!(rt; drain.put(1, Action::User(Job { tag: 9 })), Ok(()));
+    let mut drain = Drain::<Tag>::open(rt.alloc(), 2)?;
+    assert_eq!(rt; drain.put(1, Action::User(Tag(9))), Ok(()));
     assert_eq!(rt; drain.put(2, Action::Close(16)), Ok(()));
     let refused = Err((Fault::DrainFull, Action::Settle(4)));
     assert_eq!(rt; drain.put(3, Action::Settle(4)), refused);
     assert_eq!(rt; drain.pending().len(), 2);
-    assert_eq!(rt; drain.take(1), Ok((1, Action::User(Job { tag: 9 }))));
+    assert_eq!(rt; drain.take(1), Ok((1, Action::User(Tag(9)))));
     assert_eq!(rt; drain.done(1), Ok(Kind::User(9)));
     assert!(rt; drain.has_room());
     assert_eq!(rt; drain.give_up(), Some((2, Action::Close(16))));

@@ -6,7 +6,7 @@ use std::process::Abort;
 use std::test::Fail;
 
 /// The image of page 0 with the words 1, 0, 0 and 258.
-pub(crate) const IMAGE: [u8; 40] = [
+const IMAGE: [u8; 40] = [
     0, 0, 0, 0, 0, 0, 0, 0, //
     0, 0, 0, 0, 0, 0, 0, 1, //
     0, 0, 0, 0, 0, 0, 0, 0, //

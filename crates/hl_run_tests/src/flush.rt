@@ -1,6 +1,5 @@
 ghost use Rattle.std.specs.Prelude.{◌≡◌, ◌+◌, ◌-◌, ◌^◌, min};
 
-use crate::image::IMAGE;
 use crate::jobs::{TestEngine, small_engine};
 use hl_flush::{flush_one, lag_steps};
 use hl_image::{MemoryWriter, PageWriter};
@@ -43,7 +42,11 @@ fn a_failed_flush_is_made_again(rt: HostRuntime) -> Result<(), Fail> {
         assert_eq!(rt; flush(rt.alloc(), &mut engine, &mut writer), wanted);
         assert_eq!(rt; writer.failures(), 1);
     }
-    assert_eq!(rt; writer.image(0), Some(IMAGE.as_slice()));
+    let mut image = [0; 40];
+    image[15] = 1;
+    image[38] = 1;
+    image[39] = 2;
+    assert_eq!(rt; writer.image(0), Some(image.as_slice()));
     assert_eq!(rt; engine.six().flushed, 4);
     Ok(())
 }

@@ -1,4 +1,4 @@
-use Rattle.hl_tests.proofs.words.shared_words.Given as goal
+use Rattle.hl_run_tests.proofs.words.shared_words.Given as goal
 
 -- the words and the ledger of the seed that was just made
 abbrev pub ghosts-two_riders-L-Realm : goal.ghosts-two_riders-L-Realm
