@@ -12,7 +12,7 @@ use Rattle.hl_model.specs.Sizes.{Sizes}
 use Rattle.hl_model.specs.Offsets.{tail, place_of, is_entered}
 use Rattle.hl_model.specs.Views.{view_of, slot_views}
 use Rattle.hl_model.specs.Frames.{may_enter}
-use Rattle.hl_model.specs.Replies.{fault_of, protected_fault, size_fault, page_fault, allocate_fault, or_fault, unless_fault, unless_refused, IsAccepted}
+use Rattle.hl_model.specs.Replies.{fault_of, protected_fault, size_fault, page_fault, allocate_fault, or_fault, unless_fault, IsAccepted}
 use Rattle.hl_model.proofs.OffsetLaws.{read_only-stay, head-stay, tail-push}
 use Rattle.hl_model.proofs.NoFaultLaws.{protected-none, unless_err, unless_ok}
 use Rattle.hl_model.proofs.ViewLaws.{slot_views-allocate, length-slot_views}
@@ -155,14 +155,14 @@ module _ {J : Type 0} (tag : J → ℕ) (core : State J) where
   seen_fits t view (A, st) seen = omega (arith, (protected-none core.sizes A t (seen_none A t view st seen).0).0, ap (λ (xs : List (Option View)). length xs) st.views_is, length-slot_views core.sizes A)
 
   -- an accepted allocation
-  pub allocate_ok : (t n place end : ℕ) (view : View) (log : Log) (pages : Pages) → SeenAs t (Ok view) → PlacedAs n (Ok place) → log ≡ unless_refused (size_fault core.offsets.page core.offsets.tail n) core.offsets (allocated n core.offsets) → end ≡ log.tail → EnteredBy t n pages → Made tag core (Allocate t n) (record { sizes = core.sizes; table = core.table; views = set core.views t (Some (record { read_only = view.read_only; head = view.head; tail = end })); drain = core.drain; offsets = log; pages = pages }) (Ok (At place))
+  pub allocate_ok : (t n place end : ℕ) (view : View) (log : Log) (pages : Pages) → SeenAs t (Ok view) → PlacedAs n (Ok place) → log ≡ allocated n core.offsets → end ≡ log.tail → EnteredBy t n pages → Made tag core (Allocate t n) (record { sizes = core.sizes; table = core.table; views = set core.views t (Some (record { read_only = view.read_only; head = view.head; tail = end })); drain = core.drain; offsets = log; pages = pages }) (Ok (At place))
   allocate_ok t n place end view log pages seen placed moved end_is enters A st =
       let told = placed_ok A n place st placed in
       let seated = seen_none A t view st seen in
       let paged = enters A st in
       let none : fault_of core.sizes A (Allocate t n) ≡ None = fault_is A t n None seated.0 told.0 ∙ paged.0 in
       let log_is : log ≡ log_of core.sizes (A ++ Allocate t n ∷ []) =
-      moved ∙ ap (λ o. unless_refused o core.offsets (allocated n core.offsets)) (size_same A n st ∙ told.0) ∙ ap (allocated n) st.offsets_is ∙ sym (log-allocate core.sizes A t n st.accepted) in
+      moved ∙ ap (allocated n) st.offsets_is ∙ sym (log-allocate core.sizes A t n st.accepted) in
       let tail_is : end ≡ tail core.sizes (A ++ Allocate t n ∷ []) = end_is ∙ ap (λ (l : Log). l.tail) log_is in
       let view_is : seen_with view end ≡ seen_with (view_of core.sizes t A) (tail core.sizes (A ++ Allocate t n ∷ [])) = ap₂ seen_with seated.1 tail_is in
       let rows : set core.views t (Some (seen_with view end)) ≡ slot_views core.sizes (A ++ Allocate t n ∷ []) =

@@ -1,7 +1,6 @@
 -- What the frames of a core answer, wherever it stands.
 use Rattle.std.proofs.Common.{◌≡◌, ℕ, ◌+◌, ◌-◌, ◌*◌, ◌/◌, ◌≤◌, ◌<◌, Bool, cond, ltb, List, length, arith, sym, ap, ap₂, ◌∙◌, subst}
 use Rattle.std.specs.Prelude.{Option, Some, None}
-use Rattle.std.specs.Int.{div_ceil}
 use Rattle.std.proofs.Math.Nat.{le-div_iff_mul-le, div-mul-le_self}
 use Rattle.hl_model.specs.declared.fault.Fault.TheVariants.{NoneSealed, NotInFlight, NoneClosed, NotCleaning}
 use Rattle.hl_model.specs.declared.frame.FrameState.{FrameState}
@@ -18,7 +17,7 @@ use Rattle.hl_frames.specs.Answers.{state_of}
 use Rattle.hl_core.specs.Standing.{State, Stands, IsStanding, pages_entered}
 use Rattle.hl_core.proofs.PageRows.{length-frames}
 use Rattle.hl_core.proofs.PageMarks.{page_some, next_to_flush-is, next_to_clean-is, is_in_flight-is, is_cleaning-is, may_enter-is}
-use Rattle.hl_core.proofs.PageOffsets.{ceil-starts, closed_within, frame_of-is}
+use Rattle.hl_core.proofs.PageOffsets.{is_entered-is, closed_within, frame_of-is}
 
 module _ {J : Type 0} (tag : J → ℕ) (core : State J) where
   -- the page to flush
@@ -42,9 +41,8 @@ module _ {J : Type 0} (tag : J → ℕ) (core : State J) where
   enter_found A p st = ap (MAY_ENTER p) st.pages_is ∙ may_enter-is core.sizes A p st.in_range st.accepted
 
   -- whether a page is entered
-  pub entered_found : (q x page n : ℕ) → x ≡ core.offsets.tail → page ≡ core.sizes.page → n ≡ div_ceil x page → (A : List Step) → Stands tag core A → ltb q n ≡ is_entered core.sizes q A
-  entered_found q x page n tail_is page_is is A st =
-      ap (ltb q) (is ∙ ap₂ div_ceil (tail_is ∙ ap (λ log. log.tail) st.offsets_is) page_is) ∙ ceil-starts (tail core.sizes A) core.sizes.page q (page_some core.sizes st.in_range)
+  pub entered_found : (q : ℕ) (told : Bool) → told ≡ ltb q core.pages.entered → (A : List Step) → Stands tag core A → told ≡ is_entered core.sizes q A
+  entered_found q told is A st = is ∙ ap (λ (p : Pages). ltb q p.entered) st.pages_is ∙ is_entered-is core.sizes A q (page_some core.sizes st.in_range)
 
   -- what a frame is at
   pub state_found : (A : List Step) (f : ℕ) → Stands tag core A → f < core.sizes.frames → state_of f core.offsets.safe_read_only core.offsets.closed core.pages ≡ frame_of core.sizes f A

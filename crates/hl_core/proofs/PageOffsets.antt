@@ -1,9 +1,8 @@
 -- The flushed offset, the pages up to an offset, and what each frame is at, by the frames of an accepted list.
-use Rattle.std.proofs.Common.{◌≡◌, ℕ, ◌+◌, ◌-◌, ◌*◌, ◌/◌, ◌%◌, ◌<◌, ◌≤◌, Bool, true, false, cond, ltb, leb, List, refl, sym, ap, ap₂, ◌∙◌, arith, inl, inr, ◌⊎◌, zero-add}
+use Rattle.std.proofs.Common.{◌≡◌, ℕ, ◌+◌, ◌-◌, ◌*◌, ◌/◌, ◌<◌, ◌≤◌, Bool, true, false, cond, ltb, leb, List, refl, sym, ap, ap₂, ◌∙◌, arith, inl, inr, ◌⊎◌, zero-add}
 use Rattle.std.specs.Prelude.{Option, Some, None, option_map}
-use Rattle.std.specs.Int.{div_ceil}
-use Rattle.std.proofs.Math.Nat.{le-div_iff_mul-le, div-add-mod, mod-lt, mul-le-mul_right, mul_comm}
-use Rattle.std.proofs.lemmas.Bool.{ltb-true, lt-ltb, le-ltb, le-leb, lt-leb, both_ways, cases_eq, cases_lt}
+use Rattle.std.proofs.Math.Nat.{le-div_iff_mul-le, mul_comm}
+use Rattle.std.proofs.lemmas.Bool.{ltb-true, lt-ltb, le-ltb, le-leb, lt-leb, both_ways, cases_lt}
 use Rattle.hl_model.specs.declared.frame.FrameState.{FrameState}
 use Rattle.hl_model.specs.declared.frame.FrameState.TheVariants.{Opened, Sealed, Flushed, Closed, Free}
 use Rattle.hl_model.specs.declared.step.Step.{Step}
@@ -38,47 +37,6 @@ counts_before page end q some h =
     let step : (q + 1) * page ≤ end + page - 1 = omega arith in
     let upper : q + 1 ≤ (end + page - 1) / page = (le-div_iff_mul-le some).1 step in
     omega arith
-
--- no page at or above the number begins below the address
-ends_past : (x page q : ℕ) → 0 < page → div_ceil x page ≤ q → q * page < x → ⊥
-ends_past x page q some past lt = by_rest (cases_eq (x % page) 0)
-  where
-    by_rest : ((x % page ≡ 0) ⊎ (x % page ≡ 0 → ⊥)) → ⊥
-    by_rest (inl none) =
-        let step : x / page * page ≤ q * page = mul-le-mul_right page (omega arith) in
-        let swap : x / page * page ≡ page * (x / page) = mul_comm (x / page) page in
-        omega (arith, div-add-mod x page)
-    by_rest (inr some_rest) =
-        let step : (x / page + 1) * page ≤ q * page = mul-le-mul_right page (omega (arith, some_rest)) in
-        let more : (x / page + 1) * page ≡ x / page * page + page = omega arith in
-        let swap : x / page * page ≡ page * (x / page) = mul_comm (x / page) page in
-        omega (arith, div-add-mod x page, mod-lt x some)
-
--- so many pages begin below an address, a part of one counted
-pub ceil-starts : (x page q : ℕ) → 0 < page → ltb q (div_ceil x page) ≡ ltb (q * page) x
-ceil-starts x page q some = by_order (cases_lt (q * page) x) (cases_lt q (x / page))
-  where
-    by_order : ((q * page < x) ⊎ (x ≤ q * page)) → ((q < x / page) ⊎ (x / page ≤ q)) → ltb q (div_ceil x page) ≡ ltb (q * page) x
-    by_order (inl lt) (inl less) = lt-ltb q (div_ceil x page) (omega arith) ∙ sym (lt-ltb (q * page) x lt)
-    by_order (inl lt) (inr more) = lt-ltb q (div_ceil x page) (by_end (cases_lt q (div_ceil x page))) ∙ sym (lt-ltb (q * page) x lt)
-      where
-        by_end : ((q < div_ceil x page) ⊎ (div_ceil x page ≤ q)) → q < div_ceil x page
-        by_end (inl here) = here
-        by_end (inr past) = absurd (ends_past x page q some past lt)
-    by_order (inr ge) (inl less) =
-        let upper : q + 1 ≤ x / page = omega arith in
-        let step : (q + 1) * page ≤ x = (le-div_iff_mul-le some).0 upper in
-        let more : (q + 1) * page ≡ q * page + page = omega arith in
-        absurd (omega arith)
-    by_order (inr ge) (inr more) = le-ltb q (div_ceil x page) (by_end (cases_lt q (div_ceil x page))) ∙ sym (le-ltb (q * page) x ge)
-      where
-        by_end : ((q < div_ceil x page) ⊎ (div_ceil x page ≤ q)) → div_ceil x page ≤ q
-        by_end (inr past) = past
-        by_end (inl here) =
-            let same : q ≡ x / page = omega arith in
-            let whole : q * page ≡ x / page * page = ap (λ n. n * page) same in
-            let swap : x / page * page ≡ page * (x / page) = mul_comm (x / page) page in
-            absurd (omega (arith, div-add-mod x page))
 
 -- the pages entered are those below their number
 pub below_entered : (sizes : Sizes) (A : List Step) (q : ℕ) → 0 < sizes.page → q < pages_entered sizes A → is_entered sizes q A ≡ true

@@ -15,13 +15,17 @@ impl<E: Epochs, J: Tagged> Core<E, J> {
         requires same_sizes { base.old.sizes ≡ self.now.sizes }
         ensures { (A : List Step) → Stands J.tag self.now A → base.new ≡ base_of self.now.sizes A }
     {
+        let slots = self.slots();
+        let waiting = self.drain.pending();
+        let taken = self.drain.taken();
+        let frames = self.held();
         base.renew(Quantities {
             epoch: self.table.current(),
-            slots: &self.slots(),
-            waiting: &self.drain.pending(),
-            taken: &self.drain.taken(),
+            slots: &slots,
+            waiting: &waiting,
+            taken: &taken,
             six: self.six(),
-            frames: &self.held(),
+            frames: &frames,
         });
     }
 

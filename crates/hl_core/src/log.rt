@@ -48,7 +48,7 @@ impl<E: Epochs, J: Tagged> Core<E, J> {
         if !self.is_entered(page) {
             self.frames.enter(page)?;
         }
-        let place = self.offsets.allocate(n)?;
+        self.offsets.allocate_at(place, n);
         let tail = self.offsets.tail();
         self.views[t as usize] = Some(View { tail, ..seen });
         Ok(Reply::At(place))
@@ -132,7 +132,6 @@ impl<E: Epochs, J: Tagged> Core<E, J> {
     fn is_entered(&self, page: u64) -> bool
         ensures { (A : List Step) → Stands J.tag self.now A → result ≡ is_entered self.now.sizes page A }
     {
-        // A page begins at the tail or above where its number is at least the pages up to the tail.
-        page < self.offsets.tail().div_ceil(self.params.page())
+        self.frames.is_entered(page)
     }
 }

@@ -1,4 +1,4 @@
-ghost use Rattle.std.specs.Prelude.{◌≡◌, ◌+◌, ◌/◌, ◌%◌, ◌^◌, ◌<◌, ◌≤◌, length, slice_index_or, IfOk, IfErr, OnErr};
+ghost use Rattle.std.specs.Prelude.{◌≡◌, ◌+◌, ◌/◌, ◌%◌, ◌^◌, ◌<◌, ◌≤◌, nat_lt, length, slice_index_or, IfOk, IfErr, OnErr};
 ghost use Rattle.hl_frames.specs.Pages.{held_for, is_in_flight, is_cleaning, may_enter, pages_below, next_to_flush, next_to_clean, flushed_offset};
 ghost use Rattle.hl_frames.specs.Answers.{opened, page_or, after_take, enter_answer, after_enter, flush_begun, flush_done_answer, after_flush_done, clean_begun, clean_done_answer, after_clean_done, state_of};
 ghost use Rattle.hl_frames.specs.IsFrames.{IsFrames};
@@ -270,6 +270,13 @@ impl Frames {
         ensures { result ≡ is_cleaning page self.now }
     {
         is_cleaning(self.held_for(page), page)
+    }
+
+    /// Whether a page was entered.
+    pub fn is_entered(&self, page: u64) -> bool
+        ensures { result ≡ nat_lt page self.now.entered }
+    {
+        page < self.entered
     }
 
     /// How many frames of the row the last accepted call of each kind visited.

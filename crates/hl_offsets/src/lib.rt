@@ -38,7 +38,9 @@
 //!
 //! [`Offsets::allocate`] places a record of 1 to P words at or above the tail. A record lies on one page: where
 //! the tail's page has too little room, the rest of that page is skipped. Each place is the lowest that this
-//! allows.
+//! allows. [`Offsets::place`] tells the place and moves nothing: a caller that has more to try before the tail moves,
+//! such as whether the page may be entered, asks for it first, and then hands it to [`Offsets::allocate_at`], which
+//! doesn't compute it again.
 //!
 //! # What a contract sees
 //!

@@ -1,4 +1,4 @@
-ghost use Rattle.std.specs.Prelude.{◌≡◌, ℕ, ◌+◌, ◌%◌, ◌≤◌, max, IfOk};
+ghost use Rattle.std.specs.Prelude.{◌≡◌, ℕ, ◌+◌, ◌%◌, ◌≤◌, max, Ok, IfOk};
 ghost use Rattle.hl_model.specs.Offsets.{place_of};
 ghost use Rattle.hl_model.specs.Replies.{raise_fault, shift_fault, size_fault, unless_fault, unless_refused};
 ghost use Rattle.hl_model.specs.Snapshots.{AreInOrder};
@@ -159,8 +159,19 @@ impl Offsets {
         ensures valid { IsLog self.new }
     {
         let place = self.place(n)?;
-        self.tail = place + n;
+        self.allocate_at(place, n);
         Ok(place)
+    }
+
+    /// Places a record of n words at `place`, which is where `place` told that it would lie.
+    pub fn allocate_at(&mut self, place: u64, n: u64)
+        requires { let old = self.old
+            in Ok place ≡ unless_fault (size_fault old.page old.tail n) (place_of old.page old.tail n) }
+        ensures effect { self.new ≡ allocated n self.old }
+        ensures rising { NoneFalls self.old self.new }
+        ensures valid { IsLog self.new }
+    {
+        self.tail = place + n;
     }
 
     /// Where `allocate` would place a record of n words, or the fault that it would meet. Changes nothing.

@@ -24,6 +24,13 @@ returns-in_err-enter-clause-made g c =
     rw (p.1, p.2, sym c.self.view_is)
     (enter_refused g.J.Tagged.tag _ c.args.t c.args.n c.in_ok-place.place c.page.result c.in_ok-seen.seen c.in_err-enter.field-0.0 c.enter.new.self (rw (sym c.self.view_is) at c.in_ok-seen.ensures) c.in_ok-place.ensures.answer c.page.ensures.value (entered_as g.J.Tagged.tag _ _ _ _ c.if-not-is_entered.true (rw (sym c.self.view_is) at c.is_entered.ensures)) c.in_err-enter.ensures.answer c.in_err-enter.ensures.pages)
 
+pub allocate_at-requires : goal.allocate_at-requires
+allocate_at-requires g c =
+    elim c.if-not-is_entered.branch [
+      | then-not-is_entered+in_ok-enter w ↦ rw w.self-inside-is c.in_ok-place.ensures.answer
+      | else-not-is_entered w ↦ rw w.self-inside-is c.in_ok-place.ensures.answer
+    ]
+
 pub index_mut-requires : goal.index_mut-requires
 index_mut-requires g c =
     elim c.if-not-is_entered.branch [
@@ -38,7 +45,7 @@ invariant_of-self-2 g c =
           rw w.self-inside-is
           (record {
             standing = still_stands g.J.Tagged.tag _ _ _ _ c.self.invariant.standing
-                (allocate_ok g.J.Tagged.tag _ c.args.t c.args.n c.in_ok-place-2.place c.tail-tail.result c.in_ok-seen.seen c.allocate.new.self w.enter.new.self (rw (sym c.self.view_is) at c.in_ok-seen.ensures) (rw w.self-inside-is at c.in_ok-place-2.ensures.answer) (rw w.self-inside-is at c.in_ok-place-2.ensures.effect) c.tail-tail.ensures.value
+                (allocate_ok g.J.Tagged.tag _ c.args.t c.args.n c.in_ok-place.place c.tail-tail.result c.in_ok-seen.seen c.allocate_at.new.self w.enter.new.self (rw (sym c.self.view_is) at c.in_ok-seen.ensures) c.in_ok-place.ensures.answer (rw w.self-inside-is at c.allocate_at.ensures.effect) c.tail-tail.ensures.value
                 (entered_now g.J.Tagged.tag _ c.args.t c.args.n c.in_ok-place.place c.page.result w.enter.new.self c.in_ok-place.ensures.answer c.page.ensures.value (entered_as g.J.Tagged.tag _ _ _ _ w.if-not-is_entered.true (rw (sym c.self.view_is) at c.is_entered.ensures)) w.in_ok-enter.ensures.answer w.in_ok-enter.ensures.pages));
             exact = search rules;
           })
@@ -46,7 +53,7 @@ invariant_of-self-2 g c =
           rw w.self-inside-is
           (record {
             standing = still_stands g.J.Tagged.tag _ _ _ _ c.self.invariant.standing
-                (allocate_ok g.J.Tagged.tag _ c.args.t c.args.n c.in_ok-place-2.place c.tail-tail.result c.in_ok-seen.seen c.allocate.new.self _ (rw (sym c.self.view_is) at c.in_ok-seen.ensures) (rw w.self-inside-is at c.in_ok-place-2.ensures.answer) (rw w.self-inside-is at c.in_ok-place-2.ensures.effect) c.tail-tail.ensures.value
+                (allocate_ok g.J.Tagged.tag _ c.args.t c.args.n c.in_ok-place.place c.tail-tail.result c.in_ok-seen.seen c.allocate_at.new.self _ (rw (sym c.self.view_is) at c.in_ok-seen.ensures) c.in_ok-place.ensures.answer (rw w.self-inside-is at c.allocate_at.ensures.effect) c.tail-tail.ensures.value
                 (entered_before g.J.Tagged.tag _ c.args.t c.args.n c.in_ok-place.place c.page.result c.in_ok-place.ensures.answer c.page.ensures.value (entered_as g.J.Tagged.tag _ _ _ _ w.if-not-is_entered.false (rw (sym c.self.view_is) at c.is_entered.ensures))));
             exact = search rules;
           })
@@ -57,10 +64,10 @@ returns-clause-made g c =
     elim c.if-not-is_entered.branch [
       | then-not-is_entered+in_ok-enter w ↦
           rw (w.self-inside-is, sym c.self.view_is)
-          (allocate_ok g.J.Tagged.tag _ c.args.t c.args.n c.in_ok-place-2.place c.tail-tail.result c.in_ok-seen.seen c.allocate.new.self w.enter.new.self (rw (sym c.self.view_is) at c.in_ok-seen.ensures) (rw w.self-inside-is at c.in_ok-place-2.ensures.answer) (rw w.self-inside-is at c.in_ok-place-2.ensures.effect) c.tail-tail.ensures.value
+          (allocate_ok g.J.Tagged.tag _ c.args.t c.args.n c.in_ok-place.place c.tail-tail.result c.in_ok-seen.seen c.allocate_at.new.self w.enter.new.self (rw (sym c.self.view_is) at c.in_ok-seen.ensures) c.in_ok-place.ensures.answer (rw w.self-inside-is at c.allocate_at.ensures.effect) c.tail-tail.ensures.value
           (entered_now g.J.Tagged.tag _ c.args.t c.args.n c.in_ok-place.place c.page.result w.enter.new.self c.in_ok-place.ensures.answer c.page.ensures.value (entered_as g.J.Tagged.tag _ _ _ _ w.if-not-is_entered.true (rw (sym c.self.view_is) at c.is_entered.ensures)) w.in_ok-enter.ensures.answer w.in_ok-enter.ensures.pages))
       | else-not-is_entered w ↦
           rw (w.self-inside-is, sym c.self.view_is)
-          (allocate_ok g.J.Tagged.tag _ c.args.t c.args.n c.in_ok-place-2.place c.tail-tail.result c.in_ok-seen.seen c.allocate.new.self _ (rw (sym c.self.view_is) at c.in_ok-seen.ensures) (rw w.self-inside-is at c.in_ok-place-2.ensures.answer) (rw w.self-inside-is at c.in_ok-place-2.ensures.effect) c.tail-tail.ensures.value
+          (allocate_ok g.J.Tagged.tag _ c.args.t c.args.n c.in_ok-place.place c.tail-tail.result c.in_ok-seen.seen c.allocate_at.new.self _ (rw (sym c.self.view_is) at c.in_ok-seen.ensures) c.in_ok-place.ensures.answer (rw w.self-inside-is at c.allocate_at.ensures.effect) c.tail-tail.ensures.value
           (entered_before g.J.Tagged.tag _ c.args.t c.args.n c.in_ok-place.place c.page.result c.in_ok-place.ensures.answer c.page.ensures.value (entered_as g.J.Tagged.tag _ _ _ _ w.if-not-is_entered.false (rw (sym c.self.view_is) at c.is_entered.ensures))))
     ]
