@@ -79,14 +79,19 @@ epoch_core : (b : Bool) (slot : Slot) → option_map (λ s. s.epoch) (cond b (So
 epoch_core true slot = refl
 epoch_core false slot = refl
 
+-- the epoch of what a slot has
+pub slot_of-epoch : (sizes : Sizes) (t : ℕ) (A : List Step) → option_map (λ slot. slot.epoch) (slot_of sizes t A) ≡ slot_epoch t A
+unfolding slot_of slot_epoch
+slot_of-epoch sizes t A = epoch_core (is_protected t A) (record { epoch = epoch_of t A; view = view_of sizes t A })
+
 -- the safe epoch
 pub safe_in-is : (sizes : Sizes) (A : List Step) → safe_in (base_of sizes A) ≡ safe_epoch sizes.slots A
-unfolding base_of slot_of safe_epoch slot_epochs slot_epoch
+unfolding base_of safe_epoch slot_epochs
 safe_in-is sizes A =
     ap (safe_among (current_epoch A))
     (map_twice (option_map (λ slot. slot.epoch)) (λ t. slot_of sizes t A) (range_with_len 0 sizes.slots)
     ∙ rows_same (λ t. option_map (λ slot. slot.epoch) (slot_of sizes t A)) (λ t. slot_epoch t A) sizes.slots
-    (λ t. epoch_core (is_protected t A) (record { epoch = epoch_of t A; view = view_of sizes t A })))
+    (λ t. slot_of-epoch sizes t A))
 
 bare-is : (sizes : Sizes) (A : List Step) → bare_fault_at (base_of sizes A) ≡ bare_fault sizes A
 unfolding base_of

@@ -238,21 +238,29 @@ stays_seated sizes W t (Refresh u) m h p = (m, refl)
 stays_seated sizes W t (Release u) m h p = (refl, m)
 stays_seated sizes W t _ m h p = (refl, refl)
 
--- a slot that is protected before a bump and doesn't move on after it keeps its epoch
-keeps_epoch : (sizes : Sizes) (X : List Step) (s : Step) (t e : ℕ) → is_bump s ≡ true → slot_epoch t X ≡ Some e → (Y : List Step) → IsAccepted sizes (X ++ s ∷ Y) → list_any (moves_on t) Y ≡ false → slot_epoch t (X ++ s ∷ Y) ≡ Some e
-keeps_epoch sizes X s t e b seated = by_pushing (λ Y. IsAccepted sizes (X ++ s ∷ Y) → list_any (moves_on t) Y ≡ false → slot_epoch t (X ++ s ∷ Y) ≡ Some e) none step
+-- a protected slot that doesn't move on in the accepted steps behind a list keeps its epoch
+pub keeps_epoch : (sizes : Sizes) (A : List Step) (t e : ℕ) → slot_epoch t A ≡ Some e → (X : List Step) → IsAccepted sizes (A ++ X) → list_any (moves_on t) X ≡ false → slot_epoch t (A ++ X) ≡ Some e
+keeps_epoch sizes A t e seated = by_pushing (λ X. IsAccepted sizes (A ++ X) → list_any (moves_on t) X ≡ false → slot_epoch t (A ++ X) ≡ Some e) none step
   where
-    none : IsAccepted sizes (X ++ s ∷ []) → list_any (moves_on t) [] ≡ false → slot_epoch t (X ++ s ∷ []) ≡ Some e
-    none a m = slot_epoch-stays t X s (false_from_ne_true (enters t s) (bump-enters t s b)) (bump-leaves t s b) ∙ seated
+    none : IsAccepted sizes (A ++ []) → list_any (moves_on t) [] ≡ false → slot_epoch t (A ++ []) ≡ Some e
+    none a m = ap (slot_epoch t) (append-nil A) ∙ seated
 
-    step : (Y : List Step) (r : Step) → (IsAccepted sizes (X ++ s ∷ Y) → list_any (moves_on t) Y ≡ false → slot_epoch t (X ++ s ∷ Y) ≡ Some e) → IsAccepted sizes (X ++ s ∷ (Y ++ r ∷ [])) → list_any (moves_on t) (Y ++ r ∷ []) ≡ false → slot_epoch t (X ++ s ∷ (Y ++ r ∷ [])) ≡ Some e
-    step Y r before a m =
-        let whole : (X ++ s ∷ Y) ++ r ∷ [] ≡ X ++ s ∷ (Y ++ r ∷ []) = append_assoc X (s ∷ Y) (r ∷ []) in
-        let parts : IsAccepted sizes (X ++ s ∷ Y) × (fault_of sizes (X ++ s ∷ Y) r ≡ None) = IsAccepted-parts sizes (X ++ s ∷ Y) r (subst (IsAccepted sizes) (sym whole) a) in
-        let quiet : (list_any (moves_on t) Y ≡ false) × (moves_on t r ≡ false) = or_parts (list_any (moves_on t) Y) (moves_on t r) (sym (list_any-push (moves_on t) Y r) ∙ m) in
-        let held : slot_epoch t (X ++ s ∷ Y) ≡ Some e = before parts.0 quiet.0 in
-        let still : (enters t r ≡ false) × (leaves t r ≡ false) = stays_seated sizes (X ++ s ∷ Y) t r quiet.1 parts.1 (is_protected-slot_epoch t (X ++ s ∷ Y) ∙ ap is_some held) in
-        ap (slot_epoch t) (sym whole) ∙ slot_epoch-stays t (X ++ s ∷ Y) r still.0 still.1 ∙ held
+    step : (X : List Step) (r : Step) → (IsAccepted sizes (A ++ X) → list_any (moves_on t) X ≡ false → slot_epoch t (A ++ X) ≡ Some e) → IsAccepted sizes (A ++ (X ++ r ∷ [])) → list_any (moves_on t) (X ++ r ∷ []) ≡ false → slot_epoch t (A ++ (X ++ r ∷ [])) ≡ Some e
+    step X r before a m =
+        let whole : (A ++ X) ++ r ∷ [] ≡ A ++ (X ++ r ∷ []) = append_assoc A X (r ∷ []) in
+        let parts : IsAccepted sizes (A ++ X) × (fault_of sizes (A ++ X) r ≡ None) = IsAccepted-parts sizes (A ++ X) r (subst (IsAccepted sizes) (sym whole) a) in
+        let quiet : (list_any (moves_on t) X ≡ false) × (moves_on t r ≡ false) = or_parts (list_any (moves_on t) X) (moves_on t r) (sym (list_any-push (moves_on t) X r) ∙ m) in
+        let held : slot_epoch t (A ++ X) ≡ Some e = before parts.0 quiet.0 in
+        let still : (enters t r ≡ false) × (leaves t r ≡ false) = stays_seated sizes (A ++ X) t r quiet.1 parts.1 (is_protected-slot_epoch t (A ++ X) ∙ ap is_some held) in
+        ap (slot_epoch t) (sym whole) ∙ slot_epoch-stays t (A ++ X) r still.0 still.1 ∙ held
+
+-- the ticket of an accepted take is below the epoch of each protected slot
+pub taken_below : (sizes : Sizes) (A : List Step) (t e : ℕ) → IsAccepted sizes (A ++ Take ∷ []) → slot_epoch t A ≡ Some e → front A < e
+taken_below sizes A t e a held =
+    let parts : IsAccepted sizes A × (fault_of sizes A Take ≡ None) = IsAccepted-parts sizes A Take a in
+    let low : safe_epoch sizes.slots A < e = safe_epoch-below sizes.slots A t e (protected-slot sizes t A parts.0 e held) held in
+    let ready : (0 < length (pending A)) × (front A ≤ safe_epoch sizes.slots A) = take_fault-none sizes A parts.1 in
+    omega (arith, low, ready.1)
 
 pub taken_after_all_moved_on : (sizes : Sizes) (X : List Step) (s : Step) (Y Z : List Step) (t : ℕ) → IsAccepted sizes ((X ++ s ∷ Y) ++ Take ∷ Z) → is_bump s ≡ true → front (X ++ s ∷ Y) ≡ bumps X + 1 → is_protected t X ≡ true → list_any (moves_on t) Y ≡ true
 taken_after_all_moved_on sizes X s Y Z t a b f p = true_from_ne_false (list_any (moves_on t) Y) early
@@ -260,16 +268,21 @@ taken_after_all_moved_on sizes X s Y Z t a b f p = true_from_ne_false (list_any 
     accepted : IsAccepted sizes ((X ++ s ∷ Y) ++ Take ∷ [])
     accepted = IsAccepted-front sizes ((X ++ s ∷ Y) ++ Take ∷ []) Z (subst (IsAccepted sizes) (sym (append_assoc (X ++ s ∷ Y) (Take ∷ []) Z)) a)
 
-    parts : IsAccepted sizes (X ++ s ∷ Y) × (fault_of sizes (X ++ s ∷ Y) Take ≡ None)
-    parts = IsAccepted-parts sizes (X ++ s ∷ Y) Take accepted
+    bumped : (X ++ s ∷ []) ++ Y ≡ X ++ s ∷ Y
+    bumped = append_assoc X (s ∷ []) Y
+
+    before : slot_epoch t X ≡ Some (epoch_of t X)
+    before = slot_epoch-protected t X p
+
+    -- the bump leaves the slot as it is
+    seated : slot_epoch t (X ++ s ∷ []) ≡ Some (epoch_of t X)
+    seated = slot_epoch-stays t X s (false_from_ne_true (enters t s) (bump-enters t s b)) (bump-leaves t s b) ∙ before
 
     early : list_any (moves_on t) Y ≡ false → ⊥
     early m =
-        let before : slot_epoch t X ≡ Some (epoch_of t X) = slot_epoch-protected t X p in
-        let held : slot_epoch t (X ++ s ∷ Y) ≡ Some (epoch_of t X) = keeps_epoch sizes X s t (epoch_of t X) b before Y parts.0 m in
-        let low : safe_epoch sizes.slots (X ++ s ∷ Y) < epoch_of t X = safe_epoch-below sizes.slots (X ++ s ∷ Y) t (epoch_of t X) (protected-slot sizes t (X ++ s ∷ Y) parts.0 (epoch_of t X) held) held in
-        let ready : (0 < length (pending (X ++ s ∷ Y))) × (front (X ++ s ∷ Y) ≤ safe_epoch sizes.slots (X ++ s ∷ Y)) = take_fault-none sizes (X ++ s ∷ Y) parts.1 in
-        omega (arith, low, ready.1, f, (slot_epoch-range t X (epoch_of t X) before).1, current_epoch-bumps X)
+        let whole : IsAccepted sizes ((X ++ s ∷ []) ++ Y) = subst (IsAccepted sizes) (sym bumped) (IsAccepted-parts sizes (X ++ s ∷ Y) Take accepted).0 in
+        let held : slot_epoch t (X ++ s ∷ Y) ≡ Some (epoch_of t X) = ap (slot_epoch t) (sym bumped) ∙ keeps_epoch sizes (X ++ s ∷ []) t (epoch_of t X) seated Y whole m in
+        omega (arith, taken_below sizes (X ++ s ∷ Y) t (epoch_of t X) accepted held, f, (slot_epoch-range t X (epoch_of t X) before).1, current_epoch-bumps X)
 
 -- a table whose epochs and current epoch are these
 table_at : (sizes : Sizes) (A B : List Step) (current : ℕ) (epochs : List (Option ℕ)) → current_epoch B ≡ current → slot_epochs sizes.slots B ≡ epochs → table_of sizes B ≡ record (table_of sizes A) { current = current; epochs = epochs }

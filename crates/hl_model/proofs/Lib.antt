@@ -6,6 +6,7 @@ pub mod BaseStart
 pub mod BoundLaws
 pub mod CutActions
 pub mod CutFaults
+pub mod CutHeadline
 pub mod CutLaws
 pub mod CutOffsets
 pub mod CutPages

@@ -1,9 +1,15 @@
 -- What joins the quantities of a base and the steps since with those of the whole list.
-use Rattle.std.specs.Prelude.{◌≡◌, List, ◌++◌}
+use Rattle.std.specs.Prelude.{◌≡◌, ℕ, ◌≤◌, true, Some, List, [], ◌∷◌, ◌++◌}
+use Rattle.std.specs.List.{list_any}
+use Rattle.hl_model.specs.declared.slot.Slot.{Slot}
 use Rattle.hl_model.specs.declared.step.Step.{Step}
+use Rattle.hl_model.specs.declared.step.Step.TheVariants.{Take}
 use Rattle.hl_model.specs.Sizes.{Sizes}
+use Rattle.hl_model.specs.Actions.{first_ticket}
+use Rattle.hl_model.specs.Headline.{moves_on}
 use Rattle.hl_model.specs.Replies.{fault_of, reply_of, good, IsAccepted, replies_after}
-use Rattle.hl_model.specs.Bases.{base_of}
+use Rattle.hl_model.specs.Bases.{base_of, slot_in}
+use Rattle.hl_model.specs.AfterActions.{waiting_after}
 use Rattle.hl_model.specs.AfterReplies.{base_after, fault_after, reply_after, good_from, replies_from}
 
 -- an accepted list may be cut to its base
@@ -29,9 +35,10 @@ pub record IsCutHere (sizes : Sizes) (A L : List Step) : Type 0 where
 abbrev pub CutsAnywhere : Type 0
 CutsAnywhere = (sizes : Sizes) (A L : List Step) → IsAccepted sizes (A ++ L) → IsCutHere sizes A L
 
--- an action is taken after every slot that was protected in a base, at its ticket or before, has refreshed or left since
+-- an action is taken after every slot that was protected in a base, at its ticket or before, has refreshed or left
+-- since
 abbrev pub TakenAfterAllMovedSince : Type 0
 TakenAfterAllMovedSince =
-    (sizes : Sizes) (A X : List Step) (t : ℕ) (slot : Slot) → IsAccepted sizes (A ++ X ++ Take ∷ [])
+    (sizes : Sizes) (A X : List Step) (t : ℕ) (slot : Slot) → IsAccepted sizes ((A ++ X) ++ Take ∷ [])
     → slot_in (base_of sizes A) t ≡ Some slot → slot.epoch ≤ first_ticket (waiting_after (base_of sizes A) X)
     → list_any (moves_on t) X ≡ true

@@ -1,7 +1,7 @@
 //! What holds of every accepted list of steps, or of any, each law the contract of a function that does nothing: the
 //! definitions alone carry them, so they hold of whatever meets the definitions.
 
-ghost use Rattle.hl_model.specs.BaseLaws.{ListsMayBeCut, CutsAnywhere};
+ghost use Rattle.hl_model.specs.BaseLaws.{ListsMayBeCut, CutsAnywhere, TakenAfterAllMovedSince};
 ghost use Rattle.hl_model.specs.Follows.{TablesFollow, ActionsFollow, OffsetsFollow, PagesFollow, OutSinceItsTake};
 ghost use Rattle.hl_model.specs.Laws.{HeadlineHolds, AcceptedMeetsNoFault, GoodByItsLastStep, CurrentIsAtMostLast, DrainListHoldsThem, TicketsAreNumbers, TicketsRise, TakenAreThoseListed, TakenAreSafe, AcceptedStepsAreAccepted, BeginningsAreAccepted, EpochsAreInOrder, SafeNeverFalls, SafeIsGreatest, MarkAfterBump, EpochsFitTheWindow, OffsetsAreInOrder, OffsetsNeverFall};
 
@@ -148,4 +148,10 @@ pub fn lists_may_be_cut()
 /// At each place of an accepted list, the quantities and the next reply are those of the base and the steps since.
 pub fn cuts_anywhere()
     ensures { CutsAnywhere }
+{}
+
+/// An action is taken only after every slot that was protected in a base, with an epoch at or below its ticket, has
+/// refreshed or left since: the steps before the base need not be kept for it.
+pub fn taken_after_all_moved_since()
+    ensures { TakenAfterAllMovedSince }
 {}
