@@ -1,8 +1,19 @@
 pub mod AcceptedLaws
 pub mod ActionLaws
+pub mod AppendLaws
 pub mod BaseRooms
 pub mod BaseStart
 pub mod BoundLaws
+pub mod CutActions
+pub mod CutFaults
+pub mod CutLaws
+pub mod CutOffsets
+pub mod CutPages
+pub mod CutReplies
+pub mod CutRows
+pub mod CutSettled
+pub mod CutViews
+pub mod CutWork
 pub mod DrainLaws
 pub mod EpochLaws
 pub mod FollowLaws
@@ -23,6 +34,7 @@ pub mod RunLaws
 pub mod SearchLaws
 pub mod SettledLaws
 pub mod TicketLaws
+pub mod UnpagedLaws
 pub mod ViewLaws
 pub mod WordLaws
 pub mod WorkLaws

@@ -1,6 +1,6 @@
 -- Laws of the ways in which the definitions look back, each for one element more at the end.
-use Rattle.std.proofs.Common.{◌≡◌, ℕ, suc, ◌+◌, ◌<◌, ◌≤◌, Bool, true, false, cond, ◌||◌, min, List, [], ◌∷◌, ◌++◌, length, refl, sym, ap, ◌∙◌, arith, append_assoc, append-nil, zero-add, le_trans, subst, ◌⊎◌, inl, inr, max, le_refl, zero, ap₂, add-zero}
-use Rattle.std.specs.List.{list_any, count_by, AllByRecursion, find, range_with_len}
+use Rattle.std.proofs.Common.{◌≡◌, ℕ, suc, ◌+◌, ◌<◌, ◌≤◌, Bool, true, false, cond, ◌||◌, min, List, [], ◌∷◌, ◌++◌, length, take, drop, refl, sym, ap, ◌∙◌, arith, append_assoc, append-nil, zero-add, le_trans, subst, ◌⊎◌, inl, inr, max, le_refl, zero, ap₂, add-zero}
+use Rattle.std.specs.List.{list_any, count_by, AllByRecursion, filter, find, range_with_len}
 use Rattle.std.proofs.lemmas.List.Sums.{sum_by-append}
 use Rattle.hl_model.specs.Lists.{until_last, gather_after, gather, least_or, greatest, last_given, unroll_after, unroll, greatest_below}
 use Rattle.std.proofs.lemmas.Bool.{cases_lt, cases_eq, both_ways}
@@ -278,3 +278,33 @@ range-push a zero = ap (λ x. x ∷ []) (sym (add-zero a))
 range-push a (suc n) =
     let same : (a + 1) + n ≡ a + suc n = omega arith in
     ap (λ l. a ∷ l) (range-push (a + 1) n ∙ ap (λ x. range_with_len (a + 1) n ++ x ∷ []) same)
+
+-- what follows from two facts that hold of each element
+pub all-with : {X : Type 0} (P Q R : X → Type 0) (xs : List X) → ((x : X) → P x → Q x → R x) → AllByRecursion P xs → AllByRecursion Q xs → AllByRecursion R xs
+all-with P Q R [] h a b = tt
+all-with P Q R (x ∷ xs) h a b = (h x a.0 b.0, all-with P Q R xs h a.1 b.1)
+
+-- what holds of each holds of each behind the first m
+pub all-drop : {X : Type 0} (P : X → Type 0) (m : ℕ) (xs : List X) → AllByRecursion P xs → AllByRecursion P (drop m xs)
+all-drop P zero xs a = a
+all-drop P (suc m) [] a = tt
+all-drop P (suc m) (x ∷ xs) a = all-drop P m xs a.1
+
+pub all-take : {X : Type 0} (P : X → Type 0) (m : ℕ) (xs : List X) → AllByRecursion P xs → AllByRecursion P (take m xs)
+all-take P zero xs a = tt
+all-take P (suc m) [] a = tt
+all-take P (suc m) (x ∷ xs) a = (a.0, all-take P m xs a.1)
+
+filter_cons : {X : Type 0} (x : X) (b c : Bool) (xs ys : List X) → b ≡ c → xs ≡ ys → cond b (x ∷ xs) xs ≡ cond c (x ∷ ys) ys
+filter_cons x b c xs ys e f = rw (e, f) refl
+
+-- tests that agree on each element leave the same
+pub filter-same_on : {X : Type 0} (p q : X → Bool) (xs : List X) → AllByRecursion (λ x. p x ≡ q x) xs → filter p xs ≡ filter q xs
+filter-same_on p q [] a = refl
+filter-same_on p q (x ∷ xs) a = filter_cons x (p x) (q x) (filter p xs) (filter q xs) a.0 (filter-same_on p q xs a.1)
+
+-- the greatest of numbers that agree on each element
+pub greatest-same_on : {X : Type 0} (f g : X → ℕ) (xs : List X) → AllByRecursion (λ x. f x ≡ g x) xs → greatest f xs ≡ greatest g xs
+unfolding greatest
+greatest-same_on f g [] a = refl
+greatest-same_on f g (x ∷ xs) a = omega (arith, a.0, greatest-same_on f g xs a.1)

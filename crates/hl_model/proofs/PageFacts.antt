@@ -21,11 +21,11 @@ use Rattle.hl_model.proofs.OffsetLaws.{head-push, head-nil, tail-nil}
 use Rattle.hl_model.proofs.BoundLaws.{safe_read_only-append, closed-append, closed-le-head}
 
 -- work whose due pages only become more, and whose steps end what is out
-record Lawful (sizes : Sizes) (work : Work) : Type 0 where
-  grows : (A : List Step) (s : Step) → IsAccepted sizes (A ++ s ∷ []) → work.due A ≤ work.due (A ++ s ∷ [])
-  takes_nothing : (s : Step) (p : ℕ) → work.ends s ≡ Some p → work.takes s ≡ false
-  completes_ends : (s : Step) (p : ℕ) → work.completes p s ≡ true → work.ends s ≡ Some p
-  ends_out : (A : List Step) (s : Step) (p : ℕ) → fault_of sizes A s ≡ None → work.ends s ≡ Some p → is_out p (marks work A) ≡ true
+pub record Lawful (sizes : Sizes) (work : Work) : Type 0 where
+  pub grows : (A : List Step) (s : Step) → IsAccepted sizes (A ++ s ∷ []) → work.due A ≤ work.due (A ++ s ∷ [])
+  pub takes_nothing : (s : Step) (p : ℕ) → work.ends s ≡ Some p → work.takes s ≡ false
+  pub completes_ends : (s : Step) (p : ℕ) → work.completes p s ≡ true → work.ends s ≡ Some p
+  pub ends_out : (A : List Step) (s : Step) (p : ℕ) → fault_of sizes A s ≡ None → work.ends s ≡ Some p → is_out p (marks work A) ≡ true
 
 -- a page that is out after a step was taken by it, or was out before and isn't ended by it
 out_parts : (work : Work) (A : List Step) (s : Step) (p : ℕ) → is_out p (marks work (A ++ s ∷ [])) ≡ true → (next_page work A (marks work A) ≡ Some p × work.takes s ≡ true) ⊎ (is_out p (marks work A) ≡ true × (work.takes s ≡ false → work.ends s ≡ Some p → ⊥))
@@ -44,7 +44,7 @@ out_parts work A s p h = by_kind (work.takes s) (next_page work A (marks work A)
         inr (parts.1, λ f some. let same : Some q ≡ Some p = sym is ∙ some in let one : q ≡ p = cc in eqb-false q p (not-true (q == p) parts.0) one)
 
 -- what is out is due
-out_due : (sizes : Sizes) (work : Work) (p : ℕ) → Lawful sizes work → (A : List Step) → IsAccepted sizes A → is_out p (marks work A) ≡ true → p < work.due A
+pub out_due : (sizes : Sizes) (work : Work) (p : ℕ) → Lawful sizes work → (A : List Step) → IsAccepted sizes A → is_out p (marks work A) ≡ true → p < work.due A
 out_due sizes work p lawful = accepted_has sizes (λ A. is_out p (marks work A) ≡ true → p < work.due A) (λ h. absurd (both_ways (is_out p (marks work [])) (is_out-nil work p) h)) step
   where
     step : (A : List Step) (s : Step) → IsAccepted sizes A → fault_of sizes A s ≡ None → (is_out p (marks work A) ≡ true → p < work.due A) → is_out p (marks work (A ++ s ∷ [])) ≡ true → p < work.due (A ++ s ∷ [])
@@ -58,7 +58,7 @@ out_due sizes work p lawful = accepted_has sizes (λ A. is_out p (marks work A) 
         by_part (inr old) = omega (arith, more, before old.0)
 
 -- what is complete was due
-complete_due : (sizes : Sizes) (work : Work) (p : ℕ) → Lawful sizes work → (A : List Step) → IsAccepted sizes A → is_complete work p A ≡ true → p < work.due A
+pub complete_due : (sizes : Sizes) (work : Work) (p : ℕ) → Lawful sizes work → (A : List Step) → IsAccepted sizes A → is_complete work p A ≡ true → p < work.due A
 complete_due sizes work p lawful = accepted_has sizes (λ A. is_complete work p A ≡ true → p < work.due A) (λ h. absurd (both_ways (is_complete work p []) (is_complete-nil work p) h)) step
   where
     step : (A : List Step) (s : Step) → IsAccepted sizes A → fault_of sizes A s ≡ None → (is_complete work p A ≡ true → p < work.due A) → is_complete work p (A ++ s ∷ []) ≡ true → p < work.due (A ++ s ∷ [])
@@ -99,17 +99,17 @@ ends_below page a p lt =
     let step : (p + 1) * page ≤ a / page * page = mul-le-mul_right page upper in
     omega (arith, div-mul-le_self a page)
 
-flush_takes_nothing : (s : Step) (p : ℕ) → flush_of s ≡ Some p → takes_to_flush s ≡ false
+pub flush_takes_nothing : (s : Step) (p : ℕ) → flush_of s ≡ Some p → takes_to_flush s ≡ false
 flush_takes_nothing FlushTake p h = cc
 flush_takes_nothing _ p h = refl
 
-flushes_flush_of : (s : Step) (p : ℕ) → flushes p s ≡ true → flush_of s ≡ Some p
+pub flushes_flush_of : (s : Step) (p : ℕ) → flushes p s ≡ true → flush_of s ≡ Some p
 flushes_flush_of (FlushDone page ok) p h =
     let parts : ((page == p) ≡ true) × (ok ≡ true) = and_parts (page == p) ok h in
     ap Some (eqb-true page p parts.0)
 flushes_flush_of _ p h = cc
 
-flush_was_out : (sizes : Sizes) (A : List Step) (s : Step) (p : ℕ) → fault_of sizes A s ≡ None → flush_of s ≡ Some p → is_in_flight sizes p A ≡ true
+pub flush_was_out : (sizes : Sizes) (A : List Step) (s : Step) (p : ℕ) → fault_of sizes A s ≡ None → flush_of s ≡ Some p → is_in_flight sizes p A ≡ true
 flush_was_out sizes A (FlushDone page ok) p h e = let same : page ≡ p = cc in ap (λ q. is_in_flight sizes q A) (sym same) ∙ flush_done-none sizes A page ok h
 flush_was_out sizes A _ p h e = cc
 
@@ -121,15 +121,15 @@ flushing_lawful sizes some = record {
   ends_out = flush_was_out sizes;
 }
 
-clean_takes_nothing : (s : Step) (p : ℕ) → clean_of s ≡ Some p → takes_to_clean s ≡ false
+pub clean_takes_nothing : (s : Step) (p : ℕ) → clean_of s ≡ Some p → takes_to_clean s ≡ false
 clean_takes_nothing CleanTake p h = cc
 clean_takes_nothing _ p h = refl
 
-frees_clean_of : (s : Step) (p : ℕ) → frees p s ≡ true → clean_of s ≡ Some p
+pub frees_clean_of : (s : Step) (p : ℕ) → frees p s ≡ true → clean_of s ≡ Some p
 frees_clean_of (CleanDone page) p h = ap Some (eqb-true page p h)
 frees_clean_of _ p h = cc
 
-clean_was_out : (sizes : Sizes) (A : List Step) (s : Step) (p : ℕ) → fault_of sizes A s ≡ None → clean_of s ≡ Some p → is_cleaning sizes p A ≡ true
+pub clean_was_out : (sizes : Sizes) (A : List Step) (s : Step) (p : ℕ) → fault_of sizes A s ≡ None → clean_of s ≡ Some p → is_cleaning sizes p A ≡ true
 clean_was_out sizes A (CleanDone page) p h e = let same : page ≡ p = cc in ap (λ q. is_cleaning sizes q A) (sym same) ∙ clean_done-none sizes A page h
 clean_was_out sizes A _ p h e = cc
 

@@ -10,11 +10,15 @@ use Rattle.std.proofs.lemmas.Bool.{cases_eq}
 pub row_at : {X : Type 0} (f : ℕ → X) (n t : ℕ) (d : X) → t < n → get_or (map f (range_with_len 0 n)) t d ≡ f t
 row_at f n t d h = get_or-map-range_with_len f 0 n t t d h (zero-add t)
 
--- the same of each slot is the same row
-pub rows_same : {X : Type 0} (f g : ℕ → X) (n : ℕ) → ((t : ℕ) → f t ≡ g t) → map f (range_with_len 0 n) ≡ map g (range_with_len 0 n)
-rows_same f g n h = same_lists (map f (range_with_len 0 n)) (map g (range_with_len 0 n))
+-- the same of each of the n slots is the same row
+pub rows_within : {X : Type 0} (f g : ℕ → X) (n : ℕ) → ((t : ℕ) → t < n → f t ≡ g t) → map f (range_with_len 0 n) ≡ map g (range_with_len 0 n)
+rows_within f g n h = same_lists (map f (range_with_len 0 n)) (map g (range_with_len 0 n))
     (length-map-range_with_len f 0 n ∙ sym (length-map-range_with_len g 0 n))
-    (λ k d lt. let here : k < n = omega (arith, length-map-range_with_len f 0 n) in row_at f n k d here ∙ h k ∙ sym (row_at g n k d here))
+    (λ k d lt. let here : k < n = omega (arith, length-map-range_with_len f 0 n) in row_at f n k d here ∙ h k here ∙ sym (row_at g n k d here))
+
+-- and so is the same of each slot
+pub rows_same : {X : Type 0} (f g : ℕ → X) (n : ℕ) → ((t : ℕ) → f t ≡ g t) → map f (range_with_len 0 n) ≡ map g (range_with_len 0 n)
+rows_same f g n h = rows_within f g n (λ t lt. h t)
 
 -- another value at slot i alone is one place of the row set
 pub rows_set : {X : Type 0} (f g : ℕ → X) (n i : ℕ) (v : X) → f i ≡ v → ((t : ℕ) → (t ≢ i) → f t ≡ g t) → map f (range_with_len 0 n) ≡ set (map g (range_with_len 0 n)) i v

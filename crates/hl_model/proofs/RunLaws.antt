@@ -38,13 +38,13 @@ flushed-below sizes p = by_pushing (λ A. is_flushed sizes p A ≡ true → p < 
         by_part (inl e) = omega (arith, before e, greatest-push flushes_below A s)
         by_part (inr e) = omega (arith, flushes-below p s e, greatest-push flushes_below A s)
 
-run_passes : (test : ℕ → Bool) (n k : ℕ) → k < prefix_len test (range_with_len 0 n) → test k ≡ true
+pub run_passes : (test : ℕ → Bool) (n k : ℕ) → k < prefix_len test (range_with_len 0 n) → test k ≡ true
 run_passes test n k h =
     let within : k < n = omega (arith, prefix_len-le-length test (range_with_len 0 n), length-range_with_len 0 n) in
     let there : get_or (range_with_len 0 n) k 0 ≡ k = omega (arith, get_or-range_with_len 0 n k 0 within) in
     ap test (sym there) ∙ prefix_len_passes test (range_with_len 0 n) k 0 h
 
-run_fails : (test : ℕ → Bool) (n : ℕ) → test n ≡ false → test (prefix_len test (range_with_len 0 n)) ≡ false
+pub run_fails : (test : ℕ → Bool) (n : ℕ) → test n ≡ false → test (prefix_len test (range_with_len 0 n)) ≡ false
 run_fails test n none = by_order (cases_lt (prefix_len test (range_with_len 0 n)) n)
   where
     by_order : ((prefix_len test (range_with_len 0 n) < n) ⊎ (n ≤ prefix_len test (range_with_len 0 n))) → test (prefix_len test (range_with_len 0 n)) ≡ false

@@ -22,7 +22,7 @@ use Rattle.hl_model.proofs.EpochLaws.{safe_epoch-current}
 use Rattle.hl_model.proofs.OffsetLaws.{read_only-grows, head-grows}
 
 -- what action w counts for in the list A: what it stored, if it is done
-abbrev counted : (Kind → ℕ) → List Step → Waiting → ℕ
+abbrev pub counted : (Kind → ℕ) → List Step → Waiting → ℕ
 counted stored A w = cond (is_finished w.ticket A) (stored w.kind) 0
 
 -- nothing is settled in no steps
@@ -67,7 +67,7 @@ done_greatest-quiet sizes stored A s a h =
     = ap (greatest (counted stored A)) (actions-push A s) ∙ greatest-append (counted stored A) (actions A) (action_of A s) in
     omega (arith, same, parts, counted-new sizes stored A s a)
 
-either_counts : (b c : Bool) (n : ℕ) → cond (b || c) n 0 ≡ max (cond b n 0) (cond c n 0)
+pub either_counts : (b c : Bool) (n : ℕ) → cond (b || c) n 0 ≡ max (cond b n 0) (cond c n 0)
 either_counts true true n = omega arith
 either_counts true false n = omega arith
 either_counts false true n = omega arith

@@ -40,7 +40,8 @@ mark-stay : (t : ℕ) (A : List Step) (s : Step) → enters t s ≡ false → ma
 unfolding mark
 mark-stay t A s h = until_last-push (enters t) A s ∙ cond-false (enters t s) (length A + 1) (until_last (enters t) A) h
 
-mark-le : (t : ℕ) (A : List Step) → mark t A ≤ length A
+-- the mark is within the list
+pub mark-le : (t : ℕ) (A : List Step) → mark t A ≤ length A
 unfolding mark
 mark-le t A = until_last-le (enters t) A
 

@@ -1,6 +1,7 @@
 //! What holds of every accepted list of steps, or of any, each law the contract of a function that does nothing: the
 //! definitions alone carry them, so they hold of whatever meets the definitions.
 
+ghost use Rattle.hl_model.specs.BaseLaws.{ListsMayBeCut, CutsAnywhere};
 ghost use Rattle.hl_model.specs.Follows.{TablesFollow, ActionsFollow, OffsetsFollow, PagesFollow, OutSinceItsTake};
 ghost use Rattle.hl_model.specs.Laws.{HeadlineHolds, AcceptedMeetsNoFault, GoodByItsLastStep, CurrentIsAtMostLast, DrainListHoldsThem, TicketsAreNumbers, TicketsRise, TakenAreThoseListed, TakenAreSafe, AcceptedStepsAreAccepted, BeginningsAreAccepted, EpochsAreInOrder, SafeNeverFalls, SafeIsGreatest, MarkAfterBump, EpochsFitTheWindow, OffsetsAreInOrder, OffsetsNeverFall};
 
@@ -136,4 +137,15 @@ pub fn offsets_never_fall()
 /// all before it, and from a page's flush take on its words stay.
 pub fn headline()
     ensures { HeadlineHolds }
+{}
+
+/// An accepted list may be cut to its base: from there all that follows is answered and accepted as behind the list,
+/// and leads to the base of the whole.
+pub fn lists_may_be_cut()
+    ensures { ListsMayBeCut }
+{}
+
+/// At each place of an accepted list, the quantities and the next reply are those of the base and the steps since.
+pub fn cuts_anywhere()
+    ensures { CutsAnywhere }
 {}
