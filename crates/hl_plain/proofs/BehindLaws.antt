@@ -1,6 +1,6 @@
 -- What an allocator answers and shows, in the definitions of whole lists.
-use Rattle.std.proofs.Common.{◌≡◌, ◌+◌, ◌<◌, ℕ, Bool, true, false, cond, List, [], ◌∷◌, ◌++◌, length, map, refl, sym, ap, ap₂, ◌∙◌, arith, inl, inr, ◌⊎◌, subst}
-use Rattle.std.specs.Prelude.{Option, Some, None, Result, Ok, Err}
+use Rattle.std.proofs.Common.{◌≡◌, ◌+◌, ◌<◌, ℕ, Bool, true, false, cond, List, [], ◌∷◌, ◌++◌, map, refl, sym, ap, ap₂, ◌∙◌, inl, inr, subst}
+use Rattle.std.specs.Prelude.{Option, Some, None, Result, Ok}
 use Rattle.hl_model.specs.declared.fault.Fault.{Fault}
 use Rattle.hl_model.specs.declared.step.Reply.{Reply}
 use Rattle.hl_model.specs.declared.step.Step.{Step}
@@ -8,7 +8,7 @@ use Rattle.hl_model.specs.Replies.{fault_of, answer_of, reply_of, unless_fault}
 use Rattle.hl_model.specs.Bases.{Base, base_of}
 use Rattle.hl_model.specs.AfterReplies.{base_after, fault_after, answer_at, reply_after}
 use Rattle.hl_model.proofs.CutLaws.{cuts_anywhere}
-use Rattle.hl_plain.specs.Histories.{History, Follows, worded, answer_told, unless_met, answer_behind, AnswersBy, Answers, AnswersBehind}
+use Rattle.hl_plain.specs.Histories.{History, Follows, worded, answer_told, unless_met, answer_behind, Answers, AnswersBehind}
 use Rattle.std.specs.Prelude.{option_map, is_some}
 use Rattle.std.specs.List.{count_by, range_with_len}
 use Rattle.std.proofs.lemmas.List.Sums.{sum_by-append}

@@ -1,6 +1,6 @@
 -- The first element that passes, as far as a list is read.
 use Rattle.std.proofs.Common.{◌≡◌, ℕ, suc, ◌+◌, ◌<◌, Bool, true, false, cond, List, [], ◌∷◌, ◌++◌, length, take, drop, get_or, sym, ap, ◌∙◌, find, drop-cons, eq-eqb, ne_eqb, ◌≢◌}
-use Rattle.std.specs.Prelude.{◌==◌, Option, Some, None}
+use Rattle.std.specs.Prelude.{◌==◌, Some, None}
 use Rattle.hl_model.specs.declared.action.Waiting.{Waiting}
 use Rattle.std.specs.Option.{option_or}
 use Rattle.std.proofs.lemmas.List.{take-append-drop, take_more}

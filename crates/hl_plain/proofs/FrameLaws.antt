@@ -1,12 +1,12 @@
 -- The pages of a frame, and their marks.
-use Rattle.std.proofs.Common.{◌≡◌, ℕ, ◌*◌, ◌<◌, ◌%◌, ltb, Bool, true, ◌&&◌, List, ap, ◌∙◌, refl}
-use Rattle.std.specs.Prelude.{◌==◌, Some}
+use Rattle.std.proofs.Common.{◌≡◌, ℕ, ◌*◌, ◌%◌, ltb, Bool, ◌&&◌, List, ap, ◌∙◌}
+use Rattle.std.specs.Prelude.{◌==◌}
 use Rattle.hl_model.specs.declared.frame.Held.{Held}
 use Rattle.hl_model.specs.declared.step.Step.{Step}
 use Rattle.hl_model.specs.Pages.{Mark}
 use Rattle.hl_model.specs.Bases.{Base}
 use Rattle.hl_model.specs.AfterOffsets.{tail_after}
-use Rattle.hl_model.specs.AfterPages.{is_complete_after, is_out_after, marks_after, flushing_after, cleaning_after, last_entered_after, marked_after}
+use Rattle.hl_model.specs.AfterPages.{is_complete_after, is_out_after, marks_after, flushing_after, cleaning_after, marked_after}
 use Rattle.hl_plain.specs.declared.pages.Work.TheVariants.{Flushing, Cleaning}
 use Rattle.hl_plain.specs.Works.{begun_of}
 

@@ -1,28 +1,24 @@
 -- What is known of a history, and what one step more makes of it.
-use Rattle.std.proofs.Common.{◌≡◌, ◌^◌, ◌+◌, ◌<◌, ◌≤◌, ℕ, Bool, true, false, cond, length-append, List, [], ◌∷◌, ◌++◌, length, map, refl, sym, ap, ap₂, ◌∙◌, arith, subst, append_assoc, append-nil}
-use Rattle.std.specs.Prelude.{Option, Some, None, Ok, is_none}
+use Rattle.std.proofs.Common.{◌≡◌, ◌<◌, ◌≤◌, ℕ, Bool, true, false, cond, length-append, List, [], ◌∷◌, ◌++◌, length, map, refl, sym, ap, ap₂, ◌∙◌, arith, subst, append_assoc, append-nil}
+use Rattle.std.specs.Prelude.{Option, Some, None}
 use Rattle.std.proofs.lemmas.List.{length-map}
 use Rattle.hl_plain.specs.declared.pages.Mark.{Mark as Made}
-use Rattle.hl_model.specs.declared.fault.Fault.{Fault}
-use Rattle.hl_model.specs.declared.step.Reply.{Reply}
 use Rattle.hl_model.specs.declared.step.Step.{Step}
 use Rattle.hl_model.specs.Sizes.{Sizes, AreInRange}
 use Rattle.hl_model.specs.Lists.{unroll, unroll_after}
-use Rattle.hl_model.specs.Epochs.{current_epoch}
-use Rattle.hl_model.specs.Actions.{pending, taken}
 use Rattle.hl_model.specs.Pages.{Mark, Out, Back, mark_if}
 use Rattle.hl_model.specs.Snapshots.{six, AreInOrder}
-use Rattle.hl_model.specs.Replies.{fault_of, answer_of, reply_of, unless_fault, IsAccepted}
+use Rattle.hl_model.specs.Replies.{fault_of, IsAccepted}
 use Rattle.hl_model.specs.Bases.{Base, IsBase, base_of}
 use Rattle.hl_model.specs.AfterPages.{Begun, next_page_after, marks_after_step, marks_after, flushing_after, cleaning_after}
-use Rattle.hl_model.specs.AfterReplies.{base_after, fault_after, answer_at, reply_after}
+use Rattle.hl_model.specs.AfterReplies.{base_after, fault_after}
 use Rattle.hl_model.proofs.ListLaws.{by_pushing, unroll-push}
 use Rattle.hl_model.proofs.OrderLaws.{offsets_are_in_order}
 use Rattle.hl_model.proofs.AcceptedLaws.{good-nil, IsAccepted-push}
 use Rattle.hl_model.proofs.LawProofs.{beginnings_are_accepted, current_is_at_most_last, drain_list_holds_them}
 use Rattle.hl_model.proofs.CutLaws.{cuts_anywhere}
-use Rattle.hl_plain.specs.Bounds.{TailFits, AreBounded}
-use Rattle.hl_plain.specs.Histories.{History, begun, Follows, IsHistory, worded, answer_told, told, unless_met, answer_behind, AnswersBy, Answers, AnswersBehind}
+use Rattle.hl_plain.specs.Bounds.{AreBounded}
+use Rattle.hl_plain.specs.Histories.{History, begun, Follows, IsHistory}
 use Rattle.hl_plain.specs.Kept.{AreKept}
 use Rattle.hl_plain.specs.Presents.{ArePresent}
 use Rattle.hl_plain.specs.Works.{as_mark, marks_in}

@@ -1,9 +1,9 @@
 -- The run of flushed pages, as far as it is looked for.
-use Rattle.std.proofs.Common.{◌≡◌, ◌⊎◌, ℕ, ◌+◌, ◌*◌, ◌/◌, ◌<◌, ◌≤◌, ◌^◌, Bool, true, false, ltb, ◌&&◌, ◌||◌, max, List, [], ◌∷◌, inl, inr, refl, sym, ap, ap₂, ◌∙◌, arith, get_or, zero-add}
+use Rattle.std.proofs.Common.{◌≡◌, ◌⊎◌, ℕ, ◌/◌, ◌<◌, ◌≤◌, ◌^◌, true, false, ltb, ◌&&◌, ◌||◌, max, List, [], ◌∷◌, inl, inr, sym, ap, ◌∙◌, arith, get_or, zero-add}
 use Rattle.std.specs.List.{list_any, prefix_len, range_with_len}
 use Rattle.std.proofs.lemmas.Bool.{cases_lt, both_ways, and_parts, ltb-true, lt-ltb, le-ltb}
 use Rattle.std.proofs.lemmas.List.FromFn.{length-range_with_len, get_or-range_with_len}
-use Rattle.std.proofs.lemmas.List.Sums.{prefix_len-le-length, prefix_len_stops}
+use Rattle.std.proofs.lemmas.List.Sums.{prefix_len_stops}
 use Rattle.hl_model.specs.declared.step.Step.{Step}
 use Rattle.hl_model.specs.Lists.{greatest}
 use Rattle.hl_model.specs.Bases.{Base}

@@ -1,12 +1,11 @@
 -- How many slots are protected, and how many frames are at each state, one more being read.
-use Rattle.std.proofs.Common.{◌≡◌, ℕ, ◌+◌, ◌<◌, ◌≤◌, Bool, true, cond, is_some, List, [], ◌∷◌, ◌++◌, length, map, take, get_or, set, refl, sym, ap, ap₂, ◌∙◌, arith, length-take}
+use Rattle.std.proofs.Common.{◌≡◌, ℕ, ◌+◌, ◌<◌, ◌≤◌, Bool, cond, is_some, List, [], ◌∷◌, ◌++◌, length, map, take, get_or, set, sym, ap, ◌∙◌, arith, length-take}
 use Rattle.std.specs.Prelude.{Option, None}
 use Rattle.std.specs.List.{count_by}
 use Rattle.std.proofs.lemmas.List.{take_more, map-append, length-map}
 use Rattle.std.proofs.lemmas.List.Sums.{count_by-le-length}
 use Rattle.hl_model.specs.declared.frame.FrameState.{FrameState}
 use Rattle.hl_model.specs.declared.frame.FrameState.TheVariants.{Opened, Sealed, Flushed, Closed, Free}
-use Rattle.hl_model.specs.declared.frame.Held.{Held}
 use Rattle.hl_model.specs.Bases.{Base}
 use Rattle.hl_model.specs.Snapshots.{is_opened, is_at_sealed, is_at_flushed, is_at_closed, is_free, state_counts}
 use Rattle.hl_plain.specs.Shown.{state_at}

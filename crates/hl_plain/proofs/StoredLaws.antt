@@ -1,8 +1,7 @@
 -- The actions that steps store, one after another, as far as a list is read.
-use Rattle.std.proofs.Common.{◌≡◌, ℕ, zero, suc, ◌+◌, ◌-◌, ◌<◌, ◌≤◌, Bool, true, false, cond, not, if◌then◌else◌, min, max, List, [], ◌∷◌, ◌++◌, length, take, drop, get_or, filter, refl, sym, ap, ap₂, ◌∙◌, arith, append-nil, append_assoc, length-append, length-take, length-drop, drop-cons, add-one, zero-add, subst, le_trans}
-use Rattle.std.specs.Prelude.{Option, Some, None}
+use Rattle.std.proofs.Common.{◌≡◌, ℕ, suc, ◌+◌, ◌-◌, ◌<◌, ◌≤◌, Bool, true, false, cond, not, if◌then◌else◌, min, max, List, [], ◌∷◌, ◌++◌, length, take, drop, get_or, filter, refl, sym, ap, ◌∙◌, arith, append-nil, append_assoc, length-append, length-take, length-drop, drop-cons}
 use Rattle.std.specs.List.{count_by}
-use Rattle.std.proofs.lemmas.List.{take-append-drop, take_more, get_or_at, get_or-append_right, get_or_append_left, get_or-take, get_or_default, drop-append-le}
+use Rattle.std.proofs.lemmas.List.{take_all, take-append-drop, take_more, get_or_at, get_or-append_right, get_or_append_left, get_or-take, get_or_default, drop-append-le}
 use Rattle.hl_model.specs.declared.action.Kind.{Kind}
 use Rattle.hl_model.specs.declared.action.Waiting.{Waiting}
 use Rattle.hl_model.specs.declared.step.Step.{Step}
@@ -10,7 +9,7 @@ use Rattle.hl_model.specs.declared.step.Step.TheVariants.{Bump, Settle, Close}
 use Rattle.hl_model.specs.Lists.{gather, gather_after, greatest}
 use Rattle.hl_model.specs.Actions.{stores, takes, is_finished}
 use Rattle.hl_model.specs.Bases.{Base}
-use Rattle.hl_model.specs.AfterActions.{stored_by, stored_after, waiting_after, ever_taken_after, taken_after}
+use Rattle.hl_model.specs.AfterActions.{stored_by, stored_after, waiting_after, ever_taken_after, done_greatest_after}
 use Rattle.hl_model.proofs.ListLaws.{by_pushing, count_by-push, gather-push, greatest-push}
 use Rattle.std.proofs.lemmas.List.Elements.{filter-append}
 
@@ -149,3 +148,8 @@ given-undone stored L ws i w h is left =
 pub given-none : (f : Waiting → ℕ) (ws : List Waiting) → greatest f (take 0 ws) ≡ 0
 unfolding greatest
 given-none f ws = refl
+
+-- all being read
+pub given-all : (stored : Kind → ℕ) (b : Base) (L : List Step) (i most : ℕ) → length (ever_taken_after b L) ≤ i → most ≡ greatest (given_by stored L) (take i (ever_taken_after b L)) → most ≡ done_greatest_after stored b L
+unfolding done_greatest_after
+given-all stored b L i most all is = is ∙ ap (greatest (given_by stored L)) (take_all i (ever_taken_after b L) all)

@@ -1,10 +1,9 @@
 -- How far the tail moves.
-use Rattle.std.proofs.Common.{◌≡◌, ℕ, ◌+◌, ◌<◌, ◌≤◌, List, [], ◌∷◌, ◌++◌, length, take, drop, get_or, ◌^◌, sym, subst, le_trans, le_refl, zero, suc, arith}
-use Rattle.std.specs.List.{fold}
+use Rattle.std.proofs.Common.{ℕ, ◌+◌, ◌<◌, ◌≤◌, List, length, take, drop, get_or, ◌^◌, subst, le_trans, le_refl, arith}
 use Rattle.std.proofs.lemmas.List.{take-append-drop}
 use Rattle.hl_model.specs.declared.step.Step.{Step}
 use Rattle.hl_model.specs.declared.step.Step.TheVariants.{Allocate}
-use Rattle.hl_model.specs.Offsets.{place_of, tail_past}
+use Rattle.hl_model.specs.Offsets.{tail_past}
 use Rattle.hl_model.specs.Bases.{Base}
 use Rattle.hl_model.specs.AfterOffsets.{tail_after}
 use Rattle.hl_model.proofs.ListLaws.{never_falls}

@@ -7,7 +7,7 @@ use Rattle.hl_model.specs.declared.step.Step.{Step}
 use Rattle.hl_model.specs.Sizes.{AreInRange}
 use Rattle.hl_model.specs.Replies.{fault_of, answer_of, with_word, unless_fault, IsAccepted}
 use Rattle.hl_model.specs.Bases.{Base, base_of}
-use Rattle.hl_model.specs.AfterReplies.{base_after, fault_after, answer_at, extended_from}
+use Rattle.hl_model.specs.AfterReplies.{base_after, fault_after, answer_at}
 
 -- the base, the steps accepted since, oldest first, and whether it has words: it has where it began with none
 pub record History : Type 0 where
@@ -39,7 +39,8 @@ worded false L s reply = reply
 -- the answer to an accepted step
 abbrev pub answer_told : History → Step → Reply
 answer_told h s =
-    worded h.has_words h.steps s (answer_at (base_after h.base h.steps) (base_after h.base (h.steps ++ s ∷ [])) s)
+    worded h.has_words h.steps s
+    (answer_at (base_after h.base h.steps) (base_after h.base (h.steps ++ s ∷ [])) s)
 
 -- the reply to a step
 abbrev pub told : History → Step → Result Reply Fault
@@ -49,8 +50,8 @@ told h s = unless_fault (fault_after h.base h.steps s) (answer_told h s)
 abbrev pub unless_met : Option Fault → Step → History → History
 unless_met fault s h = record h { steps = if is_none fault then h.steps ++ s ∷ [] else h.steps }
 
--- what a step is answered, and what it leaves: this reply and the history with it, or, where it meets no fault, a
--- refusal of memory that leaves all as it was
+-- what a step is answered, and what it leaves: this reply and the history with it, or, where it meets no
+-- fault, a refusal of memory that leaves all as it was
 abbrev pub AnswersBy : Option Fault → Reply → History → Step → Result Reply Fault → History → Type 0
 AnswersBy fault reply before s result after =
     ((result ≡ unless_fault fault reply) × (after ≡ unless_met fault s before))
@@ -67,4 +68,5 @@ answer_behind A h s =
 
 -- by the definitions after A and the steps
 abbrev pub AnswersBehind : List Step → History → Step → Result Reply Fault → History → Type 0
-AnswersBehind A before s = AnswersBy (fault_of before.base.sizes (A ++ before.steps) s) (answer_behind A before s) before s
+AnswersBehind A before s =
+    AnswersBy (fault_of before.base.sizes (A ++ before.steps) s) (answer_behind A before s) before s

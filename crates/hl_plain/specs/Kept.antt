@@ -1,10 +1,8 @@
 -- What a history is kept with.
-use Rattle.std.specs.Prelude.{◌≡◌, ◌≤◌, Bool, List, map}
+use Rattle.std.specs.Prelude.{◌≡◌, ◌≤◌, List, map}
 use Rattle.std.specs.Vec.{vec_capacity}
 use Rattle.hl_plain.specs.declared.plain.Plain.TheInside.{Inside}
 use Rattle.hl_plain.specs.declared.pages.Mark.{Mark as Made}
-use Rattle.hl_model.specs.declared.step.Step.{Step}
-use Rattle.hl_model.specs.Bases.{Base}
 use Rattle.hl_model.specs.AfterPages.{marks_after, flushing_after, cleaning_after}
 use Rattle.hl_plain.specs.Histories.{History, IsHistory}
 use Rattle.hl_plain.specs.Works.{as_mark}

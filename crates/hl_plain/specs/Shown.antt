@@ -1,5 +1,5 @@
 -- What is shown of a base: all quantities at once, and what each frame is at.
-use Rattle.std.specs.Prelude.{ℕ, ◌+◌, ◌*◌, nat_le, is_some, if◌then◌else◌, Option, Some, None, List, length, map, count_by, slice_index_or}
+use Rattle.std.specs.Prelude.{ℕ, ◌+◌, ◌*◌, nat_le, is_some, if◌then◌else◌, Option, Some, None, length, map, count_by, slice_index_or}
 use Rattle.hl_model.specs.declared.frame.FrameState.{FrameState}
 use Rattle.hl_model.specs.declared.frame.FrameState.TheVariants.{Opened, Sealed, Flushed, Closed, Free}
 use Rattle.hl_model.specs.declared.frame.Held.{Held}

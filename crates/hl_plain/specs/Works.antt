@@ -9,7 +9,7 @@ use Rattle.hl_model.specs.declared.frame.Held.{Held}
 use Rattle.hl_model.specs.declared.step.Step.{Step}
 use Rattle.hl_model.specs.Lists.{greatest}
 use Rattle.hl_model.specs.Settled.{pages_below}
-use Rattle.hl_model.specs.Pages.{Work, Mark, Out, Back, takes_to_flush, flush_of, flushes, takes_to_clean, clean_of, frees, flushes_below}
+use Rattle.hl_model.specs.Pages.{Mark, Out, Back, takes_to_flush, flush_of, flushes, takes_to_clean, clean_of, frees, flushes_below}
 use Rattle.hl_model.specs.Bases.{Base, completed_in, marked_in, held_in}
 use Rattle.hl_model.specs.AfterActions.{safe_read_only_after, closed_after}
 use Rattle.hl_model.specs.AfterPages.{Begun, is_complete_after, flushing_after}
@@ -47,7 +47,12 @@ out_mark Cleaning held = held.cleaning
 -- the work of a kind, which goes on from a base
 abbrev pub begun_of : Base → Kind → Begun
 begun_of b kind = record {
-  work = record { takes = takes_of kind; ends = ends_of kind; completes = completes_of kind; due = due_of b kind };
+  work = record {
+    takes = takes_of kind;
+    ends = ends_of kind;
+    completes = completes_of kind;
+    due = due_of b kind;
+  };
   complete = λ p. completed_in (complete_mark kind) p (held_in b p);
   out = λ p. marked_in (out_mark kind) p (held_in b p);
 }
@@ -82,4 +87,5 @@ due_in b Cleaning = pages_below b.sizes b.six.closed
 -- the page that a take names at a base
 abbrev pub next_in : Base → Kind → Option ℕ
 next_in b kind =
-    find (λ p. not (completed_in (complete_mark kind) p (held_in b p) || out_in b kind p)) (range_with_len 0 (due_in b kind))
+    find (λ p. not (completed_in (complete_mark kind) p (held_in b p) || out_in b kind p))
+    (range_with_len 0 (due_in b kind))

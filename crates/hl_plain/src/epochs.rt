@@ -71,7 +71,8 @@ pub fn mark(t: u64, steps: &[Step]) -> usize
     until_last(steps, |step| enters(t, step))
 }
 
-/// Whether slot t is protected by the steps: its last acquire, refresh or release is there, and is no release.
+/// Whether slot t is protected by the steps: its last acquire, refresh or release is there, and is no
+/// release.
 #[tactic(auto, unfolding(hl_model::specs::Epochs::is_protected))]
 pub fn is_protected(t: u64, steps: &[Step]) -> bool
     ensures { result ≡ is_protected t steps.now }

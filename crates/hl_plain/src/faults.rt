@@ -39,7 +39,8 @@ fn acquire_fault(present: &Present, t: u64) -> Option<Fault>
 // The view of slot t, or the fault of a step that wants it protected.
 fn seen(present: &Present, t: u64) -> Result<View, Fault>
     ensures ok { IfOk result (λ view. (f : View → Option Fault) → view_fault_at present.now t f ≡ f view) }
-    ensures err { IfErr result (λ fault. (f : View → Option Fault) → view_fault_at present.now t f ≡ Some fault) }
+    ensures err { let here = present.now
+        in IfErr result (λ fault. (f : View → Option Fault) → view_fault_at here t f ≡ Some fault) }
 {
     if present.params().slots() <= t {
         return Err(Fault::NoSlot);
@@ -104,7 +105,8 @@ fn is_taken(present: &Present, ticket: u64) -> bool
 
 // The fault of a done of this ticket.
 fn done_fault(present: &Present, ticket: u64) -> Option<Fault>
-    ensures { result ≡ (if list_any (λ w. w.ticket == ticket) present.now.taken then None else Some Fault.NotTaken) }
+    ensures { let taken = present.now.taken
+        in result ≡ (if list_any (λ w. w.ticket == ticket) taken then None else Some Fault.NotTaken) }
 {
     if is_taken(present, ticket) {
         None

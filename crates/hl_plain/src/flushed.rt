@@ -27,7 +27,8 @@ fn is_flushed_from(p: u64, steps: &[Step]) -> bool
     steps.iter().any(|step| flushes_from(p, step))
 }
 
-// Whether page p is not beyond the base's tail and the greatest page flushed since: no page beyond is flushed.
+// Whether page p is not beyond the base's tail and the greatest page flushed since: no page beyond is
+// flushed.
 fn may_be_flushed(base: &Base, p: u64, steps: &[Step]) -> bool
     ensures { result ≡ nat_lt p (run_end base.now steps.now) }
 {

@@ -126,8 +126,8 @@ impl Work {
         }
     }
 
-    /// Whether the work on page p was completed, told what the page's frame holds: where that is a later page, it had
-    /// to be.
+    /// Whether the work on page p was completed, told what the page's frame holds: where that is a later
+    /// page, it had to be.
     pub fn completed_in(self, p: u64, held: Option<Held>) -> bool
         ensures { result ≡ completed_in (complete_mark self) p held }
     {
@@ -162,7 +162,8 @@ impl Work {
         self.completed_in(p, held_in(base, p)) || self.completed_since(p, steps)
     }
 
-    /// Whether page p is out, told the marks of the steps: by its marks where there are any, else as in the base.
+    /// Whether page p is out, told the marks of the steps: by its marks where there are any, else as in the
+    /// base.
     #[tactic(auto, unfolding(hl_model::specs::AfterPages::is_out_after), using(crate::proofs::FoldLaws::list_any_map))]
     pub fn is_out(self, base: &Base, p: u64, marks: &[Mark]) -> bool
         ensures { result ≡ is_out_after (begun_of base.now self) p (map as_mark marks.now) }
@@ -177,7 +178,8 @@ impl Work {
     // Whether the work on page p is complete, or p is out.
     fn is_begun(self, base: &Base, p: u64, steps: &[Step], marks: &[Mark]) -> bool
         ensures { let begun = begun_of base.now self
-            in result ≡ (is_complete_after begun p steps.now || is_out_after begun p (map as_mark marks.now)) }
+            in result
+            ≡ (is_complete_after begun p steps.now || is_out_after begun p (map as_mark marks.now)) }
     {
         self.is_complete(base, p, steps) || self.is_out(base, p, marks)
     }
@@ -194,7 +196,8 @@ impl Work {
     /// The mark that a step makes, told the steps before it and their marks.
     pub fn mark_of(self, base: &Base, steps: &[Step], marks: &[Mark], step: &Step) -> Option<Mark>
         requires { base.now.epoch ≤ 2 ^ 62 }
-        ensures { marks_in result ≡ marks_after_step (begun_of base.now self) steps.now (map as_mark marks.now) step.now }
+        ensures { let begun = begun_of base.now self
+            in marks_in result ≡ marks_after_step begun steps.now (map as_mark marks.now) step.now }
     {
         if self.takes(step) {
             self.next_page(base, steps, marks).map(Mark::Out)

@@ -7,7 +7,7 @@ ghost use Rattle.hl_model.specs.Snapshots.{snapshot_of};
 ghost use Rattle.hl_model.specs.Views.{slot_view};
 ghost use Rattle.hl_model.specs.Bases.{IsBase, base_of, slot_in};
 ghost use Rattle.hl_model.specs.AfterReplies.{base_after, fault_after, answer_at};
-ghost use Rattle.hl_plain.specs.Histories.{begun, Follows, IsHistory, worded, answer_told, told, Answers, AnswersBehind};
+ghost use Rattle.hl_plain.specs.Histories.{History, begun, Follows, IsHistory, worded, answer_told, told, Answers, AnswersBehind};
 ghost use Rattle.hl_plain.specs.Kept.{AreKept};
 ghost use Rattle.hl_plain.specs.Shown.{frame_at, snapshot_at};
 ghost use Rattle.hl_plain.specs.Works.{as_mark, marks_in};
@@ -21,8 +21,8 @@ use hl_model::{Base, Fault, FrameState, Params, Reply, Snapshot, Step, View, Wai
 use std::alloc::Global;
 use std::marker::Model;
 
-/// An allocator in the slow form: a base and the accepted steps since, from which each answer is computed by the
-/// definitions.
+/// An allocator in the slow form: a base and the accepted steps since, from which each answer is computed by
+/// the definitions.
 ///
 /// A contract sees the base, those steps, and whether it has words.
 #[derive(Drop)]
@@ -61,8 +61,8 @@ impl Plain {
         Plain::begin(alloc, base, room, true)
     }
 
-    /// An allocator that goes on from a base, which it copies. It answers a read with `Readable`, since a base holds no
-    /// words.
+    /// An allocator that goes on from a base, which it copies. It answers a read with `Readable`, since a
+    /// base holds no words.
     ///
     /// `OutOfMemory` where memory was refused.
     pub fn from_base(alloc: Global, base: &Base) -> Result<Plain, Fault>
@@ -96,11 +96,12 @@ impl Plain {
 
     /// Makes a step, where it meets no fault: it is put behind the steps.
     ///
-    /// Faults: the first that the step meets, else `OutOfMemory` where memory for it was refused. A refused step
-    /// changes nothing. None of the first F steps is refused memory.
+    /// Faults: the first that the step meets, else `OutOfMemory` where memory for it was refused. A refused
+    /// step changes nothing. None of the first F steps is refused memory.
     pub fn step(&mut self, step: &Step) -> Result<Reply, Fault>
         ensures answer { Answers self.old step.now result self.new }
-        ensures behind { (A : List Step) → Follows self.old A → AnswersBehind A self.old step.now result self.new }
+        ensures behind { (A : List Step)
+            → Follows self.old A → AnswersBehind A self.old step.now result self.new }
         ensures follows { (A : List Step) → Follows self.old A → Follows self.new A }
         ensures room { length self.old.steps < self.old.base.sizes.frames → result ≡ told self.old step.now }
         ensures known { IsHistory self.new }
@@ -135,7 +136,8 @@ impl Plain {
         ensures view { let b = base_after self.now.base self.now.steps
             in result ≡ option_map (λ slot. slot.view) (slot_in b t) }
         ensures behind { let sizes = self.now.base.sizes
-            in (A : List Step) → Follows self.now A → t < sizes.slots → result ≡ slot_view sizes t (A ++ self.now.steps) }
+            in (A : List Step)
+            → Follows self.now A → t < sizes.slots → result ≡ slot_view sizes t (A ++ self.now.steps) }
     {
         snapshots::view_at(&self.present(), t)
     }
@@ -210,7 +212,8 @@ fn reserve<T>(row: &mut Vec<T>) -> Result<(), Fault>
     row.try_reserve(1).map_err(|_| Fault::OutOfMemory)
 }
 
-// Puts an accepted step behind the steps, and its marks behind theirs. The rows have room. The answer is the step's.
+// Puts an accepted step behind the steps, and its marks behind theirs. The rows have room. The answer is the
+// step's.
 fn accept(
     base: &Base,
     has_words: bool,
@@ -219,14 +222,17 @@ fn accept(
     cleans: &mut Vec<Mark>,
     step: &Step,
 ) -> Reply
-    requires kept { AreKept (record { base = base.now; steps = steps.old.items; has_words = has_words }) flushes.old.items cleans.old.items }
+    requires kept { let history : History = record { base = base.now; steps = steps.old.items; has_words = has_words }
+        in AreKept history flushes.old.items cleans.old.items }
     requires accepted { fault_after base.now steps.old.items step.now ≡ None }
     requires steps_room { vec_len steps.old < vec_capacity steps.old }
     requires flushes_room { vec_len flushes.old < vec_capacity flushes.old }
     requires cleans_room { vec_len cleans.old < vec_capacity cleans.old }
-    ensures reply { result ≡ answer_told (record { base = base.now; steps = steps.old.items; has_words = has_words }) step.now }
+    ensures reply { let history : History = record { base = base.now; steps = steps.old.items; has_words = has_words }
+        in result ≡ answer_told history step.now }
     ensures steps { steps.new.items ≡ steps.old.items ++ step.now ∷ [] }
-    ensures kept { AreKept (record { base = base.now; steps = steps.new.items; has_words = has_words }) flushes.new.items cleans.new.items }
+    ensures kept { let history : History = record { base = base.now; steps = steps.new.items; has_words = has_words }
+        in AreKept history flushes.new.items cleans.new.items }
     ensures steps_room { vec_capacity steps.new ≡ vec_capacity steps.old }
     ensures flushes_room { vec_capacity flushes.new ≡ vec_capacity flushes.old }
     ensures cleans_room { vec_capacity cleans.new ≡ vec_capacity cleans.old }

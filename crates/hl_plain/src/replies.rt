@@ -59,7 +59,8 @@ fn taken_at(present: &Present, ticket: u64) -> Option<Waiting>
     None
 }
 
-// The kind of the taken action of this ticket, or a job of tag 0 where there is none, which no accepted done names.
+// The kind of the taken action of this ticket, or a job of tag 0 where there is none, which no accepted done
+// names.
 fn kind_at(present: &Present, ticket: u64) -> Kind
     ensures { result ≡ kind_or_job_0 (find (λ w. w.ticket == ticket) present.now.taken) }
 {

@@ -32,7 +32,9 @@ fn closes(kind: Kind) -> u64
 fn done_greatest<F: Fn(Kind) -> u64>(stored: F, base: &Base, steps: &[Step]) -> u64
     requires stored { F.IsAlwaysCallable stored }
     requires epoch { base.now.epoch ≤ 2 ^ 62 }
-    ensures { (s : Kind → ℕ) → ((k : Kind) (x : ℕ) → F.post stored k x → x ≡ s k) → result ≡ done_greatest_after s base.now steps.now }
+    ensures { (s : Kind → ℕ)
+        → ((k : Kind) (x : ℕ) → F.post stored k x → x ≡ s k)
+        → result ≡ done_greatest_after s base.now steps.now }
 {
     let mut most = 0;
     for i in 0..ever_taken(base, steps) {

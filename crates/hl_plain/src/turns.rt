@@ -23,7 +23,8 @@ pub fn is_out(work: Work, present: &Present, p: u64) -> bool
 
 // Whether this work on page p is complete, or p is out for it.
 fn is_begun(work: Work, present: &Present, p: u64) -> bool
-    ensures { result ≡ (completed_in (complete_mark work) p (held_in present.now p) || out_in present.now work p) }
+    ensures { let held = held_in present.now p
+        in result ≡ (completed_in (complete_mark work) p held || out_in present.now work p) }
 {
     work.completed_in(p, present.held_for(p)) || is_out(work, present, p)
 }

@@ -1,4 +1,4 @@
-use Rattle.std.proofs.Common.{arith, ◌≡◌, ◌∙◌, length, sym, ap}
+use Rattle.std.proofs.Common.{arith, ◌∙◌, length, sym, ap}
 use Rattle.hl_plain.proofs.StoredLaws.{ever_taken_length, ever_taken-front, ever_taken-behind}
 use Rattle.hl_plain.proofs.actions.ever_taken_at.Goals as goal
 

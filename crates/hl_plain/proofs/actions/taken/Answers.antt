@@ -1,4 +1,4 @@
-use Rattle.std.proofs.Common.{arith, ◌+◌, ◌<◌, ◌≡◌, ◌∙◌, ◌++◌, ◌∷◌, [], length, sym, ap, take, filter}
+use Rattle.std.proofs.Common.{arith, ◌+◌, ◌<◌, ◌∙◌, length, sym, ap, take, filter}
 use Rattle.std.proofs.lemmas.List.{take_all, length_push}
 use Rattle.hl_model.specs.AfterActions.{ever_taken_after, taken_after}
 use Rattle.hl_plain.proofs.StoredLaws.{is_undone, undone-next, done-next, filter-most}

@@ -1,4 +1,4 @@
-use Rattle.std.proofs.Common.{arith, ◌+◌, ◌<◌, ◌≡◌, ◌∙◌, length, sym, ap, take, drop, ◌++◌, ◌∷◌, []}
+use Rattle.std.proofs.Common.{arith, ◌+◌, ◌<◌, ◌∙◌, length, sym, ap, take, drop, ◌++◌, ◌∷◌, []}
 use Rattle.std.proofs.lemmas.List.{take_all, drop_all, length_push, length-take}
 use Rattle.hl_model.specs.Actions.{takes}
 use Rattle.hl_model.specs.AfterActions.{stored_after, waiting_after}

@@ -1,7 +1,6 @@
 use Rattle.std.proofs.Common.{◌∙◌, ap, ap₂, arith, ◌≡◌, ◌/◌, ◌+◌, ltb}
 use Rattle.hl_model.specs.Pages.{flushes_below}
 use Rattle.hl_model.specs.Lists.{greatest}
-use Rattle.hl_plain.specs.Works.{run_end}
 use Rattle.hl_plain.proofs.RunLaws.{any_greatest, below_first, below_second}
 use Rattle.hl_plain.proofs.flushed.may_be_flushed.Goals as goal
 

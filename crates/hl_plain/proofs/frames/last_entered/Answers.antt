@@ -1,4 +1,4 @@
-use Rattle.std.proofs.Common.{arith, ◌≡◌, ap, ap₂, sym, ◌∙◌, ◌/◌, ◌+◌, ◌*◌, ◌%◌}
+use Rattle.std.proofs.Common.{arith, ◌≡◌, ap, ap₂, sym, ◌∙◌, ◌/◌, ◌+◌}
 use Rattle.hl_model.specs.Lists.{greatest_below}
 use Rattle.hl_model.specs.AfterOffsets.{tail_after}
 use Rattle.std.proofs.lemmas.Bool.Decides.{nat_tests}

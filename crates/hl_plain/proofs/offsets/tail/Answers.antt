@@ -1,6 +1,5 @@
-use Rattle.std.proofs.Common.{arith, ◌<◌, ◌≤◌, ◌^◌, length, subst, sym, ℕ, get_or, ◌∙◌}
+use Rattle.std.proofs.Common.{arith, ◌<◌, length}
 use Rattle.hl_model.specs.declared.step.Step.TheVariants.{Acquire}
-use Rattle.hl_model.specs.Offsets.{tail_past}
 use Rattle.hl_plain.proofs.TurnLaws.{tail-next, tail-none}
 use Rattle.hl_plain.proofs.TailLaws.{tail_past-most}
 use Rattle.hl_plain.proofs.offsets.tail.Goals as goal

@@ -1,6 +1,5 @@
-use Rattle.std.proofs.Common.{◌≡◌, ap, sym, ◌∙◌, arith, find, length}
+use Rattle.std.proofs.Common.{ap, sym, ◌∙◌, arith, find, length}
 use Rattle.std.proofs.lemmas.List.{take_all}
-use Rattle.hl_model.specs.declared.action.Waiting.{Waiting}
 use Rattle.hl_plain.proofs.FindLaws.{has_ticket, ticket-hit, ticket-miss}
 use Rattle.hl_plain.proofs.replies.taken_at.Goals as goal
 

@@ -1,4 +1,4 @@
-use Rattle.std.proofs.Common.{arith, ◌≡◌, ◌≤◌}
+use Rattle.std.proofs.Common.{arith}
 use Rattle.hl_plain.proofs.HistoryLaws.{AreKept-begun}
 use Rattle.hl_plain.proofs.plain.Plain.begin.Goals as goal
 

@@ -1,5 +1,5 @@
 use Rattle.hl_model.specs.Bases.{Base, base_of}
-use Rattle.std.proofs.Common.{[], ap, sym, subst, arith, true}
+use Rattle.std.proofs.Common.{ap, sym, subst, arith, true}
 use Rattle.hl_plain.specs.Histories.{IsHistory, begun}
 use Rattle.hl_plain.proofs.HistoryLaws.{IsHistory-opening}
 use Rattle.hl_plain.proofs.plain.Plain.open.Goals as goal

@@ -1,6 +1,6 @@
 use Rattle.std.proofs.Common.{◌≡◌, ◌∙◌, ap, arith}
 use Rattle.std.specs.Prelude.{None, slice_index_or}
-use Rattle.hl_model.specs.Bases.{Base, slot_in}
+use Rattle.hl_model.specs.Bases.{Base}
 use Rattle.hl_plain.proofs.PresentLaws.{held-at, held-past}
 use Rattle.hl_plain.proofs.present.Present.held.Goals as goal
 

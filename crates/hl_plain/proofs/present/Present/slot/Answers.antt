@@ -1,5 +1,4 @@
 use Rattle.std.proofs.Common.{◌≡◌, ◌∙◌, ap, arith}
-use Rattle.std.specs.Prelude.{None, slice_index_or}
 use Rattle.hl_model.specs.Bases.{Base, slot_in}
 use Rattle.hl_plain.proofs.PresentLaws.{slot-at, slot-past}
 use Rattle.hl_plain.proofs.present.Present.slot.Goals as goal
