@@ -93,6 +93,26 @@ impl Base {
         self.frames.copy_from_slice(now.frames);
     }
 
+    /// Another base of the same quantities, in rows of its own.
+    ///
+    /// `OutOfMemory` where memory for its rows was refused.
+    pub fn copied(&self, alloc: Global) -> Result<Base, Fault>
+        ensures ok { IfOk result (λ base. base ≡ self.now) }
+        ensures known { IsBase self.now }
+        ensures err { IfErr result (λ fault. fault ≡ Fault.OutOfMemory) }
+    {
+        let mut base = Base::opening(alloc, self.params)?;
+        base.renew(Quantities {
+            epoch: self.epoch,
+            slots: &self.slots,
+            waiting: &self.waiting,
+            taken: &self.taken,
+            six: self.six,
+            frames: &self.frames,
+        });
+        Ok(base)
+    }
+
     /// The sizes.
     pub fn params(&self) -> Params
         ensures { result ≡ self.now.sizes }

@@ -1,38 +1,35 @@
--- The safe epoch, as a fold.
-use Rattle.std.proofs.Common.{◌≡◌, ℕ, ◌-◌, ◌≤◌, min, List, [], ◌∷◌, map, refl, ap, ◌∙◌, sym, arith}
-use Rattle.std.specs.Prelude.{Option, Some, None, unwrap_or}
-use Rattle.std.specs.List.{AllByRecursion, cons_option, filter_map, fold, range_with_len}
-use Rattle.hl_model.specs.declared.step.Step.{Step}
+-- The least epoch of the protected slots, one more being read.
+use Rattle.std.proofs.Common.{◌≡◌, ℕ, ◌+◌, ◌<◌, min, List, [], ◌∷◌, ◌++◌, length, map, take, get_or, refl, sym, ap, ◌∙◌, arith, append-nil}
+use Rattle.std.specs.Prelude.{Option, Some, None, option_map}
+use Rattle.std.specs.List.{filter_map}
+use Rattle.std.proofs.lemmas.List.{take_more, map-append}
+use Rattle.std.proofs.lemmas.List.Elements.{filter_map-append}
+use Rattle.hl_model.specs.declared.slot.Slot.{Slot}
 use Rattle.hl_model.specs.Lists.{least_or}
-use Rattle.hl_model.specs.Epochs.{current_epoch, slot_epoch, slot_epochs, safe_among, safe_epoch}
-use Rattle.hl_model.proofs.EpochLaws.{slot_epoch-range}
-use Rattle.hl_model.proofs.RowLaws.{each-all}
+use Rattle.hl_plain.specs.Presents.{epochs_in}
 
--- the least of x and some numbers; the default doesn't matter, being at least x
-least_from : (x d : ℕ) (xs : List ℕ) → x ≤ d → min x (least_or d xs) ≡ fold min x xs
+-- the least of one number more
+least-push : (d : ℕ) (xs : List ℕ) (y : ℕ) → least_or d (xs ++ y ∷ []) ≡ min y (least_or y xs)
 unfolding least_or
-least_from x d [] h = omega arith
-least_from x d (y ∷ ys) h = omega (arith, least_from (min x y) y ys (omega arith))
+least-push d [] y = refl
+least-push d (x ∷ []) y = omega arith
+least-push d (x ∷ z ∷ xs) y = omega (arith, least-push x (z ∷ xs) y)
 
-least_fold : (d : ℕ) (xs : List ℕ) → AllByRecursion (λ x. x ≤ d) xs → least_or d xs ≡ fold min d xs
+epochs-next : (slots : List (Option Slot)) (t : ℕ) → t < length slots → epochs_in (take (t + 1) slots) ≡ epochs_in (take t slots) ++ epochs_in (get_or slots t None ∷ [])
+epochs-next slots t h =
+    ap epochs_in (take_more slots t None h) ∙ ap (filter_map (λ e. e)) (map-append (option_map (λ (slot : Slot). slot.epoch)) (take t slots) (get_or slots t None ∷ []))
+    ∙ filter_map-append (λ e. e) (map (option_map (λ (slot : Slot). slot.epoch)) (take t slots)) (map (option_map (λ (slot : Slot). slot.epoch)) (get_or slots t None ∷ []))
+
+-- a slot that is protected
+pub least-some : (slots : List (Option Slot)) (t : ℕ) (slot : Slot) (d : ℕ) → t < length slots → Some slot ≡ get_or slots t None → least_or d (epochs_in (take (t + 1) slots)) ≡ min slot.epoch (least_or slot.epoch (epochs_in (take t slots)))
+least-some slots t slot d h is =
+    ap (least_or d) (epochs-next slots t h ∙ ap (λ o. epochs_in (take t slots) ++ epochs_in (o ∷ [])) (sym is)) ∙ least-push d (epochs_in (take t slots)) slot.epoch
+
+-- or isn't
+pub least-none : (slots : List (Option Slot)) (t d : ℕ) → t < length slots → None ≡ get_or slots t None → least_or d (epochs_in (take (t + 1) slots)) ≡ least_or d (epochs_in (take t slots))
+least-none slots t d h is =
+    ap (least_or d) (epochs-next slots t h ∙ ap (λ o. epochs_in (take t slots) ++ epochs_in (o ∷ [])) (sym is) ∙ append-nil (epochs_in (take t slots)))
+
+pub least-begin : (slots : List (Option Slot)) (d : ℕ) → least_or d (epochs_in (take 0 slots)) ≡ d
 unfolding least_or
-least_fold d [] all = refl
-least_fold d (x ∷ xs) all =
-    let first : min d x ≡ x = omega (arith, all.0) in
-    least_from x x xs (omega arith) ∙ ap (λ n. fold min n xs) (sym first)
-
-fold_told : (least : ℕ) (told : Option ℕ) (xs : List ℕ) → fold min least (cons_option told xs) ≡ fold min (min least (unwrap_or told least)) xs
-fold_told least None xs = let same : least ≡ min least least = omega arith in ap (λ n. fold min n xs) same
-fold_told least (Some e) xs = refl
-
--- the same, each number being told of an element that may have none
-told_fold : (f : ℕ → Option ℕ) (least : ℕ) (ts : List ℕ) → fold min least (filter_map (λ e. e) (map f ts)) ≡ fold (λ n t. min n (unwrap_or (f t) n)) least ts
-told_fold f least [] = refl
-told_fold f least (t ∷ ts) = fold_told least (f t) (filter_map (λ e. e) (map f ts)) ∙ told_fold f (min least (unwrap_or (f t) least)) ts
-
--- the least of the current epoch and those of all protected slots, less 1
-pub safe_epoch_fold : (n : ℕ) (A : List Step) → safe_epoch n A ≡ fold (λ least t. min least (unwrap_or (slot_epoch t A) least)) (current_epoch A) (range_with_len 0 n) - 1
-unfolding safe_epoch safe_among slot_epochs
-safe_epoch_fold n A =
-    let most = each-all (λ e. e ≤ current_epoch A) (λ t. slot_epoch t A) 0 n (λ t e low high is. (slot_epoch-range t A e is).1) in
-    ap (λ m. m - 1) (least_fold (current_epoch A) (filter_map (λ e. e) (map (λ t. slot_epoch t A) (range_with_len 0 n))) most ∙ told_fold (λ t. slot_epoch t A) (current_epoch A) (range_with_len 0 n))
+least-begin slots d = refl

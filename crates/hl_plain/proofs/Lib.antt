@@ -1,7 +1,12 @@
+pub mod BehindLaws
+pub mod FindLaws
 pub mod FoldLaws
+pub mod FrameLaws
 pub mod HistoryLaws
 pub mod LeastLaws
-pub mod PendingLaws
+pub mod PresentLaws
+pub mod RunLaws
 pub mod StateLaws
+pub mod StoredLaws
 pub mod TailLaws
 pub mod TurnLaws

@@ -1,60 +1,55 @@
-//! What each frame is at.
+//! What each frame holds, after a base and the steps since.
 
-ghost use Rattle.std.specs.Prelude.{◌≡◌, ◌*◌, ◌^◌, ◌<◌, IfSome};
-ghost use Rattle.hl_plain.specs.Histories.{TailFits};
-ghost use Rattle.hl_model.specs.Offsets.{tail};
-ghost use Rattle.hl_model.specs.Frames.{last_entered, may_enter, frame_of};
+ghost use Rattle.std.specs.Prelude.{◌≡◌, ◌*◌, ◌^◌, ◌≤◌, ◌<◌, IfSome, map};
+ghost use Rattle.hl_model.specs.AfterPages.{marks_after, flushing_after, cleaning_after, last_entered_after, marked_after, held_after};
+ghost use Rattle.hl_plain.specs.Bounds.{TailFits};
+ghost use Rattle.hl_plain.specs.Works.{as_mark};
 
-use crate::actions::{closed, safe_read_only};
 use crate::offsets::tail;
-use crate::pages::Work;
-use hl_model::{FrameState, Params, Step};
+use crate::pages::{Mark, Work};
+use hl_model::{Base, Held, Step};
 
 // The greatest entered page of frame f, if there is one.
-fn last_entered(params: Params, f: u64, steps: &[Step]) -> Option<u64>
-    requires { TailFits params steps.now }
-    ensures page { result ≡ last_entered params f steps.now }
-    ensures within { IfSome result (λ p. p * params.page < 2 ^ 48) }
+fn last_entered(base: &Base, f: u64, steps: &[Step]) -> Option<u64>
+    requires { TailFits base.now steps.now }
+    ensures page { result ≡ last_entered_after base.now f steps.now }
+    ensures within { IfSome result (λ p. p * base.now.sizes.page < 2 ^ 48) }
 {
-    let page = params.page();
-    let end = tail(params, steps);
+    let page = base.params().page();
+    let frames = base.params().frames();
+    let end = tail(base, steps);
     let mut last = None;
     for p in 0..end / page + 1 {
-        if p * page < end && p % params.frames() == f {
+        if p * page < end && p % frames == f {
             last = Some(p);
         }
     }
     last
 }
 
-/// Whether page q may be entered: its frame was never used, or the page that was there last is freed.
-#[tactic(auto, unfolding(hl_model::specs::Frames::may_enter, hl_model::specs::Pages::is_complete))]
-pub fn may_enter(params: Params, q: u64, steps: &[Step]) -> bool
-    ensures { result ≡ may_enter params q steps.now }
+// A page with its marks, told the marks of the steps.
+fn marked(base: &Base, steps: &[Step], flushes: &[Mark], cleans: &[Mark], page: u64) -> Held
+    requires flushes { map as_mark flushes.now ≡ marks_after (flushing_after base.now) steps.now }
+    requires cleans { map as_mark cleans.now ≡ marks_after (cleaning_after base.now) steps.now }
+    ensures { result ≡ marked_after base.now steps.now page }
 {
-    let frames = params.frames();
-    q < frames || Work::Cleaning.is_complete(q - frames, steps)
+    Held {
+        page,
+        flushed: Work::Flushing.is_complete(base, page, steps),
+        in_flight: Work::Flushing.is_out(base, page, flushes),
+        freed: Work::Cleaning.is_complete(base, page, steps),
+        cleaning: Work::Cleaning.is_out(base, page, cleans),
+    }
 }
 
-/// What frame f is at, and its last entered page where it isn't free.
-#[tactic(auto, unfolding(hl_model::specs::Frames::frame_of, hl_model::specs::Pages::is_complete))]
-pub fn frame_of(params: Params, f: u64, steps: &[Step]) -> (FrameState, Option<u64>)
-    requires { TailFits params steps.now }
-    ensures { result ≡ frame_of params f steps.now }
+/// What frame f holds, told the marks of the steps: its last entered page, with its marks.
+pub fn held(base: &Base, steps: &[Step], flushes: &[Mark], cleans: &[Mark], f: u64) -> Option<Held>
+    requires tail { TailFits base.now steps.now }
+    requires flushes { map as_mark flushes.now ≡ marks_after (flushing_after base.now) steps.now }
+    requires cleans { map as_mark cleans.now ≡ marks_after (cleaning_after base.now) steps.now }
+    ensures held { result ≡ held_after base.now steps.now f }
+    ensures within { IfSome result (λ held. held.page * base.now.sizes.page < 2 ^ 48) }
 {
-    let Some(p) = last_entered(params, f, steps) else {
-        return (FrameState::Free, None);
-    };
-    let end = (p + 1) * params.page();
-    if Work::Cleaning.is_complete(p, steps) {
-        (FrameState::Free, None)
-    } else if end <= closed(steps) {
-        (FrameState::Closed, Some(p))
-    } else if Work::Flushing.is_complete(p, steps) {
-        (FrameState::Flushed, Some(p))
-    } else if end <= safe_read_only(steps) {
-        (FrameState::Sealed, Some(p))
-    } else {
-        (FrameState::Opened, Some(p))
-    }
+    let page = last_entered(base, f, steps)?;
+    Some(marked(base, steps, flushes, cleans, page))
 }

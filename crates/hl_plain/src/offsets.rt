@@ -1,10 +1,11 @@
-//! The offsets that a list of steps moves.
+//! The offsets that steps move, after a base and the steps since.
 
 ghost use Rattle.std.specs.Prelude.{◌≡◌, ◌+◌, ◌^◌, ◌≤◌};
-ghost use Rattle.hl_plain.specs.Histories.{TailFits};
-ghost use Rattle.hl_model.specs.Offsets.{raised_to, shifted_to, read_only, head, place_of, tail_past, tail};
+ghost use Rattle.hl_plain.specs.Bounds.{TailFits};
+ghost use Rattle.hl_model.specs.Offsets.{raised_to, shifted_to, place_of, tail_past};
+ghost use Rattle.hl_model.specs.AfterOffsets.{read_only_after, head_after, tail_after};
 
-use hl_model::{Params, Step};
+use hl_model::{Base, Params, Step};
 
 /// No record ends above it.
 pub const SPACE: u64 = 1 << 48;
@@ -29,22 +30,26 @@ fn shifted_to(step: &Step) -> u64
     }
 }
 
-/// The read-only offset.
-#[tactic(auto, unfolding(hl_model::specs::Offsets::read_only), using(crate::proofs::FoldLaws::greatest_fold))]
-pub fn read_only(steps: &[Step]) -> u64
-    ensures { result ≡ read_only steps.now }
+/// The read-only offset: the greatest of the base's and each address raised to.
+#[tactic(auto, unfolding(hl_model::specs::AfterOffsets::read_only_after), using(crate::proofs::FoldLaws::greatest_from))]
+pub fn read_only(base: &Base, steps: &[Step]) -> u64
+    ensures { result ≡ read_only_after base.now steps.now }
 {
-    steps.iter().fold(0, |most, step| most.max(raised_to(step)))
-}
-
-/// The head.
-#[tactic(auto, unfolding(hl_model::specs::Offsets::head), using(crate::proofs::FoldLaws::greatest_fold))]
-pub fn head(steps: &[Step]) -> u64
-    ensures { result ≡ head steps.now }
-{
+    let begun = base.six().read_only;
     steps
         .iter()
-        .fold(0, |most, step| most.max(shifted_to(step)))
+        .fold(begun, |most, step| most.max(raised_to(step)))
+}
+
+/// The head, likewise.
+#[tactic(auto, unfolding(hl_model::specs::AfterOffsets::head_after), using(crate::proofs::FoldLaws::greatest_from))]
+pub fn head(base: &Base, steps: &[Step]) -> u64
+    ensures { result ≡ head_after base.now steps.now }
+{
+    let begun = base.six().head;
+    steps
+        .iter()
+        .fold(begun, |most, step| most.max(shifted_to(step)))
 }
 
 /// Where a record of n words is placed, told the tail. The tail and the record are within the space.
@@ -72,12 +77,13 @@ fn tail_past(params: Params, tail: u64, step: &Step) -> u64
     }
 }
 
-/// The tail, which is within the space.
-pub fn tail(params: Params, steps: &[Step]) -> u64
-    requires { TailFits params steps.now }
-    ensures { result ≡ tail params steps.now }
+/// The tail, which is within the space: the end of the last record, or the base's tail.
+pub fn tail(base: &Base, steps: &[Step]) -> u64
+    requires { TailFits base.now steps.now }
+    ensures { result ≡ tail_after base.now steps.now }
 {
-    let mut end = 0;
+    let params = base.params();
+    let mut end = base.six().tail;
     for step in steps {
         end = tail_past(params, end, step);
     }

@@ -1,43 +1,76 @@
-//! All quantities of a list of steps at once.
+//! All quantities at once, and what each frame is at, told what is present.
 
-ghost use Rattle.std.specs.Prelude.{◌≡◌, ◌^◌, ◌<◌, ◌≤◌, count_by, length};
-ghost use Rattle.std.specs.List.{range_with_len};
-ghost use Rattle.hl_plain.specs.Histories.{TailFits};
-ghost use Rattle.hl_model.specs.Actions.{pending, taken};
-ghost use Rattle.hl_model.specs.Epochs.{is_protected};
-ghost use Rattle.hl_model.specs.Offsets.{tail};
-ghost use Rattle.hl_model.specs.Pages.{flushed};
-ghost use Rattle.hl_model.specs.Replies.{IsAccepted};
+ghost use Rattle.std.specs.Prelude.{◌≡◌, ◌^◌, ◌*◌, ◌<◌, ◌≤◌, count_by, is_some, map, option_map, Some};
+ghost use Rattle.hl_model.specs.Snapshots.{state_counts};
+ghost use Rattle.hl_model.specs.Bases.{slot_in};
+ghost use Rattle.hl_plain.specs.Shown.{state_at, frame_at, snapshot_at};
 ghost use Rattle.hl_plain.specs.States.{count_place};
-ghost use Rattle.hl_model.specs.Snapshots.{six, state_counts, frame_states, snapshot_of};
 
-use crate::actions::{closed, dones, safe_read_only, stored, takes};
-use crate::epochs::{current_epoch, is_protected, safe_epoch};
-use crate::frames::frame_of;
-use crate::offsets::{head, read_only, tail};
-use crate::pages::flushed;
-use hl_model::{FrameState, Params, Six, Snapshot, Step};
+use crate::present::Present;
+use crate::safe::safe;
+use hl_model::{FrameState, Held, Six, Snapshot, View};
+
+/// The view of slot t, if it is protected.
+pub fn view_at(present: &Present, t: u64) -> Option<View>
+    ensures { result ≡ option_map (λ slot. slot.view) (slot_in present.now t) }
+{
+    present.slot(t).map(|slot| slot.view)
+}
 
 // How many slots are protected.
-fn protected(slots: u64, steps: &[Step]) -> u64
-    ensures { result ≡ count_by (λ t. is_protected t steps.now) (range_with_len 0 slots) }
+fn protected(present: &Present) -> u64
+    ensures { result ≡ count_by is_some present.now.slots }
 {
-    (0..slots).filter(|t| is_protected(*t, steps)).count() as u64
+    let mut count = 0;
+    for t in 0..present.params().slots() {
+        if present.slot(t).is_some() {
+            count += 1;
+        }
+    }
+    count
 }
 
 // The six offsets.
-fn six(params: Params, steps: &[Step]) -> Six
-    requires tail { TailFits params steps.now }
-    requires flushed { flushed params steps.now ≤ 2 ^ 48 }
-    ensures { result ≡ six params steps.now }
+fn six(present: &Present) -> Six
+    ensures { result ≡ present.now.six }
 {
     Six {
-        closed: closed(steps),
-        head: head(steps),
-        flushed: flushed(params, steps),
-        safe_read_only: safe_read_only(steps),
-        read_only: read_only(steps),
-        tail: tail(params, steps),
+        closed: present.closed(),
+        head: present.head(),
+        flushed: present.flushed(),
+        safe_read_only: present.safe_read_only(),
+        read_only: present.read_only(),
+        tail: present.tail(),
+    }
+}
+
+// What a frame is at that holds a page, and the page where it isn't free.
+fn state_at(present: &Present, held: Held) -> (FrameState, Option<u64>)
+    requires { held.page * present.now.sizes.page < 2 ^ 48 }
+    ensures { result ≡ state_at present.now (Some held) }
+{
+    let page = held.page;
+    let end = page * present.params().page() + present.params().page();
+    if held.freed {
+        (FrameState::Free, None)
+    } else if end <= present.closed() {
+        (FrameState::Closed, Some(page))
+    } else if held.flushed {
+        (FrameState::Flushed, Some(page))
+    } else if end <= present.safe_read_only() {
+        (FrameState::Sealed, Some(page))
+    } else {
+        (FrameState::Opened, Some(page))
+    }
+}
+
+/// What frame f is at, and its last entered page where it isn't free.
+pub fn frame_at(present: &Present, f: u64) -> (FrameState, Option<u64>)
+    ensures { result ≡ frame_at present.now f }
+{
+    match present.held(f) {
+        None => (FrameState::Free, None),
+        Some(held) => state_at(present, held),
     }
 }
 
@@ -56,34 +89,27 @@ fn count_place(state: FrameState) -> usize
 }
 
 // How many frames are open, sealed, flushed, closed and free.
-fn counts(params: Params, steps: &[Step]) -> [u64; 5]
-    requires { TailFits params steps.now }
-    ensures { result ≡ state_counts (frame_states params steps.now) }
+fn counts(present: &Present) -> [u64; 5]
+    ensures { result ≡ state_counts (map (λ held. (state_at present.now held).0) present.now.frames) }
 {
     let mut counts = [0; 5];
-    for f in 0..params.frames() {
-        counts[count_place(frame_of(params, f, steps).0)] += 1;
+    for f in 0..present.params().frames() {
+        counts[count_place(frame_at(present, f).0)] += 1;
     }
     counts
 }
 
-/// All quantities of accepted steps.
-pub fn snapshot_of(params: Params, steps: &[Step]) -> Snapshot
-    requires accepted { IsAccepted params steps.now }
-    requires tail { TailFits params steps.now }
-    requires flushed { flushed params steps.now ≤ 2 ^ 48 }
-    ensures { result ≡ snapshot_of params steps.now }
+/// All quantities.
+pub fn snapshot_at(present: &Present) -> Snapshot
+    ensures { result ≡ snapshot_at present.now }
 {
-    // Of the actions that are stored and not done, those that aren't pending are taken.
-    let pending = stored(steps).saturating_sub(takes(steps));
-    let held = stored(steps).saturating_sub(dones(steps));
     Snapshot {
-        epoch: current_epoch(steps),
-        safe: safe_epoch(params.slots(), steps),
-        protected: protected(params.slots(), steps),
-        pending,
-        taken: held.saturating_sub(pending),
-        six: six(params, steps),
-        frames: counts(params, steps),
+        epoch: present.epoch(),
+        safe: safe(present),
+        protected: protected(present),
+        pending: present.waiting().len() as u64,
+        taken: present.taken().len() as u64,
+        six: six(present),
+        frames: counts(present),
     }
 }

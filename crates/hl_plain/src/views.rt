@@ -1,15 +1,17 @@
-//! What a protected slot knows of the offsets.
+//! What a protected slot has, after a base and the steps since.
 
-ghost use Rattle.std.specs.Prelude.{◌≡◌, ◌≤◌, ◌^◌, length};
-ghost use Rattle.hl_plain.specs.Histories.{TailFits};
-ghost use Rattle.hl_model.specs.Lists.{until_last};
-ghost use Rattle.hl_model.specs.Offsets.{tail};
-ghost use Rattle.hl_model.specs.Views.{allocates, looked_read_only, looked_head, seen_read_only, seen_head, seen_tail, view_of, slot_view};
+ghost use Rattle.std.specs.Prelude.{◌≡◌, ◌^◌, ◌≤◌};
+ghost use Rattle.std.specs.List.{list_any};
+ghost use Rattle.hl_plain.specs.Bounds.{TailFits};
+ghost use Rattle.hl_model.specs.Bases.{slot_in};
+ghost use Rattle.hl_model.specs.Epochs.{up_to_mark};
+ghost use Rattle.hl_model.specs.Views.{allocates, looked_read_only, looked_head, since_mark};
+ghost use Rattle.hl_model.specs.AfterViews.{present_after, own_tail, seen_since, slot_after};
 
-use crate::epochs::{is_protected, mark};
+use crate::epochs::{epoch, has_moved, is_protected, mark};
 use crate::lists::until_last;
 use crate::offsets::{head, read_only, tail};
-use hl_model::{Params, Step, View};
+use hl_model::{Base, Slot, Step, View};
 
 // Whether a step is an allocation of slot t.
 fn allocates(t: u64, step: &Step) -> bool
@@ -45,67 +47,101 @@ fn looked_head(t: u64, step: &Step) -> Option<u64>
     }
 }
 
-/// The read-only offset that slot t saw: at its mark, or by its last look after it.
-#[tactic(auto, unfolding(hl_model::specs::Views::seen_read_only, hl_model::specs::Views::since_mark, hl_model::specs::Epochs::up_to_mark), using(crate::proofs::FoldLaws::last_given_fold))]
-pub fn seen_read_only(t: u64, steps: &[Step]) -> u64
-    ensures { result ≡ seen_read_only t steps.now }
+// The steps after slot t's mark.
+#[tactic(auto, unfolding(hl_model::specs::Views::since_mark))]
+fn since_mark(t: u64, steps: &[Step]) -> &[Step]
+    ensures { result.now ≡ since_mark t steps.now }
 {
-    let (before, since) = steps.split_at(mark(t, steps));
-    since.iter().fold(read_only(before), |seen, step| {
-        looked_read_only(t, step).unwrap_or(seen)
-    })
+    &steps[mark(t, steps)..]
 }
 
-/// The head that slot t saw, likewise.
-#[tactic(auto, unfolding(hl_model::specs::Views::seen_head, hl_model::specs::Views::since_mark, hl_model::specs::Epochs::up_to_mark), using(crate::proofs::FoldLaws::last_given_fold))]
-pub fn seen_head(t: u64, steps: &[Step]) -> u64
-    ensures { result ≡ seen_head t steps.now }
+// The steps up to slot t's mark.
+#[tactic(auto, unfolding(hl_model::specs::Epochs::up_to_mark))]
+fn up_to_mark(t: u64, steps: &[Step]) -> &[Step]
+    ensures { result.now ≡ up_to_mark t steps.now }
 {
-    let (before, since) = steps.split_at(mark(t, steps));
-    since.iter().fold(head(before), |seen, step| {
-        looked_head(t, step).unwrap_or(seen)
-    })
+    &steps[..mark(t, steps)]
 }
 
-// How many steps lead up to slot t's last allocation, that one counted.
-fn last_allocation(t: u64, steps: &[Step]) -> usize
-    ensures place { result ≡ until_last (allocates t) steps.now }
-    ensures within { result ≤ length steps.now }
-{
-    until_last(steps, |step| allocates(t, step))
-}
-
-/// The tail that slot t saw: at its mark or at its last allocation, whichever is later.
-#[tactic(auto, unfolding(hl_model::specs::Views::seen_tail))]
-pub fn seen_tail(params: Params, t: u64, steps: &[Step]) -> u64
-    requires { TailFits params steps.now }
-    ensures { result ≡ seen_tail params t steps.now }
-{
-    let seen = mark(t, steps).max(last_allocation(t, steps));
-    tail(params, &steps[..seen])
-}
-
-/// The view of slot t, where it is protected.
-pub fn view_of(params: Params, t: u64, steps: &[Step]) -> View
-    requires { TailFits params steps.now }
-    ensures { result ≡ view_of params t steps.now }
+// The offsets after the steps.
+fn present(base: &Base, steps: &[Step]) -> View
+    requires { TailFits base.now steps.now }
+    ensures { result ≡ present_after base.now steps.now }
 {
     View {
-        read_only: seen_read_only(t, steps),
-        head: seen_head(t, steps),
-        tail: seen_tail(params, t, steps),
+        read_only: read_only(base, steps),
+        head: head(base, steps),
+        tail: tail(base, steps),
     }
 }
 
-/// Slot t's view, if it is protected.
-#[tactic(auto, unfolding(hl_model::specs::Views::slot_view))]
-pub fn slot_view(params: Params, t: u64, steps: &[Step]) -> Option<View>
-    requires { TailFits params steps.now }
-    ensures { result ≡ slot_view params t steps.now }
+// Whether slot t allocated after its mark.
+fn has_allocated(t: u64, steps: &[Step]) -> bool
+    ensures { result ≡ list_any (allocates t) (since_mark t steps.now) }
 {
-    if is_protected(t, steps) {
-        Some(view_of(params, t, steps))
+    since_mark(t, steps).iter().any(|step| allocates(t, step))
+}
+
+// The tail up to slot t's own last allocation after its mark, or the one that it saw then, where there is
+// none.
+fn own_tail(base: &Base, t: u64, seen: u64, steps: &[Step]) -> u64
+    requires { TailFits base.now steps.now }
+    ensures { result ≡ own_tail base.now t seen steps.now }
+{
+    if has_allocated(t, steps) {
+        let last = until_last(steps, |step| allocates(t, step));
+        tail(base, &steps[..last])
     } else {
-        None
+        seen
     }
+}
+
+// The view of slot t, told the view that it had at its mark: then its own looks and allocations.
+#[tactic(auto, using(crate::proofs::FoldLaws::last_given_fold))]
+fn seen_since(base: &Base, t: u64, view: View, steps: &[Step]) -> View
+    requires { TailFits base.now steps.now }
+    ensures { result ≡ seen_since base.now t view steps.now }
+{
+    let since = since_mark(t, steps);
+    View {
+        read_only: since.iter().fold(view.read_only, |seen, step| {
+            looked_read_only(t, step).unwrap_or(seen)
+        }),
+        head: since.iter().fold(view.head, |seen, step| {
+            looked_head(t, step).unwrap_or(seen)
+        }),
+        tail: own_tail(base, t, view.tail, steps),
+    }
+}
+
+// What slot t has in a base.
+fn slot_in(base: &Base, t: u64) -> Option<Slot>
+    ensures { result ≡ slot_in base.now t }
+{
+    *base.slots().get(t as usize)?
+}
+
+/// Slot t's epoch and view, if it is protected: by its mark where it moved since the base, else as in the
+/// base, but for its own looks and allocations.
+#[tactic(auto, unfolding(hl_model::specs::AfterViews::slot_after))]
+pub fn slot(base: &Base, t: u64, steps: &[Step]) -> Option<Slot>
+    requires epoch { base.now.epoch ≤ 2 ^ 62 }
+    requires tail { TailFits base.now steps.now }
+    ensures { result ≡ slot_after base.now t steps.now }
+{
+    if !has_moved(t, steps) {
+        let slot = slot_in(base, t)?;
+        return Some(Slot {
+            epoch: slot.epoch,
+            view: seen_since(base, t, slot.view, steps),
+        });
+    }
+    if !is_protected(t, steps) {
+        return None;
+    }
+    let before = up_to_mark(t, steps);
+    Some(Slot {
+        epoch: epoch(base, before),
+        view: seen_since(base, t, present(base, before), steps),
+    })
 }

@@ -4,4 +4,4 @@ use Rattle.hl_plain.proofs.StateLaws.{states_below}
 use Rattle.hl_plain.proofs.snapshots.counts.Given as goal
 
 abbrev pub invariant-loop-f : goal.invariant-loop-f
-invariant-loop-f l = l.counts ≡ state_counts (states_below l.params l.steps l.f)
+invariant-loop-f l = l.counts ≡ state_counts (states_below l.present l.f)

@@ -1,14 +1,13 @@
-use Rattle.std.proofs.Common.{arith}
-use Rattle.hl_plain.proofs.HistoryLaws.{AreKept-begun}
+use Rattle.hl_model.specs.Bases.{Base, base_of}
+use Rattle.std.proofs.Common.{ap, sym, subst, arith, true}
+use Rattle.hl_plain.specs.Histories.{IsHistory, begun}
+use Rattle.hl_plain.proofs.HistoryLaws.{IsHistory-opening}
 use Rattle.hl_plain.proofs.plain.Plain.open.Goals as goal
 
-pub invariant_of-result : goal.invariant_of-result
-invariant_of-result c = record {
-  kept = AreKept-begun c.args.params _ _ _ c.frames-room.ensures.in_range c.in_ok-row.ensures.ok c.in_ok-row-2.ensures.ok c.in_ok-row-3.ensures.ok;
-  steps_room = omega (arith, c.in_ok-row.ensures.room, c.frames-room.ensures.value);
-  flushes_room = omega (arith, c.in_ok-row-2.ensures.room, c.frames-room.ensures.value);
-  cleans_room = omega (arith, c.in_ok-row-3.ensures.room, c.frames-room.ensures.value);
-}
+pub begin-requires-clause-history : goal.begin-requires-clause-history
+begin-requires-clause-history c =
+    subst (λ (b : Base). IsHistory (begun b true)) (sym c.in_ok-base.ensures.ok) (IsHistory-opening c.args.params c.frames-room.ensures.in_range)
 
-pub returns-clause-known : goal.returns-clause-known
-returns-clause-known c = (AreKept-begun c.args.params _ _ _ c.frames-room.ensures.in_range c.in_ok-row.ensures.ok c.in_ok-row-2.ensures.ok c.in_ok-row-3.ensures.ok).history
+pub begin-requires-clause-room : goal.begin-requires-clause-room
+unfolding base_of
+begin-requires-clause-room c = omega (arith, ap (λ (b : Base). b.sizes.frames) c.in_ok-base.ensures.ok, c.frames-room.ensures.value)

@@ -1,5 +1,7 @@
-use Rattle.hl_plain.proofs.HistoryLaws.{pending_fits}
+use Rattle.std.proofs.Common.{◌∙◌, ap}
+use Rattle.hl_model.specs.Bases.{Base}
+use Rattle.hl_plain.proofs.BehindLaws.{waiting_is}
 use Rattle.hl_plain.proofs.plain.Plain.pending.Goals as goal
 
-pub pending-requires : goal.pending-requires
-pending-requires c = rw c.deref.ensures.value (pending_fits c.self.inside.params c.self.inside.steps.items c.self.invariant.kept.history)
+pub returns-clause-behind : goal.returns-clause-behind
+returns-clause-behind c = λ A f. c.waiting.ensures ∙ ap (λ (b : Base). b.waiting) c.present.ensures ∙ waiting_is c.args.self.now A f

@@ -1,5 +1,10 @@
-use Rattle.hl_plain.proofs.HistoryLaws.{tail_fits}
+use Rattle.std.proofs.Common.{◌∙◌, ap}
+use Rattle.std.specs.Prelude.{option_map}
+use Rattle.hl_model.specs.declared.slot.Slot.{Slot}
+use Rattle.hl_model.specs.Bases.{slot_in}
+use Rattle.hl_plain.proofs.BehindLaws.{view_is}
 use Rattle.hl_plain.proofs.plain.Plain.view.Goals as goal
 
-pub slot_view-requires : goal.slot_view-requires
-slot_view-requires c = rw c.deref.ensures.value (tail_fits c.self.inside.params c.self.inside.steps.items c.self.invariant.kept.history)
+pub returns-clause-behind : goal.returns-clause-behind
+returns-clause-behind c = λ A f lt.
+    c.view_at.ensures ∙ ap (λ b. option_map (λ (slot : Slot). slot.view) (slot_in b c.args.t)) c.present.ensures ∙ view_is c.args.self.now A c.args.t f lt

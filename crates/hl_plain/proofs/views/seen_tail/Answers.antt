@@ -1,5 +1,0 @@
-use Rattle.hl_plain.proofs.TailLaws.{TailFits-take}
-use Rattle.hl_plain.proofs.views.seen_tail.Goals as goal
-
-pub tail-requires : goal.tail-requires
-tail-requires c = TailFits-take c.args.params c.args.steps.now _ c.requires
