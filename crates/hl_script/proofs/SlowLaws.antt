@@ -1,6 +1,6 @@
 -- What the slow form makes of one step of a script.
 use Rattle.std.proofs.Common.{◌≡◌, ℕ, ◌^◌, ◌<◌, ◌≤◌, Bool, true, false, cond, not, ◌&&◌, ◌||◌, ltb, is_none, inl, inr, List, [], ◌∷◌, ◌++◌, refl, sym, ap, ap₂, ◌∙◌, subst, append-nil, arith}
-use Rattle.std.specs.Prelude.{◌==◌, Option, Some, None, Ok, Err}
+use Rattle.std.specs.Prelude.{Result, ◌==◌, Option, Some, None, Ok, Err}
 use Rattle.std.specs.List.{find, list_all, list_any}
 use Rattle.std.proofs.lemmas.Bool.{and_parts, ltb-true}
 use Rattle.std.proofs.lemmas.List.Folds.{list_all-append}
@@ -24,7 +24,8 @@ use Rattle.hl_model.proofs.EpochLaws.{safe_epoch-current}
 use Rattle.hl_model.proofs.LawProofs.{current_is_at_most_last}
 use Rattle.hl_model.proofs.NoFaultLaws.{unless_err, unless_ok}
 use Rattle.hl_line.specs.declared.line.Line.TheVariants.{Step as Makes}
-use Rattle.hl_plain.specs.Histories.{History, IsHistory, begun, Answers}
+use Rattle.hl_plain.specs.Histories.{History, IsHistory, Follows, begun, worded, AnswersBehind}
+use Rattle.hl_model.specs.Bases.{base_of}
 use Rattle.hl_script.specs.Answers.{bears, lacks_job, line_fault, shown, line_answer, line_reply, with_line}
 use Rattle.hl_script.specs.Text.{below}
 use Rattle.hl_script.specs.Slow.{kind_is_below, tag_is_below, IsSlow, SumFits}
@@ -75,29 +76,42 @@ ticket_most sizes A c a free =
 record Went (tags : ℕ) (h after : History) (has : ℕ → Bool) (sizes : Sizes) (A : List Step) (step : Step) (reply : Reply) : Type 0 where
   free : fault_of sizes A step ≡ None
   reply_is : reply ≡ with_word A step (answer_of sizes A (A ++ step ∷ []) step)
-  sizes_is : after.sizes ≡ sizes
+  sizes_is : after.base.sizes ≡ sizes
+  words_is : after.has_words ≡ true
   steps_is : after.steps ≡ A ++ step ∷ []
 
-went : (tags : ℕ) (h after : History) (has : ℕ → Bool) (sizes : Sizes) (A : List Step) (step : Step) (reply : Reply) → IsSlow tags h has sizes A → Answers h step (Ok reply) after → Went tags h after has sizes A step reply
+-- the reply of a history that was opened
+abbrev reply_worded : Sizes → List Step → Bool → Step → Result Reply Fault
+reply_worded sizes A words step =
+    unless_fault (fault_of sizes A step) (worded words A step (answer_of sizes A (A ++ step ∷ []) step))
+
+-- what a history that was opened was told is what the list is told
+told_after : (tags : ℕ) (h : History) (has : ℕ → Bool) (sizes : Sizes) (A : List Step) (step : Step) → IsSlow tags h has sizes A → reply_worded h.base.sizes h.steps h.has_words step ≡ word_reply_of sizes A step
+told_after tags h has sizes A step sh = ap₂ (λ z B. reply_worded z B h.has_words step) sh.sizes_is sh.steps_is ∙ ap (λ w. reply_worded sizes A w step) sh.words_is
+
+went : (tags : ℕ) (h after : History) (has : ℕ → Bool) (sizes : Sizes) (A : List Step) (step : Step) (reply : Reply) → IsSlow tags h has sizes A → AnswersBehind [] h step (Ok reply) after → Went tags h after has sizes A step reply
 went tags h after has sizes A step reply sh (inl a) =
-    let told : Ok reply ≡ word_reply_of sizes A step = a.0 ∙ ap₂ (λ z B. word_reply_of z B step) sh.sizes_is sh.steps_is in
+    let told : Ok reply ≡ word_reply_of sizes A step = a.0 ∙ told_after tags h has sizes A step sh in
     let both : (fault_of sizes A step ≡ None) × (reply ≡ with_word A step (answer_of sizes A (A ++ step ∷ []) step)) =
     unless_ok (fault_of sizes A step) reply (with_word A step (answer_of sizes A (A ++ step ∷ []) step)) told in
     record {
       free = both.0;
       reply_is = both.1;
-      sizes_is = ap (λ (z : History). z.sizes) a.1 ∙ sh.sizes_is;
+      sizes_is = ap (λ (z : History). z.base.sizes) a.1 ∙ sh.sizes_is;
+      words_is = ap (λ (z : History). z.has_words) a.1 ∙ sh.words_is;
       steps_is = ap (λ (z : History). z.steps) a.1 ∙ ap₂ (λ z B. extended z B step) sh.sizes_is sh.steps_is ∙ extended-none sizes A step both.0;
     }
 went tags h after has sizes A step reply sh (inr a) = let wrong : Ok reply ≡ Err OutOfMemory = a.0 in cc
 
 -- an accepted step
-pub slow_accepts : (tags : ℕ) (h after : History) (has : ℕ → Bool) (sizes : Sizes) (A : List Step) (step : Step) (reply told : Reply) → IsSlow tags h has sizes A → lacks_job (below tags) h.steps step ≡ false → Answers h step (Ok reply) after → told ≡ shown step reply → (Ok told ≡ line_reply has sizes A step) × IsSlow tags after has sizes (with_line has sizes A (Makes step))
-slow_accepts tags h after has sizes A step reply told sh lacks answer is = (
+pub slow_accepts : (tags : ℕ) (h after : History) (has : ℕ → Bool) (sizes : Sizes) (A : List Step) (step : Step) (reply told : Reply) → IsSlow tags h has sizes A → lacks_job (below tags) h.steps step ≡ false → AnswersBehind [] h step (Ok reply) after → Follows after [] → told ≡ shown step reply → (Ok told ≡ line_reply has sizes A step) × IsSlow tags after has sizes (with_line has sizes A (Makes step))
+slow_accepts tags h after has sizes A step reply told sh lacks answer follows is = (
   ap (λ r. Ok r) (is ∙ ap (shown step) w.reply_is) ∙ sym (ap (λ o. unless_fault o (line_answer sizes A step)) free),
   subst (IsSlow tags after has sizes) (sym (ap (λ o. cond (is_none o) (A ++ step ∷ []) A) free)) (record {
     has_is = sh.has_is;
     sizes_is = w.sizes_is;
+    words_is = w.words_is;
+    follows = follows;
     steps_is = w.steps_is;
     most = sh.most;
     tags_below = ap (list_all (tag_is_below tags)) (actions-push A step) ∙ list_all-append (tag_is_below tags) (actions A) (action_of A step)
@@ -112,13 +126,15 @@ slow_accepts tags h after has sizes A step reply told sh lacks answer is = (
     free = fault_kept has sizes A step (lacks_shown tags h has sizes A step sh ∙ lacks) ∙ w.free
 
 -- a refused step
-pub slow_refuses : (tags : ℕ) (h after : History) (has : ℕ → Bool) (sizes : Sizes) (A : List Step) (step : Step) (f : Fault) → IsSlow tags h has sizes A → lacks_job (below tags) h.steps step ≡ false → Answers h step (Err f) after → (f ≡ OutOfMemory → ⊥) → (Err f ≡ line_reply has sizes A step) × IsSlow tags after has sizes (with_line has sizes A (Makes step))
-slow_refuses tags h after has sizes A step f sh lacks (inr a) memory = let same : f ≡ OutOfMemory = cc in absurd (memory same)
-slow_refuses tags h after has sizes A step f sh lacks (inl a) memory = (
+pub slow_refuses : (tags : ℕ) (h after : History) (has : ℕ → Bool) (sizes : Sizes) (A : List Step) (step : Step) (f : Fault) → IsSlow tags h has sizes A → lacks_job (below tags) h.steps step ≡ false → AnswersBehind [] h step (Err f) after → Follows after [] → (f ≡ OutOfMemory → ⊥) → (Err f ≡ line_reply has sizes A step) × IsSlow tags after has sizes (with_line has sizes A (Makes step))
+slow_refuses tags h after has sizes A step f sh lacks (inr a) follows memory = let same : f ≡ OutOfMemory = cc in absurd (memory same)
+slow_refuses tags h after has sizes A step f sh lacks (inl a) follows memory = (
   sym (ap (λ o. unless_fault o (line_answer sizes A step)) line_is),
   subst (IsSlow tags after has sizes) (sym (ap (λ o. cond (is_none o) (A ++ step ∷ []) A) line_is)) (record {
     has_is = sh.has_is;
-    sizes_is = ap (λ (z : History). z.sizes) a.1 ∙ sh.sizes_is;
+    sizes_is = ap (λ (z : History). z.base.sizes) a.1 ∙ sh.sizes_is;
+    words_is = ap (λ (z : History). z.has_words) a.1 ∙ sh.words_is;
+    follows = follows;
     steps_is = ap (λ (z : History). z.steps) a.1 ∙ ap₂ (λ z B. extended z B step) sh.sizes_is sh.steps_is ∙ ap (λ o. cond (is_none o) (A ++ step ∷ []) A) fault_is;
     most = sh.most;
     tags_below = sh.tags_below;
@@ -126,7 +142,7 @@ slow_refuses tags h after has sizes A step f sh lacks (inl a) memory = (
 )
   where
     fault_is : fault_of sizes A step ≡ Some f
-    fault_is = unless_err (fault_of sizes A step) f (with_word A step (answer_of sizes A (A ++ step ∷ []) step)) (a.0 ∙ ap₂ (λ z B. word_reply_of z B step) sh.sizes_is sh.steps_is)
+    fault_is = unless_err (fault_of sizes A step) f (with_word A step (answer_of sizes A (A ++ step ∷ []) step)) (a.0 ∙ told_after tags h has sizes A step sh)
 
     line_is : line_fault has sizes A step ≡ Some f
     line_is = fault_kept has sizes A step (lacks_shown tags h has sizes A step sh ∙ lacks) ∙ fault_is
@@ -145,17 +161,20 @@ done_fits tags sizes A (Done c) (Ran tag) most known a free told =
     found w e = found_below (tag_is_below tags) (λ w. w.ticket == c) (actions (A ++ Done c ∷ [])) w (ap (list_all (tag_is_below tags)) same ∙ known) e
 done_fits tags sizes A step reply most known a free told = tt
 
-pub slow_sum_fits : (tags : ℕ) (h after : History) (has : ℕ → Bool) (sizes : Sizes) (A : List Step) (step : Step) (reply : Reply) → IsSlow tags h has sizes A → IsHistory after → Answers h step (Ok reply) after → SumFits step reply
-slow_sum_fits tags h after has sizes A step reply sh known answer =
+pub slow_sum_fits : (tags : ℕ) (h after : History) (has : ℕ → Bool) (sizes : Sizes) (A : List Step) (step : Step) (reply : Reply) → IsSlow tags h has sizes A → Follows after [] → AnswersBehind [] h step (Ok reply) after → SumFits step reply
+slow_sum_fits tags h after has sizes A step reply sh follows answer =
     let w = went tags h after has sizes A step reply sh answer in
-    let all : IsAccepted sizes (A ++ step ∷ []) = subst (λ z. IsAccepted z (A ++ step ∷ [])) w.sizes_is (subst (IsAccepted after.sizes) w.steps_is known.accepted) in
+    let all : IsAccepted sizes (A ++ step ∷ []) = subst (λ z. IsAccepted z (A ++ step ∷ [])) w.sizes_is (subst (IsAccepted after.base.sizes) w.steps_is follows.accepted) in
     done_fits tags sizes A step reply sh.most sh.tags_below (IsAccepted-parts sizes A step all).0 w.free w.reply_is
 
 -- no tag is stored yet
-pub slow_begins : (tags : ℕ) (h : History) (has : ℕ → Bool) (sizes : Sizes) → has ≡ below tags → tags ≤ 2 ^ 62 → h ≡ begun sizes → IsSlow tags h has sizes []
-slow_begins tags h has sizes known most e = record {
+pub slow_begins : (tags : ℕ) (h : History) (has : ℕ → Bool) (sizes : Sizes) → has ≡ below tags → tags ≤ 2 ^ 62 → h ≡ begun (base_of sizes []) true → IsHistory h → IsSlow tags h has sizes []
+unfolding base_of
+slow_begins tags h has sizes known most e history = record {
   has_is = known;
-  sizes_is = ap (λ (z : History). z.sizes) e;
+  sizes_is = ap (λ (z : History). z.base.sizes) e;
+  words_is = ap (λ (z : History). z.has_words) e;
+  follows = history.opened (ap (λ (z : History). z.has_words) e);
   steps_is = ap (λ (z : History). z.steps) e;
   most = most;
   tags_below = ap (list_all (tag_is_below tags)) actions-nil;
