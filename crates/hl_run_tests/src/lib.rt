@@ -10,6 +10,8 @@ mod cells;
 #[cfg(test)]
 mod cores;
 #[cfg(test)]
+mod cuts;
+#[cfg(test)]
 mod flush;
 #[cfg(test)]
 mod jobs;

@@ -1,0 +1,121 @@
+//! A list cut after each of its steps: from its base the slow form and the core answer all that follows alike.
+
+use hl_core::Core;
+use hl_counts::CountTable;
+use hl_epoch::Epochs;
+use hl_model::{Base, Fault, Params, Snapshot, Step, Tag};
+use hl_plain::Plain;
+use std::alloc::Global;
+use std::process::Abort;
+use std::test::Fail;
+
+/// Numbers that look drawn at random, the same ones for the same beginning.
+#[derive(Drop)]
+struct Numbers {
+    last: u64,
+}
+
+impl Numbers {
+    // A number below n, which isn't 0.
+    fn below(&mut self, n: u64) -> u64
+        requires { 0 < n }
+    {
+        let next = self.last.wrapping_mul(6_364_136_223_846_793_005);
+        self.last = next.wrapping_add(1_442_695_040_888_963_407);
+        (self.last >> 33) % n
+    }
+}
+
+// A step of any kind, often one that may be accepted at these quantities.
+fn some_step(numbers: &mut Numbers, now: &Snapshot) -> Step {
+    let t = numbers.below(3);
+    let ticket = now.epoch.saturating_sub(numbers.below(7));
+    let page = numbers.below(6);
+    let a = numbers.below(40);
+    match numbers.below(24) {
+        0 | 1 => Step::Acquire { t },
+        2 | 3 => Step::Refresh { t },
+        4 => Step::Release { t },
+        5 => Step::Bump { tag: a },
+        6 => Step::Settle,
+        7 => Step::Close,
+        8 => Step::Bare,
+        9 | 10 => Step::Take,
+        11 | 12 | 13 => Step::Done { ticket },
+        14 => Step::Raise { x: now.six.tail },
+        15 => Step::Shift { x: now.six.flushed },
+        16 | 17 => Step::Allocate { t, n: 1 + numbers.below(5) },
+        18 => Step::Look { t, read_only: now.six.read_only, head: now.six.head },
+        19 => Step::Write { t, a, v: page },
+        20 => Step::Read { t, a },
+        21 => Step::FlushTake,
+        22 => Step::FlushDone { page, ok: a > 9 },
+        _ => {
+            if a < 20 {
+                Step::CleanTake
+            } else {
+                Step::CleanDone { page }
+            }
+        }
+    }
+}
+
+// So many steps, each drawn at the quantities after those before it.
+fn some_steps(alloc: Global, params: Params, count: u64, seed: u64) -> Result<Vec<Step>, Fail> {
+    let mut numbers = Numbers { last: seed };
+    let mut core = Core::<CountTable, Tag>::open(alloc, params)?;
+    let mut steps = Vec::new(alloc);
+    for _ in 0..count {
+        let step = some_step(&mut numbers, &core.snapshot());
+        steps.push(step)?;
+        let _ = core.step(&step);
+    }
+    Ok(steps)
+}
+
+// Every query is answered alike.
+fn compare(rt: &impl Abort, core: &Core<CountTable, Tag>, plain: &Plain, at: usize) {
+    assert_eq!(rt; plain.snapshot(), core.snapshot(), "after step {at}");
+    assert_eq!(rt; plain.pending(), core.pending(), "after step {at}");
+    for t in 0..3 {
+        assert_eq!(rt; plain.view(t), core.view(t), "slot {t} after step {at}");
+    }
+    for f in 0..core.params().frames() {
+        assert_eq!(rt; plain.frame(f), core.frame(f), "frame {f} after step {at}");
+    }
+}
+
+fn cut_anywhere(rt: &impl Abort, alloc: Global, steps: &[Step], params: Params) -> Result<(), Fail> {
+    let mut base = Base::opening(alloc, params)?;
+    for cut in 0..steps.len() {
+        let (before, behind) = steps.split_at(cut);
+        let mut core = Core::<CountTable, Tag>::open(alloc, params)?;
+        for step in before {
+            let _ = core.step(step);
+        }
+        core.base_into(&mut base);
+        let mut plain = Plain::from_base(alloc, &base)?;
+        for (at, step) in behind.iter().enumerate() {
+            assert_eq!(rt; plain.step(step), core.step(step), "step {at} behind {cut}");
+            compare(rt, &core, &plain, at);
+        }
+    }
+    Ok(())
+}
+
+#[test]
+fn three_scripts_cut_after_each_step(rt: HostRuntime) -> Result<(), Fail> {
+    let scripts = [
+        ("a small drain list", Params::checked(4, 2, 2, 2), 7),
+        ("more frames", Params::checked(4, 3, 2, 4), 11),
+        ("larger pages", Params::checked(8, 2, 3, 3), 13),
+    ];
+    for (name, params, seed) in scripts {
+        let Some(params) = params else {
+            panic!(rt; "{name}: sizes out of range")
+        };
+        let steps = some_steps(rt.alloc(), params, 150, seed)?;
+        cut_anywhere(&rt, rt.alloc(), &steps, params)?;
+    }
+    Ok(())
+}
