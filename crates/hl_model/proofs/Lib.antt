@@ -29,6 +29,7 @@ pub mod OnLiterals
 pub mod OrderLaws
 pub mod OutLaws
 pub mod PageFacts
+pub mod Remainders
 pub mod ReuseLaws
 pub mod RowLaws
 pub mod RunLaws
