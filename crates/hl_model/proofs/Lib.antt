@@ -35,6 +35,7 @@ pub mod RowLaws
 pub mod RunLaws
 pub mod SearchLaws
 pub mod SettledLaws
+pub mod StateCounts
 pub mod TicketLaws
 pub mod UnpagedLaws
 pub mod ViewLaws

@@ -1,7 +1,8 @@
 use Rattle.std.proofs.Common.{arith, ◌≡◌, ◌∙◌, ap, ap₂, get_or}
 use Rattle.hl_model.specs.Snapshots.{state_counts, frame_states}
+use Rattle.hl_model.proofs.StateCounts.{states_below}
 use Rattle.hl_plain.specs.States.{count_place}
-use Rattle.hl_plain.proofs.StateLaws.{states_below, states-next, states-le}
+use Rattle.hl_plain.proofs.StateLaws.{states-next, states-le}
 use Rattle.hl_plain.proofs.snapshots.counts.Goals as goal
 
 pub loop-f-preserved : goal.loop-f-preserved

@@ -1,6 +1,6 @@
 use Rattle.std.proofs.Common.{◌≡◌}
 use Rattle.hl_model.specs.Snapshots.{state_counts}
-use Rattle.hl_plain.proofs.StateLaws.{states_below}
+use Rattle.hl_model.proofs.StateCounts.{states_below}
 use Rattle.hl_plain.proofs.snapshots.counts.Given as goal
 
 abbrev pub invariant-loop-f : goal.invariant-loop-f
