@@ -1,5 +1,5 @@
 -- What a bump, a settle and a close have in common, and where a core stands after one.
-use Rattle.std.proofs.Common.{◌≡◌, ℕ, zero, suc, ◌+◌, ◌<◌, ◌≤◌, Bool, true, false, cond, not, List, [], ◌∷◌, ◌++◌, length, map, take, drop, refl, sym, ap, ap₂, ◌∙◌, subst, arith}
+use Rattle.std.proofs.Common.{◌≡◌, ℕ, ◌+◌, ◌<◌, ◌≤◌, Bool, true, false, cond, not, List, [], ◌∷◌, ◌++◌, length, map, take, refl, sym, ap, ap₂, ◌∙◌, subst, arith}
 use Rattle.std.specs.Prelude.{Some, None, Result, Ok, Err, All}
 use Rattle.std.specs.List.{filter, AllByRecursion}
 use Rattle.std.proofs.lemmas.Bool.{eq-eqb, ne_eqb}
@@ -35,7 +35,7 @@ use Rattle.hl_core.proofs.QuietLaws.{OffsetsStay, PagesStay, log-stays, pages-st
 use Rattle.hl_core.proofs.Refusals.{call_accepts}
 use Rattle.hl_core.proofs.StandLaws.{refused_step, table_refused, accepted_step, quiet_drain}
 use Rattle.hl_model.proofs.NoFaultLaws.{unless_ok}
-use Rattle.hl_model.proofs.ListLaws.{all-append, all-follows}
+use Rattle.hl_model.proofs.ListLaws.{all-append, all-drop, all-follows, all-take}
 
 -- a step that stores an action
 record Stores (s : Step) : Type 0 where
@@ -108,16 +108,6 @@ all_filter : {X : Type 0} (P : X → Type 0) (p : X → Bool) (xs : List X) → 
 all_filter P p [] h = tt
 all_filter P p (x ∷ xs) h = elim (p x) as (λ b. AllByRecursion P (cond b (x ∷ filter p xs) (filter p xs))) [ true ↦ (h.0, all_filter P p xs h.1) | false ↦ all_filter P p xs h.1 ]
 
-all_take : {X : Type 0} (P : X → Type 0) (n : ℕ) (xs : List X) → AllByRecursion P xs → AllByRecursion P (take n xs)
-all_take P zero xs h = tt
-all_take P (suc n) [] h = tt
-all_take P (suc n) (x ∷ xs) h = (h.0, all_take P n xs h.1)
-
-all_drop : {X : Type 0} (P : X → Type 0) (n : ℕ) (xs : List X) → AllByRecursion P xs → AllByRecursion P (drop n xs)
-all_drop P zero xs h = h
-all_drop P (suc n) [] h = tt
-all_drop P (suc n) (x ∷ xs) h = all_drop P n xs h.1
-
 all_tickets : (c : ℕ) (ws : List Waiting) → AllByRecursion (λ w. w.ticket < c) ws → AllByRecursion (λ t. t < c) (map (λ w. w.ticket) ws)
 all_tickets c [] h = tt
 all_tickets c (w ∷ ws) h = (h.0, all_tickets c ws h.1)
@@ -130,11 +120,11 @@ tickets_below A =
 
 pending_below : (A : List Step) → AllByRecursion (λ w. w.ticket < current_epoch A) (pending A)
 unfolding pending
-pending_below A = all_drop (λ w. w.ticket < current_epoch A) (takes A) (actions A) (tickets_below A)
+pending_below A = all-drop (λ w. w.ticket < current_epoch A) (takes A) (actions A) (tickets_below A)
 
 taken_below : (A : List Step) → AllByRecursion (λ w. w.ticket < current_epoch A) (taken A)
 unfolding taken ever_taken
-taken_below A = all_filter (λ w. w.ticket < current_epoch A) (λ w. not (is_finished w.ticket A)) (take (takes A) (actions A)) (all_take (λ w. w.ticket < current_epoch A) (takes A) (actions A) (tickets_below A))
+taken_below A = all_filter (λ w. w.ticket < current_epoch A) (λ w. not (is_finished w.ticket A)) (take (takes A) (actions A)) (all-take (λ w. w.ticket < current_epoch A) (takes A) (actions A) (tickets_below A))
 
 module _ {J : Type 0} (tag : J → ℕ) where
   waiting_tickets : (entries : List (ℕ × Action J)) → map (λ w. w.ticket) (map (waiting_of tag) entries) ≡ map (λ e. e.0) entries

@@ -1,5 +1,5 @@
 -- The base of a list, told by a core that stands there.
-use Rattle.std.proofs.Common.{◌≡◌, ℕ, ◌+◌, ◌<◌, true, false, is_some, List, [], ◌∷◌, ◌++◌, length, get_or, map, refl, sym, ap, ap₂, ◌∙◌, zero-add}
+use Rattle.std.proofs.Common.{◌≡◌, ℕ, ◌+◌, ◌<◌, false, is_some, List, [], ◌∷◌, ◌++◌, length, get_or, map, refl, sym, ap, ap₂, ◌∙◌, zero-add}
 use Rattle.std.specs.Prelude.{Option, Some, None}
 use Rattle.std.specs.List.{range_with_len}
 use Rattle.std.proofs.lemmas.List.FromFn.{map-range_with_len_more}
@@ -10,10 +10,11 @@ use Rattle.hl_model.specs.declared.step.Step.{Step}
 use Rattle.hl_model.specs.declared.view.Six.{Six}
 use Rattle.hl_model.specs.declared.view.View.{View}
 use Rattle.hl_model.specs.Sizes.{Sizes}
-use Rattle.hl_model.specs.Epochs.{is_protected, epoch_of, slot_epoch}
-use Rattle.hl_model.specs.Views.{view_of, slot_view}
+use Rattle.hl_model.specs.Epochs.{is_protected, slot_epoch}
+use Rattle.hl_model.specs.Views.{slot_view}
 use Rattle.hl_model.specs.Snapshots.{six}
 use Rattle.hl_model.specs.Bases.{Base, IsBase, slot_of, held_of, base_of}
+use Rattle.hl_model.proofs.CutReplies.{slot_of-protected}
 use Rattle.hl_model.proofs.EpochLaws.{slot_epochs-at, is_protected-slot_epoch, epoch_of-slot_epoch}
 use Rattle.hl_model.proofs.ViewLaws.{is_protected-slot_view, view_of-slot_view}
 use Rattle.hl_epoch.specs.Table.{epoch_at}
@@ -22,14 +23,10 @@ use Rattle.hl_frames.specs.Pages.{Pages}
 use Rattle.hl_core.specs.Standing.{State, Stands, IsStanding}
 use Rattle.hl_core.proofs.PageRows.{length-frames, frame_holds}
 
--- a slot that isn't protected has nothing; one that is has its epoch and its view
+-- a slot that isn't protected has nothing
 slot_of-free : (sizes : Sizes) (t : ℕ) (A : List Step) → is_protected t A ≡ false → slot_of sizes t A ≡ None
 unfolding slot_of
 slot_of-free sizes t A h = rw h refl
-
-slot_of-protected : (sizes : Sizes) (t : ℕ) (A : List Step) → is_protected t A ≡ true → slot_of sizes t A ≡ Some (record { epoch = epoch_of t A; view = view_of sizes t A })
-unfolding slot_of
-slot_of-protected sizes t A h = rw h refl
 
 -- a base of these
 abbrev parts : Sizes → ℕ → List (Option Slot) → List Waiting → List Waiting → Six → List (Option Held) → Base

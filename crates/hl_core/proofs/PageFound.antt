@@ -22,23 +22,23 @@ use Rattle.hl_core.proofs.PageOffsets.{is_entered-is, closed_within, frame_of-is
 module _ {J : Type 0} (tag : J → ℕ) (core : State J) where
   -- the page to flush
   pub flush_found : (A : List Step) → Stands tag core A → NEXT_TO_FLUSH core.offsets.safe_read_only core.pages ≡ next_to_flush core.sizes A
-  flush_found A st = ap₂ NEXT_TO_FLUSH (ap (λ log. log.safe_read_only) st.offsets_is) st.pages_is ∙ next_to_flush-is core.sizes A st.in_range st.accepted
+  flush_found A st = ap₂ NEXT_TO_FLUSH (ap (λ log. log.safe_read_only) st.offsets_is) st.pages_is ∙ next_to_flush-is core.sizes A st.accepted
 
   -- the page to clean
   pub clean_found : (A : List Step) → Stands tag core A → NEXT_TO_CLEAN core.offsets.closed core.pages ≡ next_to_clean core.sizes A
-  clean_found A st = ap₂ NEXT_TO_CLEAN (ap (λ log. log.closed) st.offsets_is) st.pages_is ∙ next_to_clean-is core.sizes A st.in_range st.accepted
+  clean_found A st = ap₂ NEXT_TO_CLEAN (ap (λ log. log.closed) st.offsets_is) st.pages_is ∙ next_to_clean-is core.sizes A st.accepted
 
   -- whether a page is in flight
   pub flight_found : (A : List Step) (p : ℕ) → Stands tag core A → IN_FLIGHT p core.pages ≡ is_in_flight core.sizes p A
-  flight_found A p st = ap (IN_FLIGHT p) st.pages_is ∙ is_in_flight-is core.sizes A p st.in_range st.accepted
+  flight_found A p st = ap (IN_FLIGHT p) st.pages_is ∙ is_in_flight-is core.sizes A p st.accepted
 
   -- whether a page is being cleaned
   pub cleaning_found : (A : List Step) (p : ℕ) → Stands tag core A → CLEANING p core.pages ≡ is_cleaning core.sizes p A
-  cleaning_found A p st = ap (CLEANING p) st.pages_is ∙ is_cleaning-is core.sizes A p st.in_range st.accepted
+  cleaning_found A p st = ap (CLEANING p) st.pages_is ∙ is_cleaning-is core.sizes A p st.accepted
 
   -- whether a page may be entered
   pub enter_found : (A : List Step) (p : ℕ) → Stands tag core A → MAY_ENTER p core.pages ≡ may_enter core.sizes p A
-  enter_found A p st = ap (MAY_ENTER p) st.pages_is ∙ may_enter-is core.sizes A p st.in_range st.accepted
+  enter_found A p st = ap (MAY_ENTER p) st.pages_is ∙ may_enter-is core.sizes A p st.accepted
 
   -- whether a page is entered
   pub entered_found : (q : ℕ) (told : Bool) → told ≡ ltb q core.pages.entered → (A : List Step) → Stands tag core A → told ≡ is_entered core.sizes q A

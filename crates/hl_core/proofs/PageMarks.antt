@@ -1,6 +1,5 @@
 -- The frames of an accepted list know which pages are flushed, in flight, freed and being cleaned.
-use Rattle.std.proofs.Common.{◌≡◌, ℕ, ◌+◌, ◌-◌, ◌*◌, ◌/◌, ◌<◌, ◌≤◌, Bool, true, false, cond, not, ◌||◌, ltb, List, [], ◌∷◌, refl, sym, ap, ap₂, ◌∙◌, arith}
-use Rattle.std.specs.Prelude.{Some, find}
+use Rattle.std.proofs.Common.{◌≡◌, ℕ, ◌+◌, ◌-◌, ◌*◌, ◌/◌, ◌<◌, ◌≤◌, Bool, true, false, cond, not, ◌||◌, ltb, List, ap, ap₂, ◌∙◌, arith}
 use Rattle.std.specs.List.{range_with_len}
 use Rattle.std.proofs.lemmas.Bool.{both_ways, false_from_ne_true}
 use Rattle.hl_model.specs.declared.step.Step.{Step}
@@ -11,6 +10,8 @@ use Rattle.hl_model.specs.Pages.{is_flushed, is_in_flight, is_freed, is_cleaning
 use Rattle.hl_model.specs.Frames.{may_enter}
 use Rattle.hl_model.specs.Snapshots.{six, AreInOrder}
 use Rattle.hl_model.specs.Replies.{IsAccepted}
+use Rattle.hl_model.proofs.AppendLaws.{find-same}
+use Rattle.hl_model.proofs.CutRows.{flushed_in-is, freed_in-is, in_flight_in-is, cleaning_in-is}
 use Rattle.hl_model.proofs.PageFacts.{PagesKept, pages_kept}
 use Rattle.hl_model.proofs.OrderLaws.{offsets_are_in_order}
 use Rattle.hl_model.proofs.FrameFacts.{sealed_entered}
@@ -40,16 +41,6 @@ closed_sealed sizes A p range a h =
     let order : AreInOrder sizes.page (six sizes A) = in_order sizes A range a in
     omega (arith, order.closed_most, order.head_most, order.flushed_most)
 
--- a page whose frame's next one is entered is freed
-pub left_freed : (sizes : Sizes) (A : List Step) (p : ℕ) → AreInRange sizes → IsAccepted sizes A → is_entered sizes (p + sizes.frames) A ≡ true → is_freed sizes p A ≡ true
-left_freed sizes A p range a e =
-    let same : p + sizes.frames - sizes.frames ≡ p = omega arith in
-    ap (λ q. is_freed sizes q A) (sym same) ∙ (kept sizes A range a).round_freed (p + sizes.frames) (omega arith) e
-
--- and flushed
-pub left_flushed : (sizes : Sizes) (A : List Step) (p : ℕ) → AreInRange sizes → IsAccepted sizes A → is_entered sizes (p + sizes.frames) A ≡ true → is_flushed sizes p A ≡ true
-left_flushed sizes A p range a e = (kept sizes A range a).closed_flushed p ((kept sizes A range a).freed_closed p (left_freed sizes A p range a e))
-
 -- what makes a page sealed is told of none that isn't entered
 ahead : (sizes : Sizes) (A : List Step) (p : ℕ) (b : Bool) → AreInRange sizes → IsAccepted sizes A → (b ≡ true → (p + 1) * sizes.page ≤ safe_read_only A) → is_entered sizes p A ≡ false → b ≡ false
 ahead sizes A p b range a sealed e = false_from_ne_true b (λ t. both_ways (is_entered sizes p A) e (sealed_entered sizes A p (page_some sizes range) a (sealed t)))
@@ -71,50 +62,37 @@ pub ahead_uncleaned : (sizes : Sizes) (A : List Step) (p : ℕ) → AreInRange s
 ahead_uncleaned sizes A p range a = ahead sizes A p (is_cleaning sizes p A) range a (λ t. closed_sealed sizes A p range a ((kept sizes A range a).cleaning_closed p t))
 
 -- flushed pages
-pub is_flushed-is : (sizes : Sizes) (A : List Step) (p : ℕ) → AreInRange sizes → IsAccepted sizes A → FLUSHED p (pages_of sizes A) ≡ is_flushed sizes p A
-is_flushed-is sizes A p range a =
-    left_or_marked-is sizes A p (λ held. held.flushed) (is_flushed sizes p A) range refl (left_flushed sizes A p range a) (ahead_unflushed sizes A p range a)
+pub is_flushed-is : (sizes : Sizes) (A : List Step) (p : ℕ) → IsAccepted sizes A → FLUSHED p (pages_of sizes A) ≡ is_flushed sizes p A
+is_flushed-is sizes A p a = left_or_marked-is sizes A p (λ held. held.flushed) ∙ flushed_in-is sizes A p a
 
 -- freed pages
-pub is_freed-is : (sizes : Sizes) (A : List Step) (p : ℕ) → AreInRange sizes → IsAccepted sizes A → FREED p (pages_of sizes A) ≡ is_freed sizes p A
-is_freed-is sizes A p range a =
-    left_or_marked-is sizes A p (λ held. held.freed) (is_freed sizes p A) range refl (left_freed sizes A p range a) (ahead_unfreed sizes A p range a)
+pub is_freed-is : (sizes : Sizes) (A : List Step) (p : ℕ) → IsAccepted sizes A → FREED p (pages_of sizes A) ≡ is_freed sizes p A
+is_freed-is sizes A p a = left_or_marked-is sizes A p (λ held. held.freed) ∙ freed_in-is sizes A p a
 
 -- pages in flight
-pub is_in_flight-is : (sizes : Sizes) (A : List Step) (p : ℕ) → AreInRange sizes → IsAccepted sizes A → IN_FLIGHT p (pages_of sizes A) ≡ is_in_flight sizes p A
-is_in_flight-is sizes A p range a =
-    is_marked-is sizes A p (λ held. held.in_flight) (is_in_flight sizes p A) range refl
-    (λ e. false_from_ne_true (is_in_flight sizes p A) (λ t. both_ways (is_flushed sizes p A) ((kept sizes A range a).in_flight_unflushed p t) (left_flushed sizes A p range a e)))
-    (ahead_unflown sizes A p range a)
+pub is_in_flight-is : (sizes : Sizes) (A : List Step) (p : ℕ) → IsAccepted sizes A → IN_FLIGHT p (pages_of sizes A) ≡ is_in_flight sizes p A
+is_in_flight-is sizes A p a = is_marked-is sizes A p (λ held. held.in_flight) ∙ in_flight_in-is sizes A p a
 
 -- pages that are being cleaned
-pub is_cleaning-is : (sizes : Sizes) (A : List Step) (p : ℕ) → AreInRange sizes → IsAccepted sizes A → CLEANING p (pages_of sizes A) ≡ is_cleaning sizes p A
-is_cleaning-is sizes A p range a =
-    is_marked-is sizes A p (λ held. held.cleaning) (is_cleaning sizes p A) range refl
-    (λ e. false_from_ne_true (is_cleaning sizes p A) (λ t. both_ways (is_freed sizes p A) ((kept sizes A range a).cleaning_unfreed p t) (left_freed sizes A p range a e)))
-    (ahead_uncleaned sizes A p range a)
-
--- what passes alike is found alike
-find_same : (f g : ℕ → Bool) (xs : List ℕ) → ((x : ℕ) → f x ≡ g x) → find f xs ≡ find g xs
-find_same f g [] same = refl
-find_same f g (x ∷ xs) same = ap₂ (λ b o. cond b (Some x) o) (same x) (find_same f g xs same)
+pub is_cleaning-is : (sizes : Sizes) (A : List Step) (p : ℕ) → IsAccepted sizes A → CLEANING p (pages_of sizes A) ≡ is_cleaning sizes p A
+is_cleaning-is sizes A p a = is_marked-is sizes A p (λ held. held.cleaning) ∙ cleaning_in-is sizes A p a
 
 -- the page to flush
-pub next_to_flush-is : (sizes : Sizes) (A : List Step) → AreInRange sizes → IsAccepted sizes A → NEXT_TO_FLUSH (safe_read_only A) (pages_of sizes A) ≡ next_to_flush sizes A
+pub next_to_flush-is : (sizes : Sizes) (A : List Step) → IsAccepted sizes A → NEXT_TO_FLUSH (safe_read_only A) (pages_of sizes A) ≡ next_to_flush sizes A
 unfolding next_page
-next_to_flush-is sizes A range a =
-    find_same (is_unflushed (pages_of sizes A)) (λ p. not (is_flushed sizes p A || is_in_flight sizes p A)) (range_with_len 0 (safe_read_only A / sizes.page))
-    (λ p. ap₂ (λ b c. not (b || c)) (is_flushed-is sizes A p range a) (is_in_flight-is sizes A p range a))
+next_to_flush-is sizes A a =
+    find-same (is_unflushed (pages_of sizes A)) (λ p. not (is_flushed sizes p A || is_in_flight sizes p A)) (range_with_len 0 (safe_read_only A / sizes.page))
+    (λ p. ap₂ (λ b c. not (b || c)) (is_flushed-is sizes A p a) (is_in_flight-is sizes A p a))
 
 -- the page to clean
-pub next_to_clean-is : (sizes : Sizes) (A : List Step) → AreInRange sizes → IsAccepted sizes A → NEXT_TO_CLEAN (closed A) (pages_of sizes A) ≡ next_to_clean sizes A
+pub next_to_clean-is : (sizes : Sizes) (A : List Step) → IsAccepted sizes A → NEXT_TO_CLEAN (closed A) (pages_of sizes A) ≡ next_to_clean sizes A
 unfolding next_page
-next_to_clean-is sizes A range a =
-    find_same (is_uncleaned (pages_of sizes A)) (λ p. not (is_freed sizes p A || is_cleaning sizes p A)) (range_with_len 0 (closed A / sizes.page))
-    (λ p. ap₂ (λ b c. not (b || c)) (is_freed-is sizes A p range a) (is_cleaning-is sizes A p range a))
+next_to_clean-is sizes A a =
+    find-same (is_uncleaned (pages_of sizes A)) (λ p. not (is_freed sizes p A || is_cleaning sizes p A)) (range_with_len 0 (closed A / sizes.page))
+    (λ p. ap₂ (λ b c. not (b || c)) (is_freed-is sizes A p a) (is_cleaning-is sizes A p a))
 
 -- whether a page may be entered
-pub may_enter-is : (sizes : Sizes) (A : List Step) (p : ℕ) → AreInRange sizes → IsAccepted sizes A → MAY_ENTER p (pages_of sizes A) ≡ may_enter sizes p A
-may_enter-is sizes A p range a =
+pub may_enter-is : (sizes : Sizes) (A : List Step) (p : ℕ) → IsAccepted sizes A → MAY_ENTER p (pages_of sizes A) ≡ may_enter sizes p A
+may_enter-is sizes A p a =
     ap (λ n. cond (ltb p n) true (FREED (p - n) (pages_of sizes A))) (length-frames sizes A)
-    ∙ ap (λ b. cond (ltb p sizes.frames) true b) (is_freed-is sizes A (p - sizes.frames) range a)
+    ∙ ap (λ b. cond (ltb p sizes.frames) true b) (is_freed-is sizes A (p - sizes.frames) a)

@@ -87,9 +87,9 @@ flushed_run-same : (sizes : Sizes) (A : List Step) → AreInRange sizes → IsAc
 flushed_run-same sizes A range a =
     sym (zero-add (FLUSHED_RUN (pages_of sizes A)))
     ∙ prefix_len-first (λ q. FLUSHED q (pages_of sizes A)) 0 (pages_entered sizes A) (flushed_run sizes A)
-    (λ q least lt. is_flushed-is sizes A q range a ∙ flushed_run-passes sizes A q lt)
+    (λ q least lt. is_flushed-is sizes A q a ∙ flushed_run-passes sizes A q lt)
     (omega arith) (omega (arith, run_entered sizes A range a))
-    (λ lt. is_flushed-is sizes A (flushed_run sizes A) range a ∙ flushed_run-fails sizes A)
+    (λ lt. is_flushed-is sizes A (flushed_run sizes A) a ∙ flushed_run-fails sizes A)
 
 -- the flushed offset
 pub pages_of-flushed : (sizes : Sizes) (A : List Step) → AreInRange sizes → IsAccepted sizes A → flushed_offset (pages_of sizes A) ≡ flushed sizes A

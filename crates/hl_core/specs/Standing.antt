@@ -16,7 +16,8 @@ use Rattle.hl_drain.specs.Lists.{Lists, IsDrain}
 use Rattle.hl_offsets.specs.Log.{Log}
 use Rattle.hl_frames.specs.Pages.{Pages}
 
--- what a core keeps: its sizes, the table of epochs, each slot's view if it is protected, the drain list, five offsets, the frames with their pages
+-- what a core keeps: its sizes, the table of epochs, each slot's view if it is protected, the drain list,
+-- five offsets, the frames with their pages
 pub record State (J : Type 0) : Type 0 where
   pub sizes : Sizes
   pub table : Table
@@ -27,7 +28,14 @@ pub record State (J : Type 0) : Type 0 where
 
 -- the offsets of a list
 abbrev pub log_of : Sizes → List Step → Log
-log_of sizes A = record { page = sizes.page; closed = closed A; head = head A; safe_read_only = safe_read_only A; read_only = read_only A; tail = tail sizes A }
+log_of sizes A = record {
+  page = sizes.page;
+  closed = closed A;
+  head = head A;
+  safe_read_only = safe_read_only A;
+  read_only = read_only A;
+  tail = tail sizes A;
+}
 
 -- how many pages begin below the tail: those are entered
 abbrev pub pages_entered : Sizes → List Step → ℕ
@@ -35,7 +43,11 @@ pages_entered sizes A = (tail sizes A + sizes.page - 1) / sizes.page
 
 -- the pages of a list
 abbrev pub pages_of : Sizes → List Step → Pages
-pages_of sizes A = record { page = sizes.page; frames = map (held_of sizes A) (range_with_len 0 sizes.frames); entered = pages_entered sizes A }
+pages_of sizes A = record {
+  page = sizes.page;
+  frames = map (held_of sizes A) (range_with_len 0 sizes.frames);
+  entered = pages_entered sizes A;
+}
 
 -- a core stands at the accepted list A: each quantity is that of the list; jobs are named by their tags
 pub record Stands {J : Type 0} (tag : J → ℕ) (core : State J) (A : List Step) : Type 0 where

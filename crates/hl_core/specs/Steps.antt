@@ -15,8 +15,10 @@ use Rattle.hl_drain.specs.Actions.{waiting_of}
 use Rattle.hl_offsets.specs.Log.{Log}
 use Rattle.hl_core.specs.Standing.{State, Stands}
 
--- a core that stood at A answered a step as the definitions do, and stands at the list with the step, where it was accepted
-pub record Stepped {J : Type 0} (tag : J → ℕ) (old : State J) (A : List Step) (step : Step) (new : State J) (result : Result Reply Fault) : Type 0 where
+-- a core that stood at A answered a step as the definitions do, and stands at the list with the step, where
+-- it was accepted
+pub record Stepped {J : Type 0} (tag : J → ℕ) (old : State J) (A : List Step) (step : Step) (new : State J)
+    (result : Result Reply Fault) : Type 0 where
   pub reply : result ≡ reply_of old.sizes A step
   pub sizes : new.sizes ≡ old.sizes
   pub standing : Stands tag new (extended old.sizes A step)

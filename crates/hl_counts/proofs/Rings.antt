@@ -1,13 +1,13 @@
 -- What a change of one slot makes of the counts, and what a count says of the slots.
-use Rattle.std.proofs.Common.{◌≡◌, ℕ, zero, suc, ◌+◌, ◌-◌, ◌*◌, ◌/◌, ◌%◌, ◌<◌, ◌≤◌, cond, Bool, true, Option, Some, None, List, [], ◌∷◌, length, replicate, get_or, set, length-set, get_or-set_same, get_or-set_other, inl, inr, refl, sym, ap, ◌∙◌, arith}
+use Rattle.std.proofs.Common.{◌≡◌, ℕ, zero, suc, ◌+◌, ◌-◌, ◌%◌, ◌<◌, ◌≤◌, cond, Bool, true, Option, Some, None, List, [], ◌∷◌, length, replicate, get_or, set, length-set, get_or-set_same, get_or-set_other, inl, inr, refl, sym, ap, ◌∙◌, arith}
 use Rattle.std.specs.List.{count_by}
-use Rattle.std.proofs.Math.Nat.{mul-le-mul_left, div-add-mod}
 use Rattle.std.proofs.lemmas.Bool.{cases_lt, cases_eq, eq-eqb, ne_eqb}
 use Rattle.std.proofs.lemmas.Bool.Decides.{nat_tests}
 use Rattle.std.proofs.lemmas.List.{length-replicate}
 use Rattle.std.proofs.lemmas.List.Folds.{sum_by-replicate}
 use Rattle.std.proofs.lemmas.List.Sums.{sum_by-cons, sum_by-set, count_by-le-length}
 use Rattle.std.proofs.lemmas.Nat.{mod_below}
+use Rattle.hl_model.proofs.Remainders.{mod-apart}
 use Rattle.hl_counts.specs.Tallies.{count_at, added, removed, is_counted, IsTally}
 
 -- what a slot adds to a place's count
@@ -108,26 +108,11 @@ somebody n place (Some epoch ∷ slots) counted = elim (cases_eq (epoch % n) pla
       (suc found.0, found.1, found.2, found.3)
 ]
 
--- two numbers less than n apart have different remainders
-mod-apart : (n a b : ℕ) → a < b → b < a + n → a % n ≡ b % n → ⊥
-mod-apart n a b below near same =
-    let first : n * (a / n) + a % n ≡ a = div-add-mod a n in
-    let second : n * (b / n) + b % n ≡ b = div-add-mod b n in
-    elim (cases_lt (a / n) (b / n)) [
-      | inl less ↦
-          let step : a / n + 1 ≤ b / n = omega arith in
-          let more : n * (a / n + 1) ≤ n * (b / n) = mul-le-mul_left n step in
-          omega arith
-      | inr most ↦
-          let more : n * (b / n) ≤ n * (a / n) = mul-le-mul_left n most in
-          omega arith
-    ]
-
 -- numbers above low, and no further above it than the ring is long, have places of their own
 same_place : (n low a b : ℕ) → low < a → a ≤ low + n → low < b → b ≤ low + n → a % n ≡ b % n → a ≡ b
 same_place n low a b above_a most_a above_b most_b same = elim (cases_lt a b) [
-  | inl less ↦ absurd (mod-apart n a b less (omega arith) same)
-  | inr most ↦ elim (cases_lt b a) [ inl less ↦ absurd (mod-apart n b a less (omega arith) (sym same)) | inr least ↦ omega arith ]
+  | inl less ↦ absurd (omega (arith, mod-apart a b n same less))
+  | inr most ↦ elim (cases_lt b a) [ inl less ↦ absurd (omega (arith, mod-apart b a n (sym same) less)) | inr least ↦ omega arith ]
 ]
 
 -- where the slots' epochs are within a ring's length above low, an epoch that is counted there is that of a slot

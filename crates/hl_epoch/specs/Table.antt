@@ -16,7 +16,11 @@ opened slots window current = record { current = current; epochs = replicate slo
 
 -- slot t's epoch is the current one
 abbrev pub entered : ℕ → Table → Table
-entered t T = record { current = T.current; epochs = slice_set T.epochs t (Some T.current); window = T.window }
+entered t T = record {
+  current = T.current;
+  epochs = slice_set T.epochs t (Some T.current);
+  window = T.window;
+}
 
 -- slot t is protected no longer
 abbrev pub left : ℕ → Table → Table

@@ -6,10 +6,11 @@ use Rattle.std.proofs.lemmas.Bool.{cases_eq, cases_lt, lt-ltb, le-ltb, eq-eqb}
 use Rattle.std.proofs.lemmas.Bool.Decides.{eqb_tells}
 use Rattle.std.proofs.Math.Nat.{mod-eq_of_lt, add-mod_right}
 use Rattle.hl_model.specs.declared.frame.Held.{Held}
+use Rattle.hl_model.proofs.Remainders.{mod-apart}
 use Rattle.hl_frames.specs.Pages.{Pages, held_for, left_or_marked, is_marked, is_flushed, is_in_flight, is_freed, is_cleaning, is_unflushed, is_uncleaned, may_enter}
 use Rattle.hl_frames.specs.Answers.{unmarked, changed, entered, flush_begun, flush_ended, clean_begun, clean_ended}
 use Rattle.hl_frames.specs.IsFrames.{AreMarks, page_in, IsFrames}
-use Rattle.hl_frames.proofs.PageLaws.{within, page-at, marked-at, mod-apart}
+use Rattle.hl_frames.proofs.PageLaws.{within, page-at, marked-at}
 
 -- a page that lies in its frame is held there
 lying : (q : ℕ) (o : Option Held) → page_in o ≡ Some q → (held : Held) × ((o ≡ Some held) × (held.page ≡ q))
@@ -326,10 +327,7 @@ entered-left_or_marked mark T k is may left bare =
                 rw some.1.0
                 (elim (cases_lt k q) [
                   | inl less ↦
-                      let before : k ≤ some.0.page = elim (cases_lt q (k + F)) [
-                        | inl near ↦ absurd (mod-apart F k q less near at)
-                        | inr far ↦ omega (arith, some.1.1)
-                      ] in
+                      let before : k ≤ some.0.page = omega (arith, some.1.1, mod-apart k q F at less) in
                       rw (lt-ltb k q less) (sym (before-marked mark k some.0 before marked))
                   | inr past ↦
                       past-unmarked mark k (unmarked q) past bare

@@ -1,13 +1,14 @@
 -- What each call makes of the pages stays true of all frames.
-use Rattle.std.proofs.Common.{◌≡◌, ℕ, ◌+◌, ◌-◌, ◌*◌, ◌/◌, ◌%◌, ◌^◌, ◌<◌, ◌≤◌, Bool, true, false, not, ◌||◌, Option, Some, None, List, length, get_or, set, length-set, get_or-set_same, get_or-set_other, zero-add, refl, sym, ap, ◌∙◌, arith, inl, inr}
+use Rattle.std.proofs.Common.{◌≡◌, ℕ, ◌+◌, ◌-◌, ◌/◌, ◌%◌, ◌^◌, ◌<◌, ◌≤◌, Bool, true, false, not, ◌||◌, Option, Some, None, List, length, get_or, set, length-set, get_or-set_same, get_or-set_other, zero-add, refl, sym, ap, ◌∙◌, arith, inl, inr}
 use Rattle.std.specs.Option.{option_map}
 use Rattle.std.proofs.lemmas.Bool.{cases_eq, cases_lt, lt-ltb, le-ltb, eq-eqb}
-use Rattle.std.proofs.Math.Nat.{div-add-mod, mul-le-mul_left, mod-lt, mod-le, add-mod_right, le-div_iff_mul-le, div-le_of_le-mul, mul-le-mul_right, mul_comm}
+use Rattle.std.proofs.Math.Nat.{mod-lt, mod-le, add-mod_right, le-div_iff_mul-le, div-le_of_le-mul, mul-le-mul_right, mul_comm}
 use Rattle.hl_model.specs.declared.frame.Held.{Held}
 use Rattle.std.specs.List.{range_with_len}
 use Rattle.std.proofs.lemmas.List.FromFn.{length-range_with_len, get_or-range_with_len}
 use Rattle.std.proofs.lemmas.List.Sums.{prefix_len-le-length, prefix_len_passes}
 use Rattle.std.proofs.lemmas.Bool.Decides.{eqb_tells}
+use Rattle.hl_model.proofs.Remainders.{mod-apart}
 use Rattle.hl_frames.specs.Pages.{Pages, held_for, left_or_marked, is_marked, is_flushed, is_in_flight, is_freed, is_cleaning, pages_below, is_unflushed, is_uncleaned, next_to_flush, next_to_clean, flushed_run, flushed_offset}
 use Rattle.hl_frames.specs.Answers.{unmarked, changed, entered, flush_begun, flush_ended, clean_begun, clean_ended}
 use Rattle.hl_frames.specs.IsFrames.{AreMarks, page_in, HasLeft, IsFrames}
@@ -216,21 +217,6 @@ closed-flushed T closed q is most below =
     let entered : q < T.entered = omega arith in
     (rw (get_or-range_with_len, zero-add) at (prefix_len_passes (λ q. is_flushed q T) (range_with_len 0 T.entered) q 0 (omega arith)), entered)
 
--- two numbers less than n apart have different remainders
-pub mod-apart : (n a b : ℕ) → a < b → b < a + n → a % n ≡ b % n → ⊥
-mod-apart n a b below near same =
-    let first : n * (a / n) + a % n ≡ a = div-add-mod a n in
-    let second : n * (b / n) + b % n ≡ b = div-add-mod b n in
-    elim (cases_lt (a / n) (b / n)) [
-      | inl less ↦
-          let step : a / n + 1 ≤ b / n = omega arith in
-          let more : n * (a / n + 1) ≤ n * (b / n) = mul-le-mul_left n step in
-          omega arith
-      | inr most ↦
-          let more : n * (b / n) ≤ n * (a / n) = mul-le-mul_left n most in
-          omega arith
-    ]
-
 -- where the next page is entered, all frames stay frames
 pub IsFrames-entered : (T : Pages) (q : ℕ) → IsFrames T → q ≡ T.entered → q < 2 ^ 48 / T.page → IsFrames (entered q T)
 IsFrames-entered T q is next space =
@@ -254,7 +240,7 @@ IsFrames-entered T q is next space =
           (elim (cases_eq k q) [
             | inl at ↦ rw (at, here) refl
             | inr other ↦
-                let apart : k % F ≡ place → ⊥ = λ same. mod-apart F k q (omega arith) (omega (arith, count)) same in
+                let apart : k % F ≡ place → ⊥ = λ same. omega (arith, count, mod-apart k q F same (omega arith)) in
                 rw (get_or-set_other T.frames place (k % F) (Some (unmarked q)) None apart) (is.held k (omega arith) (omega (arith, count)))
           ]);
       left = λ k before. rw count

@@ -18,11 +18,13 @@ unmarked q = record { page = q; flushed = false; in_flight = false; freed = fals
 
 -- what page q's frame holds is changed
 abbrev pub changed : ℕ → (Held → Held) → Pages → Pages
-changed q change T = record T { frames = slice_set T.frames (q % length T.frames) (option_map change (held_for q T)) }
+changed q change T =
+    record T { frames = slice_set T.frames (q % length T.frames) (option_map change (held_for q T)) }
 
 -- page q is entered
 abbrev pub entered : ℕ → Pages → Pages
-entered q T = record T { frames = slice_set T.frames (q % length T.frames) (Some (unmarked q)); entered = q + 1 }
+entered q T =
+    record T { frames = slice_set T.frames (q % length T.frames) (Some (unmarked q)); entered = q + 1 }
 
 -- page q is in flight
 abbrev pub flush_begun : ℕ → Pages → Pages
@@ -60,7 +62,8 @@ after_enter q T = if may_enter q T then entered q T else T
 
 -- what a flush done answers: the flushed offset after it, where the page is in flight
 abbrev pub flush_done_answer : ℕ → Bool → Pages → Result ℕ Fault
-flush_done_answer q ok T = if is_in_flight q T then Ok (flushed_offset (flush_ended q ok T)) else Err NotInFlight
+flush_done_answer q ok T =
+    if is_in_flight q T then Ok (flushed_offset (flush_ended q ok T)) else Err NotInFlight
 
 -- the pages after a flush done
 abbrev pub after_flush_done : ℕ → Bool → Pages → Pages

@@ -26,7 +26,7 @@ use Rattle.hl_model.proofs.TicketLaws.{of_ticket}
 use Rattle.hl_model.proofs.ViewLaws.{is_protected-push}
 
 -- what a protected slot has
-slot_of-protected : (sizes : Sizes) (t : ℕ) (A : List Step) → is_protected t A ≡ true → slot_of sizes t A ≡ Some (record { epoch = epoch_of t A; view = view_of sizes t A })
+pub slot_of-protected : (sizes : Sizes) (t : ℕ) (A : List Step) → is_protected t A ≡ true → slot_of sizes t A ≡ Some (record { epoch = epoch_of t A; view = view_of sizes t A })
 unfolding slot_of
 slot_of-protected sizes t A h = ap (λ b. cond b (Some (record { epoch = epoch_of t A; view = view_of sizes t A })) None) h
 

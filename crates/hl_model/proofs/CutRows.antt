@@ -13,7 +13,8 @@ use Rattle.hl_model.specs.Frames.{last_entered}
 use Rattle.hl_model.specs.Replies.{IsAccepted}
 use Rattle.hl_model.specs.Bases.{base_of, marked, held_of, completed_in, marked_in, held_in, flushed_in, freed_in, in_flight_in, cleaning_in}
 use Rattle.hl_model.proofs.FrameFacts.{sealed_entered, freed_flushed, flushed_entered, cleaning_flushed, in_flight_unfreed}
-use Rattle.hl_model.proofs.FrameLaws.{IsLastOf, last_entered-is, last_entered-none, last_entered-cases, entered_below, unentered_above, next_of_frame}
+use Rattle.hl_model.proofs.FrameLaws.{IsLastOf, last_entered-is, last_entered-none, last_entered-cases, entered_below, unentered_above}
+use Rattle.hl_model.proofs.Remainders.{mod-apart}
 use Rattle.hl_model.proofs.PageFacts.{round_freed, in_flight_sealed, cleaning_unfreed}
 use Rattle.hl_model.proofs.RowLaws.{row_at}
 use Rattle.hl_model.proofs.UnpagedLaws.{IsUnpaged, paged-cases, NoPages, no_pages, last_entered-unpaged}
@@ -41,8 +42,8 @@ by_place sizes A p P page frames lies left empty ahead = subst P (sym (held_in-i
   where
     by_order : (q : ℕ) → IsLastOf sizes (p % sizes.frames) q A → ((p ≡ q) ⊎ ((p < q) ⊎ (q < p))) → P (Some (marked sizes A q))
     by_order q last (inl same) = subst (λ (r : ℕ). P (Some (marked sizes A r))) same lies
-    by_order q last (inr (inl lt)) = left q (entered_below sizes q (p + sizes.frames) A last.entered (next_of_frame p q sizes.frames (sym last.of_frame) lt)) lt
-    by_order q last (inr (inr gt)) = ahead q (unentered_above sizes (q + sizes.frames) p A last.next_not (next_of_frame q p sizes.frames last.of_frame gt)) gt
+    by_order q last (inr (inl lt)) = left q (entered_below sizes q (p + sizes.frames) A last.entered (mod-apart p q sizes.frames (sym last.of_frame) lt)) lt
+    by_order q last (inr (inr gt)) = ahead q (unentered_above sizes (q + sizes.frames) p A last.next_not (mod-apart q p sizes.frames last.of_frame gt)) gt
 
     by_case : ((is_entered sizes (p % sizes.frames) A ≡ false) ⊎ ((q : ℕ) × IsLastOf sizes (p % sizes.frames) q A)) → P (held_of sizes A (p % sizes.frames))
     by_case (inl e) =

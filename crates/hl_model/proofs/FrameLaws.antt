@@ -15,25 +15,12 @@ use Rattle.hl_model.specs.Frames.{last_entered, may_enter}
 use Rattle.hl_model.specs.Replies.{fault_of, protected_fault, size_fault, page_fault}
 use Rattle.hl_model.proofs.ListLaws.{greatest_below-passes, greatest_below-most, greatest_below-none, greatest_below-is, greatest_below-nothing}
 use Rattle.hl_model.proofs.NoFaultLaws.{met_fault, size-none, allocate-none}
+use Rattle.hl_model.proofs.Remainders.{mod-apart}
 use Rattle.hl_model.proofs.OffsetLaws.{tail-push, place_of-le, place_of-fits}
 
 -- page p was entered, in frame f
 abbrev pub is_entered_in : Sizes → ℕ → List Step → ℕ → Bool
 is_entered_in sizes f A p = is_entered sizes p A && p % sizes.frames == f
-
--- the pages of a frame are F apart
-pub next_of_frame : (p q frames : ℕ) → p % frames ≡ q % frames → p < q → p + frames ≤ q
-next_of_frame p q frames same lt = by_order (cases_lt (p / frames) (q / frames))
-  where
-    by_order : ((p / frames < q / frames) ⊎ (q / frames ≤ p / frames)) → p + frames ≤ q
-    by_order (inl less) =
-        let upper : p / frames + 1 ≤ q / frames = omega arith in
-        let step : frames * (p / frames + 1) ≤ frames * (q / frames) = mul-le-mul_left frames upper in
-        let more : frames * (p / frames + 1) ≡ frames * (p / frames) + frames = omega arith in
-        omega (arith, div-add-mod p frames, div-add-mod q frames)
-    by_order (inr le) =
-        let step : frames * (q / frames) ≤ frames * (p / frames) = mul-le-mul_left frames le in
-        absurd (omega (arith, div-add-mod p frames, div-add-mod q frames))
 
 -- the first page of frame f is page f
 first_of_frame : (p f frames : ℕ) → p % frames ≡ f → f ≤ p
@@ -74,7 +61,7 @@ last_entered-is sizes f p A page frames e same next =
     later : (m : ℕ) → p < m → ((m % sizes.frames ≡ f) ⊎ (m % sizes.frames ≡ f → ⊥)) → (is_entered sizes m A && m % sizes.frames == f) ≡ false
     later m lt (inl there) =
         and_left (is_entered sizes m A) (m % sizes.frames == f)
-        (unentered_above sizes (p + sizes.frames) m A next (next_of_frame p m sizes.frames (same ∙ sym there) lt))
+        (unentered_above sizes (p + sizes.frames) m A next (mod-apart p m sizes.frames (same ∙ sym there) lt))
     later m lt (inr ne) = and_right (is_entered sizes m A) (m % sizes.frames == f) (ne_eqb (m % sizes.frames) f ne)
 
 -- a frame whose first page isn't entered has none

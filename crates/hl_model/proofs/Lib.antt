@@ -29,11 +29,13 @@ pub mod OnLiterals
 pub mod OrderLaws
 pub mod OutLaws
 pub mod PageFacts
+pub mod Remainders
 pub mod ReuseLaws
 pub mod RowLaws
 pub mod RunLaws
 pub mod SearchLaws
 pub mod SettledLaws
+pub mod StateCounts
 pub mod TicketLaws
 pub mod UnpagedLaws
 pub mod ViewLaws

@@ -41,8 +41,8 @@ takes A = count_by is_take A
 unfoldable pub dones : List Step → ℕ
 dones A = count_by is_done A
 
--- the action that a step stores, under the number of its bump, which is the current epoch before it: the ticket; a
--- settle stores the read-only offset before it, a close the head
+-- the action that a step stores, under the number of its bump, which is the current epoch before it: the
+-- ticket; a settle stores the read-only offset before it, a close the head
 abbrev pub action_of : List Step → Step → List Waiting
 action_of before (Bump tag) = record { ticket = current_epoch before; kind = User tag } ∷ []
 action_of before Settle = record { ticket = current_epoch before; kind = Settling (read_only before) } ∷ []
@@ -66,7 +66,8 @@ abbrev pub first_ticket : List Waiting → ℕ
 first_ticket [] = 0
 first_ticket (w ∷ ws) = w.ticket
 
--- the ticket of the oldest pending action: the next take names it; 0 where none is pending, and no take is accepted
+-- the ticket of the oldest pending action: the next take names it; 0 where none is pending, and no take is
+-- accepted
 abbrev pub front : List Step → ℕ
 front A = first_ticket (pending A)
 

@@ -12,8 +12,8 @@ use Rattle.hl_model.specs.Bases.{Base}
 use Rattle.hl_model.specs.AfterEpochs.{epoch_after}
 use Rattle.hl_model.specs.AfterOffsets.{read_only_after, head_after}
 
--- the action that a step stores: the ticket is the current epoch before it, a settle stores the read-only offset before
--- it, a close the head
+-- the action that a step stores: the ticket is the current epoch before it, a settle stores the read-only
+-- offset before it, a close the head
 abbrev pub stored_by : Base → List Step → Step → List Waiting
 stored_by b before (Bump tag) = record { ticket = epoch_after b before; kind = User tag } ∷ []
 stored_by b before Settle =

@@ -9,6 +9,7 @@ use Rattle.hl_model.specs.Bases.{Base}
 unfoldable pub epoch_after : Base → List Step → ℕ
 epoch_after b L = b.epoch + count_by is_bump L
 
--- slot t was acquired, refreshed or released in the steps: the last such step is among them, and not before the base
+-- slot t was acquired, refreshed or released in the steps: the last such step is among them, and not before
+-- the base
 unfoldable pub has_moved : ℕ → List Step → Bool
 has_moved t L = list_any (λ s. enters t s || leaves t s) L

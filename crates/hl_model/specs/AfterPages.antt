@@ -29,12 +29,14 @@ is_out_after begun p marks =
 -- the least page that is due and neither complete nor out
 unfoldable pub next_page_after : Begun → List Step → List Mark → Option ℕ
 next_page_after begun L marks =
-    find (λ p. not (is_complete_after begun p L || is_out_after begun p marks)) (range_with_len 0 (begun.work.due L))
+    find (λ p. not (is_complete_after begun p L || is_out_after begun p marks))
+    (range_with_len 0 (begun.work.due L))
 
 -- the mark that a step makes, told the steps before it since the base and their marks
 abbrev pub marks_after_step : Begun → List Step → List Mark → Step → List Mark
 marks_after_step begun L marks s =
-    if begun.work.takes s then mark_if Out (next_page_after begun L marks) else mark_if Back (begun.work.ends s)
+    if begun.work.takes s then mark_if Out (next_page_after begun L marks)
+    else mark_if Back (begun.work.ends s)
 
 -- all marks of some work since the base
 unfoldable pub marks_after : Begun → List Step → List Mark
@@ -56,8 +58,8 @@ cleaning_after b = record {
   out = cleaning_in b;
 }
 
--- how many pages 0, 1, 2 and so on are flushed, none left out; none is beyond the base's tail and the greatest page
--- flushed since
+-- how many pages 0, 1, 2 and so on are flushed, none left out; none is beyond the base's tail and the
+-- greatest page flushed since
 unfoldable pub flushed_run_after : Base → List Step → ℕ
 flushed_run_after b L =
     prefix_len (λ p. is_complete_after (flushing_after b) p L)

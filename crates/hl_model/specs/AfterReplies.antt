@@ -1,4 +1,5 @@
--- What each step is answered after a base and the steps since, by the quantities alone, and which steps are accepted.
+-- What each step is answered after a base and the steps since, by the quantities alone, and which steps are
+-- accepted.
 use Rattle.std.specs.Prelude.{ℕ, ◌≡◌, ◌+◌, ◌-◌, ◌*◌, ◌/◌, ◌==◌, nat_le, nat_lt, ◌||◌, if◌then◌else◌, Option, Some, None, is_none, is_some, unwrap_or, Result, List, [], ◌∷◌, ◌++◌, length, map, find}
 use Rattle.std.specs.List.{list_any, range_with_len}
 use Rattle.hl_model.specs.declared.action.Kind.{Kind}
@@ -72,7 +73,8 @@ bump_fault_at b =
 abbrev pub take_fault_at : Base → Option Fault
 take_fault_at b =
     if length b.waiting == 0 then Some Empty
-    else if nat_lt (safe_in b) (first_ticket b.waiting) then Some (NotReady (first_ticket b.waiting) (safe_in b))
+    else if nat_lt (safe_in b) (first_ticket b.waiting)
+    then Some (NotReady (first_ticket b.waiting) (safe_in b))
     else None
 
 -- the fault of a record's page: it isn't entered and may not be
@@ -145,8 +147,8 @@ done_answer_at b (User tag) = Ran tag
 done_answer_at b (Settling x) = Settled b.six.safe_read_only
 done_answer_at b (Closing x) = Closed b.six.closed
 
--- the answer to an accepted step, where b is the base before it and c the base with it; what would be said of a slot
--- that isn't protected, of a ticket that isn't taken or of no page, no accepted step meets
+-- the answer to an accepted step, where b is the base before it and c the base with it; what would be said of
+-- a slot that isn't protected, of a ticket that isn't taken or of no page, no accepted step meets
 abbrev pub answer_at : Base → Base → Step → Reply
 answer_at b c (Acquire t) = entered_at (slot_in c t)
 answer_at b c (Refresh t) = entered_at (slot_in c t)

@@ -19,7 +19,8 @@ present_after b L =
 -- the tail up to slot t's own last allocation after its mark, or that of a view where there is none
 abbrev pub own_tail : Base → ℕ → ℕ → List Step → ℕ
 own_tail b t tail L =
-    if list_any (allocates t) (since_mark t L) then tail_after b (take (until_last (allocates t) L) L) else tail
+    if list_any (allocates t) (since_mark t L) then tail_after b (take (until_last (allocates t) L) L)
+    else tail
 
 -- the view of slot t, told the view that it had at its mark: then its own looks and allocations
 abbrev pub seen_since : Base → ℕ → View → List Step → View
@@ -29,8 +30,8 @@ seen_since b t view L = record {
   tail = own_tail b t view.tail L;
 }
 
--- slot t's epoch and view, if it is protected: by its mark where it moved since the base, else as in the base, but for
--- its own looks and allocations
+-- slot t's epoch and view, if it is protected: by its mark where it moved since the base, else as in the
+-- base, but for its own looks and allocations
 unfoldable pub slot_after : Base → ℕ → List Step → Option Slot
 slot_after b t L =
     if has_moved t L

@@ -19,7 +19,8 @@ pub record IsCut (sizes : Sizes) (A L : List Step) : Type 0 where
   -- what is accepted from the base is what is accepted behind the list
   pub accepted : good sizes (A ++ L) ≡ A ++ good_from (base_of sizes A) L
   -- the base of both together is that of the whole list
-  pub together : base_after (base_of sizes A) (good_from (base_of sizes A) L) ≡ base_of sizes (good sizes (A ++ L))
+  pub together : base_after (base_of sizes A) (good_from (base_of sizes A) L)
+      ≡ base_of sizes (good sizes (A ++ L))
 
 -- so may each accepted list, whatever steps follow
 abbrev pub ListsMayBeCut : Type 0
@@ -35,8 +36,8 @@ pub record IsCutHere (sizes : Sizes) (A L : List Step) : Type 0 where
 abbrev pub CutsAnywhere : Type 0
 CutsAnywhere = (sizes : Sizes) (A L : List Step) → IsAccepted sizes (A ++ L) → IsCutHere sizes A L
 
--- an action is taken after every slot that was protected in a base, at its ticket or before, has refreshed or left
--- since
+-- an action is taken after every slot that was protected in a base, at its ticket or before, has refreshed or
+-- left since
 abbrev pub TakenAfterAllMovedSince : Type 0
 TakenAfterAllMovedSince =
     (sizes : Sizes) (A X : List Step) (t : ℕ) (slot : Slot) → IsAccepted sizes ((A ++ X) ++ Take ∷ [])

@@ -16,8 +16,8 @@ use Rattle.hl_model.specs.Frames.{last_entered}
 use Rattle.hl_model.specs.Snapshots.{six}
 use Rattle.hl_model.specs.Replies.{IsAccepted}
 
--- a base: the sizes, the current epoch, what each slot has if it is protected, the pending actions and those taken and
--- not done, the six offsets, and what each frame holds
+-- a base: the sizes, the current epoch, what each slot has if it is protected, the pending actions and those
+-- taken and not done, the six offsets, and what each frame holds
 pub record Base : Type 0 where
   pub sizes : Sizes
   pub epoch : ℕ
@@ -72,8 +72,8 @@ slot_in b t = slice_index_or b.slots t None
 abbrev pub safe_in : Base → ℕ
 safe_in b = safe_among b.epoch (map (option_map (λ slot. slot.epoch)) b.slots)
 
--- page p was completed, told what its frame holds: where that is a later page, p had to be, and p itself is where its
--- mark says so
+-- page p was completed, told what its frame holds: where that is a later page, p had to be, and p itself is
+-- where its mark says so
 abbrev pub completed_in : (Held → Bool) → ℕ → Option Held → Bool
 completed_in mark p None = false
 completed_in mark p (Some held) = nat_lt p held.page || (p == held.page && mark held)
@@ -106,7 +106,8 @@ cleaning_in b p = marked_in (λ held. held.cleaning) p (held_in b p)
 -- the page that a flush take names at a base
 abbrev pub to_flush_in : Base → Option ℕ
 to_flush_in b =
-    find (λ p. not (flushed_in b p || in_flight_in b p)) (range_with_len 0 (pages_below b.sizes b.six.safe_read_only))
+    find (λ p. not (flushed_in b p || in_flight_in b p))
+    (range_with_len 0 (pages_below b.sizes b.six.safe_read_only))
 
 -- the page that a clean take names at a base
 abbrev pub to_clean_in : Base → Option ℕ

@@ -73,4 +73,8 @@ pub record Table : Type 0 where
 
 -- the table of a list
 abbrev pub table_of : Sizes → List Step → Table
-table_of sizes A = record { current = current_epoch A; epochs = slot_epochs sizes.slots A; window = epoch_window }
+table_of sizes A = record {
+  current = current_epoch A;
+  epochs = slot_epochs sizes.slots A;
+  window = epoch_window;
+}

@@ -1,4 +1,5 @@
--- The headline, of one list of steps; but for its replies and quantities, which a core's `run` tells. That it holds of every accepted list is the law `headline`.
+-- The headline, of one list of steps; but for its replies and quantities, which a core's `run` tells. That it
+-- holds of every accepted list is the law `headline`.
 use Rattle.std.specs.Prelude.{ℕ, ◌≡◌, ◌+◌, ◌-◌, ◌/◌, ◌<◌, ◌≤◌, ◌⊎◌, ◌==◌, Bool, true, false, Result, Ok, List, [], ◌∷◌, ◌++◌, map}
 use Rattle.std.specs.List.{list_any, AllPairs}
 use Rattle.hl_model.specs.declared.fault.Fault.{Fault}
@@ -43,18 +44,30 @@ pub record Headline (sizes : Sizes) (A : List Step) : Type 0 where
   pub taken_in_order : tickets_told sizes A ≡ map (λ w. w.ticket) (ever_taken A)
   -- an action is taken at most once: the tickets named rise
   pub taken_once : AllPairs (λ earlier later. earlier < later) (tickets_told sizes A)
-  -- where the ticket of the bump s, its number, is taken, each slot that was protected before the bump has refreshed or left
-  -- between the two
-  pub taken_after_all_moved_on : (X : List Step) (s : Step) (Y Z : List Step) (t : ℕ) → A ≡ (X ++ s ∷ Y) ++ Take ∷ Z → is_bump s ≡ true → front (X ++ s ∷ Y) ≡ bumps X + 1 → is_protected t X ≡ true → list_any (moves_on t) Y ≡ true
+  -- where the ticket of the bump s, its number, is taken, each slot that was protected before the bump has
+  -- refreshed or left between the two
+  pub taken_after_all_moved_on : (X : List Step) (s : Step) (Y Z : List Step) (t : ℕ)
+      → A ≡ (X ++ s ∷ Y) ++ Take ∷ Z → is_bump s ≡ true → front (X ++ s ∷ Y) ≡ bumps X + 1
+      → is_protected t X ≡ true → list_any (moves_on t) Y ≡ true
   -- no accepted write lies below the safe read-only offset
-  pub written_above_safe_read_only : (X : List Step) (t a v : ℕ) (Y : List Step) → A ≡ X ++ Write t a v ∷ Y → safe_read_only X ≤ a
+  pub written_above_safe_read_only : (X : List Step) (t a v : ℕ) (Y : List Step) → A ≡ X ++ Write t a v ∷ Y
+      → safe_read_only X ≤ a
   -- where an allocation enters a page in a used frame, no protected slot reaches the page that was there
-  pub none_reaches_reused : (X : List Step) (t n : ℕ) (Y : List Step) (u : ℕ) → A ≡ X ++ Allocate t n ∷ Y → is_entered sizes (placed sizes X n / sizes.page) X ≡ false → sizes.frames ≤ placed sizes X n / sizes.page → Reaches sizes u (placed sizes X n / sizes.page - sizes.frames) X → ⊥
+  pub none_reaches_reused : (X : List Step) (t n : ℕ) (Y : List Step) (u : ℕ) → A ≡ X ++ Allocate t n ∷ Y
+      → is_entered sizes (placed sizes X n / sizes.page) X ≡ false
+      → sizes.frames ≤ placed sizes X n / sizes.page
+      → Reaches sizes u (placed sizes X n / sizes.page - sizes.frames) X → ⊥
   -- what a protected slot saw isn't below what is settled
-  pub views_bounded : (X Y : List Step) (t : ℕ) → A ≡ X ++ Y → is_protected t X ≡ true → (safe_read_only X ≤ seen_read_only t X) × (closed X ≤ seen_head t X)
+  pub views_bounded : (X Y : List Step) (t : ℕ) → A ≡ X ++ Y → is_protected t X ≡ true
+      → (safe_read_only X ≤ seen_read_only t X) × (closed X ≤ seen_head t X)
   -- each record is placed on one page
-  pub placed_on_one_page : (X : List Step) (t n : ℕ) (Y : List Step) → A ≡ X ++ Allocate t n ∷ Y → placed sizes X n / sizes.page ≡ (placed sizes X n + n - 1) / sizes.page
+  pub placed_on_one_page : (X : List Step) (t n : ℕ) (Y : List Step) → A ≡ X ++ Allocate t n ∷ Y
+      → placed sizes X n / sizes.page ≡ (placed sizes X n + n - 1) / sizes.page
   -- of two records the later one is placed behind the earlier one's last word
-  pub placed_apart : (X : List Step) (t n : ℕ) (Y : List Step) (u m : ℕ) (Z : List Step) → A ≡ (X ++ Allocate t n ∷ Y) ++ Allocate u m ∷ Z → placed sizes X n + n ≤ placed sizes (X ++ Allocate t n ∷ Y) m
+  pub placed_apart : (X : List Step) (t n : ℕ) (Y : List Step) (u m : ℕ) (Z : List Step)
+      → A ≡ (X ++ Allocate t n ∷ Y) ++ Allocate u m ∷ Z
+      → placed sizes X n + n ≤ placed sizes (X ++ Allocate t n ∷ Y) m
   -- from a page's flush take on its words stay
-  pub taken_words_stay : (X Y : List Step) (a : ℕ) → A ≡ X ++ Y → (is_in_flight sizes (a / sizes.page) X ≡ true) ⊎ (is_flushed sizes (a / sizes.page) X ≡ true) → word a A ≡ word a X
+  pub taken_words_stay : (X Y : List Step) (a : ℕ) → A ≡ X ++ Y
+      → (is_in_flight sizes (a / sizes.page) X ≡ true) ⊎ (is_flushed sizes (a / sizes.page) X ≡ true)
+      → word a A ≡ word a X

@@ -1,4 +1,5 @@
--- What holds of every accepted list of steps, and where no acceptance is asked for of every list, in the subject's own words. Each statement is the contract of a function of the module laws.
+-- What holds of every accepted list of steps, and where no acceptance is asked for of every list, in the
+-- subject's own words. Each statement is the contract of a function of the module laws.
 use Rattle.std.specs.Prelude.{map, All, None, ℕ, ◌≡◌, ◌↔◌, ◌+◌, ◌-◌, ◌<◌, ◌≤◌, ◌==◌, true, if◌then◌else◌, List, [], ◌∷◌, ◌++◌, length}
 use Rattle.std.specs.List.{list_any, AllPairs}
 use Rattle.hl_model.specs.declared.step.Step.{Step}
@@ -23,11 +24,13 @@ BeginningsAreAccepted = (sizes : Sizes) (A B : List Step) → IsAccepted sizes (
 
 -- a list's last step is accepted after the accepted steps before it, or not at all
 abbrev pub GoodByItsLastStep : Type 0
-GoodByItsLastStep = (sizes : Sizes) (L : List Step) (s : Step) → good sizes (L ++ s ∷ []) ≡ extended sizes (good sizes L) s
+GoodByItsLastStep = (sizes : Sizes) (L : List Step) (s : Step)
+    → good sizes (L ++ s ∷ []) ≡ extended sizes (good sizes L) s
 
 -- a step of an accepted list meets no fault after those before it
 abbrev pub AcceptedMeetsNoFault : Type 0
-AcceptedMeetsNoFault = (sizes : Sizes) (A : List Step) (s : Step) (B : List Step) → IsAccepted sizes (A ++ s ∷ B) → fault_of sizes A s ≡ None
+AcceptedMeetsNoFault = (sizes : Sizes) (A : List Step) (s : Step) (B : List Step)
+    → IsAccepted sizes (A ++ s ∷ B) → fault_of sizes A s ≡ None
 
 -- the current epoch is at most the last
 abbrev pub CurrentIsAtMostLast : Type 0
@@ -35,7 +38,8 @@ CurrentIsAtMostLast = (sizes : Sizes) (A : List Step) → IsAccepted sizes A →
 
 -- safe < E_t ≤ E for each protected slot t of an accepted list
 abbrev pub EpochsAreInOrder : Type 0
-EpochsAreInOrder = (sizes : Sizes) (A : List Step) (t : ℕ) → IsAccepted sizes A → is_protected t A ≡ true → (safe_epoch sizes.slots A < epoch_of t A) × (epoch_of t A ≤ current_epoch A)
+EpochsAreInOrder = (sizes : Sizes) (A : List Step) (t : ℕ) → IsAccepted sizes A → is_protected t A ≡ true
+    → (safe_epoch sizes.slots A < epoch_of t A) × (epoch_of t A ≤ current_epoch A)
 
 -- the safe epoch never falls
 abbrev pub SafeNeverFalls : Type 0
@@ -43,11 +47,14 @@ SafeNeverFalls = (slots : ℕ) (A B : List Step) → safe_epoch slots A ≤ safe
 
 -- the safe epoch is the greatest number below the current epoch and below the epoch of each protected slot
 abbrev pub SafeIsGreatest : Type 0
-SafeIsGreatest = (slots : ℕ) (A : List Step) (c : ℕ) → (c ≤ safe_epoch slots A) ↔ ((c < current_epoch A) × ((t : ℕ) → t < slots → is_protected t A ≡ true → c < epoch_of t A))
+SafeIsGreatest = (slots : ℕ) (A : List Step) (c : ℕ) → (c ≤ safe_epoch slots A)
+    ↔ ((c < current_epoch A) × ((t : ℕ) → t < slots → is_protected t A ≡ true → c < epoch_of t A))
 
 -- the epoch of a protected slot exceeds the ticket of a bump exactly where its mark lies after the bump
 abbrev pub MarkAfterBump : Type 0
-MarkAfterBump = (X : List Step) (s : Step) (Y : List Step) (t : ℕ) → is_bump s ≡ true → is_protected t (X ++ s ∷ Y) ≡ true → (bumps X + 1 < epoch_of t (X ++ s ∷ Y)) ↔ (length X + 1 < mark t (X ++ s ∷ Y))
+MarkAfterBump = (X : List Step) (s : Step) (Y : List Step) (t : ℕ) → is_bump s ≡ true
+    → is_protected t (X ++ s ∷ Y) ≡ true
+    → (bumps X + 1 < epoch_of t (X ++ s ∷ Y)) ↔ (length X + 1 < mark t (X ++ s ∷ Y))
 
 -- the epochs that ended above the safe one are at most those of the window
 abbrev pub EpochsFitTheWindow : Type 0
@@ -75,7 +82,8 @@ TicketsRise = (A : List Step) → AllPairs (λ earlier later. earlier < later) (
 
 -- a ticket is taken and not done exactly where a taken action has it
 abbrev pub TakenAreThoseListed : Type 0
-TakenAreThoseListed = (sizes : Sizes) (A : List Step) (c : ℕ) → IsAccepted sizes A → is_taken c A ≡ list_any (λ w. w.ticket == c) (taken A)
+TakenAreThoseListed = (sizes : Sizes) (A : List Step) (c : ℕ) → IsAccepted sizes A
+    → is_taken c A ≡ list_any (λ w. w.ticket == c) (taken A)
 
 -- each ticket taken is safe, whether it is done or not
 abbrev pub TakenAreSafe : Type 0
@@ -84,7 +92,8 @@ TakenAreSafe = (sizes : Sizes) (A : List Step) → IsAccepted sizes A
 
 -- the offsets of each accepted list are in order
 abbrev pub OffsetsAreInOrder : Type 0
-OffsetsAreInOrder = (sizes : Sizes) (A : List Step) → 0 < sizes.page → IsAccepted sizes A → AreInOrder sizes.page (six sizes A)
+OffsetsAreInOrder = (sizes : Sizes) (A : List Step) → 0 < sizes.page → IsAccepted sizes A
+    → AreInOrder sizes.page (six sizes A)
 
 -- no offset is lower than it was
 pub record NoneFell (sizes : Sizes) (A B : List Step) : Type 0 where
@@ -97,7 +106,8 @@ pub record NoneFell (sizes : Sizes) (A B : List Step) : Type 0 where
 
 -- the offsets never fall
 abbrev pub OffsetsNeverFall : Type 0
-OffsetsNeverFall = (sizes : Sizes) (A B : List Step) → 0 < sizes.page → IsAccepted sizes (A ++ B) → NoneFell sizes A (A ++ B)
+OffsetsNeverFall = (sizes : Sizes) (A B : List Step) → 0 < sizes.page → IsAccepted sizes (A ++ B)
+    → NoneFell sizes A (A ++ B)
 
 -- the headline holds of each accepted list
 abbrev pub HeadlineHolds : Type 0

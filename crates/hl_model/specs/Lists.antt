@@ -17,9 +17,11 @@ unfoldable pub gather : {X Y : Type 0} → (List X → X → List Y) → List X 
 gather f xs = gather_after f [] xs
 
 -- what each element gives, told those before it and what they gave, and all of before and given
-unfoldable pub unroll_after : {X Y : Type 0} → (List X → List Y → X → List Y) → List X → List Y → List X → List Y
+unfoldable pub unroll_after : {X Y : Type 0} → (List X → List Y → X → List Y) → List X → List Y → List X
+    → List Y
 unroll_after f before given [] = []
-unroll_after f before given (x ∷ xs) = f before given x ++ unroll_after f (before ++ x ∷ []) (given ++ f before given x) xs
+unroll_after f before given (x ∷ xs) =
+    f before given x ++ unroll_after f (before ++ x ∷ []) (given ++ f before given x) xs
 
 -- what each element gives, told those before it and what they gave, one after another
 unfoldable pub unroll : {X Y : Type 0} → (List X → List Y → X → List Y) → List X → List Y

@@ -1,4 +1,5 @@
--- The offsets that steps move, looked up in one flat list of steps (FASTER, section on the HybridLog). All are addresses.
+-- The offsets that steps move, looked up in one flat list of steps (FASTER, section on the HybridLog). All
+-- are addresses.
 use Rattle.std.specs.Prelude.{ℕ, ◌+◌, ◌*◌, ◌/◌, ◌%◌, nat_le, nat_lt, Bool, if◌then◌else◌, List, fold}
 use Rattle.hl_model.specs.declared.step.Step.{Step}
 use Rattle.hl_model.specs.declared.step.Step.TheVariants.{Raise, Shift, Allocate}

@@ -1,4 +1,5 @@
--- Which pages are flushed, in flight, freed and being cleaned. Flushing sealed pages and cleaning closed ones are the same kind of work.
+-- Which pages are flushed, in flight, freed and being cleaned. Flushing sealed pages and cleaning closed ones
+-- are the same kind of work.
 use Rattle.std.specs.Prelude.{ℕ, ◌+◌, ◌*◌, ◌==◌, nat_lt, Bool, true, false, ◌&&◌, ◌||◌, not, if◌then◌else◌, Option, Some, None, List, [], ◌∷◌, find}
 use Rattle.std.specs.List.{list_any, range_with_len, prefix_len}
 use Rattle.hl_model.specs.declared.step.Step.{Step}
@@ -7,14 +8,16 @@ use Rattle.hl_model.specs.Lists.{until_last, unroll, greatest}
 use Rattle.hl_model.specs.Sizes.{Sizes}
 use Rattle.hl_model.specs.Settled.{safe_read_only, closed, pages_below}
 
--- work on pages: which steps take a page, the page whose work a step ends, which steps complete a page, and the pages that are due in a list: those below a number
+-- work on pages: which steps take a page, the page whose work a step ends, which steps complete a page, and
+-- the pages that are due in a list: those below a number
 pub record Work : Type 0 where
   pub takes : Step → Bool
   pub ends : Step → Option ℕ
   pub completes : ℕ → Step → Bool
   pub due : List Step → ℕ
 
--- what a step does to a page: a take names the page that goes out to be worked on, a done the page that comes back
+-- what a step does to a page: a take names the page that goes out to be worked on, a done the page that comes
+-- back
 pub data Mark : Type 0 where
   Out : ℕ → Mark
   Back : ℕ → Mark
@@ -39,7 +42,8 @@ is_complete work p A = list_any (work.completes p) A
 
 -- the least page that is due and neither complete nor out
 unfoldable pub next_page : Work → List Step → List Mark → Option ℕ
-next_page work A marks = find (λ p. not (is_complete work p A || is_out p marks)) (range_with_len 0 (work.due A))
+next_page work A marks =
+    find (λ p. not (is_complete work p A || is_out p marks)) (range_with_len 0 (work.due A))
 
 -- a page's mark, if there is a page
 abbrev pub mark_if : (ℕ → Mark) → Option ℕ → List Mark
@@ -48,7 +52,8 @@ mark_if mark (Some p) = mark p ∷ []
 
 -- the mark that a step makes, told the steps before it and their marks
 abbrev pub marks_of : Work → List Step → List Mark → Step → List Mark
-marks_of work A marks s = if work.takes s then mark_if Out (next_page work A marks) else mark_if Back (work.ends s)
+marks_of work A marks s =
+    if work.takes s then mark_if Out (next_page work A marks) else mark_if Back (work.ends s)
 
 -- all marks of some work
 unfoldable pub marks : Work → List Step → List Mark
@@ -71,7 +76,12 @@ flushes p _ = false
 
 -- flushing: sealed pages are due, which are those below a number of pages
 abbrev pub flushing : Sizes → Work
-flushing sizes = record { takes = takes_to_flush; ends = flush_of; completes = flushes; due = λ A. pages_below sizes (safe_read_only A) }
+flushing sizes = record {
+  takes = takes_to_flush;
+  ends = flush_of;
+  completes = flushes;
+  due = λ A. pages_below sizes (safe_read_only A);
+}
 
 -- a step that takes a page to clean
 abbrev pub takes_to_clean : Step → Bool
@@ -90,7 +100,12 @@ frees p _ = false
 
 -- cleaning: closed pages are due
 abbrev pub cleaning : Sizes → Work
-cleaning sizes = record { takes = takes_to_clean; ends = clean_of; completes = frees; due = λ A. pages_below sizes (closed A) }
+cleaning sizes = record {
+  takes = takes_to_clean;
+  ends = clean_of;
+  completes = frees;
+  due = λ A. pages_below sizes (closed A);
+}
 
 -- page p is flushed
 abbrev pub is_flushed : Sizes → ℕ → List Step → Bool

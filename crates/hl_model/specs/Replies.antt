@@ -26,14 +26,16 @@ epoch_last = 2 ^ 62
 
 -- the fault of a step that wants slot t unprotected: there is no such slot, or it is protected
 abbrev pub acquire_fault : Sizes → List Step → ℕ → Option Fault
-acquire_fault sizes A t = if nat_le sizes.slots t then Some NoSlot else if is_protected t A then Some Occupied else None
+acquire_fault sizes A t =
+    if nat_le sizes.slots t then Some NoSlot else if is_protected t A then Some Occupied else None
 
 -- the fault of a step that wants slot t protected
 abbrev pub protected_fault : Sizes → List Step → ℕ → Option Fault
-protected_fault sizes A t = if nat_le sizes.slots t then Some NoSlot else if is_protected t A then None else Some NotProtected
+protected_fault sizes A t =
+    if nat_le sizes.slots t then Some NoSlot else if is_protected t A then None else Some NotProtected
 
--- the fault of a bare bump: the current epoch is the last, or as many epochs have ended and are not safe as the window
--- allows
+-- the fault of a bare bump: the current epoch is the last, or as many epochs have ended and are not safe as
+-- the window allows
 abbrev pub bare_fault : Sizes → List Step → Option Fault
 bare_fault sizes A =
     if current_epoch A == epoch_last then Some EpochsSpent
@@ -48,7 +50,8 @@ bump_fault sizes A = if is_full sizes.drain A then Some DrainFull else bare_faul
 abbrev pub take_fault : Sizes → List Step → Option Fault
 take_fault sizes A =
     if length (pending A) == 0 then Some Empty
-    else if nat_lt (safe_epoch sizes.slots A) (front A) then Some (NotReady (front A) (safe_epoch sizes.slots A))
+    else if nat_lt (safe_epoch sizes.slots A) (front A)
+    then Some (NotReady (front A) (safe_epoch sizes.slots A))
     else None
 
 -- the one fault, and the other where there is none
@@ -58,7 +61,8 @@ or_fault (Some fault) other = Some fault
 
 -- the fault of a raise of the read-only offset to x
 abbrev pub raise_fault : ℕ → ℕ → ℕ → Option Fault
-raise_fault read_only tail x = if nat_le x read_only then Some NotAbove else if nat_lt tail x then Some AboveTail else None
+raise_fault read_only tail x =
+    if nat_le x read_only then Some NotAbove else if nat_lt tail x then Some AboveTail else None
 
 -- the fault of a shift of the head to x
 abbrev pub shift_fault : ℕ → ℕ → ℕ → ℕ → Option Fault
@@ -79,23 +83,29 @@ page_fault sizes A q = if is_entered sizes q A || may_enter sizes q A then None 
 
 -- the fault of an allocation of n words
 abbrev pub allocate_fault : Sizes → List Step → ℕ → Option Fault
-allocate_fault sizes A n = or_fault (size_fault sizes.page (tail sizes A) n) (page_fault sizes A (place_of sizes.page (tail sizes A) n / sizes.page))
+allocate_fault sizes A n =
+    or_fault (size_fault sizes.page (tail sizes A) n)
+    (page_fault sizes A (place_of sizes.page (tail sizes A) n / sizes.page))
 
 -- the fault of a look that slot t takes at these offsets
 abbrev pub look_fault : List Step → ℕ → ℕ → ℕ → Option Fault
-look_fault A t read_only head = if nat_lt read_only (seen_read_only t A) || nat_lt head (seen_head t A) then Some Stale else None
+look_fault A t read_only head =
+    if nat_lt read_only (seen_read_only t A) || nat_lt head (seen_head t A) then Some Stale else None
 
 -- the fault of an address at or above the tail that slot t saw
 abbrev pub beyond_fault : Sizes → List Step → ℕ → ℕ → Option Fault
-beyond_fault sizes A t a = if nat_le (seen_tail sizes t A) a then Some (Beyond (seen_tail sizes t A)) else None
+beyond_fault sizes A t a =
+    if nat_le (seen_tail sizes t A) a then Some (Beyond (seen_tail sizes t A)) else None
 
 -- the fault of a write by slot t at address a
 abbrev pub write_fault : Sizes → List Step → ℕ → ℕ → Option Fault
-write_fault sizes A t a = if nat_lt a (seen_read_only t A) then Some (Below (seen_read_only t A)) else beyond_fault sizes A t a
+write_fault sizes A t a =
+    if nat_lt a (seen_read_only t A) then Some (Below (seen_read_only t A)) else beyond_fault sizes A t a
 
 -- the fault of a read by slot t at address a
 abbrev pub read_fault : Sizes → List Step → ℕ → ℕ → Option Fault
-read_fault sizes A t a = if nat_lt a (seen_head t A) then Some (Evicted (seen_head t A)) else beyond_fault sizes A t a
+read_fault sizes A t a =
+    if nat_lt a (seen_head t A) then Some (Evicted (seen_head t A)) else beyond_fault sizes A t a
 
 -- the fault where there is no page
 abbrev pub unless_page : Fault → Option ℕ → Option Fault
@@ -116,7 +126,8 @@ fault_of sizes A (Done ticket) = if is_taken ticket A then None else Some NotTak
 fault_of sizes A (Raise x) = raise_fault (read_only A) (tail sizes A) x
 fault_of sizes A (Shift x) = shift_fault sizes.page (head A) (flushed sizes A) x
 fault_of sizes A (Allocate t n) = or_fault (protected_fault sizes A t) (allocate_fault sizes A n)
-fault_of sizes A (Look t read_only head) = or_fault (protected_fault sizes A t) (look_fault A t read_only head)
+fault_of sizes A (Look t read_only head) =
+    or_fault (protected_fault sizes A t) (look_fault A t read_only head)
 fault_of sizes A (Write t a v) = or_fault (protected_fault sizes A t) (write_fault sizes A t a)
 fault_of sizes A (Read t a) = or_fault (protected_fault sizes A t) (read_fault sizes A t a)
 fault_of sizes A FlushTake = unless_page NoneSealed (next_to_flush sizes A)
@@ -135,7 +146,8 @@ abbrev pub kind_or_job_0 : Option Waiting → Kind
 kind_or_job_0 None = User 0
 kind_or_job_0 (Some w) = w.kind
 
--- the answer to an accepted step, where A is the list before it and B the list with it; page 0 where no page is to be taken, which no accepted take meets
+-- the answer to an accepted step, where A is the list before it and B the list with it; page 0 where no page
+-- is to be taken, which no accepted take meets
 abbrev pub answer_of : Sizes → List Step → List Step → Step → Reply
 answer_of sizes A B (Acquire t) = Entered (epoch_of t B) (view_of sizes t B)
 answer_of sizes A B (Refresh t) = Entered (epoch_of t B) (view_of sizes t B)
@@ -203,4 +215,5 @@ with_word A s reply = reply
 
 -- the reply of whatever keeps words
 abbrev pub word_reply_of : Sizes → List Step → Step → Result Reply Fault
-word_reply_of sizes A s = unless_fault (fault_of sizes A s) (with_word A s (answer_of sizes A (A ++ s ∷ []) s))
+word_reply_of sizes A s =
+    unless_fault (fault_of sizes A s) (with_word A s (answer_of sizes A (A ++ s ∷ []) s))

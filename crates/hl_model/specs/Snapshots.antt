@@ -16,9 +16,17 @@ use Rattle.hl_model.specs.Frames.{frame_of}
 
 -- the six offsets
 abbrev pub six : Sizes → List Step → Six
-six sizes A = record { closed = closed A; head = head A; flushed = flushed sizes A; safe_read_only = safe_read_only A; read_only = read_only A; tail = tail sizes A }
+six sizes A = record {
+  closed = closed A;
+  head = head A;
+  flushed = flushed sizes A;
+  safe_read_only = safe_read_only A;
+  read_only = read_only A;
+  tail = tail sizes A;
+}
 
--- six offsets are in order, where a page has this many words: closed ≤ head ≤ flushed ≤ safe read-only ≤ read-only ≤ tail ≤ 2^48, the first three being multiples of P
+-- six offsets are in order, where a page has this many words: closed ≤ head ≤ flushed ≤ safe read-only ≤
+-- read-only ≤ tail ≤ 2^48, the first three being multiples of P
 pub record AreInOrder (page : ℕ) (six : Six) : Type 0 where
   pub closed_whole : six.closed % page ≡ 0
   pub head_whole : six.head % page ≡ 0
@@ -53,7 +61,9 @@ is_free _ = false
 
 -- how many of some frames are open, sealed, flushed, closed and free
 abbrev pub state_counts : List FrameState → List ℕ
-state_counts states = count_by is_opened states ∷ count_by is_at_sealed states ∷ count_by is_at_flushed states ∷ count_by is_at_closed states ∷ count_by is_free states ∷ []
+state_counts states =
+    count_by is_opened states ∷ count_by is_at_sealed states ∷ count_by is_at_flushed states
+    ∷ count_by is_at_closed states ∷ count_by is_free states ∷ []
 
 -- what each frame is at
 unfoldable pub frame_states : Sizes → List Step → List FrameState

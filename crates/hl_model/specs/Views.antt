@@ -28,7 +28,8 @@ abbrev pub allocates : ℕ → Step → Bool
 allocates t (Allocate u n) = u == t
 allocates t _ = false
 
--- the read-only offset that slot t saw: that of its last look after its mark, or that of the list up to its mark
+-- the read-only offset that slot t saw: that of its last look after its mark, or that of the list up to its
+-- mark
 unfoldable pub seen_read_only : ℕ → List Step → ℕ
 seen_read_only t A = last_given (looked_read_only t) (read_only (up_to_mark t A)) (since_mark t A)
 
@@ -36,13 +37,18 @@ seen_read_only t A = last_given (looked_read_only t) (read_only (up_to_mark t A)
 unfoldable pub seen_head : ℕ → List Step → ℕ
 seen_head t A = last_given (looked_head t) (head (up_to_mark t A)) (since_mark t A)
 
--- the tail that slot t saw: that of the list up to its mark, or up to its own last allocation, whichever is later
+-- the tail that slot t saw: that of the list up to its mark, or up to its own last allocation, whichever is
+-- later
 unfoldable pub seen_tail : Sizes → ℕ → List Step → ℕ
 seen_tail sizes t A = tail sizes (take (max (mark t A) (until_last (allocates t) A)) A)
 
 -- the view of a protected slot
 abbrev pub view_of : Sizes → ℕ → List Step → View
-view_of sizes t A = record { read_only = seen_read_only t A; head = seen_head t A; tail = seen_tail sizes t A }
+view_of sizes t A = record {
+  read_only = seen_read_only t A;
+  head = seen_head t A;
+  tail = seen_tail sizes t A;
+}
 
 -- slot t's view, if it is protected
 unfoldable pub slot_view : Sizes → ℕ → List Step → Option View

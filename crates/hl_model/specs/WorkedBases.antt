@@ -1,4 +1,5 @@
--- Worked examples of bases: a list, its base, the steps that follow, their replies, and the base of both, by hand.
+-- Worked examples of bases: a list, its base, the steps that follow, their replies, and the base of both, by
+-- hand.
 use Rattle.std.specs.Prelude.{ℕ, ◌≡◌, true, false, Some, None, Result, Ok, Err, List, [], ◌∷◌}
 use Rattle.hl_model.specs.declared.action.Kind.TheVariants.{Settle as Settling}
 use Rattle.hl_model.specs.declared.fault.Fault.{Fault}
@@ -23,7 +24,8 @@ slot_at epoch read_only head tail =
     record { epoch = epoch; view = record { read_only = read_only; head = head; tail = tail } }
 
 -- a list has this base; from it the steps of another are answered so, and both together have that base
-pub record Cuts (A : List Step) (b : Base) (L : List Step) (told : List (Result Reply Fault)) (c : Base) : Type 0 where
+pub record Cuts (A : List Step) (b : Base) (L : List Step) (told : List (Result Reply Fault)) (c : Base)
+    : Type 0 where
   pub base_is : base_of small A ≡ b
   pub told_is : replies_from b L ≡ told
   pub both_is : base_after b (good_from b L) ≡ c
@@ -41,8 +43,11 @@ CutDrainList = Cuts
       six = record { closed = 0; head = 0; flushed = 0; safe_read_only = 0; read_only = 4; tail = 4 };
       frames = Some (bare_page 0) ∷ None ∷ [];
     })
-    (Bump 9 ∷ Take ∷ Done 2 ∷ Done 2 ∷ Done 1 ∷ Write 0 3 1 ∷ Read 0 3 ∷ Allocate 0 1 ∷ Write 0 4 6 ∷ Bump 9 ∷ Acquire 1 ∷ Take ∷ [])
-    (Err DrainFull ∷ Ok (Taken 2) ∷ Ok (Settled 4) ∷ Err NotTaken ∷ Ok (Ran 7) ∷ Err (Below 4) ∷ Ok Readable ∷ Ok (At 4) ∷ Ok Written ∷ Ok (Ticket 3) ∷ Ok (Entered 4 (record { read_only = 4; head = 0; tail = 5 })) ∷ Err (NotReady 3 2) ∷ [])
+    (Bump 9 ∷ Take ∷ Done 2 ∷ Done 2 ∷ Done 1 ∷ Write 0 3 1 ∷ Read 0 3 ∷ Allocate 0 1 ∷ Write 0 4 6 ∷ Bump 9
+    ∷ Acquire 1 ∷ Take ∷ [])
+    (Err DrainFull ∷ Ok (Taken 2) ∷ Ok (Settled 4) ∷ Err NotTaken ∷ Ok (Ran 7) ∷ Err (Below 4) ∷ Ok Readable
+    ∷ Ok (At 4) ∷ Ok Written ∷ Ok (Ticket 3) ∷ Ok (Entered 4 (record { read_only = 4; head = 0; tail = 5 }))
+    ∷ Err (NotReady 3 2) ∷ [])
     (record {
       sizes = small;
       epoch = 4;
@@ -53,11 +58,12 @@ CutDrainList = Cuts
       frames = Some (bare_page 0) ∷ Some (bare_page 1) ∷ [];
     })
 
--- cut where one page is in flight and another is being cleaned: a failed flush is taken again, a frame is entered again
--- once its page is freed
+-- cut where one page is in flight and another is being cleaned: a failed flush is taken again, a frame is
+-- entered again once its page is freed
 abbrev pub CutPages : Type 0
 CutPages = Cuts
-    (Acquire 0 ∷ Allocate 0 4 ∷ Allocate 0 4 ∷ Raise 8 ∷ Release 0 ∷ Settle ∷ Take ∷ Done 1 ∷ FlushTake ∷ FlushDone 0 true ∷ Shift 4 ∷ Close ∷ Take ∷ Done 2 ∷ CleanTake ∷ FlushTake ∷ [])
+    (Acquire 0 ∷ Allocate 0 4 ∷ Allocate 0 4 ∷ Raise 8 ∷ Release 0 ∷ Settle ∷ Take ∷ Done 1 ∷ FlushTake
+    ∷ FlushDone 0 true ∷ Shift 4 ∷ Close ∷ Take ∷ Done 2 ∷ CleanTake ∷ FlushTake ∷ [])
     (record {
       sizes = small;
       epoch = 3;
@@ -65,10 +71,15 @@ CutPages = Cuts
       waiting = [];
       taken = [];
       six = record { closed = 4; head = 4; flushed = 4; safe_read_only = 8; read_only = 8; tail = 8 };
-      frames = Some (record (bare_page 0) { flushed = true; cleaning = true }) ∷ Some (record (bare_page 1) { in_flight = true }) ∷ [];
+      frames =
+          Some (record (bare_page 0) { flushed = true; cleaning = true })
+          ∷ Some (record (bare_page 1) { in_flight = true }) ∷ [];
     })
-    (Acquire 0 ∷ FlushTake ∷ CleanTake ∷ Allocate 0 1 ∷ FlushDone 1 false ∷ FlushTake ∷ FlushDone 1 true ∷ FlushDone 1 true ∷ CleanDone 1 ∷ CleanDone 0 ∷ Allocate 0 1 ∷ Read 0 3 ∷ [])
-    (Ok (Entered 3 (record { read_only = 8; head = 4; tail = 8 })) ∷ Err NoneSealed ∷ Err NoneClosed ∷ Err (Busy 2) ∷ Ok (Flushed 4) ∷ Ok (Page 1) ∷ Ok (Flushed 8) ∷ Err NotInFlight ∷ Err NotCleaning ∷ Ok (Freed 0) ∷ Ok (At 8) ∷ Err (Evicted 4) ∷ [])
+    (Acquire 0 ∷ FlushTake ∷ CleanTake ∷ Allocate 0 1 ∷ FlushDone 1 false ∷ FlushTake ∷ FlushDone 1 true
+    ∷ FlushDone 1 true ∷ CleanDone 1 ∷ CleanDone 0 ∷ Allocate 0 1 ∷ Read 0 3 ∷ [])
+    (Ok (Entered 3 (record { read_only = 8; head = 4; tail = 8 })) ∷ Err NoneSealed ∷ Err NoneClosed
+    ∷ Err (Busy 2) ∷ Ok (Flushed 4) ∷ Ok (Page 1) ∷ Ok (Flushed 8) ∷ Err NotInFlight ∷ Err NotCleaning
+    ∷ Ok (Freed 0) ∷ Ok (At 8) ∷ Err (Evicted 4) ∷ [])
     (record {
       sizes = small;
       epoch = 3;

@@ -1,5 +1,5 @@
 -- How many slots are protected, and how many frames are at each state, one more being read.
-use Rattle.std.proofs.Common.{◌≡◌, ℕ, ◌+◌, ◌<◌, ◌≤◌, Bool, cond, is_some, List, [], ◌∷◌, ◌++◌, length, map, take, get_or, set, sym, ap, ◌∙◌, arith, length-take}
+use Rattle.std.proofs.Common.{◌≡◌, ℕ, ◌+◌, ◌<◌, ◌≤◌, Bool, cond, is_some, List, [], ◌∷◌, ◌++◌, length, map, take, get_or, set, refl, sym, ap, ◌∙◌, arith, length-take}
 use Rattle.std.specs.Prelude.{Option, None}
 use Rattle.std.specs.List.{count_by}
 use Rattle.std.proofs.lemmas.List.{take_more, map-append, length-map}
@@ -7,10 +7,11 @@ use Rattle.std.proofs.lemmas.List.Sums.{count_by-le-length}
 use Rattle.hl_model.specs.declared.frame.FrameState.{FrameState}
 use Rattle.hl_model.specs.declared.frame.FrameState.TheVariants.{Opened, Sealed, Flushed, Closed, Free}
 use Rattle.hl_model.specs.Bases.{Base}
-use Rattle.hl_model.specs.Snapshots.{is_opened, is_at_sealed, is_at_flushed, is_at_closed, is_free, state_counts}
+use Rattle.hl_model.specs.Snapshots.{state_counts}
 use Rattle.hl_plain.specs.Shown.{state_at}
 use Rattle.hl_plain.specs.States.{count_place}
 use Rattle.hl_model.proofs.ListLaws.{count_by-push}
+use Rattle.hl_model.proofs.StateCounts.{place_in, counts-push, counts_fit}
 
 -- how many are there
 pub some-next : {X : Type 0} (xs : List (Option X)) (i : ℕ) (b : Bool) → i < length xs → b ≡ is_some (get_or xs i None) → count_by is_some (take (i + 1) xs) ≡ count_by is_some (take i xs) + cond b 1 0
@@ -21,16 +22,12 @@ some-next xs i b h is =
 pub some-most : {X : Type 0} (xs : List (Option X)) (i : ℕ) → count_by is_some (take i xs) ≤ i
 some-most xs i = omega (arith, count_by-le-length is_some (take i xs), length-take i xs)
 
-five : (a b c d e f g h i j : ℕ) → a ≡ f → b ≡ g → c ≡ h → d ≡ i → e ≡ j → a ∷ b ∷ c ∷ d ∷ e ∷ [] ≡ f ∷ g ∷ h ∷ i ∷ j ∷ []
-five a b c d e f g h i j p q r s t = cc
-
--- one state more
-state_counts-push : (xs : List FrameState) (s : FrameState) → state_counts (xs ++ s ∷ []) ≡ set (state_counts xs) (count_place s) (get_or (state_counts xs) (count_place s) 0 + 1)
-state_counts-push xs Opened = five _ _ _ _ _ _ _ _ _ _ (count_by-push is_opened xs Opened) (omega (arith, count_by-push is_at_sealed xs Opened)) (omega (arith, count_by-push is_at_flushed xs Opened)) (omega (arith, count_by-push is_at_closed xs Opened)) (omega (arith, count_by-push is_free xs Opened))
-state_counts-push xs Sealed = five _ _ _ _ _ _ _ _ _ _ (omega (arith, count_by-push is_opened xs Sealed)) (count_by-push is_at_sealed xs Sealed) (omega (arith, count_by-push is_at_flushed xs Sealed)) (omega (arith, count_by-push is_at_closed xs Sealed)) (omega (arith, count_by-push is_free xs Sealed))
-state_counts-push xs Flushed = five _ _ _ _ _ _ _ _ _ _ (omega (arith, count_by-push is_opened xs Flushed)) (omega (arith, count_by-push is_at_sealed xs Flushed)) (count_by-push is_at_flushed xs Flushed) (omega (arith, count_by-push is_at_closed xs Flushed)) (omega (arith, count_by-push is_free xs Flushed))
-state_counts-push xs Closed = five _ _ _ _ _ _ _ _ _ _ (omega (arith, count_by-push is_opened xs Closed)) (omega (arith, count_by-push is_at_sealed xs Closed)) (omega (arith, count_by-push is_at_flushed xs Closed)) (count_by-push is_at_closed xs Closed) (omega (arith, count_by-push is_free xs Closed))
-state_counts-push xs Free = five _ _ _ _ _ _ _ _ _ _ (omega (arith, count_by-push is_opened xs Free)) (omega (arith, count_by-push is_at_sealed xs Free)) (omega (arith, count_by-push is_at_flushed xs Free)) (omega (arith, count_by-push is_at_closed xs Free)) (count_by-push is_free xs Free)
+place-is : (s : FrameState) → place_in s ≡ count_place s
+place-is Opened = refl
+place-is Sealed = refl
+place-is Flushed = refl
+place-is Closed = refl
+place-is Free = refl
 
 -- the states of the first n frames
 abbrev pub states_below : Base → ℕ → List FrameState
@@ -41,15 +38,9 @@ pub states-next : (b : Base) (n : ℕ) (s : FrameState) → n < length b.frames 
 states-next b n s h is =
     ap state_counts (ap (map (λ held. (state_at b held).0)) (take_more b.frames n None h) ∙ map-append (λ held. (state_at b held).0) (take n b.frames) (get_or b.frames n None ∷ [])
     ∙ ap (λ x. states_below b n ++ x ∷ []) (sym is))
-    ∙ state_counts-push (states_below b n) s
+    ∙ counts-push (states_below b n) s
+    ∙ ap (λ k. set (state_counts (states_below b n)) k (get_or (state_counts (states_below b n)) k 0 + 1)) (place-is s)
 
 -- no state is counted more often than there are frames
-state_counts-le : (xs : List FrameState) (s : FrameState) → get_or (state_counts xs) (count_place s) 0 ≤ length xs
-state_counts-le xs Opened = count_by-le-length is_opened xs
-state_counts-le xs Sealed = count_by-le-length is_at_sealed xs
-state_counts-le xs Flushed = count_by-le-length is_at_flushed xs
-state_counts-le xs Closed = count_by-le-length is_at_closed xs
-state_counts-le xs Free = count_by-le-length is_free xs
-
 pub states-le : (b : Base) (n : ℕ) (s : FrameState) → get_or (state_counts (states_below b n)) (count_place s) 0 ≤ n
-states-le b n s = omega (arith, state_counts-le (states_below b n) s, length-map (take n b.frames) (λ held. (state_at b held).0), length-take n b.frames)
+states-le b n s = omega (arith, counts_fit (states_below b n) (count_place s), length-map (take n b.frames) (λ held. (state_at b held).0), length-take n b.frames)
