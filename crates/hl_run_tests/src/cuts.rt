@@ -1,5 +1,7 @@
 //! A list cut after each of its steps: from its base the slow form and the core answer all that follows alike.
 
+ghost use Rattle.std.specs.Prelude.{◌<◌};
+
 use hl_core::Core;
 use hl_counts::CountTable;
 use hl_epoch::Epochs;
@@ -44,8 +46,15 @@ fn some_step(numbers: &mut Numbers, now: &Snapshot) -> Step {
         11 | 12 | 13 => Step::Done { ticket },
         14 => Step::Raise { x: now.six.tail },
         15 => Step::Shift { x: now.six.flushed },
-        16 | 17 => Step::Allocate { t, n: 1 + numbers.below(5) },
-        18 => Step::Look { t, read_only: now.six.read_only, head: now.six.head },
+        16 | 17 => Step::Allocate {
+            t,
+            n: 1 + numbers.below(5),
+        },
+        18 => Step::Look {
+            t,
+            read_only: now.six.read_only,
+            head: now.six.head,
+        },
         19 => Step::Write { t, a, v: page },
         20 => Step::Read { t, a },
         21 => Step::FlushTake,
@@ -80,12 +89,18 @@ fn compare(rt: &impl Abort, core: &Core<CountTable, Tag>, plain: &Plain, at: usi
     for t in 0..3 {
         assert_eq!(rt; plain.view(t), core.view(t), "slot {t} after step {at}");
     }
-    for f in 0..core.params().frames() {
+    assert_eq!(rt; plain.params(), core.params(), "after step {at}");
+    for f in 0..core.params().frames().min(plain.params().frames()) {
         assert_eq!(rt; plain.frame(f), core.frame(f), "frame {f} after step {at}");
     }
 }
 
-fn cut_anywhere(rt: &impl Abort, alloc: Global, steps: &[Step], params: Params) -> Result<(), Fail> {
+fn cut_anywhere(
+    rt: &impl Abort,
+    alloc: Global,
+    steps: &[Step],
+    params: Params,
+) -> Result<(), Fail> {
     let mut base = Base::opening(alloc, params)?;
     for cut in 0..steps.len() {
         let (before, behind) = steps.split_at(cut);
