@@ -20,6 +20,7 @@
 //! | Module | What it does |
 //! |---|---|
 //! | `engine` | cuts, judges, has each line answered, and stops: at a bad line, at the end, at a fault of a stream |
+//! | `reads` | counts the reads, which end a run that would go on |
 //! | `progress` | what is kept between two bytes: two counts, and a line of at most 80 bytes |
 //! | `machine` | the trait of what answers a line; a machine need not keep the lines that it answered |
 //! | `script` | the machine: it opens at the config, and has what was opened make the steps |
@@ -42,6 +43,7 @@ mod lines;
 mod machine;
 mod progress;
 mod put;
+mod reads;
 mod run;
 mod script;
 mod slow;
@@ -50,7 +52,7 @@ mod stop;
 mod sum;
 
 pub use hl_line::{Line, print_fault, print_line, print_reply, read_line};
-pub use run::{Finished, run_text, slow_text};
+pub use run::{Finished, run_text, run_text_within, slow_text, slow_text_within};
 pub use sum::Sum;
 
 #[cfg(test)]
