@@ -30,6 +30,7 @@
 //! | `lines` | the line that answers a step, and those that answer queries |
 //! | `sum` | the promise of the jobs |
 //! | `answers` | the texts of answers |
+//! | `laws` | what a caller can tell after `Stream` |
 //! | `put` | writes all of some bytes, and makes no write after one that failed |
 //!
 //! A line is judged when its LF was read, when the input ended, or at its 81st byte; until then it isn't answered.
@@ -39,6 +40,7 @@
 mod answers;
 mod engine;
 mod fast;
+pub mod laws;
 mod lines;
 mod machine;
 mod progress;
