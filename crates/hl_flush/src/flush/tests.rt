@@ -103,11 +103,24 @@ fn each_page_write_fails_in_turn(rt: HostRuntime) -> Result<(), Fail> {
         let mut writer = MemoryWriter::open(rt.alloc(), 2, 40)?;
         writer.fail_at(k);
         for wanted in answers {
-            assert_eq!(rt; flush(rt.alloc(), &mut engine, &mut writer), wanted, "write {k}");
+            assert_eq!(rt;
+                flush(rt.alloc(), &mut engine, &mut writer),
+                wanted,
+                "write {k}"
+            );
         }
         assert_eq!(rt; writer.failures(), failures, "write {k}");
-        assert!(rt; writer.image(0).is_some_and(|image| image == [0; 40].as_slice()), "write {k}");
-        assert!(rt; writer.image(1).is_some_and(|image| image.starts_with(&[0, 0, 0, 0, 0, 0, 0, 1])));
+        assert!(rt;
+            writer
+                .image(0)
+                .is_some_and(|image| image == [0; 40].as_slice()),
+            "write {k}"
+        );
+        assert!(rt;
+            writer
+                .image(1)
+                .is_some_and(|image| image.starts_with(&[0, 0, 0, 0, 0, 0, 0, 1]))
+        );
         assert_eq!(rt; engine.six().flushed, 8, "write {k}");
     }
     Ok(())
