@@ -85,7 +85,8 @@ pub record LackedAtConfig (before after : Option (List ℕ)) (bytes : List ℕ) 
 -- a run stopped at line n, which is no step: its LF, its 81st byte or the end of the input was read
 abbrev pub StoppedAtBadLine : (ℕ → Bool) → ℕ → Option (List ℕ) → Option (List ℕ) → Option (List ℕ) → Option (List ℕ) → ℕ → Type 0
 StoppedAtBadLine has reads given left before after n =
-    (input : List ℕ) × ReadWithin reads given left input × Settled left (WroteBad has before after n) input × (IsJudged n input ⊎ ReadToEnd reads given left input)
+    (input : List ℕ) × ReadWithin reads given left input × Settled left (WroteBad has before after n) input
+    × (IsJudged n input ⊎ ReadToEnd reads given left input)
 
 -- a run stopped where memory was refused
 abbrev pub StoppedByMemory : ℕ → Option (List ℕ) → Option (List ℕ) → (List ℕ → Type 0) → Type 0
@@ -94,7 +95,8 @@ StoppedByMemory reads given left P = (input : List ℕ) × ReadWithin reads give
 -- a run stopped at its reader: a read or the flush before it failed, or all reads were made; or it stopped at its writer
 abbrev pub StoppedByStream : (ℕ → Bool) → ℕ → Option (List ℕ) → Option (List ℕ) → Option (List ℕ) → Option (List ℕ) → Type 0
 StoppedByStream has reads given left before after =
-    (input : List ℕ) × ReadWithin reads given left input × (WroteWholeLines has before after input ⊎ FailedWrite has reads given left before after input)
+    (input : List ℕ) × ReadWithin reads given left input
+    × (WroteWholeLines has before after input ⊎ FailedWrite has reads given left before after input)
 
 -- the faults that a run may answer
 abbrev pub IsRunFault : Fault → Type 0

@@ -15,6 +15,9 @@
 //! [`slow_text`] writes the same text in the slow form: it keeps the list of accepted steps and computes each answer
 //! from it. It has no jobs: the tags below a number count as having one.
 //!
+//! [`run_text_within`] and [`slow_text_within`] do so in at most so many reads as their caller allows, the others in
+//! 2^32.
+//!
 //! # The parts
 //!
 //! | Module | What it does |
