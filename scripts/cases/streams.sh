@@ -1,4 +1,4 @@
-# Standard streams that fail: the program ends with status 1 and the fault's line, and doesn't hang.
+# Standard streams that fail, or that never end: the program ends with a status and doesn't hang.
 
 # The status and the line on standard error after a stream failed.
 ended_by_stream() {
@@ -35,6 +35,14 @@ no_input() {
     ended_by_stream "$status" && cmp /dev/null "$room/text"
 }
 
+# A line without an end is refused at its 81st byte.
+endless_line() {
+    local status=0
+    timeout 10 "$program" "$@" < <(tr '\0' a < /dev/zero 2> /dev/null) > "$room/text" 2> "$room/errors" || status=$?
+    [ "$status" = 2 ] || { echo "it ended with status $status"; return 1; }
+    [ ! -s "$room/errors" ] && echo "line 1: not a step" | cmp - "$room/text"
+}
+
 # An output pipe whose other end is closed, before the first line is sent or after the first reply.
 closed_pipe() {
     local replies="$1" reply status=0
@@ -58,6 +66,7 @@ for form in run slow; do
     check "a full disk by $form" full_disk "$scripts/../examples/first_action.script" "$form"
     check "no standard output by $form" closed_output "$scripts/../examples/first_action.script" "$form"
     check "no standard input by $form" no_input "$form"
+    check "a line without an end by $form" endless_line "$form"
     check "a closed pipe by $form" closed_pipe 0 "$form"
     check "a pipe closed after a reply by $form" closed_pipe 1 "$form"
 done
