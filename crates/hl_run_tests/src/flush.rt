@@ -22,6 +22,20 @@ fn sealed(alloc: Global) -> Result<TestEngine, Fault> {
     Ok(engine)
 }
 
+// An engine with two pages of 4 words, both sealed, in which nothing was written.
+fn two_sealed(alloc: Global) -> Result<TestEngine, Fault> {
+    let mut engine = small_engine(alloc)?;
+    engine.step(&Step::Acquire { t: 0 })?;
+    engine.step(&Step::Allocate { t: 0, n: 4 })?;
+    engine.step(&Step::Allocate { t: 0, n: 4 })?;
+    engine.step(&Step::Raise { x: 8 })?;
+    engine.step(&Step::Settle)?;
+    engine.step(&Step::Refresh { t: 0 })?;
+    engine.step(&Step::Take)?;
+    engine.step(&Step::Done { ticket: 1 })?;
+    Ok(engine)
+}
+
 // Flushes one page, with a buffer for its image.
 fn flush<W: PageWriter>(
     alloc: Global,
@@ -48,6 +62,43 @@ fn a_failed_flush_is_made_again(rt: HostRuntime) -> Result<(), Fail> {
     image[39] = 2;
     assert_eq!(rt; writer.image(0), Some(image.as_slice()));
     assert_eq!(rt; engine.six().flushed, 4);
+    Ok(())
+}
+
+// The page whose write failed is written by the next flush, before the one behind it.
+#[test]
+fn each_page_write_fails_in_turn(rt: HostRuntime) -> Result<(), Fail> {
+    let none = Err(Fault::NoneSealed);
+    let cases = [
+        (1, [Err(Fault::Device), Ok(0), Ok(1), none], 1),
+        (2, [Ok(0), Err(Fault::Device), Ok(1), none], 1),
+        (3, [Ok(0), Ok(1), none, none], 0),
+    ];
+    for (k, answers, failures) in cases {
+        let mut engine = two_sealed(rt.alloc())?;
+        let mut writer = MemoryWriter::open(rt.alloc(), 2, 40)?;
+        writer.fail_at(k);
+        for wanted in answers {
+            assert_eq!(rt;
+                flush(rt.alloc(), &mut engine, &mut writer),
+                wanted,
+                "write {k}"
+            );
+        }
+        assert_eq!(rt; writer.failures(), failures, "write {k}");
+        assert!(rt;
+            writer
+                .image(0)
+                .is_some_and(|image| image == [0; 40].as_slice()),
+            "write {k}"
+        );
+        assert!(rt;
+            writer
+                .image(1)
+                .is_some_and(|image| image.starts_with(&[0, 0, 0, 0, 0, 0, 0, 1]))
+        );
+        assert_eq!(rt; engine.six().flushed, 8, "write {k}");
+    }
     Ok(())
 }
 

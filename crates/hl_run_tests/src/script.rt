@@ -1,5 +1,7 @@
 ghost use Rattle.std.specs.Prelude.{◌≡◌, ◌+◌, ◌<◌, ◌≤◌, ◌^◌};
 
+mod hostile;
+
 use hl_action::{Firing, Kept, Shelf, Task};
 use hl_counts::CountTable;
 use hl_epoch::{Epochs, ScanTable};
@@ -134,15 +136,32 @@ const FIRST_ACTION: &str =
 const FIRST_ACTION_TEXT: &str =
     "opened\nepoch 1 view 0 0 0\nticket 1\nfault 8 NotReady front 1 safe 0\nepoch 2 view 0 0 0\ntaken 1\nanswer 8\nfault 7 Empty\nstatus epoch 2 safe 1 pending 0 taken 0 closed 0 head 0 flushed 0 safe_read_only 0 read_only 0 tail 0\n";
 
-/// Counts the bytes that it takes, and keeps none.
+const FUZZY_REGION: &str =
+    "config 4 2 2 4\nacquire 0\nalloc 0 4\nraise 4\nacquire 1\nsettle\nwrite 0 1 99\nwrite 1 1 5\nrefresh 1\ntake\nrefresh 0\ntake\n";
+
+const FUZZY_REGION_TEXT: &str =
+    "opened\nepoch 1 view 0 0 0\nat 0\nread_only 4\nepoch 1 view 4 0 4\nticket 1\nwritten\nfault 17 Below read_only 4\nepoch 2 view 4 0 4\nfault 8 NotReady front 1 safe 0\nepoch 2 view 4 0 4\ntaken 1\n";
+
+const STALE_READER: &str =
+    "config 4 2 2 4\nacquire 0\nalloc 0 4\nalloc 0 4\nacquire 1\nalloc 0 1\nraise 8\nsettle\nrefresh 0\nrefresh 1\ntake\ndone 1\nflush take\nflush done 0 ok\nshift 4\nclose\nread 1 0\nrefresh 0\ntake\nalloc 0 1\nrefresh 1\ntake\ndone 2\nread 1 0\nalloc 0 1\nframes\nclean take\nclean done 0\nalloc 0 1\nframes\n";
+
+const STALE_READER_TEXT: &str =
+    "opened\nepoch 1 view 0 0 0\nat 0\nat 4\nepoch 1 view 0 0 8\nfault 15 Busy page 2\nread_only 8\nticket 1\nepoch 2 view 8 0 8\nepoch 2 view 8 0 8\ntaken 1\nsafe_read_only 8\npage 0\nflushed 4\nhead 4\nticket 2\nvalue 0\nepoch 3 view 8 4 8\nfault 8 NotReady front 2 safe 1\nfault 15 Busy page 2\nepoch 3 view 8 4 8\ntaken 2\nclosed 4\nfault 19 Evicted head 4\nfault 15 Busy page 2\nframes closed:0 sealed:1\npage 0\nfreed 0\nat 8\nframes open:2 sealed:1\n";
+
+/// Compares what it is given with what is left of a text, and keeps none of it.
 #[derive(Drop)]
-struct CountingWriter {
-    bytes: usize,
+struct ComparingWriter<'a> {
+    left: &'a [u8],
+    differs: bool,
 }
 
-impl Write for CountingWriter {
+impl<'a> Write for ComparingWriter<'a> {
     fn write(&mut self, buf: &[u8]) -> io::Result<usize> {
-        self.bytes = self.bytes.saturating_add(buf.len());
+        if self.left.starts_with(buf) {
+            self.left = &self.left[buf.len()..];
+        } else {
+            self.differs = true;
+        }
         Ok(buf.len())
     }
 
@@ -151,59 +170,32 @@ impl Write for CountingWriter {
     }
 }
 
+// With `rt try --test --fail-alloc N` memory is refused at the N-th allocation: all runs before it are whole.
 #[test]
-fn writes_nothing_where_memory_is_refused(rt: HostRuntime) {
-    let mut reader = FIRST_ACTION.as_bytes();
-    let mut writer = CountingWriter { bytes: 0 };
-    match run_form(Form::Counting, rt.alloc(), &mut reader, &mut writer) {
-        Err(Fault::OutOfMemory) => assert_eq!(rt; writer.bytes, 0),
-        answer => {
-            assert_eq!(rt; answer, Ok(Some(5)));
-            assert_eq!(rt; writer.bytes, FIRST_ACTION_TEXT.len());
-        }
-    }
-}
-
-const AT_81_BYTES: &str =
-    "config 4 2 2 2\naaaaaaaaaaaaaaaaaaaaaaaaaaaaaaaaaaaaaaaaaaaaaaaaaaaaaaaaaaaaaaaaaaaaaaaaaaaaaaaaaa";
-
-// The reader gives a byte a read. It would go on after the read that fails, but is asked no more.
-#[test]
-fn answers_what_came_before_a_read_that_fails(rt: HostRuntime) {
-    let two_lines = "opened\nepoch 1 view 0 0 0\n";
-    let bad_line = "opened\nline 2: not a step\n";
+fn writes_whole_lines_where_memory_is_refused(rt: HostRuntime) {
     let cases = [
-        (
-            "none fails",
-            FIRST_ACTION,
-            1000,
-            FIRST_ACTION_TEXT,
-            Ok(Some(5)),
-        ),
-        ("in a line", FIRST_ACTION, 28, two_lines, Err(Fault::Stream)),
-        (
-            "after 80 bytes",
-            AT_81_BYTES,
-            95,
-            "opened\n",
-            Err(Fault::Stream),
-        ),
-        (
-            "after 81 bytes",
-            AT_81_BYTES,
-            96,
-            bad_line,
-            Err(Fault::BadLine { n: 2 }),
-        ),
+        ("first action", FIRST_ACTION, FIRST_ACTION_TEXT, 5),
+        ("fuzzy region", FUZZY_REGION, FUZZY_REGION_TEXT, 9),
+        ("stale reader", STALE_READER, STALE_READER_TEXT, 22),
     ];
-    for (name, script, left, text, wanted) in cases {
+    for (name, script, text, accepted) in cases {
         for form in FORMS {
-            let bytes = script.as_bytes();
-            let mut reader = SlowReader { bytes, left };
-            let mut writer = Vec::new(rt.alloc());
+            let text = text.as_bytes();
+            let mut reader = script.as_bytes();
+            let mut writer = ComparingWriter {
+                left: text,
+                differs: false,
+            };
             let answer = run_form(form, rt.alloc(), &mut reader, &mut writer);
-            assert_eq!(rt; answer, wanted, "{name}");
-            assert!(rt; writer.as_slice() == text.as_bytes(), "{name}");
+            let written = &text[..text.len().saturating_sub(writer.left.len())];
+            let wanted = match answer {
+                Err(Fault::OutOfMemory) => match form {
+                    Form::Slow => written.is_empty() || written.ends_with(b"\n"),
+                    _ => written.is_empty(),
+                },
+                answer => answer == Ok(Some(accepted)) && writer.left.is_empty(),
+            };
+            assert!(rt; wanted && !writer.differs, "{name}");
         }
     }
 }

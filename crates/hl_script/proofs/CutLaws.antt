@@ -1,10 +1,12 @@
 -- How a script is cut where a line ends and where none does.
-use Rattle.std.proofs.Common.{◌≡◌, ℕ, ◌+◌, false, cond, List, [], ◌∷◌, ◌++◌, length, refl, sym, ap, ◌∙◌, append_assoc, append-nil}
+use Rattle.std.proofs.Common.{◌≡◌, ◌<◌, ◌≤◌, ◌⊎◌, inl, inr, ℕ, ◌+◌, ◌-◌, Bool, true, false, cond, List, [], ◌∷◌, ◌++◌, length, take, refl, sym, ap, ◌∙◌, append_assoc, append-nil, arith, length-append, length-take, length-drop}
+use Rattle.std.proofs.lemmas.List.{length_push}
+use Rattle.std.proofs.Math.Seq.{take-append-add}
 use Rattle.std.proofs.lemmas.Bool.{or_parts}
 use Rattle.std.specs.List.{list_any}
 use Rattle.hl_model.specs.Lists.{until_last}
-use Rattle.hl_model.proofs.ListLaws.{until_last-push}
-use Rattle.hl_script.specs.Cut.{cut, longer}
+use Rattle.hl_model.proofs.ListLaws.{until_last-push, until_last-le}
+use Rattle.hl_script.specs.Cut.{cut, longer, whole_lines, unfinished_line}
 use Rattle.hl_script.specs.Engine.{is_end}
 
 -- a byte that ends no line
@@ -61,3 +63,55 @@ until_last-none xs (b ∷ line) h =
     ∙ until_last-none (xs ++ b ∷ []) line parts.1
     ∙ until_last-push is_end xs b
     ∙ ap (λ c. cond c (length xs + 1) (until_last is_end xs)) parts.0
+
+-- the last place that passes a test is that of the first elements, or behind them
+until_last-split : (xs ys : List ℕ) → (until_last is_end (xs ++ ys) ≡ until_last is_end xs) ⊎ (length xs ≤ until_last is_end (xs ++ ys))
+until_last-split xs [] = inl (ap (until_last is_end) (append-nil xs))
+until_last-split xs (y ∷ ys) = by_rest (is_end y) (until_last-push is_end xs y) (until_last-split (xs ++ y ∷ []) ys)
+  where
+    same : until_last is_end ((xs ++ y ∷ []) ++ ys) ≡ until_last is_end (xs ++ y ∷ ys)
+    same = ap (until_last is_end) (append_assoc xs (y ∷ []) ys)
+
+    by_rest : (b : Bool) → until_last is_end (xs ++ y ∷ []) ≡ cond b (length xs + 1) (until_last is_end xs)
+        → (until_last is_end ((xs ++ y ∷ []) ++ ys) ≡ until_last is_end (xs ++ y ∷ [])) ⊎ (length (xs ++ y ∷ []) ≤ until_last is_end ((xs ++ y ∷ []) ++ ys))
+        → (until_last is_end (xs ++ y ∷ ys) ≡ until_last is_end xs) ⊎ (length xs ≤ until_last is_end (xs ++ y ∷ ys))
+    by_rest b next (inr far) = inr (omega (arith, far, same, length_push xs y))
+    by_rest true next (inl e) = inr (omega (arith, e, same, next))
+    by_rest false next (inl e) = inl (sym same ∙ e ∙ next)
+
+-- bytes that the whole lines hold
+lines_hold : (front rest : List ℕ) → length front ≤ until_last is_end (front ++ rest) → (more : List ℕ) × (whole_lines (front ++ rest) ≡ front ++ more)
+unfolding whole_lines
+lines_hold front rest h =
+    let n = until_last is_end (front ++ rest) in
+    let all : n ≡ length front + (n - length front) = omega (arith, h) in
+    (take (n - length front) rest, ap (λ k. take k (front ++ rest)) all ∙ take-append-add front rest (n - length front))
+
+-- bytes that end with an LF stand in the whole lines of all that they begin
+pub whole-front : (front rest : List ℕ) → whole_lines front ≡ front → (more : List ℕ) × (whole_lines (front ++ rest) ≡ front ++ more)
+unfolding whole_lines
+whole-front front rest w = by_place (until_last-split front rest)
+  where
+    here : length front ≤ until_last is_end front
+    here = omega (arith, ap length w, length-take (until_last is_end front) front)
+
+    by_place : (until_last is_end (front ++ rest) ≡ until_last is_end front) ⊎ (length front ≤ until_last is_end (front ++ rest)) → (more : List ℕ) × (whole_lines (front ++ rest) ≡ front ++ more)
+    by_place (inl e) = lines_hold front rest (omega (arith, e, here))
+    by_place (inr far) = lines_hold front rest far
+
+-- and those in which a line is too long do, or it goes on
+pub long-front : (front rest : List ℕ) → 80 < length (unfinished_line front) → ((more : List ℕ) × (whole_lines (front ++ rest) ≡ front ++ more)) ⊎ (80 < length (unfinished_line (front ++ rest)))
+unfolding unfinished_line
+long-front front rest long = by_place (until_last-split front rest)
+  where
+    by_place : (until_last is_end (front ++ rest) ≡ until_last is_end front) ⊎ (length front ≤ until_last is_end (front ++ rest)) → ((more : List ℕ) × (whole_lines (front ++ rest) ≡ front ++ more)) ⊎ (80 < length (unfinished_line (front ++ rest)))
+    by_place (inl e) = inr (omega (
+      arith,
+      long,
+      e,
+      length-append front rest,
+      until_last-le is_end front,
+      length-drop (until_last is_end front) front,
+      length-drop (until_last is_end (front ++ rest)) (front ++ rest),
+    ))
+    by_place (inr far) = inl (lines_hold front rest far)

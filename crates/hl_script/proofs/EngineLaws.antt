@@ -1,5 +1,5 @@
 -- What the parts of a run make of where it stands.
-use Rattle.std.proofs.Common.{◌≡◌, ◌≢◌, ◌<◌, ◌≤◌, ◌⊎◌, inl, inr, ℕ, ◌+◌, Bool, true, false, cond, eqb, List, [], ◌∷◌, ◌++◌, length, take, refl, sym, ap, ◌∙◌, subst, append_assoc, append-nil, arith}
+use Rattle.std.proofs.Common.{◌≡◌, ◌≢◌, ◌<◌, ◌≤◌, ◌⊎◌, inl, inr, ℕ, ◌+◌, ◌*◌, Bool, true, false, cond, eqb, List, [], ◌∷◌, ◌++◌, length, take, refl, sym, ap, ◌∙◌, subst, append_assoc, append-nil, arith, length-append, length-take}
 use Rattle.std.specs.Prelude.{Option, Some, None, Result, Ok, Err}
 use Rattle.std.specs.Io.KnownBytes.{Appends, Consumes, Keeps, IsAtEnd}
 use Rattle.std.proofs.lemmas.Bool.{eqb-true, false≢true}
@@ -13,9 +13,10 @@ use Rattle.hl_script.specs.Cut.{whole_lines, unfinished_line}
 use Rattle.hl_script.specs.Lines.{script, bad_line, allowed, may_stand}
 use Rattle.hl_script.specs.Answers.{accepted, accepted_after}
 use Rattle.hl_script.specs.Text.{answers, bad_text, text, count_of}
-use Rattle.hl_script.specs.Outcomes.{WroteWholeLines, WroteAll, WroteUpTo, AppendsFront}
-use Rattle.hl_script.specs.Engine.{answered, Answered, Refuses, Stopped, Judges, Reached, Faces, At, JudgedGood, Judged, Fed, Ended, Ran}
+use Rattle.hl_script.specs.Outcomes.{ReadWithin, ReadToEnd, WroteWholeLines, WroteAll, WroteUpTo, AppendsFront, WroteFront}
+use Rattle.hl_script.specs.Engine.{answered, Answered, Refuses, Stopped, BrokeOff, Judges, Reached, Faces, At, JudgedGood, Judged, Fed, Ended, Ran}
 use Rattle.hl_script.proofs.KnownLaws.{Appends-nothing, Appends-more, Appends-kept, Consumes-more, front-more, front-longer, at_end_left}
+use Rattle.hl_script.proofs.CutLaws.{whole-front, long-front}
 use Rattle.hl_script.proofs.LineLaws.{IsBad, faces_bad, faces_good}
 use Rattle.hl_script.proofs.ReachLaws.{IsGood, reached_start, reached_byte, reached_end, reached_long, reached_last, reached_line, reached_unfinished, reached_whole, reached_done, reached_last_line, whole-end}
 use Rattle.hl_script.proofs.TextLaws.{answers-nil, answers-push, answers-front, accepted-length}
@@ -92,25 +93,31 @@ judged stands has before raw line from mid to counted old new a l s h answer nl 
   wrote = subst (Appends from to) (sym (answers-push has before line)) (Appends-more from mid to (answers has before) (answered has before line) a answer.wrote);
 }
 
--- the bytes in which a line was found bad
-judges : (has : ℕ → Bool) (lacks : Line → Bool) (from to : Option (List ℕ)) (stop : Stop) (bytes : List ℕ) → Stopped has lacks from to stop bytes → (whole_lines bytes ≡ bytes) ⊎ (80 < length (unfinished_line bytes)) → Judges stop bytes
-judges has lacks from to (BadLine n) bytes s e = record { front = bytes; rest = []; is_front = append-nil bytes; bad = s.bad; ended = e }
+-- the bytes in which a line was found bad, or its answer broke off
+judges : (has : ℕ → Bool) (lacks : Line → Bool) (from to : Option (List ℕ)) (stop : Stop) (bytes : List ℕ) → ((more : List ℕ) → Stopped has lacks from to stop (bytes ++ more)) → (whole_lines bytes ≡ bytes) ⊎ (80 < length (unfinished_line bytes)) → Judges has from to stop bytes
+judges has lacks from to (BadLine n) bytes s e = record { front = bytes; rest = []; is_front = append-nil bytes; bad = ap bad_line (sym (append-nil bytes)) ∙ (s []).bad; ended = e }
 judges has lacks from to OutOfMemory bytes s e = tt
 judges has lacks from to Reader bytes s e = tt
-judges has lacks from to Writer bytes s e = tt
+judges has lacks from to Writer bytes s e = record { front = bytes; rest = []; is_front = append-nil bytes; wrote = s; ended = e }
 
 -- and more of them
-judges_more : (stop : Stop) (bytes more : List ℕ) → Judges stop bytes → Judges stop (bytes ++ more)
-judges_more (BadLine n) bytes more j = record {
+judges_more : (has : ℕ → Bool) (from to : Option (List ℕ)) (stop : Stop) (bytes more : List ℕ) → Judges has from to stop bytes → Judges has from to stop (bytes ++ more)
+judges_more has from to (BadLine n) bytes more j = record {
   front = j.front;
   rest = j.rest ++ more;
   is_front = sym (append_assoc j.front j.rest more) ∙ ap (λ z. z ++ more) j.is_front;
   bad = j.bad;
   ended = j.ended;
 }
-judges_more OutOfMemory bytes more j = tt
-judges_more Reader bytes more j = tt
-judges_more Writer bytes more j = tt
+judges_more has from to OutOfMemory bytes more j = tt
+judges_more has from to Reader bytes more j = tt
+judges_more has from to Writer bytes more j = record {
+  front = j.front;
+  rest = j.rest ++ more;
+  is_front = sym (append_assoc j.front j.rest more) ∙ ap (λ z. z ++ more) j.is_front;
+  wrote = j.wrote;
+  ended = j.ended;
+}
 
 -- a line ended at an LF
 pub fed_end : (old stands : (ℕ → Bool) → List Line → Type 0) (lacks : Line → Bool) (has : ℕ → Bool) (done : List ℕ) (before : List Line) (from mid to : Option (List ℕ)) (p q : Progress) (result : Result Unit Stop) → At old has done before from mid p → Judged stands lacks has before p.line.items from to q result → Fed stands lacks has (done ++ 10 ∷ []) from to q result
@@ -129,7 +136,9 @@ fed_end old stands lacks has done before from mid to p q (Ok fed) at j = (
 )
 fed_end old stands lacks has done before from mid to p q (Err stop) at j = (
   λ more. j ((done ++ 10 ∷ []) ++ more) (subst (λ z. Faces z before p.line.items) (sym (append_assoc done (10 ∷ []) more)) (reached_end done before p.line.items more at.stood.reached)),
-  judges has lacks from to stop (done ++ 10 ∷ []) (j (done ++ 10 ∷ []) (reached_end done before p.line.items [] at.stood.reached)) (inl (whole-end done)),
+  judges has lacks from to stop (done ++ 10 ∷ [])
+      (λ more. j ((done ++ 10 ∷ []) ++ more) (subst (λ z. Faces z before p.line.items) (sym (append_assoc done (10 ∷ []) more)) (reached_end done before p.line.items more at.stood.reached)))
+      (inl (whole-end done)),
 )
 
 -- the 81st byte of a line
@@ -139,12 +148,12 @@ stopped_long stands lacks has done before b from mid to p stop at long ne r more
     let faces : Faces ((done ++ b ∷ []) ++ more) before far.0 = subst (λ z. Faces z before far.0) (sym (append_assoc done (b ∷ []) more)) far.1 in
     refused has lacks from mid to before ((done ++ b ∷ []) ++ more) (p.lines + 1) stop at.wrote r (ap (λ n. n + 1) at.stood.lines) (faces_bad ((done ++ b ∷ []) ++ more) before far.0 faces (ap (allowed before) far.2))
 
-pub fed_long : (stands : (ℕ → Bool) → List Line → Type 0) (lacks : Line → Bool) (has : ℕ → Bool) (done : List ℕ) (before : List Line) (b : ℕ) (from mid to : Option (List ℕ)) (p : Progress) (stop : Stop) → At stands has done before from mid p → length p.line.items ≡ 80 → b ≢ 10 → Refuses mid to (p.lines + 1) stop → ((more : List ℕ) → Stopped has lacks from to stop ((done ++ b ∷ []) ++ more)) × Judges stop (done ++ b ∷ [])
+pub fed_long : (stands : (ℕ → Bool) → List Line → Type 0) (lacks : Line → Bool) (has : ℕ → Bool) (done : List ℕ) (before : List Line) (b : ℕ) (from mid to : Option (List ℕ)) (p : Progress) (stop : Stop) → At stands has done before from mid p → length p.line.items ≡ 80 → b ≢ 10 → Refuses mid to (p.lines + 1) stop → ((more : List ℕ) → Stopped has lacks from to stop ((done ++ b ∷ []) ++ more)) × Judges has from to stop (done ++ b ∷ [])
 fed_long stands lacks has done before b from mid to p stop at long ne r =
     let stopped : (more : List ℕ) → Stopped has lacks from to stop ((done ++ b ∷ []) ++ more) = stopped_long stands lacks has done before b from mid to p stop at long ne r in
     let unfinished : unfinished_line (done ++ b ∷ []) ≡ p.line.items ++ b ∷ [] = reached_unfinished (done ++ b ∷ []) before (p.line.items ++ b ∷ []) (reached_byte done before p.line.items b at.stood.reached ne) in
     let far : 80 < length (unfinished_line (done ++ b ∷ [])) = omega (arith, ap length unfinished, length_push p.line.items b, long) in
-    (stopped, judges has lacks from to stop (done ++ b ∷ []) (subst (Stopped has lacks from to stop) (append-nil (done ++ b ∷ [])) (stopped [])) (inr far))
+    (stopped, judges has lacks from to stop (done ++ b ∷ []) stopped (inr far))
 
 -- a byte of a line
 pub fed_byte : (stands : (ℕ → Bool) → List Line → Type 0) (has : ℕ → Bool) (done : List ℕ) (before : List Line) (b : ℕ) (from to : Option (List ℕ)) (p q : Progress) → At stands has done before from to p → b ≢ 10 → length p.line.items ≢ 80 → q.lines ≡ p.lines → q.steps ≡ p.steps → q.line.items ≡ p.line.items ++ b ∷ [] → (before : List Line) × At stands has (done ++ b ∷ []) before from to q
@@ -163,10 +172,10 @@ fed_byte stands has done before b from to p q at ne room l s i = (
 )
 
 -- a stop is one whatever follows
-pub fed_stop : (has : ℕ → Bool) (lacks : Line → Bool) (from to : Option (List ℕ)) (stop : Stop) (done all rest : List ℕ) → all ≡ done ++ rest → ((more : List ℕ) → Stopped has lacks from to stop (done ++ more)) × Judges stop done → ((more : List ℕ) → Stopped has lacks from to stop (all ++ more)) × Judges stop all
+pub fed_stop : (has : ℕ → Bool) (lacks : Line → Bool) (from to : Option (List ℕ)) (stop : Stop) (done all rest : List ℕ) → all ≡ done ++ rest → ((more : List ℕ) → Stopped has lacks from to stop (done ++ more)) × Judges has from to stop done → ((more : List ℕ) → Stopped has lacks from to stop (all ++ more)) × Judges has from to stop all
 fed_stop has lacks from to stop done all rest e h = (
   λ more. subst (Stopped has lacks from to stop) (sym (append_assoc done rest more) ∙ ap (λ z. z ++ more) (sym e)) (h.0 (rest ++ more)),
-  subst (Judges stop) (sym e) (judges_more stop done rest h.1),
+  subst (Judges has from to stop) (sym e) (judges_more has from to stop done rest h.1),
 )
 
 -- the input ended behind an LF, or before its first byte
@@ -208,23 +217,48 @@ ran_out stands has done before from to p at =
       unfinished = subst (λ (l : List ℕ). length l ≤ 80) (sym (reached_unfinished done before p.line.items at.stood.reached)) at.stood.short;
     }
 
+-- a write failed: what is missing is of the text of the whole lines, or of a line that is too long
+broke_place : (has : ℕ → Bool) (from to : Option (List ℕ)) (bytes : List ℕ) → BrokeOff has from to bytes → WroteFront has from to (whole_lines bytes) ⊎ (80 < length (unfinished_line bytes))
+broke_place has from to bytes b = subst (λ z. WroteFront has from to (whole_lines z) ⊎ (80 < length (unfinished_line z))) b.is_front (by_end b.ended)
+  where
+    in_lines : (more : List ℕ) × (whole_lines (b.front ++ b.rest) ≡ b.front ++ more) → WroteFront has from to (whole_lines (b.front ++ b.rest)) ⊎ (80 < length (unfinished_line (b.front ++ b.rest)))
+    in_lines found = inl (subst (WroteFront has from to) (sym found.1) (b.wrote found.0))
+
+    by_long : ((more : List ℕ) × (whole_lines (b.front ++ b.rest) ≡ b.front ++ more)) ⊎ (80 < length (unfinished_line (b.front ++ b.rest))) → WroteFront has from to (whole_lines (b.front ++ b.rest)) ⊎ (80 < length (unfinished_line (b.front ++ b.rest)))
+    by_long (inl found) = in_lines found
+    by_long (inr long) = inr long
+
+    by_end : (whole_lines b.front ≡ b.front) ⊎ (80 < length (unfinished_line b.front)) → WroteFront has from to (whole_lines (b.front ++ b.rest)) ⊎ (80 < length (unfinished_line (b.front ++ b.rest)))
+    by_end (inl whole) = in_lines (whole-front b.front b.rest whole)
+    by_end (inr long) = by_long (long-front b.front b.rest long)
+
+-- or the input has ended
+failed_place : (has : ℕ → Bool) (reads : ℕ) (given left from to : Option (List ℕ)) (bytes : List ℕ) → BrokeOff has from to bytes ⊎ ReadToEnd reads given left bytes → WroteFront has from to (whole_lines bytes) ⊎ (80 < length (unfinished_line bytes)) ⊎ ReadToEnd reads given left bytes
+failed_place has reads given left from to bytes (inr end) = inr (inr end)
+failed_place has reads given left from to bytes (inl broke) = by_place (broke_place has from to bytes broke)
+  where
+    by_place : WroteFront has from to (whole_lines bytes) ⊎ (80 < length (unfinished_line bytes)) → WroteFront has from to (whole_lines bytes) ⊎ (80 < length (unfinished_line bytes)) ⊎ ReadToEnd reads given left bytes
+    by_place (inl missing) = inl missing
+    by_place (inr long) = inr (inl long)
+
 -- a run stopped at a line, an error that is no failed read
-pub ran_stopped : (stands : (ℕ → Bool) → List Line → Type 0) (lacks : Line → Bool) (has : ℕ → Bool) (given left from to : Option (List ℕ)) (stop : Stop) (input : List ℕ) → Consumes given left input → Stopped has lacks from to stop input → ((more : List ℕ) → left ≡ Some more → Stopped has lacks from to stop (input ++ more)) → Judges stop input ⊎ IsAtEnd left → Ran stands lacks has given left from to (Err stop)
-ran_stopped stands lacks has given left from to (BadLine n) input c s m j = (input, c, record { given = s; with_left = m }, j)
-ran_stopped stands lacks has given left from to OutOfMemory input c s m j = (input, c, record { given = s; with_left = m })
-ran_stopped stands lacks has given left from to Reader input c s m j = absurd s
-ran_stopped stands lacks has given left from to Writer input c s m j = (input, c, record { given = s; with_left = m })
+pub ran_stopped : (stands : (ℕ → Bool) → List Line → Type 0) (lacks : Line → Bool) (has : ℕ → Bool) (reads : ℕ) (given left from to : Option (List ℕ)) (stop : Stop) (input : List ℕ) → ReadWithin reads given left input → Stopped has lacks from to stop input → ((more : List ℕ) → left ≡ Some more → Stopped has lacks from to stop (input ++ more)) → Judges has from to stop input ⊎ ReadToEnd reads given left input → Ran stands lacks has reads given left from to (Err stop)
+ran_stopped stands lacks has reads given left from to (BadLine n) input c s m j = (input, c, record { given = s; with_left = m }, j)
+ran_stopped stands lacks has reads given left from to OutOfMemory input c s m j = (input, c, record { given = s; with_left = m })
+ran_stopped stands lacks has reads given left from to Reader input c s m j = absurd s
+ran_stopped stands lacks has reads given left from to Writer input c s m j = (input, c, record { front = record { given = s; with_left = m }; place = failed_place has reads given left from to input j })
 
 -- a run stopped in the middle of its input
-pub ran_within : (stands : (ℕ → Bool) → List Line → Type 0) (lacks : Line → Bool) (has : ℕ → Bool) (given left from to : Option (List ℕ)) (stop : Stop) (input : List ℕ) → Consumes given left input → ((more : List ℕ) → Stopped has lacks from to stop (input ++ more)) × Judges stop input → Ran stands lacks has given left from to (Err stop)
-ran_within stands lacks has given left from to stop input c s =
-    ran_stopped stands lacks has given left from to stop input c (subst (Stopped has lacks from to stop) (append-nil input) (s.0 [])) (λ more is. s.0 more) (inl s.1)
+pub ran_within : (stands : (ℕ → Bool) → List Line → Type 0) (lacks : Line → Bool) (has : ℕ → Bool) (reads : ℕ) (given left from to : Option (List ℕ)) (stop : Stop) (input : List ℕ) → ReadWithin reads given left input → ((more : List ℕ) → Stopped has lacks from to stop (input ++ more)) × Judges has from to stop input → Ran stands lacks has reads given left from to (Err stop)
+ran_within stands lacks has reads given left from to stop input c s =
+    ran_stopped stands lacks has reads given left from to stop input c (subst (Stopped has lacks from to stop) (append-nil input) (s.0 [])) (λ more is. s.0 more) (inl s.1)
 
 -- a run came to the end of its input
-pub ran_ended : (stands : (ℕ → Bool) → List Line → Type 0) (lacks : Line → Bool) (has : ℕ → Bool) (given left from to : Option (List ℕ)) (result : Result (Option ℕ) Stop) (input : List ℕ) → Consumes given left input → IsAtEnd left → Ended stands lacks has input from to result → Ran stands lacks has given left from to result
-ran_ended stands lacks has given left from to (Ok count) input c e h = (input, c, e, h.0, h.1, h.2)
-ran_ended stands lacks has given left from to (Err stop) input c e h =
-    ran_stopped stands lacks has given left from to stop input c h (λ more is. subst (λ z. Stopped has lacks from to stop (input ++ z)) (sym (at_end_left left more e is)) (subst (Stopped has lacks from to stop) (sym (append-nil input)) h)) (inr e)
+pub ran_ended : (stands : (ℕ → Bool) → List Line → Type 0) (lacks : Line → Bool) (has : ℕ → Bool) (reads : ℕ) (given left from to : Option (List ℕ)) (result : Result (Option ℕ) Stop) (input : List ℕ) → ReadToEnd reads given left input → Ended stands lacks has input from to result → Ran stands lacks has reads given left from to result
+ran_ended stands lacks has reads given left from to (Ok count) input c h = (input, c, h.0, h.1, h.2)
+ran_ended stands lacks has reads given left from to (Err stop) input c h =
+    ran_stopped stands lacks has reads given left from to stop input (record { consumed = c.consumed; few = omega (arith, c.few) }) h
+    (λ more is. subst (λ z. Stopped has lacks from to stop (input ++ z)) (sym (at_end_left left more c.at_end is)) (subst (Stopped has lacks from to stop) (sym (append-nil input)) h)) (inr c)
 
 -- a line of no bytes
 pub empty_line : (xs : List ℕ) → eqb (length xs) 0 ≡ true → xs ≡ []
@@ -245,7 +279,21 @@ at_start stands has known p standing l s i = record {
   wrote = subst (Appends known known) (sym (answers-nil has)) (Appends-nothing known);
 }
 
--- a read that gave no byte
-pub read_none : (given mid left : Option (List ℕ)) (done xs : List ℕ) (n : ℕ) → Consumes given mid done → Consumes mid left (take n xs) → n ≡ 0 → Consumes given left done
-read_none given mid left done xs n a b zero =
-    subst (Consumes given left) (ap (λ k. done ++ take k xs) zero ∙ append-nil done) (Consumes-more given mid left done (take n xs) a b)
+-- a read that told the end
+pub read_none : (given mid left : Option (List ℕ)) (done xs : List ℕ) (n made most : ℕ) → Consumes given mid done → Consumes mid left (take n xs) → n ≡ 0 → IsAtEnd left → length done ≤ 16384 * made → made < most → ReadToEnd most given left done
+read_none given mid left done xs n made most a b zero end few more = record {
+  consumed = subst (Consumes given left) (ap (λ k. done ++ take k xs) zero ∙ append-nil done) (Consumes-more given mid left done (take n xs) a b);
+  at_end = end;
+  few = omega (arith, few, more);
+}
+
+-- a read that gave some bytes
+pub read_some : (given mid left : Option (List ℕ)) (done xs : List ℕ) (n made most : ℕ) → Consumes given mid done → Consumes mid left (take n xs) → length xs ≤ 16384 → length done ≤ 16384 * made → made < most → ReadWithin most given left (done ++ take n xs)
+read_some given mid left done xs n made most a b chunk few more = record {
+  consumed = Consumes-more given mid left done (take n xs) a b;
+  few = omega (arith, few, more, chunk, length-append done (take n xs), length-take n xs);
+}
+
+-- no further read, or one that gave nothing
+pub read_kept : (given left : Option (List ℕ)) (done : List ℕ) (made most : ℕ) → Consumes given left done → length done ≤ 16384 * made → made ≤ most → ReadWithin most given left done
+read_kept given left done made most a few more = record { consumed = a; few = omega (arith, few, more) }

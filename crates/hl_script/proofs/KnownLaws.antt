@@ -1,5 +1,5 @@
 -- One write or read after another.
-use Rattle.std.proofs.Common.{◌≡◌, ℕ, ◌+◌, ◌-◌, List, [], ◌++◌, length, take, drop, refl, sym, ap, ◌∙◌, subst, append_assoc, append-nil, take_all, length-drop, arith}
+use Rattle.std.proofs.Common.{◌≡◌, ◌<◌, ℕ, ◌+◌, ◌-◌, List, [], ◌++◌, length, take, drop, refl, sym, ap, ◌∙◌, subst, append_assoc, append-nil, take_all, length-drop, length-append, arith}
 use Rattle.std.proofs.lemmas.List.{take-append-drop}
 use Rattle.std.proofs.Math.Seq.{take-add}
 use Rattle.std.specs.Prelude.{Option, Some, None, Result, Ok, Err}
@@ -48,6 +48,7 @@ front-more old mid new xs ys a b = record {
   rest = b.rest;
   wrote = Appends-more old mid new xs b.front a b.wrote;
   is_front = append_assoc xs b.front b.rest ∙ ap (λ z. xs ++ z) b.is_front;
+  missing = b.missing;
 }
 
 -- a front of a text is one of each longer text
@@ -57,6 +58,7 @@ front-longer old new xs ys whole a e = record {
   rest = a.rest ++ ys;
   wrote = a.wrote;
   is_front = sym (append_assoc a.front a.rest ys) ∙ ap (λ z. z ++ ys) a.is_front ∙ sym e;
+  missing = omega (arith, a.missing, length-append a.rest ys);
 }
 
 -- a write that took nothing
@@ -77,8 +79,8 @@ write_more old mid new xs n k a b =
     (Appends-more old mid new (take n xs) (take k (drop n xs)) a (subst (λ z. Appends mid new (take k z)) (slice_rest n xs) b))
 
 -- no more than the first bytes were written
-pub write_front : (old new : Option (List ℕ)) (xs : List ℕ) (n : ℕ) → Appends old new (take n xs) → AppendsFront old new xs
-write_front old new xs n a = record { front = take n xs; rest = drop n xs; wrote = a; is_front = take-append-drop n xs }
+pub write_front : (old new : Option (List ℕ)) (xs : List ℕ) (n : ℕ) → n < length xs → Appends old new (take n xs) → AppendsFront old new xs
+write_front old new xs n fewer a = record { front = take n xs; rest = drop n xs; wrote = a; is_front = take-append-drop n xs; missing = omega (arith, fewer, length-drop n xs) }
 
 -- one put after another
 pub puts_more : {A : Type 0} (old mid new : Option (List ℕ)) (xs ys : List ℕ) (r : Result A Broken) → Appends old mid xs → Puts mid new ys r → Puts old new (xs ++ ys) r

@@ -9,4 +9,5 @@ pub mod ReachLaws
 pub mod RunLaws
 pub mod ShelfLaws
 pub mod SlowLaws
+pub mod StreamLaws
 pub mod TextLaws

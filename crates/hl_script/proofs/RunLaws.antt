@@ -1,7 +1,7 @@
 -- What the outcome of a script's run is to a caller.
-use Rattle.std.proofs.Common.{◌≡◌, ◌⊎◌, ℕ, Bool, true, false, List, [], ◌∷◌, ◌++◌, ap, ◌∙◌, subst, arith}
+use Rattle.std.proofs.Common.{◌≡◌, ◌<◌, ◌≤◌, ◌⊎◌, inl, inr, ℕ, Bool, true, false, List, [], ◌∷◌, ◌++◌, length, ap, ◌∙◌, subst, arith}
 use Rattle.std.specs.Prelude.{Option}
-use Rattle.std.specs.Io.KnownBytes.{Appends, Consumes, IsAtEnd}
+use Rattle.std.specs.Io.KnownBytes.{Appends}
 use Rattle.hl_model.specs.declared.fault.Fault.{Fault}
 use Rattle.hl_model.specs.declared.fault.Fault.TheVariants.{BadLine, OutOfMemory, Stream}
 use Rattle.hl_model.specs.declared.step.Step.{Step}
@@ -11,9 +11,10 @@ use Rattle.hl_model.proofs.HeadlineLaws.{headline}
 use Rattle.hl_cells.specs.Engines.{Whole, EngineStands}
 use Rattle.hl_line.specs.declared.line.Line.{Line}
 use Rattle.hl_line.specs.declared.line.Line.TheVariants.{Config, Step as Makes, Status, Pending, Frames}
+use Rattle.hl_script.specs.Cut.{whole_lines, unfinished_line}
 use Rattle.hl_script.specs.Lines.{is_config, takes_memory}
 use Rattle.hl_script.specs.Text.{answers}
-use Rattle.hl_script.specs.Outcomes.{WroteBad, IsJudged, WroteWholeLines, WroteFront, WroteUpTo, LackedAtConfig, Settled, IsRunFault}
+use Rattle.hl_script.specs.Outcomes.{ReadWithin, ReadToEnd, IsJudged, WroteWholeLines, WroteFront, FailedWrite, WroteUpTo, LackedAtConfig, Settled, StoppedAtBadLine, StoppedByMemory, StoppedByStream, IsRunFault}
 use Rattle.hl_script.specs.Machine.{ScriptStopped}
 use Rattle.hl_script.proofs.MachineLaws.{config_first}
 use Rattle.hl_script.proofs.TextLaws.{answers-nil}
@@ -46,25 +47,54 @@ settled_lacked has left from to input s = record {
 }
 
 -- a run that stopped at a fault, by the fault
-pub stopped_bad : (may_lack : Bool) (has : ℕ → Bool) (given left from to : Option (List ℕ)) (f : Fault) (n : ℕ) → ScriptStopped may_lack has given left from to f → f ≡ BadLine n → (input : List ℕ) × Consumes given left input × Settled left (WroteBad has from to n) input × (IsJudged n input ⊎ IsAtEnd left)
-stopped_bad may_lack has given left from to f n s e = subst (ScriptStopped may_lack has given left from to) e s
+pub stopped_bad : (may_lack : Bool) (has : ℕ → Bool) (reads : ℕ) (given left from to : Option (List ℕ)) (f : Fault) (n : ℕ) → ScriptStopped may_lack has reads given left from to f → f ≡ BadLine n → StoppedAtBadLine has reads given left from to n
+stopped_bad may_lack has reads given left from to f n s e = subst (ScriptStopped may_lack has reads given left from to) e s
 
-pub stopped_lacked : (has : ℕ → Bool) (given left from to : Option (List ℕ)) (f : Fault) → ScriptStopped false has given left from to f → f ≡ OutOfMemory → (input : List ℕ) × Consumes given left input × Settled left (LackedAtConfig from to) input
-stopped_lacked has given left from to f s e =
-    let here : ScriptStopped false has given left from to OutOfMemory = subst (ScriptStopped false has given left from to) e s in
+pub stopped_lacked : (has : ℕ → Bool) (reads : ℕ) (given left from to : Option (List ℕ)) (f : Fault) → ScriptStopped false has reads given left from to f → f ≡ OutOfMemory → StoppedByMemory reads given left (LackedAtConfig from to)
+stopped_lacked has reads given left from to f s e =
+    let here : ScriptStopped false has reads given left from to OutOfMemory = subst (ScriptStopped false has reads given left from to) e s in
     (here.0, here.1, settled_lacked has left from to here.0 here.2)
 
-pub stopped_up_to : (has : ℕ → Bool) (given left from to : Option (List ℕ)) (f : Fault) → ScriptStopped true has given left from to f → f ≡ OutOfMemory → (input : List ℕ) × Consumes given left input × Settled left (WroteUpTo has (takes_memory true) from to) input
-stopped_up_to has given left from to f s e = subst (ScriptStopped true has given left from to) e s
+pub stopped_up_to : (has : ℕ → Bool) (reads : ℕ) (given left from to : Option (List ℕ)) (f : Fault) → ScriptStopped true has reads given left from to f → f ≡ OutOfMemory → StoppedByMemory reads given left (WroteUpTo has (takes_memory true) from to)
+stopped_up_to has reads given left from to f s e = subst (ScriptStopped true has reads given left from to) e s
 
-pub stopped_stream : (may_lack : Bool) (has : ℕ → Bool) (given left from to : Option (List ℕ)) (f : Fault) → ScriptStopped may_lack has given left from to f → f ≡ Stream → (input : List ℕ) × Consumes given left input × (WroteWholeLines has from to input ⊎ Settled left (WroteFront has from to) input)
-stopped_stream may_lack has given left from to f s e = subst (ScriptStopped may_lack has given left from to) e s
+pub stopped_stream : (may_lack : Bool) (has : ℕ → Bool) (reads : ℕ) (given left from to : Option (List ℕ)) (f : Fault) → ScriptStopped may_lack has reads given left from to f → f ≡ Stream → StoppedByStream has reads given left from to
+stopped_stream may_lack has reads given left from to f s e = subst (ScriptStopped may_lack has reads given left from to) e s
 
-pub stopped_fault : (may_lack : Bool) (has : ℕ → Bool) (given left from to : Option (List ℕ)) (f : Fault) → ScriptStopped may_lack has given left from to f → IsRunFault f
-stopped_fault may_lack has given left from to (BadLine n) s = tt
-stopped_fault may_lack has given left from to OutOfMemory s = tt
-stopped_fault may_lack has given left from to Stream s = tt
-stopped_fault may_lack has given left from to f s = absurd s
+pub stopped_fault : (may_lack : Bool) (has : ℕ → Bool) (reads : ℕ) (given left from to : Option (List ℕ)) (f : Fault) → ScriptStopped may_lack has reads given left from to f → IsRunFault f
+stopped_fault may_lack has reads given left from to (BadLine n) s = tt
+stopped_fault may_lack has reads given left from to OutOfMemory s = tt
+stopped_fault may_lack has reads given left from to Stream s = tt
+stopped_fault may_lack has reads given left from to f s = absurd s
+
+-- more reads would have been allowed
+within_more : (few many : ℕ) (given left : Option (List ℕ)) (input : List ℕ) → few ≤ many → ReadWithin few given left input → ReadWithin many given left input
+within_more few many given left input le r = record { consumed = r.consumed; few = omega (arith, r.few, le) }
+
+pub to_end_more : (few many : ℕ) (given left : Option (List ℕ)) (input : List ℕ) → few ≤ many → ReadToEnd few given left input → ReadToEnd many given left input
+to_end_more few many given left input le r = record { consumed = r.consumed; at_end = r.at_end; few = omega (arith, r.few, le) }
+
+-- a run that stopped, by where it stopped
+pub script_bad : (may_lack : Bool) (has : ℕ → Bool) (few many : ℕ) (given left from to : Option (List ℕ)) (n : ℕ) → few ≤ many → StoppedAtBadLine has few given left from to n → ScriptStopped may_lack has many given left from to (BadLine n)
+script_bad may_lack has few many given left from to n le s = (s.0, within_more few many given left s.0 le s.1, s.2, by_judge s.3)
+  where
+    by_judge : IsJudged n s.0 ⊎ ReadToEnd few given left s.0 → IsJudged n s.0 ⊎ ReadToEnd many given left s.0
+    by_judge (inl j) = inl j
+    by_judge (inr end) = inr (to_end_more few many given left s.0 le end)
+
+pub script_lacked : (may_lack : Bool) (has : ℕ → Bool) (few many : ℕ) (given left from to : Option (List ℕ)) → few ≤ many → StoppedByMemory few given left (WroteUpTo has (takes_memory may_lack) from to) → ScriptStopped may_lack has many given left from to OutOfMemory
+script_lacked may_lack has few many given left from to le s = (s.0, within_more few many given left s.0 le s.1, s.2)
+
+pub script_read : (may_lack : Bool) (has : ℕ → Bool) (few many : ℕ) (given left from to : Option (List ℕ)) (input : List ℕ) → few ≤ many → ReadWithin few given left input → WroteWholeLines has from to input → ScriptStopped may_lack has many given left from to Stream
+script_read may_lack has few many given left from to input le r w = (input, within_more few many given left input le r, inl w)
+
+pub script_broken : (may_lack : Bool) (has : ℕ → Bool) (few many : ℕ) (given left from to : Option (List ℕ)) (input : List ℕ) → few ≤ many → ReadWithin few given left input → FailedWrite has few given left from to input → ScriptStopped may_lack has many given left from to Stream
+script_broken may_lack has few many given left from to input le r f = (input, within_more few many given left input le r, inr (record { front = f.front; place = by_place f.place }))
+  where
+    by_place : WroteFront has from to (whole_lines input) ⊎ (80 < length (unfinished_line input)) ⊎ ReadToEnd few given left input → WroteFront has from to (whole_lines input) ⊎ (80 < length (unfinished_line input)) ⊎ ReadToEnd many given left input
+    by_place (inl missing) = inl missing
+    by_place (inr (inl long)) = inr (inl long)
+    by_place (inr (inr end)) = inr (inr (to_end_more few many given left input le end))
 
 -- the steps at which an engine stands keep the headline
 pub engine_headline : {F : Type 0} {engine : Whole F} {sizes : Sizes} {A : List Step} → engine.core.sizes ≡ sizes → EngineStands engine A → Headline sizes A

@@ -1,7 +1,7 @@
 -- Where a run stands in its input, and how its parts leave it. No definition of the text rests on these.
-use Rattle.std.specs.Prelude.{◌≡◌, ◌≤◌, ◌⊎◌, ℕ, ◌==◌, Bool, true, false, Option, Some, Result, Ok, Err, List, [], ◌∷◌, ◌++◌, length}
+use Rattle.std.specs.Prelude.{◌≡◌, ◌<◌, ◌≤◌, ◌⊎◌, ℕ, ◌==◌, Bool, true, false, Option, Some, Result, Ok, Err, List, [], ◌∷◌, ◌++◌, length}
 use Rattle.std.specs.List.{list_any}
-use Rattle.std.specs.Io.KnownBytes.{Appends, Consumes, IsAtEnd}
+use Rattle.std.specs.Io.KnownBytes.{Appends}
 use Rattle.hl_model.specs.Lists.{until_last}
 use Rattle.hl_line.specs.declared.line.Line.{Line}
 use Rattle.hl_line.specs.Reading.{line_of}
@@ -10,11 +10,11 @@ use Rattle.hl_script.specs.declared.machine.Broken.TheVariants.{OutOfMemory as N
 use Rattle.hl_script.specs.declared.progress.Progress.{Progress}
 use Rattle.hl_script.specs.declared.stop.Stop.{Stop}
 use Rattle.hl_script.specs.declared.stop.Stop.TheVariants.{BadLine, OutOfMemory, Reader, Writer}
-use Rattle.hl_script.specs.Cut.{cut}
+use Rattle.hl_script.specs.Cut.{cut, whole_lines, unfinished_line}
 use Rattle.hl_script.specs.Lines.{script, good_lines, allowed}
 use Rattle.hl_script.specs.Answers.{reply_line, accepted, is_accepted, sizes_of}
 use Rattle.hl_script.specs.Text.{answers, bad_text, text, count_of}
-use Rattle.hl_script.specs.Outcomes.{WroteWholeLines, WroteAll, WroteBad, IsJudged, WroteUpTo, AppendsFront, Settled}
+use Rattle.hl_script.specs.Outcomes.{ReadWithin, ReadToEnd, WroteWholeLines, WroteAll, WroteBad, IsJudged, WroteUpTo, AppendsFront, FailedWrite, StoppedAtBadLine, StoppedByMemory}
 
 -- the byte that ends a line
 abbrev pub is_end : ℕ → Bool
@@ -55,10 +55,19 @@ Stopped has lacks before after OutOfMemory bytes = WroteUpTo has lacks before af
 Stopped has lacks before after Reader bytes = ⊥
 Stopped has lacks before after Writer bytes = AppendsFront before after (text has bytes)
 
--- where a run stopped at a bad line, these bytes have that line's LF, or its 81st byte
-abbrev pub Judges : Stop → List ℕ → Type 0
-Judges (BadLine n) bytes = IsJudged n bytes
-Judges _ bytes = Unit {0}
+-- a write failed at a line whose LF, or whose 81st byte, is the last of a front of these bytes, whatever follows that front
+pub record BrokeOff (has : ℕ → Bool) (before after : Option (List ℕ)) (bytes : List ℕ) : Type 0 where
+  pub front : List ℕ
+  pub rest : List ℕ
+  pub is_front : front ++ rest ≡ bytes
+  pub wrote : (more : List ℕ) → AppendsFront before after (text has (front ++ more))
+  pub ended : (whole_lines front ≡ front) ⊎ (80 < length (unfinished_line front))
+
+-- where a run stopped at a line, these bytes have that line's LF, or its 81st byte
+abbrev pub Judges : (ℕ → Bool) → Option (List ℕ) → Option (List ℕ) → Stop → List ℕ → Type 0
+Judges has before after (BadLine n) bytes = IsJudged n bytes
+Judges has before after Writer bytes = BrokeOff has before after bytes
+Judges has before after _ bytes = Unit {0}
 
 -- these bytes are the whole lines before, all of them good, and the beginning of a line
 pub record Reached (done : List ℕ) (before : List Line) (line : List ℕ) : Type 0 where
@@ -109,7 +118,7 @@ Judged stands lacks has before line from to progress (Err stop) = (bytes : List 
 -- what further bytes led to: a stop is one whatever follows them
 abbrev pub Fed : ((ℕ → Bool) → List Line → Type 0) → (Line → Bool) → (ℕ → Bool) → List ℕ → Option (List ℕ) → Option (List ℕ) → Progress → Result Unit Stop → Type 0
 Fed stands lacks has done from to progress (Ok fed) = (before : List Line) × At stands has done before from to progress
-Fed stands lacks has done from to progress (Err stop) = ((more : List ℕ) → Stopped has lacks from to stop (done ++ more)) × Judges stop done
+Fed stands lacks has done from to progress (Err stop) = ((more : List ℕ) → Stopped has lacks from to stop (done ++ more)) × Judges has from to stop done
 
 -- what the end of the input led to
 abbrev pub Ended : ((ℕ → Bool) → List Line → Type 0) → (Line → Bool) → (ℕ → Bool) → List ℕ → Option (List ℕ) → Option (List ℕ) → Result (Option ℕ) Stop → Type 0
@@ -117,10 +126,10 @@ Ended stands lacks has done from to (Ok count) = stands has (script done) × Wro
 Ended stands lacks has done from to (Err stop) = Stopped has lacks from to stop done
 
 -- what a run led to
-abbrev pub Ran : ((ℕ → Bool) → List Line → Type 0) → (Line → Bool) → (ℕ → Bool) → Option (List ℕ) → Option (List ℕ) → Option (List ℕ) → Option (List ℕ) → Result (Option ℕ) Stop → Type 0
-Ran stands lacks has given left from to (Ok count) =
-    (input : List ℕ) × Consumes given left input × IsAtEnd left × stands has (script input) × WroteAll has from to input × (count ≡ count_of has (script input))
-Ran stands lacks has given left from to (Err Reader) = (input : List ℕ) × Consumes given left input × WroteWholeLines has from to input
-Ran stands lacks has given left from to (Err (BadLine n)) =
-    (input : List ℕ) × Consumes given left input × Settled left (WroteBad has from to n) input × (IsJudged n input ⊎ IsAtEnd left)
-Ran stands lacks has given left from to (Err stop) = (input : List ℕ) × Consumes given left input × Settled left (Stopped has lacks from to stop) input
+abbrev pub Ran : ((ℕ → Bool) → List Line → Type 0) → (Line → Bool) → (ℕ → Bool) → ℕ → Option (List ℕ) → Option (List ℕ) → Option (List ℕ) → Option (List ℕ) → Result (Option ℕ) Stop → Type 0
+Ran stands lacks has reads given left from to (Ok count) =
+    (input : List ℕ) × ReadToEnd reads given left input × stands has (script input) × WroteAll has from to input × (count ≡ count_of has (script input))
+Ran stands lacks has reads given left from to (Err Reader) = (input : List ℕ) × ReadWithin reads given left input × WroteWholeLines has from to input
+Ran stands lacks has reads given left from to (Err (BadLine n)) = StoppedAtBadLine has reads given left from to n
+Ran stands lacks has reads given left from to (Err OutOfMemory) = StoppedByMemory reads given left (WroteUpTo has lacks from to)
+Ran stands lacks has reads given left from to (Err Writer) = (input : List ℕ) × ReadWithin reads given left input × FailedWrite has reads given left from to input

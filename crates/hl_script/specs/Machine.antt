@@ -1,6 +1,5 @@
 -- When what makes the steps of a script stands at the script's lines, and what a run of the script leads to.
-use Rattle.std.specs.Prelude.{◌≡◌, ◌⊎◌, ℕ, Bool, Option, Some, None, Result, Ok, Err, List, [], ◌∷◌}
-use Rattle.std.specs.Io.KnownBytes.{Consumes, IsAtEnd}
+use Rattle.std.specs.Prelude.{◌≡◌, ℕ, Bool, Option, Some, None, Result, Ok, Err, List, [], ◌∷◌}
 use Rattle.hl_model.specs.declared.fault.Fault.{Fault}
 use Rattle.hl_model.specs.declared.fault.Fault.TheVariants.{BadLine, OutOfMemory, Stream}
 use Rattle.hl_model.specs.declared.step.Step.{Step}
@@ -10,7 +9,7 @@ use Rattle.hl_line.specs.declared.line.Line.TheVariants.{Config}
 use Rattle.hl_script.specs.Lines.{script, takes_memory}
 use Rattle.hl_script.specs.Answers.{sizes_of, accepted}
 use Rattle.hl_script.specs.Text.{count_of}
-use Rattle.hl_script.specs.Outcomes.{WroteAll, WroteBad, IsJudged, WroteUpTo, WroteWholeLines, WroteFront, Settled}
+use Rattle.hl_script.specs.Outcomes.{ReadToEnd, WroteAll, WroteUpTo, StoppedAtBadLine, StoppedByMemory, StoppedByStream}
 
 -- it stands at the accepted steps of some lines, of which the first is a config
 pub record StandsAt (stands : (ℕ → Bool) → Sizes → List Step → Type 0) (has : ℕ → Bool) (before : List Line) : Type 0 where
@@ -35,16 +34,14 @@ EndsAt stands has lines None = lines ≡ []
 EndsAt stands has lines (Some end) = (count_of has lines ≡ Some end.1) × stands end.0 has (sizes_of lines) (accepted has lines)
 
 -- what a run of a script led to that stopped at a fault
-abbrev pub ScriptStopped : Bool → (ℕ → Bool) → Option (List ℕ) → Option (List ℕ) → Option (List ℕ) → Option (List ℕ) → Fault → Type 0
-ScriptStopped may_lack has given left from to (BadLine n) =
-    (input : List ℕ) × Consumes given left input × Settled left (WroteBad has from to n) input × (IsJudged n input ⊎ IsAtEnd left)
-ScriptStopped may_lack has given left from to OutOfMemory = (input : List ℕ) × Consumes given left input × Settled left (WroteUpTo has (takes_memory may_lack) from to) input
-ScriptStopped may_lack has given left from to Stream =
-    (input : List ℕ) × Consumes given left input × (WroteWholeLines has from to input ⊎ Settled left (WroteFront has from to) input)
-ScriptStopped may_lack has given left from to _ = ⊥
+abbrev pub ScriptStopped : Bool → (ℕ → Bool) → ℕ → Option (List ℕ) → Option (List ℕ) → Option (List ℕ) → Option (List ℕ) → Fault → Type 0
+ScriptStopped may_lack has reads given left from to (BadLine n) = StoppedAtBadLine has reads given left from to n
+ScriptStopped may_lack has reads given left from to OutOfMemory = StoppedByMemory reads given left (WroteUpTo has (takes_memory may_lack) from to)
+ScriptStopped may_lack has reads given left from to Stream = StoppedByStream has reads given left from to
+ScriptStopped may_lack has reads given left from to _ = ⊥
 
 -- what a run of a script led to
-abbrev pub ScriptRan : {S : Type 0} → (S → (ℕ → Bool) → Sizes → List Step → Type 0) → Bool → (ℕ → Bool) → Option (List ℕ) → Option (List ℕ) → Option (List ℕ) → Option (List ℕ) → Result (Option (S × ℕ)) Fault → Type 0
-ScriptRan stands may_lack has given left from to (Ok ended) =
-    (input : List ℕ) × Consumes given left input × IsAtEnd left × WroteAll has from to input × EndsAt stands has (script input) ended
-ScriptRan stands may_lack has given left from to (Err fault) = ScriptStopped may_lack has given left from to fault
+abbrev pub ScriptRan : {S : Type 0} → (S → (ℕ → Bool) → Sizes → List Step → Type 0) → Bool → (ℕ → Bool) → ℕ → Option (List ℕ) → Option (List ℕ) → Option (List ℕ) → Option (List ℕ) → Result (Option (S × ℕ)) Fault → Type 0
+ScriptRan stands may_lack has reads given left from to (Ok ended) =
+    (input : List ℕ) × ReadToEnd reads given left input × WroteAll has from to input × EndsAt stands has (script input) ended
+ScriptRan stands may_lack has reads given left from to (Err fault) = ScriptStopped may_lack has reads given left from to fault

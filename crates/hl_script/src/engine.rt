@@ -6,6 +6,7 @@ ghost use Rattle.hl_script.specs.Engine.{Refuses, At, Judged, Fed, Ended, Ran};
 use crate::machine::{Broken, Machine};
 use crate::progress::Progress;
 use crate::put::put;
+use crate::reads::Reads;
 use crate::stop::Stop;
 use arrayvec::ArrayString;
 use itoa::Buffer;
@@ -13,9 +14,6 @@ use std::io::{Read, Write};
 
 /// How many bytes a read may give.
 const CHUNK: usize = 16384;
-
-/// How many reads a run may make.
-const TURNS: u64 = 1 << 32;
 
 /// Tells that line n is no step. The answer is `BadLine` with this number, or `Writer`.
 fn refuse<W: Write>(n: u64, out: &mut W) -> Stop
@@ -131,24 +129,28 @@ fn finish<M: Machine, W: Write>(
 }
 
 /// Has a machine answer the lines that a reader gives, and writes the answers. They go out before each read, so
-/// that who awaits them can go on. It makes at most 2^32 reads, and no read, write or flush after one that failed.
-/// The answer is how many steps were accepted, None for no line.
+/// that who awaits them can go on. It makes no read, write or flush after one that failed. At the end of the reads
+/// that it may make it stops, as where a read failed. The answer is how many steps were accepted, None for no line.
 pub(crate) fn run<M: Machine, R: Read, W: Write>(
     machine: &mut M,
+    reads: &mut Reads,
     reader: &mut R,
     out: &mut W,
 ) -> Result<Option<u64>, Stop>
-    requires { (has : ℕ → Bool) × M.stands machine.old has [] }
-    ensures { (has : ℕ → Bool) → M.stands machine.old has []
-        → Ran (M.stands machine.new) M.lacks has (R.remaining reader.old) (R.remaining reader.new) (W.contents out.old) (W.contents out.new) result }
+    requires standing { (has : ℕ → Bool) × M.stands machine.old has [] }
+    requires none_made { reads.old.made ≡ 0 }
+    requires countable { reads.old.most ≤ 2 ^ 48 }
+    ensures few { reads.new.made ≤ reads.old.most }
+    ensures ran { (has : ℕ → Bool) → M.stands machine.old has []
+        → Ran (M.stands machine.new) M.lacks has reads.old.most (R.remaining reader.old) (R.remaining reader.new) (W.contents out.old) (W.contents out.new) result }
 {
     let mut progress = Progress::new();
     let mut buffer = [0; CHUNK];
-    for _turn in 0..TURNS {
+    while reads.made < reads.most {
         if out.flush().is_err() {
             return Err(Stop::Reader);
         }
-        match reader.read(&mut buffer) {
+        match reads.read(reader, &mut buffer) {
             Ok(0) => return finish(machine, &mut progress, out),
             Ok(count) => take_bytes(machine, &mut progress, &buffer[..count], out)?,
             Err(_) => return Err(Stop::Reader),

@@ -15,11 +15,15 @@
 //! [`slow_text`] writes the same text in the slow form: it keeps the list of accepted steps and computes each answer
 //! from it. It has no jobs: the tags below a number count as having one.
 //!
+//! [`run_text_within`] and [`slow_text_within`] do so in at most so many reads as their caller allows, the others in
+//! 2^32.
+//!
 //! # The parts
 //!
 //! | Module | What it does |
 //! |---|---|
 //! | `engine` | cuts, judges, has each line answered, and stops: at a bad line, at the end, at a fault of a stream |
+//! | `reads` | counts the reads, which end a run that would go on |
 //! | `progress` | what is kept between two bytes: two counts, and a line of at most 80 bytes |
 //! | `machine` | the trait of what answers a line; a machine need not keep the lines that it answered |
 //! | `script` | the machine: it opens at the config, and has what was opened make the steps |
@@ -29,6 +33,7 @@
 //! | `lines` | the line that answers a step, and those that answer queries |
 //! | `sum` | the promise of the jobs |
 //! | `answers` | the texts of answers |
+//! | `laws` | what a caller can tell after `Stream` |
 //! | `put` | writes all of some bytes, and makes no write after one that failed |
 //!
 //! A line is judged when its LF was read, when the input ended, or at its 81st byte; until then it isn't answered.
@@ -38,10 +43,12 @@
 mod answers;
 mod engine;
 mod fast;
+pub mod laws;
 mod lines;
 mod machine;
 mod progress;
 mod put;
+mod reads;
 mod run;
 mod script;
 mod slow;
@@ -50,5 +57,5 @@ mod stop;
 mod sum;
 
 pub use hl_line::{Line, print_fault, print_line, print_reply, read_line};
-pub use run::{Finished, run_text, slow_text};
+pub use run::{Finished, run_text, run_text_within, slow_text, slow_text_within};
 pub use sum::Sum;

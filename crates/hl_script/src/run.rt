@@ -1,11 +1,10 @@
-ghost use Rattle.std.specs.Prelude.{◌≡◌, ◌≤◌, ◌^◌, ℕ, ◌⊎◌, Err, IfOk, IfErr, IfSome, option_map, true, List, []};
-ghost use Rattle.std.specs.Io.KnownBytes.{Appends, Consumes, IsAtEnd};
+ghost use Rattle.std.specs.Prelude.{◌≡◌, ◌≤◌, ◌^◌, ℕ, Err, IfOk, IfErr, IfSome, option_map, true, List};
 ghost use Rattle.hl_model.specs.Headline.{Headline};
 ghost use Rattle.hl_cells.specs.Engines.{EngineStands};
 ghost use Rattle.hl_script.specs.Lines.{script, takes_memory};
 ghost use Rattle.hl_script.specs.Answers.{sizes_of, accepted};
-ghost use Rattle.hl_script.specs.Text.{tags_on, below, text, count_of};
-ghost use Rattle.hl_script.specs.Outcomes.{WroteAll, WroteWholeLines, WroteBad, IsJudged, WroteFront, WroteUpTo, LackedAtConfig, Settled, IsRunFault};
+ghost use Rattle.hl_script.specs.Text.{tags_on, below, count_of};
+ghost use Rattle.hl_script.specs.Outcomes.{ReadToEnd, WroteAll, WroteUpTo, LackedAtConfig, StoppedAtBadLine, StoppedByMemory, StoppedByStream, IsRunFault};
 
 use crate::fast::{Fast, Jobs};
 use crate::script::run_script;
@@ -17,6 +16,9 @@ use hl_epoch::Epochs;
 use hl_model::Fault;
 use std::alloc::Global;
 use std::io::{Read, Write};
+
+/// The reads of a run that is given no number of them.
+const READS: u64 = 1 << 32;
 
 /// What a run has left at the end of its script.
 #[derive(Drop)]
@@ -36,29 +38,65 @@ pub struct Finished<E: Epochs, F: Task> {
 ///   end of the input: the text was written, whose last line tells that number. Bytes behind it may have been read.
 /// - `OutOfMemory` where memory was refused at line 1; nothing was written.
 /// - `Stream` where a read or the flush before it failed, or 2^32 reads gave no end: the text of the whole lines was
-///   written. Or where a write failed or took no byte: the beginning of the text was written. None is tried again.
+///   written. Or where a write failed or took no byte: a beginning of the text was written. It ends before the text of
+///   the whole lines does, or else in the answer to a line that has an 81st byte or that the end of the input ended, so
+///   that the two can mostly be told apart ([`laws`](crate::laws)). None is tried again.
 pub fn run_text<E: Epochs + Drop, F: Task, R: Read, W: Write>(
     alloc: Global,
     reader: &mut R,
     writer: &mut W,
     shelf: Shelf<F, Sum>,
 ) -> Result<Option<Finished<E, F>>, Fault>
-    ensures ok { IfOk result (λ finished. (input : List ℕ) × Consumes (R.remaining reader.old) (R.remaining reader.new) input × IsAtEnd (R.remaining reader.new)
-        × WroteAll (tags_on shelf) (W.contents writer.old) (W.contents writer.new) input × (option_map (λ end. end.accepted) finished ≡ count_of (tags_on shelf) (script input))
-        × IfSome finished (λ end. EngineStands end.engine (accepted (tags_on shelf) (script input)) × (end.engine.core.sizes ≡ sizes_of (script input))
+    ensures ok { IfOk result (λ finished. (input : List ℕ)
+        × ReadToEnd (2 ^ 32) (R.remaining reader.old) (R.remaining reader.new) input
+        × WroteAll (tags_on shelf) (W.contents writer.old) (W.contents writer.new) input
+        × (option_map (λ end. end.accepted) finished ≡ count_of (tags_on shelf) (script input))
+        × IfSome finished (λ end. EngineStands end.engine (accepted (tags_on shelf) (script input))
+        × (end.engine.core.sizes ≡ sizes_of (script input))
         × Headline (sizes_of (script input)) (accepted (tags_on shelf) (script input)))) }
-    ensures bad_line { (n : ℕ) → result ≡ Err (Fault.BadLine n) → (input : List ℕ) × Consumes (R.remaining reader.old) (R.remaining reader.new) input
-        × Settled (R.remaining reader.new) (WroteBad (tags_on shelf) (W.contents writer.old) (W.contents writer.new) n) input
-        × (IsJudged n input ⊎ IsAtEnd (R.remaining reader.new)) }
-    ensures out_of_memory { result ≡ Err Fault.OutOfMemory → (input : List ℕ) × Consumes (R.remaining reader.old) (R.remaining reader.new) input
-        × Settled (R.remaining reader.new) (LackedAtConfig (W.contents writer.old) (W.contents writer.new)) input }
-    ensures stream { result ≡ Err Fault.Stream → (input : List ℕ) × Consumes (R.remaining reader.old) (R.remaining reader.new) input
-        × (WroteWholeLines (tags_on shelf) (W.contents writer.old) (W.contents writer.new) input
-        ⊎ Settled (R.remaining reader.new) (WroteFront (tags_on shelf) (W.contents writer.old) (W.contents writer.new)) input) }
+    ensures bad_line { (n : ℕ) → result ≡ Err (Fault.BadLine n)
+        → StoppedAtBadLine (tags_on shelf) (2 ^ 32) (R.remaining reader.old) (R.remaining reader.new)
+        (W.contents writer.old) (W.contents writer.new) n }
+    ensures out_of_memory { result ≡ Err Fault.OutOfMemory
+        → StoppedByMemory (2 ^ 32) (R.remaining reader.old) (R.remaining reader.new)
+        (LackedAtConfig (W.contents writer.old) (W.contents writer.new)) }
+    ensures stream { result ≡ Err Fault.Stream
+        → StoppedByStream (tags_on shelf) (2 ^ 32) (R.remaining reader.old) (R.remaining reader.new)
+        (W.contents writer.old) (W.contents writer.new) }
+    ensures faults { IfErr result IsRunFault }
+{
+    run_text_within(alloc, reader, writer, shelf, READS)
+}
+
+/// The same in at most `reads` reads, and no more than 2^48 of them, each of at most 16384 bytes. Where none of them told
+/// the end and no line was bad, it answers `Stream`, as after a failed read, and reads nothing more.
+pub fn run_text_within<E: Epochs + Drop, F: Task, R: Read, W: Write>(
+    alloc: Global,
+    reader: &mut R,
+    writer: &mut W,
+    shelf: Shelf<F, Sum>,
+    reads: u64,
+) -> Result<Option<Finished<E, F>>, Fault>
+    ensures ok { IfOk result (λ finished. (input : List ℕ)
+        × ReadToEnd reads (R.remaining reader.old) (R.remaining reader.new) input
+        × WroteAll (tags_on shelf) (W.contents writer.old) (W.contents writer.new) input
+        × (option_map (λ end. end.accepted) finished ≡ count_of (tags_on shelf) (script input))
+        × IfSome finished (λ end. EngineStands end.engine (accepted (tags_on shelf) (script input))
+        × (end.engine.core.sizes ≡ sizes_of (script input))
+        × Headline (sizes_of (script input)) (accepted (tags_on shelf) (script input)))) }
+    ensures bad_line { (n : ℕ) → result ≡ Err (Fault.BadLine n)
+        → StoppedAtBadLine (tags_on shelf) reads (R.remaining reader.old) (R.remaining reader.new)
+        (W.contents writer.old) (W.contents writer.new) n }
+    ensures out_of_memory { result ≡ Err Fault.OutOfMemory
+        → StoppedByMemory reads (R.remaining reader.old) (R.remaining reader.new)
+        (LackedAtConfig (W.contents writer.old) (W.contents writer.new)) }
+    ensures stream { result ≡ Err Fault.Stream
+        → StoppedByStream (tags_on shelf) reads (R.remaining reader.old) (R.remaining reader.new)
+        (W.contents writer.old) (W.contents writer.new) }
     ensures faults { IfErr result IsRunFault }
 {
     let jobs = Jobs { alloc, shelf };
-    let ended: Option<(Fast<E, F>, u64)> = run_script(jobs, reader, writer)?;
+    let ended: Option<(Fast<E, F>, u64)> = run_script(jobs, reader, writer, reads)?;
     let Some((fast, accepted)) = ended else {
         return Ok(None);
     };
@@ -81,20 +119,50 @@ pub fn slow_text<R: Read, W: Write>(
     tags: u64,
 ) -> Result<Option<u64>, Fault>
     requires { tags ≤ 2 ^ 62 }
-    ensures ok { IfOk result (λ count. (input : List ℕ) × Consumes (R.remaining reader.old) (R.remaining reader.new) input × IsAtEnd (R.remaining reader.new)
-        × WroteAll (below tags) (W.contents writer.old) (W.contents writer.new) input × (count ≡ count_of (below tags) (script input))) }
-    ensures bad_line { (n : ℕ) → result ≡ Err (Fault.BadLine n) → (input : List ℕ) × Consumes (R.remaining reader.old) (R.remaining reader.new) input
-        × Settled (R.remaining reader.new) (WroteBad (below tags) (W.contents writer.old) (W.contents writer.new) n) input
-        × (IsJudged n input ⊎ IsAtEnd (R.remaining reader.new)) }
-    ensures out_of_memory { result ≡ Err Fault.OutOfMemory → (input : List ℕ) × Consumes (R.remaining reader.old) (R.remaining reader.new) input
-        × Settled (R.remaining reader.new) (WroteUpTo (below tags) (takes_memory true) (W.contents writer.old) (W.contents writer.new)) input }
-    ensures stream { result ≡ Err Fault.Stream → (input : List ℕ) × Consumes (R.remaining reader.old) (R.remaining reader.new) input
-        × (WroteWholeLines (below tags) (W.contents writer.old) (W.contents writer.new) input
-        ⊎ Settled (R.remaining reader.new) (WroteFront (below tags) (W.contents writer.old) (W.contents writer.new)) input) }
+    ensures ok { IfOk result (λ count. (input : List ℕ)
+        × ReadToEnd (2 ^ 32) (R.remaining reader.old) (R.remaining reader.new) input
+        × WroteAll (below tags) (W.contents writer.old) (W.contents writer.new) input
+        × (count ≡ count_of (below tags) (script input))) }
+    ensures bad_line { (n : ℕ) → result ≡ Err (Fault.BadLine n)
+        → StoppedAtBadLine (below tags) (2 ^ 32) (R.remaining reader.old) (R.remaining reader.new)
+        (W.contents writer.old) (W.contents writer.new) n }
+    ensures out_of_memory { result ≡ Err Fault.OutOfMemory
+        → StoppedByMemory (2 ^ 32) (R.remaining reader.old) (R.remaining reader.new)
+        (WroteUpTo (below tags) (takes_memory true) (W.contents writer.old) (W.contents writer.new)) }
+    ensures stream { result ≡ Err Fault.Stream
+        → StoppedByStream (below tags) (2 ^ 32) (R.remaining reader.old) (R.remaining reader.new)
+        (W.contents writer.old) (W.contents writer.new) }
+    ensures faults { IfErr result IsRunFault }
+{
+    slow_text_within(alloc, reader, writer, tags, READS)
+}
+
+/// The same in at most `reads` reads, as [`run_text_within`].
+pub fn slow_text_within<R: Read, W: Write>(
+    alloc: Global,
+    reader: &mut R,
+    writer: &mut W,
+    tags: u64,
+    reads: u64,
+) -> Result<Option<u64>, Fault>
+    requires { tags ≤ 2 ^ 62 }
+    ensures ok { IfOk result (λ count. (input : List ℕ)
+        × ReadToEnd reads (R.remaining reader.old) (R.remaining reader.new) input
+        × WroteAll (below tags) (W.contents writer.old) (W.contents writer.new) input
+        × (count ≡ count_of (below tags) (script input))) }
+    ensures bad_line { (n : ℕ) → result ≡ Err (Fault.BadLine n)
+        → StoppedAtBadLine (below tags) reads (R.remaining reader.old) (R.remaining reader.new)
+        (W.contents writer.old) (W.contents writer.new) n }
+    ensures out_of_memory { result ≡ Err Fault.OutOfMemory
+        → StoppedByMemory reads (R.remaining reader.old) (R.remaining reader.new)
+        (WroteUpTo (below tags) (takes_memory true) (W.contents writer.old) (W.contents writer.new)) }
+    ensures stream { result ≡ Err Fault.Stream
+        → StoppedByStream (below tags) reads (R.remaining reader.old) (R.remaining reader.new)
+        (W.contents writer.old) (W.contents writer.new) }
     ensures faults { IfErr result IsRunFault }
 {
     let opening = Tags { alloc, count: tags };
-    let ended: Option<(Slow, u64)> = run_script(opening, reader, writer)?;
+    let ended: Option<(Slow, u64)> = run_script(opening, reader, writer, reads)?;
     let Some((_, accepted)) = ended else {
         return Ok(None);
     };

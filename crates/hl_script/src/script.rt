@@ -6,6 +6,7 @@ use crate::answers::put_line;
 use crate::engine::run;
 use crate::lines::{answer_frames, answer_pending, answer_status, answer_step};
 use crate::machine::{Broken, Machine};
+use crate::reads::Reads;
 use crate::stepping::{Opening, Stepping};
 use crate::stop::Stop;
 use hl_line::Line;
@@ -59,27 +60,29 @@ impl<O: Opening<S> + Drop, S: Stepping + Drop> Machine for Script<O, S> {
     }
 }
 
-/// Answers the lines that a reader gives by what their config opens, and writes the answers. The answer is what was
-/// opened, and how many steps were accepted: None where there was no line.
+/// Answers the lines that a reader gives in so many reads by what their config opens, and writes the answers. The
+/// answer is what was opened, and how many steps were accepted: None where there was no line.
 ///
 /// `BadLine`, `OutOfMemory`, `Stream` as for a run of a script.
 pub(crate) fn run_script<O: Opening<S> + Drop, S: Stepping + Drop, R: Read, W: Write>(
     opening: O,
     reader: &mut R,
     out: &mut W,
+    reads: u64,
 ) -> Result<Option<(S, u64)>, Fault>
     requires { (has : ℕ → Bool) × O.begins opening has }
     ensures { (has : ℕ → Bool) → O.begins opening has
-        → ScriptRan S.stands S.may_lack has (R.remaining reader.old) (R.remaining reader.new) (W.contents out.old) (W.contents out.new) result }
+        → ScriptRan S.stands S.may_lack has reads (R.remaining reader.old) (R.remaining reader.new) (W.contents out.old) (W.contents out.new) result }
 {
     let mut script = Script {
         opening: Some(opening),
         opened: None,
     };
-    match run(&mut script, reader, out) {
+    match run(&mut script, &mut Reads::up_to(reads), reader, out) {
         Ok(count) => Ok(script.opened.zip(count)),
         Err(Stop::BadLine { n }) => Err(Fault::BadLine { n }),
         Err(Stop::OutOfMemory) => Err(Fault::OutOfMemory),
-        Err(Stop::Reader | Stop::Writer) => Err(Fault::Stream),
+        Err(Stop::Reader) => Err(Fault::Stream),
+        Err(Stop::Writer) => Err(Fault::Stream),
     }
 }

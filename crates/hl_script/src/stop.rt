@@ -5,7 +5,7 @@ pub(crate) enum Stop {
     BadLine { n: u64 },
     /// Memory was refused.
     OutOfMemory,
-    /// The reader gave no more: a read failed, or the flush before it, or the reads that a run may make were made.
+    /// The reader gave no more: a read failed, or the flush before it, or all reads that a run may make were made.
     Reader,
     /// A write failed, or took no byte.
     Writer,

@@ -10,10 +10,10 @@ loop-done-preserved g c = record {
 
 pub returns-in-Ok-eq0 : goal.returns-in-Ok-eq0
 returns-in-Ok-eq0 g c =
-    write_front (g.W.Write.contents c.args.out.now) (g.W.Write.contents c.write.new.self) c.args.bytes.now (c.loop-done.done + c.in-Ok-eq0.field-0)
+    write_front (g.W.Write.contents c.args.out.now) (g.W.Write.contents c.write.new.self) c.args.bytes.now (c.loop-done.done + c.in-Ok-eq0.field-0) (omega arith)
     (write_more (g.W.Write.contents c.args.out.now) (g.W.Write.contents c.loop-done.out) (g.W.Write.contents c.write.new.self) c.args.bytes.now c.loop-done.done c.in-Ok-eq0.field-0 c.loop-done.invariant.wrote c.in-Ok-eq0.ensures.bytes)
 
 pub returns-in-Err : goal.returns-in-Err
 returns-in-Err g c =
-    write_front (g.W.Write.contents c.args.out.now) (g.W.Write.contents c.write.new.self) c.args.bytes.now c.loop-done.done
+    write_front (g.W.Write.contents c.args.out.now) (g.W.Write.contents c.write.new.self) c.args.bytes.now c.loop-done.done (omega arith)
     (Appends-kept (g.W.Write.contents c.args.out.now) (g.W.Write.contents c.loop-done.out) (g.W.Write.contents c.write.new.self) (take c.loop-done.done c.args.bytes.now) c.loop-done.invariant.wrote c.in-Err.ensures.bytes)

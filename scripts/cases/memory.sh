@@ -1,0 +1,60 @@
+# Memory is refused at each allocation in turn: from the first read on, the program may take one page more each time. The
+# C library is told to ask for pages at each allocation.
+
+# Whether the program awaits its input: it was started and sleeps, which it does nowhere else.
+awaits_input() {
+    local state
+    read -r _ _ state _ < "/proc/$1/stat"
+    [ "$(readlink "/proc/$1/exe")" = "$program" ] && [ "$state" = S ]
+}
+
+# Runs a script in one form with so many pages more than it has at its first read, and sets status.
+with_pages() {
+    local script="$1" form="$2" more="$3" held turn
+    coproc talk { GLIBC_TUNABLES=glibc.malloc.mmap_threshold=0 exec "$program" "$form" > "$room/text" 2> "$room/errors"; }
+    local pid="$talk_PID" to="${talk[1]}"
+    for turn in {1..1000}; do
+        ! awaits_input "$pid" || break
+        sleep 0.01
+    done
+    held="$(awk '$1 == "VmSize:" { print $2 * 1024 }' "/proc/$pid/status")"
+    prlimit --pid "$pid" --as="$((held + more * 4096))"
+    cat "$script" >&"$to"
+    exec {to}>&-
+    status=0
+    wait "$pid" || status=$?
+}
+
+# With ever more pages a script in one form ends with status 1, the fault's line and the answers to its first lines,
+# and at last with its text. By run it is answered no line before; by slow the most lines are to be in these bounds.
+each_page_refused() {
+    local script="$1" text="$2" form="$3" least="$4" greatest="$5" more status lines most=0
+    for more in {0..200}; do
+        with_pages "$script" "$form" "$more"
+        [ "$status" != 0 ] || break
+        if [ "$status" != 1 ] || [ "$(cat "$room/errors")" != "fault 29 OutOfMemory" ]; then
+            echo "with $more pages more it ended with status $status"
+            return 1
+        fi
+        lines="$(wc -l < "$room/text")"
+        head -n "$lines" "$text" | cmp - "$room/text" || return 1
+        most="$((lines > most ? lines : most))"
+    done
+    [ "$more" -gt 0 ] || { echo "none was refused"; return 1; }
+    [ "$status" = 0 ] && cmp "$text" "$room/text" || return 1
+    ((most >= least && most <= greatest)) || { echo "$most lines were answered before a refusal"; return 1; }
+}
+
+for name in first_action fuzzy_region stale_reader; do
+    of="$scripts/../examples/$name"
+    check "memory refused in $name by run" each_page_refused "$of.script" "$of.expected" run 0 0
+    check "memory refused in $name by slow" each_page_refused "$of.script" "$of.expected" slow 0 0
+done
+
+# The slow form takes memory at later steps too.
+refused_at_later_steps() {
+    rounds 300
+    each_page_refused "$room/script" "$room/expected" slow 2 300
+}
+
+check "memory refused at a later step by slow" refused_at_later_steps
