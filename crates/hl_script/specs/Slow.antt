@@ -1,5 +1,5 @@
 -- When the slow form stands at the accepted steps of a script whose tags with jobs are those below a number.
-use Rattle.std.specs.Prelude.{◌≡◌, ℕ, ◌+◌, ◌^◌, ◌<◌, ◌≤◌, nat_lt, Bool, true, List}
+use Rattle.std.specs.Prelude.{◌≡◌, ℕ, ◌+◌, ◌^◌, ◌<◌, ◌≤◌, nat_lt, Bool, true, List, []}
 use Rattle.std.specs.List.{list_all}
 use Rattle.hl_model.specs.declared.action.Kind.{Kind}
 use Rattle.hl_model.specs.declared.action.Kind.TheVariants.{User}
@@ -10,7 +10,7 @@ use Rattle.hl_model.specs.declared.step.Step.{Step}
 use Rattle.hl_model.specs.declared.step.Step.TheVariants.{Done}
 use Rattle.hl_model.specs.Sizes.{Sizes}
 use Rattle.hl_model.specs.Actions.{actions}
-use Rattle.hl_plain.specs.Histories.{History}
+use Rattle.hl_plain.specs.Histories.{History, Follows}
 use Rattle.hl_script.specs.Text.{below}
 
 -- the tag of a job is below a number
@@ -22,10 +22,12 @@ kind_is_below tags _ = true
 abbrev pub tag_is_below : ℕ → Waiting → Bool
 tag_is_below tags w = kind_is_below tags w.kind
 
--- its history has the steps, and the tags stored are below the number, which leaves room for a ticket
+-- it was opened and has the steps, and the tags stored are below the number, which leaves room for a ticket
 pub record IsSlow (tags : ℕ) (history : History) (has : ℕ → Bool) (sizes : Sizes) (A : List Step) : Type 0 where
   pub has_is : has ≡ below tags
-  pub sizes_is : history.sizes ≡ sizes
+  pub opened : Follows history []
+  pub has_words : history.has_words ≡ true
+  pub sizes_is : history.base.sizes ≡ sizes
   pub steps_is : history.steps ≡ A
   pub most : tags ≤ 2 ^ 62
   pub tags_below : list_all (tag_is_below tags) (actions A) ≡ true
