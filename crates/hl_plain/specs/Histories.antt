@@ -9,7 +9,7 @@ use Rattle.hl_model.specs.Replies.{fault_of, answer_of, with_word, unless_fault,
 use Rattle.hl_model.specs.Bases.{Base, base_of}
 use Rattle.hl_model.specs.AfterReplies.{base_after, fault_after, answer_at}
 
--- the base, the steps accepted since, oldest first, and whether it has words: it has where it began with none
+-- the base, the steps accepted since, oldest first, and whether it has words
 pub record History : Type 0 where
   pub base : Base
   pub steps : List Step

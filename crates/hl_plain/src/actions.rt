@@ -131,8 +131,9 @@ pub fn waiting(base: &Base, steps: &[Step]) -> ArrayVec<Waiting, 64>
     requires most { length (waiting_after base.now steps.now) ≤ 64 }
     ensures { result.items ≡ waiting_after base.now steps.now }
 {
+    let taken = takes(steps);
     let mut row = ArrayVec::new();
-    for i in takes(steps)..stored(base, steps) {
+    for i in taken..stored(base, steps) {
         row.push(stored_at(base, steps, i));
     }
     row

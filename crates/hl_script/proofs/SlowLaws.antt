@@ -1,6 +1,6 @@
 -- What the slow form makes of one step of a script.
 use Rattle.std.proofs.Common.{◌≡◌, ℕ, ◌^◌, ◌<◌, ◌≤◌, Bool, true, false, cond, not, ◌&&◌, ◌||◌, ltb, is_none, inl, inr, List, [], ◌∷◌, ◌++◌, refl, sym, ap, ap₂, ◌∙◌, subst, append-nil, arith}
-use Rattle.std.specs.Prelude.{Result, ◌==◌, Option, Some, None, Ok, Err}
+use Rattle.std.specs.Prelude.{◌==◌, Option, Some, None, Ok, Err}
 use Rattle.std.specs.List.{find, list_all, list_any}
 use Rattle.std.proofs.lemmas.Bool.{and_parts, ltb-true}
 use Rattle.std.proofs.lemmas.List.Folds.{list_all-append}
@@ -16,16 +16,16 @@ use Rattle.hl_model.specs.declared.step.Step.TheVariants.{Bump, Settle, Close, D
 use Rattle.hl_model.specs.Sizes.{Sizes}
 use Rattle.hl_model.specs.Epochs.{current_epoch, safe_epoch}
 use Rattle.hl_model.specs.Actions.{action_of, actions, action_at}
-use Rattle.hl_model.specs.Replies.{fault_of, answer_of, done_answer, kind_or_job_0, unless_fault, extended, with_word, word_reply_of, IsAccepted}
-use Rattle.hl_model.proofs.AcceptedLaws.{extended-none, IsAccepted-parts}
+use Rattle.hl_model.specs.Replies.{fault_of, answer_of, done_answer, kind_or_job_0, unless_fault, with_word, word_reply_of, IsAccepted}
+use Rattle.hl_model.proofs.AcceptedLaws.{IsAccepted-parts}
 use Rattle.hl_model.proofs.ActionLaws.{actions-nil, actions-push}
 use Rattle.hl_model.proofs.DrainLaws.{done_fault-none, is_taken-parts, was_taken-safe}
 use Rattle.hl_model.proofs.EpochLaws.{safe_epoch-current}
 use Rattle.hl_model.proofs.LawProofs.{current_is_at_most_last}
 use Rattle.hl_model.proofs.NoFaultLaws.{unless_err, unless_ok}
 use Rattle.hl_line.specs.declared.line.Line.TheVariants.{Step as Makes}
-use Rattle.hl_plain.specs.Histories.{History, IsHistory, Follows, begun, worded, AnswersBehind}
 use Rattle.hl_model.specs.Bases.{base_of}
+use Rattle.hl_plain.specs.Histories.{History, Follows, IsHistory, begun, worded, unless_met, answer_behind, AnswersBehind}
 use Rattle.hl_script.specs.Answers.{bears, lacks_job, line_fault, shown, line_answer, line_reply, with_line}
 use Rattle.hl_script.specs.Text.{below}
 use Rattle.hl_script.specs.Slow.{kind_is_below, tag_is_below, IsSlow, SumFits}
@@ -76,30 +76,33 @@ ticket_most sizes A c a free =
 record Went (tags : ℕ) (h after : History) (has : ℕ → Bool) (sizes : Sizes) (A : List Step) (step : Step) (reply : Reply) : Type 0 where
   free : fault_of sizes A step ≡ None
   reply_is : reply ≡ with_word A step (answer_of sizes A (A ++ step ∷ []) step)
+  has_words : after.has_words ≡ true
   sizes_is : after.base.sizes ≡ sizes
-  words_is : after.has_words ≡ true
   steps_is : after.steps ≡ A ++ step ∷ []
 
--- the reply of a history that was opened
-abbrev reply_worded : Sizes → List Step → Bool → Step → Result Reply Fault
-reply_worded sizes A words step =
-    unless_fault (fault_of sizes A step) (worded words A step (answer_of sizes A (A ++ step ∷ []) step))
+-- the answer to an accepted step of an allocator that was opened
+slow_answer : (tags : ℕ) (h : History) (has : ℕ → Bool) (sizes : Sizes) (A : List Step) (step : Step) → IsSlow tags h has sizes A → answer_behind [] h step ≡ with_word A step (answer_of sizes A (A ++ step ∷ []) step)
+slow_answer tags h has sizes A step sh =
+    ap (λ w. worded w h.steps step (answer_of h.base.sizes h.steps (h.steps ++ step ∷ []) step)) sh.has_words
+    ∙ ap₂ (λ z B. with_word B step (answer_of z B (B ++ step ∷ []) step)) sh.sizes_is sh.steps_is
 
--- what a history that was opened was told is what the list is told
-told_after : (tags : ℕ) (h : History) (has : ℕ → Bool) (sizes : Sizes) (A : List Step) (step : Step) → IsSlow tags h has sizes A → reply_worded h.base.sizes h.steps h.has_words step ≡ word_reply_of sizes A step
-told_after tags h has sizes A step sh = ap₂ (λ z B. reply_worded z B h.has_words step) sh.sizes_is sh.steps_is ∙ ap (λ w. reply_worded sizes A w step) sh.words_is
+-- the fault that it meets
+slow_fault : (tags : ℕ) (h : History) (has : ℕ → Bool) (sizes : Sizes) (A : List Step) (step : Step) → IsSlow tags h has sizes A → fault_of h.base.sizes h.steps step ≡ fault_of sizes A step
+slow_fault tags h has sizes A step sh = ap₂ (λ z B. fault_of z B step) sh.sizes_is sh.steps_is
 
 went : (tags : ℕ) (h after : History) (has : ℕ → Bool) (sizes : Sizes) (A : List Step) (step : Step) (reply : Reply) → IsSlow tags h has sizes A → AnswersBehind [] h step (Ok reply) after → Went tags h after has sizes A step reply
 went tags h after has sizes A step reply sh (inl a) =
-    let told : Ok reply ≡ word_reply_of sizes A step = a.0 ∙ told_after tags h has sizes A step sh in
+    let told : Ok reply ≡ word_reply_of sizes A step = a.0 ∙ ap₂ (λ o r. unless_fault o r) (slow_fault tags h has sizes A step sh) (slow_answer tags h has sizes A step sh) in
     let both : (fault_of sizes A step ≡ None) × (reply ≡ with_word A step (answer_of sizes A (A ++ step ∷ []) step)) =
     unless_ok (fault_of sizes A step) reply (with_word A step (answer_of sizes A (A ++ step ∷ []) step)) told in
+    let free : fault_of h.base.sizes h.steps step ≡ None = slow_fault tags h has sizes A step sh ∙ both.0 in
+    let made : after ≡ unless_met None step h = a.1 ∙ ap (λ o. unless_met o step h) free in
     record {
       free = both.0;
       reply_is = both.1;
-      sizes_is = ap (λ (z : History). z.base.sizes) a.1 ∙ sh.sizes_is;
-      words_is = ap (λ (z : History). z.has_words) a.1 ∙ sh.words_is;
-      steps_is = ap (λ (z : History). z.steps) a.1 ∙ ap₂ (λ z B. extended z B step) sh.sizes_is sh.steps_is ∙ extended-none sizes A step both.0;
+      has_words = ap (λ (z : History). z.has_words) made ∙ sh.has_words;
+      sizes_is = ap (λ (z : History). z.base.sizes) made ∙ sh.sizes_is;
+      steps_is = ap (λ (z : History). z.steps) made ∙ ap (λ B. B ++ step ∷ []) sh.steps_is;
     }
 went tags h after has sizes A step reply sh (inr a) = let wrong : Ok reply ≡ Err OutOfMemory = a.0 in cc
 
@@ -109,9 +112,9 @@ slow_accepts tags h after has sizes A step reply told sh lacks answer follows is
   ap (λ r. Ok r) (is ∙ ap (shown step) w.reply_is) ∙ sym (ap (λ o. unless_fault o (line_answer sizes A step)) free),
   subst (IsSlow tags after has sizes) (sym (ap (λ o. cond (is_none o) (A ++ step ∷ []) A) free)) (record {
     has_is = sh.has_is;
+    opened = follows;
+    has_words = w.has_words;
     sizes_is = w.sizes_is;
-    words_is = w.words_is;
-    follows = follows;
     steps_is = w.steps_is;
     most = sh.most;
     tags_below = ap (list_all (tag_is_below tags)) (actions-push A step) ∙ list_all-append (tag_is_below tags) (actions A) (action_of A step)
@@ -132,17 +135,20 @@ slow_refuses tags h after has sizes A step f sh lacks (inl a) follows memory = (
   sym (ap (λ o. unless_fault o (line_answer sizes A step)) line_is),
   subst (IsSlow tags after has sizes) (sym (ap (λ o. cond (is_none o) (A ++ step ∷ []) A) line_is)) (record {
     has_is = sh.has_is;
-    sizes_is = ap (λ (z : History). z.base.sizes) a.1 ∙ sh.sizes_is;
-    words_is = ap (λ (z : History). z.has_words) a.1 ∙ sh.words_is;
-    follows = follows;
-    steps_is = ap (λ (z : History). z.steps) a.1 ∙ ap₂ (λ z B. extended z B step) sh.sizes_is sh.steps_is ∙ ap (λ o. cond (is_none o) (A ++ step ∷ []) A) fault_is;
+    opened = follows;
+    has_words = ap (λ (z : History). z.has_words) made ∙ sh.has_words;
+    sizes_is = ap (λ (z : History). z.base.sizes) made ∙ sh.sizes_is;
+    steps_is = ap (λ (z : History). z.steps) made ∙ sh.steps_is;
     most = sh.most;
     tags_below = sh.tags_below;
   }),
 )
   where
     fault_is : fault_of sizes A step ≡ Some f
-    fault_is = unless_err (fault_of sizes A step) f (with_word A step (answer_of sizes A (A ++ step ∷ []) step)) (a.0 ∙ told_after tags h has sizes A step sh)
+    fault_is = unless_err (fault_of sizes A step) f (with_word A step (answer_of sizes A (A ++ step ∷ []) step)) (a.0 ∙ ap₂ (λ o r. unless_fault o r) (slow_fault tags h has sizes A step sh) (slow_answer tags h has sizes A step sh))
+
+    made : after ≡ unless_met (Some f) step h
+    made = a.1 ∙ ap (λ o. unless_met o step h) (slow_fault tags h has sizes A step sh ∙ fault_is)
 
     line_is : line_fault has sizes A step ≡ Some f
     line_is = fault_kept has sizes A step (lacks_shown tags h has sizes A step sh ∙ lacks) ∙ fault_is
@@ -170,12 +176,18 @@ slow_sum_fits tags h after has sizes A step reply sh follows answer =
 -- no tag is stored yet
 pub slow_begins : (tags : ℕ) (h : History) (has : ℕ → Bool) (sizes : Sizes) → has ≡ below tags → tags ≤ 2 ^ 62 → h ≡ begun (base_of sizes []) true → IsHistory h → IsSlow tags h has sizes []
 unfolding base_of
-slow_begins tags h has sizes known most e history = record {
-  has_is = known;
-  sizes_is = ap (λ (z : History). z.base.sizes) e;
-  words_is = ap (λ (z : History). z.has_words) e;
-  follows = history.opened (ap (λ (z : History). z.has_words) e);
-  steps_is = ap (λ (z : History). z.steps) e;
-  most = most;
-  tags_below = ap (list_all (tag_is_below tags)) actions-nil;
-}
+slow_begins tags h has sizes known most e k =
+    let words : h.has_words ≡ true = ap (λ (z : History). z.has_words) e in
+    record {
+      has_is = known;
+      opened = k.opened words;
+      has_words = words;
+      sizes_is = ap (λ (z : History). z.base.sizes) e;
+      steps_is = ap (λ (z : History). z.steps) e;
+      most = most;
+      tags_below = ap (list_all (tag_is_below tags)) actions-nil;
+    }
+
+-- what an allocator that was opened shows is what its steps have
+pub slow_shows : {X : Type 0} (tags : ℕ) (h : History) (has : ℕ → Bool) (sizes : Sizes) (A : List Step) (shown : Sizes → List Step → X) (x : X) → IsSlow tags h has sizes A → ((B : List Step) → Follows h B → x ≡ shown h.base.sizes (B ++ h.steps)) → x ≡ shown sizes A
+slow_shows tags h has sizes A shown x sh behind = behind [] sh.opened ∙ ap₂ shown sh.sizes_is sh.steps_is

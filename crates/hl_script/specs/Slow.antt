@@ -22,13 +22,12 @@ kind_is_below tags _ = true
 abbrev pub tag_is_below : ℕ → Waiting → Bool
 tag_is_below tags w = kind_is_below tags w.kind
 
--- its history has words and the steps since it was opened, and the tags stored are below the number, which leaves room
--- for a ticket
+-- it was opened and has the steps, and the tags stored are below the number, which leaves room for a ticket
 pub record IsSlow (tags : ℕ) (history : History) (has : ℕ → Bool) (sizes : Sizes) (A : List Step) : Type 0 where
   pub has_is : has ≡ below tags
+  pub opened : Follows history []
+  pub has_words : history.has_words ≡ true
   pub sizes_is : history.base.sizes ≡ sizes
-  pub words_is : history.has_words ≡ true
-  pub follows : Follows history []
   pub steps_is : history.steps ≡ A
   pub most : tags ≤ 2 ^ 62
   pub tags_below : list_all (tag_is_below tags) (actions A) ≡ true

@@ -1,7 +1,5 @@
-use Rattle.std.proofs.Common.{◌≡◌, ap, sym, subst, ◌∙◌}
-use Rattle.hl_model.specs.Bases.{Base, IsBase, base_of}
-use Rattle.hl_model.specs.BaseRows.{base_in}
-use Rattle.hl_model.specs.Lent.{lent}
+use Rattle.std.proofs.Common.{◌≡◌, ap}
+use Rattle.hl_model.specs.Bases.{Base, base_of}
 use Rattle.hl_model.proofs.base.Base.copied.Goals as goal
 
 pub renew-requires : goal.renew-requires
