@@ -1,0 +1,6 @@
+//! The keeper.
+#![tactic(auto)]
+
+mod pass;
+
+pub use pass::Pass;
