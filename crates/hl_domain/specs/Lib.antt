@@ -1,0 +1,5 @@
+pub mod Calls
+pub mod Keepers
+pub mod Passes
+pub mod Stub
+pub mod Touches

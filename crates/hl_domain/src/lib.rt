@@ -1,0 +1,7 @@
+//! The keeper.
+#![tactic(auto)]
+
+mod look;
+mod pass;
+
+pub use pass::Pass;
