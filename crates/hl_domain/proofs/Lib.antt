@@ -1,2 +1,4 @@
 pub mod TouchLaws
 pub mod PassLaws
+pub mod KeeperLaws
+pub mod CallLaws

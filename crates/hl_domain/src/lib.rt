@@ -1,7 +1,10 @@
 //! The keeper.
 #![tactic(auto)]
 
+mod call;
+mod keeper;
 mod look;
 mod pass;
 
+pub use keeper::Keeper;
 pub use pass::Pass;
