@@ -2,3 +2,4 @@ pub mod TouchLaws
 pub mod PassLaws
 pub mod KeeperLaws
 pub mod CallLaws
+pub mod EnterLaws

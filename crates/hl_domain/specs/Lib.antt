@@ -1,4 +1,5 @@
 pub mod Calls
+pub mod Entering
 pub mod Keepers
 pub mod Passes
 pub mod Touches

@@ -2,6 +2,7 @@
 #![tactic(auto)]
 
 mod call;
+mod enter;
 mod keeper;
 mod look;
 mod pass;
