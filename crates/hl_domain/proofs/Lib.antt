@@ -3,3 +3,4 @@ pub mod PassLaws
 pub mod KeeperLaws
 pub mod CallLaws
 pub mod EnterLaws
+pub mod TouchedLaws

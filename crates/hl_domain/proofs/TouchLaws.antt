@@ -23,7 +23,7 @@ use Rattle.hl_model.proofs.OffsetLaws.{read_only-stay, head-stay, tail-push}
 use Rattle.hl_model.proofs.ViewLaws.{is_protected-push, seen_read_only-push, seen_head-push, seen_tail-stay, slot_view-moves, slot_view-stay, is_protected-slot_view, view_of-slot_view}
 use Rattle.hl_model.proofs.WorkLaws.{is_freed-stay}
 use Rattle.hl_core.specs.Steps.{is_acted}
-use Rattle.hl_domain.specs.Touches.{view_past, view_after, IsTouch, AreTouches}
+use Rattle.hl_domain.specs.Touches.{view_past, view_after, IsTouch, AreTouches, is_call}
 
 -- a slot with a view is protected, and the view is what it saw
 pub viewed : (sizes : Sizes) (t : ℕ) (A : List Step) (v : View) → slot_view sizes t A ≡ Some v → (is_protected t A ≡ true) × (view_of sizes t A ≡ v)
@@ -93,13 +93,6 @@ touches_accepted sizes t A v (s ∷ xs) are a at =
     let one = touch_step sizes t A v s are.0 a at in
     let rest = touches_accepted sizes t (A ++ s ∷ []) (view_past v s) xs are.1 (IsAccepted-push sizes A s a one.0) one.1 in
     subst (λ (z : List Step). IsAccepted sizes z × (slot_view sizes t z ≡ Some (view_after (view_past v s) xs))) (append_assoc A (s ∷ []) xs) rest
-
--- the calls of a pass itself
-abbrev pub is_call : Step → Bool
-is_call (Refresh t) = true
-is_call (Release t) = true
-is_call (Allocate t n) = true
-is_call _ = false
 
 -- what a still step leaves: who is protected
 still_protected : (sizes : Sizes) (A : List Step) (s : Step) (t : ℕ) → IsStill s → is_protected t (A ++ s ∷ []) ≡ is_protected t A

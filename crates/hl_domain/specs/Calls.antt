@@ -1,15 +1,16 @@
 -- The faults of a keeper's calls, in their order, and the list at which it stands after one.
-use Rattle.std.specs.Prelude.{ℕ, ◌+◌, ◌^◌, ◌==◌, nat_le, nat_lt, Bool, false, ◌&&◌, ◌||◌, if◌then◌else◌, Option, Some, None, is_some, is_none, List, [], ◌∷◌, ◌++◌, length, slice_index_or}
+use Rattle.std.specs.Prelude.{◌≡◌, ℕ, ◌+◌, ◌^◌, ◌==◌, nat_le, nat_lt, Bool, false, ◌&&◌, ◌||◌, if◌then◌else◌, Option, Some, None, is_some, is_none, Result, List, [], ◌∷◌, ◌++◌, length, slice_index_or}
 use Rattle.hl_model.specs.declared.fault.Fault.{Fault}
 use Rattle.hl_model.specs.declared.fault.Fault.TheVariants.{Stranger, JournalFull}
+use Rattle.hl_model.specs.declared.step.Reply.{Reply}
 use Rattle.hl_model.specs.declared.step.Step.{Step}
 use Rattle.hl_model.specs.declared.step.Step.TheVariants.{Refresh}
 use Rattle.hl_model.specs.declared.view.View.{View}
 use Rattle.hl_model.specs.Offsets.{read_only, head}
 use Rattle.hl_model.specs.Views.{slot_view}
-use Rattle.hl_model.specs.Replies.{or_fault, fault_of}
+use Rattle.hl_model.specs.Replies.{or_fault, fault_of, answer_of, unless_fault}
 use Rattle.hl_domain.specs.Passes.{PassRecord, seen}
-use Rattle.hl_domain.specs.Keepers.{KeeperState, steps_most}
+use Rattle.hl_domain.specs.Keepers.{KeeperState, KeeperStands, steps_most}
 
 -- two views are the same
 abbrev pub same_view : View → View → Bool
@@ -84,3 +85,21 @@ entered fault A touches s = if is_none fault then (A ++ touches) ++ s ∷ [] els
 -- the list after a call without touches
 abbrev pub made : Option Fault → List Step → Step → List Step
 made fault A s = if is_none fault then A ++ s ∷ [] else A
+
+module _ {F : Type 0} where
+  -- wherever the keeper stands, the slot has the view that the pass held
+  abbrev pub Knows : KeeperState F → PassRecord → Type 0
+  Knows keeper p = (A : List Step) → KeeperStands keeper A → slot_view keeper.core.sizes p.slot A ≡ Some p.held
+
+  -- a keeper that stood at A answered a pass's step as the definitions do after A and the touches, and stands at the list with both, where it was accepted
+  pub record Called (old : KeeperState F) (A : List Step) (p : PassRecord) (s : Step) (new : KeeperState F) (result : Result Reply Fault) : Type 0 where
+    pub reply : result ≡ unless_fault (touched_fault old A p s) (answer_of old.core.sizes (A ++ p.touches) ((A ++ p.touches) ++ s ∷ []) s)
+    pub standing : KeeperStands new (entered (touched_fault old A p s) A p.touches s)
+
+  -- what no call changes: the sizes, how many steps the keeper may keep, its stamp, and what was cut
+  pub record Stays (old new : KeeperState F) : Type 0 where
+    pub sizes : new.core.sizes ≡ old.core.sizes
+    pub limit : new.limit ≡ old.limit
+    pub stamp : new.stamp ≡ old.stamp
+    pub base : new.base ≡ old.base
+    pub cut : new.cut ≡ old.cut

@@ -98,6 +98,16 @@ last_head p = offset_of Head p.rider.view.offsets
 abbrev pub with_share : ℕ → RiderState → RiderState
 with_share n r = record { view = r.view; share = r.share + n }
 
+-- the pass whose rider has entered its touches and one step more
+abbrev pub entered_by : PassRecord → PassRecord
+entered_by p = record {
+  slot = p.slot;
+  stamp = p.stamp;
+  held = p.held;
+  touches = p.touches;
+  rider = with_share (length p.touches + 1) p.rider;
+}
+
 -- the pass after a locked call that leaves it with this view: its touches and the call's own step are its rider's
 unfoldable pub rested : View → PassRecord → PassRecord
 rested v p = record {

@@ -1,16 +1,18 @@
 //! What the locked calls have in common: the tests before the core's, and the journal behind them.
-ghost use Rattle.std.specs.Prelude.{◌≡◌, ◌+◌, ◌<◌, ◌≤◌, ◌||◌, nat_lt, List, [], ◌∷◌, ◌++◌, length, vec_capacity, slice_index_or, OnOk};
+ghost use Rattle.std.specs.Prelude.{◌≡◌, ◌+◌, ◌<◌, ◌≤◌, ◌||◌, nat_lt, List, [], ◌∷◌, ◌++◌, length, vec_capacity, slice_index_or, true, OnErr, MatchResult};
 ghost use Rattle.hl_model.specs.declared.step.Step.{Step as STEP};
 ghost use Rattle.hl_model.specs.Replies.{unless_fault};
-ghost use Rattle.hl_domain.specs.Passes.{with_share};
+ghost use Rattle.hl_domain.specs.Touches.{is_call};
+ghost use Rattle.hl_domain.specs.Passes.{with_share, entered_by};
 ghost use Rattle.hl_domain.specs.Keepers.{KeeperStands, IsKeeper, steps_most};
-ghost use Rattle.hl_domain.specs.Calls.{has_view, stamp_at, is_known, is_behind, stranger_fault, ahead_fault, room_fault, origin_fault};
+ghost use Rattle.hl_domain.specs.Calls.{has_view, stamp_at, is_known, is_behind, stranger_fault, ahead_fault, room_fault, origin_fault, Knows, Called, Stays};
 
+use crate::enter::enter_steps;
 use crate::keeper::Keeper;
 use crate::pass::Pass;
 use hl_action::{Promise, Task};
 use hl_epoch::Epochs;
-use hl_model::{Fault, Step, View};
+use hl_model::{Fault, Reply, Step, View};
 use hl_words::{Master, Realm, Rider};
 
 /// How many steps a keeper counts in all.
@@ -41,6 +43,33 @@ impl<E: Epochs + Drop, F: Task, P: Promise, L: Realm> Keeper<E, F, P, L> {
             Err(Fault::Stranger {
                 stamp: self.stamp_at(pass.slot),
             })
+        }
+    }
+
+    /// Makes the touches of a pass that is known, and its own step behind them. The pass keeps its touches: its caller
+    /// rests it. Where it is refused nothing is changed.
+    pub(crate) fn call(&mut self, pass: &mut Pass<L>, step: &Step) -> Result<Reply, Fault>
+        requires kind { is_call step.now ≡ true }
+        requires known { Knows self.old pass.old }
+        ensures made { (A : List STEP) → KeeperStands self.old A → Called self.old A pass.old step.now self.new result }
+        ensures refused { OnErr result (self.new ≡ self.old) }
+        ensures stays { Stays self.old self.new }
+        ensures jobs { self.new.core.drain.pending ≡ self.old.core.drain.pending }
+        ensures stamps { (self.new.stamps ≡ self.old.stamps) × (self.new.acquired ≡ self.old.acquired) }
+        ensures pass { MatchResult result (λ _. pass.new ≡ entered_by pass.old) (λ _. pass.new ≡ pass.old) }
+    {
+        let count = pass.touches.len() as u64 + 1;
+        self.room(count)?;
+        self.core.check(step)?;
+        enter_steps(&mut self.core, &mut self.journal, &pass.touches);
+        match self.core.act(step) {
+            Ok(reply) => {
+                self.journal.push_reserved(*step);
+                self.master.enter(&mut pass.rider, count);
+                Ok(reply)
+            }
+            // Touches leave the fault of the step.
+            Err(_) => unreachable!(),
         }
     }
 
