@@ -4,3 +4,4 @@ pub mod KeeperLaws
 pub mod CallLaws
 pub mod EnterLaws
 pub mod TouchedLaws
+pub mod SlotLaws
