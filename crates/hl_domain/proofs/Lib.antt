@@ -5,3 +5,4 @@ pub mod CallLaws
 pub mod EnterLaws
 pub mod TouchedLaws
 pub mod SlotLaws
+pub mod StepLaws
