@@ -6,3 +6,4 @@ pub mod EnterLaws
 pub mod TouchedLaws
 pub mod SlotLaws
 pub mod StepLaws
+pub mod AcquireLaws

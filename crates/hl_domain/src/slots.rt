@@ -8,7 +8,6 @@ ghost use Rattle.hl_domain.specs.Passes.{seen, rested, with_share, new_pass, wit
 ghost use Rattle.hl_domain.specs.Keepers.{KeeperStands};
 ghost use Rattle.hl_domain.specs.Calls.{step_fault, call_fault, refresh_fault, entered, made, touched_list, told, Replied, Stays, IsUpTo};
 
-use crate::call::note;
 use crate::keeper::Keeper;
 use crate::pass::Pass;
 use hl_action::{Promise, Task};
@@ -117,21 +116,20 @@ impl<E: Epochs + Drop, F: Task, P: Promise, L: Realm> Keeper<E, F, P, L> {
         ensures stamped { OnOk result ((self.new.acquired ≡ self.old.acquired + 1) × (self.new.stamps ≡ slice_set self.old.stamps t (self.old.stamp + self.old.acquired + 1))) }
     {
         let mut rider = rider;
-        if let Err(fault) = self.room(1) {
-            return Err((fault, rider));
-        }
         let step = Step::Acquire { t };
-        match self.core.act(&step) {
-            Ok(Reply::Entered { view, .. }) => {
+        let reply = match self.one(&mut rider, &step) {
+            Ok(reply) => reply,
+            Err(fault) => return Err((fault, rider)),
+        };
+        match reply {
+            Reply::Entered { view, .. } => {
                 let acquired = self.acquired + 1;
                 let stamp = self.stamp + acquired;
                 self.acquired = acquired;
                 self.stamps[t as usize] = stamp;
-                note(&mut self.journal, &mut self.master, &mut rider, step);
                 Ok(Pass::new(t, stamp, view, rider))
             }
-            Ok(_) => unreachable!(),
-            Err(fault) => Err((fault, rider)),
+            _ => unreachable!(),
         }
     }
 }
