@@ -1,6 +1,7 @@
 -- What contracts see of a seed, of words, of a master and of a rider.
 use Rattle.std.specs.Prelude.{ℕ, ◌≡◌, ◌+◌, ◌^◌, ◌≤◌, List, [], slice_index_or}
 use Rattle.atomic_table.specs.Seated.{TableId}
+use Rattle.hl_model.specs.Sizes.{Sizes}
 use Rattle.hl_words.specs.declared.view.OffsetWords.{OffsetWords}
 use Rattle.hl_words.specs.declared.view.RiderView.{RiderView}
 use Rattle.hl_words.specs.declared.view.SeatView.{SeatView}
@@ -29,8 +30,9 @@ pub record LastState : Type 0 where
   pub cells : ℕ
   pub words : List ℕ
 
--- how many cells and how many riders a seed has, with the names of its table and of its ledger
+-- the sizes of a seed's allocator, how many cells and how many riders it has, with the names of its table and of its ledger
 pub record SeedState : Type 0 where
+  pub sizes : Sizes
   pub cells : ℕ
   pub riders : ℕ
   pub table : TableId

@@ -33,6 +33,7 @@ impl Realm for Brand {
 /// the one witness that its realm is new: it is used up by `Words::open`.
 #[derive(Drop)]
 pub struct Seed {
+    pub(crate) params: Params,
     pub(crate) table: WordTable,
     pub(crate) seat: WordSeat,
     pub(crate) blank: Blank,
@@ -40,16 +41,16 @@ pub struct Seed {
 }
 
 impl Model for Seed {
-    ghost use Rattle.std.specs.Prelude.{◌≡◌};
+    ghost use Rattle.std.specs.Prelude.{◌≡◌, ◌*◌};
     ghost use Rattle.hl_words.specs.States.{SeedState, IsTableOf, IsMasterSeat};
     ghost use Rattle.hl_words.specs.Seats.{first_seat};
     ghost use Rattle.hl_words.specs.Views.{no_offsets};
 
     ghost Value = { SeedState };
 
-    ghost view = { λ s. record { cells = s.room.cells; riders = s.room.riders; table = s.table.shared.table_id; name = s.blank.name } };
+    ghost view = { λ s. record { sizes = s.params; cells = s.room.cells; riders = s.room.riders; table = s.table.shared.table_id; name = s.blank.name } };
 
-    ghost invariant = { λ s. IsTableOf s.room s.table.shared.key s.table.shared.table_id × IsMasterSeat no_offsets (first_seat s.room).riders s.seat.id s.seat.me × (s.seat.table_id ≡ s.table.shared.table_id) × (s.blank.parts ≡ s.room.riders) };
+    ghost invariant = { λ s. IsTableOf s.room s.table.shared.key s.table.shared.table_id × IsMasterSeat no_offsets (first_seat s.room).riders s.seat.id s.seat.me × (s.seat.table_id ≡ s.table.shared.table_id) × (s.blank.parts ≡ s.room.riders) × (s.room.cells ≡ s.params.frames * s.params.page) };
 }
 
 impl Seed {
@@ -57,6 +58,7 @@ impl Seed {
     /// OutOfMemory where memory was refused; then nothing is made.
     pub fn make(alloc: Global, params: Params, riders: usize) -> Result<Seed, Fault>
         requires { (1 ≤ riders) × (riders ≤ 128) }
+        ensures sizes { IfOk result (λ seed. seed.sizes ≡ params) }
         ensures cells { IfOk result (λ seed. seed.cells ≡ params.frames * params.page) }
         ensures riders { IfOk result (λ seed. seed.riders ≡ riders) }
         ensures memory { IfErr result (λ fault. fault ≡ OutOfMemory) }
@@ -67,11 +69,20 @@ impl Seed {
             return Err(Fault::OutOfMemory);
         };
         Ok(Seed {
+            params,
             table,
             seat,
             blank: Blank::new(riders as u64),
             room,
         })
+    }
+
+    /// The sizes of the allocator whose words they are.
+    pub fn params(&self) -> Params
+        ensures value { result ≡ self.now.sizes }
+        ensures cells { self.now.cells ≡ self.now.sizes.frames * self.now.sizes.page }
+    {
+        self.params
     }
 }
 

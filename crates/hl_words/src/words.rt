@@ -48,6 +48,7 @@ impl<L: Realm> Words<L> {
         ensures memory { IfErr result (λ fault. fault ≡ OutOfMemory) }
     {
         let Seed {
+            params: _,
             table,
             mut seat,
             blank,

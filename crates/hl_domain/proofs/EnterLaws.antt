@@ -1,0 +1,86 @@
+-- What a row of steps that a core takes makes of it and of the journal, step by step.
+use Rattle.std.proofs.Common.{◌≡◌, ℕ, suc, ◌+◌, ◌<◌, ◌≤◌, List, [], ◌∷◌, ◌++◌, length, take, drop, get_or, refl, sym, ap, ◌∙◌, subst, arith, append_assoc, append-nil, take_all}
+use Rattle.std.specs.Prelude.{Some, None, Ok, Err}
+use Rattle.std.proofs.Math.Seq.{take-suc}
+use Rattle.std.proofs.lemmas.List.{take-append-drop}
+use Rattle.hl_model.specs.declared.fault.Fault.{Fault}
+use Rattle.hl_model.specs.declared.step.Reply.{Reply}
+use Rattle.hl_model.specs.declared.step.Step.{Step}
+use Rattle.hl_model.specs.Sizes.{Sizes}
+use Rattle.hl_model.specs.Replies.{fault_of, answer_of, IsAccepted}
+use Rattle.hl_model.proofs.AcceptedLaws.{IsAccepted-parts, IsAccepted-front, extended-none}
+use Rattle.hl_model.proofs.NoFaultLaws.{unless_err, unless_ok}
+use Rattle.hl_core.specs.Standing.{State, Stands}
+use Rattle.hl_core.specs.Steps.{Stepped, Made}
+use Rattle.hl_domain.specs.Entering.{MayEnter}
+
+take_next : (n : ℕ) (xs : List Step) (s d : Step) → n < length xs → s ≡ get_or xs n d → take (n + 1) xs ≡ take n xs ++ s ∷ []
+take_next n xs s d lt e =
+    let next : n + 1 ≡ suc n = omega arith in
+    ap (λ (m : ℕ). take m xs) next ∙ take-suc xs n d lt ∙ ap (λ (z : Step). take n xs ++ z ∷ []) (sym e)
+
+-- one more of the steps, behind those before it
+next_list : (A : List Step) (n : ℕ) (xs : List Step) (s d : Step) → n < length xs → s ≡ get_or xs n d → (A ++ take n xs) ++ s ∷ [] ≡ A ++ take (n + 1) xs
+next_list A n xs s d lt e = append_assoc A (take n xs) (s ∷ []) ∙ ap (λ z. A ++ z) (sym (take_next n xs s d lt e))
+
+-- where all are accepted, so is each behind those before it
+fine_at : (sizes : Sizes) (A : List Step) (n : ℕ) (xs : List Step) (s d : Step) → n < length xs → s ≡ get_or xs n d → IsAccepted sizes (A ++ xs) → fault_of sizes (A ++ take n xs) s ≡ None
+fine_at sizes A n xs s d lt e a =
+    let whole : (A ++ take (n + 1) xs) ++ drop (n + 1) xs ≡ A ++ xs = append_assoc A (take (n + 1) xs) (drop (n + 1) xs) ∙ ap (λ z. A ++ z) (take-append-drop (n + 1) xs) in
+    let front : IsAccepted sizes (A ++ take (n + 1) xs) = IsAccepted-front sizes (A ++ take (n + 1) xs) (drop (n + 1) xs) (subst (λ (z : List Step). IsAccepted sizes z) (sym whole) a) in
+    (IsAccepted-parts sizes (A ++ take n xs) s (subst (λ (z : List Step). IsAccepted sizes z) (sym (next_list A n xs s d lt e)) front)).1
+
+module _ {J : Type 0} (tag : J → ℕ) where
+  -- the first n of the steps were taken: where the core stands then, and what the journal has
+  pub record Taken (old : State J) (before : List Step) (room : ℕ) (xs : List Step) (n : ℕ) (new : State J) (journal : List Step) (now_room : ℕ) : Type 0 where
+    pub sizes : new.sizes ≡ old.sizes
+    pub jobs : new.drain.pending ≡ old.drain.pending
+    pub standing : (A : List Step) → Stands tag old A → Stands tag new (A ++ take n xs)
+    pub journal_is : journal ≡ before ++ take n xs
+    pub room_is : now_room ≡ room
+
+  pub taken_none : (old : State J) (before : List Step) (room : ℕ) (xs : List Step) → Taken old before room xs 0 old before room
+  taken_none old before room xs = record {
+    sizes = refl;
+    jobs = refl;
+    standing = λ A st. subst (λ (z : List Step). Stands tag old z) (sym (append-nil A)) st;
+    journal_is = sym (append-nil before);
+    room_is = refl;
+  }
+
+  -- the next is never refused
+  pub next_taken : (old : State J) (before : List Step) (room : ℕ) (xs : List Step) (n : ℕ) (mid : State J) (journal : List Step) (now_room : ℕ) (s d : Step) (new : State J) (f : Fault) → Taken old before room xs n mid journal now_room → MayEnter tag old xs → n < length xs → s ≡ get_or xs n d → Made tag mid s new (Err f) → ⊥
+  next_taken old before room xs n mid journal now_room s d new f at may lt e made =
+      let A = may.standing.0 in
+      let st : Stands tag old A = may.standing.1 in
+      let stepped : Stepped tag mid (A ++ take n xs) s new (Err f) = made (A ++ take n xs) (at.standing A st) in
+      let fine : fault_of mid.sizes (A ++ take n xs) s ≡ None = ap (λ z. fault_of z (A ++ take n xs) s) at.sizes ∙ fine_at old.sizes A n xs s d lt e (may.accepted A st) in
+      let refused : fault_of mid.sizes (A ++ take n xs) s ≡ Some f = unless_err (fault_of mid.sizes (A ++ take n xs) s) f (answer_of mid.sizes (A ++ take n xs) ((A ++ take n xs) ++ s ∷ []) s) stepped.reply in
+      cc
+
+  -- an accepted step takes a core on
+  pub stepped_on : (old : State J) (A : List Step) (s : Step) (new : State J) (r : Reply) → Stepped tag old A s new (Ok r) → (fault_of old.sizes A s ≡ None) × (r ≡ answer_of old.sizes A (A ++ s ∷ []) s) × Stands tag new (A ++ s ∷ [])
+  stepped_on old A s new r stepped =
+      let both = unless_ok (fault_of old.sizes A s) r (answer_of old.sizes A (A ++ s ∷ []) s) stepped.reply in
+      (both.0, both.1, subst (λ (z : List Step). Stands tag new z) (extended-none old.sizes A s both.0) stepped.standing)
+
+  -- the next was taken
+  pub taken_next : (old : State J) (before : List Step) (room : ℕ) (xs : List Step) (n : ℕ) (mid : State J) (journal : List Step) (now_room : ℕ) (s d : Step) (new : State J) (r : Reply) (longer : List Step) (after_room : ℕ) → Taken old before room xs n mid journal now_room → n < length xs → s ≡ get_or xs n d → Made tag mid s new (Ok r) → new.sizes ≡ mid.sizes → new.drain.pending ≡ mid.drain.pending → longer ≡ journal ++ s ∷ [] → after_room ≡ now_room → Taken old before room xs (n + 1) new longer after_room
+  taken_next old before room xs n mid journal now_room s d new r longer after_room at lt e made same jobs j rooms = record {
+    sizes = same ∙ at.sizes;
+    jobs = jobs ∙ at.jobs;
+    standing = λ A st. subst (λ (z : List Step). Stands tag new z) (next_list A n xs s d lt e) (stepped_on mid (A ++ take n xs) s new r (made (A ++ take n xs) (at.standing A st))).2;
+    journal_is = j ∙ ap (λ z. z ++ s ∷ []) at.journal_is ∙ append_assoc before (take n xs) (s ∷ []) ∙ ap (λ z. before ++ z) (sym (take_next n xs s d lt e));
+    room_is = rooms ∙ at.room_is;
+  }
+
+  -- all were
+  pub taken_all : (old : State J) (before : List Step) (room : ℕ) (xs : List Step) (n : ℕ) (new : State J) (journal : List Step) (now_room : ℕ) → length xs ≤ n → Taken old before room xs n new journal now_room → Taken old before room xs (length xs) new journal now_room
+  taken_all old before room xs n new journal now_room le at =
+      let all : take n xs ≡ take (length xs) xs = take_all n xs le ∙ sym (take_all (length xs) xs (omega arith)) in record {
+        sizes = at.sizes;
+        jobs = at.jobs;
+        standing = λ A st. subst (λ (z : List Step). Stands tag new (A ++ z)) all (at.standing A st);
+        journal_is = at.journal_is ∙ ap (λ z. before ++ z) all;
+        room_is = at.room_is;
+      }

@@ -1,0 +1,111 @@
+-- Where a keeper stands: when it was opened, and after steps that its core accepted.
+use Rattle.std.proofs.Common.{◌≡◌, ℕ, ◌+◌, ◌≤◌, Bool, true, false, cond, ltb, List, [], ◌++◌, length, refl, sym, ap, ◌∙◌, arith, append_assoc, append-nil, length-append}
+use Rattle.std.specs.Prelude.{◌||◌, Some, None, Ok, Err}
+use Rattle.std.proofs.lemmas.Bool.{ltb-false, or_parts}
+use Rattle.hl_model.specs.declared.fault.Fault.TheVariants.{JournalFull}
+use Rattle.hl_model.specs.declared.step.Step.{Step}
+use Rattle.hl_model.specs.Bases.{Base, base_of}
+use Rattle.hl_model.specs.Sizes.{Sizes}
+use Rattle.hl_model.specs.Offsets.{read_only, head}
+use Rattle.hl_model.specs.Replies.{unless_fault}
+use Rattle.hl_model.proofs.NoFaultLaws.{later_fault}
+use Rattle.hl_model.proofs.OffsetLaws.{read_only-nil, head-nil}
+use Rattle.hl_action.specs.Jobs.{KeptRecord}
+use Rattle.hl_words.specs.declared.view.OffsetWords.{OffsetWords}
+use Rattle.hl_words.specs.States.{MasterState}
+use Rattle.hl_words.specs.Views.{newest, no_offsets}
+use Rattle.hl_core.specs.Standing.{State, Stands}
+use Rattle.hl_domain.specs.Keepers.{job_tag, KeeperState, KeeperStands, steps_most}
+use Rattle.hl_domain.specs.Calls.{room_fault}
+
+module _ {F : Type 0} where
+  -- a keeper that was just opened
+  pub opened : (core : State (KeptRecord F)) (base : Base) (journal : List Step) (limit : ℕ) (stamps : List ℕ) (stamp : ℕ) (master : MasterState) (sizes : Sizes) → Stands job_tag core [] → core.sizes ≡ sizes → base ≡ base_of sizes [] → journal ≡ [] → length stamps ≡ sizes.slots → stamp ≤ steps_most → master ≡ record { offsets = no_offsets; total = 0 }
+      → KeeperStands {F = F} (record { core = core; base = base; cut = 0; journal = journal; limit = limit; stamps = stamps; stamp = stamp; acquired = 0; offsets = master.offsets; total = master.total }) []
+  opened core base journal limit stamps stamp master sizes st same b j s most m = record {
+    core_stands = st;
+    steps_cut = [];
+    history = sym j;
+    base_is = b ∙ ap (λ z. base_of z []) (sym same);
+    cut_is = refl;
+    read_only_is = ap (λ (z : MasterState). newest z.offsets.read_only) m ∙ sym read_only-nil;
+    head_is = ap (λ (z : MasterState). newest z.offsets.head) m ∙ sym head-nil;
+    total_is = ap (λ (z : MasterState). z.total) m;
+    total_most = omega (arith, ap (λ (z : MasterState). z.total) m);
+    journal_most = omega (arith, ap length j);
+    stamps_is = s ∙ ap (λ (z : Sizes). z.slots) (sym same);
+    stamp_most = most;
+    acquired_most = omega arith;
+  }
+
+  -- the steps that a keeper counts in all
+  pub counted : (keeper : KeeperState F) (A : List Step) → KeeperStands keeper A → keeper.cut + length keeper.journal ≡ keeper.total
+  counted keeper A st = omega (arith, st.cut_is, st.total_is, ap length st.history, length-append st.steps_cut keeper.journal)
+
+  -- what it is that n more steps have room
+  pub room-none : (keeper : KeeperState F) (n : ℕ) → room_fault keeper n ≡ None → (length keeper.journal + n ≤ keeper.limit) × (keeper.cut + length keeper.journal + n ≤ steps_most)
+  unfolding room_fault
+  room-none keeper n h =
+      let tests = later_fault (ltb keeper.limit (length keeper.journal + n) || ltb steps_most (keeper.cut + length keeper.journal + n)) JournalFull None h in
+      let both = or_parts (ltb keeper.limit (length keeper.journal + n)) (ltb steps_most (keeper.cut + length keeper.journal + n)) tests.0 in
+      (ltb-false keeper.limit (length keeper.journal + n) both.0, ltb-false steps_most (keeper.cut + length keeper.journal + n) both.1)
+
+  -- a keeper whose core has gone on, with other stamps, offset words and counts
+  abbrev pub moved : KeeperState F → State (KeptRecord F) → List Step → List ℕ → ℕ → OffsetWords → ℕ → KeeperState F
+  moved old core journal stamps acquired offsets total = record { core = core; base = old.base; cut = old.cut; journal = journal; limit = old.limit; stamps = stamps; stamp = old.stamp; acquired = acquired; offsets = offsets; total = total }
+
+  -- it stands where its core does
+  pub grown : (old : KeeperState F) (A xs : List Step) (core : State (KeptRecord F)) (journal : List Step) (stamps : List ℕ) (acquired : ℕ) (offsets : OffsetWords) (total : ℕ) → KeeperStands old A → room_fault old (length xs) ≡ None
+      → Stands job_tag core (A ++ xs) → core.sizes ≡ old.core.sizes → journal ≡ old.journal ++ xs → length stamps ≡ length old.stamps → acquired ≤ old.acquired + length xs
+      → newest offsets.read_only ≡ read_only (A ++ xs) → newest offsets.head ≡ head (A ++ xs) → total ≡ old.total + length xs
+      → KeeperStands (moved old core journal stamps acquired offsets total) (A ++ xs)
+  grown old A xs core journal stamps acquired offsets total st room core_st same j s acq r h t =
+      let most = room-none old (length xs) room in
+      let len : length journal ≡ length old.journal + length xs = ap length j ∙ length-append old.journal xs in record {
+        core_stands = core_st;
+        steps_cut = st.steps_cut;
+        history = ap (λ z. z ++ xs) st.history ∙ append_assoc st.steps_cut old.journal xs ∙ ap (λ z. st.steps_cut ++ z) (sym j);
+        base_is = st.base_is ∙ ap (λ z. base_of z st.steps_cut) (sym same);
+        cut_is = st.cut_is;
+        read_only_is = r;
+        head_is = h;
+        total_is = omega (arith, t, st.total_is, length-append A xs);
+        total_most = omega (arith, t, most.1, counted old A st);
+        journal_most = omega (arith, len, most.0);
+        stamps_is = s ∙ st.stamps_is ∙ ap (λ (z : Sizes). z.slots) (sym same);
+        stamp_most = st.stamp_most;
+        acquired_most = omega (arith, acq, st.acquired_most, length-append A xs);
+      }
+
+  -- whether there is room
+  pub no_room : (keeper : KeeperState F) (n : ℕ) → (b : Bool) → b ≡ (ltb keeper.limit (length keeper.journal + n) || ltb steps_most (keeper.cut + length keeper.journal + n)) → b ≡ true → Err JournalFull ≡ unless_fault (room_fault keeper n) (tt {0})
+  unfolding room_fault
+  no_room keeper n b e t = sym (ap (λ c. unless_fault (cond c (Some JournalFull) None) (tt {0})) (sym e ∙ t))
+
+  pub some_room : (keeper : KeeperState F) (n : ℕ) → (b : Bool) → b ≡ (ltb keeper.limit (length keeper.journal + n) || ltb steps_most (keeper.cut + length keeper.journal + n)) → b ≡ false → Ok (tt {0}) ≡ unless_fault (room_fault keeper n) (tt {0})
+  unfolding room_fault
+  some_room keeper n b e t = sym (ap (λ c. unless_fault (cond c (Some JournalFull) None) (tt {0})) (sym e ∙ t))
+
+  -- the base has the keeper's sizes
+  pub base_sizes : (keeper : KeeperState F) (A : List Step) → KeeperStands keeper A → keeper.base.sizes ≡ keeper.core.sizes
+  unfolding base_of
+  base_sizes keeper A st = ap (λ (b : Base). b.sizes) st.base_is
+
+  -- a keeper whose steps were cut stands where it stood
+  pub cut_stands : (keeper : KeeperState F) (A : List Step) (base : Base) (cut : ℕ) (journal : List Step) → KeeperStands keeper A → base ≡ base_of keeper.core.sizes A → cut ≡ keeper.cut + length keeper.journal → journal ≡ []
+      → KeeperStands {F = F} (record { core = keeper.core; base = base; cut = cut; journal = journal; limit = keeper.limit; stamps = keeper.stamps; stamp = keeper.stamp; acquired = keeper.acquired; offsets = keeper.offsets; total = keeper.total }) A
+  cut_stands keeper A base cut journal st b c j = record {
+    core_stands = st.core_stands;
+    steps_cut = A;
+    history = sym (append-nil A) ∙ ap (λ z. A ++ z) (sym j);
+    base_is = b;
+    cut_is = omega (arith, c, counted keeper A st, st.total_is);
+    read_only_is = st.read_only_is;
+    head_is = st.head_is;
+    total_is = st.total_is;
+    total_most = st.total_most;
+    journal_most = omega (arith, ap length j);
+    stamps_is = st.stamps_is;
+    stamp_most = st.stamp_most;
+    acquired_most = st.acquired_most;
+  }

@@ -1,0 +1,56 @@
+-- What a keeper keeps, and when it stands at a list of steps.
+use Rattle.std.specs.Prelude.{◌≡◌, ℕ, ◌^◌, ◌≤◌, List, ◌++◌, length}
+use Rattle.hl_model.specs.declared.step.Step.{Step}
+use Rattle.hl_model.specs.Offsets.{read_only, head}
+use Rattle.hl_model.specs.Bases.{Base, base_of}
+use Rattle.hl_action.specs.Jobs.{KeptRecord}
+use Rattle.hl_words.specs.declared.view.OffsetWords.{OffsetWords}
+use Rattle.hl_words.specs.Views.{newest}
+use Rattle.hl_core.specs.Standing.{State, Stands}
+
+-- the tag of a job
+abbrev pub job_tag : {F : Type 0} → KeptRecord F → ℕ
+job_tag kept = kept.tag
+
+-- what a keeper keeps: a core; the base of the steps that were cut, and how many these are; the steps since, and how many it may keep; each slot's stamp, the domain's own, and how many acquires were accepted; the master's stores of the offset words, and how many steps riders entered in all
+pub record KeeperState (F : Type 0) : Type 0 where
+  pub core : State (KeptRecord F)
+  pub base : Base
+  pub cut : ℕ
+  pub journal : List Step
+  pub limit : ℕ
+  pub stamps : List ℕ
+  pub stamp : ℕ
+  pub acquired : ℕ
+  pub offsets : OffsetWords
+  pub total : ℕ
+
+-- how many steps a keeper counts in all, and the greatest stamp of a domain
+abbrev pub steps_most : ℕ
+steps_most = 2 ^ 62
+
+-- a keeper stands at the accepted list A: its core does; A is the steps that were cut, of which its base is, and then its journal; the offset words were last stored as the offsets of A; the total is A's length
+pub record KeeperStands {F : Type 0} (keeper : KeeperState F) (A : List Step) : Type 0 where
+  pub core_stands : Stands job_tag keeper.core A
+  pub steps_cut : List Step
+  pub history : A ≡ steps_cut ++ keeper.journal
+  pub base_is : keeper.base ≡ base_of keeper.core.sizes steps_cut
+  pub cut_is : keeper.cut ≡ length steps_cut
+  pub read_only_is : newest keeper.offsets.read_only ≡ read_only A
+  pub head_is : newest keeper.offsets.head ≡ head A
+  pub total_is : keeper.total ≡ length A
+  pub total_most : keeper.total ≤ steps_most
+  pub journal_most : length keeper.journal ≤ keeper.limit
+  pub stamps_is : length keeper.stamps ≡ keeper.core.sizes.slots
+  pub stamp_most : keeper.stamp ≤ steps_most
+  pub acquired_most : keeper.acquired ≤ length A
+
+-- a keeper stands at some list
+abbrev pub IsKeeper : {F : Type 0} → KeeperState F → Type 0
+IsKeeper {F} keeper = (A : List Step) × KeeperStands keeper A
+
+-- so does each keeper, its journal has room for all steps that it may keep, and its row of stamps never grew
+pub record IsKept {F : Type 0} (keeper : KeeperState F) (journal_room : ℕ) (stamp_room : ℕ) : Type 0 where
+  pub standing : IsKeeper keeper
+  pub room : keeper.limit ≤ journal_room
+  pub exact : stamp_room ≡ keeper.core.sizes.slots

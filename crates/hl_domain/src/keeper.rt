@@ -1,0 +1,109 @@
+ghost use Rattle.std.specs.Prelude.{◌≡◌, ◌*◌, ◌≤◌, [], replicate, vec_capacity, IfOk, IfErr};
+ghost use Rattle.hl_model.specs.declared.fault.Fault.TheVariants.{OutOfMemory};
+ghost use Rattle.hl_words.specs.States.{IsSeedOf, new_rider};
+ghost use Rattle.hl_domain.specs.Keepers.{KeeperStands, steps_most};
+
+use hl_action::{Kept, Promise, Task};
+use hl_core::Core;
+use hl_epoch::Epochs;
+use hl_model::{Base, Fault, Params, Step, filled};
+use hl_words::{Master, Realm, Rider, Seed, Words};
+use std::alloc::Global;
+use std::marker::Model;
+
+/// What lies under a domain's one lock: a core over the table of epochs E with jobs F, the journal of the accepted steps,
+/// the base of those that were cut from it, each slot's stamp, and the right to store the offset words. The answers of
+/// its jobs keep the promise P.
+pub struct Keeper<E: Epochs, F: Task, P: Promise, L: Realm> {
+    pub(crate) core: Core<E, Kept<F, P>>,
+    pub(crate) base: Base,
+    // How many steps were cut.
+    pub(crate) cut: u64,
+    pub(crate) journal: Vec<Step>,
+    // How many steps the journal may have.
+    pub(crate) limit: u64,
+    pub(crate) stamps: Vec<u64>,
+    pub(crate) stamp: u64,
+    // How many acquires were accepted.
+    pub(crate) acquired: u64,
+    pub(crate) master: Master<L>,
+}
+
+impl<E: Epochs, F: Task, P: Promise, L: Realm> Model for Keeper<E, F, P, L> {
+    ghost use Rattle.std.specs.Prelude.{vec_capacity};
+    ghost use Rattle.hl_domain.specs.Keepers.{KeeperState, IsKept};
+
+    ghost Value = { KeeperState F };
+
+    ghost view = { λ k. record { core = k.core; base = k.base; cut = k.cut; journal = k.journal.items; limit = k.limit; stamps = k.stamps.items; stamp = k.stamp; acquired = k.acquired; offsets = k.master.offsets; total = k.master.total } };
+
+    ghost invariant = { λ k. IsKept (record { core = k.core; base = k.base; cut = k.cut; journal = k.journal.items; limit = k.limit; stamps = k.stamps.items; stamp = k.stamp; acquired = k.acquired; offsets = k.master.offsets; total = k.master.total }) (vec_capacity k.journal) (vec_capacity k.stamps) };
+}
+
+impl<E: Epochs + Drop, F: Task, P: Promise, L: Realm> Drop for Keeper<E, F, P, L> {
+    fn drop(self) {
+        let Keeper {
+            core: _,
+            base: _,
+            cut: _,
+            journal: _,
+            limit: _,
+            stamps: _,
+            stamp: _,
+            acquired: _,
+            master: _,
+        } = self;
+    }
+}
+
+impl<E: Epochs + Drop, F: Task, P: Promise, L: Realm> Keeper<E, F, P, L> {
+    /// A keeper at the empty list, with its words and its riders. It may keep this many steps between two cuts, and the
+    /// stamp is its domain's. No other call takes memory.
+    ///
+    /// `OutOfMemory` where memory was refused; then the seed is given up.
+    pub fn open(
+        alloc: Global,
+        seed: Seed,
+        journal: u64,
+        stamp: u64,
+    ) -> Result<(Keeper<E, F, P, L>, Words<L>, Vec<Rider<L>>), Fault>
+        requires seed { IsSeedOf L.name L.parts L.table seed }
+        requires journal { journal ≤ steps_most }
+        requires stamp { stamp ≤ steps_most }
+        ensures keeper { IfOk result (λ opened. KeeperStands opened.0 []) }
+        ensures sizes { IfOk result (λ opened. opened.0.core.sizes ≡ seed.sizes) }
+        ensures limits { IfOk result (λ opened. (opened.0.limit ≡ journal) × (opened.0.stamp ≡ stamp) × (opened.0.acquired ≡ 0)) }
+        ensures words { IfOk result (λ opened. opened.1 ≡ record { cells = seed.sizes.frames * seed.sizes.page; riders = seed.riders }) }
+        ensures riders { IfOk result (λ opened. opened.2.items ≡ replicate seed.riders new_rider) }
+        ensures memory { IfErr result (λ fault. fault ≡ OutOfMemory) }
+    {
+        let params = seed.params();
+        let (words, master, riders) = Words::open(alloc, seed)?;
+        let core = Core::open(alloc, params)?;
+        let base = Base::opening(alloc, params)?;
+        let stamps = filled(alloc, params.slots(), 0)?;
+        let limit = journal;
+        let journal = with_room(alloc, limit)?;
+        let keeper = Keeper {
+            core,
+            base,
+            cut: 0,
+            journal,
+            limit,
+            stamps,
+            stamp,
+            acquired: 0,
+            master,
+        };
+        Ok((keeper, words, riders))
+    }
+}
+
+// An empty row with room for n steps.
+fn with_room(alloc: Global, n: u64) -> Result<Vec<Step>, Fault>
+    ensures empty { IfOk result (λ row. row.items ≡ []) }
+    ensures room { IfOk result (λ row. n ≤ vec_capacity row) }
+    ensures memory { IfErr result (λ fault. fault ≡ OutOfMemory) }
+{
+    Vec::with_capacity(alloc, n as usize).map_err(|_| Fault::OutOfMemory)
+}
