@@ -12,7 +12,11 @@ use hl_model::Step;
 pub extern "C" fn hl_bump(handle: &mut Handle, tag: u64) -> Outcome
     ensures { Answers handle.old.slot.value (BUMP tag) handle.new.slot.value result }
 {
-    replace_with(handle, Step::Bump { tag }, stepped)
+    replace_with(
+        handle,
+        (),
+        |handle, _nothing| stepped(handle, Step::Bump { tag }),
+    )
 }
 
 /// Ends the current epoch, and stores a settle: its ticket.
@@ -20,7 +24,7 @@ pub extern "C" fn hl_bump(handle: &mut Handle, tag: u64) -> Outcome
 pub extern "C" fn hl_settle(handle: &mut Handle) -> Outcome
     ensures { Answers handle.old.slot.value SETTLE handle.new.slot.value result }
 {
-    replace_with(handle, Step::Settle, stepped)
+    replace_with(handle, (), |handle, _nothing| stepped(handle, Step::Settle))
 }
 
 /// Ends the current epoch, and stores a close: its ticket.
@@ -28,7 +32,7 @@ pub extern "C" fn hl_settle(handle: &mut Handle) -> Outcome
 pub extern "C" fn hl_close(handle: &mut Handle) -> Outcome
     ensures { Answers handle.old.slot.value CLOSE handle.new.slot.value result }
 {
-    replace_with(handle, Step::Close, stepped)
+    replace_with(handle, (), |handle, _nothing| stepped(handle, Step::Close))
 }
 
 /// Ends the current epoch, and stores nothing: the epoch that ended.
@@ -36,7 +40,7 @@ pub extern "C" fn hl_close(handle: &mut Handle) -> Outcome
 pub extern "C" fn hl_bare(handle: &mut Handle) -> Outcome
     ensures { Answers handle.old.slot.value BARE handle.new.slot.value result }
 {
-    replace_with(handle, Step::Bare, stepped)
+    replace_with(handle, (), |handle, _nothing| stepped(handle, Step::Bare))
 }
 
 /// A taken action was carried out: its job's tag, or the offset after it, and which.
@@ -44,7 +48,11 @@ pub extern "C" fn hl_bare(handle: &mut Handle) -> Outcome
 pub extern "C" fn hl_done(handle: &mut Handle, ticket: u64) -> Outcome
     ensures { Answers handle.old.slot.value (DONE ticket) handle.new.slot.value result }
 {
-    replace_with(handle, Step::Done { ticket }, stepped)
+    replace_with(
+        handle,
+        (),
+        |handle, _nothing| stepped(handle, Step::Done { ticket }),
+    )
 }
 
 /// Takes the oldest pending action: its ticket, and 1 with its tag where it is a job's.

@@ -12,7 +12,11 @@ use hl_model::Step;
 pub extern "C" fn hl_raise(handle: &mut Handle, address: u64) -> Outcome
     ensures { Answers handle.old.slot.value (RAISE address) handle.new.slot.value result }
 {
-    replace_with(handle, Step::Raise { x: address }, stepped)
+    replace_with(
+        handle,
+        (),
+        |handle, _nothing| stepped(handle, Step::Raise { x: address }),
+    )
 }
 
 /// Moves the head up to an address.
@@ -20,7 +24,11 @@ pub extern "C" fn hl_raise(handle: &mut Handle, address: u64) -> Outcome
 pub extern "C" fn hl_shift(handle: &mut Handle, address: u64) -> Outcome
     ensures { Answers handle.old.slot.value (SHIFT address) handle.new.slot.value result }
 {
-    replace_with(handle, Step::Shift { x: address }, stepped)
+    replace_with(
+        handle,
+        (),
+        |handle, _nothing| stepped(handle, Step::Shift { x: address }),
+    )
 }
 
 /// Places a record of so many words for a slot: its address.
@@ -28,7 +36,11 @@ pub extern "C" fn hl_shift(handle: &mut Handle, address: u64) -> Outcome
 pub extern "C" fn hl_allocate(handle: &mut Handle, slot: u64, words: u64) -> Outcome
     ensures { Answers handle.old.slot.value (ALLOCATE slot words) handle.new.slot.value result }
 {
-    replace_with(handle, Step::Allocate { t: slot, n: words }, stepped)
+    replace_with(
+        handle,
+        (),
+        |handle, _nothing| stepped(handle, Step::Allocate { t: slot, n: words }),
+    )
 }
 
 /// A slot sees these two offsets: its view.

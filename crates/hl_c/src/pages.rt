@@ -12,7 +12,11 @@ use hl_model::Step;
 pub extern "C" fn hl_flush_take(handle: &mut Handle) -> Outcome
     ensures { Answers handle.old.slot.value FLUSH_TAKE handle.new.slot.value result }
 {
-    replace_with(handle, Step::FlushTake, stepped)
+    replace_with(
+        handle,
+        (),
+        |handle, _nothing| stepped(handle, Step::FlushTake),
+    )
 }
 
 /// The flush of a page ended, well or not: the flushed offset.
@@ -20,7 +24,11 @@ pub extern "C" fn hl_flush_take(handle: &mut Handle) -> Outcome
 pub extern "C" fn hl_flush_done(handle: &mut Handle, page: u64, ok: bool) -> Outcome
     ensures { Answers handle.old.slot.value (FLUSH_DONE page ok) handle.new.slot.value result }
 {
-    replace_with(handle, Step::FlushDone { page, ok }, stepped)
+    replace_with(
+        handle,
+        (),
+        |handle, _nothing| stepped(handle, Step::FlushDone { page, ok }),
+    )
 }
 
 /// Takes the least closed page that is neither freed nor being cleaned.
@@ -28,7 +36,11 @@ pub extern "C" fn hl_flush_done(handle: &mut Handle, page: u64, ok: bool) -> Out
 pub extern "C" fn hl_clean_take(handle: &mut Handle) -> Outcome
     ensures { Answers handle.old.slot.value CLEAN_TAKE handle.new.slot.value result }
 {
-    replace_with(handle, Step::CleanTake, stepped)
+    replace_with(
+        handle,
+        (),
+        |handle, _nothing| stepped(handle, Step::CleanTake),
+    )
 }
 
 /// The words of a page are zeroed: its frame is free.
@@ -36,5 +48,9 @@ pub extern "C" fn hl_clean_take(handle: &mut Handle) -> Outcome
 pub extern "C" fn hl_clean_done(handle: &mut Handle, page: u64) -> Outcome
     ensures { Answers handle.old.slot.value (CLEAN_DONE page) handle.new.slot.value result }
 {
-    replace_with(handle, Step::CleanDone { page }, stepped)
+    replace_with(
+        handle,
+        (),
+        |handle, _nothing| stepped(handle, Step::CleanDone { page }),
+    )
 }

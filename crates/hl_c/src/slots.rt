@@ -12,7 +12,11 @@ use hl_model::Step;
 pub extern "C" fn hl_acquire(handle: &mut Handle, slot: u64) -> Outcome
     ensures { Answers handle.old.slot.value (ACQUIRE slot) handle.new.slot.value result }
 {
-    replace_with(handle, Step::Acquire { t: slot }, stepped)
+    replace_with(
+        handle,
+        (),
+        |handle, _nothing| stepped(handle, Step::Acquire { t: slot }),
+    )
 }
 
 /// The thread of a protected slot moves on: its epoch, and its view.
@@ -20,7 +24,11 @@ pub extern "C" fn hl_acquire(handle: &mut Handle, slot: u64) -> Outcome
 pub extern "C" fn hl_refresh(handle: &mut Handle, slot: u64) -> Outcome
     ensures { Answers handle.old.slot.value (REFRESH slot) handle.new.slot.value result }
 {
-    replace_with(handle, Step::Refresh { t: slot }, stepped)
+    replace_with(
+        handle,
+        (),
+        |handle, _nothing| stepped(handle, Step::Refresh { t: slot }),
+    )
 }
 
 /// The thread of a slot is protected no longer.
@@ -28,5 +36,9 @@ pub extern "C" fn hl_refresh(handle: &mut Handle, slot: u64) -> Outcome
 pub extern "C" fn hl_release(handle: &mut Handle, slot: u64) -> Outcome
     ensures { Answers handle.old.slot.value (RELEASE slot) handle.new.slot.value result }
 {
-    replace_with(handle, Step::Release { t: slot }, stepped)
+    replace_with(
+        handle,
+        (),
+        |handle, _nothing| stepped(handle, Step::Release { t: slot }),
+    )
 }
