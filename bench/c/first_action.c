@@ -1,12 +1,19 @@
-/* examples/first_action.script by the door: an action waits until its thread has refreshed. */
+/* examples/first_action.script by the door: an action waits until its thread has refreshed. It writes the same text. */
 #include "hl.h"
 
 #include <inttypes.h>
 #include <stdio.h>
 
-/* A job answers its tag and its ticket, as those of scripts do. */
-static uint64_t run_job(uint64_t tag, uint64_t ticket) {
-    return tag + ticket;
+static void print_entered(hl_outcome entered) {
+    printf("epoch %" PRIu64 " view %" PRIu64 " %" PRIu64 " %" PRIu64 "\n", entered.a, entered.b, entered.c, entered.d);
+}
+
+static void print_all(hl_quantities all) {
+    printf("status epoch %" PRIu64 " safe %" PRIu64 " pending %" PRIu64 " taken %" PRIu64, all.epoch, all.safe, all.pending,
+           all.taken);
+    printf(" closed %" PRIu64 " head %" PRIu64 " flushed %" PRIu64, all.six.closed, all.six.head, all.six.flushed);
+    printf(" safe_read_only %" PRIu64 " read_only %" PRIu64 " tail %" PRIu64 "\n", all.six.safe_read_only,
+           all.six.read_only, all.six.tail);
 }
 
 int main(void) {
@@ -14,18 +21,17 @@ int main(void) {
     if (hl_open(&core, 4, 2, 2, 2) != 0) {
         return 1;
     }
-    hl_outcome entered = hl_acquire(&core, 0);
-    printf("epoch %" PRIu64 "\n", entered.a);
+    puts("opened");
+    print_entered(hl_acquire(&core, 0));
     printf("ticket %" PRIu64 "\n", hl_bump(&core, 7).a);
     hl_outcome early = hl_take(&core);
-    printf("fault %" PRIu64 " front %" PRIu64 " safe %" PRIu64 "\n", early.number, early.a, early.b);
-    printf("epoch %" PRIu64 "\n", hl_refresh(&core, 0).a);
+    printf("fault %" PRIu64 " NotReady front %" PRIu64 " safe %" PRIu64 "\n", early.number, early.a, early.b);
+    print_entered(hl_refresh(&core, 0));
     hl_outcome taken = hl_take(&core);
     printf("taken %" PRIu64 "\n", taken.a);
-    hl_outcome done = hl_done(&core, taken.a);
-    printf("answer %" PRIu64 "\n", run_job(done.a, taken.a));
-    printf("fault %" PRIu64 "\n", hl_take(&core).number);
-    hl_quantities all = hl_snapshot(&core);
-    printf("status epoch %" PRIu64 " safe %" PRIu64 " tail %" PRIu64 "\n", all.epoch, all.safe, all.six.tail);
+    /* The job is this program's: it answers its tag and its ticket, and a done tells the tag again. */
+    printf("answer %" PRIu64 "\n", hl_done(&core, taken.a).a + taken.a);
+    printf("fault %" PRIu64 " Empty\n", hl_take(&core).number);
+    print_all(hl_snapshot(&core));
     return hl_free(&core) == 0 ? 0 : 1;
 }

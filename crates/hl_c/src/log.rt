@@ -50,12 +50,15 @@ pub extern "C" fn hl_look(handle: &mut Handle, slot: u64, read_only: u64, head: 
 {
     replace_with(
         handle,
-        Step::Look {
-            t: slot,
-            read_only,
-            head,
-        },
-        stepped,
+        (),
+        |handle, _nothing| stepped(
+            handle,
+            Step::Look {
+                t: slot,
+                read_only,
+                head,
+            },
+        ),
     )
 }
 
@@ -66,12 +69,15 @@ pub extern "C" fn hl_write(handle: &mut Handle, slot: u64, address: u64, value: 
 {
     replace_with(
         handle,
-        Step::Write {
-            t: slot,
-            a: address,
-            v: value,
-        },
-        stepped,
+        (),
+        |handle, _nothing| stepped(
+            handle,
+            Step::Write {
+                t: slot,
+                a: address,
+                v: value,
+            },
+        ),
     )
 }
 
