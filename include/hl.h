@@ -38,6 +38,12 @@ typedef struct hl_outcome {
     uint64_t d;
 } hl_outcome;
 
+/* The same for a step of which at most one number is told. */
+typedef struct hl_brief {
+    uint64_t number;
+    uint64_t a;
+} hl_brief;
+
 /* The faults of docs/RULES.md that a call can meet. */
 enum hl_fault {
     HL_NO_SLOT = 1,
@@ -119,22 +125,22 @@ hl_outcome hl_acquire(hl_core *core, uint64_t slot);
 hl_outcome hl_refresh(hl_core *core, uint64_t slot);
 
 /* The thread of a slot is protected no longer. HL_NO_SLOT, HL_NOT_PROTECTED. */
-hl_outcome hl_release(hl_core *core, uint64_t slot);
+hl_brief hl_release(hl_core *core, uint64_t slot);
 
 /* ---- Epochs and actions ---- */
 
 /* Ends the current epoch, and stores a job of this tag: a its ticket. HL_DRAIN_FULL: the drain list is full.
  * HL_EPOCHS_SPENT: the epoch is the last, 2^62. HL_WINDOW_FULL: 4,096 epochs have ended and aren't safe. */
-hl_outcome hl_bump(hl_core *core, uint64_t tag);
+hl_brief hl_bump(hl_core *core, uint64_t tag);
 
 /* As hl_bump; its action raises the safe read-only offset to what the read-only offset is now. */
-hl_outcome hl_settle(hl_core *core);
+hl_brief hl_settle(hl_core *core);
 
 /* As hl_bump; its action raises the closed offset to what the head is now. */
-hl_outcome hl_close(hl_core *core);
+hl_brief hl_close(hl_core *core);
 
 /* Ends the current epoch, and stores nothing: a the epoch that ended. HL_EPOCHS_SPENT, HL_WINDOW_FULL. */
-hl_outcome hl_bare(hl_core *core);
+hl_brief hl_bare(hl_core *core);
 
 /* Takes the oldest pending action: a its ticket, b 1 and c its tag where it is a job's. HL_EMPTY: none is pending.
  * HL_NOT_READY: its ticket isn't safe yet. */
@@ -148,40 +154,40 @@ hl_outcome hl_done(hl_core *core, uint64_t ticket);
 
 /* Moves the read-only offset up: a the offset. HL_NOT_ABOVE: it isn't below the address. HL_ABOVE_TAIL: the address is
  * above the tail. */
-hl_outcome hl_raise(hl_core *core, uint64_t address);
+hl_brief hl_raise(hl_core *core, uint64_t address);
 
 /* Moves the head up: a the head. HL_NOT_ABOVE: it isn't below the address. HL_NOT_PAGE: no page begins there.
  * HL_ABOVE_FLUSHED: the address is above the flushed offset. */
-hl_outcome hl_shift(hl_core *core, uint64_t address);
+hl_brief hl_shift(hl_core *core, uint64_t address);
 
 /* Places a record of so many words for a slot: a its address. HL_NO_SLOT, HL_NOT_PROTECTED. HL_SIZE: no word, or more
  * than a page has. HL_SPACE_SPENT: it would end above 2^48. HL_BUSY: it would enter a page whose frame isn't free. */
-hl_outcome hl_allocate(hl_core *core, uint64_t slot, uint64_t words);
+hl_brief hl_allocate(hl_core *core, uint64_t slot, uint64_t words);
 
 /* A slot sees these two offsets: b to d its view. HL_NO_SLOT, HL_NOT_PROTECTED. HL_STALE: one is below the view's. */
 hl_outcome hl_look(hl_core *core, uint64_t slot, uint64_t read_only, uint64_t head);
 
 /* Whether a slot may write this value to the word at an address; the word is yours to write. HL_NO_SLOT,
  * HL_NOT_PROTECTED. HL_BELOW: below the view's read-only offset. HL_BEYOND: at the view's tail or above. */
-hl_outcome hl_write(hl_core *core, uint64_t slot, uint64_t address, uint64_t value);
+hl_brief hl_write(hl_core *core, uint64_t slot, uint64_t address, uint64_t value);
 
 /* Whether a slot may read the word at an address. HL_NO_SLOT, HL_NOT_PROTECTED. HL_EVICTED: below the view's head.
  * HL_BEYOND: at the view's tail or above. */
-hl_outcome hl_read(hl_core *core, uint64_t slot, uint64_t address);
+hl_brief hl_read(hl_core *core, uint64_t slot, uint64_t address);
 
 /* ---- Pages. Page p has the addresses from p * page_words on, and lies in frame p modulo the frames. ---- */
 
 /* Takes the least sealed page that is neither flushed nor in flight: a the page. HL_NONE_SEALED: there is none. */
-hl_outcome hl_flush_take(hl_core *core);
+hl_brief hl_flush_take(hl_core *core);
 
 /* The flush of a page ended, well or not: a the flushed offset. HL_NOT_IN_FLIGHT: the page isn't being flushed. */
-hl_outcome hl_flush_done(hl_core *core, uint64_t page, bool ok);
+hl_brief hl_flush_done(hl_core *core, uint64_t page, bool ok);
 
 /* Takes the least closed page that is neither freed nor being cleaned: a the page. HL_NONE_CLOSED: there is none. */
-hl_outcome hl_clean_take(hl_core *core);
+hl_brief hl_clean_take(hl_core *core);
 
 /* The words of a page are zeroed, and its frame is free: a the page. HL_NOT_CLEANING: the page isn't being cleaned. */
-hl_outcome hl_clean_done(hl_core *core, uint64_t page);
+hl_brief hl_clean_done(hl_core *core, uint64_t page);
 
 /* ---- Queries. They change nothing. ---- */
 

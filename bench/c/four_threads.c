@@ -1,11 +1,13 @@
 /* Four threads under one mutex, over frames that go round: each allocates records and writes them through its view; who
  * can't allocate moves the log on, flushes and cleans. The words are this program's. */
+#define _POSIX_C_SOURCE 200809L
 #include "hl.h"
 
 #include <pthread.h>
+#include <sched.h>
 #include <stdio.h>
 
-enum { PAGE_WORDS = 8, FRAMES = 4, THREADS = 4, RECORDS = 20000, WORDS = 3 };
+enum { PAGE_WORDS = 8, FRAMES = 4, THREADS = 4, RECORDS = 2000, WORDS = 3 };
 
 static hl_core core;
 static pthread_mutex_t lock = PTHREAD_MUTEX_INITIALIZER;
@@ -18,10 +20,11 @@ static uint64_t *cell_of(uint64_t address) {
 
 /* Runs the actions that are ready, and flushes and cleans what is due. */
 static void serve(void) {
-    hl_outcome next;
-    while ((next = hl_take(&core)).number == 0) {
-        hl_done(&core, next.a);
+    hl_outcome taken;
+    while ((taken = hl_take(&core)).number == 0) {
+        hl_done(&core, taken.a);
     }
+    hl_brief next;
     while ((next = hl_flush_take(&core)).number == 0) {
         flushed_pages++;
         hl_flush_done(&core, next.a, true);
@@ -55,7 +58,7 @@ static void *ride(void *number) {
     for (uint64_t made = 0; made < RECORDS;) {
         pthread_mutex_lock(&lock);
         wrong += hl_refresh(&core, slot).number != 0;
-        hl_outcome at = hl_allocate(&core, slot, WORDS);
+        hl_brief at = hl_allocate(&core, slot, WORDS);
         if (at.number == 0) {
             for (uint64_t i = 0; i < WORDS; i++) {
                 wrong += hl_write(&core, slot, at.a + i, made).number != 0 || *cell_of(at.a + i) != 0;
@@ -67,6 +70,8 @@ static void *ride(void *number) {
             move_on();
         }
         pthread_mutex_unlock(&lock);
+        /* The others have to refresh before a frame comes free. */
+        sched_yield();
     }
     pthread_mutex_lock(&lock);
     wrong += hl_release(&core, slot).number != 0;

@@ -13,6 +13,24 @@ pub struct Outcome {
     pub d: u64,
 }
 
+/// The same where at most one number is told.
+#[repr(C)]
+#[derive(Clone, Copy)]
+struct Brief {
+    number: u64,
+    a: u64,
+}
+
+impl From<Brief> for Outcome {
+    fn from(brief: Brief) -> Outcome {
+        Outcome {
+            number: brief.number,
+            a: brief.a,
+            ..Outcome::default()
+        }
+    }
+}
+
 #[repr(C)]
 #[derive(Clone, Copy, Debug, Default, PartialEq, Eq)]
 pub struct SixOutcome {
@@ -51,23 +69,23 @@ extern "C" {
     fn hl_free(core: &mut Handle) -> u64;
     fn hl_acquire(core: &mut Handle, slot: u64) -> Outcome;
     fn hl_refresh(core: &mut Handle, slot: u64) -> Outcome;
-    fn hl_release(core: &mut Handle, slot: u64) -> Outcome;
-    fn hl_bump(core: &mut Handle, tag: u64) -> Outcome;
-    fn hl_settle(core: &mut Handle) -> Outcome;
-    fn hl_close(core: &mut Handle) -> Outcome;
-    fn hl_bare(core: &mut Handle) -> Outcome;
+    fn hl_release(core: &mut Handle, slot: u64) -> Brief;
+    fn hl_bump(core: &mut Handle, tag: u64) -> Brief;
+    fn hl_settle(core: &mut Handle) -> Brief;
+    fn hl_close(core: &mut Handle) -> Brief;
+    fn hl_bare(core: &mut Handle) -> Brief;
     fn hl_take(core: &mut Handle) -> Outcome;
     fn hl_done(core: &mut Handle, ticket: u64) -> Outcome;
-    fn hl_raise(core: &mut Handle, address: u64) -> Outcome;
-    fn hl_shift(core: &mut Handle, address: u64) -> Outcome;
-    fn hl_allocate(core: &mut Handle, slot: u64, words: u64) -> Outcome;
+    fn hl_raise(core: &mut Handle, address: u64) -> Brief;
+    fn hl_shift(core: &mut Handle, address: u64) -> Brief;
+    fn hl_allocate(core: &mut Handle, slot: u64, words: u64) -> Brief;
     fn hl_look(core: &mut Handle, slot: u64, read_only: u64, head: u64) -> Outcome;
-    fn hl_write(core: &mut Handle, slot: u64, address: u64, value: u64) -> Outcome;
-    fn hl_read(core: &mut Handle, slot: u64, address: u64) -> Outcome;
-    fn hl_flush_take(core: &mut Handle) -> Outcome;
-    fn hl_flush_done(core: &mut Handle, page: u64, ok: bool) -> Outcome;
-    fn hl_clean_take(core: &mut Handle) -> Outcome;
-    fn hl_clean_done(core: &mut Handle, page: u64) -> Outcome;
+    fn hl_write(core: &mut Handle, slot: u64, address: u64, value: u64) -> Brief;
+    fn hl_read(core: &mut Handle, slot: u64, address: u64) -> Brief;
+    fn hl_flush_take(core: &mut Handle) -> Brief;
+    fn hl_flush_done(core: &mut Handle, page: u64, ok: bool) -> Brief;
+    fn hl_clean_take(core: &mut Handle) -> Brief;
+    fn hl_clean_done(core: &mut Handle, page: u64) -> Brief;
     fn hl_six(core: &mut Handle) -> SixOutcome;
     fn hl_snapshot(core: &mut Handle) -> SnapshotOutcome;
     fn hl_pending(core: &mut Handle, place: u64) -> Outcome;
@@ -113,27 +131,27 @@ impl Door {
             match *step {
                 Step::Acquire { slot } => hl_acquire(core, slot),
                 Step::Refresh { slot } => hl_refresh(core, slot),
-                Step::Release { slot } => hl_release(core, slot),
-                Step::Bump { tag } => hl_bump(core, tag),
-                Step::Settle => hl_settle(core),
-                Step::Close => hl_close(core),
-                Step::Bare => hl_bare(core),
+                Step::Release { slot } => hl_release(core, slot).into(),
+                Step::Bump { tag } => hl_bump(core, tag).into(),
+                Step::Settle => hl_settle(core).into(),
+                Step::Close => hl_close(core).into(),
+                Step::Bare => hl_bare(core).into(),
                 Step::Take => hl_take(core),
                 Step::Done { ticket } => hl_done(core, ticket),
-                Step::Raise { to } => hl_raise(core, to),
-                Step::Shift { to } => hl_shift(core, to),
-                Step::Allocate { slot, words } => hl_allocate(core, slot, words),
+                Step::Raise { to } => hl_raise(core, to).into(),
+                Step::Shift { to } => hl_shift(core, to).into(),
+                Step::Allocate { slot, words } => hl_allocate(core, slot, words).into(),
                 Step::Look {
                     slot,
                     read_only,
                     head,
                 } => hl_look(core, slot, read_only, head),
-                Step::Write { slot, address, value } => hl_write(core, slot, address, value),
-                Step::Read { slot, address } => hl_read(core, slot, address),
-                Step::FlushTake => hl_flush_take(core),
-                Step::FlushDone { page, ok } => hl_flush_done(core, page, ok),
-                Step::CleanTake => hl_clean_take(core),
-                Step::CleanDone { page } => hl_clean_done(core, page),
+                Step::Write { slot, address, value } => hl_write(core, slot, address, value).into(),
+                Step::Read { slot, address } => hl_read(core, slot, address).into(),
+                Step::FlushTake => hl_flush_take(core).into(),
+                Step::FlushDone { page, ok } => hl_flush_done(core, page, ok).into(),
+                Step::CleanTake => hl_clean_take(core).into(),
+                Step::CleanDone { page } => hl_clean_done(core, page).into(),
             }
         }
     }

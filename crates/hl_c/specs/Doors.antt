@@ -6,8 +6,9 @@ use Rattle.hl_model.specs.Actions.{pending}
 use Rattle.hl_model.specs.Sizes.{Sizes, AreInRange}
 use Rattle.hl_model.specs.Replies.{reply_of, extended}
 use Rattle.hl_core.specs.Standing.{Stands}
+use Rattle.hl_c.specs.declared.outcome.Brief.{Brief}
 use Rattle.hl_c.specs.declared.outcome.Outcome.{Outcome}
-use Rattle.hl_c.specs.Outcomes.{told_of, take_told, no_core}
+use Rattle.hl_c.specs.Outcomes.{told_of, take_told, brief_of, no_core}
 use Rattle.hl_c.specs.Slots.{DoorRow}
 
 -- a core stands at these steps
@@ -25,6 +26,10 @@ abbrev pub Answers : Option DoorRow.Denot → Step → Option DoorRow.Denot → 
 Answers None step new outcome = (outcome ≡ no_core) × (new ≡ None)
 Answers (Some old) step new outcome = (core : DoorRow.Denot) × (new ≡ Some core)
     × ((A : List Step) → StandsAt old A → Moved old A step core (told_of (reply_of old.sizes A step)) outcome)
+
+-- so for a step of which one number is told
+abbrev pub AnswersBriefly : Option DoorRow.Denot → Step → Option DoorRow.Denot → Brief → Type 0
+AnswersBriefly old step new brief = (outcome : Outcome) × Answers old step new outcome × (brief ≡ brief_of outcome)
 
 -- a query: its answer is of whatever list the core stood at, which stays; where no core is open, it answers what it does then
 abbrev pub Tells : {X : Type 0} → Option DoorRow.Denot → (Sizes → List Step → X) → X → Option DoorRow.Denot → X → Type 0

@@ -15,6 +15,7 @@ use Rattle.hl_action.specs.Firings.{FiringRecord}
 use Rattle.hl_model.specs.declared.step.Reply.{Reply}
 use Rattle.hl_model.specs.declared.step.Reply.TheVariants.{Entered, Left, Ticket, Bumped, Taken, Ran, Answer, Settled, Closed, Raised, Shifted, At, Looked, Written, Readable, Value, Page, Flushed, Freed}
 use Rattle.hl_model.specs.Faults.{number_of}
+use Rattle.hl_c.specs.declared.outcome.Brief.{Brief}
 use Rattle.hl_c.specs.declared.outcome.Outcome.{Outcome}
 use Rattle.hl_c.specs.declared.quantities.SixOutcome.{SixOutcome}
 use Rattle.hl_c.specs.declared.quantities.SnapshotOutcome.{SnapshotOutcome}
@@ -149,3 +150,7 @@ frame_told (state, Some page) = accepted (state_number state) 1 page 0
 abbrev pub view_told : Option View → Outcome
 view_told None = accepted 0 0 0 0
 view_told (Some view) = accepted 1 view.read_only view.head view.tail
+
+-- an outcome's number, and the first of those that it carries
+abbrev pub brief_of : Outcome → Brief
+brief_of outcome = record { number = outcome.number; a = outcome.a }

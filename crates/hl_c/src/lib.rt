@@ -36,7 +36,7 @@ pub use door::Door;
 pub use handle::Handle;
 pub use log::{hl_allocate, hl_look, hl_raise, hl_read, hl_shift, hl_write};
 pub use open::{hl_free, hl_open};
-pub use outcome::Outcome;
+pub use outcome::{Brief, Outcome};
 pub use pages::{hl_clean_done, hl_clean_take, hl_flush_done, hl_flush_take};
 pub use quantities::{SixOutcome, SnapshotOutcome};
 pub use queries::{hl_frame, hl_pending, hl_six, hl_snapshot, hl_view};

@@ -1,5 +1,5 @@
 ghost use Rattle.std.specs.Prelude.{◌≡◌, Ok};
-ghost use Rattle.hl_c.specs.Outcomes.{told_of, fault_told, taken_told, frame_told, view_told, pending_told, action_told, accepted, no_core, out_of_range};
+ghost use Rattle.hl_c.specs.Outcomes.{told_of, fault_told, taken_told, frame_told, view_told, pending_told, action_told, accepted, brief_of, no_core, out_of_range};
 
 use hl_action::Firing;
 use hl_model::{Fault, FrameState, Kind, Reply, Tag, View, Waiting};
@@ -20,7 +20,26 @@ pub struct Outcome {
     pub d: u64,
 }
 
+/// The same for a step of which one number is told: it goes back in two registers.
+#[repr(C)]
+#[derive(Clone, Copy, Drop)]
+pub struct Brief {
+    pub number: u64,
+    pub a: u64,
+}
+
 impl Outcome {
+    /// Its number, and the first of those that it carries.
+    #[inline(always)]
+    pub(crate) fn brief(self) -> Brief
+        ensures { result ≡ brief_of self }
+    {
+        Brief {
+            number: self.number,
+            a: self.a,
+        }
+    }
+
     /// Of a call that was refused with no fault of the core's.
     pub(crate) fn no_core() -> Outcome
         ensures { result ≡ no_core }

@@ -1,9 +1,9 @@
 ghost use Rattle.hl_model.specs.declared.step.Step.TheVariants.{Acquire as ACQUIRE, Refresh as REFRESH, Release as RELEASE};
-ghost use Rattle.hl_c.specs.Doors.{Answers};
+ghost use Rattle.hl_c.specs.Doors.{Answers, AnswersBriefly};
 
 use crate::handle::Handle;
-use crate::outcome::Outcome;
-use crate::worker::stepped;
+use crate::outcome::{Brief, Outcome};
+use crate::worker::{stepped, stepped_briefly};
 use core::mem::replace_with;
 use hl_model::Step;
 
@@ -33,12 +33,12 @@ pub extern "C" fn hl_refresh(handle: &mut Handle, slot: u64) -> Outcome
 
 /// The thread of a slot is protected no longer.
 #[unsafe(no_mangle)]
-pub extern "C" fn hl_release(handle: &mut Handle, slot: u64) -> Outcome
-    ensures { Answers handle.old.slot.value (RELEASE slot) handle.new.slot.value result }
+pub extern "C" fn hl_release(handle: &mut Handle, slot: u64) -> Brief
+    ensures { AnswersBriefly handle.old.slot.value (RELEASE slot) handle.new.slot.value result }
 {
     replace_with(
         handle,
         (),
-        |handle, _nothing| stepped(handle, Step::Release { t: slot }),
+        |handle, _nothing| stepped_briefly(handle, Step::Release { t: slot }),
     )
 }
