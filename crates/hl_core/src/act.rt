@@ -8,6 +8,7 @@ use hl_model::{Fault, Reply, Step, Tagged};
 impl<E: Epochs, J: Tagged + Drop> Core<E, J> {
     /// Makes a step of which no job goes in or comes out: any but a take and a bump that stores an action. The faults
     /// are tried in their order, and a refused step changes nothing.
+    #[inline(always)]
     pub fn act(&mut self, step: &Step) -> Result<Reply, Fault>
         requires { is_acted step.now ≡ true }
         ensures made { Made J.tag self.old step.now self.new result }

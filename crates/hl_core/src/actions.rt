@@ -18,6 +18,7 @@ impl<E: Epochs, J: Tagged + Drop> Core<E, J> {
     ///
     /// Faults, with what was asked for handed back: `DrainFull` where the drain list has no room, `EpochsSpent` where
     /// the current epoch is the last, `WindowFull` where 4,096 epochs have ended and aren't safe.
+    #[inline(always)]
     pub fn bump(&mut self, ask: Ask<J>) -> Result<u64, (Fault, Ask<J>)>
         ensures made { Made J.tag self.old (asking J.tag ask) self.new (bump_told result) }
         ensures refused { IfErr result (λ back. (back.1 ≡ ask) × (self.new ≡ self.old)) }
@@ -40,6 +41,7 @@ impl<E: Epochs, J: Tagged + Drop> Core<E, J> {
     }
 
     /// Ends the current epoch, and stores nothing; the answer is the epoch that ended.
+    #[inline(always)]
     pub(crate) fn bare(&mut self) -> Result<Reply, Fault>
         ensures made { Made J.tag self.old BARE self.new result }
         ensures refused { OnErr result (self.new ≡ self.old) }
@@ -54,6 +56,7 @@ impl<E: Epochs, J: Tagged + Drop> Core<E, J> {
     /// A settle and a close have no job.
     ///
     /// Faults: `Empty` where none is pending, `NotReady` where its ticket is above the safe epoch.
+    #[inline(always)]
     pub fn take(&mut self) -> Result<(Firing, Option<J>), Fault>
         ensures made { Made J.tag self.old TAKE self.new (take_told result) }
         ensures refused { OnErr result (self.new ≡ self.old) }
@@ -67,6 +70,7 @@ impl<E: Epochs, J: Tagged + Drop> Core<E, J> {
     }
 
     /// A taken action was carried out. A settle and a close raise their offset to what they stored.
+    #[inline(always)]
     pub(crate) fn done(&mut self, ticket: u64) -> Result<Reply, Fault>
         ensures made { Made J.tag self.old (DONE ticket) self.new result }
         ensures refused { OnErr result (self.new ≡ self.old) }
@@ -83,6 +87,7 @@ impl<E: Epochs, J: Tagged + Drop> Core<E, J> {
 }
 
 /// What is stored for what is asked: a settle and a close store the offset as it stands.
+#[inline(always)]
 fn stored<J: Drop>(offsets: &Offsets, ask: Ask<J>) -> Action<J>
     ensures { result ≡ stored offsets.now ask }
 {
@@ -94,6 +99,7 @@ fn stored<J: Drop>(offsets: &Offsets, ask: Ask<J>) -> Action<J>
 }
 
 /// The job of a drain list's action. A settle and a close have none.
+#[inline(always)]
 fn job_of<J: Drop>(action: Action<J>) -> Option<J>
     ensures { result ≡ job_in action }
 {

@@ -13,6 +13,7 @@ use hl_model::{Fault, Reply, Tagged, View};
 
 impl<E: Epochs, J: Tagged> Core<E, J> {
     /// Moves the read-only offset up to x.
+    #[inline(always)]
     pub(crate) fn raise(&mut self, x: u64) -> Result<Reply, Fault>
         ensures made { Made J.tag self.old (RAISE x) self.new result }
         ensures refused { OnErr result (self.new ≡ self.old) }
@@ -24,6 +25,7 @@ impl<E: Epochs, J: Tagged> Core<E, J> {
     }
 
     /// Moves the head up to x, at most to the flushed offset.
+    #[inline(always)]
     pub(crate) fn shift(&mut self, x: u64) -> Result<Reply, Fault>
         ensures made { Made J.tag self.old (SHIFT x) self.new result }
         ensures refused { OnErr result (self.new ≡ self.old) }
@@ -36,6 +38,7 @@ impl<E: Epochs, J: Tagged> Core<E, J> {
     }
 
     /// Places a record of n words for slot t. The first record of a page enters the page.
+    #[inline(always)]
     pub(crate) fn allocate(&mut self, t: u64, n: u64) -> Result<Reply, Fault>
         ensures made { Made J.tag self.old (ALLOCATE t n) self.new result }
         ensures refused { OnErr result (self.new ≡ self.old) }
@@ -55,6 +58,7 @@ impl<E: Epochs, J: Tagged> Core<E, J> {
     }
 
     /// Slot t sees these offsets, neither below what it saw.
+    #[inline(always)]
     pub(crate) fn look(&mut self, t: u64, read_only: u64, head: u64) -> Result<Reply, Fault>
         ensures made { Made J.tag self.old (LOOK t read_only head) self.new result }
         ensures refused { OnErr result (self.new ≡ self.old) }
@@ -72,6 +76,7 @@ impl<E: Epochs, J: Tagged> Core<E, J> {
     }
 
     /// The view of slot t, where it may see these offsets.
+    #[inline(always)]
     pub(crate) fn may_look(&self, t: u64, read_only: u64, head: u64) -> Result<View, Fault>
         ensures { (A : List Step) → Stands J.tag self.now A
             → result ≡ unless_fault (fault_of self.now.sizes A (LOOK t read_only head)) (view_of self.now.sizes t A) }
@@ -84,6 +89,7 @@ impl<E: Epochs, J: Tagged> Core<E, J> {
     }
 
     /// Whether slot t may write the word at address a: by its view alone.
+    #[inline(always)]
     pub(crate) fn may_write(&self, t: u64, a: u64) -> Result<(), Fault>
         ensures { (A : List Step) (v : ℕ) → Stands J.tag self.now A → result ≡ unless_fault (fault_of self.now.sizes A (WRITE t a v)) tt }
     {
@@ -100,6 +106,7 @@ impl<E: Epochs, J: Tagged> Core<E, J> {
     }
 
     /// Whether slot t may read the word at address a.
+    #[inline(always)]
     pub(crate) fn may_read(&self, t: u64, a: u64) -> Result<(), Fault>
         ensures { (A : List Step) → Stands J.tag self.now A → result ≡ unless_fault (fault_of self.now.sizes A (READ t a)) tt }
     {
@@ -129,6 +136,7 @@ impl<E: Epochs, J: Tagged> Core<E, J> {
     }
 
     /// Whether a record was placed in this page.
+    #[inline(always)]
     fn is_entered(&self, page: u64) -> bool
         ensures { (A : List Step) → Stands J.tag self.now A → result ≡ is_entered self.now.sizes page A }
     {

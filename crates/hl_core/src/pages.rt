@@ -8,6 +8,7 @@ use hl_model::{Fault, Reply, Tagged};
 
 impl<E: Epochs, J: Tagged> Core<E, J> {
     /// Takes the least sealed page that is neither flushed nor in flight.
+    #[inline(always)]
     pub(crate) fn flush_take(&mut self) -> Result<Reply, Fault>
         ensures made { Made J.tag self.old FLUSH_TAKE self.new result }
         ensures refused { OnErr result (self.new ≡ self.old) }
@@ -20,6 +21,7 @@ impl<E: Epochs, J: Tagged> Core<E, J> {
     }
 
     /// The flush of a page ended, well or not.
+    #[inline(always)]
     pub(crate) fn flush_done(&mut self, page: u64, ok: bool) -> Result<Reply, Fault>
         ensures made { Made J.tag self.old (FLUSH_DONE page ok) self.new result }
         ensures refused { OnErr result (self.new ≡ self.old) }
@@ -31,6 +33,7 @@ impl<E: Epochs, J: Tagged> Core<E, J> {
     }
 
     /// Takes the least closed page that is neither freed nor being cleaned.
+    #[inline(always)]
     pub(crate) fn clean_take(&mut self) -> Result<Reply, Fault>
         ensures made { Made J.tag self.old CLEAN_TAKE self.new result }
         ensures refused { OnErr result (self.new ≡ self.old) }
@@ -43,6 +46,7 @@ impl<E: Epochs, J: Tagged> Core<E, J> {
     }
 
     /// The words of a page are zeroed.
+    #[inline(always)]
     pub(crate) fn clean_done(&mut self, page: u64) -> Result<Reply, Fault>
         ensures made { Made J.tag self.old (CLEAN_DONE page) self.new result }
         ensures refused { OnErr result (self.new ≡ self.old) }

@@ -11,6 +11,7 @@ use hl_model::Fault;
 pub(crate) const EPOCH_WINDOW: u64 = 4096;
 
 /// Ends the current epoch of a table; the answer is its number.
+#[inline(always)]
 pub(crate) fn end_epoch<E: Epochs>(table: &mut E) -> Result<u64, Fault>
     requires { (E.table table.old).window ≡ epoch_window }
     ensures answer { let old = E.table table.old in result ≡ unless_fault (rise_fault old) old.current }
@@ -21,6 +22,7 @@ pub(crate) fn end_epoch<E: Epochs>(table: &mut E) -> Result<u64, Fault>
 }
 
 /// Whether the current epoch of a table may end: it isn't the last, and the window has room.
+#[inline(always)]
 pub(crate) fn may_end_epoch<E: Epochs>(table: &E) -> Result<(), Fault>
     requires { (E.table table.now).window ≡ epoch_window }
     ensures answer { result ≡ unless_fault (rise_fault (E.table table.now)) tt }

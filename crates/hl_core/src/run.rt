@@ -12,6 +12,7 @@ use hl_model::{Fault, Reply, Step, Tag};
 
 impl<E: Epochs + Drop> Core<E, Tag> {
     /// Makes a step, of any kind. The faults are tried in their order, and a refused step changes nothing.
+    #[inline(always)]
     pub fn step(&mut self, step: &Step) -> Result<Reply, Fault>
         ensures made { Made (λ t. t.0) self.old step.now self.new result }
         ensures refused { OnErr result (self.new ≡ self.old) }
@@ -48,6 +49,7 @@ impl<E: Epochs + Drop> Core<E, Tag> {
     }
 
     // A bump, a settle or a close.
+    #[inline(always)]
     fn ask(&mut self, ask: Ask<Tag>) -> Result<Reply, Fault>
         ensures made { Made (λ t. t.0) self.old (asking (λ t. t.0) ask) self.new result }
         ensures refused { OnErr result (self.new ≡ self.old) }

@@ -12,6 +12,7 @@ use hl_model::{Fault, Reply, Tagged, View};
 
 impl<E: Epochs, J: Tagged> Core<E, J> {
     /// Slot t becomes protected: its epoch and its view are those of now.
+    #[inline(always)]
     pub(crate) fn acquire(&mut self, t: u64) -> Result<Reply, Fault>
         ensures made { Made J.tag self.old (ACQUIRE t) self.new result }
         ensures refused { OnErr result (self.new ≡ self.old) }
@@ -26,6 +27,7 @@ impl<E: Epochs, J: Tagged> Core<E, J> {
     }
 
     /// Slot t moves on: its epoch and its view are those of now.
+    #[inline(always)]
     pub(crate) fn refresh(&mut self, t: u64) -> Result<Reply, Fault>
         ensures made { Made J.tag self.old (REFRESH t) self.new result }
         ensures refused { OnErr result (self.new ≡ self.old) }
@@ -40,6 +42,7 @@ impl<E: Epochs, J: Tagged> Core<E, J> {
     }
 
     /// Slot t is protected no longer.
+    #[inline(always)]
     pub(crate) fn release(&mut self, t: u64) -> Result<Reply, Fault>
         ensures made { Made J.tag self.old (RELEASE t) self.new result }
         ensures refused { OnErr result (self.new ≡ self.old) }
@@ -52,6 +55,7 @@ impl<E: Epochs, J: Tagged> Core<E, J> {
     }
 
     /// The view of a protected slot, or the fault of a slot that isn't.
+    #[inline(always)]
     pub(crate) fn seen(&self, t: u64) -> Result<View, Fault>
         ensures { (A : List Step) → Stands J.tag self.now A → result ≡ unless_fault (protected_fault self.now.sizes A t) (view_of self.now.sizes t A) }
     {
@@ -63,6 +67,7 @@ impl<E: Epochs, J: Tagged> Core<E, J> {
     }
 
     /// The view of whoever enters now.
+    #[inline(always)]
     fn present(&self) -> View
         ensures { let log = self.now.offsets in result ≡ record { read_only = log.read_only; head = log.head; tail = log.tail } }
     {

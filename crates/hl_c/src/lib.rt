@@ -1,0 +1,45 @@
+//! The door for C and C++: the core behind an opaque handle, a call for each step and each query.
+//!
+//! `include/hl.h` declares the calls, with what each answers. A handle is two words that C keeps and never reads. All
+//! bytes zero means that no core is open; [`open::hl_open`] opens one, [`open::hl_close`] gives it back.
+//!
+//! # What is promised
+//!
+//! At whatever list of accepted steps the core stood, a step's answer is the definitions' reply after that list, as
+//! numbers (`told_of`, in `specs/Outcomes.antt`), and the core then stands at the list with the step, where it was
+//! accepted. The queries tell what the list has. A call on a handle at which no core is open answers 255 and changes
+//! nothing.
+//!
+//! # Threads
+//!
+//! A core may go to another thread (`Send` is proved), and one call at a time may use it: the caller keeps it under a
+//! lock of its own. No call waits. None but open takes memory.
+#![tactic(auto)]
+
+mod bumps;
+mod door;
+mod handle;
+mod log;
+mod loose;
+mod open;
+mod outcome;
+mod pages;
+mod quantities;
+mod queries;
+mod slot;
+mod slots;
+mod threads;
+mod worker;
+
+pub use bumps::{hl_bare, hl_bump, hl_close, hl_done, hl_settle, hl_take};
+pub use door::Door;
+pub use handle::Handle;
+pub use log::{hl_allocate, hl_look, hl_raise, hl_read, hl_shift, hl_write};
+pub use open::{hl_free, hl_open};
+pub use outcome::{Brief, Outcome};
+pub use pages::{hl_clean_done, hl_clean_take, hl_flush_done, hl_flush_take};
+pub use quantities::{SixOutcome, SnapshotOutcome};
+pub use queries::{hl_frame, hl_pending, hl_six, hl_snapshot, hl_view};
+pub use slot::Slot;
+pub use slots::{hl_acquire, hl_refresh, hl_release};
+pub use threads::sent;

@@ -1,0 +1,117 @@
+ghost use Rattle.std.specs.Prelude.{if◌then◌else◌, nat_lt};
+ghost use Rattle.hl_model.specs.Actions.{pending};
+ghost use Rattle.hl_model.specs.Frames.{frame_of};
+ghost use Rattle.hl_model.specs.Snapshots.{six, snapshot_of};
+ghost use Rattle.hl_model.specs.Views.{slot_view};
+ghost use Rattle.hl_c.specs.Doors.{Tells};
+ghost use Rattle.hl_c.specs.Outcomes.{six_told, no_six, snapshot_told, no_snapshot, pending_told, frame_told, view_told, no_core, out_of_range};
+
+use crate::handle::Handle;
+use crate::outcome::Outcome;
+use crate::quantities::{SixOutcome, SnapshotOutcome};
+use core::mem::replace_with;
+
+/// The six offsets.
+#[unsafe(no_mangle)]
+pub extern "C" fn hl_six(handle: &mut Handle) -> SixOutcome
+    ensures { Tells handle.old.slot.value (λ sizes A. six_told (six sizes A)) no_six handle.new.slot.value result }
+{
+    replace_with(handle, (), told_six)
+}
+
+/// All quantities.
+#[unsafe(no_mangle)]
+pub extern "C" fn hl_snapshot(handle: &mut Handle) -> SnapshotOutcome
+    ensures { Tells handle.old.slot.value (λ sizes A. snapshot_told (snapshot_of sizes A)) no_snapshot handle.new.slot.value result }
+{
+    replace_with(handle, (), told_snapshot)
+}
+
+/// The pending action at a place, 0 being the oldest, and how many are pending. Out of range where there is none.
+#[unsafe(no_mangle)]
+pub extern "C" fn hl_pending(handle: &mut Handle, place: u64) -> Outcome
+    ensures { Tells handle.old.slot.value (λ sizes A. pending_told place (pending A)) no_core handle.new.slot.value result }
+{
+    replace_with(handle, place, told_pending)
+}
+
+/// A frame's state, and its page, if it has one. Out of range where there is no such frame.
+#[unsafe(no_mangle)]
+pub extern "C" fn hl_frame(handle: &mut Handle, frame: u64) -> Outcome
+    ensures { Tells handle.old.slot.value (λ sizes A. if nat_lt frame sizes.frames then frame_told (frame_of sizes frame A) else out_of_range) no_core handle.new.slot.value result }
+{
+    replace_with(handle, frame, told_frame)
+}
+
+/// A slot's view, if it is protected.
+#[unsafe(no_mangle)]
+pub extern "C" fn hl_view(handle: &mut Handle, slot: u64) -> Outcome
+    ensures { Tells handle.old.slot.value (λ sizes A. view_told (slot_view sizes slot A)) no_core handle.new.slot.value result }
+{
+    replace_with(handle, slot, told_view)
+}
+
+fn told_six(handle: Handle, _nothing: ()) -> (Handle, SixOutcome)
+    ensures { Tells handle.slot.value (λ sizes A. six_told (six sizes A)) no_six result.0.slot.value result.1 }
+{
+    match handle.into_core() {
+        Ok(core) => {
+            let outcome = SixOutcome::of(core.six());
+            (Handle::of(core), outcome)
+        }
+        Err(handle) => (handle, SixOutcome::no_core()),
+    }
+}
+
+fn told_snapshot(handle: Handle, _nothing: ()) -> (Handle, SnapshotOutcome)
+    ensures { Tells handle.slot.value (λ sizes A. snapshot_told (snapshot_of sizes A)) no_snapshot result.0.slot.value result.1 }
+{
+    match handle.into_core() {
+        Ok(core) => {
+            let outcome = SnapshotOutcome::of(core.snapshot());
+            (Handle::of(core), outcome)
+        }
+        Err(handle) => (handle, SnapshotOutcome::no_core()),
+    }
+}
+
+fn told_pending(handle: Handle, place: u64) -> (Handle, Outcome)
+    ensures { Tells handle.slot.value (λ sizes A. pending_told place (pending A)) no_core result.0.slot.value result.1 }
+{
+    match handle.into_core() {
+        Ok(core) => {
+            let outcome = Outcome::of_pending(&core.pending(), place);
+            (Handle::of(core), outcome)
+        }
+        Err(handle) => (handle, Outcome::no_core()),
+    }
+}
+
+fn told_frame(handle: Handle, frame: u64) -> (Handle, Outcome)
+    ensures { Tells handle.slot.value (λ sizes A. if nat_lt frame sizes.frames then frame_told (frame_of sizes frame A) else out_of_range) no_core result.0.slot.value result.1 }
+{
+    match handle.into_core() {
+        Ok(core) => {
+            let outcome = if frame < core.params().frames() {
+                let (state, page) = core.frame(frame);
+                Outcome::of_frame(state, page)
+            } else {
+                Outcome::out_of_range()
+            };
+            (Handle::of(core), outcome)
+        }
+        Err(handle) => (handle, Outcome::no_core()),
+    }
+}
+
+fn told_view(handle: Handle, slot: u64) -> (Handle, Outcome)
+    ensures { Tells handle.slot.value (λ sizes A. view_told (slot_view sizes slot A)) no_core result.0.slot.value result.1 }
+{
+    match handle.into_core() {
+        Ok(core) => {
+            let outcome = Outcome::of_view(core.view(slot));
+            (Handle::of(core), outcome)
+        }
+        Err(handle) => (handle, Outcome::no_core()),
+    }
+}
