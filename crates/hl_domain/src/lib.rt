@@ -53,3 +53,6 @@ mod sweep;
 pub use keeper::Keeper;
 pub use load::{Broom, Load, PageJob};
 pub use pass::Pass;
+
+#[cfg(test)]
+mod tests;
