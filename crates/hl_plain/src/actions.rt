@@ -92,12 +92,15 @@ fn stored_at(base: &Base, steps: &[Step], i: usize) -> Waiting
         return waiting[i];
     }
     let behind = i - waiting.len();
+    let mut count = 0;
     for (k, step) in steps.iter().enumerate() {
-        let before = &steps[..k];
-        if stores_of(before) == behind {
-            if let Some(action) = stored_by(base, before, step) {
+        if count == behind {
+            if let Some(action) = stored_by(base, &steps[..k], step) {
                 return action;
             }
+        }
+        if stores(step) {
+            count += 1;
         }
     }
     unreachable!()

@@ -26,7 +26,8 @@ fn is_begun(work: Work, present: &Present, p: u64) -> bool
     ensures { let held = held_in present.now p
         in result ≡ (completed_in (complete_mark work) p held || out_in present.now work p) }
 {
-    work.completed_in(p, present.held_for(p)) || is_out(work, present, p)
+    let held = present.held_for(p);
+    work.completed_in(p, held) || work.out_in(p, held)
 }
 
 // The pages below this number are due.
