@@ -112,7 +112,7 @@ typedef struct hl_quantities {
  * HL_OUT_OF_RANGE where a size is; HL_OUT_OF_MEMORY where malloc refused. */
 uint64_t hl_open(hl_core *core, uint64_t page_words, uint64_t frames, uint64_t slots, uint64_t drain_places);
 
-/* Frees the core; the handle is then all but zero, and may be opened again. 0, or HL_NO_CORE where none was open. */
+/* Frees the core; the handle is then all zero, and may be opened again. 0, or HL_NO_CORE where none was open. */
 uint64_t hl_free(hl_core *core);
 
 /* ---- Slots ---- */

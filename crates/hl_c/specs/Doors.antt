@@ -16,12 +16,14 @@ abbrev pub StandsAt : DoorRow.Denot → List Step → Type 0
 StandsAt core A = Stands (λ t. t.0) core A
 
 -- a core that stood at A told this of a step, and stands at the list with the step, where it was accepted
-pub record Moved (old : DoorRow.Denot) (A : List Step) (step : Step) (new : DoorRow.Denot) (reply outcome : Outcome) : Type 0 where
+pub record Moved (old : DoorRow.Denot) (A : List Step) (step : Step) (new : DoorRow.Denot) (reply outcome : Outcome)
+    : Type 0 where
   pub told : outcome ≡ reply
   pub sizes : new.sizes ≡ old.sizes
   pub standing : StandsAt new (extended old.sizes A step)
 
--- the core that was open made the step, at whatever list it stood, and is open; where none was, none is, and the outcome says so
+-- the core that was open made the step, at whatever list it stood, and is open; where none was, none is, and
+-- the outcome says so
 abbrev pub Answers : Option DoorRow.Denot → Step → Option DoorRow.Denot → Outcome → Type 0
 Answers None step new outcome = (outcome ≡ no_core) × (new ≡ None)
 Answers (Some old) step new outcome = (core : DoorRow.Denot) × (new ≡ Some core)
@@ -31,15 +33,20 @@ Answers (Some old) step new outcome = (core : DoorRow.Denot) × (new ≡ Some co
 abbrev pub AnswersBriefly : Option DoorRow.Denot → Step → Option DoorRow.Denot → Brief → Type 0
 AnswersBriefly old step new brief = (outcome : Outcome) × Answers old step new outcome × (brief ≡ brief_of outcome)
 
--- a query: its answer is of whatever list the core stood at, which stays; where no core is open, it answers what it does then
-abbrev pub Tells : {X : Type 0} → Option DoorRow.Denot → (Sizes → List Step → X) → X → Option DoorRow.Denot → X → Type 0
+-- a query: its answer is of whatever list the core stood at, which stays; where no core is open, it answers
+-- what it does then
+abbrev pub Tells : {X : Type 0} → Option DoorRow.Denot → (Sizes → List Step → X) → X → Option DoorRow.Denot → X
+    → Type 0
 Tells None answer none new outcome = (outcome ≡ none) × (new ≡ None)
-Tells (Some core) answer none new outcome = (new ≡ Some core) × ((A : List Step) → StandsAt core A → outcome ≡ answer core.sizes A)
+Tells (Some core) answer none new outcome = (new ≡ Some core)
+    × ((A : List Step) → StandsAt core A → outcome ≡ answer core.sizes A)
 
--- an open: 255 where a core is open, 254 where a size is out of range, 29 where memory was refused, and nothing is changed; else 0, and a core of these sizes is open at the empty list
+-- an open: 255 where a core is open, 254 where a size is out of range, 29 where memory was refused, and
+-- nothing is changed; else 0, and a core of these sizes is open at the empty list
 abbrev pub Opens : Option DoorRow.Denot → Sizes → Option DoorRow.Denot → ℕ → Type 0
 Opens (Some core) sizes new number = (number ≡ 255) × (new ≡ Some core)
-Opens None sizes (Some core) number = (number ≡ 0) × (core.sizes ≡ sizes) × AreInRange sizes × StandsAt core []
+Opens None sizes (Some core) number =
+    (number ≡ 0) × (core.sizes ≡ sizes) × AreInRange sizes × StandsAt core []
 Opens None sizes None number = (AreInRange sizes × (number ≡ 29)) ⊎ (¬ AreInRange sizes × (number ≡ 254))
 
 -- giving a core back: 255 where none is open
@@ -51,4 +58,5 @@ free_number (Some core) = 0
 abbrev pub Takes : Option DoorRow.Denot → Option DoorRow.Denot → Outcome → Type 0
 Takes None new outcome = (outcome ≡ no_core) × (new ≡ None)
 Takes (Some old) new outcome = (core : DoorRow.Denot) × (new ≡ Some core)
-    × ((A : List Step) → StandsAt old A → Moved old A Take core (take_told (reply_of old.sizes A Take) (pending A)) outcome)
+    × ((A : List Step) → StandsAt old A
+    → Moved old A Take core (take_told (reply_of old.sizes A Take) (pending A)) outcome)

@@ -24,7 +24,8 @@ use Rattle.hl_c.specs.declared.quantities.SnapshotOutcome.{SnapshotOutcome}
 abbrev pub accepted : ℕ → ℕ → ℕ → ℕ → Outcome
 accepted a b c d = record { number = 0; a = a; b = b; c = c; d = d }
 
--- a refusal that no fault of the rules is: no core is open, or one is open already; a size, a place or a frame is out of range
+-- a refusal that no fault of the rules is: no core is open, or one is open already; a size, a place or a
+-- frame is out of range
 abbrev pub refused : ℕ → Outcome
 refused number = record { number = number; a = 0; b = 0; c = 0; d = 0 }
 
@@ -53,7 +54,8 @@ second_of _ = 0
 abbrev pub fault_told : Fault → Outcome
 fault_told fault = record { number = number_of fault; a = first_of fault; b = second_of fault; c = 0; d = 0 }
 
--- an answer: the epoch with the view, the view alone, what a done did with its kind (1 a job, 2 a settle, 3 a close), or its one number
+-- an answer: the epoch with the view, the view alone, what a done did with its kind (1 a job, 2 a settle, 3 a
+-- close), or its one number
 abbrev pub reply_told : Reply → Outcome
 reply_told (Entered epoch view) = accepted epoch view.read_only view.head view.tail
 reply_told (Looked view) = accepted 0 view.read_only view.head view.tail
@@ -114,18 +116,52 @@ taken_told (Ok (firing, Some tag)) = accepted firing.ticket 1 tag.0 0
 
 -- the offsets in their order
 abbrev pub six_told : Six → SixOutcome
-six_told s = record { number = 0; closed = s.closed; head = s.head; flushed = s.flushed; safe_read_only = s.safe_read_only; read_only = s.read_only; tail = s.tail }
+six_told s = record {
+  number = 0;
+  closed = s.closed;
+  head = s.head;
+  flushed = s.flushed;
+  safe_read_only = s.safe_read_only;
+  read_only = s.read_only;
+  tail = s.tail;
+}
 
 -- offsets of no core
 abbrev pub no_six : SixOutcome
-no_six = record { number = 255; closed = 0; head = 0; flushed = 0; safe_read_only = 0; read_only = 0; tail = 0 }
+no_six = record {
+  number = 255;
+  closed = 0;
+  head = 0;
+  flushed = 0;
+  safe_read_only = 0;
+  read_only = 0;
+  tail = 0;
+}
 
 -- all quantities
 abbrev pub snapshot_told : Snapshot → SnapshotOutcome
-snapshot_told s = record { number = 0; epoch = s.epoch; safe = s.safe; protected = s.protected; pending = s.pending; taken = s.taken; six = six_told s.six; frames = s.frames }
+snapshot_told s = record {
+  number = 0;
+  epoch = s.epoch;
+  safe = s.safe;
+  protected = s.protected;
+  pending = s.pending;
+  taken = s.taken;
+  six = six_told s.six;
+  frames = s.frames;
+}
 
 abbrev pub no_snapshot : SnapshotOutcome
-no_snapshot = record { number = 255; epoch = 0; safe = 0; protected = 0; pending = 0; taken = 0; six = no_six; frames = replicate 5 0 }
+no_snapshot = record {
+  number = 255;
+  epoch = 0;
+  safe = 0;
+  protected = 0;
+  pending = 0;
+  taken = 0;
+  six = no_six;
+  frames = replicate 5 0;
+}
 
 -- the pending action at a place, oldest first, and how many there are
 abbrev pub action_told : ℕ → Waiting → Outcome

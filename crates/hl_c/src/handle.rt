@@ -38,7 +38,8 @@ impl Handle {
 
     /// Its core, or the handle itself where it has none.
     pub(crate) fn into_core(self) -> Result<Box<Door>, Handle>
-        ensures { MatchResult result (λ core. self.slot.value ≡ Some core.value) (λ back. (back ≡ self) × (self.slot.value ≡ None)) }
+        ensures { MatchResult result (λ core. self.slot.value ≡ Some core.value)
+            (λ back. (back ≡ self) × (self.slot.value ≡ None)) }
     {
         if self.live == 0 {
             return Err(self);

@@ -1,19 +1,30 @@
 //! The door for C and C++: the core behind an opaque handle, a call for each step and each query.
 //!
-//! `include/hl.h` declares the calls, with what each answers. A handle is two words that C keeps and never reads. All
-//! bytes zero means that no core is open; [`open::hl_open`] opens one, [`open::hl_close`] gives it back.
+//! `include/hl.h` declares the calls, with what each answers. A handle is two words that C keeps and never
+//! reads. All bytes zero means that no core is open; [`open::hl_open`] opens one, [`open::hl_free`] gives it
+//! back.
 //!
 //! # What is promised
 //!
-//! At whatever list of accepted steps the core stood, a step's answer is the definitions' reply after that list, as
-//! numbers (`told_of`, in `specs/Outcomes.antt`), and the core then stands at the list with the step, where it was
-//! accepted. The queries tell what the list has. A call on a handle at which no core is open answers 255 and changes
-//! nothing.
+//! At whatever list of accepted steps the core stood, a step's answer is the definitions' reply after that
+//! list, as numbers (`told_of`, in `specs/Outcomes.antt`), and the core then stands at the list with the
+//! step, where it was accepted (`Answers`, in `specs/Doors.antt`). The queries tell what the list has. A call
+//! on a handle at which no core is open answers 255 and changes nothing.
+//!
+//! C never changes a handle's words: that live is 1 exactly where a core lies in the slot is in the handle's
+//! type.
 //!
 //! # Threads
 //!
-//! A core may go to another thread (`Send` is proved), and one call at a time may use it: the caller keeps it under a
-//! lock of its own. No call waits. None but open takes memory.
+//! A core may go to another thread (`Send` is proved), and one call at a time may use it: the caller keeps it
+//! under a lock of its own. No call waits. None but [`open::hl_open`] takes memory.
+//!
+//! # How a call goes
+//!
+//! A C signature may name no box, so the slot keeps its core's block as a pointer to bytes, and its proofs by
+//! hand say which core lies there. A call takes the handle out of its place, has the box of it, makes the
+//! step on the box, and puts back a handle of the box ([`worker`]). Each call's worker is its own, so that
+//! the step's kind is known where the core's code is laid out.
 #![tactic(auto)]
 
 mod bumps;

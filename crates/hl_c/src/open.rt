@@ -17,8 +17,9 @@ struct Asked {
     drain: u64,
 }
 
-/// Opens a core: so many words a page, frames, slots, places in the drain list. 0 where it did; 29 where memory was
-/// refused, 254 where a size is out of range, 255 where a core is open already, which stays as it was.
+/// Opens a core: so many words a page, frames, slots, places in the drain list. 0 where it did; 29 where
+/// memory was refused, 254 where a size is out of range, 255 where a core is open already, which stays as it
+/// was.
 #[unsafe(no_mangle)]
 pub extern "C" fn hl_open(
     alloc: Global,
@@ -28,7 +29,8 @@ pub extern "C" fn hl_open(
     slots: u64,
     drain: u64,
 ) -> u64
-    ensures { Opens handle.old.slot.value (record { page = page; frames = frames; slots = slots; drain = drain }) handle.new.slot.value result }
+    ensures { Opens handle.old.slot.value (record { page = page; frames = frames; slots = slots; drain = drain })
+        handle.new.slot.value result }
 {
     let asked = Asked {
         alloc,
@@ -50,7 +52,9 @@ pub extern "C" fn hl_free(alloc: Global, handle: &mut Handle) -> u64
 }
 
 fn opened(handle: Handle, asked: Asked) -> (Handle, u64)
-    ensures { Opens handle.slot.value (record { page = asked.page; frames = asked.frames; slots = asked.slots; drain = asked.drain }) result.0.slot.value result.1 }
+    ensures { Opens handle.slot.value
+        (record { page = asked.page; frames = asked.frames; slots = asked.slots; drain = asked.drain })
+        result.0.slot.value result.1 }
 {
     if handle.live != 0 {
         return (handle, 255);

@@ -16,7 +16,8 @@ pub struct SixOutcome {
     pub tail: u64,
 }
 
-/// All quantities; the number is 0, or 255 where no core is open. Frames are open, sealed, flushed, closed and free.
+/// All quantities; the number is 0, or 255 where no core is open. The frames are those open, sealed, flushed,
+/// closed and free.
 #[repr(C)]
 #[derive(Clone, Copy, Drop)]
 pub struct SnapshotOutcome {

@@ -14,7 +14,8 @@ use core::mem::replace_with;
 /// The six offsets.
 #[unsafe(no_mangle)]
 pub extern "C" fn hl_six(handle: &mut Handle) -> SixOutcome
-    ensures { Tells handle.old.slot.value (λ sizes A. six_told (six sizes A)) no_six handle.new.slot.value result }
+    ensures { Tells handle.old.slot.value (λ sizes A. six_told (six sizes A))
+        no_six handle.new.slot.value result }
 {
     replace_with(handle, (), told_six)
 }
@@ -22,15 +23,18 @@ pub extern "C" fn hl_six(handle: &mut Handle) -> SixOutcome
 /// All quantities.
 #[unsafe(no_mangle)]
 pub extern "C" fn hl_snapshot(handle: &mut Handle) -> SnapshotOutcome
-    ensures { Tells handle.old.slot.value (λ sizes A. snapshot_told (snapshot_of sizes A)) no_snapshot handle.new.slot.value result }
+    ensures { Tells handle.old.slot.value (λ sizes A. snapshot_told (snapshot_of sizes A))
+        no_snapshot handle.new.slot.value result }
 {
     replace_with(handle, (), told_snapshot)
 }
 
-/// The pending action at a place, 0 being the oldest, and how many are pending. Out of range where there is none.
+/// The pending action at a place, 0 being the oldest, and how many are pending. Out of range where there is
+/// none.
 #[unsafe(no_mangle)]
 pub extern "C" fn hl_pending(handle: &mut Handle, place: u64) -> Outcome
-    ensures { Tells handle.old.slot.value (λ sizes A. pending_told place (pending A)) no_core handle.new.slot.value result }
+    ensures { Tells handle.old.slot.value (λ sizes A. pending_told place (pending A))
+        no_core handle.new.slot.value result }
 {
     replace_with(handle, place, told_pending)
 }
@@ -38,7 +42,9 @@ pub extern "C" fn hl_pending(handle: &mut Handle, place: u64) -> Outcome
 /// A frame's state, and its page, if it has one. Out of range where there is no such frame.
 #[unsafe(no_mangle)]
 pub extern "C" fn hl_frame(handle: &mut Handle, frame: u64) -> Outcome
-    ensures { Tells handle.old.slot.value (λ sizes A. if nat_lt frame sizes.frames then frame_told (frame_of sizes frame A) else out_of_range) no_core handle.new.slot.value result }
+    ensures { Tells handle.old.slot.value
+        (λ sizes A. if nat_lt frame sizes.frames then frame_told (frame_of sizes frame A) else out_of_range)
+        no_core handle.new.slot.value result }
 {
     replace_with(handle, frame, told_frame)
 }
@@ -46,13 +52,15 @@ pub extern "C" fn hl_frame(handle: &mut Handle, frame: u64) -> Outcome
 /// A slot's view, if it is protected.
 #[unsafe(no_mangle)]
 pub extern "C" fn hl_view(handle: &mut Handle, slot: u64) -> Outcome
-    ensures { Tells handle.old.slot.value (λ sizes A. view_told (slot_view sizes slot A)) no_core handle.new.slot.value result }
+    ensures { Tells handle.old.slot.value (λ sizes A. view_told (slot_view sizes slot A))
+        no_core handle.new.slot.value result }
 {
     replace_with(handle, slot, told_view)
 }
 
 fn told_six(handle: Handle, _nothing: ()) -> (Handle, SixOutcome)
-    ensures { Tells handle.slot.value (λ sizes A. six_told (six sizes A)) no_six result.0.slot.value result.1 }
+    ensures { Tells handle.slot.value (λ sizes A. six_told (six sizes A))
+        no_six result.0.slot.value result.1 }
 {
     match handle.into_core() {
         Ok(core) => {
@@ -64,7 +72,8 @@ fn told_six(handle: Handle, _nothing: ()) -> (Handle, SixOutcome)
 }
 
 fn told_snapshot(handle: Handle, _nothing: ()) -> (Handle, SnapshotOutcome)
-    ensures { Tells handle.slot.value (λ sizes A. snapshot_told (snapshot_of sizes A)) no_snapshot result.0.slot.value result.1 }
+    ensures { Tells handle.slot.value (λ sizes A. snapshot_told (snapshot_of sizes A))
+        no_snapshot result.0.slot.value result.1 }
 {
     match handle.into_core() {
         Ok(core) => {
@@ -76,7 +85,8 @@ fn told_snapshot(handle: Handle, _nothing: ()) -> (Handle, SnapshotOutcome)
 }
 
 fn told_pending(handle: Handle, place: u64) -> (Handle, Outcome)
-    ensures { Tells handle.slot.value (λ sizes A. pending_told place (pending A)) no_core result.0.slot.value result.1 }
+    ensures { Tells handle.slot.value (λ sizes A. pending_told place (pending A))
+        no_core result.0.slot.value result.1 }
 {
     match handle.into_core() {
         Ok(core) => {
@@ -88,7 +98,9 @@ fn told_pending(handle: Handle, place: u64) -> (Handle, Outcome)
 }
 
 fn told_frame(handle: Handle, frame: u64) -> (Handle, Outcome)
-    ensures { Tells handle.slot.value (λ sizes A. if nat_lt frame sizes.frames then frame_told (frame_of sizes frame A) else out_of_range) no_core result.0.slot.value result.1 }
+    ensures { Tells handle.slot.value
+        (λ sizes A. if nat_lt frame sizes.frames then frame_told (frame_of sizes frame A) else out_of_range)
+        no_core result.0.slot.value result.1 }
 {
     match handle.into_core() {
         Ok(core) => {
@@ -105,7 +117,8 @@ fn told_frame(handle: Handle, frame: u64) -> (Handle, Outcome)
 }
 
 fn told_view(handle: Handle, slot: u64) -> (Handle, Outcome)
-    ensures { Tells handle.slot.value (λ sizes A. view_told (slot_view sizes slot A)) no_core result.0.slot.value result.1 }
+    ensures { Tells handle.slot.value (λ sizes A. view_told (slot_view sizes slot A))
+        no_core result.0.slot.value result.1 }
 {
     match handle.into_core() {
         Ok(core) => {
