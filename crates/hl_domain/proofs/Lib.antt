@@ -4,3 +4,6 @@ pub mod KeeperLaws
 pub mod CallLaws
 pub mod EnterLaws
 pub mod TouchedLaws
+pub mod SlotLaws
+pub mod StepLaws
+pub mod AcquireLaws

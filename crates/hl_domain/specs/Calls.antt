@@ -1,5 +1,5 @@
 -- The faults of a keeper's calls, in their order, and the list at which it stands after one.
-use Rattle.std.specs.Prelude.{◌≡◌, ℕ, ◌+◌, ◌^◌, ◌==◌, nat_le, nat_lt, Bool, false, ◌&&◌, ◌||◌, if◌then◌else◌, Option, Some, None, is_some, is_none, Result, List, [], ◌∷◌, ◌++◌, length, slice_index_or}
+use Rattle.std.specs.Prelude.{◌≡◌, ℕ, ◌≤◌, Ok, Err, ◌+◌, ◌^◌, ◌==◌, nat_le, nat_lt, Bool, false, ◌&&◌, ◌||◌, if◌then◌else◌, Option, Some, None, is_some, is_none, Result, List, [], ◌∷◌, ◌++◌, length, slice_index_or}
 use Rattle.hl_model.specs.declared.fault.Fault.{Fault}
 use Rattle.hl_model.specs.declared.fault.Fault.TheVariants.{Stranger, JournalFull}
 use Rattle.hl_model.specs.declared.step.Reply.{Reply}
@@ -103,3 +103,21 @@ module _ {F : Type 0} where
     pub stamp : new.stamp ≡ old.stamp
     pub base : new.base ≡ old.base
     pub cut : new.cut ≡ old.cut
+
+  -- a keeper answered a call, and stands at this list
+  pub record Replied {X : Type 0} (fault : Option Fault) (answer : X) (list : List Step) (new : KeeperState F) (result : Result X Fault) : Type 0 where
+    pub reply : result ≡ unless_fault fault answer
+    pub standing : KeeperStands new list
+
+-- the answer of a call that hands back what was handed in
+abbrev pub told : {X Y : Type 0} → Result X (Fault × Y) → Result X Fault
+told (Ok x) = Ok x
+told (Err back) = Err back.0
+
+-- the list after a pass's step: the touches and the step behind A
+abbrev pub touched_list : List Step → PassRecord → Step → List Step
+touched_list A p s = (A ++ p.touches) ++ s ∷ []
+
+-- each offset of the one view is at most that of the other
+abbrev pub IsUpTo : View → View → Type 0
+IsUpTo v w = (v.read_only ≤ w.read_only) × (v.head ≤ w.head) × (v.tail ≤ w.tail)

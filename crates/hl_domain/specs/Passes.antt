@@ -118,6 +118,10 @@ rested v p = record {
   rider = with_share (length p.touches + 1) p.rider;
 }
 
+-- a view with another tail
+abbrev pub with_tail : ℕ → View → View
+with_tail tail v = record { read_only = v.read_only; head = v.head; tail = tail }
+
 -- a new pass
 abbrev pub new_pass : ℕ → ℕ → View → RiderState → PassRecord
 new_pass slot stamp view rider = record { slot = slot; stamp = stamp; held = view; touches = []; rider = rider }

@@ -49,6 +49,15 @@ impl<L: Realm> Pass<L> {
         }
     }
 
+    /// Puts this view in place of its own, and forgets its touches, which have entered the journal.
+    pub(crate) fn rest(&mut self, view: View)
+        ensures { let old = self.old in self.new ≡ record { slot = old.slot; stamp = old.stamp; held = view; touches = []; rider = old.rider } }
+    {
+        self.held = view;
+        self.view = view;
+        self.touches.clear();
+    }
+
     /// What its slot has seen: the view of its last locked call, after its looks since.
     pub fn view(&self) -> View
         ensures { result ≡ seen self.now }

@@ -1,0 +1,56 @@
+//! The locked calls of a rider that touch no page and no slot.
+ghost use Rattle.std.specs.Prelude.{◌≡◌, true, List, [], ◌∷◌, ◌++◌, OnErr, MatchResult};
+ghost use Rattle.hl_model.specs.declared.step.Step.{Step as STEP};
+ghost use Rattle.hl_model.specs.declared.step.Step.TheVariants.{Bare as BARE};
+ghost use Rattle.hl_model.specs.Actions.{bumps};
+ghost use Rattle.hl_model.specs.Offsets.{raised_to, shifted_to};
+ghost use Rattle.hl_model.specs.Replies.{answer_of};
+ghost use Rattle.hl_core.specs.Steps.{is_acted};
+ghost use Rattle.hl_domain.specs.Passes.{with_share};
+ghost use Rattle.hl_domain.specs.Keepers.{KeeperStands, IsKeeper};
+ghost use Rattle.hl_domain.specs.Calls.{step_fault, made, Replied, Stays};
+
+use crate::call::note;
+use crate::keeper::Keeper;
+use hl_action::{Promise, Task};
+use hl_epoch::Epochs;
+use hl_model::{Fault, Reply, Step};
+use hl_words::{Realm, Rider, Words};
+
+impl<E: Epochs + Drop, F: Task, P: Promise, L: Realm> Keeper<E, F, P, L> {
+    /// Makes one step, which moves neither offset word, and of which no job goes in or comes out.
+    pub(crate) fn one(&mut self, rider: &mut Rider<L>, step: &Step) -> Result<Reply, Fault>
+        requires acted { is_acted step.now ≡ true }
+        requires quiet { (raised_to step.now ≡ 0) × (shifted_to step.now ≡ 0) }
+        ensures made { (A : List STEP) → KeeperStands self.old A → let fault = step_fault self.old A step.now
+            in Replied fault (answer_of self.old.core.sizes A (A ++ step.now ∷ []) step.now) (made fault A step.now) self.new result }
+        ensures refused { OnErr result (self.new ≡ self.old) }
+        ensures stays { Stays self.old self.new }
+        ensures jobs { self.new.core.drain.pending ≡ self.old.core.drain.pending }
+        ensures stamps { (self.new.stamps ≡ self.old.stamps) × (self.new.acquired ≡ self.old.acquired) }
+        ensures rider { MatchResult result (λ _. rider.new ≡ with_share 1 rider.old) (λ _. rider.new ≡ rider.old) }
+        ensures stood { IsKeeper self.old }
+    {
+        self.room(1)?;
+        let reply = self.core.act(step)?;
+        note(&mut self.journal, &mut self.master, rider, *step);
+        Ok(reply)
+    }
+
+    /// Ends the current epoch, and stores nothing; the answer is the epoch that ended.
+    ///
+    /// Faults: `JournalFull`, `EpochsSpent`, `WindowFull`.
+    pub fn bare(&mut self, _words: &Words<L>, rider: &mut Rider<L>) -> Result<u64, Fault>
+        ensures made { (A : List STEP) → KeeperStands self.old A → let fault = step_fault self.old A BARE
+            in Replied fault (bumps (A ++ BARE ∷ [])) (made fault A BARE) self.new result }
+        ensures refused { OnErr result (self.new ≡ self.old) }
+        ensures stays { Stays self.old self.new }
+        ensures jobs { self.new.core.drain.pending ≡ self.old.core.drain.pending }
+        ensures rider { MatchResult result (λ _. rider.new ≡ with_share 1 rider.old) (λ _. rider.new ≡ rider.old) }
+    {
+        match self.one(rider, &Step::Bare)? {
+            Reply::Bumped(ended) => Ok(ended),
+            _ => unreachable!(),
+        }
+    }
+}
