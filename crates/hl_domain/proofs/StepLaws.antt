@@ -113,3 +113,38 @@ module _ {F : Type 0} where
     reply = sym (ap (λ z. unless_fault z x) (e ∙ unless_err o f y h.reply));
     standing = subst (λ (z : List Step). KeeperStands new z) (sym (ap (λ z. made z A s) e)) h.standing;
   }
+
+  -- an acceptance likewise
+  pub replied_end : {X : Type 0} (o p : Option Fault) (y r : Reply) (A : List Step) (s : Step) (new : KeeperState F) (v x : X) → p ≡ o → Replied o y (made o A s) new (Ok r) → (r ≡ y → v ≡ x) → Replied p x (made p A s) new (Ok v)
+  replied_end o p y r A s new v x e h same =
+      let both = unless_ok o r y h.reply in record {
+        reply = ap (λ z. Ok z) (same both.1) ∙ sym (ap (λ z. unless_fault z x) (e ∙ both.0));
+        standing = subst (λ (z : List Step). KeeperStands new z) (sym (ap (λ z. made z A s) e)) h.standing;
+      }
+
+  -- an offset word of a keeper that has gone on is stored anew
+  pub raise_follows : (keeper : KeeperState F) (A : List Step) (x : ℕ) (offsets : OffsetWords) → KeeperStands keeper A → fault_of keeper.core.sizes A (Raise x) ≡ None → offsets ≡ with_offset ReadOnly x keeper.offsets → Follow A (Raise x) offsets
+  raise_follows keeper A x offsets st none e = record {
+    read_only_is = ap (λ (z : OffsetWords). newest z.read_only) e ∙ sym (read_only-raise keeper.core.sizes A x none);
+    head_is = ap (λ (z : OffsetWords). newest z.head) e ∙ st.head_is ∙ sym (head-stay A (Raise x) refl);
+  }
+
+  pub shift_follows : (keeper : KeeperState F) (A : List Step) (x : ℕ) (offsets : OffsetWords) → KeeperStands keeper A → fault_of keeper.core.sizes A (Shift x) ≡ None → offsets ≡ with_offset Head x keeper.offsets → Follow A (Shift x) offsets
+  shift_follows keeper A x offsets st none e = record {
+    read_only_is = ap (λ (z : OffsetWords). newest z.read_only) e ∙ st.read_only_is ∙ sym (read_only-stay A (Shift x) refl);
+    head_is = ap (λ (z : OffsetWords). newest z.head) e ∙ sym (head-shift keeper.core.sizes A x none);
+  }
+
+  -- and is not below its last
+  pub raise_above : (keeper : KeeperState F) (A : List Step) (x : ℕ) → KeeperStands keeper A → fault_of keeper.core.sizes A (Raise x) ≡ None → newest keeper.offsets.read_only ≤ x
+  raise_above keeper A x st none = omega (arith, st.read_only_is, (raise-none keeper.core.sizes A x none).0)
+
+  pub shift_above : (keeper : KeeperState F) (A : List Step) (x : ℕ) → KeeperStands keeper A → fault_of keeper.core.sizes A (Shift x) ≡ None → newest keeper.offsets.head ≤ x
+  shift_above keeper A x st none = omega (arith, st.head_is, (shift-none keeper.core.sizes A x none).0)
+
+  -- the replies are the offsets
+  pub raise_told : (keeper : KeeperState F) (A : List Step) (x : ℕ) → fault_of keeper.core.sizes A (Raise x) ≡ None → x ≡ read_only (A ++ Raise x ∷ [])
+  raise_told keeper A x none = sym (read_only-raise keeper.core.sizes A x none)
+
+  pub shift_told : (keeper : KeeperState F) (A : List Step) (x : ℕ) → fault_of keeper.core.sizes A (Shift x) ≡ None → x ≡ head (A ++ Shift x ∷ [])
+  shift_told keeper A x none = sym (head-shift keeper.core.sizes A x none)

@@ -1,5 +1,6 @@
 pub mod Calls
 pub mod Entering
 pub mod Keepers
+pub mod Pages
 pub mod Passes
 pub mod Touches
