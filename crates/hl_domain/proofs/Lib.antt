@@ -7,3 +7,4 @@ pub mod TouchedLaws
 pub mod SlotLaws
 pub mod StepLaws
 pub mod AcquireLaws
+pub mod ActionLaws

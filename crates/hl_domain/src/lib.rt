@@ -1,6 +1,7 @@
 //! The keeper.
 #![tactic(auto)]
 
+mod actions;
 mod call;
 mod cut;
 mod enter;

@@ -1,0 +1,80 @@
+//! The locked calls of which a job goes in or comes out.
+ghost use Rattle.std.specs.Prelude.{◌≡◌, ◌+◌, List, [], ◌∷◌, ◌++◌, OnErr, IfOk, IfErr, MatchResult};
+ghost use Rattle.hl_model.specs.declared.step.Step.{Step as STEP};
+ghost use Rattle.hl_model.specs.declared.step.Step.TheVariants.{Take as TAKE};
+ghost use Rattle.hl_model.specs.Actions.{bumps};
+ghost use Rattle.hl_core.specs.Steps.{asking, stored, CameOut};
+ghost use Rattle.hl_domain.specs.Passes.{with_share};
+ghost use Rattle.hl_domain.specs.Keepers.{KeeperStands, job_tag};
+ghost use Rattle.hl_domain.specs.Calls.{step_fault, made, told, Replied, Stays};
+ghost use Rattle.hl_domain.specs.Taking.{taken_from, ready_told};
+
+use crate::call::note;
+use crate::keeper::Keeper;
+use hl_action::{Kept, Promise, Ready, Task};
+use hl_drain::Ask;
+use hl_epoch::Epochs;
+use hl_model::{Fault, Step, Tagged};
+use hl_words::{Realm, Rider, Words};
+
+impl<E: Epochs + Drop, F: Task, P: Promise, L: Realm> Keeper<E, F, P, L> {
+    /// Ends the current epoch, and stores what is asked for under it; the answer is the ticket, the epoch that ended.
+    ///
+    /// Faults, with what was asked for handed back: `JournalFull`, `DrainFull`, `EpochsSpent`, `WindowFull`.
+    pub fn bump(
+        &mut self,
+        _words: &Words<L>,
+        rider: &mut Rider<L>,
+        ask: Ask<Kept<F, P>>,
+    ) -> Result<u64, (Fault, Ask<Kept<F, P>>)>
+        ensures made { (A : List STEP) → KeeperStands self.old A → let step = asking job_tag ask
+            in let fault = step_fault self.old A step
+            in Replied fault (bumps (A ++ step ∷ [])) (made fault A step) self.new (told result) }
+        ensures refused { IfErr result (λ back. (back.1 ≡ ask) × (self.new ≡ self.old)) }
+        ensures stays { Stays self.old self.new }
+        ensures jobs { let old = self.old.core
+            in IfOk result (λ ticket. self.new.core.drain.pending ≡ old.drain.pending ++ (ticket, stored old.offsets ask) ∷ []) }
+        ensures rider { MatchResult result (λ _. rider.new ≡ with_share 1 rider.old) (λ _. rider.new ≡ rider.old) }
+    {
+        if let Err(fault) = self.room(1) {
+            return Err((fault, ask));
+        }
+        let step = step_of(&ask);
+        match self.core.bump(ask) {
+            Ok(ticket) => {
+                note(&mut self.journal, &mut self.master, rider, step);
+                Ok(ticket)
+            }
+            Err(refused) => Err(refused),
+        }
+    }
+
+    /// Takes the oldest pending action, once its ticket is safe; the answer is ready to be run, under its ticket and
+    /// the safe epoch of now.
+    ///
+    /// Faults: `JournalFull`, `Empty`, `NotReady`.
+    pub fn take(&mut self, _words: &Words<L>, rider: &mut Rider<L>) -> Result<Ready<F, P>, Fault>
+        ensures made { (A : List STEP) → KeeperStands self.old A → let fault = step_fault self.old A TAKE
+            in Replied fault (taken_from self.old A) (made fault A TAKE) self.new (ready_told result) }
+        ensures refused { OnErr result (self.new ≡ self.old) }
+        ensures stays { Stays self.old self.new }
+        ensures out { IfOk result (λ ready. CameOut job_tag self.old.core self.new.core ready.firing.ticket ready.kept) }
+        ensures rider { MatchResult result (λ _. rider.new ≡ with_share 1 rider.old) (λ _. rider.new ≡ rider.old) }
+    {
+        self.room(1)?;
+        let (firing, kept) = self.core.take()?;
+        note(&mut self.journal, &mut self.master, rider, Step::Take);
+        Ok(Ready::of(self.stamp, firing, kept))
+    }
+}
+
+// The step by which this is asked for.
+fn step_of<J: Tagged>(ask: &Ask<J>) -> Step
+    ensures { result ≡ asking J.tag ask.now }
+{
+    match ask {
+        Ask::Settle => Step::Settle,
+        Ask::Close => Step::Close,
+        Ask::User(job) => Step::Bump { tag: job.tag() },
+    }
+}
