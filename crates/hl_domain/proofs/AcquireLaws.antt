@@ -1,6 +1,6 @@
 -- What an acquire makes of a keeper's stamps.
-use Rattle.std.proofs.Common.{◌≡◌, ℕ, ◌+◌, ◌^◌, ◌<◌, ◌≤◌, true, false, cond, leb, is_none, List, [], ◌∷◌, ◌++◌, length, refl, sym, ap, ap₂, ◌∙◌, subst, arith}
-use Rattle.std.specs.Prelude.{Option, Some, None, Result, Ok, Err}
+use Rattle.std.proofs.Common.{◌≡◌, ℕ, ◌+◌, ◌^◌, ◌<◌, ◌≤◌, cond, leb, is_none, List, [], ◌∷◌, ◌++◌, length, sym, ap, ap₂, ◌∙◌, subst, arith}
+use Rattle.std.specs.Prelude.{None, Ok}
 use Rattle.std.proofs.lemmas.Bool.{leb-false}
 use Rattle.std.proofs.lemmas.List.{length_push}
 use Rattle.hl_model.specs.declared.fault.Fault.TheVariants.{NoSlot, Occupied}
@@ -17,8 +17,8 @@ use Rattle.hl_model.proofs.DrainLaws.{two_faults}
 use Rattle.hl_model.proofs.NoFaultLaws.{or_fault-none, unless_ok}
 use Rattle.hl_words.specs.States.{RiderState}
 use Rattle.hl_domain.specs.Passes.{PassRecord, new_pass, with_share}
-use Rattle.hl_domain.specs.Keepers.{KeeperState, KeeperStands, steps_most}
-use Rattle.hl_domain.specs.Calls.{room_fault, step_fault, made, Replied, Stays}
+use Rattle.hl_domain.specs.Keepers.{KeeperState, KeeperStands}
+use Rattle.hl_domain.specs.Calls.{room_fault, step_fault, made, Replied}
 use Rattle.hl_domain.proofs.KeeperLaws.{moved}
 
 module _ {F : Type 0} where

@@ -1,18 +1,17 @@
 -- What a row of steps that a core takes makes of it and of the journal, step by step.
-use Rattle.std.proofs.Common.{◌≡◌, ℕ, suc, ◌+◌, ◌<◌, ◌≤◌, true, cond, is_none, List, [], ◌∷◌, ◌++◌, length, take, drop, get_or, refl, sym, ap, ◌∙◌, subst, arith, append_assoc, append-nil, take_all, length-append}
-use Rattle.std.specs.Prelude.{Option, Some, None, Result, Ok, Err}
+use Rattle.std.proofs.Common.{◌≡◌, ℕ, suc, ◌+◌, ◌<◌, ◌≤◌, List, [], ◌∷◌, ◌++◌, length, take, drop, get_or, refl, sym, ap, ◌∙◌, subst, arith, append_assoc, append-nil, take_all}
+use Rattle.std.specs.Prelude.{Some, None, Ok, Err}
 use Rattle.std.proofs.Math.Seq.{take-suc}
 use Rattle.std.proofs.lemmas.List.{take-append-drop}
 use Rattle.hl_model.specs.declared.fault.Fault.{Fault}
 use Rattle.hl_model.specs.declared.step.Reply.{Reply}
 use Rattle.hl_model.specs.declared.step.Step.{Step}
 use Rattle.hl_model.specs.Sizes.{Sizes}
-use Rattle.hl_model.specs.Replies.{fault_of, answer_of, unless_fault, extended, IsAccepted}
+use Rattle.hl_model.specs.Replies.{fault_of, answer_of, IsAccepted}
 use Rattle.hl_model.proofs.AcceptedLaws.{IsAccepted-parts, IsAccepted-front, extended-none}
 use Rattle.hl_model.proofs.NoFaultLaws.{unless_err, unless_ok}
-use Rattle.hl_drain.specs.declared.action.Action.{Action}
 use Rattle.hl_core.specs.Standing.{State, Stands}
-use Rattle.hl_core.specs.Steps.{Stepped, Made, is_acted}
+use Rattle.hl_core.specs.Steps.{Stepped, Made}
 use Rattle.hl_domain.specs.Entering.{MayEnter}
 
 take_next : (n : ℕ) (xs : List Step) (s d : Step) → n < length xs → s ≡ get_or xs n d → take (n + 1) xs ≡ take n xs ++ s ∷ []

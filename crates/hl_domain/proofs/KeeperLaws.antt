@@ -1,8 +1,7 @@
 -- Where a keeper stands: when it was opened, and after steps that its core accepted.
-use Rattle.std.proofs.Common.{◌≡◌, ℕ, ◌+◌, ◌^◌, ◌<◌, ◌≤◌, Bool, true, false, cond, ltb, List, [], ◌∷◌, ◌++◌, length, replicate, refl, sym, ap, ap₂, ◌∙◌, subst, arith, append_assoc, append-nil, length-append}
-use Rattle.std.specs.Prelude.{◌||◌, Option, Some, None, Result, Ok, Err}
-use Rattle.std.proofs.lemmas.Bool.{lt-ltb, le-ltb, ltb-false, or_parts}
-use Rattle.hl_model.specs.declared.fault.Fault.{Fault}
+use Rattle.std.proofs.Common.{◌≡◌, ℕ, ◌+◌, ◌≤◌, Bool, true, false, cond, ltb, List, [], ◌++◌, length, refl, sym, ap, ◌∙◌, arith, append_assoc, append-nil, length-append}
+use Rattle.std.specs.Prelude.{◌||◌, Some, None, Ok, Err}
+use Rattle.std.proofs.lemmas.Bool.{ltb-false, or_parts}
 use Rattle.hl_model.specs.declared.fault.Fault.TheVariants.{JournalFull}
 use Rattle.hl_model.specs.declared.step.Step.{Step}
 use Rattle.hl_model.specs.Bases.{Base, base_of}
@@ -16,7 +15,7 @@ use Rattle.hl_words.specs.declared.view.OffsetWords.{OffsetWords}
 use Rattle.hl_words.specs.States.{MasterState}
 use Rattle.hl_words.specs.Views.{newest, no_offsets}
 use Rattle.hl_core.specs.Standing.{State, Stands}
-use Rattle.hl_domain.specs.Keepers.{job_tag, KeeperState, KeeperStands, IsKeeper, IsKept, steps_most}
+use Rattle.hl_domain.specs.Keepers.{job_tag, KeeperState, KeeperStands, steps_most}
 use Rattle.hl_domain.specs.Calls.{room_fault}
 
 module _ {F : Type 0} where

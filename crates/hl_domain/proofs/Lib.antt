@@ -8,3 +8,4 @@ pub mod SlotLaws
 pub mod StepLaws
 pub mod AcquireLaws
 pub mod ActionLaws
+pub mod SweepLaws

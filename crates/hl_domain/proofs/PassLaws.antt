@@ -1,8 +1,7 @@
 -- What a pass's calls without the lock answer, and what they make of it.
-use Rattle.std.proofs.Common.{◌≡◌, ℕ, ◌+◌, ◌*◌, ◌/◌, ◌%◌, ◌<◌, ◌≤◌, ◌⊎◌, inl, inr, Bool, true, false, cond, eqb, leb, ltb, max, List, [], ◌∷◌, ◌++◌, length, refl, sym, ap, ap₂, ◌∙◌, subst, arith, append-nil}
-use Rattle.std.specs.Prelude.{◌==◌, ◌||◌, Option, Some, None, Result, Ok, Err}
-use Rattle.std.proofs.lemmas.Bool.{le-leb, lt-leb, leb-false, lt-ltb, le-ltb, ltb-false, eqb-true, eqb-false, eq-eqb, ne_eqb}
-use Rattle.hl_model.specs.declared.fault.Fault.{Fault}
+use Rattle.std.proofs.Common.{◌≡◌, ℕ, ◌<◌, ◌≤◌, Bool, true, false, cond, leb, ltb, max, List, [], ◌∷◌, ◌++◌, length, refl, sym, ap, ap₂, ◌∙◌, subst, arith, append-nil}
+use Rattle.std.specs.Prelude.{◌==◌, ◌||◌, Some, None, Ok, Err}
+use Rattle.std.proofs.lemmas.Bool.{le-leb, lt-leb, leb-false, lt-ltb, le-ltb, ltb-false, eq-eqb, ne_eqb}
 use Rattle.hl_model.specs.declared.fault.Fault.TheVariants.{Below, Beyond, Evicted, TouchesFull}
 use Rattle.hl_model.specs.declared.step.Step.{Step}
 use Rattle.hl_model.specs.declared.step.Step.TheVariants.{Look, Write}
@@ -15,7 +14,7 @@ use Rattle.hl_words.specs.declared.view.RiderView.{RiderView}
 use Rattle.hl_words.specs.States.{RiderState}
 use Rattle.hl_words.specs.Views.{newest, stored, loaded, with_loaded}
 use Rattle.hl_domain.specs.Touches.{view_past, view_after, IsTouch, AreTouches}
-use Rattle.hl_domain.specs.Passes.{PassRecord, seen, touches_most, touch_fault, tail_fault, store_fault, load_fault, cell_at, with_store, with_load, look_made, with_look, last_read_only, last_head}
+use Rattle.hl_domain.specs.Passes.{PassRecord, seen, touches_most, touch_fault, tail_fault, store_fault, load_fault, cell_at, with_store, with_load, look_made, with_look}
 use Rattle.hl_domain.proofs.TouchLaws.{touches_more}
 
 -- a pass with other touches, and another rider

@@ -1,26 +1,25 @@
 -- What a pass's locked calls answer.
 use Rattle.std.proofs.Common.{◌≡◌, ℕ, ◌+◌, ◌-◌, ◌/◌, ◌^◌, ◌<◌, ◌≤◌, Bool, true, false, cond, eqb, leb, is_none, List, [], ◌∷◌, ◌++◌, length, refl, sym, ap, ap₂, ◌∙◌, subst, arith}
-use Rattle.std.specs.Prelude.{◌==◌, ◌&&◌, Option, Some, None, Result, Ok, Err}
+use Rattle.std.specs.Prelude.{◌==◌, ◌&&◌, Option, Some, None, Ok, Err}
 use Rattle.std.proofs.lemmas.Bool.{eqb-true, leb-true, eq-eqb}
 use Rattle.hl_model.specs.declared.fault.Fault.{Fault}
-use Rattle.hl_model.specs.declared.fault.Fault.TheVariants.{Stranger}
 use Rattle.hl_model.specs.declared.step.Reply.{Reply}
 use Rattle.hl_model.specs.declared.step.Reply.TheVariants.{Entered, At}
 use Rattle.hl_model.specs.declared.step.Step.{Step}
-use Rattle.hl_model.specs.declared.step.Step.TheVariants.{Refresh, Release, Allocate}
+use Rattle.hl_model.specs.declared.step.Step.TheVariants.{Refresh, Allocate}
 use Rattle.hl_model.specs.declared.view.View.{View}
 use Rattle.hl_model.specs.Epochs.{epoch_of}
-use Rattle.hl_model.specs.Sizes.{Sizes, AreInRange}
+use Rattle.hl_model.specs.Sizes.{Sizes}
 use Rattle.hl_model.specs.Offsets.{read_only, head, tail, place_of}
-use Rattle.hl_model.specs.Views.{slot_view, view_of, seen_tail}
-use Rattle.hl_model.specs.Replies.{or_fault, fault_of, size_fault, answer_of, unless_fault, IsAccepted}
+use Rattle.hl_model.specs.Views.{slot_view, view_of}
+use Rattle.hl_model.specs.Replies.{or_fault, fault_of, answer_of, unless_fault}
 use Rattle.hl_model.proofs.NoFaultLaws.{unless_err, unless_ok, or_fault-none, allocate-none, size-none}
 use Rattle.hl_model.proofs.OffsetLaws.{place_of-le, place_of-one_page}
 use Rattle.hl_model.proofs.ViewLaws.{slot_view-enters, view_of-slot_view}
-use Rattle.hl_domain.specs.Touches.{view_after, AreTouches}
+use Rattle.hl_domain.specs.Touches.{AreTouches}
 use Rattle.hl_domain.specs.Passes.{PassRecord, seen, entered_by, rested}
 use Rattle.hl_domain.specs.Keepers.{KeeperState, KeeperStands}
-use Rattle.hl_domain.specs.Calls.{same_view, has_view, stamp_at, is_known, is_behind, unless_stranger, stranger_fault, ahead_fault, room_fault, touched_fault, call_fault, refresh_fault, entered, made, touched_list, Knows, Called, Replied, IsUpTo}
+use Rattle.hl_domain.specs.Calls.{has_view, stamp_at, is_known, is_behind, unless_stranger, stranger_fault, ahead_fault, room_fault, touched_fault, call_fault, refresh_fault, entered, touched_list, Knows, Called, Replied, IsUpTo}
 use Rattle.hl_domain.proofs.TouchLaws.{viewed, touches_leave_offsets, touches_rise, seen_tail-le}
 
 and_parts : (a b : Bool) → (a && b) ≡ true → (a ≡ true) × (b ≡ true)

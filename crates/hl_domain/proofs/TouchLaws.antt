@@ -1,7 +1,7 @@
 -- What touches make of a list: each is accepted, and they move nothing but their own slot's view.
-use Rattle.std.proofs.Common.{◌≡◌, ℕ, zero, suc, ◌+◌, ◌-◌, ◌*◌, ◌/◌, ◌<◌, ◌≤◌, Bool, true, false, cond, leb, ltb, max, is_some, List, [], ◌∷◌, ◌++◌, length, take, drop, get_or, refl, sym, ap, ap₂, ◌∙◌, subst, arith, append_assoc, append-nil, eq-eqb}
+use Rattle.std.proofs.Common.{◌≡◌, ℕ, zero, suc, ◌-◌, ◌*◌, ◌/◌, ◌<◌, ◌≤◌, Bool, true, false, cond, leb, ltb, max, is_some, List, [], ◌∷◌, ◌++◌, length, take, drop, get_or, refl, sym, ap, ap₂, ◌∙◌, subst, arith, append_assoc, append-nil, eq-eqb}
 use Rattle.std.specs.Prelude.{Option, Some, None, ◌||◌, unwrap_or}
-use Rattle.std.proofs.lemmas.Bool.{lt-leb, le-ltb, cond-true, cond-false}
+use Rattle.std.proofs.lemmas.Bool.{lt-leb, le-ltb, cond-true}
 use Rattle.std.proofs.lemmas.List.{take-append-drop}
 use Rattle.hl_model.specs.declared.fault.Fault.{Fault}
 use Rattle.hl_model.specs.declared.fault.Fault.TheVariants.{NoSlot, NotProtected, Busy, Stale, Below, Beyond}
@@ -13,7 +13,7 @@ use Rattle.hl_model.specs.Epochs.{mark, enters, leaves, is_protected, epoch_of}
 use Rattle.hl_model.specs.Lists.{until_last}
 use Rattle.hl_model.specs.Offsets.{raised_to, shifted_to, read_only, head, place_of, tail_past, tail}
 use Rattle.hl_model.specs.Pages.{is_freed, frees}
-use Rattle.hl_model.specs.Views.{allocates, looked_read_only, looked_head, seen_read_only, seen_head, seen_tail, view_of, slot_view}
+use Rattle.hl_model.specs.Views.{allocates, seen_read_only, seen_head, seen_tail, view_of, slot_view}
 use Rattle.hl_model.specs.Replies.{protected_fault, size_fault, allocate_fault, or_fault, look_fault, write_fault, beyond_fault, fault_of, IsAccepted}
 use Rattle.hl_model.proofs.AcceptedLaws.{IsAccepted-push}
 use Rattle.hl_model.proofs.BoundLaws.{tail-append}
@@ -63,10 +63,10 @@ look_step sizes t A v r h a at x y =
     let last : look_fault A t r h ≡ None = ap₂ (λ p q. cond (p || q) (Some Stale) None) (le-ltb r (seen_read_only t A) left) (le-ltb h (seen_head t A) right) in (
       ap₂ or_fault (viewed_fault sizes t A v a at) last,
       slot_view-moves sizes t A (Look t r h) r h v.tail refl refl
-      (seen_read_only-push t A (Look t r h) refl ∙ ap (λ b. unwrap_or (cond b (Some r) None) (seen_read_only t A)) (eq-eqb t t refl))
-      (seen_head-push t A (Look t r h) refl ∙ ap (λ b. unwrap_or (cond b (Some h) None) (seen_head t A)) (eq-eqb t t refl))
-      (seen_tail-stay sizes t A (Look t r h) refl refl ∙ ap (λ (w : View). w.tail) seen.1)
-      ∙ cond-true (is_protected t A) (Some (view_past v (Look t r h))) None seen.0,
+          (seen_read_only-push t A (Look t r h) refl ∙ ap (λ b. unwrap_or (cond b (Some r) None) (seen_read_only t A)) (eq-eqb t t refl))
+          (seen_head-push t A (Look t r h) refl ∙ ap (λ b. unwrap_or (cond b (Some h) None) (seen_head t A)) (eq-eqb t t refl))
+          (seen_tail-stay sizes t A (Look t r h) refl refl ∙ ap (λ (w : View). w.tail) seen.1)
+          ∙ cond-true (is_protected t A) (Some (view_past v (Look t r h))) None seen.0,
     )
 
 -- a write of a slot from its view's read-only offset up to its tail is accepted, and leaves the view

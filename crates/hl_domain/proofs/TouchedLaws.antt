@@ -1,6 +1,6 @@
 -- A pass's touches and its own step behind them, made by a keeper.
-use Rattle.std.proofs.Common.{◌≡◌, ℕ, ◌+◌, ◌^◌, ◌<◌, ◌≤◌, Bool, true, false, cond, is_none, List, [], ◌∷◌, ◌++◌, length, get_or, refl, sym, ap, ap₂, ◌∙◌, subst, arith, append_assoc, length-append}
-use Rattle.std.specs.Prelude.{Option, Some, None, Result, Ok, Err}
+use Rattle.std.proofs.Common.{◌≡◌, ℕ, ◌+◌, ◌^◌, ◌<◌, ◌≤◌, true, cond, is_none, List, [], ◌∷◌, ◌++◌, length, get_or, refl, sym, ap, ◌∙◌, subst, arith, append_assoc}
+use Rattle.std.specs.Prelude.{Option, Some, None, Ok, Err}
 use Rattle.std.proofs.lemmas.List.{length_push}
 use Rattle.hl_model.specs.declared.fault.Fault.{Fault}
 use Rattle.hl_model.specs.declared.step.Reply.{Reply}
@@ -9,12 +9,11 @@ use Rattle.hl_model.specs.declared.step.Step.TheVariants.{Refresh, Release, Allo
 use Rattle.hl_model.specs.declared.view.View.{View}
 use Rattle.hl_model.specs.Offsets.{raised_to, shifted_to, read_only, head}
 use Rattle.hl_model.specs.Views.{slot_view, slot_views}
-use Rattle.hl_model.specs.Replies.{or_fault, fault_of, answer_of, unless_fault, IsAccepted}
+use Rattle.hl_model.specs.Replies.{or_fault, fault_of, answer_of, unless_fault}
 use Rattle.hl_model.proofs.NoFaultLaws.{unless_err, unless_ok}
 use Rattle.hl_model.proofs.OffsetLaws.{read_only-stay, head-stay}
 use Rattle.hl_model.proofs.ViewLaws.{slot_views-at}
 use Rattle.hl_action.specs.Jobs.{KeptRecord}
-use Rattle.hl_words.specs.declared.view.OffsetWords.{OffsetWords}
 use Rattle.hl_words.specs.States.{MasterState}
 use Rattle.hl_words.specs.Views.{newest}
 use Rattle.hl_core.specs.Standing.{State, Stands}

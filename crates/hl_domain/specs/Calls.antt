@@ -1,5 +1,5 @@
 -- The faults of a keeper's calls, in their order, and the list at which it stands after one.
-use Rattle.std.specs.Prelude.{◌≡◌, ℕ, ◌≤◌, Ok, Err, ◌+◌, ◌^◌, ◌==◌, nat_le, nat_lt, Bool, false, ◌&&◌, ◌||◌, if◌then◌else◌, Option, Some, None, is_some, is_none, Result, List, [], ◌∷◌, ◌++◌, length, slice_index_or}
+use Rattle.std.specs.Prelude.{◌≡◌, ℕ, ◌≤◌, Ok, Err, ◌+◌, ◌==◌, nat_le, nat_lt, Bool, false, ◌&&◌, ◌||◌, if◌then◌else◌, Option, Some, None, is_some, is_none, Result, List, [], ◌∷◌, ◌++◌, length, slice_index_or}
 use Rattle.hl_model.specs.declared.fault.Fault.{Fault}
 use Rattle.hl_model.specs.declared.fault.Fault.TheVariants.{Stranger, JournalFull}
 use Rattle.hl_model.specs.declared.step.Reply.{Reply}

@@ -50,7 +50,7 @@ impl Load {
 pub struct Broom {
     stamp: u64,
     page: u64,
-    pub(crate) swept: u64,
+    swept: u64,
 }
 
 impl Model for Broom {
@@ -84,6 +84,13 @@ impl Broom {
         ensures { result ≡ self.now.page }
     {
         self.page
+    }
+
+    /// Counts so many of its cells as swept.
+    pub(crate) fn count(&mut self, swept: u64)
+        ensures { self.new ≡ record { stamp = self.old.stamp; page = self.old.page; swept = swept } }
+    {
+        self.swept = swept;
     }
 
     /// How many of its cells were swept.

@@ -1,6 +1,6 @@
-use Rattle.std.proofs.Common.{◌≡◌, ◌++◌, sym, ap, ◌∙◌}
+use Rattle.std.proofs.Common.{◌≡◌, ◌++◌, ap, ◌∙◌}
 use Rattle.std.specs.Prelude.{None, Ok}
-use Rattle.hl_model.specs.Replies.{unless_fault, unless_refused}
+use Rattle.hl_model.specs.Replies.{unless_refused}
 use Rattle.hl_model.proofs.NoFaultLaws.{unless_ok}
 use Rattle.hl_domain.specs.Passes.{PassRecord, touch_fault, with_look}
 use Rattle.hl_words.specs.Views.{newest}

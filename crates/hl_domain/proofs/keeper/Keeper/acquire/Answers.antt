@@ -1,7 +1,6 @@
-use Rattle.std.proofs.Common.{◌≡◌, refl, sym, ap, ◌∙◌, arith, ℕ, ◌<◌, ◌+◌, length, length-set}
+use Rattle.std.proofs.Common.{refl, sym, arith, ◌<◌, ◌+◌, length, length-set}
 use Rattle.std.specs.Prelude.{slice_set}
 use Rattle.hl_model.specs.declared.step.Step.TheVariants.{Acquire as ACQUIRE}
-use Rattle.hl_model.specs.declared.step.Reply.TheVariants.{Entered}
 use Rattle.hl_domain.specs.Keepers.{KeeperState}
 use Rattle.hl_domain.specs.Calls.{step_fault}
 use Rattle.hl_domain.proofs.AcquireLaws.{acquire_place, acquire_made}

@@ -1,12 +1,8 @@
-use Rattle.std.proofs.Common.{◌≡◌, refl, sym, ap, ◌∙◌, arith, length, ◌+◌, lit≤}
+use Rattle.std.proofs.Common.{sym, ap, ◌∙◌, arith, ◌+◌}
 use Rattle.std.proofs.lemmas.Result.{err_from_is_err_and}
 use Rattle.hl_domain.specs.Passes.{PassRecord, seen}
-use Rattle.hl_domain.specs.Keepers.{KeeperState}
-use Rattle.hl_domain.specs.Calls.{refresh_fault, call_fault}
-use Rattle.hl_domain.specs.Touches.{AreTouches}
-use Rattle.hl_model.specs.declared.view.View.{View}
+use Rattle.hl_domain.specs.Calls.{call_fault}
 use Rattle.hl_model.specs.declared.step.Step.TheVariants.{Allocate as ALLOCATE}
-use Rattle.hl_model.specs.declared.step.Reply.TheVariants.{At}
 use Rattle.hl_domain.specs.Passes.{with_tail}
 use Rattle.hl_domain.proofs.SlotLaws.{Placed, knows, call_stranger, call_known, replied_refused, replied_err, replied_ok, accepted, allocate_place, allocate_placed, rested_is}
 use Rattle.hl_domain.proofs.keeper.Keeper.allocate.Goals.{In-At}

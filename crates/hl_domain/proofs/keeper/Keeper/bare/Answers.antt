@@ -1,9 +1,5 @@
-use Rattle.std.proofs.Common.{◌≡◌, ◌++◌, ◌∷◌, [], refl, sym, ap, ◌∙◌, arith, ℕ}
-use Rattle.std.proofs.lemmas.Result.{err_from_is_err_and}
-use Rattle.hl_model.specs.declared.step.Step.{Step}
-use Rattle.hl_words.specs.States.{MasterState}
-use Rattle.hl_domain.specs.Keepers.{KeeperState}
-use Rattle.hl_domain.specs.Calls.{step_fault, end_fault, made}
+use Rattle.std.proofs.Common.{◌≡◌, sym, ◌∙◌, ℕ}
+use Rattle.hl_domain.specs.Calls.{step_fault}
 use Rattle.hl_model.specs.declared.step.Step.TheVariants.{Bare as BARE}
 use Rattle.hl_model.specs.declared.step.Reply.TheVariants.{Bumped}
 use Rattle.hl_domain.proofs.StepLaws.{replied_as, reply_is}

@@ -1,9 +1,7 @@
-use Rattle.std.proofs.Common.{◌≡◌, ◌++◌, ◌∷◌, [], refl, sym, ap, ◌∙◌, arith, ℕ, ◌+◌}
-use Rattle.std.proofs.lemmas.Result.{err_from_is_err_and}
-use Rattle.hl_model.specs.declared.step.Step.{Step}
+use Rattle.std.proofs.Common.{◌++◌, ◌∷◌, [], refl, sym, ap, ◌∙◌, arith}
 use Rattle.hl_words.specs.States.{MasterState}
 use Rattle.hl_domain.specs.Keepers.{KeeperState}
-use Rattle.hl_domain.specs.Calls.{step_fault, end_fault, made}
+use Rattle.hl_domain.specs.Calls.{step_fault}
 use Rattle.hl_model.specs.declared.step.Reply.TheVariants.{Ticket}
 use Rattle.hl_core.specs.Steps.{asking}
 use Rattle.hl_domain.specs.Keepers.{job_tag}
@@ -46,11 +44,14 @@ invariant_of-self g c =
     let A = c.self.invariant.standing.0 in
     let st = c.self.invariant.standing.1 in
     record {
-      standing = (_, (core_made k A s c.in_default.field-0 c.bump.new.self (Ticket c.in-Ok.ticket) c.in-Ok.ticket _ c.note.new.journal.items c.self.inside.stamps.items c.self.inside.acquired c.note.new.master.offsets c.note.new.master.total st room (c.in-Ok.ensures.made A st.core_stands)
-    (bump_ticket k A c.args.ask c.bump.new.self c.in-Ok.ticket (c.in-Ok.ensures.made A st.core_stands))
-    (c.note.ensures.journal ∙ ap (λ z. c.self.inside.journal.items ++ z ∷ []) c.step_of-step.ensures) refl (omega arith)
-    (quiet k A s c.note.new.master.offsets st (asking_quiet job_tag c.args.ask).0 (asking_quiet job_tag c.args.ask).1 (ap (λ (m : MasterState). m.offsets) c.note.ensures.master))
-    (ap (λ (m : MasterState). m.total) c.note.ensures.master)).standing);
+      standing = (
+        _,
+        (core_made k A s c.in_default.field-0 c.bump.new.self (Ticket c.in-Ok.ticket) c.in-Ok.ticket _ c.note.new.journal.items c.self.inside.stamps.items c.self.inside.acquired c.note.new.master.offsets c.note.new.master.total st room (c.in-Ok.ensures.made A st.core_stands)
+            (bump_ticket k A c.args.ask c.bump.new.self c.in-Ok.ticket (c.in-Ok.ensures.made A st.core_stands))
+            (c.note.ensures.journal ∙ ap (λ z. c.self.inside.journal.items ++ z ∷ []) c.step_of-step.ensures) refl (omega arith)
+            (quiet k A s c.note.new.master.offsets st (asking_quiet job_tag c.args.ask).0 (asking_quiet job_tag c.args.ask).1 (ap (λ (m : MasterState). m.offsets) c.note.ensures.master))
+            (ap (λ (m : MasterState). m.total) c.note.ensures.master)).standing,
+      );
       room = omega (arith, c.self.invariant.room, c.note.ensures.room);
       exact = c.self.invariant.exact ∙ sym (ap (λ z. z.slots) c.in-Ok.ensures.sizes);
     }

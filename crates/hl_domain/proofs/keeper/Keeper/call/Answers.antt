@@ -1,4 +1,4 @@
-use Rattle.std.proofs.Common.{sym, ap, ◌∙◌, arith, length, length-append, ◌++◌, ◌+◌}
+use Rattle.std.proofs.Common.{sym, ap, ◌∙◌, arith, length, length-append, ◌++◌}
 use Rattle.std.proofs.lemmas.Result.{err_from_is_err_and}
 use Rattle.hl_model.specs.Replies.{fault_of}
 use Rattle.hl_model.proofs.NoFaultLaws.{unless_ok}

@@ -1,6 +1,5 @@
-use Rattle.std.proofs.Common.{◌≡◌, refl, sym, ap, ◌∙◌, ◌+◌}
 use Rattle.hl_domain.specs.Keepers.{KeeperState}
-use Rattle.hl_domain.proofs.KeeperLaws.{base_sizes, cut_stands}
+use Rattle.hl_domain.proofs.KeeperLaws.{base_sizes}
 use Rattle.hl_domain.proofs.keeper.Keeper.cut.Goals as goal
 
 pub base_into-requires : goal.base_into-requires

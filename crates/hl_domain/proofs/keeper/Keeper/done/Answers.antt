@@ -1,11 +1,6 @@
-use Rattle.std.proofs.Common.{◌≡◌, ◌++◌, ◌∷◌, [], refl, sym, ap, ◌∙◌, arith, ℕ}
-use Rattle.std.proofs.lemmas.Result.{err_from_is_err_and}
-use Rattle.hl_model.specs.declared.step.Step.{Step}
-use Rattle.hl_words.specs.States.{MasterState}
-use Rattle.hl_domain.specs.Keepers.{KeeperState}
-use Rattle.hl_domain.specs.Calls.{step_fault, end_fault, made}
+use Rattle.hl_domain.specs.Calls.{step_fault, end_fault}
 use Rattle.hl_model.specs.declared.step.Step.TheVariants.{Done as DONE}
-use Rattle.hl_domain.proofs.StepLaws.{made_refused, end_stranger, end_own, replied_refusal, replied_end, reply_is}
+use Rattle.hl_domain.proofs.StepLaws.{made_refused, end_stranger, end_own, replied_refusal, replied_end}
 use Rattle.hl_domain.proofs.keeper.Keeper.done.Goals as goal
 
 pub returns-in-Err-clause-made : goal.returns-in-Err-clause-made

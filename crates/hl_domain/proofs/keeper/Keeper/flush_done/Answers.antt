@@ -1,9 +1,5 @@
-use Rattle.std.proofs.Common.{◌≡◌, ◌++◌, ◌∷◌, [], refl, sym, ap, ◌∙◌, arith, ℕ}
-use Rattle.std.proofs.lemmas.Result.{err_from_is_err_and}
-use Rattle.hl_model.specs.declared.step.Step.{Step}
-use Rattle.hl_words.specs.States.{MasterState}
-use Rattle.hl_domain.specs.Keepers.{KeeperState}
-use Rattle.hl_domain.specs.Calls.{step_fault, end_fault, made}
+use Rattle.std.proofs.Common.{◌≡◌, sym, ap, ◌∙◌, ℕ}
+use Rattle.hl_domain.specs.Calls.{step_fault, end_fault}
 use Rattle.hl_model.specs.declared.step.Step.TheVariants.{FlushDone as FLUSH_DONE}
 use Rattle.hl_model.specs.declared.step.Reply.TheVariants.{Flushed}
 use Rattle.hl_domain.specs.declared.load.PageJob.{PageJob}

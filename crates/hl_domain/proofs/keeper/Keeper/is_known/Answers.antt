@@ -1,4 +1,4 @@
-use Rattle.std.proofs.Common.{sym, ap, ◌∙◌}
+use Rattle.std.proofs.Common.{sym}
 use Rattle.hl_domain.proofs.CallLaws.{known_then, known_else}
 use Rattle.hl_domain.proofs.keeper.Keeper.is_known.Goals as goal
 

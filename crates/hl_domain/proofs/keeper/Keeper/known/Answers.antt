@@ -1,4 +1,4 @@
-use Rattle.std.proofs.Common.{sym, ap, ◌∙◌}
+use Rattle.std.proofs.Common.{ap, ◌∙◌}
 use Rattle.hl_domain.specs.Passes.{PassRecord}
 use Rattle.hl_domain.specs.Calls.{stamp_at}
 use Rattle.hl_domain.proofs.CallLaws.{known_ok, known_err}

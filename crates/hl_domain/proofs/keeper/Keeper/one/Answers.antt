@@ -1,9 +1,8 @@
-use Rattle.std.proofs.Common.{◌≡◌, ◌++◌, ◌∷◌, [], refl, sym, ap, ◌∙◌, arith, ℕ}
+use Rattle.std.proofs.Common.{refl, sym, ap, ◌∙◌, arith}
 use Rattle.std.proofs.lemmas.Result.{err_from_is_err_and}
-use Rattle.hl_model.specs.declared.step.Step.{Step}
 use Rattle.hl_words.specs.States.{MasterState}
 use Rattle.hl_domain.specs.Keepers.{KeeperState}
-use Rattle.hl_domain.specs.Calls.{step_fault, end_fault, made}
+use Rattle.hl_domain.specs.Calls.{step_fault}
 use Rattle.hl_domain.proofs.StepLaws.{step_full, one_fits, one_counts, made_refused, core_refused, core_made, core_told, quiet}
 use Rattle.hl_domain.proofs.keeper.Keeper.one.Goals as goal
 

@@ -1,8 +1,6 @@
 use Rattle.std.proofs.Common.{[], length, sym, ap, ◌∙◌}
 use Rattle.std.proofs.lemmas.List.{length-replicate}
 use Rattle.hl_model.specs.Sizes.{Sizes}
-use Rattle.hl_model.specs.Bases.{base_of}
-use Rattle.hl_domain.specs.Keepers.{KeeperStands}
 use Rattle.hl_domain.proofs.KeeperLaws.{opened}
 use Rattle.hl_domain.proofs.keeper.Keeper.open.Goals as goal
 

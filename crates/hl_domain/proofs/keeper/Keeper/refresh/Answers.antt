@@ -1,15 +1,8 @@
-use Rattle.std.proofs.Common.{◌≡◌, refl, sym, ap, ◌∙◌, arith, length, ◌+◌, lit≤}
+use Rattle.std.proofs.Common.{refl, sym, ap}
 use Rattle.std.proofs.lemmas.Result.{err_from_is_err_and}
-use Rattle.hl_domain.specs.Passes.{PassRecord, seen}
-use Rattle.hl_domain.specs.Keepers.{KeeperState}
-use Rattle.hl_domain.specs.Calls.{refresh_fault, call_fault}
-use Rattle.hl_domain.specs.Touches.{AreTouches}
-use Rattle.hl_model.specs.declared.view.View.{View}
+use Rattle.hl_domain.specs.Passes.{PassRecord}
+use Rattle.hl_domain.specs.Calls.{refresh_fault}
 use Rattle.hl_model.specs.declared.step.Step.TheVariants.{Refresh as REFRESH}
-use Rattle.hl_model.specs.declared.step.Reply.TheVariants.{Entered}
-use Rattle.hl_model.specs.Epochs.{epoch_of}
-use Rattle.hl_model.specs.Views.{view_of}
-use Rattle.hl_domain.specs.Calls.{touched_list}
 use Rattle.hl_domain.proofs.SlotLaws.{knows_behind, refresh_ahead, refresh_known, replied_refused, replied_err, replied_ok, accepted, refresh_view, refresh_fresh, rested_is}
 use Rattle.hl_domain.proofs.keeper.Keeper.refresh.Goals as goal
 

@@ -1,13 +1,7 @@
-use Rattle.std.proofs.Common.{◌≡◌, refl, sym, ap, ◌∙◌, arith, length, ◌+◌, lit≤}
-use Rattle.std.proofs.lemmas.Result.{err_from_is_err_and}
-use Rattle.hl_domain.specs.Passes.{PassRecord, seen}
-use Rattle.hl_domain.specs.Keepers.{KeeperState}
-use Rattle.hl_domain.specs.Calls.{refresh_fault, call_fault}
-use Rattle.hl_domain.specs.Touches.{AreTouches}
-use Rattle.hl_model.specs.declared.view.View.{View}
+use Rattle.std.proofs.Common.{ap, ◌∙◌}
+use Rattle.hl_domain.specs.Passes.{PassRecord}
+use Rattle.hl_domain.specs.Calls.{call_fault}
 use Rattle.hl_model.specs.declared.step.Step.TheVariants.{Release as RELEASE}
-use Rattle.hl_domain.specs.Passes.{with_share}
-use Rattle.hl_words.specs.States.{RiderState}
 use Rattle.hl_domain.proofs.SlotLaws.{knows, call_stranger, call_known, replied_refused, replied_err, replied_ok}
 use Rattle.hl_domain.proofs.keeper.Keeper.release.Goals as goal
 

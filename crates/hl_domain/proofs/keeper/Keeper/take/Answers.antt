@@ -1,12 +1,10 @@
-use Rattle.std.proofs.Common.{◌≡◌, ◌++◌, ◌∷◌, [], refl, sym, ap, ◌∙◌, arith, ℕ, ◌+◌}
+use Rattle.std.proofs.Common.{refl, sym, ap, ◌∙◌, arith}
 use Rattle.std.proofs.lemmas.Result.{err_from_is_err_and}
-use Rattle.hl_model.specs.declared.step.Step.{Step}
 use Rattle.hl_words.specs.States.{MasterState}
 use Rattle.hl_domain.specs.Keepers.{KeeperState}
-use Rattle.hl_domain.specs.Calls.{step_fault, end_fault, made}
+use Rattle.hl_domain.specs.Calls.{step_fault}
 use Rattle.hl_model.specs.declared.step.Step.TheVariants.{Take as TAKE}
 use Rattle.hl_model.specs.declared.step.Reply.TheVariants.{Taken}
-use Rattle.hl_domain.specs.Taking.{TakenFrom, taken_from}
 use Rattle.hl_domain.proofs.ActionLaws.{take_firing}
 use Rattle.hl_domain.proofs.StepLaws.{step_full, one_fits, one_counts, made_refused, core_refused, core_made, quiet}
 use Rattle.hl_domain.proofs.keeper.Keeper.take.Goals as goal
@@ -47,11 +45,14 @@ invariant_of-self-2 g c =
     let A = c.self.invariant.standing.0 in
     let st = c.self.invariant.standing.1 in
     record {
-      standing = (_, (core_made k A TAKE c.in_ok-room.field-0 c.take.new.self (Taken c.in_ok-firing.firing.ticket) (tt {0}) (tt {0}) c.note.new.journal.items c.self.inside.stamps.items c.self.inside.acquired c.note.new.master.offsets c.note.new.master.total st room (c.in_ok-firing.ensures.made A st.core_stands)
-    refl
-    c.note.ensures.journal refl (omega arith)
-    (quiet k A TAKE c.note.new.master.offsets st refl refl (ap (λ (m : MasterState). m.offsets) c.note.ensures.master))
-    (ap (λ (m : MasterState). m.total) c.note.ensures.master)).standing);
+      standing = (
+        _,
+        (core_made k A TAKE c.in_ok-room.field-0 c.take.new.self (Taken c.in_ok-firing.firing.ticket) (tt {0}) (tt {0}) c.note.new.journal.items c.self.inside.stamps.items c.self.inside.acquired c.note.new.master.offsets c.note.new.master.total st room (c.in_ok-firing.ensures.made A st.core_stands)
+            refl
+            c.note.ensures.journal refl (omega arith)
+            (quiet k A TAKE c.note.new.master.offsets st refl refl (ap (λ (m : MasterState). m.offsets) c.note.ensures.master))
+            (ap (λ (m : MasterState). m.total) c.note.ensures.master)).standing,
+      );
       room = omega (arith, c.self.invariant.room, c.note.ensures.room);
       exact = c.self.invariant.exact ∙ sym (ap (λ z. z.slots) c.in_ok-firing.ensures.sizes);
     }

@@ -1,4 +1,4 @@
-use Rattle.std.proofs.Common.{ap, ◌∙◌, length, sym, arith}
+use Rattle.std.proofs.Common.{ap, ◌∙◌, length}
 use Rattle.hl_domain.specs.Passes.{PassRecord}
 use Rattle.hl_domain.proofs.PassLaws.{touches_full, touches_room}
 use Rattle.hl_domain.proofs.pass.Pass.may_touch.Goals as goal

@@ -1,0 +1,96 @@
+//! What riders do to the cells of a page that was taken: copies and sweeps.
+ghost use Rattle.std.specs.Prelude.{◌≡◌, ◌+◌, ◌*◌, ◌^◌, ◌==◌, ◌≤◌, length, OnOk, OnErr};
+ghost use Rattle.hl_model.specs.Replies.{unless_fault, unless_refused};
+ghost use Rattle.hl_domain.specs.Calls.{unless_stranger};
+ghost use Rattle.hl_domain.specs.Pages.{first_cell, zeroed, loaded_all};
+
+use crate::load::{Broom, PageJob};
+use hl_model::{Fault, Params};
+use hl_words::{Realm, Rider, Words};
+
+/// Loads the words of a page into P places. Their order among other riders' stores isn't known.
+///
+/// `Stranger` where the page is of another domain than the one of this stamp.
+pub(crate) fn copy_page<L: Realm>(
+    words: &Words<L>,
+    params: Params,
+    stamp: u64,
+    job: PageJob,
+    rider: &mut Rider<L>,
+    out: &mut [u64],
+) -> Result<(), Fault>
+    requires cells { words.now.cells ≡ params.frames * params.page }
+    requires places { length out.old ≡ params.page }
+    ensures answer { result ≡ unless_fault (unless_stranger (job.stamp == stamp) stamp) tt }
+    ensures loads { let old = rider.old
+        in OnOk result (rider.new ≡ record { view = loaded_all (first_cell params job.page) out.new old.view; share = old.share }) }
+    ensures refused { OnErr result ((rider.new ≡ rider.old) × (out.new ≡ out.old)) }
+{
+    if job.stamp != stamp {
+        return Err(Fault::Stranger { stamp });
+    }
+    copy_cells(words, rider, first_cell(params, job.page), out);
+    Ok(())
+}
+
+/// Stores 0 into all cells of a page: its broom is swept then.
+///
+/// `Stranger` where the page is of another domain than the one of this stamp.
+pub(crate) fn sweep<L: Realm>(
+    words: &Words<L>,
+    params: Params,
+    stamp: u64,
+    broom: &mut Broom,
+    rider: &mut Rider<L>,
+) -> Result<(), Fault>
+    requires { words.now.cells ≡ params.frames * params.page }
+    ensures answer { result ≡ unless_fault (unless_stranger (broom.old.stamp == stamp) stamp) tt }
+    ensures broom { let old = broom.old
+        in OnOk result (broom.new ≡ record { stamp = old.stamp; page = old.page; swept = params.page }) }
+    ensures stores { let old = rider.old
+        in OnOk result (rider.new ≡ record { view = zeroed (first_cell params broom.old.page) params.page old.view; share = old.share }) }
+    ensures refused { OnErr result ((broom.new ≡ broom.old) × (rider.new ≡ rider.old)) }
+{
+    if broom.stamp() != stamp {
+        return Err(Fault::Stranger { stamp });
+    }
+    zero_cells(
+        words,
+        rider,
+        first_cell(params, broom.page()),
+        params.page(),
+    );
+    broom.count(params.page());
+    Ok(())
+}
+
+// The first cell of a page. Behind it the page has P cells.
+fn first_cell(params: Params, page: u64) -> u64
+    ensures value { result ≡ first_cell params page }
+    ensures room { result + params.page ≤ params.frames * params.page }
+    ensures few { result + params.page ≤ 2 ^ 20 }
+{
+    page % params.frames() * params.page()
+}
+
+// Loads as many cells as there are places.
+fn copy_cells<L: Realm>(words: &Words<L>, rider: &mut Rider<L>, first: u64, out: &mut [u64])
+    requires cells { first + length out.old ≤ words.now.cells }
+    requires few { first + length out.old ≤ 2 ^ 20 }
+    ensures { rider.new ≡ record { view = loaded_all first out.new rider.old.view; share = rider.old.share } }
+{
+    for k in 0..out.len() {
+        out[k] = words.load_cell(rider, first + k as u64);
+    }
+}
+
+// Stores 0 into n cells.
+fn zero_cells<L: Realm>(words: &Words<L>, rider: &mut Rider<L>, first: u64, n: u64)
+    requires cells { first + n ≤ words.now.cells }
+    requires few { first + n ≤ 2 ^ 20 }
+    ensures { rider.new ≡ record { view = zeroed first n rider.old.view; share = rider.old.share } }
+{
+    for k in 0..n {
+        words.store_cell(rider, first + k, 0);
+    }
+}
