@@ -32,6 +32,7 @@ impl<E: Epochs + Drop, F: Task, P: Promise, L: Realm> Keeper<E, F, P, L> {
             in Replied fault (bumps (A ++ step ∷ [])) (made fault A step) self.new (told result) }
         ensures refused { IfErr result (λ back. (back.1 ≡ ask) × (self.new ≡ self.old)) }
         ensures stays { Stays self.old self.new }
+        ensures stamps { (self.new.stamps ≡ self.old.stamps) × (self.new.acquired ≡ self.old.acquired) }
         ensures jobs { let old = self.old.core
             in IfOk result (λ ticket. self.new.core.drain.pending ≡ old.drain.pending ++ (ticket, stored old.offsets ask) ∷ []) }
         ensures rider { MatchResult result (λ _. rider.new ≡ with_share 1 rider.old) (λ _. rider.new ≡ rider.old) }
@@ -58,6 +59,7 @@ impl<E: Epochs + Drop, F: Task, P: Promise, L: Realm> Keeper<E, F, P, L> {
             in Replied fault (taken_from self.old A) (made fault A TAKE) self.new (ready_told result) }
         ensures refused { OnErr result (self.new ≡ self.old) }
         ensures stays { Stays self.old self.new }
+        ensures stamps { (self.new.stamps ≡ self.old.stamps) × (self.new.acquired ≡ self.old.acquired) }
         ensures out { IfOk result (λ ready. CameOut job_tag self.old.core self.new.core ready.firing.ticket ready.kept) }
         ensures rider { MatchResult result (λ _. rider.new ≡ with_share 1 rider.old) (λ _. rider.new ≡ rider.old) }
     {

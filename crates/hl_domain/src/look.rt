@@ -1,5 +1,5 @@
 //! What a pass does without the lock: looks at the offset words, and stores and loads of cells.
-ghost use Rattle.std.specs.Prelude.{◌≡◌, ◌*◌, ◌<◌, ◌||◌, nat_lt, Some, None, length, OnOk, MatchResult};
+ghost use Rattle.std.specs.Prelude.{◌≡◌, ◌*◌, ◌<◌, ◌||◌, nat_lt, Some, None, max, length, IfOk, OnOk, MatchResult};
 ghost use Rattle.hl_model.specs.Replies.{unless_fault, unless_refused};
 ghost use Rattle.hl_domain.specs.Passes.{PassRecord, seen, touches_most, touch_fault, store_fault, load_fault, with_look, with_store, with_load, last_read_only, last_head};
 
@@ -15,6 +15,8 @@ pub(crate) fn look<L: Realm>(words: &Words<L>, pass: &mut Pass<L>) -> Result<Vie
     ensures answer { result ≡ unless_fault (touch_fault pass.old) (seen pass.new) }
     ensures pass { let new = pass.new
         in new ≡ unless_refused (touch_fault pass.old) pass.old (with_look (last_read_only new) (last_head new) pass.old) }
+    ensures raised { let old = seen pass.old
+        in IfOk result (λ view. view ≡ record { read_only = max old.read_only (last_read_only pass.new); head = max old.head (last_head pass.new); tail = old.tail }) }
 {
     pass.may_touch()?;
     let seen = pass.view;

@@ -45,6 +45,7 @@ impl<E: Epochs + Drop, F: Task, P: Promise, L: Realm> Keeper<E, F, P, L> {
             in Replied fault (bumps (A ++ BARE ∷ [])) (made fault A BARE) self.new result }
         ensures refused { OnErr result (self.new ≡ self.old) }
         ensures stays { Stays self.old self.new }
+        ensures stamps { (self.new.stamps ≡ self.old.stamps) × (self.new.acquired ≡ self.old.acquired) }
         ensures jobs { self.new.core.drain.pending ≡ self.old.core.drain.pending }
         ensures rider { MatchResult result (λ _. rider.new ≡ with_share 1 rider.old) (λ _. rider.new ≡ rider.old) }
     {

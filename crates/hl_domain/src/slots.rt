@@ -26,6 +26,7 @@ impl<E: Epochs + Drop, F: Task, P: Promise, L: Realm> Keeper<E, F, P, L> {
             in Replied fault (view_of self.old.core.sizes p.slot (touched_list A p (REFRESH p.slot))) (entered fault A p.touches (REFRESH p.slot)) self.new result }
         ensures refused { OnErr result (self.new ≡ self.old) }
         ensures stays { Stays self.old self.new }
+        ensures stamps { (self.new.stamps ≡ self.old.stamps) × (self.new.acquired ≡ self.old.acquired) }
         ensures jobs { self.new.core.drain.pending ≡ self.old.core.drain.pending }
         ensures pass { MatchResult result (λ view. pass.new ≡ rested view pass.old) (λ _. pass.new ≡ pass.old) }
         ensures fresh { IfOk result (IsUpTo (seen pass.old)) }
@@ -53,6 +54,7 @@ impl<E: Epochs + Drop, F: Task, P: Promise, L: Realm> Keeper<E, F, P, L> {
             in Replied fault (with_share (length pass.touches + 1) pass.rider) (entered fault A pass.touches (RELEASE pass.slot)) self.new (told result) }
         ensures refused { IfErr result (λ back. (back.1 ≡ pass) × (self.new ≡ self.old)) }
         ensures stays { Stays self.old self.new }
+        ensures stamps { (self.new.stamps ≡ self.old.stamps) × (self.new.acquired ≡ self.old.acquired) }
         ensures jobs { self.new.core.drain.pending ≡ self.old.core.drain.pending }
     {
         let mut pass = pass;
@@ -77,6 +79,7 @@ impl<E: Epochs + Drop, F: Task, P: Promise, L: Realm> Keeper<E, F, P, L> {
             in Replied fault (place_of sizes.page (tail sizes (A ++ p.touches)) n) (entered fault A p.touches step) self.new result }
         ensures refused { OnErr result (self.new ≡ self.old) }
         ensures stays { Stays self.old self.new }
+        ensures stamps { (self.new.stamps ≡ self.old.stamps) × (self.new.acquired ≡ self.old.acquired) }
         ensures jobs { self.new.core.drain.pending ≡ self.old.core.drain.pending }
         ensures pass { MatchResult result (λ a. pass.new ≡ rested (with_tail (a + n) (seen pass.old)) pass.old) (λ _. pass.new ≡ pass.old) }
         ensures above { IfOk result (λ a. (seen pass.old).tail ≤ a) }
