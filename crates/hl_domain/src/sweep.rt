@@ -54,13 +54,9 @@ pub(crate) fn sweep<L: Realm>(
     if broom.stamp() != stamp {
         return Err(Fault::Stranger { stamp });
     }
-    zero_cells(
-        words,
-        rider,
-        first_cell(params, broom.page()),
-        params.page(),
-    );
-    broom.count(params.page());
+    let (first, places) = (first_cell(params, broom.page()), params.page());
+    zero_cells(words, rider, first, places);
+    broom.count(places);
     Ok(())
 }
 
