@@ -32,11 +32,13 @@ unless_stranger test stamp = if test then None else Some (Stranger stamp)
 module _ {F : Type 0} where
   -- the stamp of slot t: that of its last acquire, and 0 where it is empty
   unfoldable pub stamp_at : KeeperState F → List Step → ℕ → ℕ
-  stamp_at keeper A t = if is_some (slot_view keeper.core.sizes t A) then slice_index_or keeper.stamps t 0 else 0
+  stamp_at keeper A t =
+      if is_some (slot_view keeper.core.sizes t A) then slice_index_or keeper.stamps t 0 else 0
 
   -- the pass is the one to which its slot belongs: it has the slot's stamp, and its held view is the slot's
   unfoldable pub is_known : KeeperState F → List Step → PassRecord → Bool
-  is_known keeper A p = has_view (slot_view keeper.core.sizes p.slot A) p.held && stamp_at keeper A p.slot == p.stamp
+  is_known keeper A p =
+      has_view (slot_view keeper.core.sizes p.slot A) p.held && stamp_at keeper A p.slot == p.stamp
 
   -- the fault of a call of a pass that isn't the slot's
   unfoldable pub stranger_fault : KeeperState F → List Step → PassRecord → Option Fault
@@ -49,7 +51,8 @@ module _ {F : Type 0} where
   -- the fault of n steps more: they don't fit the journal, or would be more in all than a keeper counts
   unfoldable pub room_fault : KeeperState F → ℕ → Option Fault
   room_fault keeper n =
-      if nat_lt keeper.limit (length keeper.journal + n) || nat_lt steps_most (keeper.cut + length keeper.journal + n)
+      if nat_lt keeper.limit (length keeper.journal + n)
+      || nat_lt steps_most (keeper.cut + length keeper.journal + n)
       then Some JournalFull
       else None
 
@@ -89,11 +92,18 @@ made fault A s = if is_none fault then A ++ s ∷ [] else A
 module _ {F : Type 0} where
   -- wherever the keeper stands, the slot has the view that the pass held
   abbrev pub Knows : KeeperState F → PassRecord → Type 0
-  Knows keeper p = (A : List Step) → KeeperStands keeper A → slot_view keeper.core.sizes p.slot A ≡ Some p.held
+  Knows keeper p =
+      (A : List Step) → KeeperStands keeper A → slot_view keeper.core.sizes p.slot A ≡ Some p.held
 
-  -- a keeper that stood at A answered a pass's step as the definitions do after A and the touches, and stands at the list with both, where it was accepted
-  pub record Called (old : KeeperState F) (A : List Step) (p : PassRecord) (s : Step) (new : KeeperState F) (result : Result Reply Fault) : Type 0 where
-    pub reply : result ≡ unless_fault (touched_fault old A p s) (answer_of old.core.sizes (A ++ p.touches) ((A ++ p.touches) ++ s ∷ []) s)
+  -- a keeper that stood at A answered a pass's step as the definitions do after A and the touches, and stands
+  -- at the list with both, where it was accepted
+  pub record Called
+      (old : KeeperState F) (A : List Step) (p : PassRecord) (s : Step)
+      (new : KeeperState F) (result : Result Reply Fault)
+      : Type 0 where
+    pub reply : result
+        ≡ unless_fault (touched_fault old A p s)
+        (answer_of old.core.sizes (A ++ p.touches) ((A ++ p.touches) ++ s ∷ []) s)
     pub standing : KeeperStands new (entered (touched_fault old A p s) A p.touches s)
 
   -- what no call changes: the sizes, how many steps the keeper may keep, its stamp, and what was cut
@@ -105,9 +115,35 @@ module _ {F : Type 0} where
     pub cut : new.cut ≡ old.cut
 
   -- a keeper answered a call, and stands at this list
-  pub record Replied {X : Type 0} (fault : Option Fault) (answer : X) (list : List Step) (new : KeeperState F) (result : Result X Fault) : Type 0 where
+  pub record Replied
+      {X : Type 0} (fault : Option Fault) (answer : X) (list : List Step)
+      (new : KeeperState F) (result : Result X Fault)
+      : Type 0 where
     pub reply : result ≡ unless_fault fault answer
     pub standing : KeeperStands new list
+
+  -- at whatever list a keeper stood, it answered a rider's step with its fault there, or with this answer,
+  -- and stands at the list with the step, where it was accepted
+  abbrev pub Makes : {X : Type 0}
+      → KeeperState F → Step → (List Step → X) → KeeperState F → Result X Fault → Type 0
+  Makes old s answer new result =
+      (A : List Step) → KeeperStands old A
+      → Replied (step_fault old A s) (answer A) (made (step_fault old A s) A s) new result
+
+  -- likewise a step that ends something of this origin
+  abbrev pub Ends : {X : Type 0}
+      → KeeperState F → ℕ → Step → (List Step → X) → KeeperState F → Result X Fault → Type 0
+  Ends old origin s answer new result =
+      (A : List Step) → KeeperStands old A
+      → Replied (end_fault old A origin s) (answer A) (made (end_fault old A origin s) A s) new result
+
+  -- likewise the touches of a pass and its own step, where these are the faults
+  abbrev pub MakesTouched : {X : Type 0}
+      → KeeperState F → PassRecord → Step → (List Step → Option Fault) → (List Step → X)
+      → KeeperState F → Result X Fault → Type 0
+  MakesTouched old p s fault answer new result =
+      (A : List Step) → KeeperStands old A
+      → Replied (fault A) (answer A) (entered (fault A) A p.touches s) new result
 
 -- the answer of a call that hands back what was handed in
 abbrev pub told : {X Y : Type 0} → Result X (Fault × Y) → Result X Fault

@@ -5,7 +5,8 @@ use Rattle.hl_model.specs.Replies.{IsAccepted}
 use Rattle.hl_core.specs.Standing.{State, Stands, IsStanding}
 use Rattle.hl_core.specs.Steps.{is_acted}
 
--- wherever the core stands, these steps are accepted one after another, and of none a job goes in or comes out
+-- wherever the core stands, these steps are accepted one after another, and of none a job goes in or comes
+-- out
 pub record MayEnter {J : Type 0} (tag : J → ℕ) (core : State J) (steps : List Step) : Type 0 where
   pub standing : IsStanding tag core
   pub accepted : (A : List Step) → Stands tag core A → IsAccepted core.sizes (A ++ steps)

@@ -12,7 +12,9 @@ use Rattle.hl_core.specs.Standing.{State, Stands}
 abbrev pub job_tag : {F : Type 0} → KeptRecord F → ℕ
 job_tag kept = kept.tag
 
--- what a keeper keeps: a core; the base of the steps that were cut, and how many these are; the steps since, and how many it may keep; each slot's stamp, the domain's own, and how many acquires were accepted; the master's stores of the offset words, and how many steps riders entered in all
+-- what a keeper keeps: a core; the base of the steps that were cut, and how many these are; the steps since,
+-- and how many it may keep; each slot's stamp, the domain's own, and how many acquires were accepted; the
+-- master's stores of the offset words, and how many steps riders entered in all
 pub record KeeperState (F : Type 0) : Type 0 where
   pub core : State (KeptRecord F)
   pub base : Base
@@ -29,7 +31,8 @@ pub record KeeperState (F : Type 0) : Type 0 where
 abbrev pub steps_most : ℕ
 steps_most = 2 ^ 62
 
--- a keeper stands at the accepted list A: its core does; A is the steps that were cut, of which its base is, and then its journal; the offset words were last stored as the offsets of A; the total is A's length
+-- a keeper stands at the accepted list A: its core does; A is the steps that were cut, of which its base is,
+-- and then its journal; the offset words were last stored as the offsets of A; the total is A's length
 pub record KeeperStands {F : Type 0} (keeper : KeeperState F) (A : List Step) : Type 0 where
   pub core_stands : Stands job_tag keeper.core A
   pub steps_cut : List Step

@@ -1,5 +1,5 @@
 -- What a pass keeps, what its calls without the lock answer, and what they leave.
-use Rattle.std.specs.Prelude.{ℕ, ◌+◌, ◌*◌, ◌/◌, ◌%◌, ◌==◌, nat_le, nat_lt, ◌||◌, max, if◌then◌else◌, Option, Some, None, List, [], ◌∷◌, ◌++◌, length}
+use Rattle.std.specs.Prelude.{◌≡◌, ℕ, ◌+◌, ◌*◌, ◌/◌, ◌%◌, ◌==◌, nat_le, nat_lt, ◌||◌, max, if◌then◌else◌, Option, Some, None, Result, MatchResult, List, [], ◌∷◌, ◌++◌, length}
 use Rattle.hl_model.specs.declared.fault.Fault.{Fault}
 use Rattle.hl_model.specs.declared.fault.Fault.TheVariants.{Below, Beyond, Evicted, TouchesFull}
 use Rattle.hl_model.specs.declared.step.Step.{Step}
@@ -12,7 +12,8 @@ use Rattle.hl_words.specs.States.{RiderState}
 use Rattle.hl_words.specs.Views.{offset_of, stored, loaded, with_loaded}
 use Rattle.hl_domain.specs.Touches.{view_after}
 
--- a pass: its slot and stamp, the view at its last locked call, its looks and stores since then, and its rider
+-- a pass: its slot and stamp, the view at its last locked call, its looks and stores since then, and its
+-- rider
 pub record PassRecord : Type 0 where
   pub slot : ℕ
   pub stamp : ℕ
@@ -50,7 +51,8 @@ load_fault p a = if nat_lt a (seen p).head then Some (Evicted (seen p).head) els
 abbrev pub cell_at : Sizes → ℕ → ℕ
 cell_at sizes a = a / sizes.page % sizes.frames * sizes.page + a % sizes.page
 
--- the pass after a store of v at address a: its rider stored it into the address's cell, and it has one touch more
+-- the pass after a store of v at address a: its rider stored it into the address's cell, and it has one touch
+-- more
 unfoldable pub with_store : Sizes → ℕ → ℕ → PassRecord → PassRecord
 with_store sizes a v p = record {
   slot = p.slot;
@@ -77,14 +79,18 @@ look_made t v read_only head =
     then Look t (max v.read_only read_only) (max v.head head) ∷ []
     else []
 
--- the pass after a look that loaded these offsets: its rider has loaded both, and it sees the greater of each and of its own
+-- the pass after a look that loaded these offsets: its rider has loaded both, and it sees the greater of each
+-- and of its own
 unfoldable pub with_look : ℕ → ℕ → PassRecord → PassRecord
 with_look read_only head p = record {
   slot = p.slot;
   stamp = p.stamp;
   held = p.held;
   touches = p.touches ++ look_made p.slot (seen p) read_only head;
-  rider = record { view = with_loaded Head head (with_loaded ReadOnly read_only p.rider.view); share = p.rider.share };
+  rider = record {
+    view = with_loaded Head head (with_loaded ReadOnly read_only p.rider.view);
+    share = p.rider.share;
+  };
 }
 
 -- the last offsets that its rider loaded
@@ -98,6 +104,10 @@ last_head p = offset_of Head p.rider.view.offsets
 abbrev pub with_share : ℕ → RiderState → RiderState
 with_share n r = record { view = r.view; share = r.share + n }
 
+-- the rider of an accepted call entered n steps more, and that of a refused one none
+abbrev pub Shares : {X E : Type 0} → ℕ → Result X E → RiderState → RiderState → Type 0
+Shares n result old new = MatchResult result (λ _. new ≡ with_share n old) (λ _. new ≡ old)
+
 -- the pass whose rider has entered its touches and one step more
 abbrev pub entered_by : PassRecord → PassRecord
 entered_by p = record {
@@ -108,7 +118,8 @@ entered_by p = record {
   rider = with_share (length p.touches + 1) p.rider;
 }
 
--- the pass after a locked call that leaves it with this view: its touches and the call's own step are its rider's
+-- the pass after a locked call that leaves it with this view: its touches and the call's own step are its
+-- rider's
 unfoldable pub rested : View → PassRecord → PassRecord
 rested v p = record {
   slot = p.slot;
@@ -124,4 +135,5 @@ with_tail tail v = record { read_only = v.read_only; head = v.head; tail = tail 
 
 -- a new pass
 abbrev pub new_pass : ℕ → ℕ → View → RiderState → PassRecord
-new_pass slot stamp view rider = record { slot = slot; stamp = stamp; held = view; touches = []; rider = rider }
+new_pass slot stamp view rider =
+    record { slot = slot; stamp = stamp; held = view; touches = []; rider = rider }

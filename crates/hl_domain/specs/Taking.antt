@@ -20,4 +20,8 @@ ready_told (Err fault) = Err fault
 
 -- that of a take after A: the front, at the safe epoch
 abbrev pub taken_from : {F : Type 0} → KeeperState F → List Step → TakenFrom
-taken_from keeper A = record { origin = keeper.stamp; firing = record { ticket = front A; safe = safe_epoch keeper.core.sizes.slots A } }
+taken_from keeper A =
+    record {
+      origin = keeper.stamp;
+      firing = record { ticket = front A; safe = safe_epoch keeper.core.sizes.slots A };
+    }

@@ -13,7 +13,8 @@ view_past v _ = v
 unfoldable pub view_after : View → List Step → View
 view_after v xs = fold view_past v xs
 
--- what slot t may do where it sees the view v: look, not below the view, and write from its read-only offset up to its tail
+-- what slot t may do where it sees the view v: look, not below the view, and write from its read-only offset
+-- up to its tail
 abbrev pub IsTouch : ℕ → View → Step → Type 0
 IsTouch t v (Look u read_only head) = (u ≡ t) × (v.read_only ≤ read_only) × (v.head ≤ head)
 IsTouch t v (Write u a x) = (u ≡ t) × (v.read_only ≤ a) × (a < v.tail)

@@ -1,12 +1,11 @@
 //! The locked calls of which a job goes in or comes out.
 ghost use Rattle.std.specs.Prelude.{◌≡◌, ◌+◌, List, [], ◌∷◌, ◌++◌, OnErr, IfOk, IfErr, MatchResult};
-ghost use Rattle.hl_model.specs.declared.step.Step.{Step as STEP};
 ghost use Rattle.hl_model.specs.declared.step.Step.TheVariants.{Take as TAKE};
 ghost use Rattle.hl_model.specs.Actions.{bumps};
 ghost use Rattle.hl_core.specs.Steps.{asking, stored, CameOut};
-ghost use Rattle.hl_domain.specs.Passes.{with_share};
-ghost use Rattle.hl_domain.specs.Keepers.{KeeperStands, job_tag};
-ghost use Rattle.hl_domain.specs.Calls.{step_fault, made, told, Replied, Stays};
+ghost use Rattle.hl_domain.specs.Passes.{Shares};
+ghost use Rattle.hl_domain.specs.Keepers.{job_tag};
+ghost use Rattle.hl_domain.specs.Calls.{told, Makes, Stays};
 ghost use Rattle.hl_domain.specs.Taking.{taken_from, ready_told};
 
 use crate::call::note;
@@ -18,7 +17,8 @@ use hl_model::{Fault, Step, Tagged};
 use hl_words::{Realm, Rider, Words};
 
 impl<E: Epochs + Drop, F: Task, P: Promise, L: Realm> Keeper<E, F, P, L> {
-    /// Ends the current epoch, and stores what is asked for under it; the answer is the ticket, the epoch that ended.
+    /// Ends the current epoch, and stores what is asked for under it; the answer is the ticket, the epoch
+    /// that ended.
     ///
     /// Faults, with what was asked for handed back: `JournalFull`, `DrainFull`, `EpochsSpent`, `WindowFull`.
     pub fn bump(
@@ -27,15 +27,15 @@ impl<E: Epochs + Drop, F: Task, P: Promise, L: Realm> Keeper<E, F, P, L> {
         rider: &mut Rider<L>,
         ask: Ask<Kept<F, P>>,
     ) -> Result<u64, (Fault, Ask<Kept<F, P>>)>
-        ensures made { (A : List STEP) → KeeperStands self.old A → let step = asking job_tag ask
-            in let fault = step_fault self.old A step
-            in Replied fault (bumps (A ++ step ∷ [])) (made fault A step) self.new (told result) }
+        ensures made { Makes self.old (asking job_tag ask)
+            (λ A. bumps (A ++ asking job_tag ask ∷ [])) self.new (told result) }
         ensures refused { IfErr result (λ back. (back.1 ≡ ask) × (self.new ≡ self.old)) }
         ensures stays { Stays self.old self.new }
         ensures stamps { (self.new.stamps ≡ self.old.stamps) × (self.new.acquired ≡ self.old.acquired) }
         ensures jobs { let old = self.old.core
-            in IfOk result (λ ticket. self.new.core.drain.pending ≡ old.drain.pending ++ (ticket, stored old.offsets ask) ∷ []) }
-        ensures rider { MatchResult result (λ _. rider.new ≡ with_share 1 rider.old) (λ _. rider.new ≡ rider.old) }
+            in IfOk result (λ ticket.
+            self.new.core.drain.pending ≡ old.drain.pending ++ (ticket, stored old.offsets ask) ∷ []) }
+        ensures rider { Shares 1 result rider.old rider.new }
     {
         if let Err(fault) = self.room(1) {
             return Err((fault, ask));
@@ -50,18 +50,18 @@ impl<E: Epochs + Drop, F: Task, P: Promise, L: Realm> Keeper<E, F, P, L> {
         }
     }
 
-    /// Takes the oldest pending action, once its ticket is safe; the answer is ready to be run, under its ticket and
-    /// the safe epoch of now.
+    /// Takes the oldest pending action, once its ticket is safe; the answer is ready to be run, under its
+    /// ticket and the safe epoch of now.
     ///
     /// Faults: `JournalFull`, `Empty`, `NotReady`.
     pub fn take(&mut self, _words: &Words<L>, rider: &mut Rider<L>) -> Result<Ready<F, P>, Fault>
-        ensures made { (A : List STEP) → KeeperStands self.old A → let fault = step_fault self.old A TAKE
-            in Replied fault (taken_from self.old A) (made fault A TAKE) self.new (ready_told result) }
+        ensures made { Makes self.old TAKE (taken_from self.old) self.new (ready_told result) }
         ensures refused { OnErr result (self.new ≡ self.old) }
         ensures stays { Stays self.old self.new }
         ensures stamps { (self.new.stamps ≡ self.old.stamps) × (self.new.acquired ≡ self.old.acquired) }
-        ensures out { IfOk result (λ ready. CameOut job_tag self.old.core self.new.core ready.firing.ticket ready.kept) }
-        ensures rider { MatchResult result (λ _. rider.new ≡ with_share 1 rider.old) (λ _. rider.new ≡ rider.old) }
+        ensures out { IfOk result (λ ready.
+            CameOut job_tag self.old.core self.new.core ready.firing.ticket ready.kept) }
+        ensures rider { Shares 1 result rider.old rider.new }
     {
         self.room(1)?;
         let (firing, kept) = self.core.take()?;

@@ -21,7 +21,8 @@ const STEPS_MOST: u64 = 1 << 62;
 impl<E: Epochs + Drop, F: Task, P: Promise, L: Realm> Keeper<E, F, P, L> {
     /// Whether the pass is the one to which its slot belongs.
     pub(crate) fn known(&self, pass: &Pass<L>) -> Result<(), Fault>
-        ensures { (A : List STEP) → KeeperStands self.now A → result ≡ unless_fault (stranger_fault self.now A pass.now) tt }
+        ensures { (A : List STEP) → KeeperStands self.now A
+            → result ≡ unless_fault (stranger_fault self.now A pass.now) tt }
     {
         if self.is_known(pass) {
             Ok(())
@@ -34,7 +35,8 @@ impl<E: Epochs + Drop, F: Task, P: Promise, L: Realm> Keeper<E, F, P, L> {
 
     /// Whether it is, and saw no offset above the present one.
     pub(crate) fn known_behind(&self, pass: &Pass<L>) -> Result<(), Fault>
-        ensures { (A : List STEP) → KeeperStands self.now A → result ≡ unless_fault (ahead_fault self.now A pass.now) tt }
+        ensures { (A : List STEP) → KeeperStands self.now A
+            → result ≡ unless_fault (ahead_fault self.now A pass.now) tt }
     {
         self.known(pass)?;
         if self.is_behind(pass) {
@@ -46,12 +48,13 @@ impl<E: Epochs + Drop, F: Task, P: Promise, L: Realm> Keeper<E, F, P, L> {
         }
     }
 
-    /// Makes the touches of a pass that is known, and its own step behind them. The pass keeps its touches: its caller
-    /// rests it. Where it is refused nothing is changed.
+    /// Makes the touches of a pass that is known, and its own step behind them. The pass keeps its touches:
+    /// its caller rests it. Where it is refused nothing is changed.
     pub(crate) fn call(&mut self, pass: &mut Pass<L>, step: &Step) -> Result<Reply, Fault>
         requires kind { is_call step.now ≡ true }
         requires known { Knows self.old pass.old }
-        ensures made { (A : List STEP) → KeeperStands self.old A → Called self.old A pass.old step.now self.new result }
+        ensures made { (A : List STEP) → KeeperStands self.old A
+            → Called self.old A pass.old step.now self.new result }
         ensures refused { OnErr result (self.new ≡ self.old) }
         ensures stays { Stays self.old self.new }
         ensures jobs { self.new.core.drain.pending ≡ self.old.core.drain.pending }
@@ -122,7 +125,8 @@ impl<E: Epochs + Drop, F: Task, P: Promise, L: Realm> Keeper<E, F, P, L> {
     fn is_full_at(&self, count: u64) -> bool
         requires { count ≤ 33 }
         ensures { let kept = length self.now.journal
-            in result ≡ (nat_lt self.now.limit (kept + count) || nat_lt steps_most (self.now.cut + kept + count)) }
+            in let now = self.now
+            in result ≡ (nat_lt now.limit (kept + count) || nat_lt steps_most (now.cut + kept + count)) }
     {
         let kept = self.journal.len() as u64;
         self.limit < kept + count || STEPS_MOST < self.cut + kept + count

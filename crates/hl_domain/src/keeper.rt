@@ -11,9 +11,9 @@ use hl_words::{Master, Realm, Rider, Seed, Words};
 use std::alloc::Global;
 use std::marker::Model;
 
-/// What lies under a domain's one lock: a core over the table of epochs E with jobs F, the journal of the accepted steps,
-/// the base of those that were cut from it, each slot's stamp, and the right to store the offset words. The answers of
-/// its jobs keep the promise P.
+/// What lies under a domain's one lock: a core over the table of epochs E with jobs F, the journal of the
+/// accepted steps, the base of those that were cut from it, each slot's stamp, and the right to store the
+/// offset words. The answers of its jobs keep the promise P.
 pub struct Keeper<E: Epochs, F: Task, P: Promise, L: Realm> {
     pub(crate) core: Core<E, Kept<F, P>>,
     pub(crate) base: Base,
@@ -57,8 +57,8 @@ impl<E: Epochs + Drop, F: Task, P: Promise, L: Realm> Drop for Keeper<E, F, P, L
 }
 
 impl<E: Epochs + Drop, F: Task, P: Promise, L: Realm> Keeper<E, F, P, L> {
-    /// A keeper at the empty list, with its words and its riders. It may keep this many steps between two cuts, and the
-    /// stamp is its domain's. No other call takes memory.
+    /// A keeper at the empty list, with its words and its riders. It may keep this many steps between two
+    /// cuts, and the stamp is its domain's. No other call takes memory.
     ///
     /// `OutOfMemory` where memory was refused; then the seed is given up.
     pub fn open(
@@ -72,8 +72,10 @@ impl<E: Epochs + Drop, F: Task, P: Promise, L: Realm> Keeper<E, F, P, L> {
         requires stamp { stamp ≤ steps_most }
         ensures keeper { IfOk result (λ opened. KeeperStands opened.0 []) }
         ensures sizes { IfOk result (λ opened. opened.0.core.sizes ≡ seed.sizes) }
-        ensures limits { IfOk result (λ opened. (opened.0.limit ≡ journal) × (opened.0.stamp ≡ stamp) × (opened.0.acquired ≡ 0)) }
-        ensures words { IfOk result (λ opened. opened.1 ≡ record { cells = seed.sizes.frames * seed.sizes.page; riders = seed.riders }) }
+        ensures limit { IfOk result (λ opened. opened.0.limit ≡ journal) }
+        ensures stamp { IfOk result (λ opened. (opened.0.stamp ≡ stamp) × (opened.0.acquired ≡ 0)) }
+        ensures words { IfOk result (λ opened.
+            opened.1 ≡ record { cells = seed.sizes.frames * seed.sizes.page; riders = seed.riders }) }
         ensures riders { IfOk result (λ opened. opened.2.items ≡ replicate seed.riders new_rider) }
         ensures memory { IfErr result (λ fault. fault ≡ OutOfMemory) }
     {

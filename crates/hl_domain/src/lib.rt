@@ -1,38 +1,41 @@
 //! The keeper: what lies under the one lock of a domain, and what riders do beside it.
 //!
-//! After FASTER (Chandramouli, Prasaad, Kossmann, Levandoski, Hunter, Barnett, SIGMOD 2018): threads share the pages of its
-//! HybridLog under its epoch protection. Here the quantities stand in one [`Keeper`], which is to be put under a lock, and
-//! the words in `Words`, which need none.
+//! After FASTER (Chandramouli, Prasaad, Kossmann, Levandoski, Hunter, Barnett, SIGMOD 2018): threads share
+//! the pages of its HybridLog under its epoch protection. Here the quantities stand in one [`Keeper`], which
+//! is to be put under a lock, and the words in `Words`, which need none.
 //!
 //! # Who has what
 //!
 //! | Value | What it is |
 //! |---|---|
-//! | a [`Keeper`] | the core, the journal of the accepted steps, the base of those cut from it, the slots' stamps, the right to store the offset words |
-//! | a [`Pass`] | the right of a rider to act for the slot that it acquired, with its touches: its looks and stores since its last locked call |
+//! | a [`Keeper`] | the core, the journal, the base of the steps cut from it, the right to store offset words |
+//! | a [`Pass`] | the right to act for a slot, with its touches: looks and stores since its last locked call |
 //! | a [`Load`], a [`Broom`] | a page that was taken, to be flushed or to be cleaned; each must be spent |
 //!
 //! # Standing at a list
 //!
-//! A keeper stands at a list of accepted steps where its core does, the list is the steps that were cut and then its
-//! journal, its base is that of the steps cut, the offset words were last stored as the read-only offset and the head of
-//! the list, and the riders' steps in all are as many as the list has: `KeeperStands` in `specs/Keepers.antt`. Each keeper
-//! stands at some list: that is in its type. Each locked call says: at whatever list the keeper stood, the answer is the
-//! definitions' after that list and the pass's touches, and the keeper then stands at the list with both, where it was
-//! accepted. A refused call changes nothing, and what was handed in comes back.
+//! A keeper stands at a list of accepted steps where its core does, the list is the steps that were cut and
+//! then its journal, its base is that of the steps cut, the offset words were last stored as the read-only
+//! offset and the head of the list, and the riders' steps in all are as many as the list has: `KeeperStands`
+//! in `specs/Keepers.antt`. Each keeper stands at some list: that is in its type. Each locked call says: at
+//! whatever list the keeper stood, the answer is the definitions' after that list and the pass's touches, and
+//! the keeper then stands at the list with both, where it was accepted. A refused call changes nothing, and
+//! what was handed in comes back.
 //!
 //! # The order of the faults
 //!
-//! First `Stranger`: a pass whose stamp or held view isn't the slot's, or, in a refresh, that saw an offset above the
-//! present one; a page or an action of another domain. Then `JournalFull`. Then the core's, in their order.
+//! First `Stranger`: a pass whose stamp or held view isn't the slot's, or, in a refresh, that saw an offset
+//! above the present one; a page or an action of another domain. Then `JournalFull`. Then the core's, in
+//! their order.
 //!
 //! # Touches
 //!
-//! A look and a store need no lock. They are lawful in the pass's own view, and enter the journal, in their order, before
-//! the step of the pass's next locked call: what the slot's view allows is accepted there, whatever others did since. So
-//! touches never refuse a call.
+//! A look and a store need no lock. They are lawful in the pass's own view, and enter the journal, in their
+//! order, before the step of the pass's next locked call: what the slot's view allows is accepted there,
+//! whatever others did since. So touches never refuse a call.
 //!
-//! No call after [`Keeper::open`] takes memory: the journal and the row of stamps never grow, which is in the type too.
+//! No call after [`Keeper::open`] takes memory: the journal and the row of stamps never grow, which is in the
+//! type too.
 #![tactic(auto)]
 
 mod actions;

@@ -12,7 +12,8 @@ pub struct PageJob {
     pub page: u64,
 }
 
-/// A page that was taken to be flushed. Only a keeper makes one. It must be spent: by `flush_done`, or by `forsake`.
+/// A page that was taken to be flushed. Only a keeper makes one. It must be spent: by `flush_done`, or by
+/// `forsake`.
 pub struct Load {
     job: PageJob,
 }
@@ -45,8 +46,8 @@ impl Load {
     }
 }
 
-/// A page that was taken to be cleaned, with the number of its cells into which 0 was stored. Only a keeper makes one.
-/// It must be spent: by `clean_done`, once it is swept, or by `forsake`.
+/// A page that was taken to be cleaned, with the number of its cells into which 0 was stored. Only a keeper
+/// makes one. It must be spent: by `clean_done`, once it is swept, or by `forsake`.
 pub struct Broom {
     stamp: u64,
     page: u64,

@@ -7,16 +7,22 @@ use crate::pass::{Pass, TOUCHES_MOST};
 use hl_model::{Fault, Params, Step, View, cell_of};
 use hl_words::{Realm, Which, Words};
 
-/// Looks at both offset words: each of the pass's two offsets becomes the greater of the loaded and its own. A look
-/// that raises neither is no touch.
+/// Looks at both offset words: each of the pass's two offsets becomes the greater of the loaded and its own.
+/// A look that raises neither is no touch.
 ///
 /// `TouchesFull` where the pass has 32 touches; then nothing is loaded.
 pub(crate) fn look<L: Realm>(words: &Words<L>, pass: &mut Pass<L>) -> Result<View, Fault>
     ensures answer { result ≡ unless_fault (touch_fault pass.old) (seen pass.new) }
     ensures pass { let new = pass.new
-        in new ≡ unless_refused (touch_fault pass.old) pass.old (with_look (last_read_only new) (last_head new) pass.old) }
+        in let old = pass.old
+        in new ≡ unless_refused (touch_fault old) old (with_look (last_read_only new) (last_head new) old) }
     ensures raised { let old = seen pass.old
-        in IfOk result (λ view. view ≡ record { read_only = max old.read_only (last_read_only pass.new); head = max old.head (last_head pass.new); tail = old.tail }) }
+        in let new = pass.new
+        in IfOk result (λ view. view ≡ record {
+          read_only = max old.read_only (last_read_only new);
+          head = max old.head (last_head new);
+          tail = old.tail;
+        }) }
 {
     pass.may_touch()?;
     let seen = pass.view;
@@ -41,8 +47,8 @@ pub(crate) fn look<L: Realm>(words: &Words<L>, pass: &mut Pass<L>) -> Result<Vie
 
 /// Stores a word at an address of the log.
 ///
-/// Faults: `Below` where the address is below the read-only offset that the pass saw, `Beyond` where it isn't below
-/// the tail that it saw, `TouchesFull` where it has 32 touches.
+/// Faults: `Below` where the address is below the read-only offset that the pass saw, `Beyond` where it isn't
+/// below the tail that it saw, `TouchesFull` where it has 32 touches.
 pub(crate) fn store<L: Realm>(
     words: &Words<L>,
     params: Params,
@@ -52,7 +58,8 @@ pub(crate) fn store<L: Realm>(
 ) -> Result<(), Fault>
     requires { words.now.cells ≡ params.frames * params.page }
     ensures answer { result ≡ unless_fault (store_fault pass.old a) tt }
-    ensures pass { pass.new ≡ unless_refused (store_fault pass.old a) pass.old (with_store params a v pass.old) }
+    ensures pass { let old = pass.old
+        in pass.new ≡ unless_refused (store_fault old a) old (with_store params a v old) }
 {
     pass.may_store(a)?;
     let cell = cell_of(params, a);
@@ -63,8 +70,8 @@ pub(crate) fn store<L: Realm>(
 
 /// Loads the word at an address of the log. It is no touch: no step of the journal tells it.
 ///
-/// Faults: `Evicted` where the address is below the head that the pass saw, `Beyond` where it isn't below the tail
-/// that it saw.
+/// Faults: `Evicted` where the address is below the head that the pass saw, `Beyond` where it isn't below the
+/// tail that it saw.
 pub(crate) fn load<L: Realm>(
     words: &Words<L>,
     params: Params,
@@ -72,8 +79,10 @@ pub(crate) fn load<L: Realm>(
     a: u64,
 ) -> Result<u64, Fault>
     requires { words.now.cells ≡ params.frames * params.page }
-    ensures answer { MatchResult result (λ _. load_fault pass.old a ≡ None) (λ fault. load_fault pass.old a ≡ Some fault) }
-    ensures pass { MatchResult result (λ v. pass.new ≡ with_load params a v pass.old) (λ _. pass.new ≡ pass.old) }
+    ensures answer { let met = load_fault pass.old a
+        in MatchResult result (λ _. met ≡ None) (λ fault. met ≡ Some fault) }
+    ensures pass { let old = pass.old
+        in MatchResult result (λ v. pass.new ≡ with_load params a v old) (λ _. pass.new ≡ old) }
 {
     pass.may_load(a)?;
     let cell = cell_of(params, a);

@@ -1,11 +1,9 @@
 //! The locked calls that move an offset, and with it its word.
 ghost use Rattle.std.specs.Prelude.{◌≡◌, List, [], ◌∷◌, ◌++◌, OnErr, IfOk, MatchResult};
-ghost use Rattle.hl_model.specs.declared.step.Step.{Step as STEP};
 ghost use Rattle.hl_model.specs.declared.step.Step.TheVariants.{Raise as RAISE, Shift as SHIFT};
 ghost use Rattle.hl_model.specs.Offsets.{read_only, head};
-ghost use Rattle.hl_domain.specs.Passes.{with_share};
-ghost use Rattle.hl_domain.specs.Keepers.{KeeperStands};
-ghost use Rattle.hl_domain.specs.Calls.{step_fault, made, Replied, Stays};
+ghost use Rattle.hl_domain.specs.Passes.{Shares};
+ghost use Rattle.hl_domain.specs.Calls.{Makes, Stays};
 
 use crate::call::note;
 use crate::keeper::Keeper;
@@ -19,13 +17,13 @@ impl<E: Epochs + Drop, F: Task, P: Promise, L: Realm> Keeper<E, F, P, L> {
     ///
     /// Faults: `JournalFull`, `NotAbove`, `AboveTail`.
     pub fn raise(&mut self, words: &Words<L>, rider: &mut Rider<L>, x: u64) -> Result<u64, Fault>
-        ensures made { (A : List STEP) → KeeperStands self.old A → let fault = step_fault self.old A (RAISE x)
-            in Replied fault (read_only (A ++ RAISE x ∷ [])) (made fault A (RAISE x)) self.new result }
+        ensures made { Makes self.old (RAISE x)
+            (λ A. read_only (A ++ RAISE x ∷ [])) self.new result }
         ensures refused { OnErr result (self.new ≡ self.old) }
         ensures stays { Stays self.old self.new }
         ensures stamps { (self.new.stamps ≡ self.old.stamps) × (self.new.acquired ≡ self.old.acquired) }
         ensures jobs { self.new.core.drain.pending ≡ self.old.core.drain.pending }
-        ensures rider { MatchResult result (λ _. rider.new ≡ with_share 1 rider.old) (λ _. rider.new ≡ rider.old) }
+        ensures rider { Shares 1 result rider.old rider.new }
         ensures same { IfOk result (λ raised. raised ≡ x) }
     {
         self.room(1)?;
@@ -40,13 +38,13 @@ impl<E: Epochs + Drop, F: Task, P: Promise, L: Realm> Keeper<E, F, P, L> {
     ///
     /// Faults: `JournalFull`, `NotAbove`, `NotPage`, `AboveFlushed`.
     pub fn shift(&mut self, words: &Words<L>, rider: &mut Rider<L>, x: u64) -> Result<u64, Fault>
-        ensures made { (A : List STEP) → KeeperStands self.old A → let fault = step_fault self.old A (SHIFT x)
-            in Replied fault (head (A ++ SHIFT x ∷ [])) (made fault A (SHIFT x)) self.new result }
+        ensures made { Makes self.old (SHIFT x)
+            (λ A. head (A ++ SHIFT x ∷ [])) self.new result }
         ensures refused { OnErr result (self.new ≡ self.old) }
         ensures stays { Stays self.old self.new }
         ensures stamps { (self.new.stamps ≡ self.old.stamps) × (self.new.acquired ≡ self.old.acquired) }
         ensures jobs { self.new.core.drain.pending ≡ self.old.core.drain.pending }
-        ensures rider { MatchResult result (λ _. rider.new ≡ with_share 1 rider.old) (λ _. rider.new ≡ rider.old) }
+        ensures rider { Shares 1 result rider.old rider.new }
         ensures same { IfOk result (λ shifted. shifted ≡ x) }
     {
         self.room(1)?;

@@ -1,12 +1,10 @@
 //! The locked calls about pages, and the done of an action.
 ghost use Rattle.std.specs.Prelude.{◌≡◌, List, [], ◌∷◌, ◌++◌, OnErr, IfErr, MatchResult, Bool};
-ghost use Rattle.hl_model.specs.declared.step.Step.{Step as STEP};
 ghost use Rattle.hl_model.specs.declared.step.Step.TheVariants.{Done as DONE, FlushTake as FLUSH_TAKE, FlushDone as FLUSH_DONE, CleanTake as CLEAN_TAKE, CleanDone as CLEAN_DONE};
 ghost use Rattle.hl_model.specs.Pages.{flushed};
 ghost use Rattle.hl_model.specs.Replies.{answer_of};
-ghost use Rattle.hl_domain.specs.Passes.{with_share};
-ghost use Rattle.hl_domain.specs.Keepers.{KeeperStands};
-ghost use Rattle.hl_domain.specs.Calls.{step_fault, end_fault, made, told, Replied, Stays};
+ghost use Rattle.hl_domain.specs.Passes.{Shares};
+ghost use Rattle.hl_domain.specs.Calls.{told, Makes, Ends, Stays};
 ghost use Rattle.hl_domain.specs.Pages.{to_flush, to_clean};
 
 use crate::keeper::Keeper;
@@ -21,13 +19,13 @@ impl<E: Epochs + Drop, F: Task, P: Promise, L: Realm> Keeper<E, F, P, L> {
     ///
     /// Faults: `JournalFull`, `NoneSealed`.
     pub fn flush_take(&mut self, _words: &Words<L>, rider: &mut Rider<L>) -> Result<Load, Fault>
-        ensures made { (A : List STEP) → KeeperStands self.old A → let fault = step_fault self.old A FLUSH_TAKE
-            in Replied fault (to_flush self.old.core.sizes self.old.stamp A) (made fault A FLUSH_TAKE) self.new result }
+        ensures made { Makes self.old FLUSH_TAKE
+            (λ A. to_flush self.old.core.sizes self.old.stamp A) self.new result }
         ensures refused { OnErr result (self.new ≡ self.old) }
         ensures stays { Stays self.old self.new }
         ensures stamps { (self.new.stamps ≡ self.old.stamps) × (self.new.acquired ≡ self.old.acquired) }
         ensures jobs { self.new.core.drain.pending ≡ self.old.core.drain.pending }
-        ensures rider { MatchResult result (λ _. rider.new ≡ with_share 1 rider.old) (λ _. rider.new ≡ rider.old) }
+        ensures rider { Shares 1 result rider.old rider.new }
     {
         match self.one(rider, &Step::FlushTake)? {
             Reply::Page(page) => Ok(Load::of(PageJob {
@@ -40,7 +38,8 @@ impl<E: Epochs + Drop, F: Task, P: Promise, L: Realm> Keeper<E, F, P, L> {
 
     /// The flush of a page ended, well or not; the answer is the flushed offset.
     ///
-    /// Faults, with the load handed back: `Stranger` where it is of another domain, `JournalFull`, `NotInFlight`.
+    /// Faults, with the load handed back: `Stranger` where it is of another domain, `JournalFull`,
+    /// `NotInFlight`.
     pub fn flush_done(
         &mut self,
         _words: &Words<L>,
@@ -48,14 +47,13 @@ impl<E: Epochs + Drop, F: Task, P: Promise, L: Realm> Keeper<E, F, P, L> {
         load: Load,
         ok: bool,
     ) -> Result<u64, (Fault, Load)>
-        ensures made { (A : List STEP) → KeeperStands self.old A → let step = FLUSH_DONE load.page ok
-            in let fault = end_fault self.old A load.stamp step
-            in Replied fault (flushed self.old.core.sizes (A ++ step ∷ [])) (made fault A step) self.new (told result) }
+        ensures made { Ends self.old load.stamp (FLUSH_DONE load.page ok)
+            (λ A. flushed self.old.core.sizes (A ++ FLUSH_DONE load.page ok ∷ [])) self.new (told result) }
         ensures refused { IfErr result (λ back. (back.1 ≡ load) × (self.new ≡ self.old)) }
         ensures stays { Stays self.old self.new }
         ensures stamps { (self.new.stamps ≡ self.old.stamps) × (self.new.acquired ≡ self.old.acquired) }
         ensures jobs { self.new.core.drain.pending ≡ self.old.core.drain.pending }
-        ensures rider { MatchResult result (λ _. rider.new ≡ with_share 1 rider.old) (λ _. rider.new ≡ rider.old) }
+        ensures rider { Shares 1 result rider.old rider.new }
     {
         let PageJob { stamp, page } = load.job();
         if let Err(fault) = self.own(stamp) {
@@ -76,13 +74,13 @@ impl<E: Epochs + Drop, F: Task, P: Promise, L: Realm> Keeper<E, F, P, L> {
     ///
     /// Faults: `JournalFull`, `NoneClosed`.
     pub fn clean_take(&mut self, _words: &Words<L>, rider: &mut Rider<L>) -> Result<Broom, Fault>
-        ensures made { (A : List STEP) → KeeperStands self.old A → let fault = step_fault self.old A CLEAN_TAKE
-            in Replied fault (to_clean self.old.core.sizes self.old.stamp A) (made fault A CLEAN_TAKE) self.new result }
+        ensures made { Makes self.old CLEAN_TAKE
+            (λ A. to_clean self.old.core.sizes self.old.stamp A) self.new result }
         ensures refused { OnErr result (self.new ≡ self.old) }
         ensures stays { Stays self.old self.new }
         ensures stamps { (self.new.stamps ≡ self.old.stamps) × (self.new.acquired ≡ self.old.acquired) }
         ensures jobs { self.new.core.drain.pending ≡ self.old.core.drain.pending }
-        ensures rider { MatchResult result (λ _. rider.new ≡ with_share 1 rider.old) (λ _. rider.new ≡ rider.old) }
+        ensures rider { Shares 1 result rider.old rider.new }
     {
         match self.one(rider, &Step::CleanTake)? {
             Reply::Page(page) => Ok(Broom::of(PageJob {
@@ -93,10 +91,11 @@ impl<E: Epochs + Drop, F: Task, P: Promise, L: Realm> Keeper<E, F, P, L> {
         }
     }
 
-    /// The cells of a page hold 0: its frame is free. The broom is swept: 0 was stored into all P cells. The answer is
-    /// the page.
+    /// The cells of a page hold 0: its frame is free. The broom is swept: 0 was stored into all P cells. The
+    /// answer is the page.
     ///
-    /// Faults, with the broom handed back: `Stranger` where it is of another domain, `JournalFull`, `NotCleaning`.
+    /// Faults, with the broom handed back: `Stranger` where it is of another domain, `JournalFull`,
+    /// `NotCleaning`.
     pub fn clean_done(
         &mut self,
         _words: &Words<L>,
@@ -104,14 +103,13 @@ impl<E: Epochs + Drop, F: Task, P: Promise, L: Realm> Keeper<E, F, P, L> {
         broom: Broom,
     ) -> Result<u64, (Fault, Broom)>
         requires { broom.swept ≡ self.old.core.sizes.page }
-        ensures made { (A : List STEP) → KeeperStands self.old A → let step = CLEAN_DONE broom.page
-            in let fault = end_fault self.old A broom.stamp step
-            in Replied fault broom.page (made fault A step) self.new (told result) }
+        ensures made { Ends self.old broom.stamp (CLEAN_DONE broom.page)
+            (λ A. broom.page) self.new (told result) }
         ensures refused { IfErr result (λ back. (back.1 ≡ broom) × (self.new ≡ self.old)) }
         ensures stays { Stays self.old self.new }
         ensures stamps { (self.new.stamps ≡ self.old.stamps) × (self.new.acquired ≡ self.old.acquired) }
         ensures jobs { self.new.core.drain.pending ≡ self.old.core.drain.pending }
-        ensures rider { MatchResult result (λ _. rider.new ≡ with_share 1 rider.old) (λ _. rider.new ≡ rider.old) }
+        ensures rider { Shares 1 result rider.old rider.new }
     {
         let page = broom.page();
         if let Err(fault) = self.own(broom.stamp()) {
@@ -126,8 +124,8 @@ impl<E: Epochs + Drop, F: Task, P: Promise, L: Realm> Keeper<E, F, P, L> {
         }
     }
 
-    /// A taken action that was run is done. A settle and a close raise their offset to what they stored; of a job the
-    /// answer tells the tag, and what the job answered is in the `Ran`.
+    /// A taken action that was run is done. A settle and a close raise their offset to what they stored; of a
+    /// job the answer tells the tag, and what the job answered is in the `Ran`.
     ///
     /// Faults, with it handed back: `Stranger` where it is of another domain, `JournalFull`, `NotTaken`.
     pub fn done(
@@ -136,14 +134,14 @@ impl<E: Epochs + Drop, F: Task, P: Promise, L: Realm> Keeper<E, F, P, L> {
         rider: &mut Rider<L>,
         ran: Ran,
     ) -> Result<Reply, (Fault, Ran)>
-        ensures made { (A : List STEP) → KeeperStands self.old A → let step = DONE ran.ticket
-            in let fault = end_fault self.old A ran.origin step
-            in Replied fault (answer_of self.old.core.sizes A (A ++ step ∷ []) step) (made fault A step) self.new (told result) }
+        ensures made { let step = DONE ran.ticket
+            in Ends self.old ran.origin step
+            (λ A. answer_of self.old.core.sizes A (A ++ step ∷ []) step) self.new (told result) }
         ensures refused { IfErr result (λ back. (back.1 ≡ ran) × (self.new ≡ self.old)) }
         ensures stays { Stays self.old self.new }
         ensures stamps { (self.new.stamps ≡ self.old.stamps) × (self.new.acquired ≡ self.old.acquired) }
         ensures jobs { self.new.core.drain.pending ≡ self.old.core.drain.pending }
-        ensures rider { MatchResult result (λ _. rider.new ≡ with_share 1 rider.old) (λ _. rider.new ≡ rider.old) }
+        ensures rider { Shares 1 result rider.old rider.new }
     {
         let ticket = ran.ticket();
         if let Err(fault) = self.own(ran.origin()) {

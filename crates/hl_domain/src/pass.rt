@@ -9,8 +9,8 @@ use std::marker::Model;
 /// How many touches a pass can have.
 pub(crate) const TOUCHES_MOST: usize = 32;
 
-/// The right of a rider to act for the slot that it acquired: to look at the offsets, and to store and load words, with
-/// no lock. What it did since its last locked call, its touches, enters the journal at the next.
+/// The right of a rider to act for the slot that it acquired: to look at the offsets, and to store and load
+/// words, with no lock. What it did since its last locked call, its touches, enters the journal at the next.
 #[derive(Drop)]
 pub struct Pass<L: Realm> {
     pub(crate) slot: u64,
@@ -51,7 +51,9 @@ impl<L: Realm> Pass<L> {
 
     /// Puts this view in place of its own, and forgets its touches, which have entered the journal.
     pub(crate) fn rest(&mut self, view: View)
-        ensures { let old = self.old in self.new ≡ record { slot = old.slot; stamp = old.stamp; held = view; touches = []; rider = old.rider } }
+        ensures { let old = self.old
+            in self.new
+            ≡ record { slot = old.slot; stamp = old.stamp; held = view; touches = []; rider = old.rider } }
     {
         self.held = view;
         self.view = view;
@@ -72,8 +74,8 @@ impl<L: Realm> Pass<L> {
         &self.rider
     }
 
-    /// Gives the rider back without a release: the slot stays protected for good, and its touches never enter the
-    /// journal.
+    /// Gives the rider back without a release: the slot stays protected for good, and its touches never enter
+    /// the journal.
     pub fn abandon(self) -> Rider<L>
         ensures { result ≡ self.rider }
     {

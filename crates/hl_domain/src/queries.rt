@@ -26,7 +26,8 @@ impl<E: Epochs, F: Task, P: Promise, L: Realm> Keeper<E, F, P, L> {
 
     /// All quantities, the number of steps since the last cut, and the number of steps cut in all.
     pub fn snapshot(&self) -> (Snapshot, u64, u64)
-        ensures quantities { (A : List STEP) → KeeperStands self.now A → result.0 ≡ snapshot_of self.now.core.sizes A }
+        ensures quantities { (A : List STEP) → KeeperStands self.now A
+            → result.0 ≡ snapshot_of self.now.core.sizes A }
         ensures steps { result.1 ≡ length self.now.journal }
         ensures cut { result.2 ≡ self.now.cut }
     {

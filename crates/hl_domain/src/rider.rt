@@ -1,14 +1,13 @@
 //! The locked calls of a rider that touch no page and no slot.
 ghost use Rattle.std.specs.Prelude.{◌≡◌, true, List, [], ◌∷◌, ◌++◌, OnErr, MatchResult};
-ghost use Rattle.hl_model.specs.declared.step.Step.{Step as STEP};
 ghost use Rattle.hl_model.specs.declared.step.Step.TheVariants.{Bare as BARE};
 ghost use Rattle.hl_model.specs.Actions.{bumps};
 ghost use Rattle.hl_model.specs.Offsets.{raised_to, shifted_to};
 ghost use Rattle.hl_model.specs.Replies.{answer_of};
 ghost use Rattle.hl_core.specs.Steps.{is_acted};
-ghost use Rattle.hl_domain.specs.Passes.{with_share};
-ghost use Rattle.hl_domain.specs.Keepers.{KeeperStands, IsKeeper};
-ghost use Rattle.hl_domain.specs.Calls.{step_fault, made, Replied, Stays};
+ghost use Rattle.hl_domain.specs.Passes.{Shares};
+ghost use Rattle.hl_domain.specs.Keepers.{IsKeeper};
+ghost use Rattle.hl_domain.specs.Calls.{Makes, Stays};
 
 use crate::call::note;
 use crate::keeper::Keeper;
@@ -22,13 +21,13 @@ impl<E: Epochs + Drop, F: Task, P: Promise, L: Realm> Keeper<E, F, P, L> {
     pub(crate) fn one(&mut self, rider: &mut Rider<L>, step: &Step) -> Result<Reply, Fault>
         requires acted { is_acted step.now ≡ true }
         requires quiet { (raised_to step.now ≡ 0) × (shifted_to step.now ≡ 0) }
-        ensures made { (A : List STEP) → KeeperStands self.old A → let fault = step_fault self.old A step.now
-            in Replied fault (answer_of self.old.core.sizes A (A ++ step.now ∷ []) step.now) (made fault A step.now) self.new result }
+        ensures made { Makes self.old step.now
+            (λ A. answer_of self.old.core.sizes A (A ++ step.now ∷ []) step.now) self.new result }
         ensures refused { OnErr result (self.new ≡ self.old) }
         ensures stays { Stays self.old self.new }
         ensures jobs { self.new.core.drain.pending ≡ self.old.core.drain.pending }
         ensures stamps { (self.new.stamps ≡ self.old.stamps) × (self.new.acquired ≡ self.old.acquired) }
-        ensures rider { MatchResult result (λ _. rider.new ≡ with_share 1 rider.old) (λ _. rider.new ≡ rider.old) }
+        ensures rider { Shares 1 result rider.old rider.new }
         ensures stood { IsKeeper self.old }
     {
         self.room(1)?;
@@ -41,13 +40,13 @@ impl<E: Epochs + Drop, F: Task, P: Promise, L: Realm> Keeper<E, F, P, L> {
     ///
     /// Faults: `JournalFull`, `EpochsSpent`, `WindowFull`.
     pub fn bare(&mut self, _words: &Words<L>, rider: &mut Rider<L>) -> Result<u64, Fault>
-        ensures made { (A : List STEP) → KeeperStands self.old A → let fault = step_fault self.old A BARE
-            in Replied fault (bumps (A ++ BARE ∷ [])) (made fault A BARE) self.new result }
+        ensures made { Makes self.old BARE
+            (λ A. bumps (A ++ BARE ∷ [])) self.new result }
         ensures refused { OnErr result (self.new ≡ self.old) }
         ensures stays { Stays self.old self.new }
         ensures stamps { (self.new.stamps ≡ self.old.stamps) × (self.new.acquired ≡ self.old.acquired) }
         ensures jobs { self.new.core.drain.pending ≡ self.old.core.drain.pending }
-        ensures rider { MatchResult result (λ _. rider.new ≡ with_share 1 rider.old) (λ _. rider.new ≡ rider.old) }
+        ensures rider { Shares 1 result rider.old rider.new }
     {
         match self.one(rider, &Step::Bare)? {
             Reply::Bumped(ended) => Ok(ended),

@@ -1,12 +1,10 @@
 //! The locked calls of a pass, and the acquire that makes one.
 ghost use Rattle.std.specs.Prelude.{◌≡◌, ◌+◌, ◌-◌, ◌/◌, ◌≤◌, List, [], ◌∷◌, ◌++◌, slice_set, length, OnErr, OnOk, IfOk, IfErr, MatchResult};
-ghost use Rattle.hl_model.specs.declared.step.Step.{Step as STEP};
 ghost use Rattle.hl_model.specs.declared.step.Step.TheVariants.{Acquire as ACQUIRE, Refresh as REFRESH, Release as RELEASE, Allocate as ALLOCATE};
 ghost use Rattle.hl_model.specs.Offsets.{place_of, tail};
 ghost use Rattle.hl_model.specs.Views.{view_of};
 ghost use Rattle.hl_domain.specs.Passes.{seen, rested, with_share, new_pass, with_tail};
-ghost use Rattle.hl_domain.specs.Keepers.{KeeperStands};
-ghost use Rattle.hl_domain.specs.Calls.{step_fault, call_fault, refresh_fault, entered, made, touched_list, told, Replied, Stays, IsUpTo};
+ghost use Rattle.hl_domain.specs.Calls.{call_fault, refresh_fault, touched_list, told, Makes, MakesTouched, Stays, IsUpTo};
 
 use crate::keeper::Keeper;
 use crate::pass::Pass;
@@ -16,19 +14,22 @@ use hl_model::{Fault, Reply, Step, View};
 use hl_words::{Realm, Rider, Words};
 
 impl<E: Epochs + Drop, F: Task, P: Promise, L: Realm> Keeper<E, F, P, L> {
-    /// The slot of a pass moves on: its epoch and its view are those of now. The answer is the view, and isn't below what
-    /// the pass saw.
+    /// The slot of a pass moves on: its epoch and its view are those of now. The answer is the view, and
+    /// isn't below what the pass saw.
     ///
     /// Faults: `Stranger` where the slot isn't the pass's, or the pass saw an offset above the present one;
     /// `JournalFull`.
     pub fn refresh(&mut self, _words: &Words<L>, pass: &mut Pass<L>) -> Result<View, Fault>
-        ensures made { (A : List STEP) → KeeperStands self.old A → let p = pass.old in let fault = refresh_fault self.old A p
-            in Replied fault (view_of self.old.core.sizes p.slot (touched_list A p (REFRESH p.slot))) (entered fault A p.touches (REFRESH p.slot)) self.new result }
+        ensures made { let old = self.old
+            in let p = pass.old
+            in MakesTouched old p (REFRESH p.slot) (λ A. refresh_fault old A p)
+            (λ A. view_of old.core.sizes p.slot (touched_list A p (REFRESH p.slot))) self.new result }
         ensures refused { OnErr result (self.new ≡ self.old) }
         ensures stays { Stays self.old self.new }
         ensures stamps { (self.new.stamps ≡ self.old.stamps) × (self.new.acquired ≡ self.old.acquired) }
         ensures jobs { self.new.core.drain.pending ≡ self.old.core.drain.pending }
-        ensures pass { MatchResult result (λ view. pass.new ≡ rested view pass.old) (λ _. pass.new ≡ pass.old) }
+        ensures pass { let old = pass.old
+            in MatchResult result (λ view. pass.new ≡ rested view old) (λ _. pass.new ≡ old) }
         ensures fresh { IfOk result (IsUpTo (seen pass.old)) }
     {
         self.known_behind(pass)?;
@@ -50,8 +51,9 @@ impl<E: Epochs + Drop, F: Task, P: Promise, L: Realm> Keeper<E, F, P, L> {
         _words: &Words<L>,
         pass: Pass<L>,
     ) -> Result<Rider<L>, (Fault, Pass<L>)>
-        ensures made { (A : List STEP) → KeeperStands self.old A → let fault = call_fault self.old A pass (RELEASE pass.slot)
-            in Replied fault (with_share (length pass.touches + 1) pass.rider) (entered fault A pass.touches (RELEASE pass.slot)) self.new (told result) }
+        ensures made { let step = RELEASE pass.slot
+            in MakesTouched self.old pass step (λ A. call_fault self.old A pass step)
+            (λ A. with_share (length pass.touches + 1) pass.rider) self.new (told result) }
         ensures refused { IfErr result (λ back. (back.1 ≡ pass) × (self.new ≡ self.old)) }
         ensures stays { Stays self.old self.new }
         ensures stamps { (self.new.stamps ≡ self.old.stamps) × (self.new.acquired ≡ self.old.acquired) }
@@ -68,22 +70,27 @@ impl<E: Epochs + Drop, F: Task, P: Promise, L: Realm> Keeper<E, F, P, L> {
         }
     }
 
-    /// Places a record of n words for the slot of a pass; the answer is the address of its first word. It is on one
-    /// page, and not below the tail that the pass saw. The pass then sees the record's end as its tail.
+    /// Places a record of n words for the slot of a pass; the answer is the address of its first word. It is
+    /// on one page, and not below the tail that the pass saw. The pass then sees the record's end as its
+    /// tail.
     ///
     /// Faults: `Stranger` where the slot isn't the pass's, `JournalFull`, `Size`, `SpaceSpent`, `Busy`.
     pub fn allocate(&mut self, _words: &Words<L>, pass: &mut Pass<L>, n: u64) -> Result<u64, Fault>
-        ensures made { (A : List STEP) → KeeperStands self.old A → let p = pass.old in let step = ALLOCATE p.slot n
-            in let fault = call_fault self.old A p step
-            in let sizes = self.old.core.sizes
-            in Replied fault (place_of sizes.page (tail sizes (A ++ p.touches)) n) (entered fault A p.touches step) self.new result }
+        ensures made { let sizes = self.old.core.sizes
+            in let p = pass.old
+            in MakesTouched self.old p (ALLOCATE p.slot n) (λ A. call_fault self.old A p (ALLOCATE p.slot n))
+            (λ A. place_of sizes.page (tail sizes (A ++ p.touches)) n) self.new result }
         ensures refused { OnErr result (self.new ≡ self.old) }
         ensures stays { Stays self.old self.new }
         ensures stamps { (self.new.stamps ≡ self.old.stamps) × (self.new.acquired ≡ self.old.acquired) }
         ensures jobs { self.new.core.drain.pending ≡ self.old.core.drain.pending }
-        ensures pass { MatchResult result (λ a. pass.new ≡ rested (with_tail (a + n) (seen pass.old)) pass.old) (λ _. pass.new ≡ pass.old) }
+        ensures pass { let old = pass.old
+            in MatchResult result
+            (λ a. pass.new ≡ rested (with_tail (a + n) (seen old)) old)
+            (λ _. pass.new ≡ old) }
         ensures above { IfOk result (λ a. (seen pass.old).tail ≤ a) }
-        ensures one_page { let page = self.old.core.sizes.page in IfOk result (λ a. a / page ≡ (a + n - 1) / page) }
+        ensures one_page { let page = self.old.core.sizes.page
+            in IfOk result (λ a. a / page ≡ (a + n - 1) / page) }
     {
         self.known(pass)?;
         let seen = pass.view;
@@ -100,8 +107,8 @@ impl<E: Epochs + Drop, F: Task, P: Promise, L: Realm> Keeper<E, F, P, L> {
         }
     }
 
-    /// A slot becomes protected, at the current epoch, and sees the offsets as they are; the answer is the pass of the
-    /// rider. The k-th accepted acquire stamps it with the domain's stamp and k.
+    /// A slot becomes protected, at the current epoch, and sees the offsets as they are; the answer is the
+    /// pass of the rider. The k-th accepted acquire stamps it with the domain's stamp and k.
     ///
     /// Faults, with the rider handed back: `JournalFull`, `NoSlot`, `Occupied`.
     pub fn acquire(
@@ -110,13 +117,17 @@ impl<E: Epochs + Drop, F: Task, P: Promise, L: Realm> Keeper<E, F, P, L> {
         t: u64,
         rider: Rider<L>,
     ) -> Result<Pass<L>, (Fault, Rider<L>)>
-        ensures made { (A : List STEP) → KeeperStands self.old A → let fault = step_fault self.old A (ACQUIRE t)
-            in let view = view_of self.old.core.sizes t (A ++ ACQUIRE t ∷ [])
-            in Replied fault (new_pass t (self.old.stamp + self.old.acquired + 1) view (with_share 1 rider)) (made fault A (ACQUIRE t)) self.new (told result) }
+        ensures made { let old = self.old
+            in let stamp = old.stamp + old.acquired + 1
+            in Makes old (ACQUIRE t)
+            (λ A. new_pass t stamp (view_of old.core.sizes t (A ++ ACQUIRE t ∷ [])) (with_share 1 rider))
+            self.new (told result) }
         ensures refused { IfErr result (λ back. (back.1 ≡ rider) × (self.new ≡ self.old)) }
         ensures stays { Stays self.old self.new }
         ensures jobs { self.new.core.drain.pending ≡ self.old.core.drain.pending }
-        ensures stamped { OnOk result ((self.new.acquired ≡ self.old.acquired + 1) × (self.new.stamps ≡ slice_set self.old.stamps t (self.old.stamp + self.old.acquired + 1))) }
+        ensures acquired { OnOk result (self.new.acquired ≡ self.old.acquired + 1) }
+        ensures stamps { let old = self.old
+            in OnOk result (self.new.stamps ≡ slice_set old.stamps t (old.stamp + old.acquired + 1)) }
     {
         let mut rider = rider;
         let step = Step::Acquire { t };

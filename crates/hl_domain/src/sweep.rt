@@ -23,7 +23,8 @@ pub(crate) fn copy_page<L: Realm>(
     requires places { length out.old ≡ params.page }
     ensures answer { result ≡ unless_fault (unless_stranger (job.stamp == stamp) stamp) tt }
     ensures loads { let old = rider.old
-        in OnOk result (rider.new ≡ record { view = loaded_all (first_cell params job.page) out.new old.view; share = old.share }) }
+        in OnOk result (rider.new
+        ≡ record { view = loaded_all (first_cell params job.page) out.new old.view; share = old.share }) }
     ensures refused { OnErr result ((rider.new ≡ rider.old) × (out.new ≡ out.old)) }
 {
     if job.stamp != stamp {
@@ -48,7 +49,8 @@ pub(crate) fn sweep<L: Realm>(
     ensures broom { let old = broom.old
         in OnOk result (broom.new ≡ record { stamp = old.stamp; page = old.page; swept = params.page }) }
     ensures stores { let old = rider.old
-        in OnOk result (rider.new ≡ record { view = zeroed (first_cell params broom.old.page) params.page old.view; share = old.share }) }
+        in OnOk result (rider.new
+        ≡ record { view = zeroed (first_cell params broom.old.page) params.page old.view; share = old.share }) }
     ensures refused { OnErr result ((broom.new ≡ broom.old) × (rider.new ≡ rider.old)) }
 {
     if broom.stamp() != stamp {
