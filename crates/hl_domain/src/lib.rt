@@ -8,8 +8,8 @@
 //!
 //! | Value | What it is |
 //! |---|---|
-//! | a [`Keeper`] | the core, the journal, the base of the steps cut from it, the right to store offset words |
-//! | a [`Pass`] | the right to act for a slot, with its touches: looks and stores since its last locked call |
+//! | a [`Keeper`] | the core, the journal, the base of the steps cut, the right to store offset words |
+//! | a [`Pass`] | the right to act for a slot, with its touches: what it did since its last locked call |
 //! | a [`Load`], a [`Broom`] | a page that was taken, to be flushed or to be cleaned; each must be spent |
 //!
 //! # Standing at a list
