@@ -21,6 +21,7 @@ impl Numbers {
     // A number below n, which isn't 0.
     fn below(&mut self, n: u64) -> u64
         requires { 0 < n }
+        ensures { result < n }
     {
         let next = self.last.wrapping_mul(6_364_136_223_846_793_005);
         self.last = next.wrapping_add(1_442_695_040_888_963_407);
@@ -95,19 +96,19 @@ fn compare(rt: &impl Abort, core: &Core<CountTable, Tag>, plain: &Plain, at: usi
     }
 }
 
+#[tactic(auto, unfolding(hl_model::specs::Bases::base_of))]
 fn cut_anywhere(
     rt: &impl Abort,
     alloc: Global,
     steps: &[Step],
     params: Params,
 ) -> Result<(), Fail> {
-    let mut base = Base::opening(alloc, params)?;
     for cut in 0..steps.len() {
         let (before, behind) = steps.split_at(cut);
         let mut core = Core::<CountTable, Tag>::open(alloc, params)?;
-        for step in before {
-            let _ = core.step(step);
-        }
+        let mut replies = vec![in alloc; Err(Fault::Empty); before.len()]?;
+        core.run(before, &mut replies);
+        let mut base = Base::opening(alloc, params)?;
         core.base_into(&mut base);
         let mut plain = Plain::from_base(alloc, &base)?;
         for (at, step) in behind.iter().enumerate() {
