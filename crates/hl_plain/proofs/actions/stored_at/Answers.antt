@@ -17,7 +17,7 @@ pub returns-in-Some : goal.returns-in-Some
 returns-in-Some c = λ w.
     let long = ap length c.waiting-waiting.ensures in
     sym (stored-hit c.args.base.now c.args.steps.now c.loop-k.k c.args.i (Acquire 0) c.in-Some.action w c.loop-k-test.true c.in-Some.ensures (omega (arith, long, c.if-i-waiting.false))
-        (omega (arith, long, c.loop-k.invariant.count, c.if-count-behind.true)))
+    (omega (arith, long, c.loop-k.invariant.count, c.if-count-behind.true)))
 
 pub loop-k-preserved : goal.loop-k-preserved
 loop-k-preserved c =
