@@ -7,7 +7,8 @@ use hl_model::{Fault, Params, Six, Step};
 use std::alloc::Global;
 use std::test::Fail;
 
-// An engine after an allocation of one page, which has the words 1, 0, 0 and 258. It is sealed, and nobody is protected.
+// An engine after an allocation of one page, which has the words 1, 0, 0 and 258. It is sealed, and nobody is
+// protected.
 fn sealed(alloc: Global) -> Result<TestEngine, Fault> {
     let mut engine = small_engine(alloc)?;
     engine.step(&Step::Acquire { t: 0 })?;

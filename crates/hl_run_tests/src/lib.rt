@@ -1,8 +1,9 @@
-//! The tests of what stands on the parts, of what no clause says: streams and writers that fail, refused memory, drops,
-//! threads, and one happy path of what the built program doesn't call. Each module tries the crate that it is named after,
-//! `cores` the core; `jobs` has what several of them store.
+//! The tests of what stands on the parts, of what no clause says: streams and writers that fail, refused
+//! memory, drops, threads, and one happy path of what the built program doesn't call. Each module tries the
+//! crate that it is named after, `cores` the core; `jobs` has what several of them store.
 //!
-//! This crate has no code beside its tests: a crate with tests is proved twice. `hl_tests` has those of the parts.
+//! This crate has no code beside its tests: a crate with tests is proved twice. `hl_tests` has those of the
+//! parts.
 #![tactic(auto)]
 
 #[cfg(test)]

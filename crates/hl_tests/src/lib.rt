@@ -1,10 +1,11 @@
-//! The tests of the parts that the core and scripts are made of, of what no clause says: refused memory, devices that
-//! fail, drops, printed text, exact turns, and one happy path of what the built program doesn't call. Each module tries
-//! the crate that it is named after, `tables` both tables of epochs. What a clause says is tested nowhere; that the
-//! clauses mean what was meant is shown by the examples that the built program is run on.
+//! The tests of the parts that the core and scripts are made of, of what no clause says: refused memory,
+//! devices that fail, drops, printed text, exact turns, and one happy path of what the built program doesn't
+//! call. Each module tries the crate that it is named after, `tables` both tables of epochs. What a clause
+//! says is tested nowhere; that the clauses mean what was meant is shown by the examples that the built
+//! program is run on.
 //!
-//! This crate has no code beside its tests: a crate with tests is proved twice, so only this one and `hl_run_tests`
-//! have any. It stands on every part that the program needs, and on nothing above them.
+//! This crate has no code beside its tests: a crate with tests is proved twice, so only this one and
+//! `hl_run_tests` have any. It stands on every part that the program needs, and on nothing above them.
 #![tactic(auto)]
 
 #[cfg(test)]
