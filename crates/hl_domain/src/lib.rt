@@ -34,8 +34,8 @@
 //! order, before the step of the pass's next locked call: what the slot's view allows is accepted there,
 //! whatever others did since. So touches never refuse a call.
 //!
-//! No call after [`Keeper::open`] takes memory: the journal and the row of stamps never grow, which is in the
-//! type too.
+//! No call after [`Keeper::open`] takes memory. That the journal has room for all it may keep, and that the row
+//! of stamps never grows, is in the type.
 #![tactic(auto)]
 
 mod actions;
