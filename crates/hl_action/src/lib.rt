@@ -15,6 +15,7 @@
 
 mod firing;
 mod kept;
+mod no_job;
 mod promise;
 mod ran;
 mod ready;
@@ -23,6 +24,7 @@ mod task;
 
 pub use firing::Firing;
 pub use kept::Kept;
+pub use no_job::{AnyAnswer, NoJob};
 pub use promise::Promise;
 pub use ran::{Outcome, Ran};
 pub use ready::Ready;

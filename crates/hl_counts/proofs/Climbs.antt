@@ -11,23 +11,23 @@ use Rattle.hl_epoch.specs.Faults.{bump_fault}
 use Rattle.hl_counts.specs.Tallies.{count_at, visited, IsTally}
 use Rattle.hl_counts.proofs.Rings.{count_at-some, slot_of_count}
 
--- a number is the safe epoch, if it climbed to there from no more than the safe epoch over empty places, and was stopped by
--- a place that counts somebody or by the current epoch
-pub safe_of-climb : (T : Table) (counts : List ℕ) (low r : ℕ) → IsTable T → IsTally T.epochs counts → low ≤ safe_of T → T.current ≤ low + length counts → low ≤ r → r < T.current → ((e : ℕ) → low < e → e ≤ r → count_at e counts ≡ 0) → (r + 1 < T.current → 0 < count_at (r + 1) counts) → r ≡ safe_of T
-safe_of-climb T counts low r is tally least_most near rises below passed stopped =
+-- an epoch comes next after the safe one, if it climbed to there from no more than that over empty places, and was stopped
+-- by a place that counts somebody or by the current epoch
+pub next-climb : (T : Table) (counts : List ℕ) (low r : ℕ) → IsTable T → IsTally T.epochs counts → low ≤ safe_of T + 1 → T.current < low + length counts → low ≤ r → r ≤ T.current → ((e : ℕ) → low ≤ e → e < r → count_at e counts ≡ 0) → (r < T.current → 0 < count_at r counts) → r ≡ safe_of T + 1
+next-climb T counts low r is tally least_most near rises stays passed stopped =
     let least : ℕ = least_or T.current (protected T.epochs) in
     let next : safe_of T + 1 ≡ least = safe_of-next T is in
     let above = λ (t e : ℕ) (at : get_or T.epochs t None ≡ Some e). is.above_safe t e at in
-    let most : least ≤ r + 1 =
-    elim (cases_lt (r + 1) T.current) [
+    let most : least ≤ r =
+    elim (cases_lt r T.current) [
       | inl stops ↦
-          let found = slot_of_count T.epochs counts low (r + 1) tally (λ t e at. (omega (arith, above t e at), omega (arith, is.at_most_current t e at))) (omega arith) (omega arith) (stopped stops) in
-          least_or-at T.current T.epochs found.0 (r + 1) found.1
+          let found = slot_of_count T.epochs counts low r tally (λ t e at. (omega (arith, above t e at), omega (arith, is.at_most_current t e at))) (omega arith) (omega arith) (stopped stops) in
+          least_or-at T.current T.epochs found.0 r found.1
       | inr last ↦ omega (arith, least_or-most T.current T.epochs is.at_most_current)
     ] in
-    let greatest : r + 1 ≤ least =
-    least_or-greatest (r + 1) T.current T.epochs (omega arith)
-    (λ t e at. elim (cases_lt r e) [ inl up ↦ omega arith | inr down ↦ absurd (omega (arith, passed e (omega (arith, above t e at)) down, count_at-some T.epochs counts t e tally at)) ]) in
+    let greatest : r ≤ least =
+    least_or-greatest r T.current T.epochs stays
+    (λ t e at. elim (cases_lt e r) [ inl down ↦ absurd (omega (arith, passed e (omega (arith, above t e at)) down, count_at-some T.epochs counts t e tally at)) | inr up ↦ up ]) in
     omega arith
 
 -- the safe epoch stays where a free slot enters the current epoch
@@ -58,14 +58,14 @@ next_counted T counts is tally below =
     elim (cases_lt 0 (count_at next counts)) [ inl some ↦ some | inr none ↦ absurd (omega (arith, safe_of-next T is, nobody none)) ]
 
 -- after a bump the climb visits one place: it stops at once, or nobody is protected and it passes the epoch that ended
-pub visited-bumped : (T : Table) (counts : List ℕ) (low r : ℕ) → IsTable T → IsTally T.epochs counts → low ≡ safe_of T → low ≤ r → r < T.current + 1 → ((e : ℕ) → low < e → e ≤ r → count_at e counts ≡ 0) → visited low r (T.current + 1) ≡ 1
-visited-bumped T counts low r is tally low_is rises below passed =
-    let within : low < T.current = omega (arith, is.safe_most) in
+pub visited-bumped : (T : Table) (counts : List ℕ) (low r : ℕ) → IsTable T → IsTally T.epochs counts → low ≡ safe_of T + 1 → low ≤ r → r ≤ T.current + 1 → ((e : ℕ) → low ≤ e → e < r → count_at e counts ≡ 0) → visited low r (T.current + 1) ≡ 1
+visited-bumped T counts low r is tally low_is rises stays passed =
+    let within : low ≤ T.current = omega (arith, is.safe_most) in
     elim (cases_lt low r) [
       | inl up ↦
-          let none : count_at (low + 1) counts ≡ 0 = passed (low + 1) (omega arith) (omega arith) in
-          let last : T.current ≤ low + 1 =
-          elim (cases_lt (safe_of T + 1) T.current) [ inl short ↦ absurd (omega (arith, none, ap (λ n. count_at (n + 1) counts) low_is, next_counted T counts is tally short)) | inr end ↦ omega arith ] in
+          let none : count_at low counts ≡ 0 = passed low (omega arith) up in
+          let last : T.current ≤ low =
+          elim (cases_lt (safe_of T + 1) T.current) [ inl short ↦ absurd (omega (arith, none, ap (λ n. count_at n counts) low_is, next_counted T counts is tally short)) | inr end ↦ omega arith ] in
           grind (arith, nat_tests)
       | inr same ↦ grind (arith, nat_tests)
     ]

@@ -108,20 +108,20 @@ somebody n place (Some epoch ∷ slots) counted = elim (cases_eq (epoch % n) pla
       (suc found.0, found.1, found.2, found.3)
 ]
 
--- numbers above low, and no further above it than the ring is long, have places of their own
-same_place : (n low a b : ℕ) → low < a → a ≤ low + n → low < b → b ≤ low + n → a % n ≡ b % n → a ≡ b
-same_place n low a b above_a most_a above_b most_b same = elim (cases_lt a b) [
+-- numbers from low on, less than the ring is long above it, have places of their own
+same_place : (n low a b : ℕ) → low ≤ a → a < low + n → low ≤ b → b < low + n → a % n ≡ b % n → a ≡ b
+same_place n low a b least_a below_a least_b below_b same = elim (cases_lt a b) [
   | inl less ↦ absurd (omega (arith, mod-apart a b n same less))
   | inr most ↦ elim (cases_lt b a) [ inl less ↦ absurd (omega (arith, mod-apart b a n (sym same) less)) | inr least ↦ omega arith ]
 ]
 
--- where the slots' epochs are within a ring's length above low, an epoch that is counted there is that of a slot
-pub slot_of_count : (epochs : List (Option ℕ)) (counts : List ℕ) (low epoch : ℕ) → IsTally epochs counts → ((t e : ℕ) → get_or epochs t None ≡ Some e → (low < e) × (e ≤ low + length counts)) → low < epoch → epoch ≤ low + length counts → 0 < count_at epoch counts → (t : ℕ) × (get_or epochs t None ≡ Some epoch)
-slot_of_count epochs counts low epoch is near above most counted =
+-- where the slots' epochs are within a ring's length from low on, an epoch that is counted there is that of a slot
+pub slot_of_count : (epochs : List (Option ℕ)) (counts : List ℕ) (low epoch : ℕ) → IsTally epochs counts → ((t e : ℕ) → get_or epochs t None ≡ Some e → (low ≤ e) × (e < low + length counts)) → low ≤ epoch → epoch < low + length counts → 0 < count_at epoch counts → (t : ℕ) × (get_or epochs t None ≡ Some epoch)
+slot_of_count epochs counts low epoch is near least below counted =
     let n : ℕ = length counts in
     let found = somebody n (epoch % n) epochs (omega (arith, is.each (epoch % n) (mod_below epoch n is.some))) in
     let ranges = near found.0 found.1 found.2 in
-    let same : found.1 ≡ epoch = same_place n low found.1 epoch ranges.0 ranges.1 above most found.3 in
+    let same : found.1 ≡ epoch = same_place n low found.1 epoch ranges.0 ranges.1 least below found.3 in
     (found.0, found.2 ∙ ap Some same)
 
 -- places that count nothing

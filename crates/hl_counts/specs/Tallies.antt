@@ -1,10 +1,15 @@
 -- A ring of counts: how many slots stand at each epoch. The place of an epoch is the epoch modulo the ring's length.
 use Rattle.std.specs.Prelude.{◌≡◌, ℕ, ◌+◌, ◌-◌, ◌%◌, ◌<◌, ◌==◌, nat_lt, Bool, false, if◌then◌else◌, Option, Some, None, List, length, count_by, slice_index, slice_set}
+use Rattle.hl_counts.specs.declared.placed.Placed.{Placed}
 
 -- what a ring knows: the count of each place, and the turns: how many places were visited
 pub record RingRecord : Type 0 where
   pub counts : List ℕ
   pub turns : ℕ
+
+-- the place that is kept beside an epoch is the epoch's
+abbrev pub HasPlace : Placed → List ℕ → Type 0
+HasPlace at counts = at.place ≡ at.epoch % length counts
 
 -- the count at an epoch's place
 abbrev pub count_at : ℕ → List ℕ → ℕ
@@ -33,7 +38,7 @@ pub record IsTally (epochs : List (Option ℕ)) (counts : List ℕ) : Type 0 whe
   pub each : (place : ℕ) → place < length counts →
       slice_index counts place ≡ count_by (is_counted (length counts) place) epochs
 
--- how many places a climb visits, from one number up to another below the current epoch: those of the epochs that it
--- passes, and that of the next one, which stops it, unless that is the current one
+-- how many places a climb visits, from one epoch up to another, at most the current one: those of the epochs that it
+-- passes, and that of the epoch at which it stops, unless that is the current one
 abbrev pub visited : ℕ → ℕ → ℕ → ℕ
-visited from risen current = (risen - from) + (if nat_lt (risen + 1) current then 1 else 0)
+visited from risen current = (risen - from) + (if nat_lt risen current then 1 else 0)

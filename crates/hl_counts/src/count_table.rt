@@ -3,8 +3,9 @@ ghost use Rattle.hl_model.specs.Epochs.{Table};
 ghost use Rattle.hl_model.specs.Replies.{unless_fault, unless_refused};
 ghost use Rattle.hl_epoch.specs.Faults.{acquire_fault, protected_fault, bump_fault};
 ghost use Rattle.hl_epoch.specs.Table.{epoch_at, safe_of, opened, entered, left, bumped, IsTable};
-ghost use Rattle.hl_counts.specs.Counted.{climb_turns};
+ghost use Rattle.hl_counts.specs.Counted.{climb_turns, refresh_turns};
 
+use crate::placed::Placed;
 use crate::ring::Ring;
 use hl_epoch::{EPOCH_LAST, Epochs};
 use hl_model::{Fault, filled};
@@ -14,8 +15,9 @@ use std::marker::Model;
 /// A table of epochs that is a row of slots, a ring of counts of their epochs, and the safe epoch.
 #[derive(Drop)]
 pub struct CountTable {
-    current: u64,
-    safe: u64,
+    current: Placed,
+    // The epoch that comes next after the safe one.
+    next: Placed,
     // It has no room beside its slots.
     epochs: Vec<Option<u64>>,
     window: u64,
@@ -51,9 +53,10 @@ impl CountTable {
         ensures err { IfErr result (λ fault. fault ≡ Fault.OutOfMemory) }
         ensures valid { IfOk result (λ made. IsTable made.table) }
     {
+        let placed = Placed::of(current, window as usize + 1);
         Ok(CountTable {
-            current,
-            safe: current - 1,
+            current: placed,
+            next: placed,
             epochs: filled(alloc, slots, None)?,
             window,
             ring: Ring::make(alloc, window + 1)?,
@@ -68,6 +71,7 @@ impl CountTable {
     }
 
     // The epoch of slot t, if the slot is protected.
+    #[inline(always)]
     fn protected_at(&self, t: u64) -> Result<u64, Fault>
         ensures ok { IfOk result (λ epoch. epoch_at t self.now.table ≡ Some epoch) }
         ensures within { OnOk result (t < length self.now.table.epochs) }
@@ -90,6 +94,7 @@ impl Epochs for CountTable {
     }
 
     /// One turn.
+    #[inline(always)]
     fn acquire(&mut self, t: u64) -> Result<(), Fault>
         ensures answer { result ≡ unless_fault (acquire_fault t self.old.table) tt }
         ensures effect { let old = self.old.table
@@ -104,33 +109,40 @@ impl Epochs for CountTable {
             Some(None) => {
                 self.ring.restart();
                 self.ring.add(self.current);
-                self.epochs[t as usize] = Some(self.current);
+                self.epochs[t as usize] = Some(self.current.epoch);
                 Ok(())
             }
         }
     }
 
-    /// A turn at the old epoch, one at the current epoch, and those of the climb: at most W + 2, whatever S is.
+    /// No turn where the slot's epoch is the current one. Else a turn at the old epoch, one at the current epoch, and
+    /// those of the climb: at most W + 2, whatever S is.
+    #[inline(always)]
     fn refresh(&mut self, t: u64) -> Result<(), Fault>
         ensures answer { result ≡ unless_fault (protected_fault t self.old.table) tt }
         ensures effect { let old = self.old.table
             in self.new.table ≡ unless_refused (protected_fault t old) old (entered t old) }
         ensures rising { safe_of self.old.table ≤ safe_of self.new.table }
         ensures valid { IsTable self.new.table }
-        ensures turns { let old = self.old in let visits = 2 + climb_turns old.table self.new.table
+        ensures turns { let old = self.old in let visits = refresh_turns t old.table self.new.table
             in self.new.turns ≡ unless_refused (protected_fault t old.table) old.turns visits }
         ensures few { OnOk result (self.new.turns ≤ self.old.table.window + 2) }
     {
-        let old = self.protected_at(t)?;
+        let epoch = self.protected_at(t)?;
         self.ring.restart();
+        if epoch == self.current.epoch {
+            return Ok(());
+        }
+        let old = self.current.back_to(epoch, self.ring.places());
         self.ring.remove(old);
         self.ring.add(self.current);
-        self.epochs[t as usize] = Some(self.current);
-        self.safe = self.ring.climb(self.safe, self.current);
+        self.epochs[t as usize] = Some(self.current.epoch);
+        self.next = self.ring.climb(self.next, self.current.epoch);
         Ok(())
     }
 
     /// A turn at the old epoch, and those of the climb: at most W + 1, whatever S is.
+    #[inline(always)]
     fn release(&mut self, t: u64) -> Result<(), Fault>
         ensures answer { result ≡ unless_fault (protected_fault t self.old.table) tt }
         ensures effect { let old = self.old.table
@@ -143,13 +155,15 @@ impl Epochs for CountTable {
     {
         let epoch = self.protected_at(t)?;
         self.ring.restart();
-        self.ring.remove(epoch);
+        let left = self.current.back_to(epoch, self.ring.places());
+        self.ring.remove(left);
         self.epochs[t as usize] = None;
-        self.safe = self.ring.climb(self.safe, self.current);
+        self.next = self.ring.climb(self.next, self.current.epoch);
         Ok(())
     }
 
     /// One turn, at the epoch that comes next after the safe one.
+    #[inline(always)]
     fn bump(&mut self) -> Result<u64, Fault>
         requires { let old = self.old.table in old.current - 1 - safe_of old < old.window }
         ensures answer { let old = self.old.table in result ≡ unless_fault (bump_fault old) old.current }
@@ -159,24 +173,27 @@ impl Epochs for CountTable {
         ensures valid { IsTable self.new.table }
         ensures turns { self.new.turns ≡ unless_refused (bump_fault self.old.table) self.old.turns 1 }
     {
-        let ended = self.current;
+        let ended = self.current.epoch;
         if ended == EPOCH_LAST {
             return Err(Fault::EpochsSpent);
         }
-        self.current = ended + 1;
+        self.current = self.current.next(self.ring.places());
         self.ring.restart();
-        self.safe = self.ring.climb(self.safe, ended + 1);
+        self.next = self.ring.climb(self.next, ended + 1);
         Ok(ended)
     }
 
+    #[inline(always)]
     fn current(&self) -> u64 {
-        self.current
+        self.current.epoch
     }
 
+    #[inline(always)]
     fn safe(&self) -> u64 {
-        self.safe
+        self.next.epoch - 1
     }
 
+    #[inline(always)]
     fn epoch_of(&self, t: u64) -> Option<u64> {
         *self.epochs.get(t as usize)?
     }

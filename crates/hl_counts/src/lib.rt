@@ -3,10 +3,14 @@
 //! # The ring
 //!
 //! [`CountTable`] meets the trait `Epochs` of hl_epoch: S slots, the current epoch E, and W, the window.
-//! Beside the row of the slots' epochs it keeps the safe epoch as a number, and a ring of W + 1 counts. The
-//! place of an epoch e is e modulo W + 1, and it holds how many slots stand at e. The epochs of protected
-//! slots are above the safe epoch and at most E. By the window these are at most W + 1 numbers in a row, so
-//! no two of them share a place, and a place of none of them holds 0.
+//! Beside the row of the slots' epochs it keeps the epoch that comes next after the safe one, and a ring of
+//! W + 1 counts. The place of an epoch e is e modulo W + 1, and it holds how many slots stand at e. The epochs
+//! of protected slots are above the safe epoch and at most E. By the window these are at most W + 1 numbers in
+//! a row, so no two of them share a place, and a place of none of them holds 0.
+//!
+//! Only the opening of a table divides. The places of E and of the epoch after the safe one are kept beside
+//! them, and move up by one with them, from the ring's last place to its first. A slot's place is as far back
+//! from E's as its epoch is from E.
 //!
 //! # Exact without a scan
 //!
@@ -26,7 +30,7 @@
 //! | Call | Turns |
 //! |---|---|
 //! | `acquire` | 1 |
-//! | `refresh` | 2 and its climb's: at most W + 2 |
+//! | `refresh` | none where the slot stands at E; else 2 and its climb's: at most W + 2 |
 //! | `release` | 1 and its climb's: at most W + 1 |
 //! | `bump` | 1 |
 //! | `current`, `safe`, `epoch_of` | none |
@@ -42,6 +46,7 @@
 #![tactic(auto)]
 
 mod count_table;
+mod placed;
 mod ring;
 
 pub use count_table::CountTable;

@@ -1,6 +1,7 @@
 ghost use Rattle.std.specs.Prelude.{◌≡◌, ℕ, ◌+◌, ◌-◌, ◌%◌, ◌^◌, ◌<◌, ◌≤◌, ◌==◌, length, replicate, IfOk, IfErr};
-ghost use Rattle.hl_counts.specs.Tallies.{count_at, added, removed, visited};
+ghost use Rattle.hl_counts.specs.Tallies.{count_at, added, removed, visited, HasPlace};
 
+use crate::placed::Placed;
 use hl_model::{Fault, filled};
 use std::alloc::Global;
 use std::marker::Model;
@@ -41,6 +42,13 @@ impl Ring {
         })
     }
 
+    /// How many places it has.
+    pub fn places(&self) -> usize
+        ensures { result ≡ length self.now.counts }
+    {
+        self.counts.len()
+    }
+
     /// How many places were visited since `restart`.
     pub fn turns(&self) -> u64
         ensures { result ≡ self.now.turns }
@@ -57,68 +65,75 @@ impl Ring {
     }
 
     // The place of an epoch. Here a turn ticks.
-    fn visit(&mut self, epoch: u64) -> usize
-        requires { self.old.turns < 2 ^ 32 }
-        ensures place { result ≡ epoch % length self.old.counts }
+    fn visit(&mut self, at: Placed) -> usize
+        requires few { self.old.turns < 2 ^ 32 }
+        requires placed { HasPlace at self.old.counts }
+        ensures place { result ≡ at.epoch % length self.old.counts }
         ensures within { result < length self.old.counts }
         ensures counts { self.new.counts ≡ self.old.counts }
         ensures turns { self.new.turns ≡ self.old.turns + 1 }
     {
         self.turns += 1;
-        (epoch % self.counts.len() as u64) as usize
+        at.place
     }
 
     /// Counts one slot more at an epoch. One turn.
-    pub fn add(&mut self, epoch: u64)
+    pub fn add(&mut self, at: Placed)
         requires few { self.old.turns < 2 ^ 32 }
-        requires room { count_at epoch self.old.counts < 255 }
-        ensures counts { self.new.counts ≡ added epoch self.old.counts }
+        requires placed { HasPlace at self.old.counts }
+        requires room { count_at at.epoch self.old.counts < 255 }
+        ensures counts { self.new.counts ≡ added at.epoch self.old.counts }
         ensures turns { self.new.turns ≡ self.old.turns + 1 }
     {
-        let place = self.visit(epoch);
+        let place = self.visit(at);
         self.counts[place] += 1;
     }
 
     /// Counts one slot less at an epoch. One turn.
-    pub fn remove(&mut self, epoch: u64)
+    pub fn remove(&mut self, at: Placed)
         requires few { self.old.turns < 2 ^ 32 }
-        requires some { 0 < count_at epoch self.old.counts }
-        ensures counts { self.new.counts ≡ removed epoch self.old.counts }
+        requires placed { HasPlace at self.old.counts }
+        requires some { 0 < count_at at.epoch self.old.counts }
+        ensures counts { self.new.counts ≡ removed at.epoch self.old.counts }
         ensures turns { self.new.turns ≡ self.old.turns + 1 }
     {
-        let place = self.visit(epoch);
+        let place = self.visit(at);
         self.counts[place] -= 1;
     }
 
     // Whether no slot is counted at an epoch. One turn.
-    fn is_empty_at(&mut self, epoch: u64) -> bool
-        requires { self.old.turns < 2 ^ 32 }
-        ensures value { result ≡ (count_at epoch self.old.counts == 0) }
+    fn is_empty_at(&mut self, at: Placed) -> bool
+        requires few { self.old.turns < 2 ^ 32 }
+        requires placed { HasPlace at self.old.counts }
+        ensures value { result ≡ (count_at at.epoch self.old.counts == 0) }
         ensures counts { self.new.counts ≡ self.old.counts }
         ensures turns { self.new.turns ≡ self.old.turns + 1 }
     {
-        let place = self.visit(epoch);
+        let place = self.visit(at);
         self.counts[place] == 0
     }
 
-    /// How far a number climbs below the current epoch before an epoch at which a slot is counted. One turn for
-    /// each epoch that it passes, and one for the epoch that stops it.
-    pub fn climb(&mut self, from: u64, current: u64) -> u64
-        requires below { from < current }
-        requires few { self.old.turns + (current - from) < 2 ^ 32 }
-        ensures rises { from ≤ result }
-        ensures stays_below { result < current }
-        ensures passed { (e : ℕ) → from < e → e ≤ result → count_at e self.old.counts ≡ 0 }
-        ensures stopped { result + 1 < current → 0 < count_at (result + 1) self.old.counts }
+    /// The first epoch from this one on at which a slot is counted, or the current one where none is below it. One turn
+    /// for each epoch that it passes, and one for the epoch that stops it.
+    pub fn climb(&mut self, from: Placed, current: u64) -> Placed
+        requires placed { HasPlace from self.old.counts }
+        requires most { from.epoch ≤ current }
+        requires few { self.old.turns + (current - from.epoch) < 2 ^ 32 }
+        requires room { (current < 2 ^ 63) × (length self.old.counts < 2 ^ 32) }
+        ensures placed { HasPlace result self.old.counts }
+        ensures rises { from.epoch ≤ result.epoch }
+        ensures stays { result.epoch ≤ current }
+        ensures passed { (e : ℕ) → from.epoch ≤ e → e < result.epoch → count_at e self.old.counts ≡ 0 }
+        ensures stopped { result.epoch < current → 0 < count_at result.epoch self.old.counts }
         ensures counts { self.new.counts ≡ self.old.counts }
-        ensures turns { self.new.turns ≡ self.old.turns + visited from result current }
+        ensures turns { self.new.turns ≡ self.old.turns + visited from.epoch result.epoch current }
     {
         let mut risen = from;
-        while risen + 1 < current {
-            if !self.is_empty_at(risen + 1) {
+        while risen.epoch < current {
+            if !self.is_empty_at(risen) {
                 return risen;
             }
-            risen += 1;
+            risen = risen.next(self.counts.len());
         }
         risen
     }

@@ -7,9 +7,6 @@ ghost use Rattle.hl_epoch.specs.Table.{epoch_at, safe_of, opened, entered, left,
 use hl_model::Fault;
 use std::alloc::Global;
 
-/// The last epoch: none comes after it.
-pub const EPOCH_LAST: u64 = 1 << 62;
-
 /// A table of epochs: S slots, each protected with an epoch or not, the current epoch, and W, the window: how
 /// many epochs at most have ended and are not safe. Once it is made, no call takes memory. A refused call
 /// changes nothing.

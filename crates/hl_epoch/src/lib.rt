@@ -42,19 +42,12 @@
 //! is a row of slots, scanned for the least epoch. Its row has the memory that opening took, no more and no
 //! less, from then on.
 //!
-//! # Where this differs from FASTER's LightEpoch
-//!
-//! - A table has one owner: calls that change it take `&mut self`, and whoever shares it keeps it under a
-//!   lock. LightEpoch's threads write their own entries with no lock.
-//! - A refresh sets the slot's epoch, and runs no action. LightEpoch's runs the actions that have become ready,
-//!   from a drain list of its own; here the list, and taking from it, are the caller's.
-//! - The safe epoch is computed when it is asked for, and is exact. LightEpoch stores one, which may lag.
-//! - The caller names the slot. LightEpoch looks for a free entry for the thread.
-//! - The current epoch has a last value, at which a bump is refused.
+//! docs/MAP.md tells where this differs from FASTER's LightEpoch.
 #![tactic(auto)]
 
 mod epochs;
 mod scan;
 
-pub use epochs::{EPOCH_LAST, Epochs};
+pub use epochs::Epochs;
+pub use hl_model::EPOCH_LAST;
 pub use scan::ScanTable;

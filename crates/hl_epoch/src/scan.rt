@@ -4,8 +4,8 @@ ghost use Rattle.hl_model.specs.Replies.{unless_fault};
 ghost use Rattle.hl_epoch.specs.Faults.{protected_fault};
 ghost use Rattle.hl_epoch.specs.Table.{safe_of, opened, IsTable};
 
-use crate::epochs::{EPOCH_LAST, Epochs};
-use hl_model::{Fault, filled};
+use crate::epochs::Epochs;
+use hl_model::{EPOCH_LAST, Fault, filled};
 use std::alloc::Global;
 use std::marker::Model;
 

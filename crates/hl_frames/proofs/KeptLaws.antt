@@ -1,19 +1,21 @@
 -- What the stored pages tell, and how calls move them.
-use Rattle.std.proofs.Common.{◌≡◌, ℕ, ◌+◌, ◌*◌, ◌%◌, ◌^◌, ◌<◌, ◌≤◌, Bool, true, false, not, ◌||◌, min, Option, Some, None, find, length, get_or, set, zero-add, refl, sym, ◌∙◌, arith, inl, inr}
+use Rattle.std.proofs.Common.{◌≡◌, ℕ, ◌+◌, ◌-◌, ◌*◌, ◌%◌, ◌^◌, ◌<◌, ◌≤◌, Bool, true, false, not, ◌||◌, min, Option, Some, None, List, find, ap, length, get_or, set, zero-add, refl, sym, ◌∙◌, arith, inl, inr}
 use Rattle.std.specs.List.{range_with_len}
 use Rattle.std.specs.Bool.{then_some}
-use Rattle.std.specs.Option.{option_map, MatchOption, IsSomeAnd}
+use Rattle.std.specs.Option.{option_map}
 use Rattle.std.proofs.lemmas.List.{get_or_read}
 use Rattle.std.proofs.Math.Dec.{leb}
-use Rattle.std.proofs.lemmas.Bool.{cases_eq, cases_lt, le-leb, lt-leb}
+use Rattle.std.proofs.lemmas.Bool.{cases_eq, cases_lt, le-leb, le-ltb, lt-leb}
 use Rattle.std.proofs.lemmas.List.FromFn.{length-range_with_len, get_or-range_with_len}
 use Rattle.std.proofs.lemmas.List.Sums.{prefix_len_passes, prefix_len_stops}
-use Rattle.std.proofs.Math.Nat.{min-eq_left, min-eq_right, mul-le-mul_left, mul-le-mul_right}
+use Rattle.std.proofs.Math.Nat.{add-mod_right, min-eq_left, min-eq_right, mul-le-mul_left, mul-le-mul_right}
 use Rattle.hl_model.proofs.SearchLaws.{find-first, find-missing, prefix_len-first}
-use Rattle.hl_frames.specs.Pages.{Pages, held_for, is_flushed, is_in_flight, is_cleaning, is_unflushed, is_uncleaned, may_enter, pages_below, flushed_run}
+use Rattle.hl_frames.specs.Pages.{Pages, held_for, left_or_marked, is_flushed, is_in_flight, is_cleaning, is_unflushed, is_uncleaned, may_enter, pages_below, flushed_run}
 use Rattle.hl_frames.specs.IsFrames.{page_in, IsFrames}
 use Rattle.hl_model.specs.declared.frame.Held.{Held}
 use Rattle.hl_frames.specs.Answers.{changed, entered, flush_begun, flush_ended, clean_begun, clean_ended}
+use Rattle.hl_frames.specs.declared.placed.Placed.{Placed}
+use Rattle.hl_frames.specs.Row.{HasFrame}
 use Rattle.hl_frames.specs.Kept.{IsLeast, IsFirst, AreStored}
 use Rattle.hl_frames.proofs.PageLaws.{run_within, left-flushed, IsFrames-flush_begun, IsFrames-clean_ended}
 use Rattle.hl_frames.proofs.MarkLaws.{next-left_or_marked, flushed-begun, unflushed-begun, unflushed-begun_own, uncleaned-begun, unflushed-ended, unflushed-ended_ok, unflushed-ended_failed, uncleaned-ended, uncleaned-clean_begun, uncleaned-clean_begun_own, flushed-clean_begun, unflushed-clean_begun, uncleaned-clean_ended, flushed-entered, unflushed-entered, uncleaned-entered, flushed-clean_ended, unflushed-clean_ended}
@@ -153,17 +155,27 @@ run-recent T is =
       | inr recent ↦ recent
     ]
 
+-- what is read at a page's frame is what the frame holds
+pub held-read : (T : Pages) (q place : ℕ) (o : Option Held) → place ≡ q % length T.frames → place < length T.frames → o ≡ get_or T.frames place o → o ≡ held_for q T
+held-read T q place o placed there was = get_or_read T.frames place o there was None ∙ rw placed refl
+
+-- a page's frame is free where no page was entered in it or the one before is freed, told what the frame holds
+pub may_enter-read : (T : Pages) (q place : ℕ) (o : Option Held) → place ≡ q % length T.frames → place < length T.frames → o ≡ get_or T.frames place o → length T.frames ≤ q → left_or_marked (λ held. held.freed) (q - length T.frames) o ≡ may_enter q T
+may_enter-read T q place o placed there was past =
+    let F : ℕ = length T.frames in
+    let at : q - F + F ≡ q = omega arith in
+    let same : place ≡ (q - F) % F = placed ∙ ap (λ n. n % F) (sym at) ∙ add-mod_right (q - F) F in
+    rw (le-ltb q F past, held-read T (q - F) place o same there was) refl
+
 -- a row in which a frame is changed
 pub row-changed : (T : Pages) (q place : ℕ) (o v : Option Held) (change : Held → Held) → place ≡ q % length T.frames → place < length T.frames → o ≡ get_or T.frames place o → v ≡ option_map change o → set T.frames place v ≡ (changed q change T).frames
 row-changed T q place o v change placed there was is =
-    let held : o ≡ get_or T.frames place None = get_or_read T.frames place o there was None in
+    let held : o ≡ held_for q T = held-read T q place o placed there was in
     rw (is, held, placed) refl
 
--- what is mapped
-pub mapped : {Q : Held → Held → Type 0} (change : Held → Held) (o r : Option Held) → ((x y : Held) → Q x y → y ≡ change x) → MatchOption o (r ≡ None) (λ x. IsSomeAnd r (Q x)) → r ≡ option_map change o
-mapped change None r is e = e
-mapped change (Some x) None is e = absurd e
-mapped change (Some x) (Some y) is e = rw (is x y e) refl
+-- the frames that are kept are the pages', also in another row of as many
+pub still-placed : (at : Placed) (frames frames' : List (Option Held)) → HasFrame at frames → length frames' ≡ length frames → HasFrame at frames'
+still-placed at frames frames' placed same = placed ∙ ap (λ n. at.page % n) (sym same)
 
 then_some-is : (b : Bool) (least q : ℕ) → then_some b least ≡ Some q → least ≡ q
 then_some-is true least q e = cc

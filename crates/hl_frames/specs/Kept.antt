@@ -4,6 +4,7 @@ use Rattle.hl_frames.specs.declared.turns.Turns.{Turns}
 use Rattle.hl_frames.specs.declared.frames.Frames.TheInside.{Inside}
 use Rattle.hl_frames.specs.Pages.{Pages, is_unflushed, is_uncleaned, flushed_run}
 use Rattle.hl_frames.specs.IsFrames.{IsFrames}
+use Rattle.hl_frames.specs.Row.{HasFrame}
 
 -- the pages of these fields
 abbrev pub pages_of : Inside → Pages
@@ -34,7 +35,10 @@ pub record AreTurns (turns : Turns) (frames : ℕ) : Type 0 where
 -- what is true of the fields
 pub record IsKept (a : Inside) : Type 0 where
   pub pages : IsFrames (pages_of a)
-  pub stored : AreStored (pages_of a) a.run a.to_flush a.to_clean
+  pub stored : AreStored (pages_of a) a.run.page a.to_flush.page a.to_clean.page
+  pub run_placed : HasFrame a.run a.held.items
+  pub to_flush_placed : HasFrame a.to_flush a.held.items
+  pub to_clean_placed : HasFrame a.to_clean a.held.items
   -- the row has room for its frames, and for no more
   pub room : vec_capacity a.held ≡ length a.held.items
   pub turns : AreTurns a.turns (length a.held.items)

@@ -1,8 +1,13 @@
--- The pages that a row of frames tells alone.
-use Rattle.std.specs.Prelude.{Option, List}
+-- What a row of frames tells alone: its pages, and which frame is a page's.
+use Rattle.std.specs.Prelude.{◌≡◌, ◌%◌, Option, List, length}
 use Rattle.hl_model.specs.declared.frame.Held.{Held}
+use Rattle.hl_frames.specs.declared.placed.Placed.{Placed}
 use Rattle.hl_frames.specs.Pages.{Pages}
 
 -- these frames, with nothing said of the words of a page or of how many were entered
 abbrev pub pages_in : List (Option Held) → Pages
 pages_in frames = record { page = 0; frames = frames; entered = 0 }
+
+-- the frame that is kept beside a page is the page's
+abbrev pub HasFrame : Placed → List (Option Held) → Type 0
+HasFrame at frames = at.frame ≡ at.page % length frames

@@ -3,6 +3,8 @@ ghost use Rattle.hl_frames.specs.Pages.{held_for, is_in_flight, is_cleaning, may
 ghost use Rattle.hl_frames.specs.Answers.{opened, page_or, after_take, enter_answer, after_enter, flush_begun, flush_done_answer, after_flush_done, clean_begun, clean_done_answer, after_clean_done, state_of};
 ghost use Rattle.hl_frames.specs.IsFrames.{IsFrames};
 
+use crate::marks::{begin_cleaning, begin_flush, end_cleaning, end_flush};
+use crate::placed::Placed;
 use crate::row::{is_cleaning, is_freed, is_in_flight, skip_flushed, skip_taken};
 use crate::turns::Turns;
 use hl_model::{Fault, FrameState, Held, Params, filled};
@@ -16,11 +18,11 @@ pub struct Frames {
     entered: u64,
     held: Vec<Option<Held>>,
     // The least page that isn't flushed: so many pages are, from page 0 on.
-    run: u64,
+    run: Placed,
     // The least page that is neither flushed nor in flight.
-    to_flush: u64,
+    to_flush: Placed,
     // The least page that is neither freed nor being cleaned; nor is any above it.
-    to_clean: u64,
+    to_clean: Placed,
     turns: Turns,
 }
 
@@ -45,13 +47,14 @@ impl Frames {
         ensures err { IfErr result (λ fault. fault ≡ Fault.OutOfMemory) }
         ensures known { IfOk result IsFrames }
     {
+        let first = Placed { page: 0, frame: 0 };
         Ok(Frames {
             words: params.page(),
             entered: 0,
             held: filled(alloc, params.frames(), None)?,
-            run: 0,
-            to_flush: 0,
-            to_clean: 0,
+            run: first,
+            to_flush: first,
+            to_clean: first,
             turns: Turns {
                 enter: 0,
                 flush_done: 0,
@@ -72,11 +75,11 @@ impl Frames {
         ensures refused { OnErr result (self.new ≡ self.old) }
         ensures known { IsFrames self.new }
     {
-        if !self.may_enter(page) {
+        let frame = self.frame_of(page);
+        if !self.is_free(frame, page) {
             return Err(Fault::Busy { page });
         }
-        let place = self.place_of(page);
-        self.held[place] = Some(Held {
+        self.held[frame] = Some(Held {
             page,
             flushed: false,
             in_flight: false,
@@ -93,14 +96,14 @@ impl Frames {
         ensures free { result ≡ may_enter page self.now }
         ensures known { IsFrames self.now }
     {
-        let frames = self.held.len() as u64;
-        page < frames || is_freed(self.held_for(page - frames), page - frames)
+        self.is_free(self.frame_of(page), page)
     }
 
     /// Takes the least sealed page that is neither flushed nor in flight: it then is in flight. `sro` is the safe
     /// read-only offset, a word's address, and the pages below it are entered.
     ///
     /// `NoneSealed` where there is no such page.
+    #[inline(always)]
     pub fn flush_take(&mut self, sro: u64) -> Result<u64, Fault>
         requires { pages_below sro self.old ≤ self.old.entered }
         ensures answer { result ≡ page_or Fault.NoneSealed (next_to_flush sro self.old) }
@@ -111,12 +114,10 @@ impl Frames {
         let Some(page) = self.next_to_flush(sro) else {
             return Err(Fault::NoneSealed);
         };
-        let place = self.place_of(page);
-        self.held[place] = self.held[place].map(|held| Held {
-            in_flight: true,
-            ..held
-        });
-        self.to_flush = skip_taken(&self.held, page + 1, self.entered);
+        let frame = self.to_flush.frame;
+        begin_flush(&mut self.held[frame]);
+        let next = self.to_flush.next(self.held.len());
+        self.to_flush = skip_taken(&self.held, next, self.entered);
         Ok(page)
     }
 
@@ -124,35 +125,33 @@ impl Frames {
     /// taken again. The answer is the flushed offset after it, a word's address.
     ///
     /// `NotInFlight` where the page isn't in flight.
+    #[inline(always)]
     pub fn flush_done(&mut self, page: u64, ok: bool) -> Result<u64, Fault>
         ensures answer { result ≡ flush_done_answer page ok self.old }
         ensures pages { self.new ≡ after_flush_done page ok self.old }
         ensures refused { OnErr result (self.new ≡ self.old) }
         ensures known { IsFrames self.new }
     {
-        if !self.is_in_flight(page) {
+        let frame = self.frame_of(page);
+        if !is_in_flight(self.held[frame], page) {
             return Err(Fault::NotInFlight);
         }
-        let place = self.place_of(page);
-        self.held[place] = self.held[place].map(|held| Held {
-            in_flight: false,
-            flushed: ok,
-            ..held
-        });
+        end_flush(&mut self.held[frame], ok);
         let walk = skip_flushed(&self.held, self.run, self.entered);
-        self.run = walk.page;
+        self.run = walk.at;
         self.turns.flush_done = 1 + walk.turns;
         if !ok {
             // The page waits again.
-            self.to_flush = self.to_flush.min(page);
+            self.to_flush = self.to_flush.min(Placed { page, frame });
         }
-        Ok(self.run * self.words)
+        Ok(self.run.page * self.words)
     }
 
     /// Takes the least closed page that is neither freed nor being cleaned: it then is being cleaned. `closed` is
     /// the closed offset, a word's address, at most the flushed offset.
     ///
     /// `NoneClosed` where there is no such page.
+    #[inline(always)]
     pub fn clean_take(&mut self, closed: u64) -> Result<u64, Fault>
         requires { closed ≤ flushed_offset self.old }
         ensures answer { result ≡ page_or Fault.NoneClosed (next_to_clean closed self.old) }
@@ -163,33 +162,27 @@ impl Frames {
         let Some(page) = self.next_to_clean(closed) else {
             return Err(Fault::NoneClosed);
         };
-        let place = self.place_of(page);
-        self.held[place] = self.held[place].map(|held| Held {
-            cleaning: true,
-            ..held
-        });
-        self.to_clean = page + 1;
+        let frame = self.to_clean.frame;
+        begin_cleaning(&mut self.held[frame]);
+        self.to_clean = self.to_clean.next(self.held.len());
         Ok(page)
     }
 
     /// The words of a page that was being cleaned are zeroed: the page is freed.
     ///
     /// `NotCleaning` where the page isn't being cleaned.
+    #[inline(always)]
     pub fn clean_done(&mut self, page: u64) -> Result<(), Fault>
         ensures answer { result ≡ clean_done_answer page self.old }
         ensures pages { self.new ≡ after_clean_done page self.old }
         ensures refused { OnErr result (self.new ≡ self.old) }
         ensures known { IsFrames self.new }
     {
-        if !self.is_cleaning(page) {
+        let frame = self.frame_of(page);
+        if !is_cleaning(self.held[frame], page) {
             return Err(Fault::NotCleaning);
         }
-        let place = self.place_of(page);
-        self.held[place] = self.held[place].map(|held| Held {
-            cleaning: false,
-            freed: true,
-            ..held
-        });
+        end_cleaning(&mut self.held[frame]);
         self.turns.clean_done = 1;
         Ok(())
     }
@@ -231,45 +224,50 @@ impl Frames {
     }
 
     /// The flushed offset, a word's address: the words of the longest run 0, 1, 2, .. of flushed pages.
+    #[inline(always)]
     pub fn flushed_until(&self) -> u64
         ensures offset { result ≡ flushed_offset self.now }
         ensures known { IsFrames self.now }
     {
-        self.run * self.words
+        self.run.page * self.words
     }
 
     /// The page that `flush_take` would take: the least one below the safe read-only offset, a word's address, that is
     /// neither flushed nor in flight.
+    #[inline(always)]
     pub fn next_to_flush(&self, sro: u64) -> Option<u64>
         ensures page { result ≡ next_to_flush sro self.now }
         ensures known { IsFrames self.now }
     {
-        let end = (self.to_flush + 1) * self.words;
-        (end <= sro).then_some(self.to_flush)
+        let page = self.to_flush.page;
+        let end = (page + 1) * self.words;
+        (end <= sro).then_some(page)
     }
 
     /// The page that `clean_take` would take: the least one below the closed offset, a word's address, that is neither
     /// freed nor being cleaned.
+    #[inline(always)]
     pub fn next_to_clean(&self, closed: u64) -> Option<u64>
         ensures page { result ≡ next_to_clean closed self.now }
         ensures known { IsFrames self.now }
     {
-        let end = (self.to_clean + 1) * self.words;
-        (end <= closed).then_some(self.to_clean)
+        let page = self.to_clean.page;
+        let end = (page + 1) * self.words;
+        (end <= closed).then_some(page)
     }
 
     /// Whether a page is in flight.
     pub fn is_in_flight(&self, page: u64) -> bool
         ensures { result ≡ is_in_flight page self.now }
     {
-        is_in_flight(self.held_for(page), page)
+        is_in_flight(self.held[self.frame_of(page)], page)
     }
 
     /// Whether a page is being cleaned.
     pub fn is_cleaning(&self, page: u64) -> bool
         ensures { result ≡ is_cleaning page self.now }
     {
-        is_cleaning(self.held_for(page), page)
+        is_cleaning(self.held[self.frame_of(page)], page)
     }
 
     /// Whether a page was entered.
@@ -277,6 +275,15 @@ impl Frames {
         ensures { result ≡ nat_lt page self.now.entered }
     {
         page < self.entered
+    }
+
+    /// Whether the page of an address, in words, was entered. The end of the entered pages is a product, where the page
+    /// of the address would be a quotient.
+    #[inline(always)]
+    pub fn is_entered_at(&self, address: u64) -> bool
+        ensures { result ≡ nat_lt (address / self.now.page) self.now.entered }
+    {
+        address < self.entered * self.words
     }
 
     /// How many frames of the row the last accepted call of each kind visited.
@@ -288,18 +295,22 @@ impl Frames {
         self.turns
     }
 
-    // The frame of a page.
-    fn place_of(&self, page: u64) -> usize
-        ensures place { result ≡ page % length self.now.frames }
+    // The frame of a page. It divides, so a call asks it once.
+    #[inline(always)]
+    fn frame_of(&self, page: u64) -> usize
+        ensures frame { result ≡ page % length self.now.frames }
         ensures within { result < length self.now.frames }
     {
         (page % self.held.len() as u64) as usize
     }
 
-    // What the frame of a page holds.
-    fn held_for(&self, page: u64) -> Option<Held>
-        ensures { result ≡ held_for page self.now }
+    // Whether this frame, which is the page's, is free for it. The page F before it has the same frame.
+    fn is_free(&self, frame: usize, page: u64) -> bool
+        requires { frame ≡ page % length self.now.frames }
+        ensures free { result ≡ may_enter page self.now }
+        ensures known { IsFrames self.now }
     {
-        self.held[self.place_of(page)]
+        let frames = self.held.len() as u64;
+        page < frames || is_freed(self.held[frame], page - frames)
     }
 }

@@ -40,6 +40,9 @@
 //! - the least page that is neither freed nor being cleaned. All above it are so too, since takes are in order and
 //!   no clean fails: a take moves it up by one.
 //!
+//! Beside each of the three stored pages stands its frame, which moves with it from the last frame to the first. So no
+//! take divides, and an enter or a done divides once, for the frame of the page that it names.
+//!
 //! # What a call costs
 //!
 //! A turn is a visit of one frame in the row.
@@ -47,7 +50,7 @@
 //! | call | turns |
 //! |---|---|
 //! | `enter`, `clean_take`, `clean_done`, `marks`, `state`, each question of one page | 1 |
-//! | `is_entered`, `flushed_until`, `next_to_flush`, `next_to_clean` | none |
+//! | `is_entered`, `is_entered_at`, `flushed_until`, `next_to_flush`, `next_to_clean` | none |
 //! | `flush_done` | at most F + 2: one for the page, and one for each page that the run is moved over, with the one at which it stops |
 //! | `flush_take` | at most F: one for the page, and one for each page up to the next that waits |
 //!
@@ -67,6 +70,8 @@
 #![tactic(auto)]
 
 mod frames;
+mod marks;
+mod placed;
 mod row;
 mod turns;
 

@@ -1,61 +1,74 @@
-ghost use Rattle.std.specs.Prelude.{◌≡◌, ℕ, ◌+◌, ◌<◌, ◌≤◌, true, false, length};
-ghost use Rattle.hl_frames.specs.Row.{pages_in};
+ghost use Rattle.std.specs.Prelude.{◌≡◌, ℕ, ◌+◌, ◌^◌, ◌<◌, ◌≤◌, true, false, length};
+ghost use Rattle.hl_frames.specs.Row.{pages_in, HasFrame};
 ghost use Rattle.hl_frames.specs.Pages.{is_flushed, is_unflushed};
 
+use crate::placed::Placed;
 use hl_model::Held;
 
 /// The page at which a walk over pages stopped, and how many frames it visited.
 #[derive(Drop)]
 pub(crate) struct Walk {
-    pub(crate) page: u64,
+    pub(crate) at: Placed,
     pub(crate) turns: u64,
 }
 
 /// The first page from `from` on that isn't flushed, or `end` where there is none below it.
-pub(crate) fn skip_flushed(row: &[Option<Held>], from: u64, end: u64) -> Walk
-    requires frames { 0 < length row.now }
-    requires order { from ≤ end }
-    ensures flushed { (q : ℕ) → from ≤ q → q < result.page → is_flushed q (pages_in row.now) ≡ true }
-    ensures stops { result.page < end → is_flushed result.page (pages_in row.now) ≡ false }
-    ensures least { from ≤ result.page }
-    ensures most { result.page ≤ end }
-    ensures turns { result.turns + from ≤ end }
+#[inline(always)]
+pub(crate) fn skip_flushed(row: &[Option<Held>], from: Placed, end: u64) -> Walk
+    requires placed { HasFrame from row.now }
+    requires frames { (0 < length row.now) × (length row.now < 2 ^ 32) }
+    requires order { from.page ≤ end }
+    requires room { end < 2 ^ 63 }
+    ensures placed { HasFrame result.at row.now }
+    ensures flushed { (q : ℕ) → from.page ≤ q → q < result.at.page → is_flushed q (pages_in row.now) ≡ true }
+    ensures stops { result.at.page < end → is_flushed result.at.page (pages_in row.now) ≡ false }
+    ensures least { from.page ≤ result.at.page }
+    ensures most { result.at.page ≤ end }
+    ensures turns { result.turns + from.page ≤ end }
 
     // One turn for each page that it goes over, and one for the page at which it stops.
-    ensures each_once { result.turns + from ≤ result.page + 1 }
+    ensures each_once { result.turns + from.page ≤ result.at.page + 1 }
 {
+    let mut at = from;
     let mut turns = 0;
-    for page in from..end {
+    while at.page < end {
         turns += 1;
-        let frame = page % row.len() as u64;
-        if !is_flushed(row[frame as usize], page) {
-            return Walk { page, turns };
+        if !is_flushed(row[at.frame], at.page) {
+            return Walk { at, turns };
         }
+        at = at.next(row.len());
     }
-    Walk { page: end, turns }
+    Walk { at, turns }
 }
 
 /// The first page from `from` on that is neither flushed nor in flight, or `end` where there is none below it.
-pub(crate) fn skip_taken(row: &[Option<Held>], from: u64, end: u64) -> u64
-    requires frames { 0 < length row.now }
-    requires order { from ≤ end }
-    ensures taken { (q : ℕ) → from ≤ q → q < result → is_unflushed (pages_in row.now) q ≡ false }
-    ensures stops { result < end → is_unflushed (pages_in row.now) result ≡ true }
-    ensures least { from ≤ result }
-    ensures most { result ≤ end }
+#[inline(always)]
+pub(crate) fn skip_taken(row: &[Option<Held>], from: Placed, end: u64) -> Placed
+    requires placed { HasFrame from row.now }
+    requires frames { (0 < length row.now) × (length row.now < 2 ^ 32) }
+    requires order { from.page ≤ end }
+    requires room { end < 2 ^ 63 }
+    ensures placed { HasFrame result row.now }
+    ensures taken { (q : ℕ) → from.page ≤ q → q < result.page → is_unflushed (pages_in row.now) q ≡ false }
+    ensures stops { result.page < end → is_unflushed (pages_in row.now) result.page ≡ true }
+    ensures least { from.page ≤ result.page }
+    ensures most { result.page ≤ end }
 {
-    for page in from..end {
-        let held = row[(page % row.len() as u64) as usize];
-        if !is_flushed(held, page) && !is_in_flight(held, page) {
-            return page;
+    let mut at = from;
+    while at.page < end {
+        let held = row[at.frame];
+        if !is_flushed(held, at.page) && !is_in_flight(held, at.page) {
+            return at;
         }
+        at = at.next(row.len());
     }
-    end
+    at
 }
 
 ghost use Rattle.hl_frames.specs.Pages.{left_or_marked, is_marked};
 
 /// Whether a page is flushed, told what its frame holds.
+#[inline(always)]
 pub(crate) fn is_flushed(held: Option<Held>, page: u64) -> bool
     ensures { result ≡ left_or_marked (λ held. held.flushed) page held }
 {
@@ -66,6 +79,7 @@ pub(crate) fn is_flushed(held: Option<Held>, page: u64) -> bool
 }
 
 /// Whether a page is in flight, told what its frame holds.
+#[inline(always)]
 pub(crate) fn is_in_flight(held: Option<Held>, page: u64) -> bool
     ensures { result ≡ is_marked (λ held. held.in_flight) page held }
 {
@@ -76,6 +90,7 @@ pub(crate) fn is_in_flight(held: Option<Held>, page: u64) -> bool
 }
 
 /// Whether a page is freed, told what its frame holds.
+#[inline(always)]
 pub(crate) fn is_freed(held: Option<Held>, page: u64) -> bool
     ensures { result ≡ left_or_marked (λ held. held.freed) page held }
 {
@@ -86,6 +101,7 @@ pub(crate) fn is_freed(held: Option<Held>, page: u64) -> bool
 }
 
 /// Whether a page is being cleaned, told what its frame holds.
+#[inline(always)]
 pub(crate) fn is_cleaning(held: Option<Held>, page: u64) -> bool
     ensures { result ≡ is_marked (λ held. held.cleaning) page held }
 {

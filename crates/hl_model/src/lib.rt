@@ -4,6 +4,14 @@
 //!
 //! After FASTER (Chandramouli, Prasaad, Kossmann, Levandoski, Hunter, Barnett, SIGMOD 2018): the current and
 //! the safe epoch, actions stored by a bump, and the offsets of the HybridLog.
+//!
+//! # Limits
+//!
+//! The ranges of the four sizes are constants, [`PAGE_LEAST`] to [`DRAIN_MOST`], which [`Params::checked`] compares with.
+//! What follows from them: the frames have at most [`FRAMES_MOST`] times [`PAGE_MOST`] words, 2^20, which are 8 MiB;
+//! at most [`SLOTS_MOST`] threads are protected at once, and at most [`DRAIN_MOST`] actions wait or are taken. Two
+//! numbers end: epochs at [`EPOCH_LAST`], addresses at [`TAIL_MOST`]. At most [`EPOCH_WINDOW`] epochs have ended and are
+//! not safe. A step that would pass one of these is refused.
 #![tactic(auto)]
 
 mod action;
@@ -12,6 +20,7 @@ mod base;
 mod fault;
 mod frame;
 pub mod laws;
+mod limits;
 mod params;
 mod rows;
 mod slot;
@@ -25,6 +34,10 @@ pub use address::{cell_of, page_of};
 pub use base::{Base, Quantities};
 pub use fault::Fault;
 pub use frame::{FrameState, Held};
+pub use limits::{
+    DRAIN_MOST, EPOCH_LAST, EPOCH_WINDOW, FRAMES_LEAST, FRAMES_MOST, PAGE_LEAST, PAGE_MOST,
+    SLOTS_MOST, TAIL_MOST,
+};
 pub use params::Params;
 pub use rows::filled;
 pub use slot::Slot;

@@ -1,6 +1,7 @@
 ghost use Rattle.std.specs.Prelude.{◌≡◌, ◌↔◌, IsSome, IfSome};
 ghost use Rattle.hl_model.specs.Sizes.{Sizes, AreInRange};
 
+use crate::limits::{DRAIN_MOST, FRAMES_LEAST, FRAMES_MOST, PAGE_LEAST, PAGE_MOST, SLOTS_MOST};
 use std::marker::Model;
 
 /// The sizes of an allocator, fixed when it opens. Each value is in range: that is in its type.
@@ -31,10 +32,10 @@ impl Params {
         ensures in_range { IsSome result ↔ AreInRange (record { page = p; frames = f; slots = s; drain = d }) }
         ensures value { IfSome result (λ sizes. sizes ≡ record { page = p; frames = f; slots = s; drain = d }) }
     {
-        let page = 4 <= p && p <= 4096 && p.is_power_of_two();
-        let frames = 2 <= f && f <= 256;
-        let slots = 1 <= s && s <= 64;
-        let drain = 1 <= d && d <= 64;
+        let page = PAGE_LEAST <= p && p <= PAGE_MOST && p.is_power_of_two();
+        let frames = FRAMES_LEAST <= f && f <= FRAMES_MOST;
+        let slots = 1 <= s && s <= SLOTS_MOST;
+        let drain = 1 <= d && d <= DRAIN_MOST;
         if page && frames && slots && drain {
             Some(Params { p, f, s, d })
         } else {

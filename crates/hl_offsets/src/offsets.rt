@@ -5,11 +5,8 @@ ghost use Rattle.hl_model.specs.Snapshots.{AreInOrder};
 ghost use Rattle.hl_offsets.specs.Log.{Log, IsLog, NoneFalls, started, resumed, raised, shifted, settled, closed_up_to, allocated, six_of};
 ghost use Rattle.hl_offsets.specs.Place.{IsOnOnePage};
 
-use hl_model::{Fault, Params, Six};
+use hl_model::{Fault, Params, Six, TAIL_MOST};
 use std::marker::Model;
-
-/// The words that addresses can name: no record ends above it.
-const SPACE: u64 = 1 << 48;
 
 /// The offsets of one log, each an address, in words.
 #[derive(Clone, Copy, Debug, PartialEq, Eq)]
@@ -188,7 +185,7 @@ impl Offsets {
             return Err(Fault::Size);
         }
         let place = self.place_for(n);
-        if place + n > SPACE {
+        if place + n > TAIL_MOST {
             return Err(Fault::SpaceSpent);
         }
         Ok(place)

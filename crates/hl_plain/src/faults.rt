@@ -10,18 +10,12 @@ ghost use Rattle.hl_model.specs.AfterReplies.{acquire_fault_at, view_fault_at, b
 ghost use Rattle.hl_plain.specs.Presents.{IsOwn};
 ghost use Rattle.hl_plain.specs.Works.{out_in, next_in};
 
-use crate::offsets::{SPACE, place_of};
+use crate::offsets::place_of;
 use crate::pages::Work;
 use crate::present::Present;
 use crate::safe::safe;
 use crate::turns::{is_freed, is_out, next_page};
-use hl_model::{Fault, Params, Step, View};
-
-/// No epoch comes after it.
-const EPOCH_LAST: u64 = 1 << 62;
-
-/// How many epochs at most have ended and are not safe.
-const EPOCH_WINDOW: u64 = 4096;
+use hl_model::{EPOCH_LAST, EPOCH_WINDOW, Fault, Params, Step, TAIL_MOST, View};
 
 // The fault of a step that wants slot t unprotected.
 fn acquire_fault(present: &Present, t: u64) -> Option<Fault>
@@ -150,7 +144,7 @@ fn size_fault(params: Params, tail: u64, n: u64) -> Option<Fault>
 {
     if n == 0 || params.page() < n {
         Some(Fault::Size)
-    } else if SPACE < place_of(params, tail, n) + n {
+    } else if TAIL_MOST < place_of(params, tail, n) + n {
         Some(Fault::SpaceSpent)
     } else {
         None

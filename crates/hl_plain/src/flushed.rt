@@ -6,9 +6,8 @@ ghost use Rattle.hl_model.specs.Pages.{flushes_below};
 ghost use Rattle.hl_model.specs.AfterPages.{flushed_run_after, flushed_after};
 ghost use Rattle.hl_plain.specs.Works.{run_end, runs_at};
 
-use crate::offsets::SPACE;
 use crate::pages::Work;
-use hl_model::{Base, Step};
+use hl_model::{Base, Step, TAIL_MOST};
 
 // Whether a step flushes page p or one above it.
 fn flushes_from(p: u64, step: &Step) -> bool
@@ -47,7 +46,7 @@ fn flushed_run(base: &Base, steps: &[Step]) -> u64
     requires { flushed_after base.now steps.now ≤ 2 ^ 48 }
     ensures { result ≡ flushed_run_after base.now steps.now }
 {
-    let pages = SPACE / base.params().page();
+    let pages = TAIL_MOST / base.params().page();
     for p in 0..pages {
         if !runs_at(base, p, steps) {
             return p;

@@ -7,9 +7,6 @@ ghost use Rattle.hl_model.specs.AfterOffsets.{read_only_after, head_after, tail_
 
 use hl_model::{Base, Params, Step};
 
-/// No record ends above it.
-pub const SPACE: u64 = 1 << 48;
-
 // The address to which a step raises the read-only offset, or 0.
 fn raised_to(step: &Step) -> u64
     ensures { result ≡ raised_to step.now }

@@ -16,17 +16,28 @@ pub(crate) type WordTable = Table<(), SeatView, Room, WordRule, Global>;
 /// A seat at the table of the words.
 pub(crate) type WordSeat = Seat<(), SeatView>;
 
-/// Names the table and the ledger of one seed. What carries one realm is all of one seed.
+/// Names the table and the ledger of one seed, its sizes, and the stamp of the domain that is opened over it. What
+/// carries one realm is all of one seed.
 pub trait Realm: Ledger {
+    ghost use Rattle.std.specs.Prelude.{ℕ};
     ghost use Rattle.atomic_table.specs.Seated.{TableId};
+    ghost use Rattle.hl_model.specs.Sizes.{Sizes};
 
     ghost table: { TableId };
+
+    ghost sizes: { Sizes };
+
+    ghost stamp: { ℕ };
 }
 
 impl Realm for Brand {
     ghost use Rattle.std.specs.Prelude.{[]};
 
     ghost table = { record { words = 0; slots = 0; views_name = 0; atom = 0; block = 0; offset = 0; slot_names = [] } };
+
+    ghost sizes = { record { page = 4; frames = 2; slots = 1; drain = 1 } };
+
+    ghost stamp = { 0 };
 }
 
 /// Words that nobody has opened yet: the cells, the two offset words, and a ledger with a part for each rider. It is

@@ -1,4 +1,4 @@
-use Rattle.std.proofs.Common.{◌+◌, length, ap, sym, ◌∙◌, arith}
+use Rattle.std.proofs.Common.{◌≡◌, ◌+◌, ◌%◌, length, ap, sym, ◌∙◌, arith}
 use Rattle.std.proofs.lemmas.List.{length-replicate}
 use Rattle.hl_epoch.proofs.Tables.{IsTable-opened, safe_of-opened}
 use Rattle.hl_counts.proofs.Rings.{IsTally-opened}
@@ -9,11 +9,17 @@ invariant_of-result c =
     let r = c.requires in
     let row = c.in_ok-filled.ensures in
     let ring = c.in_ok-make.ensures in
+    let at = c.of-placed.ensures in
+    let places : length c.in_ok-make.field-0.counts ≡ c.args.window + 1 = ap length ring.counts ∙ length-replicate _ _ in
+    let placed : c.of-placed.result.place ≡ c.of-placed.result.epoch % length c.in_ok-make.field-0.counts =
+    rw (places, at.epoch) at.place in
     record {
-      table = rw row.items (IsTable-opened _ _ _ r.slots_least r.slots_most r.window_least r.window_most r.current_least r.current_most);
-      safe = rw row.items (sym (safe_of-opened c.args.slots c.args.window c.args.current));
+      table = rw (row.items, at.epoch) (IsTable-opened _ _ _ r.slots_least r.slots_most r.window_least r.window_most r.current_least r.current_most);
+      next = rw (row.items, at.epoch, safe_of-opened c.args.slots c.args.window c.args.current) (omega arith);
       tally = rw (row.items, ring.counts) (IsTally-opened c.args.slots (c.args.window + 1) (omega arith));
-      places = ap length ring.counts ∙ length-replicate _ _;
+      places = places;
+      current_placed = placed;
+      next_placed = placed;
       exact = row.exact ∙ sym row.len;
     }
 

@@ -1,4 +1,4 @@
-use Rattle.std.proofs.Common.{rules, ◌≡◌, ◌<◌, None, length, ap, ◌∙◌}
+use Rattle.std.proofs.Common.{rules, ◌≡◌, ◌<◌, None, length, ap, sym, ◌∙◌, ◌%◌, arith}
 use Rattle.hl_epoch.specs.Table.{epoch_at}
 use Rattle.hl_epoch.proofs.Tables.{IsTable-entered, safe_of-entered}
 use Rattle.hl_counts.specs.Tallies.{added}
@@ -15,11 +15,14 @@ invariant_of-self c =
     let free : epoch_at c.args.t T ≡ None = search rules in
     let within : c.args.t < length T.epochs = search rules in
     let more : c.add.new.self.counts ≡ added T.current counts = c.add.ensures.counts ∙ ap (added T.current) c.restart.ensures.counts in
+    let same : length c.add.new.self.counts ≡ length counts = ap length more ∙ length-added T.current counts in
     record {
       table = IsTable-entered c.args.t T is.table;
-      safe = is.safe ∙ safe_of-acquired c.args.t T is.table free;
+      next = omega (arith, is.next, safe_of-acquired c.args.t T is.table free);
       tally = rw more (IsTally-entered T.epochs counts c.args.t T.current is.tally within free);
-      places = ap length more ∙ length-added T.current counts ∙ is.places;
+      places = same ∙ is.places;
+      current_placed = is.current_placed ∙ ap (λ n. T.current % n) (sym same);
+      next_placed = is.next_placed ∙ ap (λ n. c.self.inside.next.epoch % n) (sym same);
       exact = is.exact;
     }
 

@@ -1,4 +1,4 @@
-use Rattle.std.proofs.Common.{◌≡◌, ◌∙◌, rules, arith, true, false, sym, length-set}
+use Rattle.std.proofs.Common.{◌≡◌, ◌∙◌, arith, true, false, sym, length-set}
 use Rattle.std.specs.Prelude.{slice_set}
 use Rattle.hl_model.specs.declared.frame.Held.{Held}
 use Rattle.hl_frames.specs.Pages.{is_cleaning}
@@ -6,21 +6,24 @@ use Rattle.hl_frames.specs.IsFrames.{IsFrames}
 use Rattle.hl_frames.specs.Answers.{clean_ended}
 use Rattle.hl_frames.specs.Kept.{pages_of}
 use Rattle.hl_frames.proofs.PageLaws.{IsFrames-clean_ended}
-use Rattle.hl_frames.proofs.KeptLaws.{mapped, row-changed, stored-clean_ended}
+use Rattle.hl_frames.proofs.KeptLaws.{held-read, row-changed, still-placed, stored-clean_ended}
 use Rattle.hl_frames.proofs.frames.Frames.clean_done.Goals as goal
 
 -- the page is being cleaned
 cleans : (c : goal.After-self-2-1) → is_cleaning c.args.page (pages_of c.self.inside) ≡ true
-cleans c = rw (← c.self.view_is) at (sym c.is_cleaning.ensures ∙ c.if-not-is_cleaning.false)
+cleans c =
+    let place = rw (← c.self.view_is) at c.frame_of-frame.ensures.frame in
+    let within = rw (← c.self.view_is) at c.frame_of-frame.ensures.within in
+    rw (held-read (pages_of c.self.inside) c.args.page c.frame_of-frame.result c.index.result.now place within c.index.ensures) at (sym c.is_cleaning.ensures ∙ c.if-not-is_cleaning.false)
 
 -- the row after the done
-row : (c : goal.After-self-2-1) → slice_set c.self.inside.held.items c.place_of-place.result c.map.result ≡ (clean_ended c.args.page (pages_of c.self.inside)).frames
+row : (c : goal.After-self-2-1) → slice_set c.self.inside.held.items c.frame_of-frame.result c.end_cleaning.new.held ≡ (clean_ended c.args.page (pages_of c.self.inside)).frames
 row c =
     let change = λ (held : Held). record held { cleaning = false; freed = true } in
-    let place = rw (← c.self.view_is) at c.place_of-place.ensures.place in
-    let within = rw (← c.self.view_is) at c.place_of-place.ensures.within in
-    row-changed (pages_of c.self.inside) c.args.page c.place_of-place.result c.index.result.now c.map.result change place within c.index.ensures
-    (mapped change c.index.result.now c.map.result (λ x y h. search rules) c.map.ensures.cases)
+    let place = rw (← c.self.view_is) at c.frame_of-frame.ensures.frame in
+    let within = rw (← c.self.view_is) at c.frame_of-frame.ensures.within in
+    row-changed (pages_of c.self.inside) c.args.page c.frame_of-frame.result c.index_mut.result.now c.end_cleaning.new.held change place within c.index_mut.ensures.value
+    c.end_cleaning.ensures
 
 -- they are pages of frames
 known : (c : goal.After-self-2-1) → IsFrames (clean_ended c.args.page (pages_of c.self.inside))
@@ -32,7 +35,10 @@ invariant_of-self c =
     let kept = c.self.invariant in
     record {
       pages = rw (row c) (known c);
-      stored = rw (row c) (stored-clean_ended (pages_of a) c.args.page a.run a.to_flush a.to_clean kept.pages (cleans c) kept.stored);
+      stored = rw (row c) (stored-clean_ended (pages_of a) c.args.page a.run.page a.to_flush.page a.to_clean.page kept.pages (cleans c) kept.stored);
+      run_placed = still-placed a.run a.held.items _ kept.run_placed (length-set _ _ _);
+      to_flush_placed = still-placed a.to_flush a.held.items _ kept.to_flush_placed (length-set _ _ _);
+      to_clean_placed = still-placed a.to_clean a.held.items _ kept.to_clean_placed (length-set _ _ _);
       room = kept.room ∙ sym (length-set _ _ _);
       turns = rw length-set (record { enter = kept.turns.enter; flush_done = kept.turns.flush_done; clean_done = omega arith });
     }

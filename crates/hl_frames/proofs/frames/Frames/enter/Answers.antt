@@ -5,17 +5,17 @@ use Rattle.hl_frames.specs.IsFrames.{IsFrames}
 use Rattle.hl_frames.specs.Answers.{entered, unmarked}
 use Rattle.hl_frames.specs.Kept.{pages_of}
 use Rattle.hl_frames.proofs.PageLaws.{IsFrames-entered}
-use Rattle.hl_frames.proofs.KeptLaws.{stored-entered}
+use Rattle.hl_frames.proofs.KeptLaws.{still-placed, stored-entered}
 use Rattle.hl_frames.proofs.frames.Frames.enter.Goals as goal
 
 -- the page may be entered
 free : (c : goal.After-self-3-1) → may_enter c.args.page (pages_of c.self.inside) ≡ true
-free c = rw (← c.self.view_is) at (sym c.may_enter.ensures.free ∙ c.if-not-may_enter.false)
+free c = rw (← c.self.view_is) at (sym c.is_free.ensures.free ∙ c.if-not-is_free.false)
 
 -- the row after the page is entered
-row : (c : goal.After-self-3-1) → slice_set c.self.inside.held.items c.place_of-place.result (Some (unmarked c.args.page)) ≡ (entered c.args.page (pages_of c.self.inside)).frames
+row : (c : goal.After-self-3-1) → slice_set c.self.inside.held.items c.frame_of-frame.result (Some (unmarked c.args.page)) ≡ (entered c.args.page (pages_of c.self.inside)).frames
 row c =
-    let place = rw (← c.self.view_is) at c.place_of-place.ensures.place in
+    let place = rw (← c.self.view_is) at c.frame_of-frame.ensures.frame in
     rw place refl
 
 -- the pages are those of frames
@@ -32,7 +32,10 @@ invariant_of-self c =
     let next = rw (← c.self.view_is) at c.requires.next in
     record {
       pages = rw (row c) (known c);
-      stored = rw (row c) (stored-entered (pages_of a) c.args.page a.run a.to_flush a.to_clean kept.pages next (free c) (known c) kept.stored);
+      stored = rw (row c) (stored-entered (pages_of a) c.args.page a.run.page a.to_flush.page a.to_clean.page kept.pages next (free c) (known c) kept.stored);
+      run_placed = still-placed a.run a.held.items _ kept.run_placed (length-set _ _ _);
+      to_flush_placed = still-placed a.to_flush a.held.items _ kept.to_flush_placed (length-set _ _ _);
+      to_clean_placed = still-placed a.to_clean a.held.items _ kept.to_clean_placed (length-set _ _ _);
       room = kept.room ∙ sym (length-set _ _ _);
       turns = rw length-set (record { enter = omega arith; flush_done = kept.turns.flush_done; clean_done = kept.turns.clean_done });
     }

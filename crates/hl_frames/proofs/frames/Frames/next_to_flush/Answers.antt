@@ -6,18 +6,18 @@ use Rattle.hl_frames.proofs.MarkLaws.{next-unflushed}
 use Rattle.hl_frames.proofs.frames.Frames.next_to_flush.Goals as goal
 
 -- the stored page is entered, or the next
-most : (c : goal.After-self) → c.self.inside.to_flush ≤ c.self.inside.entered
+most : (c : goal.After-self) → c.self.inside.to_flush.page ≤ c.self.inside.entered
 most c =
     let kept = c.self.invariant in
-    least-below (is_unflushed (pages_of c.self.inside)) c.self.inside.to_flush c.self.inside.entered (next-unflushed (pages_of c.self.inside) kept.pages) kept.stored.unflushed
+    least-below (is_unflushed (pages_of c.self.inside)) c.self.inside.to_flush.page c.self.inside.entered (next-unflushed (pages_of c.self.inside) kept.pages) kept.stored.unflushed
 
 pub overflow_add-end : goal.overflow_add-end
-overflow_add-end c = omega (arith, number_fits (pages_of c.self.inside) c.self.inside.to_flush c.self.invariant.pages (most c))
+overflow_add-end c = omega (arith, number_fits (pages_of c.self.inside) c.self.inside.to_flush.page c.self.invariant.pages (most c))
 
 pub overflow_mul-end : goal.overflow_mul-end
-overflow_mul-end c = omega (arith, end_fits (pages_of c.self.inside) c.self.inside.to_flush c.self.invariant.pages (most c))
+overflow_mul-end c = omega (arith, end_fits (pages_of c.self.inside) c.self.inside.to_flush.page c.self.invariant.pages (most c))
 
 pub returns-clause-page : goal.returns-clause-page
 returns-clause-page c =
     rw (← c.self.view_is)
-    (c.then_some.ensures ∙ least-found (pages_of c.self.inside) (is_unflushed (pages_of c.self.inside)) c.self.inside.to_flush c.args.sro c.self.invariant.pages c.self.invariant.stored.unflushed)
+    (c.then_some.ensures ∙ least-found (pages_of c.self.inside) (is_unflushed (pages_of c.self.inside)) c.self.inside.to_flush.page c.args.sro c.self.invariant.pages c.self.invariant.stored.unflushed)
