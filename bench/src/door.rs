@@ -125,6 +125,8 @@ impl Door {
         unsafe { hl_free(&mut self.core) }
     }
 
+    /// It is inlined, so that where the step is known its own call stands alone, and is timed alone.
+    #[inline(always)]
     pub fn step(&mut self, step: &Step) -> Outcome {
         let core = &mut self.core;
         unsafe {

@@ -23,8 +23,8 @@
 //!
 //! A C signature may name no box, so the slot keeps its core's block as a pointer to bytes, and its proofs by
 //! hand say which core lies there. A call takes the handle out of its place, has the box of it, makes the
-//! step on the box, and puts back a handle of the box ([`worker`]). Each call's worker is its own, so that
-//! the step's kind is known where the core's code is laid out.
+//! step on the box, and puts back a handle of the box. Each call has a function of its own for that, which
+//! calls the core by the step's own call.
 #![tactic(auto)]
 
 mod bumps;
@@ -40,7 +40,6 @@ mod queries;
 mod slot;
 mod slots;
 mod threads;
-mod worker;
 
 pub use bumps::{hl_bare, hl_bump, hl_close, hl_done, hl_settle, hl_take};
 pub use door::Door;

@@ -3,20 +3,14 @@ ghost use Rattle.hl_c.specs.Doors.{Answers, AnswersBriefly};
 
 use crate::handle::Handle;
 use crate::outcome::{Brief, Outcome};
-use crate::worker::{stepped, stepped_briefly};
 use core::mem::replace_with;
-use hl_model::Step;
 
 /// Moves the read-only offset up to an address.
 #[unsafe(no_mangle)]
 pub extern "C" fn hl_raise(handle: &mut Handle, address: u64) -> Brief
     ensures { AnswersBriefly handle.old.slot.value (RAISE address) handle.new.slot.value result }
 {
-    replace_with(
-        handle,
-        (),
-        |handle, _nothing| stepped_briefly(handle, Step::Raise { x: address }),
-    )
+    replace_with(handle, address, raised).brief()
 }
 
 /// Moves the head up to an address.
@@ -24,11 +18,7 @@ pub extern "C" fn hl_raise(handle: &mut Handle, address: u64) -> Brief
 pub extern "C" fn hl_shift(handle: &mut Handle, address: u64) -> Brief
     ensures { AnswersBriefly handle.old.slot.value (SHIFT address) handle.new.slot.value result }
 {
-    replace_with(
-        handle,
-        (),
-        |handle, _nothing| stepped_briefly(handle, Step::Shift { x: address }),
-    )
+    replace_with(handle, address, shifted).brief()
 }
 
 /// Places a record of so many words for a slot: its address.
@@ -39,8 +29,9 @@ pub extern "C" fn hl_allocate(handle: &mut Handle, slot: u64, words: u64) -> Bri
     replace_with(
         handle,
         (),
-        |handle, _nothing| stepped_briefly(handle, Step::Allocate { t: slot, n: words }),
+        |handle, _nothing| allocated(handle, slot, words),
     )
+    .brief()
 }
 
 /// A slot sees these two offsets: its view.
@@ -51,14 +42,7 @@ pub extern "C" fn hl_look(handle: &mut Handle, slot: u64, read_only: u64, head: 
     replace_with(
         handle,
         (),
-        |handle, _nothing| stepped(
-            handle,
-            Step::Look {
-                t: slot,
-                read_only,
-                head,
-            },
-        ),
+        |handle, _nothing| looked(handle, slot, read_only, head),
     )
 }
 
@@ -70,15 +54,9 @@ pub extern "C" fn hl_write(handle: &mut Handle, slot: u64, address: u64, value: 
     replace_with(
         handle,
         (),
-        |handle, _nothing| stepped_briefly(
-            handle,
-            Step::Write {
-                t: slot,
-                a: address,
-                v: value,
-            },
-        ),
+        |handle, _nothing| written(handle, slot, address, value),
     )
+    .brief()
 }
 
 /// Whether a slot may read a word.
@@ -86,15 +64,83 @@ pub extern "C" fn hl_write(handle: &mut Handle, slot: u64, address: u64, value: 
 pub extern "C" fn hl_read(handle: &mut Handle, slot: u64, address: u64) -> Brief
     ensures { AnswersBriefly handle.old.slot.value (READ slot address) handle.new.slot.value result }
 {
-    replace_with(
-        handle,
-        (),
-        |handle, _nothing| stepped_briefly(
-            handle,
-            Step::Read {
-                t: slot,
-                a: address,
-            },
-        ),
-    )
+    replace_with(handle, (), |handle, _nothing| read(handle, slot, address)).brief()
+}
+
+#[inline(always)]
+fn raised(handle: Handle, address: u64) -> (Handle, Outcome)
+    ensures { Answers handle.slot.value (RAISE address) result.0.slot.value result.1 }
+{
+    match handle.into_core() {
+        Ok(mut core) => {
+            let outcome = Outcome::of_number(core.raise(address));
+            (Handle::of(core), outcome)
+        }
+        Err(handle) => (handle, Outcome::no_core()),
+    }
+}
+
+#[inline(always)]
+fn shifted(handle: Handle, address: u64) -> (Handle, Outcome)
+    ensures { Answers handle.slot.value (SHIFT address) result.0.slot.value result.1 }
+{
+    match handle.into_core() {
+        Ok(mut core) => {
+            let outcome = Outcome::of_number(core.shift(address));
+            (Handle::of(core), outcome)
+        }
+        Err(handle) => (handle, Outcome::no_core()),
+    }
+}
+
+#[inline(always)]
+fn allocated(handle: Handle, slot: u64, words: u64) -> (Handle, Outcome)
+    ensures { Answers handle.slot.value (ALLOCATE slot words) result.0.slot.value result.1 }
+{
+    match handle.into_core() {
+        Ok(mut core) => {
+            let outcome = Outcome::of_number(core.allocate(slot, words));
+            (Handle::of(core), outcome)
+        }
+        Err(handle) => (handle, Outcome::no_core()),
+    }
+}
+
+#[inline(always)]
+fn looked(handle: Handle, slot: u64, read_only: u64, head: u64) -> (Handle, Outcome)
+    ensures { Answers handle.slot.value (LOOK slot read_only head) result.0.slot.value result.1 }
+{
+    match handle.into_core() {
+        Ok(mut core) => {
+            let outcome = Outcome::of_look(core.look(slot, read_only, head));
+            (Handle::of(core), outcome)
+        }
+        Err(handle) => (handle, Outcome::no_core()),
+    }
+}
+
+#[inline(always)]
+fn written(handle: Handle, slot: u64, address: u64, value: u64) -> (Handle, Outcome)
+    ensures { Answers handle.slot.value (WRITE slot address value) result.0.slot.value result.1 }
+{
+    match handle.into_core() {
+        Ok(mut core) => {
+            let outcome = Outcome::of_nothing(core.may_write(slot, address));
+            (Handle::of(core), outcome)
+        }
+        Err(handle) => (handle, Outcome::no_core()),
+    }
+}
+
+#[inline(always)]
+fn read(handle: Handle, slot: u64, address: u64) -> (Handle, Outcome)
+    ensures { Answers handle.slot.value (READ slot address) result.0.slot.value result.1 }
+{
+    match handle.into_core() {
+        Ok(mut core) => {
+            let outcome = Outcome::of_nothing(core.may_read(slot, address));
+            (Handle::of(core), outcome)
+        }
+        Err(handle) => (handle, Outcome::no_core()),
+    }
 }

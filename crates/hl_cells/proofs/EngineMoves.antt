@@ -7,7 +7,7 @@ use Rattle.hl_model.specs.declared.action.Kind.{Kind}
 use Rattle.hl_model.specs.declared.action.Kind.TheVariants.{User, Settle as Settling, Close as Closing}
 use Rattle.hl_model.specs.declared.fault.Fault.{Fault}
 use Rattle.hl_model.specs.declared.step.Reply.{Reply}
-use Rattle.hl_model.specs.declared.step.Reply.TheVariants.{Taken, Answer, Written, Value}
+use Rattle.hl_model.specs.declared.step.Reply.TheVariants.{Taken, Answer, Written, Readable, Value}
 use Rattle.hl_model.specs.declared.step.Step.{Step}
 use Rattle.hl_model.specs.declared.step.Step.TheVariants.{Take, Done, Write, Read, CleanDone, Allocate}
 use Rattle.hl_model.specs.Sizes.{Sizes}
@@ -33,11 +33,13 @@ use Rattle.hl_model.specs.declared.frame.Held.{Held}
 use Rattle.hl_frames.specs.Pages.{Pages}
 use Rattle.hl_model.specs.Bases.{marked, held_of}
 use Rattle.hl_core.specs.Standing.{State, Stands}
-use Rattle.hl_core.specs.Steps.{Stepped, CameOut, job_in}
+use Rattle.hl_core.specs.Steps.{Stepped, Made, told, CameOut, job_in}
+use Rattle.hl_core.proofs.LookStands.{read_ok}
+use Rattle.hl_core.proofs.StandLaws.{refused_step}
 use Rattle.hl_cells.specs.CellWords.{shown_page, cell_word, cell_words, cell_at}
 use Rattle.hl_cells.specs.HeldActions.{Row, Holds, firing_at, fires, tag_of}
 use Rattle.hl_cells.specs.Engines.{Whole, EngineStands, IsEngine, Shows, job_tag}
-use Rattle.hl_cells.specs.EngineSteps.{Told, Moved, Moves, fired, is_plain}
+use Rattle.hl_cells.specs.EngineSteps.{Told, Moved, Moves, fired}
 use Rattle.hl_cells.proofs.CellLaws.{cells-quiet, cells-allocate, cells-write, cells-clean, cells-read, cells-page, cells-nil, frame_fits, cell_words-at, length-cell_words}
 use Rattle.hl_cells.proofs.ShownPages.{unless_freed, shown-is, shown-frame}
 use Rattle.hl_cells.proofs.HoldLaws.{Found, holds-nil, holds-quiet, holds-take, holds-fits, holds-found, holds-done}
@@ -71,28 +73,15 @@ quiet_told (Done ticket) e = cc
 quiet_told (Read t a) e = cc
 quiet_told s e = refl
 
--- a plain step is quiet
-pub plain_quiet : (s : Step) → is_plain s ≡ true → is_quiet s ≡ true
-plain_quiet Take e = cc
-plain_quiet (Done ticket) e = cc
-plain_quiet (Write t a v) e = cc
-plain_quiet (Read t a) e = cc
-plain_quiet (CleanDone page) e = cc
-plain_quiet s e = refl
-
 -- a done is answered with the job's answer, if there is one
 abbrev pub answer_or : Option ℕ → Reply → Result Reply Fault
 answer_or (Some n) reply = Ok (Answer n)
 answer_or None reply = Ok reply
 
--- a write's result as a reply
-abbrev pub written_or : Result (Unit {0}) Fault → Result Reply Fault
-written_or (Ok u) = Ok Written
-written_or (Err f) = Err f
-
-written_told : (o : Option Fault) (result : Result (Unit {0}) Fault) → result ≡ unless_fault o tt → written_or result ≡ unless_fault o Written
-written_told None result h = ap written_or h
-written_told (Some f) result h = ap written_or h
+-- a write that answers as the definitions do, as a reply
+written_told : (o : Option Fault) (result : Result (Unit {0}) Fault) → result ≡ unless_fault o tt → told (λ _. Written) result ≡ unless_fault o Written
+written_told None result h = ap (told (λ _. Written)) h
+written_told (Some f) result h = ap (told (λ _. Written)) h
 
 module _ {F : Type 0} where
   -- an engine stands where its parts do
@@ -155,6 +144,15 @@ module _ {F : Type 0} where
             (engine_stands engine.core.sizes core_new engine.words engine.held A moved.sizes (subst (λ (B : List Step). Stands job_tag core_new B) (extended-some engine.core.sizes A s f h) moved.standing) st.words_is st.held_is);
       }
 
+  -- so at whatever list it stood
+  pub quiet_moves : (keeps : ℕ → FiringRecord → ℕ → Type 0) (core core_new : State (KeptRecord F)) (words : List ℕ) (held : Row F) (s : Step) (result : Result Reply Fault) → is_quiet s ≡ true → Made job_tag core s core_new result → Moves keeps (record { core = core; words = words; held = held }) s (record { core = core_new; words = words; held = held }) result
+  quiet_moves keeps core core_new words held s result e made A st = moved_quiet keeps (record { core = core; words = words; held = held }) A s core_new result e st (made A st.core_stands)
+
+  -- and it stands at some list
+  pub quiet_stands : (keeps : ℕ → FiringRecord → ℕ → Type 0) (core core_new : State (KeptRecord F)) (words : List ℕ) (held : Row F) (s : Step) (result : Result Reply Fault) → is_quiet s ≡ true → IsEngine (record { core = core; words = words; held = held }) → Made job_tag core s core_new result → IsEngine (record { core = core_new; words = words; held = held })
+  quiet_stands keeps core core_new words held s result e at made =
+      stands_after keeps (record { core = core; words = words; held = held }) (record { core = core_new; words = words; held = held }) s result at (quiet_moves keeps core core_new words held s result e made)
+
   -- no fault where the core answered
   pub free_of : (engine : Whole F) (A : List Step) (s : Step) (core_new : State (KeptRecord F)) (r : Reply) → Stepped job_tag engine.core A s core_new (Ok r) → (fault_of engine.core.sizes A s ≡ None) × (r ≡ answer_of engine.core.sizes A (A ++ s ∷ []) s)
   free_of engine A s core_new r moved = unless_ok (fault_of engine.core.sizes A s) r (answer_of engine.core.sizes A (A ++ s ∷ []) s) moved.reply
@@ -180,7 +178,7 @@ module _ {F : Type 0} where
       (holds-quiet engine.core.sizes A (CleanDone p) engine.held st.core_stands.accepted refl (λ c. refl) st.held_is)
 
   -- a read is answered with the word
-  pub moved_read : (keeps : ℕ → FiringRecord → ℕ → Type 0) (engine : Whole F) (A : List Step) (t a v : ℕ) (core_new : State (KeptRecord F)) (r : Reply) → EngineStands engine A → Stepped job_tag engine.core A (Read t a) core_new (Ok r) → v ≡ word a A → Moved keeps engine A (Read t a) (record { core = core_new; words = engine.words; held = engine.held }) (Ok (Value v))
+  moved_read : (keeps : ℕ → FiringRecord → ℕ → Type 0) (engine : Whole F) (A : List Step) (t a v : ℕ) (core_new : State (KeptRecord F)) (r : Reply) → EngineStands engine A → Stepped job_tag engine.core A (Read t a) core_new (Ok r) → v ≡ word a A → Moved keeps engine A (Read t a) (record { core = core_new; words = engine.words; held = engine.held }) (Ok (Value v))
   moved_read keeps engine A t a v core_new r st moved is =
       let h = (free_of engine A (Read t a) core_new r moved).0 in
       moved_accepted keeps engine A (Read t a) core_new engine.words engine.held (Ok r) (Ok (Value v)) moved h
@@ -308,14 +306,13 @@ module _ {F : Type 0} where
       ∙ ap₂ (λ i n. take n (drop i engine.words)) s l
       ∙ page_shown engine A p st (shown_alike engine A shows.0 (p % engine.core.sizes.frames) st shows.1 (mod_below p engine.core.sizes.frames (frames_some engine A st)) ∙ shows.2)
 
-  -- a read that found this word
-  pub moved_found : (keeps : ℕ → FiringRecord → ℕ → Type 0) (engine : Whole F) (A : List Step) (t a v cell d : ℕ) (core_new : State (KeptRecord F)) (r : Reply) → EngineStands engine A → Stepped job_tag engine.core A (Read t a) core_new (Ok r) → cell ≡ cell_at engine.core.sizes a → cell < engine.core.sizes.frames * engine.core.sizes.page → v ≡ get_or engine.words cell d → Moved keeps engine A (Read t a) (record { core = core_new; words = engine.words; held = engine.held }) (Ok (Value v))
-  moved_found keeps engine A t a v cell d core_new r st moved at within is =
-      moved_read keeps engine A t a v core_new r st moved (is ∙ read_word engine A t a cell d st (free_of engine A (Read t a) core_new r moved).0 at within)
-
-  -- after a read an engine stands as before
-  pub read_stands : (keeps : ℕ → FiringRecord → ℕ → Type 0) (engine : Whole F) (t a : ℕ) (core_new : State (KeptRecord F)) (r : Reply) → IsEngine engine → ((A : List Step) → Stands job_tag engine.core A → Stepped job_tag engine.core A (Read t a) core_new (Ok r)) → IsEngine (record { core = core_new; words = engine.words; held = engine.held })
-  read_stands keeps engine t a core_new r at m = (extended engine.core.sizes at.0 (Read t a), (moved_read keeps engine at.0 t a (word a at.0) core_new r at.1 (m at.0 at.1.core_stands) refl).standing)
+  -- a read as a step
+  pub moved_by_read : (keeps : ℕ → FiringRecord → ℕ → Type 0) (engine : Whole F) (A : List Step) (t a : ℕ) (result : Result ℕ Fault) → EngineStands engine A → result ≡ unless_fault (fault_of engine.core.sizes A (Read t a)) (word a A) → Moved keeps engine A (Read t a) engine (told Value result)
+  moved_by_read keeps engine A t a (Ok v) st h =
+      let p = unless_ok (fault_of engine.core.sizes A (Read t a)) v (word a A) h in
+      moved_read keeps engine A t a v engine.core Readable st (read_ok job_tag engine.core A t a st.core_stands p.0) p.1
+  moved_by_read keeps engine A t a (Err f) st h =
+      moved_err keeps engine A (Read t a) engine.core f st (refused_step job_tag engine.core A (Read t a) f st.core_stands (unless_err (fault_of engine.core.sizes A (Read t a)) f (word a A) h))
 
   -- an engine that was just opened
   pub engine_opens : (sizes : Sizes) (core : State (KeptRecord F)) (words : List ℕ) (held : Row F) (cells places : ℕ) → Stands job_tag core [] × (core.sizes ≡ sizes) → words ≡ replicate cells 0 → cells ≡ sizes.frames * sizes.page → held ≡ record { room = places; actions = [] } → places ≡ sizes.drain → EngineStands (record { core = core; words = words; held = held }) []
@@ -334,9 +331,9 @@ module _ {F : Type 0} where
       ap (λ z. Ok z) (is ∙ read_word engine A t a cell d st h at within) ∙ sym (ap (λ (o : Option Fault). unless_fault o (word a A)) h)
 
   -- a write as a step
-  pub moved_by_write : (keeps : ℕ → FiringRecord → ℕ → Type 0) (engine new : Whole F) (A : List Step) (t a v : ℕ) (result : Result (Unit {0}) Fault) → result ≡ unless_fault (fault_of engine.core.sizes A (Write t a v)) tt → new.core.sizes ≡ engine.core.sizes → EngineStands new (extended engine.core.sizes A (Write t a v)) → Moved keeps engine A (Write t a v) new (written_or result)
+  pub moved_by_write : (keeps : ℕ → FiringRecord → ℕ → Type 0) (engine new : Whole F) (A : List Step) (t a v : ℕ) (result : Result (Unit {0}) Fault) → result ≡ unless_fault (fault_of engine.core.sizes A (Write t a v)) tt → new.core.sizes ≡ engine.core.sizes → EngineStands new (extended engine.core.sizes A (Write t a v)) → Moved keeps engine A (Write t a v) new (told (λ _. Written) result)
   moved_by_write keeps engine new A t a v result h same st = record {
-    told = told_same keeps engine.core.sizes A (Write t a v) (written_or result) refl (written_told (fault_of engine.core.sizes A (Write t a v)) result h);
+    told = told_same keeps engine.core.sizes A (Write t a v) (told (λ _. Written) result) refl (written_told (fault_of engine.core.sizes A (Write t a v)) result h);
     sizes = same;
     standing = st;
   }

@@ -1,6 +1,6 @@
 -- Which job lies under which ticket, with one step more.
 use Rattle.std.proofs.Common.{◌≡◌, ℕ, ◌<◌, Bool, true, false, cond, eqb, is_some, List, [], ◌∷◌, ◌++◌, map, remove, All, refl, sym, ap, ap₂, ◌∙◌, subst, arith, ne_eqb, one-add}
-use Rattle.std.specs.Prelude.{◌==◌, Option, Some, None, Result, Ok, Err, option_and_then, option_map, IfSome, IfOk, IfErr, IsSomeAnd}
+use Rattle.std.specs.Prelude.{◌==◌, Option, Some, None, Result, Ok, Err, option_and_then, option_map, IfSome, IfOk, OnErr, IsSomeAnd}
 use Rattle.std.specs.List.{find, position_or_len}
 use Rattle.std.specs.Option.{option_or}
 use Rattle.std.proofs.lemmas.Bool.{eqb-true}
@@ -19,15 +19,13 @@ use Rattle.hl_action.specs.Firings.{FiringRecord}
 use Rattle.hl_action.specs.Jobs.{KeptRecord, ReadyRecord}
 use Rattle.hl_drain.specs.declared.action.Action.{Action}
 use Rattle.hl_drain.specs.declared.action.Action.TheVariants.{User}
-use Rattle.hl_drain.specs.declared.action.Ask.{Ask}
 use Rattle.hl_drain.specs.Actions.{waiting_of}
 use Rattle.hl_drain.specs.Lists.{tickets}
 use Rattle.hl_drain.proofs.Rising.{Rises, rises_head, rises_tail}
 use Rattle.hl_core.specs.Standing.{State}
-use Rattle.hl_core.specs.Steps.{Stepped, CameOut, job_in, stored}
+use Rattle.hl_core.specs.Steps.{Stepped, CameOut, job_in}
 use Rattle.hl_cells.specs.HeldActions.{Row, fires, firing_at}
 use Rattle.hl_cells.specs.Engines.{Whole, EngineStands, job_tag}
-use Rattle.hl_cells.specs.EngineSteps.{is_plain}
 use Rattle.hl_cells.specs.Jobs.{of_taken, of_pending, undone_jobs, job_under, JobsStay, JobStored, JobsKept, RunsItsJob}
 use Rattle.hl_cells.proofs.EngineMoves.{answer_or, free_of}
 use Rattle.hl_cells.proofs.HeldRows.{map_remove}
@@ -144,6 +142,10 @@ module _ {F : Type 0} where
   unfolding job_under
   rows_stay old new h p c = ap₂ (λ (row : Row F) ys. under (map of_taken row.actions ++ map of_pending ys) c) h p
 
+  -- a step of the core that leaves what is pending
+  pub core_stays : (core core_new : State (KeptRecord F)) (words : List ℕ) (held : Row F) → core_new.drain.pending ≡ core.drain.pending → JobsStay (record { core = core; words = words; held = held }) (record { core = core_new; words = words; held = held })
+  core_stays core core_new words held p = rows_stay (record { core = core; words = words; held = held }) _ refl p
+
   -- what is pending with one action more
   pending_more : (old new : Whole F) (t : ℕ) (action : Action (KeptRecord F)) → new.held ≡ old.held → new.core.drain.pending ≡ old.core.drain.pending ++ (t, action) ∷ [] → undone_jobs new ≡ undone_jobs old ++ (t, job_in action) ∷ []
   pending_more old new t action h p =
@@ -152,17 +154,17 @@ module _ {F : Type 0} where
       ∙ sym (append_assoc (map of_taken old.held.actions) (map of_pending old.core.drain.pending) ((t, job_in action) ∷ []))
 
   -- an action without a job is stored
-  pub stored_no_job : (old new : Whole F) (t : ℕ) (action : Action (KeptRecord F)) → job_in action ≡ None → new.held ≡ old.held → new.core.drain.pending ≡ old.core.drain.pending ++ (t, action) ∷ [] → JobsStay old new
+  stored_no_job : (old new : Whole F) (t : ℕ) (action : Action (KeptRecord F)) → job_in action ≡ None → new.held ≡ old.held → new.core.drain.pending ≡ old.core.drain.pending ++ (t, action) ∷ [] → JobsStay old new
   unfolding job_under
   stored_no_job old new t action no_job h p c =
       ap (λ xs. under xs c) (pending_more old new t action h p)
       ∙ ap (λ o. under (undone_jobs old ++ (t, o) ∷ []) c) no_job
       ∙ push_nothing (undone_jobs old) t c
 
-  -- what has no job was asked for, stored or refused
-  pub asked_stays : (old : Whole F) (core_new : State (KeptRecord F)) (ask : Ask (KeptRecord F)) (result : Result ℕ (Fault × Ask (KeptRecord F))) → job_in (stored old.core.offsets ask) ≡ None → IfOk result (λ ticket. core_new.drain.pending ≡ old.core.drain.pending ++ (ticket, stored old.core.offsets ask) ∷ []) → IfErr result (λ back. (back.1 ≡ ask) × (core_new ≡ old.core)) → JobsStay old (record { core = core_new; words = old.words; held = old.held })
-  asked_stays old core_new ask (Ok t) no_job put back = stored_no_job old _ t (stored old.core.offsets ask) no_job refl put
-  asked_stays old core_new ask (Err refused) no_job put back = rows_stay old _ refl (ap (λ (core : State (KeptRecord F)). core.drain.pending) back.1)
+  -- an action without a job is stored, or refused
+  pub asked_stays : (old : Whole F) (core_new : State (KeptRecord F)) (action : Action (KeptRecord F)) (result : Result ℕ Fault) → job_in action ≡ None → IfOk result (λ ticket. core_new.drain.pending ≡ old.core.drain.pending ++ (ticket, action) ∷ []) → OnErr result (core_new ≡ old.core) → JobsStay old (record { core = core_new; words = old.words; held = old.held })
+  asked_stays old core_new action (Ok t) no_job put same = stored_no_job old _ t action no_job refl put
+  asked_stays old core_new action (Err fault) no_job put same = rows_stay old _ refl (ap (λ (core : State (KeptRecord F)). core.drain.pending) same)
 
   -- a job is stored
   pub stored_job : (old new : Whole F) (A : List Step) (t : ℕ) (kept : KeptRecord F) → EngineStands new A → new.held ≡ old.held → new.core.drain.pending ≡ old.core.drain.pending ++ (t, User kept) ∷ [] → JobStored kept old new t
@@ -235,12 +237,3 @@ module _ {F : Type 0} where
     where
       found : Found engine.core.sizes A c engine.held
       found = found_at engine A c core_new r st moved
-
-  -- a plain step ends no action
-  pub plain_kept : (old new : Whole F) (s : Step) (result : Result Reply Fault) → is_plain s ≡ true → JobsStay old new → JobsKept old s new result
-  plain_kept old new (Done c) result e stay = cc
-  plain_kept old new s result e stay = stay
-
-  pub plain_ran : (gives : F → FiringRecord → ℕ → Type 0) (engine : Whole F) (A : List Step) (s : Step) (result : Result Reply Fault) → is_plain s ≡ true → RunsItsJob gives engine A s result
-  plain_ran gives engine A (Done c) result e = cc
-  plain_ran gives engine A s result e = tt

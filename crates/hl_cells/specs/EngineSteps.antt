@@ -4,7 +4,7 @@ use Rattle.hl_model.specs.declared.fault.Fault.{Fault}
 use Rattle.hl_model.specs.declared.step.Reply.{Reply}
 use Rattle.hl_model.specs.declared.step.Reply.TheVariants.{Ran, Answer, Ticket}
 use Rattle.hl_model.specs.declared.step.Step.{Step}
-use Rattle.hl_model.specs.declared.step.Step.TheVariants.{Bump, Settle, Close, Take, Done, Write, Read, CleanDone}
+use Rattle.hl_model.specs.declared.step.Step.TheVariants.{Bump, Done}
 use Rattle.hl_model.specs.Sizes.{Sizes}
 use Rattle.hl_model.specs.Replies.{word_reply_of, extended}
 use Rattle.hl_action.specs.Firings.{FiringRecord}
@@ -41,15 +41,3 @@ is_job_bump _ = false
 abbrev pub ticket_told : {F : Type 0} → Result ℕ (Fault × KeptRecord F) → Result Reply Fault
 ticket_told (Ok ticket) = Ok (Ticket ticket)
 ticket_told (Err refused) = Err refused.0
-
--- a step that reads no word, changes none, and stores, takes and ends no action
-abbrev pub is_plain : Step → Bool
-is_plain (Bump tag) = false
-is_plain Settle = false
-is_plain Close = false
-is_plain Take = false
-is_plain (Done ticket) = false
-is_plain (Write t a v) = false
-is_plain (Read t a) = false
-is_plain (CleanDone page) = false
-is_plain _ = true

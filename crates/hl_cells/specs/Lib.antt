@@ -3,3 +3,10 @@ pub mod EngineSteps
 pub mod Engines
 pub mod HeldActions
 pub mod Jobs
+pub use Rattle.hl_model.specs.Actions
+pub use Rattle.hl_model.specs.Frames
+pub use Rattle.hl_model.specs.Replies
+pub use Rattle.hl_model.specs.Snapshots
+pub use Rattle.hl_model.specs.Views
+pub use Rattle.hl_model.specs.Words
+pub use Rattle.hl_core.specs.Steps

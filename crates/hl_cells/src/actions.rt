@@ -1,6 +1,8 @@
 ghost use Rattle.std.specs.Prelude.{◌≡◌, List, OnErr, IfOk, IfErr};
 ghost use Rattle.hl_model.specs.declared.step.Step.{Step as STEP};
-ghost use Rattle.hl_model.specs.declared.step.Step.TheVariants.{Bump as BUMP, Settle as SETTLE, Close as CLOSE, Take as TAKE, Done as DONE};
+ghost use Rattle.hl_model.specs.declared.step.Reply.TheVariants.{Ticket as TICKET, Bumped as BUMPED, Taken as TAKEN};
+ghost use Rattle.hl_model.specs.declared.step.Step.TheVariants.{Bump as BUMP, Settle as SETTLE, Close as CLOSE, Bare as BARE, Take as TAKE, Done as DONE};
+ghost use Rattle.hl_core.specs.Steps.{told};
 ghost use Rattle.hl_cells.specs.Engines.{EngineStands, IsEngine};
 ghost use Rattle.hl_cells.specs.EngineSteps.{Moves, ticket_told};
 ghost use Rattle.hl_cells.specs.Jobs.{JobStored, JobsStay, JobsKept, RunsItsJob};
@@ -9,7 +11,7 @@ use crate::engine::Engine;
 use hl_action::{Kept, Promise, Ready, Task};
 use hl_drain::Ask;
 use hl_epoch::Epochs;
-use hl_model::{Fault, Reply, Step};
+use hl_model::{Fault, Reply};
 
 // What names the origin of a taken action. An engine has one drain list alone.
 const ORIGIN: u64 = 0;
@@ -34,53 +36,73 @@ impl<E: Epochs + Drop, F: Task, P: Promise> Engine<E, F, P> {
         }
     }
 
-    /// Stores an action that settles the read-only offset as it stands.
-    pub(crate) fn settle(&mut self) -> Result<Reply, Fault>
-        ensures moved { Moves P.keeps self.old SETTLE self.new result }
+    /// Ends the current epoch, and stores under it an action that settles the read-only offset as it stands; the
+    /// answer is the ticket, the epoch that ended.
+    ///
+    /// Faults: as [`bump`](Engine::bump).
+    pub fn settle(&mut self) -> Result<u64, Fault>
+        ensures moved { Moves P.keeps self.old SETTLE self.new (told TICKET result) }
         ensures jobs { JobsStay self.old self.new }
         ensures refused { OnErr result (self.new ≡ self.old) }
         ensures stood { IsEngine self.old }
     {
-        match self.core.bump(Ask::Settle) {
-            Ok(ticket) => Ok(Reply::Ticket(ticket)),
-            Err((fault, _)) => Err(fault),
-        }
+        self.core.settle()
     }
 
-    /// Stores an action that closes the pages below the head as it stands.
-    pub(crate) fn close(&mut self) -> Result<Reply, Fault>
-        ensures moved { Moves P.keeps self.old CLOSE self.new result }
+    /// Ends the current epoch, and stores under it an action that closes the pages below the head as it stands; the
+    /// answer is the ticket, the epoch that ended.
+    ///
+    /// Faults: as [`bump`](Engine::bump).
+    pub fn close(&mut self) -> Result<u64, Fault>
+        ensures moved { Moves P.keeps self.old CLOSE self.new (told TICKET result) }
         ensures jobs { JobsStay self.old self.new }
         ensures refused { OnErr result (self.new ≡ self.old) }
         ensures stood { IsEngine self.old }
     {
-        match self.core.bump(Ask::Close) {
-            Ok(ticket) => Ok(Reply::Ticket(ticket)),
-            Err((fault, _)) => Err(fault),
-        }
+        self.core.close()
     }
 
-    /// Takes the oldest pending action, and holds it with its firing until it is done.
-    pub(crate) fn take(&mut self) -> Result<Reply, Fault>
-        ensures moved { Moves P.keeps self.old TAKE self.new result }
+    /// Ends the current epoch, and stores nothing; the answer is the epoch that ended. It needs no place in the drain
+    /// list.
+    ///
+    /// Faults, in their order: `EpochsSpent` where the current epoch is the last, `WindowFull` where 4,096 epochs have
+    /// ended and aren't safe.
+    pub fn bare(&mut self) -> Result<u64, Fault>
+        ensures moved { Moves P.keeps self.old BARE self.new (told BUMPED result) }
+        ensures jobs { JobsStay self.old self.new }
+        ensures refused { OnErr result (self.new ≡ self.old) }
+        ensures stood { IsEngine self.old }
+    {
+        self.core.bare()
+    }
+
+    /// Takes the oldest pending action, and holds it with its firing until it is done; the answer is its ticket.
+    ///
+    /// Faults, in their order: `Empty` where none is pending, `NotReady` where its ticket is above the safe epoch.
+    pub fn take(&mut self) -> Result<u64, Fault>
+        ensures moved { Moves P.keeps self.old TAKE self.new (told TAKEN result) }
         ensures jobs { JobsStay self.old self.new }
         ensures refused { OnErr result (self.new ≡ self.old) }
         ensures stood { IsEngine self.old }
     {
         let (firing, kept) = self.core.take()?;
         self.held.push(Ready::of(ORIGIN, firing, kept));
-        Ok(Reply::Taken(firing.ticket()))
+        Ok(firing.ticket())
     }
 
-    /// A taken action is carried out: its job is run, if it has one, and its answer is the reply.
-    pub(crate) fn done(&mut self, ticket: u64) -> Result<Reply, Fault>
+    /// A taken action is carried out. A job is run, once, under the firing of its take, and answered `Answer` with what
+    /// it gave; a settle and a close raise their offset to what they stored, where it is below, and are answered
+    /// `Settled` with the safe read-only offset after it, `Closed` with the closed one.
+    ///
+    /// Fault: `NotTaken` where the ticket isn't that of an action that was taken and isn't done.
+    pub fn done(&mut self, ticket: u64) -> Result<Reply, Fault>
         ensures moved { Moves P.keeps self.old (DONE ticket) self.new result }
         ensures jobs { JobsKept self.old (DONE ticket) self.new result }
         ensures ran { (A : List STEP) → EngineStands self.old A → RunsItsJob F.gives self.old A (DONE ticket) result }
         ensures refused { OnErr result (self.new ≡ self.old) }
         ensures stood { IsEngine self.old }
     {
-        let reply = self.core.act(&Step::Done { ticket })?;
+        let reply = self.core.done(ticket)?;
         match self.held.run(ticket) {
             Some(answer) => Ok(Reply::Answer(answer)),
             None => Ok(reply),

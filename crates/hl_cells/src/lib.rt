@@ -4,6 +4,12 @@
 //! frames of its HybridLog. A core knows addresses only; an engine keeps the words, F frames of P words, and runs
 //! the jobs that bumps stored.
 //!
+//! # One step
+//!
+//! Each kind of step has a call of its own, whose answer has a type of its own, as a core's has: [`Engine::allocate`]
+//! answers an address, [`Engine::read`] a word, [`Engine::done`] what the job answered. [`Engine::step`] makes any step
+//! but a bump, where steps are plain values, and tells the answer as a reply.
+//!
 //! # Words
 //!
 //! Words are known by addresses, and kept by frames: page p lies in frame p mod F, so frames go round. A frame shows
@@ -32,9 +38,18 @@ mod actions;
 mod cells;
 mod engine;
 mod held;
+mod log;
+mod pages;
 mod queries;
+mod slots;
 mod step;
 mod undone;
 mod words;
 
 pub use engine::Engine;
+pub use hl_action::{AnyAnswer, Call, Firing, Kept, NoJob, Promise, Task};
+pub use hl_drain::{Action, Drain};
+pub use hl_epoch::{Epochs, ScanTable};
+pub use hl_model::{
+    Fault, FrameState, Kind, Params, Reply, Six, Slot, Snapshot, Step, Tagged, View, Waiting,
+};

@@ -1,13 +1,14 @@
-ghost use Rattle.std.specs.Prelude.{◌≡◌, true, false, List, OnErr};
+ghost use Rattle.std.specs.Prelude.{◌≡◌, false, List, OnErr};
 ghost use Rattle.hl_model.specs.declared.step.Step.{Step as STEP};
+ghost use Rattle.hl_core.specs.Steps.{entered_reply};
 ghost use Rattle.hl_cells.specs.Engines.{EngineStands, IsEngine};
-ghost use Rattle.hl_cells.specs.EngineSteps.{Moves, is_job_bump, is_plain};
+ghost use Rattle.hl_cells.specs.EngineSteps.{Moves, is_job_bump};
 ghost use Rattle.hl_cells.specs.Jobs.{JobsKept, RunsItsJob};
 
 use crate::engine::Engine;
 use hl_action::{Promise, Task};
 use hl_epoch::Epochs;
-use hl_model::{Fault, Reply, Step};
+use hl_model::{Fault, Reply, Slot, Step};
 
 impl<E: Epochs + Drop, F: Task, P: Promise> Engine<E, F, P> {
     /// Makes a step, of any kind but a bump, of which a job goes in. The faults are tried in their order, and a
@@ -28,30 +29,33 @@ impl<E: Epochs + Drop, F: Task, P: Promise> Engine<E, F, P> {
         ensures stood { IsEngine self.old }
     {
         match *step {
+            Step::Acquire { t } => self.acquire(t).map(entered),
+            Step::Refresh { t } => self.refresh(t).map(entered),
+            Step::Release { t } => self.release(t).map(|()| Reply::Left),
             Step::Bump { .. } => unreachable!(),
-            Step::Settle => self.settle(),
-            Step::Close => self.close(),
-            Step::Take => self.take(),
+            Step::Settle => self.settle().map(Reply::Ticket),
+            Step::Close => self.close().map(Reply::Ticket),
+            Step::Bare => self.bare().map(Reply::Bumped),
+            Step::Take => self.take().map(Reply::Taken),
             Step::Done { ticket } => self.done(ticket),
-            Step::Write { t, a, v } => {
-                self.write(t, a, v)?;
-                Ok(Reply::Written)
-            }
-            Step::Read { t, a } => self.read_step(t, a),
-            Step::CleanDone { page } => self.clean_done(page),
-            _ => self.act(step),
+            Step::Raise { x } => self.raise(x).map(Reply::Raised),
+            Step::Shift { x } => self.shift(x).map(Reply::Shifted),
+            Step::Allocate { t, n } => self.allocate(t, n).map(Reply::At),
+            Step::Look { t, read_only, head } => self.look(t, read_only, head).map(Reply::Looked),
+            Step::Write { t, a, v } => self.write(t, a, v).map(|()| Reply::Written),
+            Step::Read { t, a } => self.read(t, a).map(Reply::Value),
+            Step::FlushTake => self.flush_take().map(Reply::Page),
+            Step::FlushDone { page, ok } => self.flush_done(page, ok).map(Reply::Flushed),
+            Step::CleanTake => self.clean_take().map(Reply::Page),
+            Step::CleanDone { page } => self.clean_done(page).map(Reply::Freed),
         }
     }
+}
 
-    /// Makes a step that reads no word, changes none, and takes and ends no action.
-    fn act(&mut self, step: &Step) -> Result<Reply, Fault>
-        requires { is_plain step.now ≡ true }
-        ensures moved { Moves P.keeps self.old step.now self.new result }
-        ensures jobs { JobsKept self.old step.now self.new result }
-        ensures ran { (A : List STEP) → EngineStands self.old A → RunsItsJob F.gives self.old A step.now result }
-        ensures refused { OnErr result (self.new ≡ self.old) }
-        ensures stood { IsEngine self.old }
-    {
-        self.core.act(step)
-    }
+/// What a slot has, as the reply to the step by which it entered.
+fn entered(slot: Slot) -> Reply
+    ensures { result ≡ entered_reply slot }
+{
+    let Slot { epoch, view } = slot;
+    Reply::Entered { epoch, view }
 }

@@ -1,17 +1,16 @@
 ghost use Rattle.std.specs.Prelude.{◌≡◌, ◌*◌, ◌%◌, ◌<◌, List, OnErr};
 ghost use Rattle.hl_model.specs.declared.step.Step.{Step as STEP};
-ghost use Rattle.hl_model.specs.declared.step.Step.TheVariants.{Read as READ, Write as WRITE, CleanDone as CLEAN_DONE};
+ghost use Rattle.hl_model.specs.declared.step.Step.TheVariants.{Read as READ, Write as WRITE};
 ghost use Rattle.hl_model.specs.Words.{word, page_words};
 ghost use Rattle.hl_model.specs.Replies.{fault_of, unless_fault, extended};
 ghost use Rattle.hl_cells.specs.CellWords.{cell_at};
 ghost use Rattle.hl_cells.specs.Engines.{EngineStands, IsEngine, Shows};
-ghost use Rattle.hl_cells.specs.EngineSteps.{Moves};
 ghost use Rattle.hl_cells.specs.Jobs.{JobsStay};
 
 use crate::engine::Engine;
 use hl_action::{Promise, Task};
 use hl_epoch::Epochs;
-use hl_model::{Fault, Reply, Step, cell_of};
+use hl_model::{Fault, cell_of};
 
 impl<E: Epochs + Drop, F: Task, P: Promise> Engine<E, F, P> {
     /// The word at address a, read by slot t. A word that was never written is 0.
@@ -19,10 +18,11 @@ impl<E: Epochs + Drop, F: Task, P: Promise> Engine<E, F, P> {
     /// Faults, in their order: `NoSlot`, `NotProtected`, `Evicted` where the address is below the head that the slot
     /// saw, `Beyond` where it is at or above the tail that the slot saw.
     pub fn read(&self, t: u64, a: u64) -> Result<u64, Fault>
-        ensures { (A : List STEP) → EngineStands self.now A
+        ensures value { (A : List STEP) → EngineStands self.now A
             → result ≡ unless_fault (fault_of self.now.core.sizes A (READ t a)) (word a A) }
+        ensures stood { IsEngine self.now }
     {
-        self.core.check(&Step::Read { t, a })?;
+        self.core.may_read(t, a)?;
         let cell = self.cell_of(a);
         Ok(self.words.word(cell))
     }
@@ -42,7 +42,7 @@ impl<E: Epochs + Drop, F: Task, P: Promise> Engine<E, F, P> {
         ensures stood { IsEngine self.old }
     {
         let cell = self.cell_of(a);
-        self.core.act(&Step::Write { t, a, v })?;
+        self.core.may_write(t, a)?;
         self.words.set(cell, v);
         Ok(())
     }
@@ -56,32 +56,6 @@ impl<E: Epochs + Drop, F: Task, P: Promise> Engine<E, F, P> {
         self.words.part(self.first_cell(page), self.page_len())
     }
 
-    /// Reads the word at address a as a step.
-    pub(crate) fn read_step(&mut self, t: u64, a: u64) -> Result<Reply, Fault>
-        ensures moved { Moves P.keeps self.old (READ t a) self.new result }
-        ensures jobs { JobsStay self.old self.new }
-        ensures refused { OnErr result (self.new ≡ self.old) }
-        ensures stood { IsEngine self.old }
-    {
-        let cell = self.cell_of(a);
-        self.core.act(&Step::Read { t, a })?;
-        Ok(Reply::Value(self.words.word(cell)))
-    }
-
-    /// A page's cleaning ends: its words become 0, and its frame is free.
-    pub(crate) fn clean_done(&mut self, page: u64) -> Result<Reply, Fault>
-        ensures moved { Moves P.keeps self.old (CLEAN_DONE page) self.new result }
-        ensures jobs { JobsStay self.old self.new }
-        ensures refused { OnErr result (self.new ≡ self.old) }
-        ensures stood { IsEngine self.old }
-    {
-        let start = self.first_cell(page);
-        let len = self.page_len();
-        let reply = self.core.act(&Step::CleanDone { page })?;
-        self.words.zero(start, len);
-        Ok(reply)
-    }
-
     /// The cell of address a.
     fn cell_of(&self, a: u64) -> usize
         ensures value { let sizes = self.now.core.sizes in result ≡ cell_at sizes a }
@@ -91,7 +65,7 @@ impl<E: Epochs + Drop, F: Task, P: Promise> Engine<E, F, P> {
     }
 
     /// The cell of a page's first word.
-    fn first_cell(&self, page: u64) -> usize
+    pub(crate) fn first_cell(&self, page: u64) -> usize
         ensures { let sizes = self.now.core.sizes in result ≡ page % sizes.frames * sizes.page }
     {
         let params = self.core.params();
@@ -99,7 +73,7 @@ impl<E: Epochs + Drop, F: Task, P: Promise> Engine<E, F, P> {
     }
 
     /// The words of a page.
-    fn page_len(&self) -> usize
+    pub(crate) fn page_len(&self) -> usize
         ensures { result ≡ self.now.core.sizes.page }
     {
         self.core.params().page() as usize

@@ -181,6 +181,10 @@ module _ {J : Type 0} (tag : J → ℕ) (core : State J) where
   enters_new q r may b is f told free A st =
       ap (λ e. e || may_enter core.sizes q A) (sym (told A st) ∙ f) ∙ sym (enter_found tag core A q st) ∙ sym free ∙ is
 
+  -- what is told of an address's page, by the words of a page
+  pub entered_at : (place page : ℕ) (r : Bool) → page ≡ core.sizes.page → EnteredAs (place / core.sizes.page) r → EnteredAs (place / page) r
+  entered_at place page r is told = subst (λ (w : ℕ). EnteredAs (place / w) r) (sym is) told
+
   -- what is told of a page, by its answer
   pub entered_as : (q : ℕ) (r b : Bool) → r ≡ b → EnteredAs q r → EnteredAs q b
   entered_as q r b is told A st = sym is ∙ told A st

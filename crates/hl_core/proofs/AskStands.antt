@@ -29,7 +29,7 @@ use Rattle.hl_drain.specs.Actions.{waiting_of}
 use Rattle.hl_drain.specs.Lists.{Lists, IsDrain, count_of, tickets, after_put}
 use Rattle.hl_core.specs.Standing.{State, Stands, IsStanding, log_of}
 use Rattle.hl_core.specs.Rise.{rise_fault}
-use Rattle.hl_core.specs.Steps.{Made, asking, stored}
+use Rattle.hl_core.specs.Steps.{Made, asking, stored, told}
 use Rattle.hl_core.proofs.TableLaws.{make}
 use Rattle.hl_core.proofs.QuietLaws.{OffsetsStay, PagesStay, log-stays, pages-stay}
 use Rattle.hl_core.proofs.Refusals.{call_accepts}
@@ -178,12 +178,12 @@ module _ {J : Type 0} (tag : J → ℕ) where
       refused_step tag core A (asking tag ask) DrainFull st ((stores tag ask).fault core.sizes A ∙ ap (λ b. cond b (Some DrainFull) (bare_fault core.sizes A)) (is_full-list core A st le))
 
   -- a refused bare bump
-  pub bare_err : (core : State J) (f : Fault) (table : Table) → Err f ≡ unless_fault (rise_fault core.table) core.table.current → table ≡ unless_refused (rise_fault core.table) core.table (bumped core.table) → Made tag core Bare (record { sizes = core.sizes; table = table; views = core.views; drain = core.drain; offsets = core.offsets; pages = core.pages }) (Err f)
+  bare_err : (core : State J) (f : Fault) (table : Table) → Err f ≡ unless_fault (rise_fault core.table) core.table.current → table ≡ unless_refused (rise_fault core.table) core.table (bumped core.table) → Made tag core Bare (record { sizes = core.sizes; table = table; views = core.views; drain = core.drain; offsets = core.offsets; pages = core.pages }) (Err f)
   bare_err core f table a e =
       table_refused tag core Bare f (rise_fault core.table) core.table.current (bumped core.table) table a e (bare_fault-table core)
 
   -- an accepted bare bump
-  pub bare_ok : (core : State J) (ended : ℕ) (table : Table) → Ok ended ≡ unless_fault (rise_fault core.table) core.table.current → table ≡ unless_refused (rise_fault core.table) core.table (bumped core.table) → Made tag core Bare (record { sizes = core.sizes; table = table; views = core.views; drain = core.drain; offsets = core.offsets; pages = core.pages }) (Ok (Bumped ended))
+  bare_ok : (core : State J) (ended : ℕ) (table : Table) → Ok ended ≡ unless_fault (rise_fault core.table) core.table.current → table ≡ unless_refused (rise_fault core.table) core.table (bumped core.table) → Made tag core Bare (record { sizes = core.sizes; table = table; views = core.views; drain = core.drain; offsets = core.offsets; pages = core.pages }) (Ok (Bumped ended))
   bare_ok core ended table a eff A st =
       accepted_step tag core (record { sizes = core.sizes; table = table; views = core.views; drain = core.drain; offsets = core.offsets; pages = core.pages }) A Bare (Bumped ended) free refl reply
       (quiet_drain tag core A Bare table core.views core.offsets core.pages st free (record { takes_none = refl; ends_none = λ c. refl; stores_none = refl }) table_is
@@ -206,6 +206,11 @@ module _ {J : Type 0} (tag : J → ℕ) where
 
       reply : Bumped (bumps (A ++ Bare ∷ [])) ≡ Bumped ended
       reply = ap (λ n. Bumped n) (omega (arith, bumps-push A Bare, is, current_epoch-bumps A))
+
+  -- a bare bump
+  pub bare_made : (core : State J) (result : Result ℕ Fault) (table : Table) → result ≡ unless_fault (rise_fault core.table) core.table.current → table ≡ unless_refused (rise_fault core.table) core.table (bumped core.table) → Made tag core Bare (record { sizes = core.sizes; table = table; views = core.views; drain = core.drain; offsets = core.offsets; pages = core.pages }) (told Bumped result)
+  bare_made core (Ok ended) table a e = bare_ok core ended table a e
+  bare_made core (Err f) table a e = bare_err core f table a e
 
   -- a bump of a list with room that is refused: the epoch may not rise
   pub bump_spent : (core : State J) (ask : Ask J) (f : Fault) (table : Table) → count_of core.drain < core.drain.limit → Err f ≡ unless_fault (rise_fault core.table) core.table.current → table ≡ unless_refused (rise_fault core.table) core.table (bumped core.table) → Made tag core (asking tag ask) (record { sizes = core.sizes; table = table; views = core.views; drain = core.drain; offsets = core.offsets; pages = core.pages }) (Err f)

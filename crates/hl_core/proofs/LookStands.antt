@@ -1,6 +1,6 @@
 -- Where a core stands after a look, a write and a read.
 use Rattle.std.proofs.Common.{◌≡◌, ℕ, ◌<◌, true, false, cond, List, [], ◌∷◌, ◌++◌, length, set, refl, sym, ap, ap₂, ◌∙◌, arith, eq-eqb}
-use Rattle.std.specs.Prelude.{Option, Some, None, unwrap_or, Ok, Err}
+use Rattle.std.specs.Prelude.{Option, Some, None, unwrap_or, Result, Ok, Err}
 use Rattle.hl_model.specs.declared.fault.Fault.{Fault}
 use Rattle.hl_model.specs.declared.step.Reply.{Reply}
 use Rattle.hl_model.specs.declared.step.Reply.TheVariants.{Looked, Written, Readable}
@@ -14,7 +14,7 @@ use Rattle.hl_model.specs.Replies.{fault_of, answer_of, unless_fault}
 use Rattle.hl_model.proofs.NoFaultLaws.{look-none, protected-none, unless_err, unless_ok}
 use Rattle.hl_model.proofs.ViewLaws.{slot_views-look, slot_views-stay, length-slot_views, seen_read_only-push, seen_head-push, seen_tail-stay}
 use Rattle.hl_core.specs.Standing.{State, Stands, IsStanding}
-use Rattle.hl_core.specs.Steps.{Made}
+use Rattle.hl_core.specs.Steps.{Stepped, Made, told}
 use Rattle.hl_core.proofs.TableLaws.{table_stays}
 use Rattle.hl_core.proofs.QuietLaws.{OffsetsStay, PagesStay, log-stays, pages-stay}
 use Rattle.hl_core.proofs.StandLaws.{DrainStays, refused_step, accepted_step, quiet_drain}
@@ -59,18 +59,26 @@ module _ {J : Type 0} (tag : J → ℕ) where
       omega (arith, (protected-none core.sizes A t (look-none core.sizes A t r h free).0).0, ap length st.views_is, length-slot_views core.sizes A)
 
   -- an accepted step that moves nothing
-  nothing_moves : (core : State J) (s : Step) (r : Reply) → ((A : List Step) → DrainStays tag A s) → OffsetsStay s → PagesStay s → is_bump s ≡ false → ((t : ℕ) → enters t s ≡ false) → ((t : ℕ) → leaves t s ≡ false) → ((t : ℕ) → allocates t s ≡ false) → ((t : ℕ) → looked_read_only t s ≡ None) → ((t : ℕ) → looked_head t s ≡ None) → ((A : List Step) → answer_of core.sizes A (A ++ s ∷ []) s ≡ r) → ((A : List Step) → Stands tag core A → Ok (tt {0}) ≡ unless_fault (fault_of core.sizes A s) (tt {0})) → Made tag core s core (Ok r)
-  nothing_moves core s r d o p no_bump e l a x y reply told A st =
-      let free : fault_of core.sizes A s ≡ None = (unless_ok (fault_of core.sizes A s) (tt {0}) (tt {0}) (told A st)).0 in
-      accepted_step tag core core A s r free refl (reply A) (views_moved core A s core.views st free (d A) o p no_bump e l (st.views_is ∙ sym (slot_views-stay core.sizes A s e l a x y)))
+  nothing_moves : (core : State J) (A : List Step) (s : Step) (r : Reply) → Stands tag core A → fault_of core.sizes A s ≡ None → DrainStays tag A s → OffsetsStay s → PagesStay s → is_bump s ≡ false → ((t : ℕ) → enters t s ≡ false) → ((t : ℕ) → leaves t s ≡ false) → ((t : ℕ) → allocates t s ≡ false) → ((t : ℕ) → looked_read_only t s ≡ None) → ((t : ℕ) → looked_head t s ≡ None) → answer_of core.sizes A (A ++ s ∷ []) s ≡ r → Stepped tag core A s core (Ok r)
+  nothing_moves core A s r st free d o p no_bump e l a x y reply =
+      accepted_step tag core core A s r free refl reply (views_moved core A s core.views st free d o p no_bump e l (st.views_is ∙ sym (slot_views-stay core.sizes A s e l a x y)))
 
   -- an accepted write and an accepted read
-  pub write_ok : (core : State J) (t a v : ℕ) → ((A : List Step) → Stands tag core A → Ok (tt {0}) ≡ unless_fault (fault_of core.sizes A (Write t a v)) (tt {0})) → Made tag core (Write t a v) core (Ok Written)
-  write_ok core t a v told =
-      nothing_moves core (Write t a v) Written (λ A. record { takes_none = refl; ends_none = λ c. refl; stores_none = refl }) (record { done = refl; raised = refl; shifted = refl; allocated = λ x y. refl })
-      (record { flush_taken = refl; flush_ended = refl; flushed = λ x. refl; clean_taken = refl; clean_ended = refl; freed = λ x. refl }) refl (λ x. refl) (λ x. refl) (λ x. refl) (λ x. refl) (λ x. refl) (λ A. refl) told
+  write_ok : (core : State J) (A : List Step) (t a v : ℕ) → Stands tag core A → fault_of core.sizes A (Write t a v) ≡ None → Stepped tag core A (Write t a v) core (Ok Written)
+  write_ok core A t a v st free =
+      nothing_moves core A (Write t a v) Written st free (record { takes_none = refl; ends_none = λ c. refl; stores_none = refl }) (record { done = refl; raised = refl; shifted = refl; allocated = λ x y. refl })
+      (record { flush_taken = refl; flush_ended = refl; flushed = λ x. refl; clean_taken = refl; clean_ended = refl; freed = λ x. refl }) refl (λ x. refl) (λ x. refl) (λ x. refl) (λ x. refl) (λ x. refl) refl
 
-  pub read_ok : (core : State J) (t a : ℕ) → ((A : List Step) → Stands tag core A → Ok (tt {0}) ≡ unless_fault (fault_of core.sizes A (Read t a)) (tt {0})) → Made tag core (Read t a) core (Ok Readable)
-  read_ok core t a told =
-      nothing_moves core (Read t a) Readable (λ A. record { takes_none = refl; ends_none = λ c. refl; stores_none = refl }) (record { done = refl; raised = refl; shifted = refl; allocated = λ x y. refl })
-      (record { flush_taken = refl; flush_ended = refl; flushed = λ x. refl; clean_taken = refl; clean_ended = refl; freed = λ x. refl }) refl (λ x. refl) (λ x. refl) (λ x. refl) (λ x. refl) (λ x. refl) (λ A. refl) told
+  pub read_ok : (core : State J) (A : List Step) (t a : ℕ) → Stands tag core A → fault_of core.sizes A (Read t a) ≡ None → Stepped tag core A (Read t a) core (Ok Readable)
+  read_ok core A t a st free =
+      nothing_moves core A (Read t a) Readable st free (record { takes_none = refl; ends_none = λ c. refl; stores_none = refl }) (record { done = refl; raised = refl; shifted = refl; allocated = λ x y. refl })
+      (record { flush_taken = refl; flush_ended = refl; flushed = λ x. refl; clean_taken = refl; clean_ended = refl; freed = λ x. refl }) refl (λ x. refl) (λ x. refl) (λ x. refl) (λ x. refl) (λ x. refl) refl
+
+  -- a write and a read, accepted or not
+  pub write_made : (core : State J) (t a v : ℕ) (result : Result (Unit {0}) Fault) → ((A : List Step) → Stands tag core A → result ≡ unless_fault (fault_of core.sizes A (Write t a v)) (tt {0})) → Made tag core (Write t a v) core (told (λ _. Written) result)
+  write_made core t a v (Ok u) h A st = write_ok core A t a v st (unless_ok (fault_of core.sizes A (Write t a v)) (tt {0}) (tt {0}) (h A st)).0
+  write_made core t a v (Err f) h A st = refused_by core (Write t a v) f (λ B. tt {0}) h A st
+
+  pub read_made : (core : State J) (t a : ℕ) (result : Result (Unit {0}) Fault) → ((A : List Step) → Stands tag core A → result ≡ unless_fault (fault_of core.sizes A (Read t a)) (tt {0})) → Made tag core (Read t a) core (told (λ _. Readable) result)
+  read_made core t a (Ok u) h A st = read_ok core A t a st (unless_ok (fault_of core.sizes A (Read t a)) (tt {0}) (tt {0}) (h A st)).0
+  read_made core t a (Err f) h A st = refused_by core (Read t a) f (λ B. tt {0}) h A st

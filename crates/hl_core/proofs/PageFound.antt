@@ -44,6 +44,10 @@ module _ {J : Type 0} (tag : J → ℕ) (core : State J) where
   pub entered_found : (q : ℕ) (told : Bool) → told ≡ ltb q core.pages.entered → (A : List Step) → Stands tag core A → told ≡ is_entered core.sizes q A
   entered_found q told is A st = is ∙ ap (λ (p : Pages). ltb q p.entered) st.pages_is ∙ is_entered-is core.sizes A q (page_some core.sizes st.in_range)
 
+  -- and whether an address's page is
+  pub entered_at_found : (a : ℕ) (told : Bool) → told ≡ ltb (a / core.pages.page) core.pages.entered → (A : List Step) → Stands tag core A → told ≡ is_entered core.sizes (a / core.sizes.page) A
+  entered_at_found a told is A st = entered_found (a / core.pages.page) told is A st ∙ ap (λ (p : Pages). is_entered core.sizes (a / p.page) A) st.pages_is
+
   -- what a frame is at
   pub state_found : (A : List Step) (f : ℕ) → Stands tag core A → f < core.sizes.frames → state_of f core.offsets.safe_read_only core.offsets.closed core.pages ≡ frame_of core.sizes f A
   state_found A f st h =

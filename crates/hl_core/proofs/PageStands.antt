@@ -1,6 +1,6 @@
 -- Where a core stands after a step on a page.
 use Rattle.std.proofs.Common.{◌≡◌, ℕ, Bool, true, false, cond, List, [], ◌∷◌, ◌++◌, refl, sym, ap, ◌∙◌, subst}
-use Rattle.std.specs.Prelude.{Option, Some, None, Ok, Err, unwrap_or}
+use Rattle.std.specs.Prelude.{Option, Some, None, Result, Ok, Err, unwrap_or}
 use Rattle.hl_model.specs.declared.fault.Fault.{Fault}
 use Rattle.hl_model.specs.declared.fault.Fault.TheVariants.{NoneSealed, NotInFlight, NoneClosed, NotCleaning}
 use Rattle.hl_model.specs.declared.step.Reply.TheVariants.{Page, Flushed, Freed}
@@ -16,7 +16,7 @@ use Rattle.hl_model.proofs.ViewLaws.{slot_views-stay}
 use Rattle.hl_frames.specs.Pages.{Pages, flushed_offset, is_in_flight as IN_FLIGHT, is_cleaning as CLEANING, next_to_flush as NEXT_TO_FLUSH, next_to_clean as NEXT_TO_CLEAN}
 use Rattle.hl_frames.specs.Answers.{page_or, after_take, flush_begun, flush_ended, flush_done_answer, after_flush_done, clean_begun, clean_ended, clean_done_answer, after_clean_done}
 use Rattle.hl_core.specs.Standing.{State, Stands, pages_of}
-use Rattle.hl_core.specs.Steps.{Stepped, Made}
+use Rattle.hl_core.specs.Steps.{Stepped, Made, told}
 use Rattle.hl_core.proofs.PageFound.{flush_found, clean_found, flight_found, cleaning_found}
 use Rattle.hl_core.proofs.PageOffsets.{pages_of-flushed}
 use Rattle.hl_core.proofs.PageMoves.{flush_begun-is, flush_ended-is, clean_begun-is, clean_ended-is}
@@ -80,14 +80,14 @@ module _ {J : Type 0} (tag : J → ℕ) where
       subst (λ (z : Pages). Stepped tag core A s (record { sizes = core.sizes; table = core.table; views = core.views; drain = core.drain; offsets = core.offsets; pages = z }) (Err f)) (sym same) (refused_step tag core A s f st h)
 
   -- a refused flush take
-  pub flush_take_err : (core : State J) (sro : ℕ) (f : Fault) (pages : Pages) → sro ≡ core.offsets.safe_read_only → Err f ≡ page_or NoneSealed (NEXT_TO_FLUSH sro core.pages) → pages ≡ after_take flush_begun (NEXT_TO_FLUSH sro core.pages) core.pages → Made tag core FlushTake (record { sizes = core.sizes; table = core.table; views = core.views; drain = core.drain; offsets = core.offsets; pages = pages }) (Err f)
+  flush_take_err : (core : State J) (sro : ℕ) (f : Fault) (pages : Pages) → sro ≡ core.offsets.safe_read_only → Err f ≡ page_or NoneSealed (NEXT_TO_FLUSH sro core.pages) → pages ≡ after_take flush_begun (NEXT_TO_FLUSH sro core.pages) core.pages → Made tag core FlushTake (record { sizes = core.sizes; table = core.table; views = core.views; drain = core.drain; offsets = core.offsets; pages = pages }) (Err f)
   flush_take_err core sro f pages at h e A st =
       let told : (NEXT_TO_FLUSH sro core.pages ≡ None) × (f ≡ NoneSealed) = taken_err NoneSealed f (NEXT_TO_FLUSH sro core.pages) h in
       let none : next_to_flush core.sizes A ≡ None = sym (ap (λ n. NEXT_TO_FLUSH n core.pages) at ∙ flush_found tag core A st) ∙ told.0 in
       pages_refuse core A FlushTake f pages st (ap (unless_page NoneSealed) none ∙ ap Some (sym told.1)) (e ∙ ap (λ o. after_take flush_begun o core.pages) told.0)
 
   -- an accepted flush take
-  pub flush_take_ok : (core : State J) (sro q : ℕ) (pages : Pages) → sro ≡ core.offsets.safe_read_only → Ok q ≡ page_or NoneSealed (NEXT_TO_FLUSH sro core.pages) → pages ≡ after_take flush_begun (NEXT_TO_FLUSH sro core.pages) core.pages → Made tag core FlushTake (record { sizes = core.sizes; table = core.table; views = core.views; drain = core.drain; offsets = core.offsets; pages = pages }) (Ok (Page q))
+  flush_take_ok : (core : State J) (sro q : ℕ) (pages : Pages) → sro ≡ core.offsets.safe_read_only → Ok q ≡ page_or NoneSealed (NEXT_TO_FLUSH sro core.pages) → pages ≡ after_take flush_begun (NEXT_TO_FLUSH sro core.pages) core.pages → Made tag core FlushTake (record { sizes = core.sizes; table = core.table; views = core.views; drain = core.drain; offsets = core.offsets; pages = pages }) (Ok (Page q))
   flush_take_ok core sro q pages at h e A st =
       let told : NEXT_TO_FLUSH sro core.pages ≡ Some q = taken_ok NoneSealed q (NEXT_TO_FLUSH sro core.pages) h in
       let found : next_to_flush core.sizes A ≡ Some q = sym (ap (λ n. NEXT_TO_FLUSH n core.pages) at ∙ flush_found tag core A st) ∙ told in
@@ -96,15 +96,20 @@ module _ {J : Type 0} (tag : J → ℕ) where
       accepted_step tag core (record { sizes = core.sizes; table = core.table; views = core.views; drain = core.drain; offsets = core.offsets; pages = pages }) A FlushTake (Page q) none refl (ap (λ o. Page (unwrap_or o 0)) found)
       (pages_moved core A FlushTake pages st none flush_take_quiet is)
 
+  -- a flush take
+  pub flush_take_made : (core : State J) (sro : ℕ) (result : Result ℕ Fault) (pages : Pages) → sro ≡ core.offsets.safe_read_only → result ≡ page_or NoneSealed (NEXT_TO_FLUSH sro core.pages) → pages ≡ after_take flush_begun (NEXT_TO_FLUSH sro core.pages) core.pages → Made tag core FlushTake (record { sizes = core.sizes; table = core.table; views = core.views; drain = core.drain; offsets = core.offsets; pages = pages }) (told Page result)
+  flush_take_made core sro (Ok q) pages at h e = flush_take_ok core sro q pages at h e
+  flush_take_made core sro (Err f) pages at h e = flush_take_err core sro f pages at h e
+
   -- a refused end of a flush
-  pub flush_done_err : (core : State J) (q : ℕ) (ok : Bool) (f : Fault) (pages : Pages) → Err f ≡ flush_done_answer q ok core.pages → pages ≡ after_flush_done q ok core.pages → Made tag core (FlushDone q ok) (record { sizes = core.sizes; table = core.table; views = core.views; drain = core.drain; offsets = core.offsets; pages = pages }) (Err f)
+  flush_done_err : (core : State J) (q : ℕ) (ok : Bool) (f : Fault) (pages : Pages) → Err f ≡ flush_done_answer q ok core.pages → pages ≡ after_flush_done q ok core.pages → Made tag core (FlushDone q ok) (record { sizes = core.sizes; table = core.table; views = core.views; drain = core.drain; offsets = core.offsets; pages = pages }) (Err f)
   flush_done_err core q ok f pages h e A st =
       let told : (IN_FLIGHT q core.pages ≡ false) × (f ≡ NotInFlight) = refused_by_test NotInFlight f (IN_FLIGHT q core.pages) (flushed_offset (flush_ended q ok core.pages)) h in
       let no_flight : is_in_flight core.sizes q A ≡ false = sym (flight_found tag core A q st) ∙ told.0 in
       pages_refuse core A (FlushDone q ok) f pages st (ap (λ b. cond b None (Some NotInFlight)) no_flight ∙ ap Some (sym told.1)) (e ∙ ap (λ b. cond b (flush_ended q ok core.pages) core.pages) told.0)
 
   -- an accepted end of a flush
-  pub flush_done_ok : (core : State J) (q : ℕ) (ok : Bool) (offset : ℕ) (pages : Pages) → Ok offset ≡ flush_done_answer q ok core.pages → pages ≡ after_flush_done q ok core.pages → Made tag core (FlushDone q ok) (record { sizes = core.sizes; table = core.table; views = core.views; drain = core.drain; offsets = core.offsets; pages = pages }) (Ok (Flushed offset))
+  flush_done_ok : (core : State J) (q : ℕ) (ok : Bool) (offset : ℕ) (pages : Pages) → Ok offset ≡ flush_done_answer q ok core.pages → pages ≡ after_flush_done q ok core.pages → Made tag core (FlushDone q ok) (record { sizes = core.sizes; table = core.table; views = core.views; drain = core.drain; offsets = core.offsets; pages = pages }) (Ok (Flushed offset))
   flush_done_ok core q ok offset pages h e A st =
       let told : (IN_FLIGHT q core.pages ≡ true) × (offset ≡ flushed_offset (flush_ended q ok core.pages)) = passed_by_test NotInFlight (IN_FLIGHT q core.pages) offset (flushed_offset (flush_ended q ok core.pages)) h in
       let flight : is_in_flight core.sizes q A ≡ true = sym (flight_found tag core A q st) ∙ told.0 in
@@ -115,15 +120,20 @@ module _ {J : Type 0} (tag : J → ℕ) where
       accepted_step tag core (record { sizes = core.sizes; table = core.table; views = core.views; drain = core.drain; offsets = core.offsets; pages = pages }) A (FlushDone q ok) (Flushed offset) none refl (ap (λ n. Flushed n) reply)
       (pages_moved core A (FlushDone q ok) pages st none (flush_done_quiet q ok) (e ∙ ap (λ b. cond b (flush_ended q ok core.pages) core.pages) told.0 ∙ moved))
 
+  -- an end of a flush
+  pub flush_done_made : (core : State J) (q : ℕ) (ok : Bool) (result : Result ℕ Fault) (pages : Pages) → result ≡ flush_done_answer q ok core.pages → pages ≡ after_flush_done q ok core.pages → Made tag core (FlushDone q ok) (record { sizes = core.sizes; table = core.table; views = core.views; drain = core.drain; offsets = core.offsets; pages = pages }) (told Flushed result)
+  flush_done_made core q ok (Ok offset) pages h e = flush_done_ok core q ok offset pages h e
+  flush_done_made core q ok (Err f) pages h e = flush_done_err core q ok f pages h e
+
   -- a refused clean take
-  pub clean_take_err : (core : State J) (end : ℕ) (f : Fault) (pages : Pages) → end ≡ core.offsets.closed → Err f ≡ page_or NoneClosed (NEXT_TO_CLEAN end core.pages) → pages ≡ after_take clean_begun (NEXT_TO_CLEAN end core.pages) core.pages → Made tag core CleanTake (record { sizes = core.sizes; table = core.table; views = core.views; drain = core.drain; offsets = core.offsets; pages = pages }) (Err f)
+  clean_take_err : (core : State J) (end : ℕ) (f : Fault) (pages : Pages) → end ≡ core.offsets.closed → Err f ≡ page_or NoneClosed (NEXT_TO_CLEAN end core.pages) → pages ≡ after_take clean_begun (NEXT_TO_CLEAN end core.pages) core.pages → Made tag core CleanTake (record { sizes = core.sizes; table = core.table; views = core.views; drain = core.drain; offsets = core.offsets; pages = pages }) (Err f)
   clean_take_err core end f pages at h e A st =
       let told : (NEXT_TO_CLEAN end core.pages ≡ None) × (f ≡ NoneClosed) = taken_err NoneClosed f (NEXT_TO_CLEAN end core.pages) h in
       let none : next_to_clean core.sizes A ≡ None = sym (ap (λ n. NEXT_TO_CLEAN n core.pages) at ∙ clean_found tag core A st) ∙ told.0 in
       pages_refuse core A CleanTake f pages st (ap (unless_page NoneClosed) none ∙ ap Some (sym told.1)) (e ∙ ap (λ o. after_take clean_begun o core.pages) told.0)
 
   -- an accepted clean take
-  pub clean_take_ok : (core : State J) (end q : ℕ) (pages : Pages) → end ≡ core.offsets.closed → Ok q ≡ page_or NoneClosed (NEXT_TO_CLEAN end core.pages) → pages ≡ after_take clean_begun (NEXT_TO_CLEAN end core.pages) core.pages → Made tag core CleanTake (record { sizes = core.sizes; table = core.table; views = core.views; drain = core.drain; offsets = core.offsets; pages = pages }) (Ok (Page q))
+  clean_take_ok : (core : State J) (end q : ℕ) (pages : Pages) → end ≡ core.offsets.closed → Ok q ≡ page_or NoneClosed (NEXT_TO_CLEAN end core.pages) → pages ≡ after_take clean_begun (NEXT_TO_CLEAN end core.pages) core.pages → Made tag core CleanTake (record { sizes = core.sizes; table = core.table; views = core.views; drain = core.drain; offsets = core.offsets; pages = pages }) (Ok (Page q))
   clean_take_ok core end q pages at h e A st =
       let told : NEXT_TO_CLEAN end core.pages ≡ Some q = taken_ok NoneClosed q (NEXT_TO_CLEAN end core.pages) h in
       let found : next_to_clean core.sizes A ≡ Some q = sym (ap (λ n. NEXT_TO_CLEAN n core.pages) at ∙ clean_found tag core A st) ∙ told in
@@ -131,6 +141,11 @@ module _ {J : Type 0} (tag : J → ℕ) where
       let is : pages ≡ pages_of core.sizes (A ++ CleanTake ∷ []) = e ∙ ap (λ o. after_take clean_begun o core.pages) told ∙ ap (clean_begun q) st.pages_is ∙ sym (clean_begun-is core.sizes A q st.in_range st.accepted found) in
       accepted_step tag core (record { sizes = core.sizes; table = core.table; views = core.views; drain = core.drain; offsets = core.offsets; pages = pages }) A CleanTake (Page q) none refl (ap (λ o. Page (unwrap_or o 0)) found)
       (pages_moved core A CleanTake pages st none clean_take_quiet is)
+
+  -- a clean take
+  pub clean_take_made : (core : State J) (end : ℕ) (result : Result ℕ Fault) (pages : Pages) → end ≡ core.offsets.closed → result ≡ page_or NoneClosed (NEXT_TO_CLEAN end core.pages) → pages ≡ after_take clean_begun (NEXT_TO_CLEAN end core.pages) core.pages → Made tag core CleanTake (record { sizes = core.sizes; table = core.table; views = core.views; drain = core.drain; offsets = core.offsets; pages = pages }) (told Page result)
+  clean_take_made core end (Ok q) pages at h e = clean_take_ok core end q pages at h e
+  clean_take_made core end (Err f) pages at h e = clean_take_err core end f pages at h e
 
   -- a refused end of a cleaning
   pub clean_done_err : (core : State J) (q : ℕ) (f : Fault) (pages : Pages) → Err f ≡ clean_done_answer q core.pages → pages ≡ after_clean_done q core.pages → Made tag core (CleanDone q) (record { sizes = core.sizes; table = core.table; views = core.views; drain = core.drain; offsets = core.offsets; pages = pages }) (Err f)

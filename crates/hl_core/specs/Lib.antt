@@ -1,3 +1,11 @@
 pub mod Rise
 pub mod Standing
 pub mod Steps
+pub use Rattle.hl_model.specs.Actions
+pub use Rattle.hl_model.specs.Bases
+pub use Rattle.hl_model.specs.Frames
+pub use Rattle.hl_model.specs.Headline
+pub use Rattle.hl_model.specs.Replies
+pub use Rattle.hl_model.specs.Snapshots
+pub use Rattle.hl_model.specs.Views
+pub use Rattle.hl_epoch.specs.Table

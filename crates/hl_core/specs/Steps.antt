@@ -1,8 +1,9 @@
 -- What one step makes of a core.
 use Rattle.std.specs.Prelude.{◌≡◌, ℕ, Bool, true, false, Option, Some, None, Result, Ok, Err, List, [], ◌∷◌, ◌++◌}
 use Rattle.hl_model.specs.declared.fault.Fault.{Fault}
+use Rattle.hl_model.specs.declared.slot.Slot.{Slot}
 use Rattle.hl_model.specs.declared.step.Reply.{Reply}
-use Rattle.hl_model.specs.declared.step.Reply.TheVariants.{Ticket, Taken}
+use Rattle.hl_model.specs.declared.step.Reply.TheVariants.{Entered, Ticket, Taken}
 use Rattle.hl_model.specs.declared.step.Step.{Step}
 use Rattle.hl_model.specs.declared.step.Step.TheVariants.{Bump, Settle, Close, Take}
 use Rattle.hl_model.specs.Replies.{reply_of, extended}
@@ -26,6 +27,15 @@ pub record Stepped {J : Type 0} (tag : J → ℕ) (old : State J) (A : List Step
 -- so it did at whatever list the core stood
 abbrev pub Made : {J : Type 0} → (J → ℕ) → State J → Step → State J → Result Reply Fault → Type 0
 Made tag old step new result = (A : List Step) → Stands tag old A → Stepped tag old A step new result
+
+-- a call's answer as a reply: this one where it was accepted, else its fault
+abbrev pub told : {X : Type 0} → (X → Reply) → Result X Fault → Result Reply Fault
+told reply (Ok answer) = Ok (reply answer)
+told reply (Err fault) = Err fault
+
+-- the reply to whoever entered: the slot's epoch and view
+abbrev pub entered_reply : Slot → Reply
+entered_reply slot = Entered slot.epoch slot.view
 
 -- a step of which no job goes in or comes out
 abbrev pub is_acted : Step → Bool

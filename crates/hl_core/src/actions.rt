@@ -1,8 +1,10 @@
 ghost use Rattle.std.specs.Prelude.{◌≡◌, [], ◌∷◌, ◌++◌, IfOk, OnErr, IfErr};
-ghost use Rattle.hl_model.specs.declared.step.Step.TheVariants.{Bare as BARE, Take as TAKE, Done as DONE};
+ghost use Rattle.hl_model.specs.declared.step.Reply.TheVariants.{Ticket as TICKET, Bumped as BUMPED};
+ghost use Rattle.hl_model.specs.declared.step.Step.TheVariants.{Settle as SETTLE, Close as CLOSE, Bare as BARE, Take as TAKE, Done as DONE};
 ghost use Rattle.hl_epoch.specs.Table.{safe_of};
 ghost use Rattle.hl_action.specs.Firings.{IsSafe};
-ghost use Rattle.hl_core.specs.Steps.{Made, asking, stored, job_in, bump_told, take_told, CameOut};
+ghost use Rattle.hl_drain.specs.declared.action.Action.TheVariants.{Settle as SETTLING, Close as CLOSING};
+ghost use Rattle.hl_core.specs.Steps.{Made, asking, stored, job_in, told, bump_told, take_told, CameOut};
 
 use crate::rise::end_epoch;
 use crate::state::Core;
@@ -40,16 +42,51 @@ impl<E: Epochs, J: Tagged + Drop> Core<E, J> {
         }
     }
 
-    /// Ends the current epoch, and stores nothing; the answer is the epoch that ended.
+    /// Ends the current epoch, and stores under it an action that settles the read-only offset as it stands; the
+    /// answer is the ticket, the epoch that ended. The done of the action raises the safe read-only offset to it.
+    ///
+    /// Faults: as [`bump`](Core::bump).
     #[inline(always)]
-    pub(crate) fn bare(&mut self) -> Result<Reply, Fault>
-        ensures made { Made J.tag self.old BARE self.new result }
+    pub fn settle(&mut self) -> Result<u64, Fault>
+        ensures made { Made J.tag self.old SETTLE self.new (told TICKET result) }
+        ensures refused { OnErr result (self.new ≡ self.old) }
+        ensures jobs { let old = self.old
+            in IfOk result (λ ticket. self.new.drain.pending
+            ≡ old.drain.pending ++ (ticket, SETTLING old.offsets.read_only) ∷ []) }
+        ensures sizes { self.new.sizes ≡ self.old.sizes }
+    {
+        self.bump(Ask::Settle).map_err(|(fault, _)| fault)
+    }
+
+    /// Ends the current epoch, and stores under it an action that closes the pages below the head as it stands; the
+    /// answer is the ticket, the epoch that ended. The done of the action raises the closed offset to that head.
+    ///
+    /// Faults: as [`bump`](Core::bump).
+    #[inline(always)]
+    pub fn close(&mut self) -> Result<u64, Fault>
+        ensures made { Made J.tag self.old CLOSE self.new (told TICKET result) }
+        ensures refused { OnErr result (self.new ≡ self.old) }
+        ensures jobs { let old = self.old
+            in IfOk result (λ ticket. self.new.drain.pending
+            ≡ old.drain.pending ++ (ticket, CLOSING old.offsets.head) ∷ []) }
+        ensures sizes { self.new.sizes ≡ self.old.sizes }
+    {
+        self.bump(Ask::Close).map_err(|(fault, _)| fault)
+    }
+
+    /// Ends the current epoch, and stores nothing; the answer is the epoch that ended. It needs no place in the drain
+    /// list.
+    ///
+    /// Faults, in their order: `EpochsSpent` where the current epoch is the last, `WindowFull` where 4,096 epochs have
+    /// ended and aren't safe.
+    #[inline(always)]
+    pub fn bare(&mut self) -> Result<u64, Fault>
+        ensures made { Made J.tag self.old BARE self.new (told BUMPED result) }
         ensures refused { OnErr result (self.new ≡ self.old) }
         ensures jobs { self.new.drain.pending ≡ self.old.drain.pending }
         ensures sizes { self.new.sizes ≡ self.old.sizes }
     {
-        let ended = end_epoch(&mut self.table)?;
-        Ok(Reply::Bumped(ended))
+        end_epoch(&mut self.table)
     }
 
     /// Takes the oldest pending action: the answer is its firing, its ticket and the safe epoch of now, and its job.
@@ -69,9 +106,13 @@ impl<E: Epochs, J: Tagged + Drop> Core<E, J> {
         Ok((Firing::new(ticket, safe), job_of(action)))
     }
 
-    /// A taken action was carried out. A settle and a close raise their offset to what they stored.
+    /// A taken action was carried out, and leaves the drain list. The answer is `Ran` with its tag for a job; a settle
+    /// and a close raise their offset to what they stored, where it is below, and are answered `Settled` with the safe
+    /// read-only offset after it, `Closed` with the closed one.
+    ///
+    /// Fault: `NotTaken` where the ticket isn't that of an action that was taken and isn't done.
     #[inline(always)]
-    pub(crate) fn done(&mut self, ticket: u64) -> Result<Reply, Fault>
+    pub fn done(&mut self, ticket: u64) -> Result<Reply, Fault>
         ensures made { Made J.tag self.old (DONE ticket) self.new result }
         ensures refused { OnErr result (self.new ≡ self.old) }
         ensures jobs { self.new.drain.pending ≡ self.old.drain.pending }

@@ -16,10 +16,14 @@
 //!
 //! # One step
 //!
-//! [`Core::act`] makes a step: the faults are tried in their order, and a refused step leaves all as it was. A bump
-//! and a take are calls of their own ([`Core::bump`], [`Core::take`]), since a job goes in or comes out. Over bare
-//! tags [`Core::step`] makes every step, and [`Core::run`] a row of them. [`Core::check`] tells the fault that a step
-//! would meet.
+//! Each kind of step has a call of its own, whose answer has a type of its own: [`Core::acquire`] answers what the slot
+//! has, [`Core::allocate`] an address, [`Core::flush_take`] a page. The faults are tried in their order, and a refused
+//! step leaves all as it was. A job goes in by [`Core::bump`] and comes out by [`Core::take`]. A write and a read
+//! change nothing of a core: [`Core::may_write`] and [`Core::may_read`] tell whether they are lawful.
+//!
+//! Where steps are plain values, [`Core::act`] makes each but a bump with an action and a take, and tells the answer as
+//! a reply. Over bare tags [`Core::step`] makes every step, and [`Core::run`] a row of them. [`Core::check`] tells the
+//! fault that a step would meet.
 //!
 //! # A core's base
 //!
@@ -52,4 +56,11 @@ mod run;
 mod slots;
 mod state;
 
+pub use hl_action::Firing;
+pub use hl_drain::{Action, Ask, Drain};
+pub use hl_epoch::{Epochs, ScanTable};
+pub use hl_model::{
+    Base, Fault, FrameState, Kind, Params, Reply, Six, Slot, Snapshot, Step, Tag, Tagged, View,
+    Waiting,
+};
 pub use state::Core;

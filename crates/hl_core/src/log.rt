@@ -1,46 +1,60 @@
-ghost use Rattle.std.specs.Prelude.{◌≡◌, ℕ, List, OnErr};
+ghost use Rattle.std.specs.Prelude.{◌≡◌, ◌+◌, ◌/◌, ◌^◌, ◌≤◌, ℕ, List, IfOk, OnErr};
+ghost use Rattle.hl_model.specs.declared.step.Reply.TheVariants.{Raised as RAISED, Shifted as SHIFTED, At as AT, Looked as LOOKED, Written as WRITTEN, Readable as READABLE};
 ghost use Rattle.hl_model.specs.declared.step.Step.{Step};
 ghost use Rattle.hl_model.specs.declared.step.Step.TheVariants.{Raise as RAISE, Shift as SHIFT, Allocate as ALLOCATE, Look as LOOK, Write as WRITE, Read as READ};
 ghost use Rattle.hl_model.specs.Offsets.{tail, place_of, is_entered};
 ghost use Rattle.hl_model.specs.Views.{view_of};
 ghost use Rattle.hl_model.specs.Replies.{fault_of, unless_fault};
 ghost use Rattle.hl_core.specs.Standing.{Stands};
-ghost use Rattle.hl_core.specs.Steps.{Made};
+ghost use Rattle.hl_core.specs.Steps.{Made, told};
 
 use crate::state::Core;
 use hl_epoch::Epochs;
-use hl_model::{Fault, Reply, Tagged, View};
+use hl_model::{Fault, Tagged, View};
 
 impl<E: Epochs, J: Tagged> Core<E, J> {
-    /// Moves the read-only offset up to x.
+    /// Moves the read-only offset up to address x; the answer is x, the read-only offset after it.
+    ///
+    /// Faults, in their order: `NotAbove` where x isn't above the read-only offset, `AboveTail` where it is above the
+    /// tail.
     #[inline(always)]
-    pub(crate) fn raise(&mut self, x: u64) -> Result<Reply, Fault>
-        ensures made { Made J.tag self.old (RAISE x) self.new result }
+    pub fn raise(&mut self, x: u64) -> Result<u64, Fault>
+        ensures made { Made J.tag self.old (RAISE x) self.new (told RAISED result) }
         ensures refused { OnErr result (self.new ≡ self.old) }
         ensures jobs { self.new.drain.pending ≡ self.old.drain.pending }
         ensures sizes { self.new.sizes ≡ self.old.sizes }
     {
         self.offsets.raise(x)?;
-        Ok(Reply::Raised(x))
+        Ok(x)
     }
 
-    /// Moves the head up to x, at most to the flushed offset.
+    /// Moves the head up to address x, where a page begins, at most to the flushed offset; the answer is x, the head
+    /// after it.
+    ///
+    /// Faults, in their order: `NotAbove` where x isn't above the head, `NotPage` where no page begins at x,
+    /// `AboveFlushed` where it is above the flushed offset.
     #[inline(always)]
-    pub(crate) fn shift(&mut self, x: u64) -> Result<Reply, Fault>
-        ensures made { Made J.tag self.old (SHIFT x) self.new result }
+    pub fn shift(&mut self, x: u64) -> Result<u64, Fault>
+        ensures made { Made J.tag self.old (SHIFT x) self.new (told SHIFTED result) }
         ensures refused { OnErr result (self.new ≡ self.old) }
         ensures jobs { self.new.drain.pending ≡ self.old.drain.pending }
         ensures sizes { self.new.sizes ≡ self.old.sizes }
     {
         let flushed = self.frames.flushed_until();
         self.offsets.shift(x, flushed)?;
-        Ok(Reply::Shifted(x))
+        Ok(x)
     }
 
-    /// Places a record of n words for slot t. The first record of a page enters the page.
+    /// Places a record of n words, 1 to P, for slot t: at the tail where it ends on the tail's page, else at the start
+    /// of the next page. The answer is the address of its first word. The first record of a page enters the page, and
+    /// the slot's view has the new tail.
+    ///
+    /// Faults, in their order: `NoSlot`, `NotProtected`, `Size` where n is 0 or above P, `SpaceSpent` where the record
+    /// would end above 2^48, `Busy` where its page is new and its frame isn't free.
     #[inline(always)]
-    pub(crate) fn allocate(&mut self, t: u64, n: u64) -> Result<Reply, Fault>
-        ensures made { Made J.tag self.old (ALLOCATE t n) self.new result }
+    pub fn allocate(&mut self, t: u64, n: u64) -> Result<u64, Fault>
+        ensures made { Made J.tag self.old (ALLOCATE t n) self.new (told AT result) }
+        ensures within { IfOk result (λ place. place + n ≤ 2 ^ 48) }
         ensures refused { OnErr result (self.new ≡ self.old) }
         ensures jobs { self.new.drain.pending ≡ self.old.drain.pending }
         ensures sizes { self.new.sizes ≡ self.old.sizes }
@@ -48,19 +62,21 @@ impl<E: Epochs, J: Tagged> Core<E, J> {
         let seen = self.seen(t)?;
         let place = self.offsets.place(n)?;
         let page = place / self.params.page();
-        if !self.is_entered(page) {
+        if !self.is_entered_at(place) {
             self.frames.enter(page)?;
         }
         self.offsets.allocate_at(place, n);
         let tail = self.offsets.tail();
         self.views[t as usize] = Some(View { tail, ..seen });
-        Ok(Reply::At(place))
+        Ok(place)
     }
 
-    /// Slot t sees these offsets, neither below what it saw.
+    /// Slot t sees this read-only offset and this head; the answer is its view from now on.
+    ///
+    /// Faults, in their order: `NoSlot`, `NotProtected`, `Stale` where one of the two is below what the slot saw.
     #[inline(always)]
-    pub(crate) fn look(&mut self, t: u64, read_only: u64, head: u64) -> Result<Reply, Fault>
-        ensures made { Made J.tag self.old (LOOK t read_only head) self.new result }
+    pub fn look(&mut self, t: u64, read_only: u64, head: u64) -> Result<View, Fault>
+        ensures made { Made J.tag self.old (LOOK t read_only head) self.new (told LOOKED result) }
         ensures refused { OnErr result (self.new ≡ self.old) }
         ensures jobs { self.new.drain.pending ≡ self.old.drain.pending }
         ensures sizes { self.new.sizes ≡ self.old.sizes }
@@ -72,7 +88,7 @@ impl<E: Epochs, J: Tagged> Core<E, J> {
             tail: seen.tail,
         };
         self.views[t as usize] = Some(view);
-        Ok(Reply::Looked(view))
+        Ok(view)
     }
 
     /// The view of slot t, where it may see these offsets.
@@ -88,10 +104,16 @@ impl<E: Epochs, J: Tagged> Core<E, J> {
         Ok(seen)
     }
 
-    /// Whether slot t may write the word at address a: by its view alone.
+    /// Whether slot t may write the word at address a, by its view alone: whatever is written there, a write changes
+    /// nothing of a core.
+    ///
+    /// Faults, in their order: `NoSlot`, `NotProtected`, `Below` where the address is below the read-only offset that
+    /// the slot saw, `Beyond` where it is at or above the tail that the slot saw.
     #[inline(always)]
-    pub(crate) fn may_write(&self, t: u64, a: u64) -> Result<(), Fault>
-        ensures { (A : List Step) (v : ℕ) → Stands J.tag self.now A → result ≡ unless_fault (fault_of self.now.sizes A (WRITE t a v)) tt }
+    pub fn may_write(&self, t: u64, a: u64) -> Result<(), Fault>
+        ensures fault { (A : List Step) (v : ℕ) → Stands J.tag self.now A
+            → result ≡ unless_fault (fault_of self.now.sizes A (WRITE t a v)) tt }
+        ensures made { (v : ℕ) → Made J.tag self.now (WRITE t a v) self.now (told (λ _. WRITTEN) result) }
     {
         let seen = self.seen(t)?;
         if a < seen.read_only {
@@ -105,10 +127,15 @@ impl<E: Epochs, J: Tagged> Core<E, J> {
         Ok(())
     }
 
-    /// Whether slot t may read the word at address a.
+    /// Whether slot t may read the word at address a, by its view alone: a read changes nothing of a core.
+    ///
+    /// Faults, in their order: `NoSlot`, `NotProtected`, `Evicted` where the address is below the head that the slot
+    /// saw, `Beyond` where it is at or above the tail that the slot saw.
     #[inline(always)]
-    pub(crate) fn may_read(&self, t: u64, a: u64) -> Result<(), Fault>
-        ensures { (A : List Step) → Stands J.tag self.now A → result ≡ unless_fault (fault_of self.now.sizes A (READ t a)) tt }
+    pub fn may_read(&self, t: u64, a: u64) -> Result<(), Fault>
+        ensures fault { (A : List Step) → Stands J.tag self.now A
+            → result ≡ unless_fault (fault_of self.now.sizes A (READ t a)) tt }
+        ensures made { Made J.tag self.now (READ t a) self.now (told (λ _. READABLE) result) }
     {
         let seen = self.seen(t)?;
         if a < seen.head {
@@ -128,18 +155,19 @@ impl<E: Epochs, J: Tagged> Core<E, J> {
         self.seen(t)?;
         let place = self.offsets.place(n)?;
         let page = place / self.params.page();
-        if self.is_entered(page) || self.frames.may_enter(page) {
+        if self.is_entered_at(place) || self.frames.may_enter(page) {
             Ok(place)
         } else {
             Err(Fault::Busy { page })
         }
     }
 
-    /// Whether a record was placed in this page.
+    /// Whether a record was placed in the page of this address.
     #[inline(always)]
-    fn is_entered(&self, page: u64) -> bool
-        ensures { (A : List Step) → Stands J.tag self.now A → result ≡ is_entered self.now.sizes page A }
+    fn is_entered_at(&self, a: u64) -> bool
+        ensures { (A : List Step) → Stands J.tag self.now A
+            → result ≡ is_entered self.now.sizes (a / self.now.sizes.page) A }
     {
-        self.frames.is_entered(page)
+        self.frames.is_entered_at(a)
     }
 }

@@ -1,59 +1,68 @@
 ghost use Rattle.std.specs.Prelude.{◌≡◌, OnErr};
+ghost use Rattle.hl_model.specs.declared.step.Reply.TheVariants.{Page as PAGE, Flushed as FLUSHED, Freed as FREED};
 ghost use Rattle.hl_model.specs.declared.step.Step.TheVariants.{FlushTake as FLUSH_TAKE, FlushDone as FLUSH_DONE, CleanTake as CLEAN_TAKE, CleanDone as CLEAN_DONE};
-ghost use Rattle.hl_core.specs.Steps.{Made};
+ghost use Rattle.hl_core.specs.Steps.{Made, told};
 
 use crate::state::Core;
 use hl_epoch::Epochs;
-use hl_model::{Fault, Reply, Tagged};
+use hl_model::{Fault, Tagged};
 
 impl<E: Epochs, J: Tagged> Core<E, J> {
-    /// Takes the least sealed page that is neither flushed nor in flight.
+    /// Takes the least sealed page that is neither flushed nor in flight; the answer is the page, which is in flight
+    /// then.
+    ///
+    /// Fault: `NoneSealed` where there is no such page.
     #[inline(always)]
-    pub(crate) fn flush_take(&mut self) -> Result<Reply, Fault>
-        ensures made { Made J.tag self.old FLUSH_TAKE self.new result }
+    pub fn flush_take(&mut self) -> Result<u64, Fault>
+        ensures made { Made J.tag self.old FLUSH_TAKE self.new (told PAGE result) }
         ensures refused { OnErr result (self.new ≡ self.old) }
         ensures jobs { self.new.drain.pending ≡ self.old.drain.pending }
         ensures sizes { self.new.sizes ≡ self.old.sizes }
     {
         let safe_read_only = self.offsets.safe_read_only();
-        let page = self.frames.flush_take(safe_read_only)?;
-        Ok(Reply::Page(page))
+        self.frames.flush_take(safe_read_only)
     }
 
-    /// The flush of a page ended, well or not.
+    /// The flush of a page ended: well, and the page is flushed, or not, and it may be taken again. The answer is the
+    /// flushed offset after it, an address.
+    ///
+    /// Fault: `NotInFlight` where the page isn't in flight.
     #[inline(always)]
-    pub(crate) fn flush_done(&mut self, page: u64, ok: bool) -> Result<Reply, Fault>
-        ensures made { Made J.tag self.old (FLUSH_DONE page ok) self.new result }
+    pub fn flush_done(&mut self, page: u64, ok: bool) -> Result<u64, Fault>
+        ensures made { Made J.tag self.old (FLUSH_DONE page ok) self.new (told FLUSHED result) }
         ensures refused { OnErr result (self.new ≡ self.old) }
         ensures jobs { self.new.drain.pending ≡ self.old.drain.pending }
         ensures sizes { self.new.sizes ≡ self.old.sizes }
     {
-        let flushed = self.frames.flush_done(page, ok)?;
-        Ok(Reply::Flushed(flushed))
+        self.frames.flush_done(page, ok)
     }
 
-    /// Takes the least closed page that is neither freed nor being cleaned.
+    /// Takes the least closed page that is neither freed nor being cleaned; the answer is the page, which is being
+    /// cleaned then.
+    ///
+    /// Fault: `NoneClosed` where there is no such page.
     #[inline(always)]
-    pub(crate) fn clean_take(&mut self) -> Result<Reply, Fault>
-        ensures made { Made J.tag self.old CLEAN_TAKE self.new result }
+    pub fn clean_take(&mut self) -> Result<u64, Fault>
+        ensures made { Made J.tag self.old CLEAN_TAKE self.new (told PAGE result) }
         ensures refused { OnErr result (self.new ≡ self.old) }
         ensures jobs { self.new.drain.pending ≡ self.old.drain.pending }
         ensures sizes { self.new.sizes ≡ self.old.sizes }
     {
         let closed = self.offsets.closed();
-        let page = self.frames.clean_take(closed)?;
-        Ok(Reply::Page(page))
+        self.frames.clean_take(closed)
     }
 
-    /// The words of a page are zeroed.
+    /// The words of a page are zeroed, and its frame is free; the answer is the page.
+    ///
+    /// Fault: `NotCleaning` where the page isn't being cleaned.
     #[inline(always)]
-    pub(crate) fn clean_done(&mut self, page: u64) -> Result<Reply, Fault>
-        ensures made { Made J.tag self.old (CLEAN_DONE page) self.new result }
+    pub fn clean_done(&mut self, page: u64) -> Result<u64, Fault>
+        ensures made { Made J.tag self.old (CLEAN_DONE page) self.new (told FREED result) }
         ensures refused { OnErr result (self.new ≡ self.old) }
         ensures jobs { self.new.drain.pending ≡ self.old.drain.pending }
         ensures sizes { self.new.sizes ≡ self.old.sizes }
     {
         self.frames.clean_done(page)?;
-        Ok(Reply::Freed(page))
+        Ok(page)
     }
 }

@@ -4,11 +4,8 @@ ghost use Rattle.hl_model.specs.Replies.{unless_fault, unless_refused};
 ghost use Rattle.hl_epoch.specs.Table.{bumped, safe_of};
 ghost use Rattle.hl_core.specs.Rise.{rise_fault};
 
-use hl_epoch::{EPOCH_LAST, Epochs};
-use hl_model::Fault;
-
-/// How many epochs at most have ended and are not safe.
-pub(crate) const EPOCH_WINDOW: u64 = 4096;
+use hl_epoch::Epochs;
+use hl_model::{EPOCH_LAST, EPOCH_WINDOW, Fault};
 
 /// Ends the current epoch of a table; the answer is its number.
 #[inline(always)]

@@ -3,7 +3,7 @@ ghost use Rattle.hl_model.specs.declared.step.Step.{Step as STEP};
 ghost use Rattle.hl_model.specs.Headline.{Headline};
 ghost use Rattle.hl_model.specs.Replies.{good, replies_after};
 ghost use Rattle.hl_core.specs.Standing.{Stands};
-ghost use Rattle.hl_core.specs.Steps.{Made, asking};
+ghost use Rattle.hl_core.specs.Steps.{Made};
 
 use crate::state::Core;
 use hl_drain::Ask;
@@ -19,9 +19,12 @@ impl<E: Epochs + Drop> Core<E, Tag> {
         ensures sizes { self.new.sizes ≡ self.old.sizes }
     {
         match *step {
-            Step::Bump { tag } => self.ask(Ask::User(Tag(tag))),
-            Step::Settle => self.ask(Ask::Settle),
-            Step::Close => self.ask(Ask::Close),
+            Step::Bump { tag } => match self.bump(Ask::User(Tag(tag))) {
+                Ok(ticket) => Ok(Reply::Ticket(ticket)),
+                Err((fault, _)) => Err(fault),
+            },
+            Step::Settle => self.settle().map(Reply::Ticket),
+            Step::Close => self.close().map(Reply::Ticket),
             Step::Take => {
                 let (firing, _) = self.take()?;
                 Ok(Reply::Taken(firing.ticket()))
@@ -45,19 +48,6 @@ impl<E: Epochs + Drop> Core<E, Tag> {
     {
         for i in 0..steps.len() {
             results[i] = self.step(&steps[i]);
-        }
-    }
-
-    // A bump, a settle or a close.
-    #[inline(always)]
-    fn ask(&mut self, ask: Ask<Tag>) -> Result<Reply, Fault>
-        ensures made { Made (λ t. t.0) self.old (asking (λ t. t.0) ask) self.new result }
-        ensures refused { OnErr result (self.new ≡ self.old) }
-        ensures sizes { self.new.sizes ≡ self.old.sizes }
-    {
-        match self.bump(ask) {
-            Ok(ticket) => Ok(Reply::Ticket(ticket)),
-            Err((fault, _)) => Err(fault),
         }
     }
 }

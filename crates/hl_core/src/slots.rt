@@ -1,20 +1,24 @@
 ghost use Rattle.std.specs.Prelude.{◌≡◌, List, OnErr};
+ghost use Rattle.hl_model.specs.declared.step.Reply.TheVariants.{Left as LEFT};
 ghost use Rattle.hl_model.specs.declared.step.Step.{Step};
 ghost use Rattle.hl_model.specs.declared.step.Step.TheVariants.{Acquire as ACQUIRE, Refresh as REFRESH, Release as RELEASE};
 ghost use Rattle.hl_model.specs.Views.{view_of};
 ghost use Rattle.hl_model.specs.Replies.{protected_fault, unless_fault};
 ghost use Rattle.hl_core.specs.Standing.{Stands};
-ghost use Rattle.hl_core.specs.Steps.{Made};
+ghost use Rattle.hl_core.specs.Steps.{Made, told, entered_reply};
 
 use crate::state::Core;
 use hl_epoch::Epochs;
-use hl_model::{Fault, Reply, Tagged, View};
+use hl_model::{Fault, Slot, Tagged, View};
 
 impl<E: Epochs, J: Tagged> Core<E, J> {
-    /// Slot t becomes protected: its epoch and its view are those of now.
+    /// Slot t becomes protected; the answer is what it has from now on: the current epoch, and the offsets as they
+    /// are for its view.
+    ///
+    /// Faults, in their order: `NoSlot` where t is S or more, `Occupied` where the slot is protected.
     #[inline(always)]
-    pub(crate) fn acquire(&mut self, t: u64) -> Result<Reply, Fault>
-        ensures made { Made J.tag self.old (ACQUIRE t) self.new result }
+    pub fn acquire(&mut self, t: u64) -> Result<Slot, Fault>
+        ensures made { Made J.tag self.old (ACQUIRE t) self.new (told entered_reply result) }
         ensures refused { OnErr result (self.new ≡ self.old) }
         ensures jobs { self.new.drain.pending ≡ self.old.drain.pending }
         ensures sizes { self.new.sizes ≡ self.old.sizes }
@@ -23,13 +27,16 @@ impl<E: Epochs, J: Tagged> Core<E, J> {
         self.table.acquire(t)?;
         self.views[t as usize] = Some(view);
         let epoch = self.table.current();
-        Ok(Reply::Entered { epoch, view })
+        Ok(Slot { epoch, view })
     }
 
-    /// Slot t moves on: its epoch and its view are those of now.
+    /// Slot t moves on; the answer is what it has from now on: the current epoch, and the offsets as they are for its
+    /// view.
+    ///
+    /// Faults, in their order: `NoSlot` where t is S or more, `NotProtected` where the slot isn't protected.
     #[inline(always)]
-    pub(crate) fn refresh(&mut self, t: u64) -> Result<Reply, Fault>
-        ensures made { Made J.tag self.old (REFRESH t) self.new result }
+    pub fn refresh(&mut self, t: u64) -> Result<Slot, Fault>
+        ensures made { Made J.tag self.old (REFRESH t) self.new (told entered_reply result) }
         ensures refused { OnErr result (self.new ≡ self.old) }
         ensures jobs { self.new.drain.pending ≡ self.old.drain.pending }
         ensures sizes { self.new.sizes ≡ self.old.sizes }
@@ -38,20 +45,22 @@ impl<E: Epochs, J: Tagged> Core<E, J> {
         self.table.refresh(t)?;
         self.views[t as usize] = Some(view);
         let epoch = self.table.current();
-        Ok(Reply::Entered { epoch, view })
+        Ok(Slot { epoch, view })
     }
 
     /// Slot t is protected no longer.
+    ///
+    /// Faults, in their order: `NoSlot` where t is S or more, `NotProtected` where the slot isn't protected.
     #[inline(always)]
-    pub(crate) fn release(&mut self, t: u64) -> Result<Reply, Fault>
-        ensures made { Made J.tag self.old (RELEASE t) self.new result }
+    pub fn release(&mut self, t: u64) -> Result<(), Fault>
+        ensures made { Made J.tag self.old (RELEASE t) self.new (told (λ _. LEFT) result) }
         ensures refused { OnErr result (self.new ≡ self.old) }
         ensures jobs { self.new.drain.pending ≡ self.old.drain.pending }
         ensures sizes { self.new.sizes ≡ self.old.sizes }
     {
         self.table.release(t)?;
         self.views[t as usize] = None;
-        Ok(Reply::Left)
+        Ok(())
     }
 
     /// The view of a protected slot, or the fault of a slot that isn't.

@@ -1,10 +1,9 @@
 ghost use Rattle.std.specs.Prelude.{◌≡◌, [], IfOk, IfErr};
 
-use crate::rise::EPOCH_WINDOW;
 use hl_drain::Drain;
 use hl_epoch::Epochs;
 use hl_frames::Frames;
-use hl_model::{Fault, Params, Tagged, View, filled};
+use hl_model::{EPOCH_WINDOW, Fault, Params, Tagged, View, filled};
 use hl_offsets::Offsets;
 use std::alloc::Global;
 use std::marker::Model;

@@ -5,7 +5,7 @@ use Rattle.hl_cells.proofs.engine.Engine.read.Goals as goal
 pub word-requires : goal.word-requires
 word-requires g c = omega (arith, rw (sym c.self.view_is) at c.cell_of-cell.ensures.in_range, words_length (record { core = c.self.inside.core; words = c.self.inside.words; held = c.self.inside.held }) c.self.invariant)
 
-pub returns : goal.returns
-returns g c =
+pub returns-clause-value : goal.returns-clause-value
+returns-clause-value g c =
     rw (sym c.self.view_is)
-    (λ A st. found_word (record { core = c.self.inside.core; words = c.self.inside.words; held = c.self.inside.held }) A c.args.t c.args.a c.word.result c.cell_of-cell.result 0 st (c.in_ok-check.ensures A st.core_stands) (rw (sym c.self.view_is) at c.cell_of-cell.ensures.value) (rw (sym c.self.view_is) at c.cell_of-cell.ensures.in_range) c.word.ensures)
+    (λ A st. found_word (record { core = c.self.inside.core; words = c.self.inside.words; held = c.self.inside.held }) A c.args.t c.args.a c.word.result c.cell_of-cell.result 0 st (c.in_ok-may_read.ensures.fault A st.core_stands) (rw (sym c.self.view_is) at c.cell_of-cell.ensures.value) (rw (sym c.self.view_is) at c.cell_of-cell.ensures.in_range) c.word.ensures)

@@ -1,14 +1,10 @@
-use Rattle.std.proofs.lemmas.Result.{err_from_is_err_and}
-use Rattle.hl_core.proofs.LookStands.{refused_by, write_ok, read_ok}
+use Rattle.std.proofs.Common.{rules}
+use Rattle.hl_model.specs.declared.step.Reply.TheVariants.{Written}
+use Rattle.hl_model.specs.declared.step.Step.TheVariants.{Write}
+use Rattle.hl_core.specs.Steps.{Made, told}
 use Rattle.hl_core.proofs.state.Core.act.Goals as goal
 
-pub returns-in_err-may_write-in-Write-clause-made : goal.returns-in_err-may_write-in-Write-clause-made
-returns-in_err-may_write-in-Write-clause-made g c =
-    let p = err_from_is_err_and c.from_residual.result c.from_residual.ensures.1 in
-    rw (p.1, p.2, c.in-Write.is) (refused_by g.J.Tagged.tag c.args.self.now _ c.in_err-may_write-in-Write.field-0.0 (λ A. tt {0}) (λ A st. c.in_err-may_write-in-Write.ensures A 0 st))
-
-pub returns-in_ok-may_write-in-Write-clause-made : goal.returns-in_ok-may_write-in-Write-clause-made
-returns-in_ok-may_write-in-Write-clause-made g c = rw c.in-Write.is (write_ok g.J.Tagged.tag c.args.self.now c.in-Write.t c.in-Write.a _ (λ A st. c.in_ok-may_write-in-Write.ensures A 0 st))
-
-pub returns-in_ok-may_read-in-Read-clause-made : goal.returns-in_ok-may_read-in-Read-clause-made
-returns-in_ok-may_read-in-Read-clause-made g c = rw c.in-Read.is (read_ok g.J.Tagged.tag c.args.self.now c.in-Read.t c.in-Read.a c.in_ok-may_read-in-Read.ensures)
+pub returns-in-Write-clause-made : goal.returns-in-Write-clause-made
+returns-in-Write-clause-made g c =
+    let made : Made g.J.Tagged.tag c.args.self.now (Write c.in-Write.t c.in-Write.a c.in-Write.v) c.args.self.now (told (λ _. Written) c.may_write.result) = c.may_write.ensures.made c.in-Write.v in
+    search rules

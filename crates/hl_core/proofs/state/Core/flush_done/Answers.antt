@@ -1,20 +1,14 @@
 use Rattle.std.proofs.Common.{sym}
-use Rattle.std.proofs.lemmas.Result.{err_from_is_err_and}
 use Rattle.hl_core.proofs.SlotStands.{still_stands}
-use Rattle.hl_core.proofs.PageStands.{flush_done_err, flush_done_ok}
+use Rattle.hl_core.proofs.PageStands.{flush_done_made}
 use Rattle.hl_core.proofs.state.Core.flush_done.Goals as goal
 
-pub returns-in_err-flushed-clause-made : goal.returns-in_err-flushed-clause-made
-returns-in_err-flushed-clause-made g c =
-    let p = err_from_is_err_and c.from_residual.result c.from_residual.ensures.1 in
-    rw (p.1, p.2, sym c.self.view_is) (flush_done_err g.J.Tagged.tag _ c.args.page c.args.ok c.in_err-flushed.field-0.0 c.flush_done.new.self c.in_err-flushed.ensures.answer c.in_err-flushed.ensures.pages)
-
-pub invariant_of-self-2 : goal.invariant_of-self-2
-invariant_of-self-2 g c = record {
-  standing = still_stands g.J.Tagged.tag _ _ _ _ c.self.invariant.standing (flush_done_ok g.J.Tagged.tag _ c.args.page c.args.ok c.in_ok-flushed.flushed c.flush_done.new.self c.in_ok-flushed.ensures.answer c.in_ok-flushed.ensures.pages);
+pub invariant_of-self : goal.invariant_of-self
+invariant_of-self g c = record {
+  standing = still_stands g.J.Tagged.tag _ _ _ _ c.self.invariant.standing (flush_done_made g.J.Tagged.tag _ c.args.page c.args.ok c.flush_done.result c.flush_done.new.self c.flush_done.ensures.answer c.flush_done.ensures.pages);
   exact = c.self.invariant.exact;
 }
 
 pub returns-clause-made : goal.returns-clause-made
 returns-clause-made g c =
-    rw (sym c.self.view_is) (flush_done_ok g.J.Tagged.tag _ c.args.page c.args.ok c.in_ok-flushed.flushed c.flush_done.new.self c.in_ok-flushed.ensures.answer c.in_ok-flushed.ensures.pages)
+    rw (sym c.self.view_is) (flush_done_made g.J.Tagged.tag _ c.args.page c.args.ok c.flush_done.result c.flush_done.new.self c.flush_done.ensures.answer c.flush_done.ensures.pages)

@@ -1,24 +1,18 @@
 use Rattle.std.proofs.Common.{sym}
-use Rattle.std.proofs.lemmas.Result.{err_from_is_err_and}
 use Rattle.hl_core.proofs.SlotStands.{still_stands}
 use Rattle.hl_core.proofs.PageFound.{sealed_fits}
-use Rattle.hl_core.proofs.PageStands.{flush_take_err, flush_take_ok}
+use Rattle.hl_core.proofs.PageStands.{flush_take_made}
 use Rattle.hl_core.proofs.state.Core.flush_take.Goals as goal
 
 pub flush_take-requires : goal.flush_take-requires
 flush_take-requires g c = rw (c.safe_read_only-safe_read_only.ensures.value) (sealed_fits g.J.Tagged.tag _ c.self.invariant.standing)
 
-pub returns-in_err-page-clause-made : goal.returns-in_err-page-clause-made
-returns-in_err-page-clause-made g c =
-    let p = err_from_is_err_and c.from_residual.result c.from_residual.ensures.1 in
-    rw (p.1, p.2, sym c.self.view_is) (flush_take_err g.J.Tagged.tag _ _ c.in_err-page.field-0.0 c.flush_take.new.self c.safe_read_only-safe_read_only.ensures.value c.in_err-page.ensures.answer c.in_err-page.ensures.pages)
-
-pub invariant_of-self-2 : goal.invariant_of-self-2
-invariant_of-self-2 g c = record {
-  standing = still_stands g.J.Tagged.tag _ _ _ _ c.self.invariant.standing (flush_take_ok g.J.Tagged.tag _ _ c.in_ok-page.page c.flush_take.new.self c.safe_read_only-safe_read_only.ensures.value c.in_ok-page.ensures.answer c.in_ok-page.ensures.pages);
+pub invariant_of-self : goal.invariant_of-self
+invariant_of-self g c = record {
+  standing = still_stands g.J.Tagged.tag _ _ _ _ c.self.invariant.standing (flush_take_made g.J.Tagged.tag _ _ c.flush_take.result c.flush_take.new.self c.safe_read_only-safe_read_only.ensures.value c.flush_take.ensures.answer c.flush_take.ensures.pages);
   exact = c.self.invariant.exact;
 }
 
 pub returns-clause-made : goal.returns-clause-made
 returns-clause-made g c =
-    rw (sym c.self.view_is) (flush_take_ok g.J.Tagged.tag _ _ c.in_ok-page.page c.flush_take.new.self c.safe_read_only-safe_read_only.ensures.value c.in_ok-page.ensures.answer c.in_ok-page.ensures.pages)
+    rw (sym c.self.view_is) (flush_take_made g.J.Tagged.tag _ _ c.flush_take.result c.flush_take.new.self c.safe_read_only-safe_read_only.ensures.value c.flush_take.ensures.answer c.flush_take.ensures.pages)
