@@ -2,6 +2,7 @@ pub mod TouchLaws
 pub mod PassLaws
 pub mod KeeperLaws
 pub mod CallLaws
+pub mod DomainLaws
 pub mod EnterLaws
 pub mod TouchedLaws
 pub mod SlotLaws

@@ -1,6 +1,7 @@
 -- What a keeper keeps, and when it stands at a list of steps.
 use Rattle.std.specs.Prelude.{◌≡◌, ℕ, ◌^◌, ◌≤◌, List, ◌++◌, length}
 use Rattle.hl_model.specs.declared.step.Step.{Step}
+use Rattle.hl_model.specs.Sizes.{Sizes}
 use Rattle.hl_model.specs.Offsets.{read_only, head}
 use Rattle.hl_model.specs.Bases.{Base, base_of}
 use Rattle.hl_action.specs.Jobs.{KeptRecord}
@@ -52,8 +53,19 @@ pub record KeeperStands {F : Type 0} (keeper : KeeperState F) (A : List Step) : 
 abbrev pub IsKeeper : {F : Type 0} → KeeperState F → Type 0
 IsKeeper {F} keeper = (A : List Step) × KeeperStands keeper A
 
--- so does each keeper, its journal has room for all steps that it may keep, and its row of stamps never grew
-pub record IsKept {F : Type 0} (keeper : KeeperState F) (journal_room : ℕ) (stamp_room : ℕ) : Type 0 where
+-- so does each keeper; its sizes and its stamp are those that its realm names
+pub record IsOf {F : Type 0} (sizes : Sizes) (stamp : ℕ) (keeper : KeeperState F) : Type 0 where
   pub standing : IsKeeper keeper
-  pub room : keeper.limit ≤ journal_room
-  pub exact : stamp_room ≡ keeper.core.sizes.slots
+  pub sizes_are : keeper.core.sizes ≡ sizes
+  pub stamp_is : keeper.stamp ≡ stamp
+
+-- for how many steps a keeper's journal has room, and for how many slots its row of stamps
+pub record Rooms : Type 0 where
+  pub journal : ℕ
+  pub stamps : ℕ
+
+-- each keeper is that, its journal has room for all steps that it may keep, and its row of stamps never grew
+pub record IsKept {F : Type 0} (sizes : Sizes) (stamp : ℕ) (keeper : KeeperState F) (rooms : Rooms) : Type 0 where
+  pub of : IsOf sizes stamp keeper
+  pub room : keeper.limit ≤ rooms.journal
+  pub exact : rooms.stamps ≡ keeper.core.sizes.slots

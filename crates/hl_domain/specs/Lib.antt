@@ -1,7 +1,15 @@
 pub mod Calls
+pub mod Domains
 pub mod Entering
 pub mod Keepers
 pub mod Pages
 pub mod Passes
 pub mod Taking
 pub mod Touches
+pub use Rattle.hl_model.specs.Actions
+pub use Rattle.hl_model.specs.Bases
+pub use Rattle.hl_model.specs.Offsets
+pub use Rattle.hl_model.specs.Replies
+pub use Rattle.hl_model.specs.Snapshots
+pub use Rattle.hl_model.specs.Views
+pub use Rattle.hl_words.specs.States

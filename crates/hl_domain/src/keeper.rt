@@ -1,8 +1,12 @@
-ghost use Rattle.std.specs.Prelude.{◌≡◌, ◌*◌, ◌≤◌, [], replicate, vec_capacity, IfOk, IfErr};
+ghost use Rattle.std.specs.Prelude.{◌≡◌, ◌≢◌, ◌*◌, ◌≤◌, List, [], length, replicate, vec_capacity, IfOk, IfErr, OnOk};
+ghost use Rattle.std.specs.List.{sum_by};
 ghost use Rattle.hl_model.specs.declared.fault.Fault.TheVariants.{OutOfMemory};
+ghost use Rattle.hl_model.specs.declared.step.Step.{Step as STEP};
+ghost use Rattle.hl_model.specs.Snapshots.{snapshot_of};
 ghost use Rattle.hl_words.specs.States.{IsSeedOf, new_rider};
 ghost use Rattle.hl_domain.specs.Keepers.{KeeperStands, steps_most};
 
+use crate::ending::Ending;
 use hl_action::{Kept, Promise, Task};
 use hl_core::Core;
 use hl_epoch::Epochs;
@@ -37,7 +41,7 @@ impl<E: Epochs, F: Task, P: Promise, L: Realm> Model for Keeper<E, F, P, L> {
 
     ghost view = { λ k. record { core = k.core; base = k.base; cut = k.cut; journal = k.journal.items; limit = k.limit; stamps = k.stamps.items; stamp = k.stamp; acquired = k.acquired; offsets = k.master.offsets; total = k.master.total } };
 
-    ghost invariant = { λ k. IsKept (record { core = k.core; base = k.base; cut = k.cut; journal = k.journal.items; limit = k.limit; stamps = k.stamps.items; stamp = k.stamp; acquired = k.acquired; offsets = k.master.offsets; total = k.master.total }) (vec_capacity k.journal) (vec_capacity k.stamps) };
+    ghost invariant = { λ k. IsKept L.sizes L.stamp (record { core = k.core; base = k.base; cut = k.cut; journal = k.journal.items; limit = k.limit; stamps = k.stamps.items; stamp = k.stamp; acquired = k.acquired; offsets = k.master.offsets; total = k.master.total }) (record { journal = vec_capacity k.journal; stamps = vec_capacity k.stamps }) };
 }
 
 impl<E: Epochs + Drop, F: Task, P: Promise, L: Realm> Drop for Keeper<E, F, P, L> {
@@ -70,6 +74,7 @@ impl<E: Epochs + Drop, F: Task, P: Promise, L: Realm> Keeper<E, F, P, L> {
         requires seed { IsSeedOf L.name L.parts L.table seed }
         requires journal { journal ≤ steps_most }
         requires stamp { stamp ≤ steps_most }
+        requires named { (seed.sizes ≡ L.sizes) × (stamp ≡ L.stamp) }
         ensures keeper { IfOk result (λ opened. KeeperStands opened.0 []) }
         ensures sizes { IfOk result (λ opened. opened.0.core.sizes ≡ seed.sizes) }
         ensures limit { IfOk result (λ opened. opened.0.limit ≡ journal) }
@@ -98,6 +103,56 @@ impl<E: Epochs + Drop, F: Task, P: Promise, L: Realm> Keeper<E, F, P, L> {
             master,
         };
         Ok((keeper, words, riders))
+    }
+    /// Ends it, where all riders are there: what is left of it. All are handed back where one is missing.
+    pub fn close(
+        self,
+        words: Words<L>,
+        riders: Vec<Rider<L>>,
+    ) -> Result<Ending<F, P>, (Keeper<E, F, P, L>, Words<L>, Vec<Rider<L>>)>
+        ensures kept { IfOk result (λ ending. (ending.base ≡ self.base) × (ending.cut ≡ self.cut)
+            × (ending.journal ≡ self.journal) × (ending.left ≡ self.core.drain)) }
+        ensures quantities { (A : List STEP) → KeeperStands self A
+            → IfOk result (λ ending. ending.snapshot ≡ snapshot_of self.core.sizes A) }
+        ensures sum { OnOk result (self.total ≡ sum_by (λ r. r.share) riders.items) }
+        ensures all { OnOk result (length riders.items ≡ words.riders) }
+        ensures missing { IfErr result (λ _. length riders.items ≢ words.riders) }
+        ensures back { IfErr result (λ back. (back.0 ≡ self) × (back.1 ≡ words) × (back.2 ≡ riders)) }
+    {
+        let Keeper {
+            core,
+            base,
+            cut,
+            journal,
+            limit,
+            stamps,
+            stamp,
+            acquired,
+            master,
+        } = self;
+        match words.close(master, riders) {
+            Ok(_) => Ok(Ending {
+                snapshot: core.snapshot(),
+                base,
+                cut,
+                journal,
+                left: core.into_drain(),
+            }),
+            Err((words, master, riders)) => {
+                let keeper = Keeper {
+                    core,
+                    base,
+                    cut,
+                    journal,
+                    limit,
+                    stamps,
+                    stamp,
+                    acquired,
+                    master,
+                };
+                Err((keeper, words, riders))
+            }
+        }
     }
 }
 

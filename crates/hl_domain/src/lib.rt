@@ -1,16 +1,28 @@
-//! The keeper: what lies under the one lock of a domain, and what riders do beside it.
+//! The domain: an allocator that threads share, with its quantities under one lock and its words beside it.
 //!
 //! After FASTER (Chandramouli, Prasaad, Kossmann, Levandoski, Hunter, Barnett, SIGMOD 2018): threads share
-//! the pages of its HybridLog under its epoch protection. Here the quantities stand in one [`Keeper`], which
-//! is to be put under a lock, and the words in `Words`, which need none.
+//! the pages of its HybridLog under its epoch protection. Here the quantities stand in one [`Keeper`] under the
+//! lock of a [`Domain`], and the words in `Words`, which need none. docs/GUIDE.md tells when to call what.
 //!
 //! # Who has what
 //!
 //! | Value | What it is |
 //! |---|---|
+//! | a [`Domain`] | a keeper under its lock, and the words: shared by a `&` |
 //! | a [`Keeper`] | the core, the journal, the base of the steps cut, the right to store offset words |
+//! | a `Rider` | the right to act, and its share: how many steps it entered. `close` wants all of them |
 //! | a [`Pass`] | the right to act for a slot, with its touches: what it did since its last locked call |
 //! | a [`Load`], a [`Broom`] | a page that was taken, to be flushed or to be cleaned; each must be spent |
+//! | an [`Ending`] | what is left of a domain: base, journal, actions that were never taken, all quantities |
+//!
+//! # Under the lock
+//!
+//! A locked call of a domain is its keeper's. No clause can name what lies under a lock, so each says that there is
+//! a keeper, of the domain's sizes and stamp, and a list at which it stood, after which the answer is the
+//! definitions': `UnderLock` in `specs/Domains.antt`. `look`, `store`, `load`, `copy_page` and `sweep` take no lock,
+//! and their clauses are exact in the pass, the broom and the rider. `close` says what the whole adds up to.
+//!
+//! A thread that ends with a pass in its hands leaves the slot protected for good, and its rider missing.
 //!
 //! # Standing at a list
 //!
@@ -41,6 +53,8 @@
 mod actions;
 mod call;
 mod cut;
+mod domain;
+mod ending;
 mod enter;
 mod keeper;
 mod load;
@@ -53,6 +67,14 @@ mod rider;
 mod slots;
 mod sweep;
 
+pub use domain::Domain;
+pub use ending::Ending;
+pub use hl_action::{AnyAnswer, Firing, Kept, NoJob, Promise, Ran, Ready, Task};
+pub use hl_counts::CountTable;
+pub use hl_drain::{Action, Ask, Drain};
+pub use hl_epoch::{Epochs, ScanTable};
+pub use hl_model::{Base, Fault, Params, Reply, Six, Snapshot, Step, View};
+pub use hl_words::{Master, Realm, Rider, Seed, Words};
 pub use keeper::Keeper;
 pub use load::{Broom, Load, PageJob};
 pub use pass::Pass;

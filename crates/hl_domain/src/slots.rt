@@ -1,5 +1,5 @@
 //! The locked calls of a pass, and the acquire that makes one.
-ghost use Rattle.std.specs.Prelude.{◌≡◌, ◌+◌, ◌-◌, ◌/◌, ◌≤◌, List, [], ◌∷◌, ◌++◌, slice_set, length, OnErr, OnOk, IfOk, IfErr, MatchResult};
+ghost use Rattle.std.specs.Prelude.{◌≡◌, ◌+◌, ◌-◌, ◌/◌, ◌^◌, ◌≤◌, List, [], ◌∷◌, ◌++◌, slice_set, length, OnErr, OnOk, IfOk, IfErr, MatchResult};
 ghost use Rattle.hl_model.specs.declared.step.Step.TheVariants.{Acquire as ACQUIRE, Refresh as REFRESH, Release as RELEASE, Allocate as ALLOCATE};
 ghost use Rattle.hl_model.specs.Offsets.{place_of, tail};
 ghost use Rattle.hl_model.specs.Views.{view_of};
@@ -89,6 +89,7 @@ impl<E: Epochs + Drop, F: Task, P: Promise, L: Realm> Keeper<E, F, P, L> {
             (λ a. pass.new ≡ rested (with_tail (a + n) (seen old)) old)
             (λ _. pass.new ≡ old) }
         ensures above { IfOk result (λ a. (seen pass.old).tail ≤ a) }
+        ensures within { IfOk result (λ a. a + n ≤ 2 ^ 48) }
         ensures one_page { let page = self.old.core.sizes.page
             in IfOk result (λ a. a / page ≡ (a + n - 1) / page) }
     {

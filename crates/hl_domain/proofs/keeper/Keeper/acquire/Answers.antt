@@ -27,7 +27,11 @@ invariant_of-self g c =
     let A = h.stood.0 in
     let st = h.stood.1 in
     record {
-      standing = (_, (acquire_made c.args.self.now m A c.args.t c.in-Ok.reply st (h.made A st) h.stamps.1 h.stays.sizes _ c.in-Entered.view (slice_set c.self.inside.stamps.items c.args.t (c.self.inside.stamp + (c.self.inside.acquired + 1))) (c.self.inside.acquired + 1) (c.self.inside.stamp + (c.self.inside.acquired + 1)) c.args.rider c.one.new.rider c.new.result c.in-Entered.is h.stays.stamp (length-set c.self.inside.stamps.items c.args.t (c.self.inside.stamp + (c.self.inside.acquired + 1))) refl refl c.new.ensures h.rider).standing);
+      of = record {
+        standing = (_, (acquire_made c.args.self.now m A c.args.t c.in-Ok.reply st (h.made A st) h.stamps.1 h.stays.sizes _ c.in-Entered.view (slice_set c.self.inside.stamps.items c.args.t (c.self.inside.stamp + (c.self.inside.acquired + 1))) (c.self.inside.acquired + 1) (c.self.inside.stamp + (c.self.inside.acquired + 1)) c.args.rider c.one.new.rider c.new.result c.in-Entered.is h.stays.stamp (length-set c.self.inside.stamps.items c.args.t (c.self.inside.stamp + (c.self.inside.acquired + 1))) refl refl c.new.ensures h.rider).standing);
+        sizes_are = c.self.invariant.of.sizes_are;
+        stamp_is = c.self.invariant.of.stamp_is;
+      };
       room = c.self.invariant.room;
       exact = c.self.invariant.exact;
     }

@@ -66,3 +66,6 @@ returns-clause-above g c = (placed g c.before.before).above
 
 pub returns-clause-one_page : goal.returns-clause-one_page
 returns-clause-one_page g c = (placed g c.before.before).one_page
+
+pub returns-clause-within : goal.returns-clause-within
+returns-clause-within g c = (placed g c.before.before).most

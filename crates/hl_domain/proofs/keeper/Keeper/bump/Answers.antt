@@ -34,24 +34,28 @@ note-requires-clause-count g c =
     let k : KeeperState g.row.F.Denot = (record { core = c.self.inside.core; base = c.self.inside.base; cut = c.self.inside.cut; journal = c.self.inside.journal.items; limit = c.self.inside.limit; stamps = c.self.inside.stamps.items; stamp = c.self.inside.stamp; acquired = c.self.inside.acquired; offsets = c.self.inside.master.offsets; total = c.self.inside.master.total }) in
     let s = asking job_tag c.args.ask in
     let room = rw (sym c.self.view_is) at c.in_default.ensures in
-    one_counts k c.in_default.field-0 c.self.invariant.standing room
+    one_counts k c.in_default.field-0 c.self.invariant.of.standing room
 
 pub invariant_of-self : goal.invariant_of-self
 invariant_of-self g c =
     let k : KeeperState g.row.F.Denot = (record { core = c.self.inside.core; base = c.self.inside.base; cut = c.self.inside.cut; journal = c.self.inside.journal.items; limit = c.self.inside.limit; stamps = c.self.inside.stamps.items; stamp = c.self.inside.stamp; acquired = c.self.inside.acquired; offsets = c.self.inside.master.offsets; total = c.self.inside.master.total }) in
     let s = asking job_tag c.args.ask in
     let room = rw (sym c.self.view_is) at c.in_default.ensures in
-    let A = c.self.invariant.standing.0 in
-    let st = c.self.invariant.standing.1 in
+    let A = c.self.invariant.of.standing.0 in
+    let st = c.self.invariant.of.standing.1 in
     record {
-      standing = (
-        _,
-        (core_made k A s c.in_default.field-0 c.bump.new.self (Ticket c.in-Ok.ticket) c.in-Ok.ticket _ c.note.new.journal.items c.self.inside.stamps.items c.self.inside.acquired c.note.new.master.offsets c.note.new.master.total st room (c.in-Ok.ensures.made A st.core_stands)
-            (bump_ticket k A c.args.ask c.bump.new.self c.in-Ok.ticket (c.in-Ok.ensures.made A st.core_stands))
-            (c.note.ensures.journal ∙ ap (λ z. c.self.inside.journal.items ++ z ∷ []) c.step_of-step.ensures) refl (omega arith)
-            (quiet k A s c.note.new.master.offsets st (asking_quiet job_tag c.args.ask).0 (asking_quiet job_tag c.args.ask).1 (ap (λ (m : MasterState). m.offsets) c.note.ensures.master))
-            (ap (λ (m : MasterState). m.total) c.note.ensures.master)).standing,
-      );
+      of = record {
+        standing = (
+          _,
+          (core_made k A s c.in_default.field-0 c.bump.new.self (Ticket c.in-Ok.ticket) c.in-Ok.ticket _ c.note.new.journal.items c.self.inside.stamps.items c.self.inside.acquired c.note.new.master.offsets c.note.new.master.total st room (c.in-Ok.ensures.made A st.core_stands)
+              (bump_ticket k A c.args.ask c.bump.new.self c.in-Ok.ticket (c.in-Ok.ensures.made A st.core_stands))
+              (c.note.ensures.journal ∙ ap (λ z. c.self.inside.journal.items ++ z ∷ []) c.step_of-step.ensures) refl (omega arith)
+              (quiet k A s c.note.new.master.offsets st (asking_quiet job_tag c.args.ask).0 (asking_quiet job_tag c.args.ask).1 (ap (λ (m : MasterState). m.offsets) c.note.ensures.master))
+              (ap (λ (m : MasterState). m.total) c.note.ensures.master)).standing,
+        );
+        sizes_are = c.in-Ok.ensures.sizes ∙ c.self.invariant.of.sizes_are;
+        stamp_is = c.self.invariant.of.stamp_is;
+      };
       room = omega (arith, c.self.invariant.room, c.note.ensures.room);
       exact = c.self.invariant.exact ∙ sym (ap (λ z. z.slots) c.in-Ok.ensures.sizes);
     }

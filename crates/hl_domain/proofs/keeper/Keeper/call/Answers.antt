@@ -18,7 +18,7 @@ returns-in_err-check-clause-made g c =
     let room = rw (sym c.self.view_is) at c.in_ok-room.ensures in
     let k : KeeperState g.row.F.Denot = (record { core = c.self.inside.core; base = c.self.inside.base; cut = c.self.inside.cut; journal = c.self.inside.journal.items; limit = c.self.inside.limit; stamps = c.self.inside.stamps.items; stamp = c.self.inside.stamp; acquired = c.self.inside.acquired; offsets = c.self.inside.master.offsets; total = c.self.inside.master.total }) in
     let p : PassRecord = (record { slot = c.pass.inside.slot; stamp = c.pass.inside.stamp; held = c.pass.inside.held; touches = c.pass.inside.touches.items; rider = c.pass.inside.rider }) in
-    let may : MayCall k p c.args.step.now = may_call k p c.args.step.now c.len.result c.in_ok-room.field-0 c.self.invariant.standing known c.requires.kind c.pass.invariant.1 c.len.ensures.value room in
+    let may : MayCall k p c.args.step.now = may_call k p c.args.step.now c.len.result c.in_ok-room.field-0 c.self.invariant.of.standing known c.requires.kind c.pass.invariant.1 c.len.ensures.value room in
     let q = err_from_is_err_and c.from_residual-in_err-check.result c.from_residual-in_err-check.ensures.1 in
     rw (q.1, q.2, sym c.self.view_is, sym c.pass.view_is) (called_faulty k p c.args.step.now c.in_err-check.field-0.0 may c.in_err-check.ensures)
 
@@ -28,7 +28,7 @@ enter_steps-requires-clause-may g c =
     let room = rw (sym c.self.view_is) at c.in_ok-room.ensures in
     let k : KeeperState g.row.F.Denot = (record { core = c.self.inside.core; base = c.self.inside.base; cut = c.self.inside.cut; journal = c.self.inside.journal.items; limit = c.self.inside.limit; stamps = c.self.inside.stamps.items; stamp = c.self.inside.stamp; acquired = c.self.inside.acquired; offsets = c.self.inside.master.offsets; total = c.self.inside.master.total }) in
     let p : PassRecord = (record { slot = c.pass.inside.slot; stamp = c.pass.inside.stamp; held = c.pass.inside.held; touches = c.pass.inside.touches.items; rider = c.pass.inside.rider }) in
-    let may : MayCall k p c.args.step.now = may_call k p c.args.step.now c.len.result c.in_ok-room.field-0 c.self.invariant.standing known c.requires.kind c.pass.invariant.1 c.len.ensures.value room in
+    let may : MayCall k p c.args.step.now = may_call k p c.args.step.now c.len.result c.in_ok-room.field-0 c.self.invariant.of.standing known c.requires.kind c.pass.invariant.1 c.len.ensures.value room in
     rw c.deref.ensures.0 (may_enter k p c.args.step.now may)
 
 pub enter_steps-requires-clause-room : goal.enter_steps-requires-clause-room
@@ -37,7 +37,7 @@ enter_steps-requires-clause-room g c =
     let room = rw (sym c.self.view_is) at c.in_ok-room.ensures in
     let k : KeeperState g.row.F.Denot = (record { core = c.self.inside.core; base = c.self.inside.base; cut = c.self.inside.cut; journal = c.self.inside.journal.items; limit = c.self.inside.limit; stamps = c.self.inside.stamps.items; stamp = c.self.inside.stamp; acquired = c.self.inside.acquired; offsets = c.self.inside.master.offsets; total = c.self.inside.master.total }) in
     let p : PassRecord = (record { slot = c.pass.inside.slot; stamp = c.pass.inside.stamp; held = c.pass.inside.held; touches = c.pass.inside.touches.items; rider = c.pass.inside.rider }) in
-    let may : MayCall k p c.args.step.now = may_call k p c.args.step.now c.len.result c.in_ok-room.field-0 c.self.invariant.standing known c.requires.kind c.pass.invariant.1 c.len.ensures.value room in
+    let may : MayCall k p c.args.step.now = may_call k p c.args.step.now c.len.result c.in_ok-room.field-0 c.self.invariant.of.standing known c.requires.kind c.pass.invariant.1 c.len.ensures.value room in
     omega (arith, ap length c.deref.ensures.0, fits k p c.args.step.now _ may c.self.invariant.room)
 
 pub push_reserved-requires : goal.push_reserved-requires
@@ -46,7 +46,7 @@ push_reserved-requires g c =
     let room = rw (sym c.self.view_is) at c.in_ok-room.ensures in
     let k : KeeperState g.row.F.Denot = (record { core = c.self.inside.core; base = c.self.inside.base; cut = c.self.inside.cut; journal = c.self.inside.journal.items; limit = c.self.inside.limit; stamps = c.self.inside.stamps.items; stamp = c.self.inside.stamp; acquired = c.self.inside.acquired; offsets = c.self.inside.master.offsets; total = c.self.inside.master.total }) in
     let p : PassRecord = (record { slot = c.pass.inside.slot; stamp = c.pass.inside.stamp; held = c.pass.inside.held; touches = c.pass.inside.touches.items; rider = c.pass.inside.rider }) in
-    let may : MayCall k p c.args.step.now = may_call k p c.args.step.now c.len.result c.in_ok-room.field-0 c.self.invariant.standing known c.requires.kind c.pass.invariant.1 c.len.ensures.value room in
+    let may : MayCall k p c.args.step.now = may_call k p c.args.step.now c.len.result c.in_ok-room.field-0 c.self.invariant.of.standing known c.requires.kind c.pass.invariant.1 c.len.ensures.value room in
     omega (arith, c.enter_steps.new.journal.ok.0, ap length c.enter_steps.ensures.journal, length-append c.self.inside.journal.items c.deref.result.now, c.enter_steps.ensures.room, ap length c.deref.ensures.0, fits k p c.args.step.now _ may c.self.invariant.room)
 
 pub enter-requires : goal.enter-requires
@@ -55,7 +55,7 @@ enter-requires g c =
     let room = rw (sym c.self.view_is) at c.in_ok-room.ensures in
     let k : KeeperState g.row.F.Denot = (record { core = c.self.inside.core; base = c.self.inside.base; cut = c.self.inside.cut; journal = c.self.inside.journal.items; limit = c.self.inside.limit; stamps = c.self.inside.stamps.items; stamp = c.self.inside.stamp; acquired = c.self.inside.acquired; offsets = c.self.inside.master.offsets; total = c.self.inside.master.total }) in
     let p : PassRecord = (record { slot = c.pass.inside.slot; stamp = c.pass.inside.stamp; held = c.pass.inside.held; touches = c.pass.inside.touches.items; rider = c.pass.inside.rider }) in
-    let may : MayCall k p c.args.step.now = may_call k p c.args.step.now c.len.result c.in_ok-room.field-0 c.self.invariant.standing known c.requires.kind c.pass.invariant.1 c.len.ensures.value room in
+    let may : MayCall k p c.args.step.now = may_call k p c.args.step.now c.len.result c.in_ok-room.field-0 c.self.invariant.of.standing known c.requires.kind c.pass.invariant.1 c.len.ensures.value room in
     omega (arith, c.len.ensures.value, counts k p c.args.step.now may)
 
 pub unreachable-requires : goal.unreachable-requires
@@ -64,7 +64,7 @@ unreachable-requires g c =
     let room = rw (sym c.self.view_is) at c.in_ok-room.ensures in
     let k : KeeperState g.row.F.Denot = (record { core = c.self.inside.core; base = c.self.inside.base; cut = c.self.inside.cut; journal = c.self.inside.journal.items; limit = c.self.inside.limit; stamps = c.self.inside.stamps.items; stamp = c.self.inside.stamp; acquired = c.self.inside.acquired; offsets = c.self.inside.master.offsets; total = c.self.inside.master.total }) in
     let p : PassRecord = (record { slot = c.pass.inside.slot; stamp = c.pass.inside.stamp; held = c.pass.inside.held; touches = c.pass.inside.touches.items; rider = c.pass.inside.rider }) in
-    let may : MayCall k p c.args.step.now = may_call k p c.args.step.now c.len.result c.in_ok-room.field-0 c.self.invariant.standing known c.requires.kind c.pass.invariant.1 c.len.ensures.value room in
+    let may : MayCall k p c.args.step.now = may_call k p c.args.step.now c.len.result c.in_ok-room.field-0 c.self.invariant.of.standing known c.requires.kind c.pass.invariant.1 c.len.ensures.value room in
     let at : HasEntered k p c.args.step.now c.enter_steps.new.core = record { may = may; fine = λ A st. (unless_ok (fault_of k.core.sizes A c.args.step.now) c.in_ok-check.field-0 (tt {0}) (c.in_ok-check.ensures A st)).0; sizes = c.enter_steps.ensures.sizes; jobs = c.enter_steps.ensures.jobs; core = rw c.deref.ensures.0 at c.enter_steps.ensures.core } in
     never_refused k p c.args.step.now c.enter_steps.new.core c.act.new.self c.in-Err.field-0 at c.in-Err.ensures.made
 
@@ -74,10 +74,14 @@ invariant_of-self g c =
     let room = rw (sym c.self.view_is) at c.in_ok-room.ensures in
     let k : KeeperState g.row.F.Denot = (record { core = c.self.inside.core; base = c.self.inside.base; cut = c.self.inside.cut; journal = c.self.inside.journal.items; limit = c.self.inside.limit; stamps = c.self.inside.stamps.items; stamp = c.self.inside.stamp; acquired = c.self.inside.acquired; offsets = c.self.inside.master.offsets; total = c.self.inside.master.total }) in
     let p : PassRecord = (record { slot = c.pass.inside.slot; stamp = c.pass.inside.stamp; held = c.pass.inside.held; touches = c.pass.inside.touches.items; rider = c.pass.inside.rider }) in
-    let may : MayCall k p c.args.step.now = may_call k p c.args.step.now c.len.result c.in_ok-room.field-0 c.self.invariant.standing known c.requires.kind c.pass.invariant.1 c.len.ensures.value room in
+    let may : MayCall k p c.args.step.now = may_call k p c.args.step.now c.len.result c.in_ok-room.field-0 c.self.invariant.of.standing known c.requires.kind c.pass.invariant.1 c.len.ensures.value room in
     let at : HasEntered k p c.args.step.now c.enter_steps.new.core = record { may = may; fine = λ A st. (unless_ok (fault_of k.core.sizes A c.args.step.now) c.in_ok-check.field-0 (tt {0}) (c.in_ok-check.ensures A st)).0; sizes = c.enter_steps.ensures.sizes; jobs = c.enter_steps.ensures.jobs; core = rw c.deref.ensures.0 at c.enter_steps.ensures.core } in
     record {
-      standing = (_, (called_made k p c.args.step.now c.enter_steps.new.core c.act.new.self c.in-Ok.reply c.len.result c.enter_steps.new.journal.items c.push_reserved.new.self.items c.enter.new.self at c.in-Ok.ensures.made c.in-Ok.ensures.sizes c.len.ensures.value (c.enter_steps.ensures.journal ∙ ap (λ z. c.self.inside.journal.items ++ z) c.deref.ensures.0) c.push_reserved.ensures.items c.enter.ensures.total c.self.invariant.standing.0 c.self.invariant.standing.1).standing);
+      of = record {
+        standing = (_, (called_made k p c.args.step.now c.enter_steps.new.core c.act.new.self c.in-Ok.reply c.len.result c.enter_steps.new.journal.items c.push_reserved.new.self.items c.enter.new.self at c.in-Ok.ensures.made c.in-Ok.ensures.sizes c.len.ensures.value (c.enter_steps.ensures.journal ∙ ap (λ z. c.self.inside.journal.items ++ z) c.deref.ensures.0) c.push_reserved.ensures.items c.enter.ensures.total c.self.invariant.of.standing.0 c.self.invariant.of.standing.1).standing);
+        sizes_are = (c.in-Ok.ensures.sizes ∙ c.enter_steps.ensures.sizes) ∙ c.self.invariant.of.sizes_are;
+        stamp_is = c.self.invariant.of.stamp_is;
+      };
       room = omega (arith, c.self.invariant.room, c.push_reserved.ensures.capacity, c.enter_steps.ensures.room);
       exact = c.self.invariant.exact ∙ sym (ap (λ z. z.slots) (c.in-Ok.ensures.sizes ∙ c.enter_steps.ensures.sizes));
     }
@@ -88,6 +92,6 @@ returns-clause-made g c =
     let room = rw (sym c.self.view_is) at c.in_ok-room.ensures in
     let k : KeeperState g.row.F.Denot = (record { core = c.self.inside.core; base = c.self.inside.base; cut = c.self.inside.cut; journal = c.self.inside.journal.items; limit = c.self.inside.limit; stamps = c.self.inside.stamps.items; stamp = c.self.inside.stamp; acquired = c.self.inside.acquired; offsets = c.self.inside.master.offsets; total = c.self.inside.master.total }) in
     let p : PassRecord = (record { slot = c.pass.inside.slot; stamp = c.pass.inside.stamp; held = c.pass.inside.held; touches = c.pass.inside.touches.items; rider = c.pass.inside.rider }) in
-    let may : MayCall k p c.args.step.now = may_call k p c.args.step.now c.len.result c.in_ok-room.field-0 c.self.invariant.standing known c.requires.kind c.pass.invariant.1 c.len.ensures.value room in
+    let may : MayCall k p c.args.step.now = may_call k p c.args.step.now c.len.result c.in_ok-room.field-0 c.self.invariant.of.standing known c.requires.kind c.pass.invariant.1 c.len.ensures.value room in
     let at : HasEntered k p c.args.step.now c.enter_steps.new.core = record { may = may; fine = λ A st. (unless_ok (fault_of k.core.sizes A c.args.step.now) c.in_ok-check.field-0 (tt {0}) (c.in_ok-check.ensures A st)).0; sizes = c.enter_steps.ensures.sizes; jobs = c.enter_steps.ensures.jobs; core = rw c.deref.ensures.0 at c.enter_steps.ensures.core } in
     rw (sym c.self.view_is, sym c.pass.view_is) (called_made k p c.args.step.now c.enter_steps.new.core c.act.new.self c.in-Ok.reply c.len.result c.enter_steps.new.journal.items c.push_reserved.new.self.items c.enter.new.self at c.in-Ok.ensures.made c.in-Ok.ensures.sizes c.len.ensures.value (c.enter_steps.ensures.journal ∙ ap (λ z. c.self.inside.journal.items ++ z) c.deref.ensures.0) c.push_reserved.ensures.items c.enter.ensures.total)

@@ -33,17 +33,21 @@ note-requires-clause-count g c =
     let k : KeeperState g.row.F.Denot = (record { core = c.self.inside.core; base = c.self.inside.base; cut = c.self.inside.cut; journal = c.self.inside.journal.items; limit = c.self.inside.limit; stamps = c.self.inside.stamps.items; stamp = c.self.inside.stamp; acquired = c.self.inside.acquired; offsets = c.self.inside.master.offsets; total = c.self.inside.master.total }) in
     let s = c.args.step.now in
     let room = rw (sym c.self.view_is) at c.in_ok-room.ensures in
-    one_counts k c.in_ok-room.field-0 c.self.invariant.standing room
+    one_counts k c.in_ok-room.field-0 c.self.invariant.of.standing room
 
 pub invariant_of-self-2 : goal.invariant_of-self-2
 invariant_of-self-2 g c =
     let k : KeeperState g.row.F.Denot = (record { core = c.self.inside.core; base = c.self.inside.base; cut = c.self.inside.cut; journal = c.self.inside.journal.items; limit = c.self.inside.limit; stamps = c.self.inside.stamps.items; stamp = c.self.inside.stamp; acquired = c.self.inside.acquired; offsets = c.self.inside.master.offsets; total = c.self.inside.master.total }) in
     let s = c.args.step.now in
     let room = rw (sym c.self.view_is) at c.in_ok-room.ensures in
-    let A = c.self.invariant.standing.0 in
-    let st = c.self.invariant.standing.1 in
+    let A = c.self.invariant.of.standing.0 in
+    let st = c.self.invariant.of.standing.1 in
     record {
-      standing = (_, (core_made k A s c.in_ok-room.field-0 c.act.new.self c.in_ok-reply.reply c.in_ok-reply.reply _ c.note.new.journal.items c.self.inside.stamps.items c.self.inside.acquired c.note.new.master.offsets c.note.new.master.total st room (c.in_ok-reply.ensures.made A st.core_stands) (core_told k A s c.act.new.self c.in_ok-reply.reply (c.in_ok-reply.ensures.made A st.core_stands)).1 c.note.ensures.journal refl (omega arith) (quiet k A s c.note.new.master.offsets st c.requires.quiet.0 c.requires.quiet.1 (ap (λ (m : MasterState). m.offsets) c.note.ensures.master)) (ap (λ (m : MasterState). m.total) c.note.ensures.master)).standing);
+      of = record {
+        standing = (_, (core_made k A s c.in_ok-room.field-0 c.act.new.self c.in_ok-reply.reply c.in_ok-reply.reply _ c.note.new.journal.items c.self.inside.stamps.items c.self.inside.acquired c.note.new.master.offsets c.note.new.master.total st room (c.in_ok-reply.ensures.made A st.core_stands) (core_told k A s c.act.new.self c.in_ok-reply.reply (c.in_ok-reply.ensures.made A st.core_stands)).1 c.note.ensures.journal refl (omega arith) (quiet k A s c.note.new.master.offsets st c.requires.quiet.0 c.requires.quiet.1 (ap (λ (m : MasterState). m.offsets) c.note.ensures.master)) (ap (λ (m : MasterState). m.total) c.note.ensures.master)).standing);
+        sizes_are = c.in_ok-reply.ensures.sizes ∙ c.self.invariant.of.sizes_are;
+        stamp_is = c.self.invariant.of.stamp_is;
+      };
       room = omega (arith, c.self.invariant.room, c.note.ensures.room);
       exact = c.self.invariant.exact ∙ sym (ap (λ z. z.slots) c.in_ok-reply.ensures.sizes);
     }

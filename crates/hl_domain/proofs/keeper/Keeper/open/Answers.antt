@@ -6,7 +6,11 @@ use Rattle.hl_domain.proofs.keeper.Keeper.open.Goals as goal
 
 pub invariant_of-keeper : goal.invariant_of-keeper
 invariant_of-keeper g c = record {
-  standing = ([], opened c.in_ok-core.core c.in_ok-base.base c.in_ok-journal.journal.items c.args.journal c.in_ok-stamps.stamps.items c.args.stamp c.in_ok-words.master c.params-params.result c.in_ok-core.ensures.ok.0 c.in_ok-core.ensures.ok.1 c.in_ok-base.ensures.ok c.in_ok-journal.ensures.empty (ap length c.in_ok-stamps.ensures.items ∙ length-replicate c.slots.result 0 ∙ c.slots.ensures.value) c.requires.stamp c.in_ok-words.ensures.master);
+  of = record {
+    standing = ([], opened c.in_ok-core.core c.in_ok-base.base c.in_ok-journal.journal.items c.args.journal c.in_ok-stamps.stamps.items c.args.stamp c.in_ok-words.master c.params-params.result c.in_ok-core.ensures.ok.0 c.in_ok-core.ensures.ok.1 c.in_ok-base.ensures.ok c.in_ok-journal.ensures.empty (ap length c.in_ok-stamps.ensures.items ∙ length-replicate c.slots.result 0 ∙ c.slots.ensures.value) c.requires.stamp c.in_ok-words.ensures.master);
+    sizes_are = c.in_ok-core.ensures.ok.1 ∙ c.params-params.ensures.value ∙ c.requires.named.0;
+    stamp_is = c.requires.named.1;
+  };
   room = c.in_ok-journal.ensures.room;
   exact = c.in_ok-stamps.ensures.exact ∙ c.slots.ensures.value ∙ ap (λ (z : Sizes). z.slots) (sym c.in_ok-core.ensures.ok.1);
 }

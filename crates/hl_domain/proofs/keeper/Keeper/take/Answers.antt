@@ -35,24 +35,28 @@ note-requires-clause-count g c =
     let k : KeeperState g.row.F.Denot = (record { core = c.self.inside.core; base = c.self.inside.base; cut = c.self.inside.cut; journal = c.self.inside.journal.items; limit = c.self.inside.limit; stamps = c.self.inside.stamps.items; stamp = c.self.inside.stamp; acquired = c.self.inside.acquired; offsets = c.self.inside.master.offsets; total = c.self.inside.master.total }) in
     let s = TAKE in
     let room = rw (sym c.self.view_is) at c.in_ok-room.ensures in
-    one_counts k c.in_ok-room.field-0 c.self.invariant.standing room
+    one_counts k c.in_ok-room.field-0 c.self.invariant.of.standing room
 
 pub invariant_of-self-2 : goal.invariant_of-self-2
 invariant_of-self-2 g c =
     let k : KeeperState g.row.F.Denot = (record { core = c.self.inside.core; base = c.self.inside.base; cut = c.self.inside.cut; journal = c.self.inside.journal.items; limit = c.self.inside.limit; stamps = c.self.inside.stamps.items; stamp = c.self.inside.stamp; acquired = c.self.inside.acquired; offsets = c.self.inside.master.offsets; total = c.self.inside.master.total }) in
     let s = TAKE in
     let room = rw (sym c.self.view_is) at c.in_ok-room.ensures in
-    let A = c.self.invariant.standing.0 in
-    let st = c.self.invariant.standing.1 in
+    let A = c.self.invariant.of.standing.0 in
+    let st = c.self.invariant.of.standing.1 in
     record {
-      standing = (
-        _,
-        (core_made k A TAKE c.in_ok-room.field-0 c.take.new.self (Taken c.in_ok-firing.firing.ticket) (tt {0}) (tt {0}) c.note.new.journal.items c.self.inside.stamps.items c.self.inside.acquired c.note.new.master.offsets c.note.new.master.total st room (c.in_ok-firing.ensures.made A st.core_stands)
-            refl
-            c.note.ensures.journal refl (omega arith)
-            (quiet k A TAKE c.note.new.master.offsets st refl refl (ap (λ (m : MasterState). m.offsets) c.note.ensures.master))
-            (ap (λ (m : MasterState). m.total) c.note.ensures.master)).standing,
-      );
+      of = record {
+        standing = (
+          _,
+          (core_made k A TAKE c.in_ok-room.field-0 c.take.new.self (Taken c.in_ok-firing.firing.ticket) (tt {0}) (tt {0}) c.note.new.journal.items c.self.inside.stamps.items c.self.inside.acquired c.note.new.master.offsets c.note.new.master.total st room (c.in_ok-firing.ensures.made A st.core_stands)
+              refl
+              c.note.ensures.journal refl (omega arith)
+              (quiet k A TAKE c.note.new.master.offsets st refl refl (ap (λ (m : MasterState). m.offsets) c.note.ensures.master))
+              (ap (λ (m : MasterState). m.total) c.note.ensures.master)).standing,
+        );
+        sizes_are = c.in_ok-firing.ensures.sizes ∙ c.self.invariant.of.sizes_are;
+        stamp_is = c.self.invariant.of.stamp_is;
+      };
       room = omega (arith, c.self.invariant.room, c.note.ensures.room);
       exact = c.self.invariant.exact ∙ sym (ap (λ z. z.slots) c.in_ok-firing.ensures.sizes);
     }

@@ -1,0 +1,15 @@
+use Rattle.std.proofs.Common.{◌≡◌, ◌+◌, ◌-◌, ◌/◌, sym, subst}
+use Rattle.std.specs.Prelude.{IfOk}
+use Rattle.hl_model.specs.Sizes.{Sizes}
+use Rattle.hl_domain.proofs.DomainLaws.{met}
+use Rattle.hl_domain.proofs.domain.Domain.allocate.Goals as goal
+
+pub returns-clause-met : goal.returns-clause-met
+returns-clause-met g c =
+    let of = rw (sym c.deref_mut.ensures.value) at c.lock.ensures in
+    met c.args.self.now c.deref_mut.result.now _ of (λ A st. (c.allocate.ensures.made A st).reply)
+
+pub returns-clause-one_page : goal.returns-clause-one_page
+returns-clause-one_page g c =
+    let of = rw (sym c.deref_mut.ensures.value) at c.lock.ensures in
+    subst (λ (z : Sizes). IfOk c.allocate.result (λ a. a / z.page ≡ (a + c.args.n - 1) / z.page)) of.sizes_are c.allocate.ensures.one_page

@@ -1,0 +1,12 @@
+use Rattle.std.proofs.Common.{sym, ap, ◌∙◌}
+use Rattle.hl_model.specs.declared.step.Step.TheVariants.{FlushTake}
+use Rattle.hl_model.specs.Replies.{unless_fault}
+use Rattle.hl_domain.specs.Calls.{step_fault}
+use Rattle.hl_domain.specs.Pages.{to_flush}
+use Rattle.hl_domain.proofs.DomainLaws.{met}
+use Rattle.hl_domain.proofs.domain.Domain.flush_take.Goals as goal
+
+pub returns-clause-met : goal.returns-clause-met
+returns-clause-met g c =
+    let of = rw (sym c.deref_mut.ensures.value) at c.lock.ensures in
+    met c.args.self.now c.deref_mut.result.now _ of (λ A st. (c.flush_take.ensures.made A st).reply ∙ ap (λ z. unless_fault (step_fault c.deref_mut.result.now A FlushTake) (to_flush c.deref_mut.result.now.core.sizes z A)) of.stamp_is)

@@ -1,0 +1,7 @@
+use Rattle.std.proofs.Common.{sym}
+use Rattle.hl_domain.proofs.keeper.Keeper.close.Goals as goal
+
+pub returns-in-Ok-clause-quantities : goal.returns-in-Ok-clause-quantities
+returns-in-Ok-clause-quantities g c =
+    let snapshot = c.snapshot.ensures in
+    rw (sym c.self.view_is) (λ A st. snapshot A st.core_stands)

@@ -1,0 +1,60 @@
+-- What contracts see of a domain, what a call met under its lock, and what is left of it at its end.
+use Rattle.std.specs.Prelude.{◌≡◌, ℕ, ◌+◌, Option, List, ◌∷◌, ◌++◌, length, map}
+use Rattle.hl_model.specs.declared.snapshot.Snapshot.{Snapshot}
+use Rattle.hl_model.specs.declared.step.Step.{Step}
+use Rattle.hl_model.specs.Sizes.{Sizes}
+use Rattle.hl_model.specs.Actions.{pending, taken}
+use Rattle.hl_model.specs.Bases.{Base, base_of}
+use Rattle.hl_model.specs.Replies.{IsAccepted}
+use Rattle.hl_model.specs.Snapshots.{snapshot_of}
+use Rattle.hl_drain.specs.declared.action.Action.{Action}
+use Rattle.hl_drain.specs.Actions.{waiting_of}
+use Rattle.hl_drain.specs.Lists.{Lists}
+use Rattle.hl_action.specs.Jobs.{KeptRecord}
+use Rattle.hl_core.specs.Standing.{State}
+use Rattle.hl_core.specs.Steps.{job_in}
+use Rattle.hl_domain.specs.Keepers.{job_tag, KeeperState, KeeperStands}
+
+-- a domain: its sizes, its stamp, and how many riders it has
+pub record DomainState : Type 0 where
+  pub sizes : Sizes
+  pub stamp : ℕ
+  pub riders : ℕ
+
+-- what a call met under the lock: a keeper of the domain's sizes and stamp, which stood at a list, and of
+-- both of which this holds
+pub record UnderLock (F : Type 0) (domain : DomainState) (Holds : KeeperState F → List Step → Type 0) : Type 0 where
+  pub keeper : KeeperState F
+  pub list : List Step
+  pub stands : KeeperStands keeper list
+  pub sizes_are : keeper.core.sizes ≡ domain.sizes
+  pub stamp_is : keeper.stamp ≡ domain.stamp
+  pub holds : Holds keeper list
+
+-- the job is that of the oldest action that waits in a core, which has this ticket
+pub record IsOldest {F : Type 0} (core : State (KeptRecord F)) (ticket : ℕ) (job : Option (KeptRecord F)) : Type 0 where
+  pub action : Action (KeptRecord F)
+  pub others : List (ℕ × Action (KeptRecord F))
+  pub waits : core.drain.pending ≡ (ticket, action) ∷ others
+  pub job_is : job ≡ job_in action
+
+-- what is left of a domain at its end: the base of the steps that were cut, and how many these are; the steps
+-- since; the actions that were never taken, and those taken and not done; all quantities
+pub record EndingState (F : Type 0) : Type 0 where
+  pub base : Base
+  pub cut : ℕ
+  pub journal : List Step
+  pub left : Lists (KeptRecord F)
+  pub snapshot : Snapshot
+
+-- the steps that were cut and then the journal are an accepted list; the base is that of the steps cut; the
+-- snapshot is that of both, and so are the actions left; riders entered as many steps as both have
+pub record IsEnding {F : Type 0} (sizes : Sizes) (shares : ℕ) (ending : EndingState F) : Type 0 where
+  pub steps_cut : List Step
+  pub accepted : IsAccepted sizes (steps_cut ++ ending.journal)
+  pub base_is : ending.base ≡ base_of sizes steps_cut
+  pub cut_is : ending.cut ≡ length steps_cut
+  pub snapshot_is : ending.snapshot ≡ snapshot_of sizes (steps_cut ++ ending.journal)
+  pub pending_are : map (waiting_of job_tag) ending.left.pending ≡ pending (steps_cut ++ ending.journal)
+  pub taken_are : ending.left.taken ≡ taken (steps_cut ++ ending.journal)
+  pub sum : ending.cut + length ending.journal ≡ shares

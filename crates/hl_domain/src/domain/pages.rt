@@ -1,0 +1,81 @@
+//! The locked calls about pages.
+ghost use Rattle.std.specs.Prelude.{◌≡◌, List, [], ◌∷◌, ◌++◌, IfErr};
+ghost use Rattle.hl_model.specs.declared.step.Step.TheVariants.{FlushTake as FLUSH_TAKE, FlushDone as FLUSH_DONE, CleanTake as CLEAN_TAKE, CleanDone as CLEAN_DONE};
+ghost use Rattle.hl_model.specs.Pages.{flushed};
+ghost use Rattle.hl_model.specs.Replies.{unless_fault};
+ghost use Rattle.hl_domain.specs.Passes.{Shares};
+ghost use Rattle.hl_domain.specs.Calls.{step_fault, end_fault, told};
+ghost use Rattle.hl_domain.specs.Pages.{to_flush, to_clean};
+ghost use Rattle.hl_domain.specs.Domains.{UnderLock};
+
+use crate::domain::Domain;
+use crate::load::{Broom, Load};
+use hl_action::{Promise, Task};
+use hl_epoch::Epochs;
+use hl_model::Fault;
+use hl_words::{Realm, Rider};
+use std::sync::Wait;
+
+impl<E: Epochs + Drop, F: Task, P: Promise, L: Realm> Domain<E, F, P, L> {
+    /// Takes the least sealed page that is neither flushed nor in flight.
+    ///
+    /// Faults: `JournalFull`, `NoneSealed`.
+    pub fn flush_take(&self, rt: &impl Wait, rider: &mut Rider<L>) -> Result<Load, Fault>
+        ensures met { UnderLock F self.now (λ k A. result ≡ unless_fault (step_fault k A FLUSH_TAKE)
+            (to_flush k.core.sizes self.now.stamp A)) }
+        ensures rider { Shares 1 result rider.old rider.new }
+    {
+        self.lock(rt).flush_take(&self.words, rider)
+    }
+
+    /// The flush of a page ended, well or not; the answer is the flushed offset.
+    ///
+    /// Faults, with the load handed back: `Stranger` where it is of another domain, `JournalFull`,
+    /// `NotInFlight`.
+    pub fn flush_done(
+        &self,
+        rt: &impl Wait,
+        rider: &mut Rider<L>,
+        load: Load,
+        ok: bool,
+    ) -> Result<u64, (Fault, Load)>
+        ensures met { let step = FLUSH_DONE load.page ok
+            in UnderLock F self.now (λ k A. told result ≡ unless_fault (end_fault k A load.stamp step)
+            (flushed k.core.sizes (A ++ step ∷ []))) }
+        ensures refused { IfErr result (λ back. back.1 ≡ load) }
+        ensures rider { Shares 1 result rider.old rider.new }
+    {
+        self.lock(rt).flush_done(&self.words, rider, load, ok)
+    }
+
+    /// Takes the least closed page that is neither freed nor being cleaned.
+    ///
+    /// Faults: `JournalFull`, `NoneClosed`.
+    pub fn clean_take(&self, rt: &impl Wait, rider: &mut Rider<L>) -> Result<Broom, Fault>
+        ensures met { UnderLock F self.now (λ k A. result ≡ unless_fault (step_fault k A CLEAN_TAKE)
+            (to_clean k.core.sizes self.now.stamp A)) }
+        ensures rider { Shares 1 result rider.old rider.new }
+    {
+        self.lock(rt).clean_take(&self.words, rider)
+    }
+
+    /// The cells of a page hold 0: its frame is free. The broom is swept: 0 was stored into all P cells. The
+    /// answer is the page.
+    ///
+    /// Faults, with the broom handed back: `Stranger` where it is of another domain, `JournalFull`,
+    /// `NotCleaning`.
+    pub fn clean_done(
+        &self,
+        rt: &impl Wait,
+        rider: &mut Rider<L>,
+        broom: Broom,
+    ) -> Result<u64, (Fault, Broom)>
+        requires { broom.swept ≡ self.now.sizes.page }
+        ensures met { UnderLock F self.now (λ k A. told result
+            ≡ unless_fault (end_fault k A broom.stamp (CLEAN_DONE broom.page)) broom.page) }
+        ensures refused { IfErr result (λ back. back.1 ≡ broom) }
+        ensures rider { Shares 1 result rider.old rider.new }
+    {
+        self.lock(rt).clean_done(&self.words, rider, broom)
+    }
+}

@@ -1,0 +1,126 @@
+//! The locked calls of a rider: bumps, takes and dones, the two offsets, the cut, and the snapshot.
+ghost use Rattle.std.specs.Prelude.{◌≡◌, List, [], ◌∷◌, ◌++◌, length, IfOk, IfErr};
+ghost use Rattle.hl_model.specs.declared.step.Step.TheVariants.{Bare as BARE, Take as TAKE, Done as DONE, Raise as RAISE, Shift as SHIFT};
+ghost use Rattle.hl_model.specs.Actions.{bumps};
+ghost use Rattle.hl_model.specs.Offsets.{read_only, head};
+ghost use Rattle.hl_model.specs.Replies.{answer_of, unless_fault};
+ghost use Rattle.hl_model.specs.Snapshots.{snapshot_of};
+ghost use Rattle.hl_core.specs.Steps.{asking};
+ghost use Rattle.hl_domain.specs.Passes.{Shares};
+ghost use Rattle.hl_domain.specs.Keepers.{job_tag};
+ghost use Rattle.hl_domain.specs.Calls.{step_fault, end_fault, told};
+ghost use Rattle.hl_domain.specs.Taking.{taken_from, ready_told};
+ghost use Rattle.hl_domain.specs.Domains.{UnderLock, IsOldest};
+
+use crate::domain::Domain;
+use hl_action::{Kept, Promise, Ran, Ready, Task};
+use hl_drain::Ask;
+use hl_epoch::Epochs;
+use hl_model::{Fault, Reply, Snapshot};
+use hl_words::{Realm, Rider};
+use std::sync::Wait;
+
+impl<E: Epochs + Drop, F: Task, P: Promise, L: Realm> Domain<E, F, P, L> {
+    /// Ends the current epoch, and stores what is asked for under it; the answer is the ticket, the epoch that
+    /// ended.
+    ///
+    /// Faults, with what was asked for handed back: `JournalFull`, `DrainFull`, `EpochsSpent`, `WindowFull`.
+    pub fn bump(
+        &self,
+        rt: &impl Wait,
+        rider: &mut Rider<L>,
+        ask: Ask<Kept<F, P>>,
+    ) -> Result<u64, (Fault, Ask<Kept<F, P>>)>
+        ensures met { let step = asking job_tag ask
+            in UnderLock F self.now (λ k A.
+            told result ≡ unless_fault (step_fault k A step) (bumps (A ++ step ∷ []))) }
+        ensures refused { IfErr result (λ back. back.1 ≡ ask) }
+        ensures rider { Shares 1 result rider.old rider.new }
+    {
+        self.lock(rt).bump(&self.words, rider, ask)
+    }
+
+    /// Ends the current epoch, and stores nothing; the answer is the epoch that ended.
+    ///
+    /// Faults: `JournalFull`, `EpochsSpent`, `WindowFull`.
+    pub fn bare(&self, rt: &impl Wait, rider: &mut Rider<L>) -> Result<u64, Fault>
+        ensures met { UnderLock F self.now (λ k A.
+            result ≡ unless_fault (step_fault k A BARE) (bumps (A ++ BARE ∷ []))) }
+        ensures rider { Shares 1 result rider.old rider.new }
+    {
+        self.lock(rt).bare(&self.words, rider)
+    }
+
+    /// Takes the oldest pending action, once its ticket is safe; the answer is ready to be run, under its ticket
+    /// and the safe epoch of now.
+    ///
+    /// Faults: `JournalFull`, `Empty`, `NotReady`.
+    pub fn take(&self, rt: &impl Wait, rider: &mut Rider<L>) -> Result<Ready<F, P>, Fault>
+        ensures met { UnderLock F self.now (λ k A.
+            (ready_told result ≡ unless_fault (step_fault k A TAKE) (taken_from k A))
+            × IfOk result (λ ready. IsOldest k.core ready.firing.ticket ready.kept)) }
+        ensures rider { Shares 1 result rider.old rider.new }
+    {
+        self.lock(rt).take(&self.words, rider)
+    }
+
+    /// A taken action that was run is done. A settle and a close raise their offset to what they stored; of a
+    /// job the answer tells the tag, and what the job answered is in the `Ran`.
+    ///
+    /// Faults, with it handed back: `Stranger` where it is of another domain, `JournalFull`, `NotTaken`.
+    pub fn done(
+        &self,
+        rt: &impl Wait,
+        rider: &mut Rider<L>,
+        ran: Ran,
+    ) -> Result<Reply, (Fault, Ran)>
+        ensures met { let step = DONE ran.ticket
+            in UnderLock F self.now (λ k A. told result ≡ unless_fault (end_fault k A ran.origin step)
+            (answer_of k.core.sizes A (A ++ step ∷ []) step)) }
+        ensures refused { IfErr result (λ back. back.1 ≡ ran) }
+        ensures rider { Shares 1 result rider.old rider.new }
+    {
+        self.lock(rt).done(&self.words, rider, ran)
+    }
+
+    /// Moves the read-only offset up to x, and stores its word; the answer is x.
+    ///
+    /// Faults: `JournalFull`, `NotAbove`, `AboveTail`.
+    pub fn raise(&self, rt: &impl Wait, rider: &mut Rider<L>, x: u64) -> Result<u64, Fault>
+        ensures met { UnderLock F self.now (λ k A.
+            result ≡ unless_fault (step_fault k A (RAISE x)) (read_only (A ++ RAISE x ∷ []))) }
+        ensures same { IfOk result (λ raised. raised ≡ x) }
+        ensures rider { Shares 1 result rider.old rider.new }
+    {
+        self.lock(rt).raise(&self.words, rider, x)
+    }
+
+    /// Moves the head up to x, at most to the flushed offset, and stores its word; the answer is x.
+    ///
+    /// Faults: `JournalFull`, `NotAbove`, `NotPage`, `AboveFlushed`.
+    pub fn shift(&self, rt: &impl Wait, rider: &mut Rider<L>, x: u64) -> Result<u64, Fault>
+        ensures met { UnderLock F self.now (λ k A.
+            result ≡ unless_fault (step_fault k A (SHIFT x)) (head (A ++ SHIFT x ∷ []))) }
+        ensures same { IfOk result (λ shifted. shifted ≡ x) }
+        ensures rider { Shares 1 result rider.old rider.new }
+    {
+        self.lock(rt).shift(&self.words, rider, x)
+    }
+
+    /// Forgets the steps since the last cut, and puts the base of now in place of the one before them; the
+    /// answer is their number. It is no step, and is never refused.
+    pub fn cut(&self, rt: &impl Wait, rider: &mut Rider<L>) -> u64
+        ensures met { UnderLock F self.now (λ k A. result ≡ length k.journal) }
+        ensures rider { rider.new ≡ rider.old }
+    {
+        self.lock(rt).cut(&self.words, rider)
+    }
+
+    /// All quantities, the number of steps since the last cut, and the number of steps cut in all.
+    pub fn snapshot(&self, rt: &impl Wait) -> (Snapshot, u64, u64)
+        ensures met { UnderLock F self.now (λ k A. (result.0 ≡ snapshot_of k.core.sizes A)
+            × (result.1 ≡ length k.journal) × (result.2 ≡ k.cut)) }
+    {
+        self.lock(rt).snapshot()
+    }
+}

@@ -1,0 +1,84 @@
+//! The locked calls of a pass, and the acquire that makes one.
+ghost use Rattle.std.specs.Prelude.{◌≡◌, ◌+◌, ◌-◌, ◌/◌, ◌^◌, ◌≤◌, List, [], ◌∷◌, ◌++◌, length, IfOk, IfErr, MatchResult};
+ghost use Rattle.hl_model.specs.declared.step.Step.TheVariants.{Acquire as ACQUIRE, Refresh as REFRESH, Release as RELEASE, Allocate as ALLOCATE};
+ghost use Rattle.hl_model.specs.Offsets.{place_of, tail};
+ghost use Rattle.hl_model.specs.Replies.{unless_fault};
+ghost use Rattle.hl_model.specs.Views.{view_of};
+ghost use Rattle.hl_domain.specs.Passes.{seen, rested, with_share, new_pass, with_tail};
+ghost use Rattle.hl_domain.specs.Calls.{step_fault, call_fault, refresh_fault, touched_list, told, IsUpTo};
+ghost use Rattle.hl_domain.specs.Domains.{UnderLock};
+
+use crate::domain::Domain;
+use crate::pass::Pass;
+use hl_action::{Promise, Task};
+use hl_epoch::Epochs;
+use hl_model::{Fault, View};
+use hl_words::{Realm, Rider};
+use std::sync::Wait;
+
+impl<E: Epochs + Drop, F: Task, P: Promise, L: Realm> Domain<E, F, P, L> {
+    /// A slot becomes protected, at the current epoch, and sees the offsets as they are; the answer is the pass
+    /// of the rider. The k-th accepted acquire stamps it with the domain's stamp and k.
+    ///
+    /// Faults, with the rider handed back: `JournalFull`, `NoSlot`, `Occupied`.
+    pub fn acquire(
+        &self,
+        rt: &impl Wait,
+        t: u64,
+        rider: Rider<L>,
+    ) -> Result<Pass<L>, (Fault, Rider<L>)>
+        ensures met { UnderLock F self.now (λ k A. told result ≡ unless_fault (step_fault k A (ACQUIRE t))
+            (new_pass t (k.stamp + k.acquired + 1) (view_of k.core.sizes t (A ++ ACQUIRE t ∷ []))
+            (with_share 1 rider))) }
+        ensures refused { IfErr result (λ back. back.1 ≡ rider) }
+    {
+        self.lock(rt).acquire(&self.words, t, rider)
+    }
+
+    /// The slot of a pass moves on: its epoch and its view are those of now. The answer is the view, and isn't
+    /// below what the pass saw.
+    ///
+    /// Faults: `Stranger` where the slot isn't the pass's, or the pass saw an offset above the present one;
+    /// `JournalFull`.
+    pub fn refresh(&self, rt: &impl Wait, pass: &mut Pass<L>) -> Result<View, Fault>
+        ensures met { let p = pass.old
+            in UnderLock F self.now (λ k A. result ≡ unless_fault (refresh_fault k A p)
+            (view_of k.core.sizes p.slot (touched_list A p (REFRESH p.slot)))) }
+        ensures pass { let old = pass.old
+            in MatchResult result (λ view. pass.new ≡ rested view old) (λ _. pass.new ≡ old) }
+        ensures fresh { IfOk result (IsUpTo (seen pass.old)) }
+    {
+        self.lock(rt).refresh(&self.words, pass)
+    }
+
+    /// The slot of a pass is protected no longer; the answer is the rider.
+    ///
+    /// Faults, with the pass handed back: `Stranger` where the slot isn't the pass's, `JournalFull`.
+    pub fn release(&self, rt: &impl Wait, pass: Pass<L>) -> Result<Rider<L>, (Fault, Pass<L>)>
+        ensures met { UnderLock F self.now (λ k A. told result ≡ unless_fault (call_fault k A pass (RELEASE pass.slot))
+            (with_share (length pass.touches + 1) pass.rider)) }
+        ensures refused { IfErr result (λ back. back.1 ≡ pass) }
+    {
+        self.lock(rt).release(&self.words, pass)
+    }
+
+    /// Places a record of n words for the slot of a pass; the answer is the address of its first word. It is on
+    /// one page, and not below the tail that the pass saw. The pass then sees the record's end as its tail.
+    ///
+    /// Faults: `Stranger` where the slot isn't the pass's, `JournalFull`, `Size`, `SpaceSpent`, `Busy`.
+    pub fn allocate(&self, rt: &impl Wait, pass: &mut Pass<L>, n: u64) -> Result<u64, Fault>
+        ensures met { let p = pass.old
+            in UnderLock F self.now (λ k A. result ≡ unless_fault (call_fault k A p (ALLOCATE p.slot n))
+            (place_of k.core.sizes.page (tail k.core.sizes (A ++ p.touches)) n)) }
+        ensures pass { let old = pass.old
+            in MatchResult result
+            (λ a. pass.new ≡ rested (with_tail (a + n) (seen old)) old)
+            (λ _. pass.new ≡ old) }
+        ensures above { IfOk result (λ a. (seen pass.old).tail ≤ a) }
+        ensures within { IfOk result (λ a. a + n ≤ 2 ^ 48) }
+        ensures one_page { let page = self.now.sizes.page
+            in IfOk result (λ a. a / page ≡ (a + n - 1) / page) }
+    {
+        self.lock(rt).allocate(&self.words, pass, n)
+    }
+}

@@ -1,0 +1,104 @@
+//! What riders do without the lock.
+ghost use Rattle.std.specs.Prelude.{◌≡◌, ◌==◌, Some, None, max, length, IfOk, OnOk, OnErr, MatchResult};
+ghost use Rattle.hl_model.specs.Replies.{unless_fault, unless_refused};
+ghost use Rattle.hl_domain.specs.Passes.{seen, touch_fault, store_fault, load_fault, with_look, with_store, with_load, last_read_only, last_head};
+ghost use Rattle.hl_domain.specs.Calls.{unless_stranger};
+ghost use Rattle.hl_domain.specs.Pages.{first_cell, zeroed, loaded_all};
+
+use crate::domain::Domain;
+use crate::load::{Broom, PageJob};
+use crate::pass::Pass;
+use crate::{look, sweep};
+use hl_action::{Promise, Task};
+use hl_epoch::Epochs;
+use hl_model::{Fault, View};
+use hl_words::{Realm, Rider};
+
+impl<E: Epochs + Drop, F: Task, P: Promise, L: Realm> Domain<E, F, P, L> {
+    /// Looks at both offset words: each of the pass's two offsets becomes the greater of the loaded and its own.
+    /// A look that raises neither is no touch. The answer is what the pass sees then.
+    ///
+    /// `TouchesFull` where the pass has 32 touches; then nothing is loaded.
+    pub fn look(&self, pass: &mut Pass<L>) -> Result<View, Fault>
+        ensures answer { result ≡ unless_fault (touch_fault pass.old) (seen pass.new) }
+        ensures pass { let new = pass.new
+            in let old = pass.old
+            in new ≡ unless_refused (touch_fault old) old (with_look (last_read_only new) (last_head new) old) }
+        ensures raised { let old = seen pass.old
+            in let new = pass.new
+            in IfOk result (λ view. view ≡ record {
+              read_only = max old.read_only (last_read_only new);
+              head = max old.head (last_head new);
+              tail = old.tail;
+            }) }
+    {
+        look::look(&self.words, pass)
+    }
+
+    /// Stores a word at an address of the log.
+    ///
+    /// Faults: `Below` where the address is below the read-only offset that the pass saw, `Beyond` where it
+    /// isn't below the tail that it saw, `TouchesFull` where it has 32 touches.
+    pub fn store(&self, pass: &mut Pass<L>, a: u64, v: u64) -> Result<(), Fault>
+        ensures answer { result ≡ unless_fault (store_fault pass.old a) tt }
+        ensures pass { let old = pass.old
+            in pass.new ≡ unless_refused (store_fault old a) old (with_store self.now.sizes a v old) }
+    {
+        look::store(&self.words, self.params, pass, a, v)
+    }
+
+    /// Loads the word at an address of the log. It is no touch: no step of the journal tells it.
+    ///
+    /// Faults: `Evicted` where the address is below the head that the pass saw, `Beyond` where it isn't below
+    /// the tail that it saw.
+    pub fn load(&self, pass: &mut Pass<L>, a: u64) -> Result<u64, Fault>
+        ensures answer { let met = load_fault pass.old a
+            in MatchResult result (λ _. met ≡ None) (λ fault. met ≡ Some fault) }
+        ensures pass { let old = pass.old
+            in MatchResult result
+            (λ v. pass.new ≡ with_load self.now.sizes a v old)
+            (λ _. pass.new ≡ old) }
+    {
+        look::load(&self.words, self.params, pass, a)
+    }
+
+    /// Loads the words of a page that is in flight into P places. Their order among other riders' stores isn't
+    /// known.
+    ///
+    /// `Stranger` where the page is of another domain.
+    pub fn copy_page(
+        &self,
+        job: PageJob,
+        rider: &mut Rider<L>,
+        out: &mut [u64],
+    ) -> Result<(), Fault>
+        requires { length out.old ≡ self.now.sizes.page }
+        ensures answer { let stamp = self.now.stamp
+            in result ≡ unless_fault (unless_stranger (job.stamp == stamp) stamp) tt }
+        ensures loads { let old = rider.old
+            in let first = first_cell self.now.sizes job.page
+            in OnOk result (rider.new
+            ≡ record { view = loaded_all first out.new old.view; share = old.share }) }
+        ensures refused { OnErr result ((rider.new ≡ rider.old) × (out.new ≡ out.old)) }
+    {
+        sweep::copy_page(&self.words, self.params, self.stamp, job, rider, out)
+    }
+
+    /// Stores 0 into all cells of a page that is being cleaned: its broom is swept then.
+    ///
+    /// `Stranger` where the page is of another domain.
+    pub fn sweep(&self, broom: &mut Broom, rider: &mut Rider<L>) -> Result<(), Fault>
+        ensures answer { let stamp = self.now.stamp
+            in result ≡ unless_fault (unless_stranger (broom.old.stamp == stamp) stamp) tt }
+        ensures broom { let old = broom.old
+            in OnOk result
+            (broom.new ≡ record { stamp = old.stamp; page = old.page; swept = self.now.sizes.page }) }
+        ensures stores { let old = rider.old
+            in let first = first_cell self.now.sizes broom.old.page
+            in OnOk result (rider.new
+            ≡ record { view = zeroed first self.now.sizes.page old.view; share = old.share }) }
+        ensures refused { OnErr result ((broom.new ≡ broom.old) × (rider.new ≡ rider.old)) }
+    {
+        sweep::sweep(&self.words, self.params, self.stamp, broom, rider)
+    }
+}

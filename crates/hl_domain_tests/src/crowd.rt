@@ -1,0 +1,243 @@
+//! Many threads on one domain, and on two.
+ghost use Rattle.std.specs.Prelude.{◌≡◌};
+ghost use Rattle.hl_words.specs.States.{IsSeedOf};
+
+use crate::jobs::Pages;
+use crate::work::{Sums, Worker, take_and_run, work};
+use hl_counts::CountTable;
+use hl_model::{Base, Fault, Params, Snapshot, Step};
+use hl_plain::Plain;
+use hl_words::{Realm, Rider, Seed};
+use std::alloc::Global;
+use std::marker::Brand;
+use std::process::Abort;
+use std::sync::Wait;
+use std::test::Fail;
+use std::thread;
+use std::thread::Threads;
+
+/// Sizes for eight threads: the log of so many rounds is many times the four frames.
+fn crowd_seed(alloc: Global) -> Result<Seed, Fault> {
+    let params = Params::checked(8, 4, 8, 8).ok_or(Fault::Size)?;
+    Seed::make(alloc, params, 16)
+}
+
+// Two riders for each worker. The first one cuts now and then.
+fn workers_of<L: Realm>(alloc: Global, mut riders: Vec<Rider<L>>) -> Result<Vec<Worker<L>>, Fail> {
+    let mut workers = Vec::new(alloc);
+    for slot in 0..8 {
+        let rider = riders.pop().ok_or("two riders for each thread")?;
+        let acquires = Some(riders.pop().ok_or("two riders for each thread")?);
+        workers.push(Worker {
+            slot,
+            acquires,
+            rider,
+            stored: Sums::NONE,
+            answered: Sums::NONE,
+            lost: false,
+            fault: None,
+            cuts: slot == 0,
+        })?;
+    }
+    Ok(workers)
+}
+
+fn work_all<R: Threads + Wait + Sync, L: Realm + Send + Sync>(
+    rt: &R,
+    domain: &Pages<CountTable, L>,
+    workers: Vec<Worker<L>>,
+    rounds: u64,
+) -> Result<Vec<Worker<L>>, Fail> {
+    Ok(thread::map_vec(rt, workers, &|worker| work(rt, domain, worker, rounds))?)
+}
+
+fn crowd<R: Threads + Wait + Abort + Sync, L: Realm + Send + Sync>(
+    rt: &R,
+    alloc: Global,
+    seed: Seed,
+) -> Result<(), Fail>
+    requires seed { IsSeedOf L.name L.parts L.table seed }
+    requires named { (seed.sizes ≡ L.sizes) × (1000 ≡ L.stamp) }
+{
+    let (domain, riders) = Pages::<CountTable, L>::open(alloc, seed, 1 << 21, 1000)?;
+    let workers = work_all(rt, &domain, workers_of(alloc, riders)?, 20_000)?;
+    // What follows is short, and nobody cuts it: the slow form looks at each step many times.
+    let workers = cut_last(rt, &domain, workers)?;
+    let mut workers = work_all(rt, &domain, workers, 10)?;
+    run_rest(rt, &domain, &mut workers)?;
+    let (now, _, _) = domain.snapshot(rt);
+    assert!(rt; now.six.head > 32, "no frame was used again");
+    close_and_compare(rt, alloc, domain, workers)
+}
+
+// The first worker cuts once more, and then no more.
+fn cut_last<R: Wait, L: Realm>(
+    rt: &R,
+    domain: &Pages<CountTable, L>,
+    mut workers: Vec<Worker<L>>,
+) -> Result<Vec<Worker<L>>, Fail> {
+    let mut worker = workers.pop().ok_or("eight threads")?;
+    domain.cut(rt, &mut worker.rider);
+    workers.push(worker)?;
+    for worker in workers.iter_mut() {
+        worker.cuts = false;
+    }
+    Ok(workers)
+}
+
+// Runs the actions that are left: all are ready, since no slot is protected.
+fn run_rest<R: Wait, L: Realm>(
+    rt: &R,
+    domain: &Pages<CountTable, L>,
+    workers: &mut Vec<Worker<L>>,
+) -> Result<(), Fault> {
+    for worker in workers.iter_mut() {
+        take_and_run(rt, domain, &mut worker.rider, &mut worker.answered)?;
+    }
+    Ok(())
+}
+
+// Ends the domain. The slow form makes the journal's steps from the base, and stands then where the domain does.
+fn close_and_compare<R: Abort, L: Realm>(
+    rt: &R,
+    alloc: Global,
+    domain: Pages<CountTable, L>,
+    workers: Vec<Worker<L>>,
+) -> Result<(), Fail> {
+    let (riders, shares) = added(rt, alloc, workers)?;
+    let Ok(ending) = domain.close(riders) else {
+        panic!(rt; "a rider is missing")
+    };
+    let steps = ending.journal.len() as u64;
+    assert_eq!(rt; ending.cut.wrapping_add(steps), shares);
+    assert_eq!(rt; ending.left.pending().len(), 0);
+    compare(
+        rt,
+        alloc,
+        &ending.base,
+        ending.journal.as_slice(),
+        ending.snapshot,
+    )
+}
+
+// The riders, and the sum of their shares. Each job that was stored was run once.
+fn added<L: Realm>(
+    rt: &impl Abort,
+    alloc: Global,
+    workers: Vec<Worker<L>>,
+) -> Result<(Vec<Rider<L>>, u64), Fail> {
+    let mut riders = Vec::new(alloc);
+    let mut shares = 0u64;
+    let (mut stored, mut answered) = (Sums::NONE, Sums::NONE);
+    for worker in workers {
+        assert_eq!(rt; worker.fault, None);
+        assert!(rt; !worker.lost, "a load told another number than was stored");
+        stored = stored.with(worker.stored);
+        answered = answered.with(worker.answered);
+        let Worker {
+            acquires,
+            rider,
+            ..
+        } = worker;
+        let acquires = acquires.ok_or("the slot was released")?;
+        shares = shares.wrapping_add(acquires.share());
+        shares = shares.wrapping_add(rider.share());
+        riders.push(acquires)?;
+        riders.push(rider)?;
+    }
+    assert_eq!(rt; answered, stored);
+    Ok((riders, shares))
+}
+
+fn compare(
+    rt: &impl Abort,
+    alloc: Global,
+    base: &Base,
+    journal: &[Step],
+    snapshot: Snapshot,
+) -> Result<(), Fail> {
+    let mut plain = Plain::from_base(alloc, base)?;
+    for step in journal {
+        let reply = plain.step(step);
+        assert!(rt; reply.is_ok(), "{step:?} is accepted");
+    }
+    assert_eq!(rt; plain.snapshot(), snapshot);
+    Ok(())
+}
+
+#[test]
+fn eight_threads(rt: HostRuntime) -> Result<(), Fail> {
+    crowd::<_, Brand>(&rt, rt.alloc(), crowd_seed(rt.alloc())?)
+}
+
+// Each of eight threads has a slot in both domains.
+fn two_domains<R, L, M>(rt: &R, alloc: Global, first: Seed, second: Seed) -> Result<(), Fail>
+where
+    R: Threads + Wait + Abort + Sync,
+    L: Realm + Send + Sync,
+    M: Realm + Send + Sync,
+    requires first { IsSeedOf L.name L.parts L.table first }
+    requires first_named { (first.sizes ≡ L.sizes) × (1000 ≡ L.stamp) }
+    requires second { IsSeedOf M.name M.parts M.table second }
+    requires second_named { (second.sizes ≡ M.sizes) × (2000 ≡ M.stamp) }
+{
+    let (one, riders) = Pages::<CountTable, L>::open(alloc, first, 10_000, 1000)?;
+    let (other, others) = Pages::<CountTable, M>::open(alloc, second, 10_000, 2000)?;
+    let both = paired(
+        alloc,
+        workers_of(alloc, riders)?,
+        workers_of(alloc, others)?,
+    )?;
+    let (one_at, other_at) = (&one, &other);
+    let both = thread::map_vec(rt, both, &|pair| work_both(rt, one_at, other_at, pair))?;
+    let (mut workers, mut others) = parted(alloc, both)?;
+    run_rest(rt, &one, &mut workers)?;
+    run_rest(rt, &other, &mut others)?;
+    close_and_compare(rt, alloc, one, workers)?;
+    close_and_compare(rt, alloc, other, others)
+}
+
+type Pair<L, M> = (Worker<L>, Worker<M>);
+
+fn paired<L: Realm, M: Realm>(
+    alloc: Global,
+    workers: Vec<Worker<L>>,
+    mut others: Vec<Worker<M>>,
+) -> Result<Vec<Pair<L, M>>, Fail> {
+    let mut both = Vec::new(alloc);
+    for worker in workers {
+        both.push((worker, others.pop().ok_or("as many workers")?))?;
+    }
+    Ok(both)
+}
+
+fn parted<L: Realm, M: Realm>(
+    alloc: Global,
+    both: Vec<Pair<L, M>>,
+) -> Result<(Vec<Worker<L>>, Vec<Worker<M>>), Fail> {
+    let (mut workers, mut others) = (Vec::new(alloc), Vec::new(alloc));
+    for (worker, other) in both {
+        workers.push(worker)?;
+        others.push(other)?;
+    }
+    Ok((workers, others))
+}
+
+// Twenty rounds in turn, ten times: threads are in both domains at once.
+fn work_both<R: Wait, L: Realm, M: Realm>(
+    rt: &R,
+    one: &Pages<CountTable, L>,
+    other: &Pages<CountTable, M>,
+    mut pair: Pair<L, M>,
+) -> Pair<L, M> {
+    for _ in 0..10 {
+        pair = (work(rt, one, pair.0, 20), work(rt, other, pair.1, 20));
+    }
+    pair
+}
+
+#[test]
+fn threads_in_two_domains(rt: HostRuntime) -> Result<(), Fail> {
+    let (first, second) = (crowd_seed(rt.alloc())?, crowd_seed(rt.alloc())?);
+    two_domains::<_, Brand, Brand>(&rt, rt.alloc(), first, second)
+}

@@ -1,0 +1,151 @@
+//! The greatest sizes, stamps and journals, and a chain of jobs.
+ghost use Rattle.std.specs.Prelude.{◌≡◌};
+ghost use Rattle.hl_words.specs.States.{IsSeedOf};
+
+use crate::jobs::{Pages, job, passed, released, small_seed, ticket_of};
+use crossbeam_channel::unbounded;
+use hl_counts::CountTable;
+use hl_domain::Pass;
+use hl_model::{Fault, Params, Reply};
+use hl_words::{Realm, Rider, Seed};
+use std::alloc::Global;
+use std::marker::Brand;
+use std::process::Abort;
+use std::sync::Wait;
+use std::test::Fail;
+
+// Every slot is acquired, and every frame filled by one record; then the log is full, and is left.
+fn greatest_sizes<L: Realm>(rt: &(impl Wait + Abort), alloc: Global, seed: Seed) -> Result<(), Fail>
+    requires seed { IsSeedOf L.name L.parts L.table seed }
+    requires named { (seed.sizes ≡ L.sizes) × (1000 ≡ L.stamp) }
+{
+    let (domain, mut riders) = Pages::<CountTable, L>::open(alloc, seed, 1000, 1000)?;
+    let mut passes: Vec<Pass<L>> = Vec::new(alloc);
+    for t in 0..64 {
+        let rider = riders.pop().ok_or("128 riders")?;
+        passes.push(passed(domain.acquire(rt, t, rider))?)?;
+    }
+    let mut pass = passes.pop().ok_or("64 passes")?;
+    for page in 0..256 {
+        assert_eq!(rt; domain.allocate(rt, &mut pass, 4096), Ok(page * 4096));
+    }
+    assert_eq!(rt;
+        domain.allocate(rt, &mut pass, 1),
+        Err(Fault::Busy { page: 256 })
+    );
+    assert_eq!(rt; domain.store(&mut pass, (1 << 20) - 1, 7), Ok(()));
+    assert_eq!(rt; domain.load(&mut pass, (1 << 20) - 1), Ok(7));
+    passes.push(pass)?;
+    for pass in passes {
+        riders.push(released(domain.release(rt, pass))?)?;
+    }
+    let Ok(ending) = domain.close(riders) else {
+        panic!(rt; "all riders are there")
+    };
+    assert!(rt; ending.journal.len() == 64 + 256 + 1 + 64);
+    assert_eq!(rt; ending.snapshot.frames, [256, 0, 0, 0, 0]);
+    Ok(())
+}
+
+#[test]
+fn the_greatest_sizes(rt: HostRuntime) -> Result<(), Fail> {
+    let params = Params::checked(4096, 256, 64, 64).ok_or("sizes in range")?;
+    greatest_sizes::<Brand>(&rt, rt.alloc(), Seed::make(rt.alloc(), params, 128)?)
+}
+
+// The stamps of its passes are above that of the domain.
+fn last_stamp<L: Realm>(rt: &(impl Wait + Abort), alloc: Global, seed: Seed) -> Result<(), Fail>
+    requires seed { IsSeedOf L.name L.parts L.table seed }
+    requires named { (seed.sizes ≡ L.sizes) × (4_611_686_018_427_387_904 ≡ L.stamp) }
+{
+    let (domain, mut riders) = Pages::<CountTable, L>::open(alloc, seed, 100, 1 << 62)?;
+    assert_eq!(rt; domain.stamp(), 1 << 62);
+    let mut second = riders.pop().ok_or("two riders")?;
+    let rider = riders.pop().ok_or("two riders")?;
+    let mut pass = passed(domain.acquire(rt, 0, rider))?;
+    assert_eq!(rt; domain.allocate(rt, &mut pass, 1), Ok(0));
+    assert_eq!(rt; ticket_of(domain.bump(rt, &mut second, job(9, 90))), Ok(1));
+    assert!(rt; domain.refresh(rt, &mut pass).is_ok());
+    let ran = domain.take(rt, &mut second)?.run();
+    let origin = ran.origin();
+    let done = match domain.done(rt, &mut second, ran) {
+        Ok(reply) => Some(reply),
+        Err((_, ran)) => {
+            ran.forsake();
+            None
+        }
+    };
+    assert!(rt; origin == 1 << 62 && done == Some(Reply::Ran(9)));
+    assert!(rt; domain.release(rt, pass).is_ok());
+    Ok(())
+}
+
+#[test]
+fn the_last_stamp(rt: HostRuntime) -> Result<(), Fail> {
+    last_stamp::<Brand>(&rt, rt.alloc(), small_seed(rt.alloc(), 2)?)
+}
+
+// No machine has room for a journal of the most steps.
+fn longest_journal<L: Realm>(rt: &impl Abort, alloc: Global, seed: Seed)
+    requires seed { IsSeedOf L.name L.parts L.table seed }
+    requires named { (seed.sizes ≡ L.sizes) × (1000 ≡ L.stamp) }
+{
+    match Pages::<CountTable, L>::open(alloc, seed, 1 << 62, 1000) {
+        Ok(_) => panic!(rt; "a journal of 2^62 steps was had"),
+        Err(fault) => assert_eq!(rt; fault, Fault::OutOfMemory),
+    }
+}
+
+#[test]
+fn the_longest_journal(rt: HostRuntime) -> Result<(), Fail> {
+    longest_journal::<Brand>(&rt, rt.alloc(), small_seed(rt.alloc(), 2)?);
+    Ok(())
+}
+
+// Each job answers the tag of its successor, which is bumped once the answer came through a channel.
+fn chain<L: Realm>(rt: &(impl Wait + Abort), alloc: Global, seed: Seed) -> Result<(), Fail>
+    requires seed { IsSeedOf L.name L.parts L.table seed }
+    requires named { (seed.sizes ≡ L.sizes) × (1000 ≡ L.stamp) }
+{
+    let (domain, mut riders) = Pages::<CountTable, L>::open(alloc, seed, 100, 1000)?;
+    let mut rider = riders.pop().ok_or("two riders")?;
+    let (to, from) = unbounded(alloc)?;
+    assert!(rt; to.send(rt, 0u64).is_ok());
+    for round in 0..10u64 {
+        let tag = from.recv(rt)?;
+        assert_eq!(rt; tag, round);
+        assert_eq!(rt;
+            ticket_of(domain.bump(rt, &mut rider, job(tag, round + 1))),
+            Ok(round + 1)
+        );
+        let answer = run_one(rt, &domain, &mut rider, tag)?;
+        assert!(rt; to.send(rt, answer).is_ok());
+    }
+    let (now, kept, _) = domain.snapshot(rt);
+    assert!(rt; now.epoch == 11 && now.safe == 10 && kept == 30);
+    Ok(())
+}
+
+// Runs the oldest action, whose job has this tag: what the job answered.
+fn run_one<L: Realm>(
+    rt: &impl Wait,
+    domain: &Pages<CountTable, L>,
+    rider: &mut Rider<L>,
+    tag: u64,
+) -> Result<u64, Fail> {
+    let ran = domain.take(rt, rider)?.run();
+    let answer = ran.answer();
+    match domain.done(rt, rider, ran) {
+        Ok(reply) if reply == Reply::Ran(tag) => Ok(answer.ok_or("a job")?),
+        Ok(_) => Err("another job")?,
+        Err((fault, ran)) => {
+            ran.forsake();
+            Err(fault)?
+        }
+    }
+}
+
+#[test]
+fn a_chain_of_jobs(rt: HostRuntime) -> Result<(), Fail> {
+    chain::<Brand>(&rt, rt.alloc(), small_seed(rt.alloc(), 2)?)
+}
