@@ -1,0 +1,78 @@
+-- The places of a pouch.
+use Rattle.std.proofs.Common.{◌≡◌, ℕ, zero, suc, ◌+◌, ◌<◌, ◌≤◌, Bool, true, false, cond, List, [], ◌∷◌, ◌++◌, length, get_or, set, refl, sym, ap, ◌∙◌, subst, arith}
+use Rattle.std.specs.Prelude.{Option, Some, None, Result, MatchResult, position, is_none, nat_lt, slice_get}
+use Rattle.std.specs.List.{position_or_len}
+use Rattle.std.proofs.lemmas.Bool.{ltb-false}
+use Rattle.std.proofs.lemmas.List.Quantifiers.{position-Some}
+use Rattle.std.proofs.lemmas.Bool.{eqb-true}
+use Rattle.std.proofs.lemmas.List.{set-set, set-get_or}
+use Rattle.std.proofs.lemmas.Option.{get_or_from_slice_get}
+use Rattle.hl_model.specs.declared.fault.Fault.{Fault}
+use Rattle.hl_model.specs.declared.step.Step.TheVariants.{FlushDone}
+use Rattle.hl_model.specs.Pages.{flushed}
+use Rattle.hl_model.specs.Replies.{unless_fault}
+use Rattle.hl_domain.specs.declared.load.PageJob.{PageJob}
+use Rattle.hl_domain.specs.Calls.{end_fault}
+use Rattle.hl_domain.specs.Domains.{DomainState, UnderLock}
+use Rattle.hl_crew.specs.Pouches.{is_of, load_count, Answers}
+
+-- where no place is free, as many loads are held as there are places
+all_taken : (places : List (Option PageJob)) → length places ≤ position_or_len is_none places → load_count places ≡ length places
+all_taken [] none = refl
+all_taken (None ∷ places) none = absurd (omega arith)
+all_taken (Some job ∷ places) none = let others = all_taken places (omega arith) in omega arith
+
+pub none_free : (places : List (Option PageJob)) → position is_none places ≡ None → load_count places ≡ length places
+none_free places none = all_taken places (ltb-false (position_or_len is_none places) (length places) (by (nat_lt (position_or_len is_none places) (length places)) none))
+  where
+    by : (t : Bool) → cond t (Some (position_or_len is_none places)) None ≡ None → t ≡ false
+    by true e = cc
+    by false e = refl
+
+-- a load was put into a place that held none
+pub one_more : (places : List (Option PageJob)) (at : ℕ) (job : PageJob) → at < length places → is_none (get_or places at None) ≡ true → load_count (set places at (Some job)) ≡ load_count places + 1
+one_more [] at job within free = absurd (omega arith)
+one_more (None ∷ places) zero job within free = omega arith
+one_more (Some other ∷ places) zero job within free = cc
+one_more (None ∷ places) (suc at) job within free = one_more places at job (omega arith) free
+one_more (Some other ∷ places) (suc at) job within free = let others = one_more places at job (omega arith) free in omega arith
+
+pub filled : (places : List (Option PageJob)) (at : ℕ) (job : PageJob) → position is_none places ≡ Some at → load_count (set places at (Some job)) ≡ load_count places + 1
+filled places at job is = let free = position-Some is_none places at None is in one_more places at job free.0 free.1
+
+-- an answer took the load from its place, or put it back
+pub held_job : (page at : ℕ) (places : List (Option PageJob)) (job : PageJob) → position (is_of page) places ≡ Some at → slice_get places at ≡ Some (Some job) → job.page ≡ page
+held_job page at places job is held =
+    let found = position-Some (is_of page) places at None is in
+    let same = get_or_from_slice_get places at (Some job) None held in
+    eqb-true job.page page (ap (is_of page) (sym same) ∙ found.1)
+
+pub put_back : (places : List (Option PageJob)) (at : ℕ) (job : PageJob) → slice_get places at ≡ Some (Some job) → set (set places at None) at (Some job) ≡ places
+put_back places at job held =
+    set-set places at None (Some job) ∙ ap (λ held. set places at held) (sym (get_or_from_slice_get places at (Some job) None held)) ∙ set-get_or places at None
+
+-- what an answer says of the place that was found
+pub answered : (F : Type 0) (domain : DomainState) (page : ℕ) (ok : Bool) (at other : ℕ) (job : PageJob) (old new : List (Option PageJob)) (result : Result ℕ Fault)
+    → position (is_of page) old ≡ Some at → slice_get old at ≡ Some (Some job)
+    → UnderLock F domain (λ k A. result ≡ unless_fault (end_fault k A job.stamp (FlushDone job.page ok)) (flushed k.core.sizes (A ++ FlushDone job.page ok ∷ [])))
+    → MatchResult result (λ _. new ≡ set old at None) (λ _. new ≡ old)
+    → position (is_of page) old ≡ Some other → Answers F domain page ok other old new result
+answered F domain page ok at other job old new result is held met left found =
+    let same : at ≡ other = cc in
+    let page_is = held_job page at old job is held in
+    subst (λ at. Answers F domain page ok at old new result) same
+    (record {
+      job = job;
+      held = held;
+      page_is = page_is;
+      met = subst (λ page. UnderLock F domain (λ k A. result ≡ unless_fault (end_fault k A job.stamp (FlushDone page ok)) (flushed k.core.sizes (A ++ FlushDone page ok ∷ [])))) page_is met;
+      left = left;
+    })
+
+-- the place that was found holds a load
+pub not_free : (page at : ℕ) (places : List (Option PageJob)) → position (is_of page) places ≡ Some at → slice_get places at ≡ Some None → ⊥
+not_free page at places is free =
+    let found = position-Some (is_of page) places at None is in
+    let none = get_or_from_slice_get places at None None free in
+    let contrary : false ≡ true = ap (is_of page) (sym none) ∙ found.1 in
+    cc

@@ -1,0 +1,24 @@
+use Rattle.std.proofs.Common.{◌∙◌, sym, ap, Some}
+use Rattle.std.specs.Prelude.{slice_set}
+use Rattle.hl_crew.proofs.PouchLaws.{answered, put_back, not_free}
+use Rattle.hl_crew.proofs.pouch.Pouch.answer.Goals as goal
+
+pub unreachable-requires : goal.unreachable-requires
+unreachable-requires g c =
+    not_free c.args.page c.in-Some.at c.args.self.now (sym c.in-Some.ensures.place) c.in_default-take.ensures.value
+
+pub returns-in-Ok-clause-held : goal.returns-in-Ok-clause-held
+returns-in-Ok-clause-held g c = λ other.
+    answered _ _ _ _ c.in-Some.at other c.in-Some-take.load _ _ _ (sym c.in-Some.ensures.place)
+    c.in-Some-take.ensures.value c.in-Ok.ensures.met c.in-Some-take.ensures.after
+
+pub returns-in-Err-clause-held : goal.returns-in-Err-clause-held
+returns-in-Err-clause-held g c = λ other.
+    let old = c.args.self.now in
+    let at = c.in-Some.at in
+    let job = c.in-Some-take.load in
+    let put = ap (λ job. slice_set c.take.new.self at (Some job)) c.in-Err.ensures.refused in
+    let taken = ap (λ places. slice_set places at (Some job)) c.in-Some-take.ensures.after in
+    let back = put_back old at job c.in-Some-take.ensures.value in
+    answered _ _ _ _ at other job old _ _ (sym c.in-Some.ensures.place) c.in-Some-take.ensures.value
+    c.in-Err.ensures.met (c.set.ensures ∙ put ∙ taken ∙ back)

@@ -1,0 +1,33 @@
+/// How many flushes were answered as ended well, and how many not; and how many acknowledgements named a page that
+/// wasn't in the pouch.
+#[derive(Clone, Copy)]
+pub(crate) struct Counts {
+    pub(crate) written: u64,
+    pub(crate) failed: u64,
+    pub(crate) strangers: u64,
+}
+
+impl Counts {
+    /// Nothing was counted.
+    pub(crate) fn none() -> Counts {
+        Counts {
+            written: 0,
+            failed: 0,
+            strangers: 0,
+        }
+    }
+
+    /// Counts a flush that was answered.
+    pub(crate) fn count(&mut self, ok: bool) {
+        if ok {
+            self.written = self.written.saturating_add(1);
+        } else {
+            self.failed = self.failed.saturating_add(1);
+        }
+    }
+
+    /// Counts an acknowledgement of a page that isn't in the pouch.
+    pub(crate) fn count_stranger(&mut self) {
+        self.strangers = self.strangers.saturating_add(1);
+    }
+}

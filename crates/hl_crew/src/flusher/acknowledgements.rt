@@ -1,0 +1,48 @@
+use crate::flusher::{Flusher, FlusherState};
+use crate::messages::Over;
+use crate::pouch::Pouch;
+use hl_action::{Promise, Task};
+use hl_epoch::Epochs;
+use hl_model::Fault;
+use hl_words::Realm;
+use std::sync::Wait;
+
+impl<R: Wait, E: Epochs + Drop, F: Task, P: Promise, L: Realm> Flusher<'_, R, E, F, P, L> {
+    /// Receives so many acknowledgements, and answers each through the pouch. One whose page isn't there is a stranger.
+    pub(crate) fn answer_acknowledged(
+        &self,
+        own: &mut FlusherState<L>,
+        pouch: &mut Pouch,
+        sent: u64,
+    ) -> Result<(), Over> {
+        for _ in 0..sent {
+            let Ok(told) = self.channels.acknowledged.recv(self.rt) else {
+                return Err(Over);
+            };
+            match pouch.answer(self.rt, self.domain, &mut own.rider, told.page, told.ok) {
+                Ok(_) => own.counts.count(told.ok),
+                Err(Fault::NotInFlight) => own.counts.count_stranger(),
+                Err(_) => return Err(Over),
+            }
+        }
+        Ok(())
+    }
+
+    /// Answers each page that is still in the pouch as failed.
+    pub(crate) fn answer_others(
+        &self,
+        own: &mut FlusherState<L>,
+        pouch: &mut Pouch,
+    ) -> Result<(), Over> {
+        for _ in 0..4 {
+            let Some(page) = pouch.first() else {
+                return Ok(());
+            };
+            match pouch.answer(self.rt, self.domain, &mut own.rider, page, false) {
+                Ok(_) => own.counts.count(false),
+                Err(_) => return Err(Over),
+            }
+        }
+        Ok(())
+    }
+}

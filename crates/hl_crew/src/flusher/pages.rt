@@ -1,0 +1,46 @@
+ghost use Rattle.std.specs.Prelude.{◌≡◌};
+ghost use Rattle.hl_crew.specs.Pouches.{load_count};
+
+use crate::flusher::Flusher;
+use crate::messages::{Message, Over};
+use crate::pouch::Pouch;
+use hl_action::{Promise, Task};
+use hl_epoch::Epochs;
+use hl_model::Fault;
+use hl_words::{Realm, Rider};
+use std::sync::Wait;
+
+/// How many pages are sent in a turn, as many as a pouch holds.
+const PAGES: u64 = 4;
+
+impl<R: Wait, E: Epochs + Drop, F: Task, P: Promise, L: Realm> Flusher<'_, R, E, F, P, L> {
+    /// Takes at most four pages to flush, puts each into the pouch, and sends it to the writers; counts those sent.
+    pub(crate) fn send_pages(
+        &self,
+        rider: &mut Rider<L>,
+        pouch: &mut Pouch,
+        sent: &mut u64,
+    ) -> Result<(), Over>
+        requires { load_count pouch.old ≡ 0 }
+    {
+        for _ in 0..PAGES {
+            let load = match self.domain.flush_take(self.rt, rider) {
+                Ok(load) => load,
+                Err(Fault::NoneSealed) => return Ok(()),
+                Err(_) => return Err(Over),
+            };
+            let job = load.job();
+            pouch.put(load);
+            if self
+                .channels
+                .jobs
+                .send(self.rt, Message::Write(job))
+                .is_err()
+            {
+                return Err(Over);
+            }
+            *sent = sent.saturating_add(1);
+        }
+        Ok(())
+    }
+}

@@ -1,0 +1,91 @@
+use crate::gate::Gate;
+use crate::messages::{Acknowledgement, Channels, Message};
+use hl_action::{Promise, Task};
+use hl_domain::{Domain, PageJob};
+use hl_epoch::Epochs;
+use hl_image::{PageWriter, image_of};
+use hl_words::{Realm, Rider};
+use std::sync::{Mutex, Wait};
+use std::thread;
+
+/// How often a writer asks whether it may write a page.
+const ASKS: u32 = 1_000_000;
+
+/// The most words of a page.
+const WORDS: usize = 4096;
+
+/// The bytes of the image of so many words.
+const BYTES: usize = 32_776;
+
+/// What a writer works on.
+#[derive(Drop)]
+pub(crate) struct Writer<'x, R, E: Epochs, F: Task, P: Promise, L: Realm, G> {
+    pub(crate) rt: &'x R,
+    pub(crate) domain: &'x Domain<E, F, P, L>,
+    pub(crate) gate: &'x G,
+    pub(crate) channels: &'x Channels,
+}
+
+/// What a writer has of its own.
+pub(crate) struct WriterState<L: Realm, W> {
+    pub(crate) rider: Rider<L>,
+    pub(crate) pages: W,
+}
+
+impl<R, E, F, P, L, G> Writer<'_, R, E, F, P, L, G>
+where
+    R: Wait,
+    E: Epochs + Drop,
+    F: Task,
+    P: Promise,
+    L: Realm,
+    G: Gate,
+{
+    /// Writes the pages that are sent, and acknowledges each, until it is told to stop or a channel fails.
+    pub(crate) fn run<W: PageWriter>(&self, own: &Mutex<WriterState<L, W>>) {
+        let mut own = own.lock(self.rt);
+        let own = &mut *own;
+        for _ in self.rt.forever() {
+            let Ok(Message::Write(job)) = self.channels.jobs_sent.recv(self.rt) else {
+                return;
+            };
+            let page = job.page;
+            let ok = self.may_write(page) && self.write(own, job);
+            let acknowledgement = Acknowledgement { page, ok };
+            if self
+                .channels
+                .acknowledgements
+                .send(self.rt, acknowledgement)
+                .is_err()
+            {
+                return;
+            }
+        }
+    }
+
+    // Whether the gate lets the page be written. Between two asks other threads go on.
+    fn may_write(&self, page: u64) -> bool {
+        self.gate.begun(page);
+        for _ in 0..ASKS {
+            if self.gate.may_write(page) {
+                return true;
+            }
+            thread::yield_now();
+        }
+        false
+    }
+
+    // Copies the words of a page, and writes its image: whether it is written.
+    fn write<W: PageWriter>(&self, own: &mut WriterState<L, W>, job: PageJob) -> bool {
+        let mut words = [0; WORDS];
+        let mut image = [0; BYTES];
+        let places = self.domain.params().page() as usize;
+        let words = &mut words[..places];
+        let image = &mut image[..8 + 8 * places];
+        if self.domain.copy_page(job, &mut own.rider, words).is_err() {
+            return false;
+        }
+        image_of(job.page, words, image);
+        own.pages.write_page(job.page, image).is_ok()
+    }
+}

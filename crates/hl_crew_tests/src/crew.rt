@@ -1,0 +1,252 @@
+ghost use Rattle.std.specs.Prelude.{◌≡◌, ◌≤◌, IfOk};
+ghost use Rattle.hl_words.specs.States.{IsSeedOf};
+
+use crate::gates::{HoldsFirst, KeepsFirst};
+use hl_action::{Firing, Promise, Task};
+use hl_counts::CountTable;
+use hl_crew::{CrewEnd, Gate, OpenGate, run_crew};
+use hl_domain::{Domain, Pass};
+use hl_image::{MemoryWriter, PageWriter};
+use hl_model::{Fault, Params, Six, Snapshot};
+use hl_words::{Realm, Rider, Seed};
+use std::alloc::Global;
+use std::marker::Brand;
+use std::process::Abort;
+use std::sync::Wait;
+use std::test::Fail;
+use std::thread::Threads;
+
+/// Any answer will do.
+pub(crate) struct Anything;
+
+impl Promise for Anything {
+    ghost keeps = { λ tag firing answer. answer ≡ answer };
+}
+
+/// Answers its ticket.
+#[derive(Drop)]
+pub(crate) struct Ticket;
+
+impl Task for Ticket {
+    ghost can = { λ job firing. firing ≡ firing };
+
+    ghost gives = { λ job firing answer. answer ≡ firing.ticket };
+
+    fn call(self, firing: Firing) -> u64 {
+        firing.ticket()
+    }
+}
+
+pub(crate) type Pages<L> = Domain<CountTable, Ticket, Anything, L>;
+
+/// What a run of the crew left: what it counted, its writers, and the quantities then.
+#[derive(Drop)]
+struct Left {
+    written: u64,
+    failed: u64,
+    strangers: u64,
+    writers: [MemoryWriter; 2],
+    now: Snapshot,
+    steps: u64,
+    shares: u64,
+}
+
+/// How a crew is run: the write of each writer that fails (0: none), the bytes of the pages that writers take (of other
+/// pages each write fails), the pages that stay resident, the turns, and whether the journal is cut.
+#[derive(Clone, Copy)]
+struct Run {
+    fails_at: u64,
+    bytes: u64,
+    resident: u64,
+    turns: u64,
+    cut: bool,
+}
+
+/// One turn, in which no write fails.
+const ONE_TURN: Run = Run {
+    fails_at: 0,
+    bytes: 40,
+    resident: 4,
+    turns: 1,
+    cut: false,
+};
+
+pub(crate) const STAMP: u64 = 1000;
+
+pub(crate) fn seed(alloc: Global) -> Result<Seed, Fault>
+    ensures { IfOk result (λ seed. seed.sizes.frames ≡ 4) }
+{
+    let params = Params::checked(4, 4, 2, 4).ok_or(Fault::Size)?;
+    Seed::make(alloc, params, 4)
+}
+
+/// A slot acquires, allocates three pages whole, and leaves.
+pub(crate) fn allocate_pages<R: Wait, L: Realm>(
+    rt: &R,
+    domain: &Pages<L>,
+    rider: Rider<L>,
+) -> Result<Rider<L>, Fault> {
+    let mut pass = match domain.acquire(rt, 0, rider) {
+        Ok(pass) => pass,
+        Err((fault, _)) => return Err(fault),
+    };
+    for _ in 0..3 {
+        domain.allocate(rt, &mut pass, 4)?;
+    }
+    match domain.release(rt, pass) {
+        Ok(rider) => Ok(rider),
+        Err((fault, _)) => Err(fault),
+    }
+}
+
+/// Runs the crew on a domain of three whole pages, one of them mutable, with two writers in memory.
+fn crew_left<R, L, G>(rt: &R, alloc: Global, seed: Seed, gate: &G, run: Run) -> Result<Left, Fail>
+where
+    R: Threads + Wait + Abort + Sync,
+    L: Realm + Send + Sync,
+    G: Gate + Sync,
+    requires seed { IsSeedOf L.name L.parts L.table seed }
+    requires named { (seed.sizes ≡ L.sizes) × (STAMP ≡ L.stamp) }
+    requires frames { seed.sizes.frames ≡ 4 }
+    requires resident { (1 ≤ run.resident) × (run.resident ≤ 4) }
+{
+    let (domain, mut riders) = Pages::<L>::open(alloc, seed, 100, STAMP)?;
+    let cleaning = riders.pop().ok_or("a rider")?;
+    let second = riders.pop().ok_or("a rider")?;
+    let first = riders.pop().ok_or("a rider")?;
+    let flushing = allocate_pages(rt, &domain, riders.pop().ok_or("a rider")?)?;
+    let mut one = MemoryWriter::open(alloc, 3, run.bytes)?;
+    let mut two = MemoryWriter::open(alloc, 3, run.bytes)?;
+    one.fail_at(run.fails_at);
+    two.fail_at(run.fails_at);
+    let Run {
+        resident,
+        turns,
+        cut,
+        ..
+    } = run;
+    let riders = [flushing, first, second, cleaning];
+    let end = match run_crew(
+        rt, alloc, &domain, riders, one, two, gate, 1, resident, turns, cut,
+    ) {
+        Ok(end) => end,
+        Err((fault, _, _, _)) => return Err(fault)?,
+    };
+    let (now, since, cut) = domain.snapshot(rt);
+    let CrewEnd {
+        riders,
+        writers,
+        written,
+        failed,
+        strangers,
+    } = end;
+    let mut shares = 0u64;
+    for rider in &riders {
+        shares = shares.saturating_add(rider.share());
+    }
+    Ok(Left {
+        written,
+        failed,
+        strangers,
+        writers,
+        now,
+        steps: since.saturating_add(cut),
+        shares,
+    })
+}
+
+#[test]
+fn gated_crew(rt: HostRuntime) -> Result<(), Fail> {
+    let gate = HoldsFirst::new();
+    let left = crew_left::<_, Brand, _>(&rt, rt.alloc(), seed(rt.alloc())?, &gate, ONE_TURN)?;
+    assert!(rt; left.written == 2 && left.failed == 0 && left.strangers == 0);
+    assert_eq!(rt; left.now.six.flushed, 8);
+    Ok(())
+}
+
+#[test]
+fn gate_never_opens(rt: HostRuntime) -> Result<(), Fail> {
+    let left = crew_left::<_, Brand, _>(&rt, rt.alloc(), seed(rt.alloc())?, &KeepsFirst, ONE_TURN)?;
+    assert!(rt; left.written == 1 && left.failed == 1 && left.strangers == 0);
+    let six = Six {
+        closed: 0,
+        head: 0,
+        flushed: 0,
+        safe_read_only: 8,
+        read_only: 8,
+        tail: 12,
+    };
+    assert!(rt; left.now.six == six && left.now.frames == [1, 1, 1, 0, 1]);
+    Ok(())
+}
+
+/// How many of the three pages have an image in one of the writers.
+fn images(writers: &[MemoryWriter; 2]) -> u64 {
+    let [first, second] = writers;
+    let mut images = 0u64;
+    for page in 0..3 {
+        if first.image(page).is_some() || second.image(page).is_some() {
+            images = images.saturating_add(1);
+        }
+    }
+    images
+}
+
+#[test]
+fn failing_crew_writers(rt: HostRuntime) -> Result<(), Fail> {
+    let run = Run {
+        fails_at: 1,
+        ..ONE_TURN
+    };
+    let left = crew_left::<_, Brand, _>(&rt, rt.alloc(), seed(rt.alloc())?, &OpenGate, run)?;
+    let [first, second] = &left.writers;
+    assert_eq!(rt;
+        left.failed,
+        first.failures().saturating_add(second.failures())
+    );
+    assert_eq!(rt; left.written, images(&left.writers));
+    assert!(rt; left.written.saturating_add(left.failed) == 2 && left.strangers == 0);
+    Ok(())
+}
+
+/// Three turns in which each of the two sealed pages is taken, fails, and may be taken again.
+#[test]
+fn crew_writers_always_fail(rt: HostRuntime) -> Result<(), Fail> {
+    let run = Run {
+        bytes: 39,
+        turns: 3,
+        ..ONE_TURN
+    };
+    let left = crew_left::<_, Brand, _>(&rt, rt.alloc(), seed(rt.alloc())?, &OpenGate, run)?;
+    assert!(rt; left.written == 0 && left.failed == 6 && left.strangers == 0);
+    assert!(rt; images(&left.writers) == 0 && left.now.six.flushed == 0);
+    assert!(rt; left.steps == left.shares);
+    Ok(())
+}
+
+/// Three turns that cut the journal: in the first the pages are flushed, in the second they are closed. Whether the
+/// cleaner finds them in time is open.
+#[test]
+fn crew_cuts(rt: HostRuntime) -> Result<(), Fail> {
+    let run = Run {
+        resident: 1,
+        turns: 3,
+        cut: true,
+        ..ONE_TURN
+    };
+    let left = crew_left::<_, Brand, _>(&rt, rt.alloc(), seed(rt.alloc())?, &OpenGate, run)?;
+    assert!(rt; left.written == 2 && left.failed == 0 && left.strangers == 0);
+    let six = Six {
+        closed: 8,
+        head: 8,
+        flushed: 8,
+        safe_read_only: 8,
+        read_only: 8,
+        tail: 12,
+    };
+    let [open, sealed, flushed, closed, free] = left.now.frames;
+    assert!(rt; left.now.six == six && closed.saturating_add(free) == 3);
+    assert!(rt; open == 1 && sealed == 0 && flushed == 0);
+    assert!(rt; left.steps == left.shares);
+    Ok(())
+}

@@ -1,0 +1,3 @@
+pub mod Labels
+pub mod OnLiterals
+pub mod Padding

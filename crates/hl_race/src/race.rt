@@ -1,0 +1,208 @@
+//! A race: riders beside a crew, and the audit of what they left.
+ghost use Rattle.std.specs.Prelude.{◌≡◌, ◌≤◌, ◌↔◌, IsSome};
+ghost use Rattle.hl_words.specs.States.{IsSeedOf};
+ghost use Rattle.hl_domain.specs.Keepers.{steps_most};
+
+use crate::audit::{agrees_from_the_base, agrees_from_the_start};
+use crate::riders::ride;
+use hl_action::{AnyAnswer, NoJob};
+use hl_counts::CountTable;
+use hl_crew::{CrewEnd, OpenGate, run_crew};
+use hl_domain::{Domain, Ending};
+use hl_image::MemoryWriter;
+use hl_model::{Fault, Params};
+use hl_words::{Realm, Rider, Seed};
+use std::alloc::Global;
+use std::marker::Brand;
+use std::sync::Wait;
+use std::thread;
+use std::thread::Threads;
+
+/// How a race is run. Each number is in range: that is in its type.
+#[derive(Clone, Copy, Debug, PartialEq, Eq)]
+pub struct Race {
+    riders: u64,
+    rounds: u64,
+    cut: bool,
+    ghost some: { 1 ≤ riders },
+    ghost most: { riders ≤ 8 },
+}
+
+impl Race {
+    /// A race of so many riders, 1 to 8, each in a thread of its own, which make so many rounds, 1 to 1,000; the crew
+    /// makes as many turns, and cuts the journal at the end of each where that is wanted. None out of range.
+    pub fn checked(riders: u64, rounds: u64, cut: bool) -> Option<Race>
+        ensures { IsSome result ↔ ((1 ≤ riders) × (riders ≤ 8) × (1 ≤ rounds) × (rounds ≤ 1000)) }
+    {
+        if !(1..=8).contains(&riders) || !(1..=1000).contains(&rounds) {
+            return None;
+        }
+        Some(Race {
+            riders,
+            rounds,
+            cut,
+        })
+    }
+
+    /// How many riders race.
+    pub fn riders(self) -> u64
+        ensures { result ≡ self.riders }
+    {
+        self.riders
+    }
+
+    /// How many rounds each makes.
+    pub fn rounds(self) -> u64
+        ensures { result ≡ self.rounds }
+    {
+        self.rounds
+    }
+}
+
+/// How many riders a crew has.
+const CREW: usize = 4;
+
+/// How many steps the journal of a race may have.
+const JOURNAL: u64 = 131_072;
+
+/// The stamp of a race's domain.
+const STAMP: u64 = 1000;
+
+/// How many pages may be written, and how many may be read, behind which the crew keeps the offsets.
+const MUTABLE: u64 = 2;
+
+const RESIDENT: u64 = 4;
+
+/// How many pages a writer of the crew keeps.
+const PAGES: u64 = 8192;
+
+/// What a crew hands back.
+type Ended<L> = Result<
+    CrewEnd<L, MemoryWriter>,
+    (Fault, [Rider<L>; 4], MemoryWriter, MemoryWriter),
+>;
+
+/// The domain of a race.
+type Track<L> = Domain<CountTable, NoJob, AnyAnswer, L>;
+
+/// Runs a race, and tells whether its steps were all lawful and left what the domain was at when it was closed, and
+/// whether the riders entered as many steps as there are.
+///
+/// `OutOfMemory` where memory, or a thread of the crew, was refused.
+pub fn run_race<R: Threads + Wait + Sync>(
+    rt: &R,
+    alloc: Global,
+    race: Race,
+) -> Result<bool, Fault> {
+    race_with(rt, alloc, race, JOURNAL)
+}
+
+// A race with a journal of so many steps.
+pub(crate) fn race_with<R: Threads + Wait + Sync>(
+    rt: &R,
+    alloc: Global,
+    race: Race,
+    journal: u64,
+) -> Result<bool, Fault>
+    requires { journal ≤ steps_most }
+{
+    let params = Params::checked(16, 8, 8, 16).ok_or(Fault::Size)?;
+    let seed = Seed::make(alloc, params, race.riders as usize + CREW)?;
+    race_over::<Brand, R>(rt, alloc, seed, race, journal)
+}
+
+// The race over the words of a seed.
+fn race_over<L: Realm + Send + Sync, R: Threads + Wait + Sync>(
+    rt: &R,
+    alloc: Global,
+    seed: Seed,
+    race: Race,
+    journal: u64,
+) -> Result<bool, Fault>
+    requires journal { journal ≤ steps_most }
+    requires seed { IsSeedOf L.name L.parts L.table seed }
+    requires named { (seed.sizes ≡ L.sizes) × (1000 ≡ L.stamp) }
+    requires frames { seed.sizes.frames ≡ 8 }
+{
+    let params = seed.params();
+    let (domain, riders) = Track::<L>::open(alloc, seed, journal, STAMP)?;
+    let riders = run_on(rt, alloc, &domain, riders, race)?;
+    let shares = riders
+        .iter()
+        .fold(0u64, |sum, rider| sum.wrapping_add(rider.share()));
+    match domain.close(riders) {
+        Err((fault, _, _)) => Err(fault),
+        Ok(ending) if race.cut => agrees_from_the_base(alloc, &ending, shares),
+        Ok(ending) => agrees_from_the_start(alloc, params, &ending, shares),
+    }
+}
+
+// Runs the crew with the last four riders and the others round by round beside it; all come back.
+fn run_on<L: Realm + Send + Sync, R: Threads + Wait + Sync>(
+    rt: &R,
+    alloc: Global,
+    domain: &Track<L>,
+    mut riders: Vec<Rider<L>>,
+    race: Race,
+) -> Result<Vec<Rider<L>>, Fault>
+    requires { domain.now.sizes.frames ≡ 8 }
+{
+    let (Some(fourth), Some(third), Some(second), Some(first)) = (
+        riders.pop(),
+        riders.pop(),
+        riders.pop(),
+        riders.pop(),
+    ) else {
+        return Err(Fault::Size);
+    };
+    let crew = [first, second, third, fourth];
+    let one = MemoryWriter::open(alloc, PAGES, 136)?;
+    let other = MemoryWriter::open(alloc, PAGES, 136)?;
+    let mut seats = Vec::with_capacity(alloc, riders.len()).map_err(|_| Fault::OutOfMemory)?;
+    for rider in riders {
+        seats.push(Some(rider)).map_err(|_| Fault::OutOfMemory)?;
+    }
+    let (_, end) = thread::join(
+        rt,
+        || ride_all(rt, domain, seats.as_mut_slice(), race.rounds),
+        || -> Ended<L>
+            requires { domain.now.sizes.frames ≡ 8 }
+        {
+            let gate = OpenGate;
+            let Race { rounds, cut, .. } = race;
+            run_crew(
+                rt, alloc, domain, crew, one, other, &gate, MUTABLE, RESIDENT, rounds, cut,
+            )
+        },
+    );
+    let crew = match end {
+        Ok(end) => end.riders,
+        Err((fault, ..)) => return Err(fault),
+    };
+    let mut back = Vec::with_capacity(alloc, seats.len() + CREW).map_err(|_| Fault::OutOfMemory)?;
+    for rider in seats.into_iter().flatten() {
+        back.push(rider).map_err(|_| Fault::OutOfMemory)?;
+    }
+    for rider in crew {
+        back.push(rider).map_err(|_| Fault::OutOfMemory)?;
+    }
+    Ok(back)
+}
+
+// Riders make their rounds, each in a thread and on a slot of its own.
+fn ride_all<L: Realm + Send + Sync, R: Threads + Wait + Sync>(
+    rt: &R,
+    domain: &Track<L>,
+    seats: &mut [Option<Rider<L>>],
+    rounds: u64,
+) {
+    let threads = seats.len().max(1);
+    let mount = |slot: usize, seat: &mut Option<Rider<L>>| ride(
+        rt,
+        domain,
+        seat,
+        slot as u64,
+        rounds,
+    );
+    thread::for_each_mut(rt, seats, threads, &mount);
+}
