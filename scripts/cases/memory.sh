@@ -51,6 +51,9 @@ for name in first_action fuzzy_region stale_reader; do
     check "memory refused in $name by slow" each_page_refused "$of.script" "$of.expected" slow 0 0
 done
 
+of="$scripts/../examples/first_action"
+check "memory refused in first_action by report" each_page_refused "$of.script" "$of.report" report 0 0
+
 # The slow form takes memory at later steps too.
 refused_at_later_steps() {
     rounds 300

@@ -39,8 +39,9 @@ check "no command" told 2
 check "a word too many" told 2 run fast
 check "another flag" told 2 run --flash
 check "a flag of run" told 2 slow --flush
+check "a word too many, report" told 2 report slow
 check "help that can't be written" faults 'fault 31 Stream' /dev/null /dev/full --help
-for form in run slow; do
+for form in run slow report; do
     # A folder can be opened, but not read.
     check "a read that fails, $form" faults 'fault 31 Stream' / "$room/text" "$form"
     check "a write that fails, $form" faults 'fault 31 Stream' "$sealed_page" /dev/full "$form"

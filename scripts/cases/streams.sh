@@ -62,11 +62,13 @@ closed_pipe() {
     ended_by_stream "$status"
 }
 
-for form in run slow; do
+for form in run slow report; do
     check "a full disk by $form" full_disk "$scripts/../examples/first_action.script" "$form"
     check "no standard output by $form" closed_output "$scripts/../examples/first_action.script" "$form"
     check "no standard input by $form" no_input "$form"
     check "a line without an end by $form" endless_line "$form"
+done
+for form in run slow; do
     check "a closed pipe by $form" closed_pipe 0 "$form"
     check "a pipe closed after a reply by $form" closed_pipe 1 "$form"
 done

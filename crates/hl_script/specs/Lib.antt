@@ -8,3 +8,5 @@ pub mod Outcomes
 pub mod Slow
 pub mod Stepping
 pub mod Text
+pub use Rattle.hl_model.specs.Headline
+pub use Rattle.hl_cells.specs.Engines

@@ -1,7 +1,8 @@
-ghost use Rattle.std.specs.Prelude.{◌≡◌, ◌+◌, ◌≤◌, ◌++◌, ◌∷◌, [], length};
+ghost use Rattle.std.specs.Prelude.{◌≡◌, ◌+◌, ◌≤◌, ◌++◌, ◌∷◌, [], length, Some};
 ghost use Rattle.arrayvec.specs.ArrayString.{array_string_len};
 ghost use Rattle.hl_script.specs.Answers.{named, quantities_text, waiting_text, pending_text, frame_text, result_text};
 ghost use Rattle.hl_script.specs.Engine.{Puts};
+ghost use Rattle.hl_script.specs.Text.{bad_text};
 
 use crate::machine::Broken;
 use crate::put::put;
@@ -51,6 +52,17 @@ pub(crate) fn print_quantities(snapshot: &Snapshot) -> ArrayString<320>
     add_named(&mut text, "safe_read_only", snapshot.six.safe_read_only);
     add_named(&mut text, "read_only", snapshot.six.read_only);
     add_named(&mut text, "tail", snapshot.six.tail);
+    text
+}
+
+/// What a script's text ends with where its line n, counted from 1, is no step. The LF is among the bytes.
+pub fn print_bad_line(n: u64) -> ArrayString<64>
+    ensures { result.bytes ≡ bad_text (Some n) }
+{
+    let mut text = ArrayString::new();
+    text.push_str("line ");
+    text.push_str(Buffer::new().format(n));
+    text.push_str(": not a step\n");
     text
 }
 

@@ -3,13 +3,12 @@ ghost use Rattle.hl_line.specs.declared.line.Line.{Line};
 ghost use Rattle.hl_script.specs.Text.{answers};
 ghost use Rattle.hl_script.specs.Engine.{Refuses, At, Judged, Fed, Ended, Ran};
 
+use crate::answers::print_bad_line;
 use crate::machine::{Broken, Machine};
 use crate::progress::Progress;
 use crate::put::put;
 use crate::reads::Reads;
 use crate::stop::Stop;
-use arrayvec::ArrayString;
-use itoa::Buffer;
 use std::io::{Read, Write};
 
 /// How many bytes a read may give.
@@ -19,11 +18,7 @@ const CHUNK: usize = 16384;
 fn refuse<W: Write>(n: u64, out: &mut W) -> Stop
     ensures { Refuses (W.contents out.old) (W.contents out.new) n result }
 {
-    let mut text: ArrayString<64> = ArrayString::new();
-    text.push_str("line ");
-    text.push_str(Buffer::new().format(n));
-    text.push_str(": not a step\n");
-    match put(out, text.as_str().as_bytes()) {
+    match put(out, print_bad_line(n).as_str().as_bytes()) {
         Ok(()) => Stop::BadLine { n },
         Err(_) => Stop::Writer,
     }

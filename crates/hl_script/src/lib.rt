@@ -56,6 +56,11 @@ mod stepping;
 mod stop;
 mod sum;
 
+pub use answers::print_bad_line;
+pub use hl_action::{Call, Firing, Kept, Promise, Shelf, Task};
+pub use hl_cells::Engine;
+pub use hl_epoch::{Epochs, ScanTable};
 pub use hl_line::{Line, print_fault, print_line, print_reply, read_line};
+pub use hl_model::{Fault, Params, Reply, Step};
 pub use run::{Finished, run_text, run_text_within, slow_text, slow_text_within};
 pub use sum::Sum;

@@ -1,13 +1,17 @@
 ghost use Rattle.std.specs.Prelude.{◌≡◌, ◌≤◌};
 
-use crate::run::{run, slow};
+use crate::race::race;
+use crate::run::{report, run, slow};
 use crate::status::{DONE, REFUSED, failed};
 use clap::error::ErrorKind;
-use clap::{Arg, ArgAction, Command, Error};
+use clap::{Arg, ArgAction, Command, Error, value_parser};
 use hl_model::Fault;
+use hl_race::Race;
 use std::alloc::{AllocError, Global};
 use std::convert::AsStr;
 use std::io::{Read, Write};
+use std::sync::Wait;
+use std::thread::Threads;
 
 /// What the words ask for.
 #[derive(Clone, Copy, Debug, PartialEq, Eq)]
@@ -16,6 +20,10 @@ enum Wanted {
     Run { flush: bool },
     /// Answer a script in the slow form.
     Slow,
+    /// Run a script, and report what it left.
+    Report,
+    /// Run a race.
+    Race { riders: u64, rounds: u64, cut: bool },
 }
 
 /// Runs the command that the words name, the program's own name first, and gives the exit status: 0 where it
@@ -24,10 +32,12 @@ enum Wanted {
 /// are refused, with the reason on `errors`.
 ///
 /// `run` answers the script that the reader gives, with jobs of the tags 0 to 999; with `--flush` it then writes the
-/// image of each page that can be flushed, one a line. `slow` answers it in the slow form. No command needs the
-/// runtime yet.
-pub fn command<T, S: AsStr, R: Read, W: Write, E: Write>(
-    _rt: &T,
+/// image of each page that can be flushed, one a line. `slow` answers it in the slow form. `report` runs it with the same
+/// jobs, writes no answer, and then writes the report of what it left and of its accepted steps: nothing where there is no
+/// line, and the text of a bad line alone. `race` runs riders beside a crew, each in a thread, and writes whether what they
+/// left is what their steps say; where it isn't, the status is 1.
+pub fn command<T: Threads + Wait + Sync, S: AsStr, R: Read, W: Write, E: Write>(
+    rt: &T,
     alloc: Global,
     words: &[S],
     reader: &mut R,
@@ -39,6 +49,18 @@ pub fn command<T, S: AsStr, R: Read, W: Write, E: Write>(
     match read_words(alloc, words) {
         Ok(Wanted::Run { flush }) => run(alloc, flush, reader, writer, errors),
         Ok(Wanted::Slow) => slow(alloc, reader, writer, errors),
+        Ok(Wanted::Report) => report(alloc, reader, writer, errors),
+        Ok(
+            Wanted::Race {
+                riders,
+                rounds,
+                cut,
+            },
+        ) => match Race::checked(riders, rounds, cut) {
+            Some(asked) => race(rt, alloc, asked, writer, errors),
+            // The words were refused.
+            None => REFUSED,
+        },
         Err(error) => answer(&error, writer, errors),
     }
 }
@@ -48,6 +70,12 @@ fn read_words<'a, S: AsStr>(alloc: Global, words: &'a [S]) -> Result<Wanted, Err
     let matches = program(alloc)?.try_get_matches_from(words)?;
     Ok(match matches.subcommand() {
         Some(("slow", _)) => Wanted::Slow,
+        Some(("report", _)) => Wanted::Report,
+        Some(("race", race)) => Wanted::Race {
+            riders: race.get_one("riders").unwrap_or(1),
+            rounds: race.get_one("rounds").unwrap_or(1),
+            cut: race.get_flag("cut"),
+        },
         Some((_, run)) => Wanted::Run {
             flush: run.get_flag("flush"),
         },
@@ -70,12 +98,37 @@ fn program<'a>(alloc: Global) -> Result<Command<'a>, AllocError> {
             "The same text, computed from the list of steps: 1000 lines are quick, 10000 are not",
         )
         .override_usage("hl_tool slow < SCRIPT");
+    let report = Command::new(alloc, "report")
+        .about("Runs the script without its answers, and reports what it left, in eighteen lines")
+        .override_usage("hl_tool report < SCRIPT");
+    let riders = Arg::new(alloc, "riders")
+        .required(true)
+        .value_name("RIDERS")
+        .value_parser(value_parser!(u64).range(1..=8))
+        .help("How many threads race");
+    let rounds = Arg::new(alloc, "rounds")
+        .required(true)
+        .value_name("ROUNDS")
+        .value_parser(value_parser!(u64).range(1..=1000))
+        .help("How many rounds each makes, and how many turns the crew behind them");
+    let cut = Arg::new(alloc, "cut")
+        .long("cut")
+        .action(ArgAction::SetTrue)
+        .help("Cuts the journal at the end of each of the crew's turns");
+    let race = Command::new(alloc, "race")
+        .about("Runs threads against each other, and checks what they left against their journal")
+        .override_usage("hl_tool race RIDERS ROUNDS [--cut]")
+        .arg(riders)?
+        .arg(rounds)?
+        .arg(cut)?;
     Command::new(alloc, "hl_tool")
         .about("Epoch protection and page frames after FASTER, on scripts of steps")
         .after_help("docs/FORMATS.md tells the lines of a script, and of its answers")
         .subcommand_required(true)
         .subcommand(run)?
-        .subcommand(slow)
+        .subcommand(slow)?
+        .subcommand(report)?
+        .subcommand(race)
 }
 
 /// Tells the user why the words gave no command: help was wanted, or they were refused.

@@ -1,8 +1,12 @@
 //! Runs scripts of steps: `hl_tool run` reads one on standard input and writes its text, with `--flush` also the
-//! images of its pages; `hl_tool slow` computes the same text from the list of steps.
+//! images of its pages; `hl_tool slow` computes the same text from the list of steps; `hl_tool report` writes the
+//! quantities that the script left.
 #![tactic(auto)]
 
 mod command;
+mod jobs;
+mod race;
+mod report;
 mod run;
 mod status;
 

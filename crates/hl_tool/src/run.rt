@@ -1,9 +1,10 @@
 ghost use Rattle.std.specs.Prelude.{◌≡◌, ℕ, ◌+◌, ◌<◌, ◌≤◌, length, Ok, Err, IfOk, IfErr};
 ghost use Rattle.hl_model.specs.declared.fault.Fault.TheVariants.{BadLine, OutOfMemory};
-ghost use Rattle.hl_action.specs.Jobs.{CanBeCalled, AnswersKeep};
 
+use crate::jobs::{AddTicket, TAGS, all_jobs};
+use crate::report::report_script;
 use crate::status::{DONE, REFUSED, failed};
-use hl_action::{Call, Firing, Kept, Shelf, Task};
+use hl_action::Task;
 use hl_cells::Engine;
 use hl_counts::CountTable;
 use hl_epoch::Epochs;
@@ -13,9 +14,6 @@ use hl_model::Fault;
 use hl_script::{Finished, Sum, run_text, slow_text};
 use std::alloc::Global;
 use std::io::{Read, Write};
-
-/// The jobs of a script have the tags 0 to 999.
-const TAGS: u64 = 1000;
 
 /// Answers the script that the reader gives; then, where that is wanted, flushes each page that can be.
 pub(crate) fn run<R: Read, W: Write, E: Write>(
@@ -27,9 +25,7 @@ pub(crate) fn run<R: Read, W: Write, E: Write>(
 ) -> u8
     ensures { result ≤ 2 }
 {
-    let ended = serve(alloc, flush, reader, writer, |tag: u64| {
-        Call(move |firing: Firing| tag.wrapping_add(firing.ticket()))
-    });
+    let ended = serve(alloc, flush, reader, writer);
     status_of(ended, writer, errors)
 }
 
@@ -43,6 +39,19 @@ pub(crate) fn slow<R: Read, W: Write, E: Write>(
     ensures { result ≤ 2 }
 {
     let ended = slow_text(alloc, reader, writer, TAGS).map(|_| ());
+    status_of(ended, writer, errors)
+}
+
+/// Runs the script that the reader gives, without its answers, and then writes its report.
+pub(crate) fn report<R: Read, W: Write, E: Write>(
+    alloc: Global,
+    reader: &mut R,
+    writer: &mut W,
+    errors: &mut E,
+) -> u8
+    ensures { result ≤ 2 }
+{
+    let ended = tell(alloc, reader, writer);
     status_of(ended, writer, errors)
 }
 
@@ -61,23 +70,15 @@ fn status_of<W: Write, E: Write>(ended: Result<(), Fault>, writer: &mut W, error
     }
 }
 
-/// Puts a job that `make` makes on a shelf for each tag, and runs the script with them.
-fn serve<F: Task, M: Fn(u64) -> F, R: Read, W: Write>(
+/// Runs the script, and flushes the pages that it left sealed where that is wanted.
+fn serve<R: Read, W: Write>(
     alloc: Global,
     flush: bool,
     reader: &mut R,
     writer: &mut W,
-    make: M,
-) -> Result<(), Fault>
-    requires callable { M.IsAlwaysCallable make }
-    requires jobs { (tag : ℕ) (job : F) → tag < 1000 → M.post make tag job → CanBeCalled (F.can job) }
-    requires answers { (tag : ℕ) (job : F) → tag < 1000 → M.post make tag job → AnswersKeep (F.gives job) (λ firing answer. answer ≡ tag + firing.ticket) }
-{
-    let mut shelf = Shelf::<F, Sum>::open(alloc, TAGS)?;
-    for tag in 0..TAGS {
-        shelf.put(Kept::new(tag, make(tag)));
-    }
-    let ended: Option<Finished<CountTable, F>> = run_text(alloc, reader, writer, shelf)?;
+) -> Result<(), Fault> {
+    let shelf = all_jobs(alloc)?;
+    let ended: Option<Finished<CountTable, AddTicket>> = run_text(alloc, reader, writer, shelf)?;
     let Some(finished) = ended else {
         return Ok(());
     };
@@ -86,6 +87,12 @@ fn serve<F: Task, M: Fn(u64) -> F, R: Read, W: Write>(
     } else {
         Ok(())
     }
+}
+
+/// Runs the script, and writes its report.
+fn tell<R: Read, W: Write>(alloc: Global, reader: &mut R, writer: &mut W) -> Result<(), Fault> {
+    let shelf = all_jobs(alloc)?;
+    report_script::<CountTable, AddTicket, R, W>(alloc, reader, writer, shelf)
 }
 
 /// Writes the image of each page that can be flushed.

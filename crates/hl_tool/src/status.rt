@@ -7,8 +7,8 @@ use std::io::Write;
 /// The status of a command that was done.
 pub(crate) const DONE: u8 = 0;
 
-/// Memory was refused, or a stream or a device failed.
-const FAILED: u8 = 1;
+/// Memory was refused, a stream or a device failed, or a race left what its steps don't say.
+pub(crate) const FAILED: u8 = 1;
 
 /// A line that is no step, or words that are no command.
 pub(crate) const REFUSED: u8 = 2;

@@ -1,0 +1,36 @@
+ghost use Rattle.std.specs.Prelude.{◌≡◌, ◌+◌, ◌<◌, ◌^◌};
+
+use hl_action::{Firing, Kept, Shelf, Task};
+use hl_model::Fault;
+use hl_script::Sum;
+use std::alloc::Global;
+
+/// The jobs of a script have the tags 0 to 999.
+pub(crate) const TAGS: u64 = 1000;
+
+/// A job that answers its tag + its ticket.
+#[derive(Drop)]
+pub(crate) struct AddTicket {
+    tag: u64,
+}
+
+impl Task for AddTicket {
+    ghost can = { λ job firing. job.tag + firing.ticket < 2 ^ 64 };
+
+    ghost gives = { λ job firing answer. answer ≡ job.tag + firing.ticket };
+
+    fn call(self, firing: Firing) -> u64 {
+        self.tag + firing.ticket()
+    }
+}
+
+/// A shelf with a job for each tag.
+///
+/// Fault: `OutOfMemory` where memory is refused.
+pub(crate) fn all_jobs(alloc: Global) -> Result<Shelf<AddTicket, Sum>, Fault> {
+    let mut shelf = Shelf::open(alloc, TAGS)?;
+    for tag in 0..TAGS {
+        shelf.put(Kept::new(tag, AddTicket { tag }));
+    }
+    Ok(shelf)
+}
