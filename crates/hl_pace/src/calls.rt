@@ -1,0 +1,61 @@
+//! The calls that one thread makes.
+use crate::work::Kind;
+use hl_action::{Promise, Task};
+use hl_domain::{Domain, Pass};
+use hl_epoch::Epochs;
+use hl_model::Fault;
+use hl_words::{Realm, Rider};
+use std::sync::{Mutex, Wait};
+
+/// Acquires a slot, makes so many calls there, and releases it. No rider comes back where a call was refused.
+pub(crate) fn call_all<E: Epochs + Drop, F: Task, P: Promise, L: Realm>(
+    rt: &impl Wait,
+    domain: &Domain<E, F, P, L>,
+    floor: &Mutex<u64>,
+    rider: Rider<L>,
+    slot: u64,
+    kind: Kind,
+    calls: u64,
+) -> Option<Rider<L>> {
+    let mut pass = domain.acquire(rt, slot, rider).ok()?;
+    let place = domain.allocate(rt, &mut pass, 1).ok()?;
+    for _ in 0..calls {
+        call(rt, domain, floor, &mut pass, place, kind).ok()?;
+    }
+    domain.release(rt, pass).ok()
+}
+
+// One call.
+fn call<E: Epochs + Drop, F: Task, P: Promise, L: Realm>(
+    rt: &impl Wait,
+    domain: &Domain<E, F, P, L>,
+    floor: &Mutex<u64>,
+    pass: &mut Pass<L>,
+    place: u64,
+    kind: Kind,
+) -> Result<(), Fault> {
+    match kind {
+        Kind::Lock => {
+            let mut number = floor.lock(rt);
+            *number = number.wrapping_add(1);
+        }
+        Kind::Refresh => {
+            domain.refresh(rt, pass)?;
+        }
+        Kind::Allocate => {
+            domain.allocate(rt, pass, 1)?;
+        }
+        Kind::Store => {
+            if let Err(Fault::TouchesFull) = domain.store(pass, place, 1) {
+                domain.refresh(rt, pass)?;
+            }
+        }
+        Kind::Load => {
+            domain.load(pass, place)?;
+        }
+        Kind::Look => {
+            domain.look(pass)?;
+        }
+    }
+    Ok(())
+}

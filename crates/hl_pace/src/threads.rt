@@ -1,0 +1,62 @@
+//! The threads, and the domain that they share.
+ghost use Rattle.std.specs.Prelude.{◌≡◌, ◌≤◌};
+ghost use Rattle.hl_words.specs.States.{IsSeedOf};
+
+use crate::calls::call_all;
+use crate::work::Work;
+use hl_action::{AnyAnswer, NoJob};
+use hl_counts::CountTable;
+use hl_domain::Domain;
+use hl_model::{Fault, Params};
+use hl_words::{Realm, Rider, Seed};
+use std::alloc::Global;
+use std::marker::Brand;
+use std::sync::{Mutex, Wait};
+use std::thread;
+use std::thread::Threads;
+
+/// How many steps the journal may have.
+const JOURNAL: u64 = 1 << 21;
+
+/// The stamp of the domain.
+const STAMP: u64 = 1000;
+
+/// Makes the calls, and answers whether all were accepted: a thread ends at a call that is refused.
+///
+/// `OutOfMemory` where memory was refused.
+pub(crate) fn run<R: Threads + Wait + Sync>(rt: &R, alloc: Global, work: Work) -> Result<bool, Fault>
+    requires { (1 ≤ work.threads) × (work.threads ≤ 8) }
+{
+    let params = Params::checked(4096, 256, 8, 64).ok_or(Fault::Size)?;
+    let seed = Seed::make(alloc, params, work.threads as usize)?;
+    run_over::<Brand, R>(rt, alloc, seed, work)
+}
+
+// Makes the calls over the words of a seed.
+fn run_over<L: Realm + Send + Sync, R: Threads + Wait + Sync>(
+    rt: &R,
+    alloc: Global,
+    seed: Seed,
+    work: Work,
+) -> Result<bool, Fault>
+    requires seed { IsSeedOf L.name L.parts L.table seed }
+    requires named { (seed.sizes ≡ L.sizes) × (1000 ≡ L.stamp) }
+{
+    let (domain, riders) = Domain::<CountTable, NoJob, AnyAnswer, L>::open(
+        alloc, seed, JOURNAL, STAMP,
+    )?;
+    let floor = Mutex::new(0);
+    let mut seats = Vec::with_capacity(alloc, riders.len()).map_err(|_| Fault::OutOfMemory)?;
+    for rider in riders {
+        seats.push(Some(rider)).map_err(|_| Fault::OutOfMemory)?;
+    }
+    let threads = seats.len().max(1);
+    let start = |slot: usize, seat: &mut Option<Rider<L>>| {
+        if let Some(rider) = seat.take() {
+            let Work { kind, calls, .. } = work;
+            *seat = call_all(rt, &domain, &floor, rider, slot as u64, kind, calls);
+        }
+    };
+    thread::for_each_mut(rt, seats.as_mut_slice(), threads, &start);
+    Ok(seats.iter().all(Option::is_some))
+}

@@ -1,0 +1,50 @@
+use crate::say::say;
+use hl_core::{Ask, Core, Fault, Params, Tagged};
+use hl_counts::CountTable;
+use std::alloc::Global;
+use std::io::Write;
+
+/// A row that was unlinked, and is freed once no thread can see it.
+#[derive(Drop)]
+struct Retired {
+    number: u64,
+    row: Vec<u64>,
+}
+
+impl Tagged for Retired {
+    ghost tag = { λ retired. retired.number };
+
+    fn tag(&self) -> u64 {
+        self.number
+    }
+}
+
+/// Frees an old row once the reader that may have seen it has moved on: the deferred free for which epochs are mostly
+/// used. The row itself is what the bump stores.
+///
+/// Faults: `OutOfMemory`; `Stream` where the writer fails.
+pub fn run<W: Write>(alloc: Global, out: &mut W) -> Result<(), Fault> {
+    let params = Params::checked(4, 2, 2, 4).ok_or(Fault::Size)?;
+    let mut core = Core::<CountTable, Retired>::open(alloc, params)?;
+    let row = vec![in alloc; 7; 100].map_err(|_| Fault::OutOfMemory)?;
+
+    // A reader enters, and may hold a reference to the row.
+    core.acquire(0)?;
+    // The writer puts another row in its place, and retires this one.
+    let retired = Ask::User(Retired { number: 1, row });
+    let ticket = core.bump(retired).map_err(|(fault, _)| fault)?;
+    say(out, "retired under ticket", ticket)?;
+
+    // Not yet: the reader has not moved on.
+    if let Err(Fault::NotReady { front, safe }) = core.take() {
+        say(out, "waits for ticket", front)?;
+        say(out, "safe epoch", safe)?;
+    }
+    core.refresh(0)?;
+    let (firing, job) = core.take()?;
+    if let Some(retired) = job {
+        say(out, "freed row of words", retired.row.len() as u64)?;
+    }
+    core.done(firing.ticket())?;
+    core.release(0)
+}
