@@ -1,8 +1,8 @@
 -- What an engine tells of the two steps of a flush.
-use Rattle.std.proofs.Common.{◌≡◌, ℕ, ◌%◌, ◌<◌, Bool, true, false, List, [], ◌∷◌, ◌++◌, sym, ap, ◌∙◌, subst, arith, append_assoc}
+use Rattle.std.proofs.Common.{◌≡◌, ℕ, ◌%◌, ◌<◌, Bool, true, false, cond, List, [], ◌∷◌, ◌++◌, sym, ap, ◌∙◌, subst, arith, append_assoc}
 use Rattle.std.specs.Prelude.{Option, Some, None, unwrap_or, Result, Ok, Err}
 use Rattle.hl_model.specs.declared.fault.Fault.{Fault}
-use Rattle.hl_model.specs.declared.fault.Fault.TheVariants.{NoneSealed}
+use Rattle.hl_model.specs.declared.fault.Fault.TheVariants.{NoneSealed, NotInFlight}
 use Rattle.hl_model.specs.declared.step.Reply.{Reply}
 use Rattle.hl_model.specs.declared.step.Reply.TheVariants.{Page}
 use Rattle.hl_model.specs.declared.step.Step.{Step}
@@ -18,7 +18,6 @@ use Rattle.hl_image.specs.Image.{image}
 use Rattle.hl_cells.specs.Engines.{Whole, EngineStands, Shows}
 use Rattle.hl_cells.specs.EngineSteps.{Told, Moved}
 use Rattle.hl_flush.specs.Flush.{EndsFlush, IsNextAgain}
-use Rattle.hl_flush.specs.Taking.{TakesPage, IsInFlight}
 use Rattle.hl_cells.proofs.ShownPages.{shown-last}
 use Rattle.hl_flush.proofs.FlushLaws.{take-named, take-reply, take-lawful, take-in_flight, take-words, taken_again}
 
@@ -31,14 +30,6 @@ told_page keeps firing (Some fault) page result h = h
 take_told : {F : Type 0} (keeps : ℕ → FiringRecord → ℕ → Type 0) (old new : Whole F) (A : List Step) (result : Result Reply Fault) → Moved keeps old A FlushTake new result → result ≡ reply_of old.core.sizes A FlushTake
 take_told keeps old new A result m = told_page keeps None (fault_of old.core.sizes A FlushTake) (unwrap_or (next_to_flush old.core.sizes A) 0) result m.told
 
-page_only : (n : Option ℕ) (reply : Reply) → unless_fault (unless_page NoneSealed n) (Page (unwrap_or n 0)) ≡ Ok reply → ((page : ℕ) → reply ≡ Page page → ⊥) → ⊥
-page_only None reply h other = cc
-page_only (Some q) reply h other = let same : reply ≡ Page q = cc in other q same
-
--- an accepted take is answered with a page
-pub take-page : {F : Type 0} (keeps : ℕ → FiringRecord → ℕ → Type 0) (old new : Whole F) (A : List Step) (reply : Reply) → Moved keeps old A FlushTake new (Ok reply) → ((page : ℕ) → reply ≡ Page page → ⊥) → ⊥
-take-page keeps old new A reply m other = page_only (next_to_flush old.core.sizes A) reply (sym (take_told keeps old new A (Ok reply) m)) other
-
 refused_as : (n : Option ℕ) (fault : Fault) → unless_fault (unless_page NoneSealed n) (Page (unwrap_or n 0)) ≡ Err fault → fault ≡ NoneSealed
 refused_as None fault h = let same : NoneSealed ≡ fault = cc in sym same
 refused_as (Some q) fault h = cc
@@ -47,12 +38,27 @@ refused_as (Some q) fault h = cc
 pub take-refused : {F : Type 0} (keeps : ℕ → FiringRecord → ℕ → Type 0) (old new : Whole F) (A : List Step) (fault : Fault) → Moved keeps old A FlushTake new (Err fault) → fault ≡ NoneSealed
 take-refused keeps old new A fault m = refused_as (next_to_flush old.core.sizes A) fault (sym (take_told keeps old new A (Err fault) m))
 
+-- and is answered so
+pub take-none : {F : Type 0} (keeps : ℕ → FiringRecord → ℕ → Type 0) (old new : Whole F) (A : List Step) (fault : Fault) → Moved keeps old A FlushTake new (Err fault) → reply_of old.core.sizes A FlushTake ≡ Err NoneSealed
+take-none keeps old new A fault m = sym (take_told keeps old new A (Err fault) m) ∙ ap (λ f. Err f) (take-refused keeps old new A fault m)
+
+-- what is told of a take by an engine that stood at A
+pub record TakesPage {F : Type 0} (A : List Step) (old new : Whole F) (page : ℕ) : Type 0 where
+  pub reply : reply_of old.core.sizes A FlushTake ≡ Ok (Page page)
+  pub sizes : new.core.sizes ≡ old.core.sizes
+  pub standing : EngineStands new (A ++ FlushTake ∷ [])
+
 -- an accepted take took its page
 pub take-taken : {F : Type 0} (keeps : ℕ → FiringRecord → ℕ → Type 0) (old new : Whole F) (A : List Step) (page : ℕ) → Moved keeps old A FlushTake new (Ok (Page page)) → TakesPage A old new page
 take-taken keeps old new A page m =
     let reply : reply_of old.core.sizes A FlushTake ≡ Ok (Page page) = sym (take_told keeps old new A (Ok (Page page)) m) in
     let lawful : fault_of old.core.sizes A FlushTake ≡ None = take-lawful old.core.sizes A page (take-named old.core.sizes A page reply) in
     record { reply = reply; sizes = m.sizes; standing = subst (EngineStands new) (extended-none old.core.sizes A FlushTake lawful) m.standing }
+
+-- the end of the flush of a page in flight is accepted
+pub done-ended : {F : Type 0} (keeps : ℕ → FiringRecord → ℕ → Type 0) (old new : Whole F) (A : List Step) (page : ℕ) (ok : Bool) (result : Result Reply Fault) → Moved keeps old A (FlushDone page ok) new result → is_in_flight old.core.sizes page A ≡ true → EngineStands new (A ++ FlushDone page ok ∷ [])
+done-ended keeps old new A page ok result m out =
+    subst (EngineStands new) (extended-none old.core.sizes A (FlushDone page ok) (ap (λ b. cond b None (Some NotInFlight)) out)) m.standing
 
 module _ {F : Type 0} (A : List Step) (old new : Whole F) (page : ℕ) (before : EngineStands old A) (t : TakesPage A old new page) where
   next : next_to_flush old.core.sizes A ≡ Some page
@@ -61,9 +67,6 @@ module _ {F : Type 0} (A : List Step) (old new : Whole F) (page : ℕ) (before :
   -- the page is in flight
   pub taken-out : is_in_flight new.core.sizes page (A ++ FlushTake ∷ []) ≡ true
   taken-out = subst (λ sizes. is_in_flight sizes page (A ++ FlushTake ∷ []) ≡ true) (sym t.sizes) (take-in_flight old.core.sizes A page next)
-
-  pub taken-in_flight : IsInFlight new page
-  taken-in_flight = (A ++ FlushTake ∷ [], t.standing, taken-out)
 
   -- its frame shows it
   pub taken-shown : Shows new page

@@ -1,18 +1,15 @@
-ghost use Rattle.std.specs.Prelude.{◌≡◌, ◌+◌, ◌*◌, ◌⊎◌, true, Err, List, OnOk, OnErr, IfOk, IfErr, [], ◌∷◌, ◌++◌, length};
+ghost use Rattle.std.specs.Prelude.{◌≡◌, ◌+◌, ◌*◌, ◌⊎◌, Err, List, OnOk, IfErr, length};
 ghost use Rattle.hl_model.specs.declared.step.Step.{Step as STEP};
-ghost use Rattle.hl_model.specs.declared.step.Step.TheVariants.{FlushDone as FLUSH_DONE};
-ghost use Rattle.hl_model.specs.Pages.{is_in_flight};
 ghost use Rattle.hl_image.specs.Failures.{one_more};
-ghost use Rattle.hl_cells.specs.Engines.{EngineStands, Shows};
+ghost use Rattle.hl_cells.specs.Engines.{EngineStands};
 ghost use Rattle.hl_cells.specs.Jobs.{JobsStay};
 ghost use Rattle.hl_flush.specs.Flush.{Flushes};
-ghost use Rattle.hl_flush.specs.Taking.{Takes, IsInFlight};
 
 use hl_action::{Promise, Task};
 use hl_cells::Engine;
 use hl_epoch::Epochs;
 use hl_image::{PageWriter, image_of};
-use hl_model::{Fault, Reply, Step};
+use hl_model::Fault;
 
 /// Flushes one page, the least that is sealed and neither flushed nor in flight: takes it, makes its image in `image`,
 /// which has 8 + 8P bytes, hands that to the writer, and ends the flush. The answer is the page.
@@ -43,53 +40,11 @@ where
     ensures jobs { JobsStay engine.old engine.new }
     ensures sizes { engine.new.core.sizes ≡ engine.old.core.sizes }
 {
-    let page = take(engine)?;
+    let page = engine.flush_take()?;
     image_of(page, engine.page_words(page), image);
     let written = writer.write_page(page, image);
-    end(engine, page, written.is_ok());
+    // The page is in flight, so its flush ends.
+    let _ = engine.flush_done(page, written.is_ok());
     written?;
     Ok(page)
-}
-
-// Takes the page to flush. It is in flight then, and its frame shows it.
-//
-// Fault: `NoneSealed` where no page waits.
-fn take<E, F, P>(engine: &mut Engine<E, F, P>) -> Result<u64, Fault>
-where
-    E: Epochs + Drop,
-    F: Task,
-    P: Promise,
-    ensures takes { (A : List STEP) → EngineStands engine.old A → Takes A engine.old engine.new result }
-    ensures in_flight { IfOk result (IsInFlight engine.new) }
-    ensures shown { IfOk result (Shows engine.new) }
-    ensures fault { IfErr result (λ fault. fault ≡ Fault.NoneSealed) }
-    ensures unchanged { OnErr result (engine.new ≡ engine.old) }
-    ensures jobs { JobsStay engine.old engine.new }
-    ensures sizes { engine.new.core.sizes ≡ engine.old.core.sizes }
-{
-    match engine.step(&Step::FlushTake)? {
-        Reply::Page(page) => Ok(page),
-        // A take is answered with its page.
-        _ => unreachable!(),
-    }
-}
-
-// Ends the flush of a page in flight, well or not.
-fn end<E, F, P>(engine: &mut Engine<E, F, P>, page: u64, ok: bool)
-where
-    E: Epochs + Drop,
-    F: Task,
-    P: Promise,
-    requires { IsInFlight engine.old page }
-    ensures standing { (A : List STEP) → EngineStands engine.old A
-        → is_in_flight engine.old.core.sizes page A ≡ true
-        → EngineStands engine.new (A ++ FLUSH_DONE page ok ∷ []) }
-    ensures jobs { JobsStay engine.old engine.new }
-    ensures sizes { engine.new.core.sizes ≡ engine.old.core.sizes }
-{
-    match engine.step(&Step::FlushDone { page, ok }) {
-        Ok(_) => (),
-        // It is in flight.
-        Err(_) => unreachable!(),
-    }
 }

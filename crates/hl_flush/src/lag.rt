@@ -14,6 +14,10 @@ use hl_model::{Params, Six, Step};
 /// flushed offset, and a close follows where the closed offset is below. No offset falls: what is already there is
 /// left out. (FASTER keeps its read-only and head offsets at constant lags behind the tail.)
 ///
+/// It is for a moment at which no action is pending and none is taken. A settle takes effect when its action is done, so
+/// a caller who asks while one waits is told a settle again, each time, as long as the safe read-only offset lags, and
+/// likewise a close: the drain list fills with them, until a bump meets `DrainFull`.
+///
 /// At these offsets neither the raise nor the shift is refused, where the six are in order. The settle and the close
 /// may meet `DrainFull`, `EpochsSpent` or `WindowFull`.
 pub fn lag_steps(params: Params, six: Six, mutable: u64, resident: u64) -> ArrayVec<Step, 4>

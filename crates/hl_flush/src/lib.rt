@@ -37,4 +37,9 @@ mod flush;
 mod lag;
 
 pub use flush::flush_one;
+pub use hl_action::{Promise, Task};
+pub use hl_cells::Engine;
+pub use hl_epoch::Epochs;
+pub use hl_image::PageWriter;
+pub use hl_model::{Fault, Params, Six, Step};
 pub use lag::lag_steps;
