@@ -17,7 +17,8 @@
 //! # Threads
 //!
 //! A core may go to another thread (`Send` is proved), and one call at a time may use it: the caller keeps it
-//! under a lock of its own. No call waits. None but [`open::hl_open`] takes memory.
+//! under a lock of its own. No call waits. None but [`open::hl_open`] has an answer for want of memory: the core's rows
+//! stay as it made them, by the core's type.
 //!
 //! # How a call goes
 //!

@@ -43,7 +43,7 @@ impl<E: Epochs + Drop, F: Task, P: Promise> Engine<E, F, P> {
     ghost use Rattle.hl_cells.specs.Jobs.{job_under};
 
     /// An engine at the empty list: its core is one that was just opened, all words are 0, and no job lies under any
-    /// ticket. No other call takes memory.
+    /// ticket. No other call has an answer for want of memory.
     ///
     /// `OutOfMemory` where memory for its rows was refused.
     pub fn open(alloc: Global, params: Params) -> Result<Engine<E, F, P>, Fault>

@@ -30,8 +30,7 @@
 //! [`Core::base_into`] writes the quantities into a [`Base`](hl_model::Base): what is left of a list of steps when it
 //! is cut, without jobs. What a slot saw, a ticket that waits or is taken, a page's marks: each has its row there, and
 //! the base is the one that hl_model defines for the list at which the core stands. So later steps may be judged from
-//! the base, and the steps up to it need not be kept. It takes no memory, so it may be called as often as one likes:
-//! the rows are built on the stack, and the base keeps its own.
+//! the base, and the steps up to it need not be kept. The rows are built on the stack, and the base keeps its own.
 //!
 //! # Standing at a list
 //!
@@ -40,8 +39,9 @@
 //! whatever list the core stood, the reply is the definitions' reply after that list, and the core then stands at
 //! the list with the step, where it was accepted. It holds over every table that meets `Epochs`.
 //!
-//! No call after [`Core::open`] takes memory: that the row of views has a place for each slot, and no more, is in the
-//! type too.
+//! No call after [`Core::open`] has an answer for want of memory. That the row of views has a place for each slot, and
+//! no more, is in the type too, as the rows of its parts are in theirs; that no call makes a row for its own time is
+//! seen in the code.
 #![tactic(auto)]
 
 mod act;

@@ -58,7 +58,7 @@ impl<E: Epochs + Drop, F: Task, P: Promise, L: Realm> Domain<E, F, P, L> {
     /// steps between two cuts. Two domains of a program are to have different stamps: by its stamp a domain
     /// knows its own pages and actions. Both numbers are at most 2^62.
     ///
-    /// `OutOfMemory` where memory was refused; then the seed is given up. No other call of it takes memory.
+    /// `OutOfMemory` where memory was refused; then the seed is given up. No other call has an answer for want of it.
     pub fn open(
         alloc: Global,
         seed: Seed,

@@ -62,7 +62,7 @@ impl<E: Epochs + Drop, F: Task, P: Promise, L: Realm> Drop for Keeper<E, F, P, L
 
 impl<E: Epochs + Drop, F: Task, P: Promise, L: Realm> Keeper<E, F, P, L> {
     /// A keeper at the empty list, with its words and its riders. It may keep this many steps between two
-    /// cuts, and the stamp is its domain's. No other call takes memory.
+    /// cuts, and the stamp is its domain's. No other call has an answer for want of memory.
     ///
     /// `OutOfMemory` where memory was refused; then the seed is given up.
     pub fn open(

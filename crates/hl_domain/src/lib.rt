@@ -46,8 +46,8 @@
 //! order, before the step of the pass's next locked call: what the slot's view allows is accepted there,
 //! whatever others did since. So touches never refuse a call.
 //!
-//! No call after [`Keeper::open`] takes memory. That the journal has room for all it may keep, and that the row
-//! of stamps never grows, is in the type.
+//! No call after [`Keeper::open`] has an answer for want of memory. That the journal has room for all it may keep,
+//! and that the row of stamps never grows, is in the type; that the journal asks for no more is seen in the code.
 #![tactic(auto)]
 
 mod actions;

@@ -8,8 +8,8 @@ use hl_model::Fault;
 use std::alloc::Global;
 
 /// A table of epochs: S slots, each protected with an epoch or not, the current epoch, and W, the window: how
-/// many epochs at most have ended and are not safe. Once it is made, no call takes memory. A refused call
-/// changes nothing.
+/// many epochs at most have ended and are not safe. Once it is made, no call has an answer for want of memory.
+/// A refused call changes what the table knows in nothing.
 pub trait Epochs: Sized {
     /// What the table knows.
     ghost table: { Self → Table };

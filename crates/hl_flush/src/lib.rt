@@ -30,7 +30,8 @@
 //! the page was written is a matter of the definitions (`Flushes` in `specs/Flush.antt`). What a device keeps is the
 //! writer's to say.
 //!
-//! No call takes memory.
+//! Neither call is handed an allocator, or has an answer for want of memory: the image is made in the caller's buffer,
+//! the steps of the lag in a short row on the stack. What a writer takes is its own.
 #![tactic(auto)]
 
 mod flush;
