@@ -2,7 +2,8 @@
 //!
 //! After FASTER (Chandramouli, Prasaad, Kossmann, Levandoski, Hunter, Barnett, SIGMOD 2018): its epoch protection
 //! framework and the page allocator of its HybridLog. Threads are known by slots, words by addresses; a core has
-//! neither threads nor words. It may be put under any lock.
+//! neither threads nor words. It is `Send` where its table and its jobs are, so it may lie under a lock of the caller's:
+//! `one_lock` of hl_uses has one under a `Mutex`, with two threads.
 //!
 //! # What it is made of
 //!
