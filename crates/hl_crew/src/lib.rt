@@ -6,7 +6,7 @@
 //!
 //! | Thread | What it does in a turn |
 //! |---|---|
-//! | the flusher | keeps the log at its lag, runs safe actions, sends sealed pages and answers the flush of each |
+//! | the flusher | makes the lag's steps where no action waits, runs safe actions, sends sealed pages, answers each |
 //! | two writers | copy a page's words without the lock, make its image, hand it to their `PageWriter` |
 //! | the cleaner | sweeps a closed page without the lock, and frees its frame |
 //!

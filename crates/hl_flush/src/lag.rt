@@ -6,19 +6,19 @@ ghost use Rattle.hl_flush.specs.Lag.{step_if, lag_of, fault_at};
 use arrayvec::ArrayVec;
 use hl_model::{Params, Six, Step};
 
-/// What brings the log to its lag: a flusher's next steps, in order, so that about `mutable` pages at the tail may be
-/// written and about `resident` may be read. Both are numbers of pages, `1 <= mutable <= resident <= F`.
+/// A flusher's next steps at these offsets, in order, for whoever wants about `mutable` pages at the tail to be written
+/// and about `resident` to be read. Both are numbers of pages, `1 <= mutable <= resident <= F`. It makes none of them.
 ///
-/// With N the pages up to the tail, the read-only offset is raised to where the page N - mutable begins, and a settle
-/// follows where the safe one is below. The head is shifted to where the page N - resident begins, at most to the
-/// flushed offset, and a close follows where the closed offset is below. No offset falls: what is already there is
-/// left out. (FASTER keeps its read-only and head offsets at constant lags behind the tail.)
+/// With N the pages up to the tail, the read-only offset is raised to where the page N - mutable begins, unless it is
+/// there or above, and a settle follows where the safe one is below it then. The head is shifted to where the page
+/// N - resident begins, at most to the flushed offset, unless it is there or above, and a close follows where the closed
+/// offset is below it then. (FASTER keeps its read-only and head offsets at constant lags behind the tail.)
 ///
 /// It is for a moment at which no action is pending and none is taken. A settle takes effect when its action is done, so
 /// a caller who asks while one waits is told a settle again, each time, as long as the safe read-only offset lags, and
 /// likewise a close: the drain list fills with them, until a bump meets `DrainFull`.
 ///
-/// At these offsets neither the raise nor the shift is refused, where the six are in order. The settle and the close
+/// At these offsets neither the raise nor the shift meets a fault, where the six are in order. The settle and the close
 /// may meet `DrainFull`, `EpochsSpent` or `WindowFull`.
 pub fn lag_steps(params: Params, six: Six, mutable: u64, resident: u64) -> ArrayVec<Step, 4>
     requires mutable_least { 1 ≤ mutable }

@@ -6,8 +6,8 @@
 //!
 //! # The lag
 //!
-//! [`lag_steps`] tells a flusher's next steps, so that about `mutable` pages at the tail may be written and about
-//! `resident` may be read. The offsets are computed by whole pages, the last one counted whole:
+//! [`lag_steps`] tells a flusher's next steps, for whoever wants about `mutable` pages at the tail to be written and
+//! about `resident` to be read. The offsets are computed by whole pages, the last one counted whole:
 //!
 //! ```text
 //! 0         head                 read-only            tail
@@ -18,11 +18,11 @@
 //! ```
 //!
 //! The head goes no further than pages were flushed, and no offset falls. A raise and a shift take effect for
-//! whoever sees them; the settle and the close behind them make sure that everybody has.
+//! whoever sees them; once the settle and the close behind them are taken and done, each protected slot has.
 //!
 //! # One page
 //!
-//! [`flush_one`] takes the least page that nobody writes any more and that wasn't flushed, makes its image from the
+//! [`flush_one`] takes the least sealed page that is neither flushed nor in flight, makes its image from the
 //! engine's words, hands it to a writer and ends the flush. Where the write fails, the page is given back: the next
 //! flush takes it again. Nothing is tried again by the call itself.
 //!

@@ -11,7 +11,7 @@ use hl_words::{Realm, Rider};
 use std::sync::Wait;
 
 impl<R: Wait, E: Epochs + Drop, F: Task, P: Promise, L: Realm> Flusher<'_, R, E, F, P, L> {
-    /// Where no action waits or runs, makes the steps that bring the log to its lag, up to the first that is refused.
+    /// Where no action waits or is taken, makes the lag's steps, up to the first that is refused.
     pub(crate) fn keep_lag(
         &self,
         rider: &mut Rider<L>,
