@@ -2,7 +2,7 @@
 //!
 //! After the HybridLog of FASTER (Chandramouli, Prasaad, Kossmann, Levandoski, Hunter, Barnett, SIGMOD 2018), where a
 //! page that every thread sees as read-only is written to the log's device, and its frame is used again. [`run_crew`]
-//! runs four threads on a `Domain` that others use at the same time:
+//! runs four threads on a `Domain` that others may use at the same time:
 //!
 //! | Thread | What it does in a turn |
 //! |---|---|
@@ -14,7 +14,7 @@
 //!
 //! The flusher and the writers talk by two channels. What a channel delivers nothing tells, so nothing rests on it:
 //! the flusher keeps the load of each page that it sent in a [`Pouch`], and answers a flush only through it. A page
-//! whose load isn't there is refused, and nothing changes: a clause of [`Pouch::answer`].
+//! whose load isn't there is refused, and neither pouch nor share changes: a clause of [`Pouch::answer`].
 //!
 //! # When a page may be written
 //!
@@ -26,7 +26,8 @@
 //!
 //! The flusher and the cleaner end after so many turns, or before where the journal is full; the flusher then stops
 //! the writers. Riders and page writers come back by value, also where a thread couldn't be made: each lies under a
-//! lock that its thread takes once. That a thread gets on, and what [`CrewEnd`] counts, no clause says.
+//! lock that its thread takes once. That is what the types say, and a clause that no refusal is other than
+//! `OutOfMemory`. That a thread gets on, what is done in a turn, and what [`CrewEnd`] counts, no clause says.
 //!
 //! | Module | What it has |
 //! |---|---|

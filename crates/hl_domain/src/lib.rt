@@ -44,7 +44,7 @@
 //!
 //! A look and a store need no lock. They are lawful in the pass's own view, and enter the journal, in their
 //! order, before the step of the pass's next locked call: what the slot's view allows is accepted there,
-//! whatever others did since. So touches never refuse a call.
+//! whatever others did since. So touches refuse a call for the room that they want in the journal, and for nothing else.
 //!
 //! No call after [`Keeper::open`] has an answer for want of memory. That the journal has room for all it may keep,
 //! and that the row of stamps never grows, is in the type; that the journal asks for no more is seen in the code.

@@ -3,7 +3,7 @@ ghost use Rattle.hl_domain.specs.Pages.{BroomRecord};
 
 use std::marker::Model;
 
-/// What names a page that is in flight: the stamp of its domain, and its number.
+/// What names a page of a domain, one in flight where it is a load's: the stamp of its domain, and its number.
 #[derive(Clone, Copy, Debug, PartialEq, Eq)]
 pub struct PageJob {
     /// The stamp of the domain whose page it is.

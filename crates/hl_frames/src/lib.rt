@@ -14,10 +14,10 @@
 //! # A page's way
 //!
 //! 1. A page is entered by the first record that is placed in it, and is *open*.
-//! 2. It is *sealed* once it lies below the safe read-only offset: no thread writes it any more.
+//! 2. It is *sealed* once it lies below the safe read-only offset, which the caller hands in.
 //! 3. A flush take names it, and it is *in flight*. A flush done makes it *flushed*, or, where the flush failed,
 //!    lets it be taken again.
-//! 4. It is *closed* once it lies below the closed offset: no thread reads it any more.
+//! 4. It is *closed* once it lies below the closed offset, which the caller hands in.
 //! 5. A clean take names it, and it is *being cleaned*. A clean done makes it *freed*.
 //!
 //! Takes name the least page that waits; dones may come in any order. A page that is closed isn't free: its words

@@ -3,11 +3,11 @@
 pub enum FrameState {
     /// The page may still be written.
     Opened,
-    /// The page lies below the safe read-only offset: no thread writes it any more, and it may be flushed.
+    /// The page lies below the safe read-only offset: no slot's view lets it be written, and it may be flushed.
     Sealed,
     /// The page is flushed.
     Flushed,
-    /// The page lies below the closed offset: no thread reads it any more, and it may be cleaned.
+    /// The page lies below the closed offset: no slot's view lets it be read, and it may be cleaned.
     Closed,
     /// No page was entered, or the last one is freed.
     Free,

@@ -13,13 +13,13 @@ pub struct View {
 /// The six offsets of a log, each an address in words. Those of a core are each at most the next.
 #[derive(Clone, Copy, Debug, Default, PartialEq, Eq)]
 pub struct Six {
-    /// No thread's view reaches below it: frames below may be cleaned.
+    /// No slot's view lets it read or write below it: pages below may be cleaned.
     pub closed: u64,
     /// Pages below it are leaving memory.
     pub head: u64,
     /// All pages below it are flushed.
     pub flushed: u64,
-    /// No thread writes below it any more: pages below may be flushed.
+    /// No slot's view lets it write below it: pages below may be flushed.
     pub safe_read_only: u64,
     /// Writes below it are refused to whoever has seen it.
     pub read_only: u64,

@@ -5,7 +5,7 @@
 //! | [`one_thread`] | an engine in one thread: a page from its first record to its freed frame |
 //! | [`one_lock`] | a core under a lock of the author's own, with two threads |
 //! | [`four_threads`] | a domain with four threads, and a crew that flushes and frees pages behind them |
-//! | [`retired_row`] | an object of the author's own that is freed once no thread can see it |
+//! | [`retired_row`] | an object of the author's own that is freed once each slot that may have seen it moved on |
 //!
 //! Each `run` writes what its calls answered. docs/GUIDE.md walks through them.
 #![tactic(auto)]

@@ -4,7 +4,7 @@ use hl_counts::CountTable;
 use std::alloc::Global;
 use std::io::Write;
 
-/// A row that was unlinked, and is freed once no thread can see it.
+/// A row that was unlinked, and is freed once each slot that may have seen it has moved on.
 #[derive(Drop)]
 struct Retired {
     number: u64,

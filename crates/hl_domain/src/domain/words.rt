@@ -62,8 +62,8 @@ impl<E: Epochs + Drop, F: Task, P: Promise, L: Realm> Domain<E, F, P, L> {
         look::load(&self.words, self.params, pass, a)
     }
 
-    /// Loads the words of a page that is in flight into P places. Their order among other riders' stores isn't
-    /// known.
+    /// Loads the cells of a page into P places: a page in flight, for whoever has the job of its load. Their order
+    /// among other riders' stores isn't known.
     ///
     /// `Stranger` where the page is of another domain.
     pub fn copy_page(
@@ -84,7 +84,7 @@ impl<E: Epochs + Drop, F: Task, P: Promise, L: Realm> Domain<E, F, P, L> {
         sweep::copy_page(&self.words, self.params, self.stamp, job, rider, out)
     }
 
-    /// Stores 0 into all cells of a page that is being cleaned: its broom is swept then.
+    /// Stores 0 into all cells of the page of a broom, which is swept then.
     ///
     /// `Stranger` where the page is of another domain.
     pub fn sweep(&self, broom: &mut Broom, rider: &mut Rider<L>) -> Result<(), Fault>
