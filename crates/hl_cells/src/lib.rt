@@ -31,9 +31,9 @@
 //! the engine stood, the answer is the definitions' reply after that list, and the engine then stands at the list
 //! with the step, where it was accepted.
 //!
-//! No call after [`Engine::open`] has an answer for want of memory. The words, and the rows of the core, have exactly the
-//! room that opening made, and the row of taken actions has room for all that there can be: that is in the types. What
-//! a job does when its done runs it, memory or not, is the job's own.
+//! No call after [`Engine::open`] has an answer for want of memory. The words, and the rows of the core, have exactly
+//! the room that opening made, and the row of taken actions has room for all that there can be: that is in the types.
+//! What a job does when its done runs it, with memory or without, is the job's own.
 #![tactic(auto)]
 
 mod actions;

@@ -133,8 +133,8 @@ pub fn offsets_never_fall()
 
 /// The headline of each accepted list: an action is taken at most once, after every thread protected at its bump
 /// refreshed or left; no write lies below the safe read-only offset; no frame is reused while a view reaches its page
-/// (FASTER, HybridLog: eviction). Besides: views are bounded below by what is settled and closed, each record lies on one
-/// page, behind all before it, and from a page's flush take on its words stay. A thread is its slot here.
+/// (FASTER, HybridLog: eviction). Besides: views are bounded below by what is settled and closed, each record lies on
+/// one page, behind all before it, and from a page's flush take on its words stay. A thread is its slot here.
 pub fn headline()
     ensures { HeadlineHolds }
 {}
