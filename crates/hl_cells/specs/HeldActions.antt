@@ -1,5 +1,5 @@
 -- The taken actions that aren't done, each with its firing and its job.
-use Rattle.std.specs.Prelude.{◌≡◌, ℕ, ◌==◌, ◌≤◌, Bool, not, Option, Some, None, option_map, List, [], ◌∷◌, map, filter, find}
+use Rattle.std.specs.Prelude.{◌≡◌, ℕ, ◌==◌, Bool, not, Option, Some, None, option_map, List, [], ◌∷◌, map, filter, find}
 use Rattle.hl_model.specs.declared.action.Kind.{Kind}
 use Rattle.hl_model.specs.declared.action.Kind.TheVariants.{User}
 use Rattle.hl_model.specs.declared.step.Step.{Step}
@@ -51,8 +51,9 @@ undone_firings sizes A = filter (λ firing. not (is_finished firing.ticket A)) (
 unfoldable pub firing_at : Sizes → ℕ → List Step → Option FiringRecord
 firing_at sizes ticket A = find (is_of ticket) (firings sizes A)
 
--- a row holds the actions that are taken and not done after the list A: their firings, their jobs by their tags; and it has a place for each action of the drain list
+-- a row holds the actions that are taken and not done after the list A: their firings, and their jobs by their tags;
+-- it has exactly a place for each action of the drain list
 pub record Holds {F : Type 0} (sizes : Sizes) (A : List Step) (held : Row F) : Type 0 where
   pub firings_is : map (λ ready. ready.firing) held.actions ≡ undone_firings sizes A
   pub jobs_is : map tag_held held.actions ≡ map (λ w. tag_of w.kind) (taken A)
-  pub room : sizes.drain ≤ held.room
+  pub room : held.room ≡ sizes.drain

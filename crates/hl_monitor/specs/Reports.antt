@@ -25,7 +25,7 @@ is_label label = nat_le (length label) 16 && list_all is_ascii label
 abbrev pub lines_of : List (Bor (List ℕ) × ℕ) → List ℕ
 lines_of lines = flat_map line_of (map (λ line. (line.0.now, line.1)) lines)
 
--- the labels in order, each with its number; last stand the accepted steps, and how many of them were cut
+-- the labels in order with their numbers; last stand the accepted steps since the last cut, and those cut
 abbrev pub lines : Snapshot → ℕ → ℕ → List (List ℕ × ℕ)
 lines now steps cut =
     (codes "epoch", now.epoch)
