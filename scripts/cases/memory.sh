@@ -61,3 +61,39 @@ refused_at_later_steps() {
 }
 
 check "memory refused at a later step by slow" refused_at_later_steps
+
+# How many bytes of address space the program has at its first read.
+opened_size() {
+    coproc talk { exec "$program" run > "$room/text"; }
+    local pid="$talk_PID" to="${talk[1]}" turn
+    for turn in {1..1000}; do
+        ! awaits_input "$pid" || break
+        sleep 0.01
+    done
+    awk '$1 == "VmSize:" { print $2 * 1024 }' "/proc/$pid/status"
+    exec {to}>&-
+    wait "$pid"
+}
+
+# A race of one rider and one round within ever more pages, by one page each time as long as its words are opened, and
+# then, since a thread's stack has 2,064, by so many that each stack is refused often: it ends with status 1 and the
+# fault's line, and at last with its own line.
+race_within_ever_more_pages() {
+    local held more status
+    held="$(opened_size)"
+    for ((more = 0; more < 100000; more += more < 700 ? 1 : 131)); do
+        status=0
+        GLIBC_TUNABLES=glibc.malloc.mmap_threshold=0 prlimit --as="$((held + more * 4096))" \
+            "$program" race 1 1 > "$room/text" 2> "$room/errors" || status=$?
+        [ "$status" != 0 ] || break
+        if [ "$status" != 1 ] || [ -s "$room/text" ] || [ "$(cat "$room/errors")" != "fault 29 OutOfMemory" ]; then
+            echo "with $more pages more it ended with status $status"
+            cat "$room/text" "$room/errors"
+            return 1
+        fi
+    done
+    [ "$more" -gt 700 ] || { echo "only $more pages were refused"; return 1; }
+    [ "$(cat "$room/text")" = "race 1 1 ok" ]
+}
+
+check "memory refused in a race" race_within_ever_more_pages

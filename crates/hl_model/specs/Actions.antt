@@ -1,4 +1,5 @@
--- The drain list, looked up in one flat list of steps (FASTER's actions, stored by a bump of the epoch).
+-- The drain list, looked up in one flat list of steps (FASTER's trigger actions, section on epoch
+-- protection).
 use Rattle.std.specs.Prelude.{ℕ, ◌-◌, ◌==◌, Bool, true, false, ◌&&◌, not, Option, List, [], ◌∷◌, take, drop, length, filter, find, count_by}
 use Rattle.std.specs.List.{list_any}
 use Rattle.hl_model.specs.declared.action.Kind.TheVariants.{User, Settle as Settling, Close as Closing}
@@ -31,13 +32,15 @@ abbrev pub finishes : ℕ → Step → Bool
 finishes c (Done ticket) = ticket == c
 finishes c _ = false
 
--- how many bumps of any kind, takes and dones
+-- how many bumps of any kind
 unfoldable pub bumps : List Step → ℕ
 bumps A = count_by is_bump A
 
+-- how many takes
 unfoldable pub takes : List Step → ℕ
 takes A = count_by is_take A
 
+-- how many dones
 unfoldable pub dones : List Step → ℕ
 dones A = count_by is_done A
 

@@ -192,10 +192,6 @@ good_past b K (s ∷ L) = good_past b (extended_from b K s) L
 unfoldable pub good_from : Base → List Step → List Step
 good_from b L = good_past b [] L
 
--- a list of which each step is accepted from a base
-abbrev pub IsAcceptedFrom : Base → List Step → Type 0
-IsAcceptedFrom b L = good_from b L ≡ L
-
 -- the replies to the steps of a list that goes on from a base, in order
 unfoldable pub replies_from : Base → List Step → List (Result Reply Fault)
 replies_from b L = gather (λ before s. reply_after b (good_from b before) s ∷ []) L

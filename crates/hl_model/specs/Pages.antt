@@ -140,6 +140,6 @@ flushes_below _ = 0
 unfoldable pub flushed_run : Sizes → List Step → ℕ
 flushed_run sizes A = prefix_len (λ p. is_flushed sizes p A) (range_with_len 0 (greatest flushes_below A))
 
--- the flushed offset (FASTER's flushed-until address)
+-- the flushed offset (FASTER's flushed-until address, section on the HybridLog)
 abbrev pub flushed : Sizes → List Step → ℕ
 flushed sizes A = sizes.page * flushed_run sizes A

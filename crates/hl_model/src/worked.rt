@@ -2,7 +2,7 @@
 #![tactic(auto, unfolding(crate::proofs::OnLiterals::on_literals))]
 
 ghost use Rattle.hl_model.specs.Worked.{FirstAction, NobodyProtected, FullDrainList, TwoThreads, BothWait, BareBumps, TicketsRunAhead};
-ghost use Rattle.hl_model.specs.WorkedBases.{CutDrainList, CutPages};
+ghost use Rattle.hl_model.specs.WorkedBases.{CutDrainList, CutPages, CutLook, CutBareBump, FullWindow};
 ghost use Rattle.hl_model.specs.WorkedBorders.{EmptyLog, AtBorders, LastAddress};
 ghost use Rattle.hl_model.specs.WorkedPages.{FuzzyRegion, SwappedDones, Looks, SkippedWord, RaisesAndShifts, OutOfOrderFlush, FailedFlush, StaleReader, WordsOfAPage};
 
@@ -109,4 +109,19 @@ pub fn cut_drain_list()
 /// A list cut where one page is in flight and another is being cleaned, and what follows.
 pub fn cut_pages()
     ensures { CutPages }
+{}
+
+/// A list cut after a look, and looks that follow.
+pub fn cut_look()
+    ensures { CutLook }
+{}
+
+/// A list cut after a bare bump behind a full drain list, and what follows.
+pub fn cut_bare_bump()
+    ensures { CutBareBump }
+{}
+
+/// The window is full at 4,096 epochs that aren't safe; the last epoch and the drain list are tried before it.
+pub fn full_window()
+    ensures { FullWindow }
 {}
