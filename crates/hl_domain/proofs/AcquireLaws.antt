@@ -1,89 +1,68 @@
--- What an acquire makes of a keeper's stamps.
-use Rattle.std.proofs.Common.{◌≡◌, ℕ, ◌+◌, ◌^◌, ◌<◌, ◌≤◌, cond, leb, is_none, List, [], ◌∷◌, ◌++◌, length, sym, ap, ap₂, ◌∙◌, subst, arith}
+-- What an acquire makes of a keeper and of its stamps.
+use Rattle.std.proofs.Common.{◌≡◌, ℕ, ◌+◌, ◌^◌, ◌<◌, ◌≤◌, leb, List, [], ◌∷◌, ◌++◌, length, set, refl, sym, ap, ap₂, ◌∙◌, arith}
 use Rattle.std.specs.Prelude.{None, Ok}
 use Rattle.std.proofs.lemmas.Bool.{leb-false}
-use Rattle.std.proofs.lemmas.List.{length_push}
 use Rattle.hl_model.specs.declared.fault.Fault.TheVariants.{NoSlot, Occupied}
-use Rattle.hl_model.specs.declared.step.Reply.{Reply}
+use Rattle.hl_model.specs.declared.slot.Slot.{Slot}
 use Rattle.hl_model.specs.declared.step.Reply.TheVariants.{Entered}
 use Rattle.hl_model.specs.declared.step.Step.{Step}
 use Rattle.hl_model.specs.declared.step.Step.TheVariants.{Acquire}
 use Rattle.hl_model.specs.declared.view.View.{View}
-use Rattle.hl_model.specs.Sizes.{Sizes}
 use Rattle.hl_model.specs.Epochs.{is_protected, epoch_of}
 use Rattle.hl_model.specs.Views.{view_of}
-use Rattle.hl_model.specs.Replies.{fault_of, answer_of, unless_fault}
+use Rattle.hl_model.specs.Replies.{fault_of, unless_fault}
 use Rattle.hl_model.proofs.DrainLaws.{two_faults}
-use Rattle.hl_model.proofs.NoFaultLaws.{or_fault-none, unless_ok}
+use Rattle.hl_action.specs.Jobs.{KeptRecord}
+use Rattle.hl_words.specs.declared.view.OffsetWords.{OffsetWords}
 use Rattle.hl_words.specs.States.{RiderState}
+use Rattle.hl_core.specs.Standing.{State}
+use Rattle.hl_core.specs.Steps.{Stepped, entered_reply}
 use Rattle.hl_domain.specs.Passes.{PassRecord, new_pass, with_share}
-use Rattle.hl_domain.specs.Keepers.{KeeperState, KeeperStands}
+use Rattle.hl_domain.specs.Keepers.{job_tag, KeeperState, KeeperStands}
+use Rattle.hl_domain.specs.Stamps.{acquires_in}
 use Rattle.hl_domain.specs.Calls.{room_fault, step_fault, made, Replied}
-use Rattle.hl_domain.proofs.KeeperLaws.{moved}
+use Rattle.hl_domain.proofs.KeeperLaws.{moved, Stamped}
+use Rattle.hl_domain.proofs.StampLaws.{acquires_in-le, acquires_in-acquire, slot_stamps-acquire, length-slot_stamps}
+use Rattle.hl_domain.proofs.StepLaws.{core_made, core_told, quiet}
 
-module _ {F : Type 0} where
-  -- a keeper with other stamps
-  abbrev pub restamped : KeeperState F → List ℕ → ℕ → KeeperState F
-  restamped keeper stamps acquired = moved keeper keeper.core keeper.journal stamps acquired keeper.offsets keeper.total
+module _ {F : Type 0} (keeper : KeeperState F) (A : List Step) (t : ℕ) (st : KeeperStands keeper A) where
+  -- no stamp is too great
+  pub acquire_counts : (keeper.acquired ≤ 2 ^ 62) × (keeper.stamp ≤ 2 ^ 62)
+  acquire_counts = (omega (arith, st.acquired_is, acquires_in-le A, st.total_is, st.total_most), st.stamp_most)
 
-  restamped_stands : (keeper : KeeperState F) (A : List Step) (stamps : List ℕ) (acquired : ℕ) → KeeperStands keeper A → length stamps ≡ length keeper.stamps → acquired ≤ length A → KeeperStands (restamped keeper stamps acquired) A
-  restamped_stands keeper A stamps acquired st l a = record {
-    core_stands = st.core_stands;
-    steps_cut = st.steps_cut;
-    history = st.history;
-    base_is = st.base_is;
-    cut_is = st.cut_is;
-    read_only_is = st.read_only_is;
-    head_is = st.head_is;
-    total_is = st.total_is;
-    total_most = st.total_most;
-    journal_most = st.journal_most;
-    stamps_is = l ∙ st.stamps_is;
-    stamp_most = st.stamp_most;
-    acquired_most = a;
-  }
+  -- the slot has a place in the row
+  pub acquire_place : fault_of keeper.core.sizes A (Acquire t) ≡ None → t < length keeper.stamps
+  acquire_place fine =
+      let n : ℕ = keeper.core.sizes.slots in
+      let slot : t < n = leb-false n t (two_faults (leb n t) (is_protected t A) NoSlot Occupied fine).0 in
+      omega (arith, slot, ap length st.stamps_are, length-slot_stamps n keeper.stamp A)
 
-  -- the list with the step
-  accepted_list : (A : List Step) (s : Step) (keeper : KeeperState F) → step_fault keeper A s ≡ None → made (step_fault keeper A s) A s ≡ A ++ s ∷ []
-  accepted_list A s keeper none = ap (λ z. cond (is_none z) (A ++ s ∷ []) A) none
+  -- the count and the row then
+  acquire_stamps : (stamps : List ℕ) (acquired : ℕ) → acquired ≡ keeper.acquired + 1 → stamps ≡ set keeper.stamps t (keeper.stamp + acquired) → Stamped keeper (A ++ Acquire t ∷ []) stamps acquired
+  acquire_stamps stamps acquired a s =
+      let count : acquired ≡ acquires_in (A ++ Acquire t ∷ []) = a ∙ ap (λ n. n + 1) st.acquired_is ∙ sym (acquires_in-acquire A t) in record {
+        count = count;
+        row = s ∙ ap₂ (λ (row : List ℕ) (n : ℕ). set row t (keeper.stamp + n)) st.stamps_are count ∙ sym (slot_stamps-acquire keeper.core.sizes.slots keeper.stamp A t);
+      }
 
-  module _ (old mid : KeeperState F) (A : List Step) (t : ℕ) (r : Reply) (st : KeeperStands old A) (h : Replied (step_fault old A (Acquire t)) (answer_of old.core.sizes A (A ++ Acquire t ∷ []) (Acquire t)) (made (step_fault old A (Acquire t)) A (Acquire t)) mid (Ok r)) (same : mid.acquired ≡ old.acquired) (sizes : mid.core.sizes ≡ old.core.sizes) where
-    none : step_fault old A (Acquire t) ≡ None
-    none = (unless_ok (step_fault old A (Acquire t)) r (answer_of old.core.sizes A (A ++ Acquire t ∷ []) (Acquire t)) h.reply).0
+  -- its pass has the slot's stamp and view
+  pub acquire_made : (u : Unit {0}) (core : State (KeptRecord F)) (slot : Slot) (journal : List Step) (stamps : List ℕ) (acquired : ℕ) (offsets : OffsetWords) (total : ℕ) (rider after : RiderState) (pass : PassRecord) → Ok u ≡ unless_fault (room_fault keeper 1) (tt {0}) → Stepped job_tag keeper.core A (Acquire t) core (Ok (entered_reply slot))
+      → journal ≡ keeper.journal ++ Acquire t ∷ [] → acquired ≡ keeper.acquired + 1 → stamps ≡ set keeper.stamps t (keeper.stamp + acquired) → offsets ≡ keeper.offsets → total ≡ keeper.total + 1 → after ≡ with_share 1 rider → pass ≡ new_pass t (keeper.stamp + acquired) slot.view after
+      → Replied (step_fault keeper A (Acquire t)) (new_pass t (keeper.stamp + acquires_in (A ++ Acquire t ∷ [])) (view_of keeper.core.sizes t (A ++ Acquire t ∷ [])) (with_share 1 rider)) (made (step_fault keeper A (Acquire t)) A (Acquire t)) (moved keeper core journal stamps acquired offsets total) (Ok pass)
+  acquire_made u core slot journal stamps acquired offsets total rider after pass room stepped j a s o n r p =
+      core_made keeper A (Acquire t) u core (entered_reply slot) pass _ journal stamps acquired offsets total st room stepped (p ∙ whole) j stamped (quiet keeper A (Acquire t) offsets st refl refl o) n
+    where
+      B : List Step
+      B = A ++ Acquire t ∷ []
 
-    there : KeeperStands mid (A ++ Acquire t ∷ [])
-    there = subst (λ (z : List Step). KeeperStands mid z) (accepted_list A (Acquire t) old none) h.standing
+      stamped : Stamped keeper B stamps acquired
+      stamped = acquire_stamps stamps acquired a s
 
-    more : mid.acquired + 1 ≤ length (A ++ Acquire t ∷ [])
-    more = omega (arith, same, st.acquired_most, length_push A (Acquire t))
+      of_reply : (e d : ℕ) (v w : View) → Entered e v ≡ Entered d w → v ≡ w
+      of_reply e d v w h = cc
 
-    -- no sum of stamps is too great
-    pub acquire_counts : (mid.acquired + 1 ≤ 2 ^ 62) × (mid.stamp ≤ 2 ^ 62)
-    acquire_counts = (omega (arith, more, there.total_is, there.total_most), there.stamp_most)
+      view : slot.view ≡ view_of keeper.core.sizes t B
+      view = of_reply slot.epoch (epoch_of t B) slot.view (view_of keeper.core.sizes t B) (core_told keeper A (Acquire t) core (entered_reply slot) stepped).1
 
-    -- the slot has a stamp
-    pub acquire_place : t < length mid.stamps
-    unfolding step_fault
-    acquire_place =
-        let fine = (or_fault-none (room_fault old 1) (fault_of old.core.sizes A (Acquire t)) none).1 in
-        let slot : t < old.core.sizes.slots = leb-false old.core.sizes.slots t (two_faults (leb old.core.sizes.slots t) (is_protected t A) NoSlot Occupied fine).0 in
-        omega (arith, slot, st.stamps_is, there.stamps_is, ap (λ (z : Sizes). z.slots) sizes)
-
-    pub acquire_made : (e : ℕ) (v : View) (stamps : List ℕ) (acquired stamp : ℕ) (rider after : RiderState) (pass : PassRecord) → r ≡ Entered e v → mid.stamp ≡ old.stamp → length stamps ≡ length mid.stamps → acquired ≡ mid.acquired + 1 → stamp ≡ mid.stamp + acquired → pass ≡ new_pass t stamp v after → after ≡ with_share 1 rider
-        → Replied (step_fault old A (Acquire t)) (new_pass t (old.stamp + old.acquired + 1) (view_of old.core.sizes t (A ++ Acquire t ∷ [])) (with_share 1 rider)) (made (step_fault old A (Acquire t)) A (Acquire t)) (restamped mid stamps acquired) (Ok pass)
-    acquire_made e v stamps acquired stamp rider after pass is stays l a s p ri = record {
-      reply = ap (λ z. Ok z) (p ∙ whole stamp v after number view ri) ∙ sym (ap (λ z. unless_fault z (new_pass t (old.stamp + old.acquired + 1) (view_of old.core.sizes t (A ++ Acquire t ∷ [])) (with_share 1 rider))) none);
-      standing = subst (λ (z : List Step). KeeperStands (restamped mid stamps acquired) z) (sym (accepted_list A (Acquire t) old none)) (restamped_stands mid (A ++ Acquire t ∷ []) stamps acquired there l (omega (arith, a, more)));
-    }
-      where
-        of_reply : (e : ℕ) (v : View) (d : ℕ) (w : View) → Entered e v ≡ Entered d w → v ≡ w
-        of_reply e v d w h = cc
-
-        view : v ≡ view_of old.core.sizes t (A ++ Acquire t ∷ [])
-        view = of_reply e v (epoch_of t (A ++ Acquire t ∷ [])) (view_of old.core.sizes t (A ++ Acquire t ∷ [])) (sym is ∙ (unless_ok (step_fault old A (Acquire t)) r (answer_of old.core.sizes A (A ++ Acquire t ∷ []) (Acquire t)) h.reply).1)
-
-        number : stamp ≡ old.stamp + old.acquired + 1
-        number = omega (arith, s, a, stays, same)
-
-        whole : (x : ℕ) (y : View) (z : RiderState) → x ≡ old.stamp + old.acquired + 1 → y ≡ view_of old.core.sizes t (A ++ Acquire t ∷ []) → z ≡ with_share 1 rider → new_pass t x y z ≡ new_pass t (old.stamp + old.acquired + 1) (view_of old.core.sizes t (A ++ Acquire t ∷ [])) (with_share 1 rider)
-        whole x y z a b c = ap₂ (λ (m : ℕ) (w : View). new_pass t m w z) a b ∙ ap (λ q. new_pass t (old.stamp + old.acquired + 1) (view_of old.core.sizes t (A ++ Acquire t ∷ [])) q) c
+      whole : new_pass t (keeper.stamp + acquired) slot.view after ≡ new_pass t (keeper.stamp + acquires_in B) (view_of keeper.core.sizes t B) (with_share 1 rider)
+      whole = ap₂ (λ (m : ℕ) (w : View). new_pass t (keeper.stamp + m) w after) stamped.count view ∙ ap (λ z. new_pass t (keeper.stamp + acquires_in B) (view_of keeper.core.sizes t B) z) r

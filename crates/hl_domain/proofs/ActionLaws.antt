@@ -1,5 +1,5 @@
 -- What a keeper's bump and take answer.
-use Rattle.std.proofs.Common.{◌≡◌, ℕ, List, [], ◌∷◌, ◌++◌, refl, ap, ◌∙◌}
+use Rattle.std.proofs.Common.{◌≡◌, ℕ, false, List, [], ◌∷◌, ◌++◌, refl, ap, ◌∙◌}
 use Rattle.std.specs.Prelude.{Option, Ok}
 use Rattle.hl_model.specs.declared.step.Reply.TheVariants.{Ticket, Taken as TakenReply}
 use Rattle.hl_model.specs.declared.step.Step.{Step}
@@ -18,6 +18,7 @@ use Rattle.hl_core.specs.Standing.{State}
 use Rattle.hl_core.specs.Steps.{Stepped, asking}
 use Rattle.hl_core.proofs.TakeStands.{safe_is}
 use Rattle.hl_domain.specs.Keepers.{job_tag, KeeperState, KeeperStands}
+use Rattle.hl_domain.specs.Stamps.{is_acquire}
 use Rattle.hl_domain.specs.Taking.{TakenFrom, taken_from}
 use Rattle.hl_domain.proofs.StepLaws.{core_told}
 
@@ -26,6 +27,12 @@ pub asking_quiet : {J : Type 0} (tag : J → ℕ) (ask : Ask J) → (raised_to (
 asking_quiet tag Settle = (refl, refl)
 asking_quiet tag Close = (refl, refl)
 asking_quiet tag (User job) = (refl, refl)
+
+-- is no acquire
+pub asking_acquires : {J : Type 0} (tag : J → ℕ) (ask : Ask J) → is_acquire (asking tag ask) ≡ false
+asking_acquires tag Settle = refl
+asking_acquires tag Close = refl
+asking_acquires tag (User job) = refl
 
 -- and is answered with its ticket
 asking_answer : {J : Type 0} (tag : J → ℕ) (ask : Ask J) (sizes : Sizes) (A B : List Step) → answer_of sizes A B (asking tag ask) ≡ Ticket (bumps B)

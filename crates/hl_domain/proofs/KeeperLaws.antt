@@ -1,5 +1,5 @@
 -- Where a keeper stands: when it was opened, and after steps that its core accepted.
-use Rattle.std.proofs.Common.{◌≡◌, ℕ, ◌+◌, ◌≤◌, Bool, true, false, cond, ltb, List, [], ◌++◌, length, refl, sym, ap, ◌∙◌, arith, append_assoc, append-nil, length-append}
+use Rattle.std.proofs.Common.{◌≡◌, ℕ, ◌+◌, ◌≤◌, Bool, true, false, cond, ltb, List, [], ◌∷◌, ◌++◌, length, replicate, refl, sym, ap, ◌∙◌, arith, append_assoc, append-nil, length-append}
 use Rattle.std.specs.Prelude.{◌||◌, Some, None, Ok, Err}
 use Rattle.std.proofs.lemmas.Bool.{ltb-false, or_parts}
 use Rattle.hl_model.specs.declared.fault.Fault.TheVariants.{JournalFull}
@@ -16,11 +16,13 @@ use Rattle.hl_words.specs.States.{MasterState}
 use Rattle.hl_words.specs.Views.{newest, no_offsets}
 use Rattle.hl_core.specs.Standing.{State, Stands}
 use Rattle.hl_domain.specs.Keepers.{job_tag, KeeperState, KeeperStands, steps_most}
+use Rattle.hl_domain.specs.Stamps.{is_acquire, acquires_in, slot_stamps}
 use Rattle.hl_domain.specs.Calls.{room_fault}
+use Rattle.hl_domain.proofs.StampLaws.{acquires_in-nil, acquires_in-stay, slot_stamps-nil, slot_stamps-stay}
 
 module _ {F : Type 0} where
   -- a keeper that was just opened
-  pub opened : (core : State (KeptRecord F)) (base : Base) (journal : List Step) (limit : ℕ) (stamps : List ℕ) (stamp : ℕ) (master : MasterState) (sizes : Sizes) → Stands job_tag core [] → core.sizes ≡ sizes → base ≡ base_of sizes [] → journal ≡ [] → length stamps ≡ sizes.slots → stamp ≤ steps_most → master ≡ record { offsets = no_offsets; total = 0 }
+  pub opened : (core : State (KeptRecord F)) (base : Base) (journal : List Step) (limit : ℕ) (stamps : List ℕ) (stamp : ℕ) (master : MasterState) (sizes : Sizes) → Stands job_tag core [] → core.sizes ≡ sizes → base ≡ base_of sizes [] → journal ≡ [] → stamps ≡ replicate sizes.slots 0 → stamp ≤ steps_most → master ≡ record { offsets = no_offsets; total = 0 }
       → KeeperStands {F = F} (record { core = core; base = base; cut = 0; journal = journal; limit = limit; stamps = stamps; stamp = stamp; acquired = 0; offsets = master.offsets; total = master.total }) []
   opened core base journal limit stamps stamp master sizes st same b j s most m = record {
     core_stands = st;
@@ -33,9 +35,9 @@ module _ {F : Type 0} where
     total_is = ap (λ (z : MasterState). z.total) m;
     total_most = omega (arith, ap (λ (z : MasterState). z.total) m);
     journal_most = omega (arith, ap length j);
-    stamps_is = s ∙ ap (λ (z : Sizes). z.slots) (sym same);
+    acquired_is = sym acquires_in-nil;
+    stamps_are = s ∙ sym (slot_stamps-nil sizes.slots stamp) ∙ ap (λ (z : Sizes). slot_stamps z.slots stamp []) (sym same);
     stamp_most = most;
-    acquired_most = omega arith;
   }
 
   -- the steps that a keeper counts in all
@@ -54,12 +56,24 @@ module _ {F : Type 0} where
   abbrev pub moved : KeeperState F → State (KeptRecord F) → List Step → List ℕ → ℕ → OffsetWords → ℕ → KeeperState F
   moved old core journal stamps acquired offsets total = record { core = core; base = old.base; cut = old.cut; journal = journal; limit = old.limit; stamps = stamps; stamp = old.stamp; acquired = acquired; offsets = offsets; total = total }
 
+  -- the count of acquires and the stamps are those of a list
+  pub record Stamped (keeper : KeeperState F) (list : List Step) (stamps : List ℕ) (acquired : ℕ) : Type 0 where
+    pub count : acquired ≡ acquires_in list
+    pub row : stamps ≡ slot_stamps keeper.core.sizes.slots keeper.stamp list
+
+  -- a step that is no acquire leaves them
+  pub unstamped : (keeper : KeeperState F) (A : List Step) (s : Step) → KeeperStands keeper A → is_acquire s ≡ false → Stamped keeper (A ++ s ∷ []) keeper.stamps keeper.acquired
+  unstamped keeper A s st h = record {
+    count = st.acquired_is ∙ sym (acquires_in-stay A s h);
+    row = st.stamps_are ∙ sym (slot_stamps-stay keeper.core.sizes.slots keeper.stamp A s h);
+  }
+
   -- it stands where its core does
   pub grown : (old : KeeperState F) (A xs : List Step) (core : State (KeptRecord F)) (journal : List Step) (stamps : List ℕ) (acquired : ℕ) (offsets : OffsetWords) (total : ℕ) → KeeperStands old A → room_fault old (length xs) ≡ None
-      → Stands job_tag core (A ++ xs) → core.sizes ≡ old.core.sizes → journal ≡ old.journal ++ xs → length stamps ≡ length old.stamps → acquired ≤ old.acquired + length xs
+      → Stands job_tag core (A ++ xs) → core.sizes ≡ old.core.sizes → journal ≡ old.journal ++ xs → Stamped old (A ++ xs) stamps acquired
       → newest offsets.read_only ≡ read_only (A ++ xs) → newest offsets.head ≡ head (A ++ xs) → total ≡ old.total + length xs
       → KeeperStands (moved old core journal stamps acquired offsets total) (A ++ xs)
-  grown old A xs core journal stamps acquired offsets total st room core_st same j s acq r h t =
+  grown old A xs core journal stamps acquired offsets total st room core_st same j stamped r h t =
       let most = room-none old (length xs) room in
       let len : length journal ≡ length old.journal + length xs = ap length j ∙ length-append old.journal xs in record {
         core_stands = core_st;
@@ -72,9 +86,9 @@ module _ {F : Type 0} where
         total_is = omega (arith, t, st.total_is, length-append A xs);
         total_most = omega (arith, t, most.1, counted old A st);
         journal_most = omega (arith, len, most.0);
-        stamps_is = s ∙ st.stamps_is ∙ ap (λ (z : Sizes). z.slots) (sym same);
+        acquired_is = stamped.count;
+        stamps_are = stamped.row ∙ ap (λ (z : Sizes). slot_stamps z.slots old.stamp (A ++ xs)) (sym same);
         stamp_most = st.stamp_most;
-        acquired_most = omega (arith, acq, st.acquired_most, length-append A xs);
       }
 
   -- whether there is room
@@ -105,7 +119,7 @@ module _ {F : Type 0} where
     total_is = st.total_is;
     total_most = st.total_most;
     journal_most = omega (arith, ap length j);
-    stamps_is = st.stamps_is;
+    acquired_is = st.acquired_is;
+    stamps_are = st.stamps_are;
     stamp_most = st.stamp_most;
-    acquired_most = st.acquired_most;
   }

@@ -1,5 +1,6 @@
 pub mod TouchLaws
 pub mod PassLaws
+pub mod StampLaws
 pub mod KeeperLaws
 pub mod CallLaws
 pub mod DomainLaws

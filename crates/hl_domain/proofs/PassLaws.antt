@@ -12,9 +12,9 @@ use Rattle.hl_model.proofs.NoFaultLaws.{or_fault-none, later_fault}
 use Rattle.hl_words.specs.declared.which.Which.TheVariants.{ReadOnly, Head}
 use Rattle.hl_words.specs.declared.view.RiderView.{RiderView}
 use Rattle.hl_words.specs.States.{RiderState}
-use Rattle.hl_words.specs.Views.{newest, stored, loaded, with_loaded}
+use Rattle.hl_words.specs.Views.{newest, greatest_of, stored, loaded, with_loaded}
 use Rattle.hl_domain.specs.Touches.{view_past, view_after, IsTouch, AreTouches}
-use Rattle.hl_domain.specs.Passes.{PassRecord, seen, touches_most, touch_fault, tail_fault, store_fault, load_fault, cell_at, with_store, with_load, look_made, with_look}
+use Rattle.hl_domain.specs.Passes.{PassRecord, seen, touches_most, touch_fault, tail_fault, store_fault, load_fault, cell_at, with_store, with_load, look_made, with_look, LooksOn}
 use Rattle.hl_domain.proofs.TouchLaws.{touches_more}
 
 -- a pass with other touches, and another rider
@@ -137,6 +137,15 @@ look_made-none p v r h b is e f =
 pub loaded_both : (r h : ℕ) (before first second : RiderState) → first ≡ record { view = with_loaded ReadOnly r before.view; share = before.share } → second ≡ record { view = with_loaded Head h first.view; share = first.share }
     → second ≡ record { view = with_loaded Head h (with_loaded ReadOnly r before.view); share = before.share }
 loaded_both r h before first second a b = b ∙ ap (λ (q : RiderState). rider_with (with_loaded Head h q.view) q) a
+
+-- and neither is below any that it had loaded
+pub looks_on : (r h : ℕ) (old new : PassRecord) (first second : RiderState) → first ≡ record { view = with_loaded ReadOnly r old.rider.view; share = old.rider.share } → second ≡ record { view = with_loaded Head h first.view; share = first.share } → new.rider ≡ second
+    → greatest_of ReadOnly old.rider.view.offsets ≤ r → greatest_of Head first.view.offsets ≤ h → LooksOn old new
+looks_on r h old new first second a b c low high =
+    let both : new.rider ≡ record { view = with_loaded Head h (with_loaded ReadOnly r old.rider.view); share = old.rider.share } = c ∙ loaded_both r h old.rider first second a b in record {
+      read_only = omega (arith, low, ap (λ (q : RiderState). newest q.view.offsets.read_only) both);
+      head = omega (arith, high, ap (λ (q : RiderState). greatest_of Head q.view.offsets) a, ap (λ (q : RiderState). newest q.view.offsets.head) both);
+    }
 
 -- the pass after a look
 pub look_is : (p : PassRecord) (r h : ℕ) (rider : RiderState) (xs : List Step) → touch_fault p ≡ None → rider ≡ record { view = with_loaded Head h (with_loaded ReadOnly r p.rider.view); share = p.rider.share } → xs ≡ p.touches ++ look_made p.slot (seen p) r h

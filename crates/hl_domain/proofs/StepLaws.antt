@@ -18,7 +18,7 @@ use Rattle.hl_core.specs.Steps.{Stepped}
 use Rattle.hl_domain.specs.Keepers.{job_tag, KeeperState, KeeperStands, IsKeeper, steps_most}
 use Rattle.hl_domain.specs.Calls.{room_fault, origin_fault, step_fault, end_fault, made, Replied}
 use Rattle.hl_domain.proofs.EnterLaws.{stepped_on}
-use Rattle.hl_domain.proofs.KeeperLaws.{moved, grown, room-none, counted}
+use Rattle.hl_domain.proofs.KeeperLaws.{moved, Stamped, grown, room-none, counted}
 
 -- the offset words are those of the list with the step
 pub record Follow (A : List Step) (s : Step) (offsets : OffsetWords) : Type 0 where
@@ -66,9 +66,9 @@ module _ {F : Type 0} where
 
   -- a keeper that accepted one step
   pub core_made : {X : Type 0} (keeper : KeeperState F) (A : List Step) (s : Step) (u : Unit {0}) (core : State (KeptRecord F)) (r : Reply) (v x : X) (journal : List Step) (stamps : List ℕ) (acquired : ℕ) (offsets : OffsetWords) (total : ℕ)
-      → KeeperStands keeper A → Ok u ≡ unless_fault (room_fault keeper 1) (tt {0}) → Stepped job_tag keeper.core A s core (Ok r) → v ≡ x → journal ≡ keeper.journal ++ s ∷ [] → length stamps ≡ length keeper.stamps → acquired ≤ keeper.acquired + 1 → Follow A s offsets → total ≡ keeper.total + 1
+      → KeeperStands keeper A → Ok u ≡ unless_fault (room_fault keeper 1) (tt {0}) → Stepped job_tag keeper.core A s core (Ok r) → v ≡ x → journal ≡ keeper.journal ++ s ∷ [] → Stamped keeper (A ++ s ∷ []) stamps acquired → Follow A s offsets → total ≡ keeper.total + 1
       → Replied (step_fault keeper A s) x (made (step_fault keeper A s) A s) (moved keeper core journal stamps acquired offsets total) (Ok v)
-  core_made keeper A s u core r v x journal stamps acquired offsets total st room stepped e j l a follow t = record {
+  core_made keeper A s u core r v x journal stamps acquired offsets total st room stepped e j stamped follow t = record {
     reply = ap (λ z. Ok z) e ∙ sym (ap (λ z. unless_fault z x) none);
     standing = subst (λ (z : List Step). KeeperStands (moved keeper core journal stamps acquired offsets total) z) (sym (ap (λ z. cond (is_none z) (A ++ s ∷ []) A) none)) stands;
   }
@@ -80,7 +80,7 @@ module _ {F : Type 0} where
       none = step_fits keeper A s u room ∙ on.0
 
       stands : KeeperStands (moved keeper core journal stamps acquired offsets total) (A ++ s ∷ [])
-      stands = grown keeper A (s ∷ []) core journal stamps acquired offsets total st (unless_ok (room_fault keeper 1) u (tt {0}) room).0 on.2 stepped.sizes j l a follow.read_only_is follow.head_is t
+      stands = grown keeper A (s ∷ []) core journal stamps acquired offsets total st (unless_ok (room_fault keeper 1) u (tt {0}) room).0 on.2 stepped.sizes j stamped follow.read_only_is follow.head_is t
 
   -- what was answered
   pub core_told : (keeper : KeeperState F) (A : List Step) (s : Step) (core : State (KeptRecord F)) (r : Reply) → Stepped job_tag keeper.core A s core (Ok r) → (fault_of keeper.core.sizes A s ≡ None) × (r ≡ answer_of keeper.core.sizes A (A ++ s ∷ []) s)

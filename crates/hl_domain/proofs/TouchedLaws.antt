@@ -1,5 +1,5 @@
 -- A pass's touches and its own step behind them, made by a keeper.
-use Rattle.std.proofs.Common.{◌≡◌, ℕ, ◌+◌, ◌^◌, ◌<◌, ◌≤◌, true, cond, is_none, List, [], ◌∷◌, ◌++◌, length, get_or, refl, sym, ap, ◌∙◌, subst, arith, append_assoc}
+use Rattle.std.proofs.Common.{◌≡◌, ℕ, ◌+◌, ◌^◌, ◌<◌, ◌≤◌, true, false, cond, is_none, List, [], ◌∷◌, ◌++◌, length, get_or, refl, sym, ap, ◌∙◌, subst, arith, append_assoc}
 use Rattle.std.specs.Prelude.{Option, Some, None, Ok, Err}
 use Rattle.std.proofs.lemmas.List.{length_push}
 use Rattle.hl_model.specs.declared.fault.Fault.{Fault}
@@ -23,9 +23,11 @@ use Rattle.hl_domain.specs.Passes.{PassRecord}
 use Rattle.hl_domain.specs.Keepers.{job_tag, KeeperState, KeeperStands, IsKeeper}
 use Rattle.hl_domain.specs.Calls.{room_fault, touched_fault, entered, Knows, Called}
 use Rattle.hl_domain.specs.Entering.{MayEnter}
+use Rattle.hl_domain.specs.Stamps.{is_acquire, acquires_in, slot_stamps}
 use Rattle.hl_domain.proofs.TouchLaws.{viewed_slot, touches_accepted, touches_leave_faults, touches_leave_offsets, touches_act}
 use Rattle.hl_domain.proofs.EnterLaws.{stepped_on}
-use Rattle.hl_domain.proofs.KeeperLaws.{moved, grown, room-none, counted}
+use Rattle.hl_domain.proofs.KeeperLaws.{moved, Stamped, grown, room-none, counted}
+use Rattle.hl_domain.proofs.StampLaws.{acquires_in-stay, slot_stamps-stay, call_acquires, touches_leave_stamps}
 
 -- a pass's own step moves no offset that the words show
 call_raises : (s : Step) → is_call s ≡ true → (raised_to s ≡ 0) × (shifted_to s ≡ 0)
@@ -151,6 +153,15 @@ module _ {F : Type 0} where
       quiet : (raised_to s ≡ 0) × (shifted_to s ≡ 0)
       quiet = call_raises s at.may.kind
 
+      stamped : Stamped keeper (A ++ (p.touches ++ s ∷ [])) keeper.stamps keeper.acquired
+      stamped =
+          let n : ℕ = keeper.core.sizes.slots in
+          let none : is_acquire s ≡ false = call_acquires s at.may.kind in
+          let rest = touches_leave_stamps n keeper.stamp p.slot A p.held p.touches at.may.lawful in record {
+            count = st.acquired_is ∙ sym rest.0 ∙ sym (acquires_in-stay (A ++ p.touches) s none) ∙ ap acquires_in whole;
+            row = st.stamps_are ∙ sym rest.1 ∙ sym (slot_stamps-stay n keeper.stamp (A ++ p.touches) s none) ∙ ap (slot_stamps n keeper.stamp) whole;
+          }
+
       len : length (p.touches ++ s ∷ []) ≡ length p.touches + 1
       len = length_push p.touches s
 
@@ -160,8 +171,7 @@ module _ {F : Type 0} where
           (subst (λ (z : List Step). Stands job_tag new z) whole on.2)
           (same ∙ at.sizes)
           (j ∙ ap (λ z. z ++ s ∷ []) b ∙ append_assoc keeper.journal p.touches (s ∷ []))
-          refl
-          (omega arith)
+          stamped
           (ap (λ (z : MasterState). newest z.offsets.read_only) m ∙ st.read_only_is ∙ sym still.0 ∙ sym (read_only-stay (A ++ p.touches) s quiet.0) ∙ ap read_only whole)
           (ap (λ (z : MasterState). newest z.offsets.head) m ∙ st.head_is ∙ sym still.1 ∙ sym (head-stay (A ++ p.touches) s quiet.1) ∙ ap head whole)
           (omega (arith, ap (λ (z : MasterState). z.total) m, n, len))

@@ -8,6 +8,7 @@ use Rattle.hl_action.specs.Jobs.{KeptRecord}
 use Rattle.hl_words.specs.declared.view.OffsetWords.{OffsetWords}
 use Rattle.hl_words.specs.Views.{newest}
 use Rattle.hl_core.specs.Standing.{State, Stands}
+use Rattle.hl_domain.specs.Stamps.{acquires_in, slot_stamps}
 
 -- the tag of a job
 abbrev pub job_tag : {F : Type 0} → KeptRecord F → ℕ
@@ -33,7 +34,8 @@ abbrev pub steps_most : ℕ
 steps_most = 2 ^ 62
 
 -- a keeper stands at the accepted list A: its core does; A is the steps that were cut, of which its base is,
--- and then its journal; the offset words were last stored as the offsets of A; the total is A's length
+-- and then its journal; the offset words were last stored as the offsets of A; the total is A's length; it
+-- counts the acquires of A, and each slot has the stamp that A gives it
 pub record KeeperStands {F : Type 0} (keeper : KeeperState F) (A : List Step) : Type 0 where
   pub core_stands : Stands job_tag keeper.core A
   pub steps_cut : List Step
@@ -45,9 +47,9 @@ pub record KeeperStands {F : Type 0} (keeper : KeeperState F) (A : List Step) : 
   pub total_is : keeper.total ≡ length A
   pub total_most : keeper.total ≤ steps_most
   pub journal_most : length keeper.journal ≤ keeper.limit
-  pub stamps_is : length keeper.stamps ≡ keeper.core.sizes.slots
+  pub acquired_is : keeper.acquired ≡ acquires_in A
+  pub stamps_are : keeper.stamps ≡ slot_stamps keeper.core.sizes.slots keeper.stamp A
   pub stamp_most : keeper.stamp ≤ steps_most
-  pub acquired_most : keeper.acquired ≤ length A
 
 -- a keeper stands at some list
 abbrev pub IsKeeper : {F : Type 0} → KeeperState F → Type 0

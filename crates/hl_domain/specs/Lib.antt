@@ -4,6 +4,7 @@ pub mod Entering
 pub mod Keepers
 pub mod Pages
 pub mod Passes
+pub mod Stamps
 pub mod Taking
 pub mod Touches
 pub use Rattle.hl_model.specs.Actions

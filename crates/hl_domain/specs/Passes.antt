@@ -1,5 +1,5 @@
 -- What a pass keeps, what its calls without the lock answer, and what they leave.
-use Rattle.std.specs.Prelude.{◌≡◌, ℕ, ◌+◌, ◌*◌, ◌/◌, ◌%◌, ◌==◌, nat_le, nat_lt, ◌||◌, max, if◌then◌else◌, Option, Some, None, Result, MatchResult, List, [], ◌∷◌, ◌++◌, length}
+use Rattle.std.specs.Prelude.{◌≡◌, ℕ, ◌≤◌, ◌+◌, ◌*◌, ◌/◌, ◌%◌, ◌==◌, nat_le, nat_lt, ◌||◌, max, if◌then◌else◌, Option, Some, None, Result, MatchResult, List, [], ◌∷◌, ◌++◌, length}
 use Rattle.hl_model.specs.declared.fault.Fault.{Fault}
 use Rattle.hl_model.specs.declared.fault.Fault.TheVariants.{Below, Beyond, Evicted, TouchesFull}
 use Rattle.hl_model.specs.declared.step.Step.{Step}
@@ -9,7 +9,7 @@ use Rattle.hl_model.specs.Sizes.{Sizes}
 use Rattle.hl_model.specs.Replies.{or_fault}
 use Rattle.hl_words.specs.declared.which.Which.TheVariants.{ReadOnly, Head}
 use Rattle.hl_words.specs.States.{RiderState}
-use Rattle.hl_words.specs.Views.{offset_of, stored, loaded, with_loaded}
+use Rattle.hl_words.specs.Views.{offset_of, greatest_of, stored, loaded, with_loaded}
 use Rattle.hl_domain.specs.Touches.{view_after}
 
 -- a pass: its slot and stamp, the view at its last locked call, its looks and stores since then, and its
@@ -99,6 +99,11 @@ last_read_only p = offset_of ReadOnly p.rider.view.offsets
 
 abbrev pub last_head : PassRecord → ℕ
 last_head p = offset_of Head p.rider.view.offsets
+
+-- the pass loaded both offsets anew, neither below any that its rider had loaded
+pub record LooksOn (old new : PassRecord) : Type 0 where
+  pub read_only : greatest_of ReadOnly old.rider.view.offsets ≤ last_read_only new
+  pub head : greatest_of Head old.rider.view.offsets ≤ last_head new
 
 -- a rider that entered n steps more
 abbrev pub with_share : ℕ → RiderState → RiderState

@@ -1,14 +1,15 @@
 //! What a pass does without the lock: looks at the offset words, and stores and loads of cells.
 ghost use Rattle.std.specs.Prelude.{◌≡◌, ◌*◌, ◌<◌, ◌||◌, nat_lt, Some, None, max, length, IfOk, OnOk, MatchResult};
 ghost use Rattle.hl_model.specs.Replies.{unless_fault, unless_refused};
-ghost use Rattle.hl_domain.specs.Passes.{PassRecord, seen, touches_most, touch_fault, store_fault, load_fault, with_look, with_store, with_load, last_read_only, last_head};
+ghost use Rattle.hl_domain.specs.Passes.{PassRecord, seen, touches_most, touch_fault, store_fault, load_fault, with_look, with_store, with_load, last_read_only, last_head, LooksOn};
 
 use crate::pass::{Pass, TOUCHES_MOST};
 use hl_model::{Fault, Params, Step, View, cell_of};
 use hl_words::{Realm, Which, Words};
 
 /// Looks at both offset words: each of the pass's two offsets becomes the greater of the loaded and its own.
-/// A look that raises neither is no touch.
+/// A look that raises neither is no touch. Neither load is below any that the rider loaded of that word
+/// before.
 ///
 /// `TouchesFull` where the pass has 32 touches; then nothing is loaded.
 pub(crate) fn look<L: Realm>(words: &Words<L>, pass: &mut Pass<L>) -> Result<View, Fault>
@@ -16,6 +17,7 @@ pub(crate) fn look<L: Realm>(words: &Words<L>, pass: &mut Pass<L>) -> Result<Vie
     ensures pass { let new = pass.new
         in let old = pass.old
         in new ≡ unless_refused (touch_fault old) old (with_look (last_read_only new) (last_head new) old) }
+    ensures rises { OnOk result (LooksOn pass.old pass.new) }
     ensures raised { let old = seen pass.old
         in let new = pass.new
         in IfOk result (λ view. view ≡ record {

@@ -1,5 +1,5 @@
 //! The locked calls of a rider that touch no page and no slot.
-ghost use Rattle.std.specs.Prelude.{◌≡◌, true, List, [], ◌∷◌, ◌++◌, OnErr, MatchResult};
+ghost use Rattle.std.specs.Prelude.{◌≡◌, true, false, List, [], ◌∷◌, ◌++◌, OnErr, MatchResult};
 ghost use Rattle.hl_model.specs.declared.step.Step.TheVariants.{Bare as BARE};
 ghost use Rattle.hl_model.specs.Actions.{bumps};
 ghost use Rattle.hl_model.specs.Offsets.{raised_to, shifted_to};
@@ -7,6 +7,7 @@ ghost use Rattle.hl_model.specs.Replies.{answer_of};
 ghost use Rattle.hl_core.specs.Steps.{is_acted};
 ghost use Rattle.hl_domain.specs.Passes.{Shares};
 ghost use Rattle.hl_domain.specs.Keepers.{IsKeeper};
+ghost use Rattle.hl_domain.specs.Stamps.{is_acquire};
 ghost use Rattle.hl_domain.specs.Calls.{Makes, Stays};
 
 use crate::call::note;
@@ -17,10 +18,11 @@ use hl_model::{Fault, Reply, Step};
 use hl_words::{Realm, Rider, Words};
 
 impl<E: Epochs + Drop, F: Task, P: Promise, L: Realm> Keeper<E, F, P, L> {
-    /// Makes one step, which moves neither offset word, and of which no job goes in or comes out.
+    /// Makes one step, which moves neither offset word, stamps no slot, and of which no job goes in or comes out.
     pub(crate) fn one(&mut self, rider: &mut Rider<L>, step: &Step) -> Result<Reply, Fault>
         requires acted { is_acted step.now ≡ true }
         requires quiet { (raised_to step.now ≡ 0) × (shifted_to step.now ≡ 0) }
+        requires unstamped { is_acquire step.now ≡ false }
         ensures made { Makes self.old step.now
             (λ A. answer_of self.old.core.sizes A (A ++ step.now ∷ []) step.now) self.new result }
         ensures refused { OnErr result (self.new ≡ self.old) }

@@ -4,8 +4,10 @@ ghost use Rattle.hl_model.specs.declared.step.Step.TheVariants.{Acquire as ACQUI
 ghost use Rattle.hl_model.specs.Offsets.{place_of, tail};
 ghost use Rattle.hl_model.specs.Views.{view_of};
 ghost use Rattle.hl_domain.specs.Passes.{seen, rested, with_share, new_pass, with_tail};
+ghost use Rattle.hl_domain.specs.Stamps.{acquires_in};
 ghost use Rattle.hl_domain.specs.Calls.{call_fault, refresh_fault, touched_list, told, Makes, MakesTouched, Stays, IsUpTo};
 
+use crate::call::note;
 use crate::keeper::Keeper;
 use crate::pass::Pass;
 use hl_action::{Promise, Task};
@@ -119,9 +121,9 @@ impl<E: Epochs + Drop, F: Task, P: Promise, L: Realm> Keeper<E, F, P, L> {
         rider: Rider<L>,
     ) -> Result<Pass<L>, (Fault, Rider<L>)>
         ensures made { let old = self.old
-            in let stamp = old.stamp + old.acquired + 1
             in Makes old (ACQUIRE t)
-            (λ A. new_pass t stamp (view_of old.core.sizes t (A ++ ACQUIRE t ∷ [])) (with_share 1 rider))
+            (λ A. new_pass t (old.stamp + acquires_in (A ++ ACQUIRE t ∷ []))
+            (view_of old.core.sizes t (A ++ ACQUIRE t ∷ [])) (with_share 1 rider))
             self.new (told result) }
         ensures refused { IfErr result (λ back. (back.1 ≡ rider) × (self.new ≡ self.old)) }
         ensures stays { Stays self.old self.new }
@@ -130,21 +132,21 @@ impl<E: Epochs + Drop, F: Task, P: Promise, L: Realm> Keeper<E, F, P, L> {
         ensures stamps { let old = self.old
             in OnOk result (self.new.stamps ≡ slice_set old.stamps t (old.stamp + old.acquired + 1)) }
     {
-        let mut rider = rider;
-        let step = Step::Acquire { t };
-        let reply = match self.one(&mut rider, &step) {
-            Ok(reply) => reply,
-            Err(fault) => return Err((fault, rider)),
-        };
-        match reply {
-            Reply::Entered { view, .. } => {
+        if let Err(fault) = self.room(1) {
+            return Err((fault, rider));
+        }
+        match self.core.acquire(t) {
+            Ok(slot) => {
+                let mut rider = rider;
+                let step = Step::Acquire { t };
+                note(&mut self.journal, &mut self.master, &mut rider, step);
                 let acquired = self.acquired + 1;
                 let stamp = self.stamp + acquired;
                 self.acquired = acquired;
                 self.stamps[t as usize] = stamp;
-                Ok(Pass::new(t, stamp, view, rider))
+                Ok(Pass::new(t, stamp, slot.view, rider))
             }
-            _ => unreachable!(),
+            Err(fault) => Err((fault, rider)),
         }
     }
 }

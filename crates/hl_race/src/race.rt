@@ -1,5 +1,5 @@
 //! A race: riders beside a crew, and the audit of what they left.
-ghost use Rattle.std.specs.Prelude.{◌≡◌, ◌≤◌, ◌↔◌, IsSome};
+ghost use Rattle.std.specs.Prelude.{◌≡◌, ◌≤◌, ◌↔◌, IsSome, IfSome};
 ghost use Rattle.hl_words.specs.States.{IsSeedOf};
 ghost use Rattle.hl_domain.specs.Keepers.{steps_most};
 
@@ -24,15 +24,19 @@ pub struct Race {
     riders: u64,
     rounds: u64,
     cut: bool,
-    ghost some: { 1 ≤ riders },
-    ghost most: { riders ≤ 8 },
+    ghost some_riders: { 1 ≤ riders },
+    ghost most_riders: { riders ≤ 8 },
+    ghost some_rounds: { 1 ≤ rounds },
+    ghost most_rounds: { rounds ≤ 1000 },
 }
 
 impl Race {
     /// A race of so many riders, 1 to 8, each in a thread of its own, which make so many rounds, 1 to 1,000; the crew
     /// makes as many turns, and cuts the journal at the end of each where that is wanted. None out of range.
     pub fn checked(riders: u64, rounds: u64, cut: bool) -> Option<Race>
-        ensures { IsSome result ↔ ((1 ≤ riders) × (riders ≤ 8) × (1 ≤ rounds) × (rounds ≤ 1000)) }
+        ensures some { IsSome result ↔ ((1 ≤ riders) × (riders ≤ 8) × (1 ≤ rounds) × (rounds ≤ 1000)) }
+        ensures asked { IfSome result (λ race.
+            (race.riders ≡ riders) × (race.rounds ≡ rounds) × (race.cut ≡ cut)) }
     {
         if !(1..=8).contains(&riders) || !(1..=1000).contains(&rounds) {
             return None;

@@ -1,7 +1,8 @@
 -- The rule by counts, which doesn't depend on the riders' order, and what each step does to it.
-use Rattle.std.proofs.Common.{◌≡◌, ℕ, suc, ◌+◌, ◌<◌, ◌≤◌, ◌==◌, ◌&&◌, ◌⊎◌, Bool, true, false, List, [], ◌∷◌, ◌++◌, length, set, Some, None, refl, ap, sym, ◌∙◌, inl, inr, ⊎_elim, subst, arith}
+use Rattle.std.proofs.Common.{◌≡◌, ℕ, zero, suc, ◌+◌, ◌<◌, ◌≤◌, ◌==◌, ◌&&◌, ◌⊎◌, Bool, true, false, List, [], ◌∷◌, ◌++◌, length, set, Some, None, refl, ap, sym, ◌∙◌, inl, inr, ⊎_elim, subst, arith}
 use Rattle.std.specs.Prelude.{if◌then◌else◌, slice_index}
 use Rattle.std.specs.List.{AllByRecursion as Every, Contains, sum_by}
+use Rattle.hl_model.specs.Lists.{greatest}
 use Rattle.std.proofs.lemmas.Bool.{eq-eqb, ne_eqb, cases_eq}
 use Rattle.std.proofs.lemmas.List.{get_or-set_same, get_or-set_other}
 use Rattle.std.proofs.lemmas.List.Sums.{sum_by-cons, sum_by-append}
@@ -11,7 +12,7 @@ use Rattle.hl_words.specs.declared.view.RiderView.{RiderView}
 use Rattle.hl_words.specs.declared.which.Which.{Which}
 use Rattle.hl_words.specs.declared.which.Which.TheVariants.{ReadOnly, Head}
 use Rattle.hl_words.specs.Views.{newest, offset_of, with_offset, place_of, touched, with_loaded}
-use Rattle.hl_words.specs.Rule.{last_store, IsQuiet, IsLawful, IsElsewhere, AreLoads, IsRuled}
+use Rattle.hl_words.specs.Rule.{last_store, IsQuiet, IsLawful, IsElsewhere, NeverFalls, AreLoads, IsRuled}
 use Rattle.hl_words.proofs.Cut.{SomeOf, every_front, every_back, every_append, every_weaker, some_front, some_back, some_parts, every_at, every_from, some_at, some_from}
 use Rattle.hl_words.proofs.Counts.{stores, all_stores, More, last_is_store, none_stores, elsewhere_more, more_elsewhere, lawful_weaker, quiet}
 
@@ -28,10 +29,19 @@ newest_stored : (stores : List ℕ) → (newest stores ≡ 0) ⊎ Contains store
 newest_stored [] = inl refl
 newest_stored (x ∷ before) = inr (0, omega arith, refl)
 
+-- nothing was loaded or stored yet
+pub no_loads : AreLoads [] []
+unfolding greatest
+no_loads = (omega arith, tt)
+
+pub no_stores : NeverFalls []
+no_stores = λ i j d lt within. absurd (omega arith)
+
 -- one more load, of the newest value
 load_newest : (stores loads : List ℕ) (x : ℕ) → x ≡ newest stores → AreLoads stores loads → AreLoads stores (x ∷ loads)
+unfolding greatest
 load_newest stores loads x is h =
-    (omega (arith, is), (subst (λ v. (v ≡ 0) ⊎ Contains stores v) (sym is) (newest_stored stores), h.1))
+    (omega (arith, is, h.0), (subst (λ v. (v ≡ 0) ⊎ Contains stores v) (sym is) (newest_stored stores), h.1))
 
 -- one more store, which isn't below the newest
 store_more : (stores loads : List ℕ) (x : ℕ) → newest stores ≤ x → AreLoads stores loads → AreLoads (x ∷ stores) loads
@@ -41,11 +51,20 @@ store_more stores loads x le h = (
       (λ v one. ⊎_elim (λ z. inl z) (λ s. inr (suc s.0, omega (arith, s.1), s.2)) one) h.1,
 )
 
+-- the word does not fall
+store_rises : (stores : List ℕ) (x : ℕ) → newest stores ≤ x → NeverFalls stores → NeverFalls (x ∷ stores)
+store_rises [] x le h i j d lt within = absurd (omega arith)
+store_rises (y ∷ before) x le h i zero d lt within = absurd (omega arith)
+store_rises (y ∷ before) x le h zero (suc zero) d lt within = le
+store_rises (y ∷ before) x le h zero (suc (suc j)) d lt within = omega (arith, le, h 0 (suc j) d (omega arith) (omega arith))
+store_rises (y ∷ before) x le h (suc i) (suc j) d lt within = h i j d (omega arith) (omega arith)
+
 pub record IsCounted (cells : ℕ) (words : List ℕ) (last : OffsetWords) (riders : List RiderView) : Type 0 where
   pub cell : (c : ℕ) → c < cells → Cell riders c (slice_index words c)
   pub load : Every (λ r. IsLawful (More riders r) r.touches) riders
   pub read_only : slice_index words cells ≡ newest last.read_only
   pub head : slice_index words (cells + 1) ≡ newest last.head
+  pub never_falls : NeverFalls last.read_only × NeverFalls last.head
   pub offset : Every (Below last) riders
 
 -- the two forms of the rule say the same
@@ -59,6 +78,7 @@ counted_from cells words last riders h =
       load = every_from (λ (r : RiderView). IsLawful (More riders r) r.touches) riders (λ i r at. lawful_weaker (IsElsewhere riders i) (More riders r) r.touches (elsewhere_more riders i r at) (h.load i r at));
       read_only = h.read_only;
       head = h.head;
+      never_falls = h.never_falls;
       offset = every_from (Below last) riders h.offset;
     }
 
@@ -72,6 +92,7 @@ ruled_from cells words last riders h =
       load = λ i r at. lawful_weaker (More riders r) (IsElsewhere riders i) r.touches (more_elsewhere riders i r at) (every_at (λ (q : RiderView). IsLawful (More riders q) q.touches) riders h.load i r at);
       read_only = h.read_only;
       head = h.head;
+      never_falls = h.never_falls;
       offset = every_at (Below last) riders h.offset;
     }
 
@@ -87,6 +108,7 @@ reordered cells words last riders after every some total h =
           (every (λ (r : RiderView). IsLawful (More riders r) r.touches) h.load);
       read_only = h.read_only;
       head = h.head;
+      never_falls = h.never_falls;
       offset = every (Below last) h.offset;
     }
 
@@ -130,6 +152,7 @@ module _ (front : List RiderView) (r : RiderView) (back : List RiderView) where
             (load, every_weaker (λ (p : RiderView). IsLawful (More (front ++ r ∷ back) p) p.touches) (λ (p : RiderView). IsLawful (More (front ++ q ∷ back) p) p.touches) back more all.1);
         read_only = read_only ∙ h.read_only;
         head = head ∙ h.head;
+        never_falls = h.never_falls;
         offset = every_append (Below last) front (q ∷ back) (every_front (Below last) front (r ∷ back) h.offset) (below, (every_back (Below last) front (r ∷ back) h.offset).1);
       }
 
@@ -250,6 +273,7 @@ after_set ReadOnly cells words last riders x width le h =
       load = h.load;
       read_only = get_or-set_same words cells x 0 (omega arith);
       head = get_or-set_other words cells (cells + 1) x 0 (λ e. omega arith) ∙ h.head;
+      never_falls = (store_rises last.read_only x le h.never_falls.0, h.never_falls.1);
       offset = every_weaker (Below last) (Below (with_offset ReadOnly x last)) riders (λ r b. (store_more last.read_only r.offsets.read_only x le b.0, b.1)) h.offset;
     }
 after_set Head cells words last riders x width le h =
@@ -258,5 +282,6 @@ after_set Head cells words last riders x width le h =
       load = h.load;
       read_only = get_or-set_other words (cells + 1) cells x 0 (λ e. omega arith) ∙ h.read_only;
       head = get_or-set_same words (cells + 1) x 0 (omega arith);
+      never_falls = (h.never_falls.0, store_rises last.head x le h.never_falls.1);
       offset = every_weaker (Below last) (Below (with_offset Head x last)) riders (λ r b. (b.0, store_more last.head r.offsets.head x le b.1)) h.offset;
     }

@@ -13,12 +13,12 @@ use Rattle.hl_words.specs.declared.view.SeatView.{SeatView}
 use Rattle.hl_words.specs.declared.view.Room.{Room}
 use Rattle.hl_words.specs.declared.which.Which.{Which}
 use Rattle.hl_words.specs.declared.which.Which.TheVariants.{ReadOnly, Head}
-use Rattle.hl_words.specs.Views.{place_of, no_offsets, offset_of, with_offset, unused, touched, with_loaded}
+use Rattle.hl_words.specs.Views.{place_of, no_offsets, offset_of, greatest_of, with_offset, unused, touched, with_loaded}
 use Rattle.hl_words.specs.Rule.{last_store, IsRuled, IsLawful}
 use Rattle.hl_words.specs.Seats.{seat_of, rider_seat, spent_seat, first_seat, riders_in, IsKept, Holds, Stores, Loads, Looks, Sets, left_seat, right_seat, joined_seat}
 use Rattle.hl_words.proofs.Cut.{every_back}
 use Rattle.hl_words.proofs.Counts.{More}
-use Rattle.hl_words.proofs.Counted.{IsCounted, Below, counted_from, ruled_from, to_front, from_front, after_store, after_load, after_look, after_set, found_offset}
+use Rattle.hl_words.proofs.Counted.{IsCounted, Below, no_loads, no_stores, counted_from, ruled_from, to_front, from_front, after_store, after_load, after_look, after_set, found_offset}
 
 abbrev Nothing : Type 0
 Nothing = Unit {0}
@@ -117,12 +117,12 @@ module _ (room : Room) (slots : ℕ) (id : ℕ) where
         (refl, only x r (at_most which h.master.offsets r x (found h.master.offsets (p.front ++ r ∷ p.back) now) below)),
       ))
     where
-      at_most : (which : Which) (last : OffsetWords) (r : RiderView) (x : ℕ) → x ≡ offset_of which last → Below last r → offset_of which r.offsets ≤ x
+      at_most : (which : Which) (last : OffsetWords) (r : RiderView) (x : ℕ) → x ≡ offset_of which last → Below last r → greatest_of which r.offsets ≤ x
       at_most ReadOnly last r x e b = omega (arith, b.0.0)
       at_most Head last r x e b = omega (arith, b.1.0)
 
-      only : (x : ℕ) (r : RiderView) → offset_of which r.offsets ≤ x → (i : ℕ) (q : RiderView) → slice_get (r ∷ []) i ≡ Some q → offset_of which q.offsets ≤ x
-      only x r le zero q e = let same : r ≡ q = cc e in subst (λ (p : RiderView). offset_of which p.offsets ≤ x) same le
+      only : (x : ℕ) (r : RiderView) → greatest_of which r.offsets ≤ x → (i : ℕ) (q : RiderView) → slice_get (r ∷ []) i ≡ Some q → greatest_of which q.offsets ≤ x
+      only x r le zero q e = let same : r ≡ q = cc e in subst (λ (p : RiderView). greatest_of which p.offsets ≤ x) same le
       only x r le (suc i) q e = absurd (cc e)
 
 module _ (room : Room) where
@@ -267,5 +267,6 @@ module _ (room : Room) where
         load = each (λ r. IsLawful (More (replicate room.riders unused) r) r.touches) tt room.riders;
         read_only = zeros (room.cells + 2) room.cells;
         head = zeros (room.cells + 2) (room.cells + 1);
-        offset = each (Below no_offsets) ((omega arith, tt), (omega arith, tt)) room.riders;
+        never_falls = (no_stores, no_stores);
+        offset = each (Below no_offsets) (no_loads, no_loads) room.riders;
       }

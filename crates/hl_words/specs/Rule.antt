@@ -1,6 +1,7 @@
 -- The rule that cells, offset words, the master's stores and the riders' stores and loads meet between any two steps.
-use Rattle.std.specs.Prelude.{ℕ, ◌≡◌, ◌≢◌, ◌+◌, ◌<◌, ◌≤◌, ◌==◌, ◌⊎◌, if◌then◌else◌, List, [], ◌∷◌, Option, Some, None, slice_get, slice_index}
+use Rattle.std.specs.Prelude.{ℕ, ◌≡◌, ◌≢◌, ◌+◌, ◌<◌, ◌≤◌, ◌==◌, ◌⊎◌, if◌then◌else◌, List, [], ◌∷◌, Option, Some, None, slice_get, slice_index, AllPairs}
 use Rattle.std.specs.List.{AllByRecursion, Contains}
+use Rattle.hl_model.specs.Lists.{greatest}
 use Rattle.hl_words.specs.declared.view.Touch.{Touch}
 use Rattle.hl_words.specs.declared.view.Touch.TheVariants.{Stored, Loaded}
 use Rattle.hl_words.specs.declared.view.OffsetWords.{OffsetWords}
@@ -41,9 +42,14 @@ IsLawful Elsewhere (Loaded c v ∷ before) = ((last_store c before ≡ Some v) �
 abbrev pub IsCell : List RiderView → ℕ → ℕ → Type 0
 IsCell riders c w = ((w ≡ 0) × EachRider (λ i r. last_store c r.touches ≡ None) riders) ⊎ SomeRider (λ i r. last_store c r.touches ≡ Some w) riders
 
--- each load of an offset word is of 0 or of one of its stores, and the newest load is at most the newest store
+-- no store of an offset word is below an earlier one
+abbrev pub NeverFalls : List ℕ → Type 0
+NeverFalls stores = AllPairs (λ later earlier. earlier ≤ later) stores
+
+-- each load of an offset word is of 0 or of one of its stores, and the greatest is at most the newest store
 abbrev pub AreLoads : List ℕ → List ℕ → Type 0
-AreLoads stores loads = (newest loads ≤ newest stores) × AllByRecursion (λ x. (x ≡ 0) ⊎ Contains stores x) loads
+AreLoads stores loads =
+    (greatest (λ x. x) loads ≤ newest stores) × AllByRecursion (λ x. (x ≡ 0) ⊎ Contains stores x) loads
 
 -- The rule on words, the master's stores and the riders' views: first the cells, then the read-only word and the head word
 pub record IsRuled (cells : ℕ) (words : List ℕ) (stores : OffsetWords) (riders : List RiderView) : Type 0 where
@@ -51,4 +57,5 @@ pub record IsRuled (cells : ℕ) (words : List ℕ) (stores : OffsetWords) (ride
   pub load : EachRider (λ i r. IsLawful (IsElsewhere riders i) r.touches) riders
   pub read_only : slice_index words cells ≡ newest stores.read_only
   pub head : slice_index words (cells + 1) ≡ newest stores.head
+  pub never_falls : NeverFalls stores.read_only × NeverFalls stores.head
   pub offset : EachRider (λ i r. AreLoads stores.read_only r.offsets.read_only × AreLoads stores.head r.offsets.head) riders

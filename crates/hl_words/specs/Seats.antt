@@ -9,7 +9,7 @@ use Rattle.hl_words.specs.declared.view.RiderView.{RiderView}
 use Rattle.hl_words.specs.declared.view.SeatView.{SeatView}
 use Rattle.hl_words.specs.declared.view.Room.{Room}
 use Rattle.hl_words.specs.declared.which.Which.{Which}
-use Rattle.hl_words.specs.Views.{no_offsets, offset_of, with_offset, unused, touched, with_loaded}
+use Rattle.hl_words.specs.Views.{no_offsets, greatest_of, with_offset, unused, touched, with_loaded}
 use Rattle.hl_words.specs.Rule.{EachRider, IsRuled}
 
 -- a seat that knows these stores of the offset words, and stands for these riders
@@ -64,7 +64,9 @@ Loads s before found after = after ≡ (moved (touched (Loaded s.word found)) be
 
 -- of a load of an offset word: the rider's view has it, and the rider loaded no greater one before
 abbrev pub Looks : Which → Step (Unit {0}) → Me (Unit {0}) SeatView → ℕ → Me (Unit {0}) SeatView → Type 0
-Looks which s before found after = (after ≡ (moved (with_loaded which found) before.0, before.1)) × EachRider (λ i r. offset_of which r.offsets ≤ found) before.0.riders
+Looks which s before found after =
+    (after ≡ (moved (with_loaded which found) before.0, before.1))
+    × EachRider (λ i r. greatest_of which r.offsets ≤ found) before.0.riders
 
 -- of a store of an offset word: it is the master's newest
 abbrev pub Sets : Which → Step (Unit {0}) → Me (Unit {0}) SeatView → ℕ → Me (Unit {0}) SeatView → Type 0

@@ -1,5 +1,6 @@
 -- What a rider's view is after one more store or load, and the two offset words by name.
 use Rattle.std.specs.Prelude.{ℕ, ◌+◌, List, [], ◌∷◌}
+use Rattle.hl_model.specs.Lists.{greatest}
 use Rattle.hl_words.specs.declared.view.Touch.{Touch}
 use Rattle.hl_words.specs.declared.view.Touch.TheVariants.{Stored, Loaded}
 use Rattle.hl_words.specs.declared.view.OffsetWords.{OffsetWords}
@@ -20,6 +21,11 @@ newest (x ∷ before) = x
 abbrev pub offset_of : Which → OffsetWords → ℕ
 offset_of ReadOnly o = newest o.read_only
 offset_of Head o = newest o.head
+
+-- the greatest of the one of the two, or 0
+abbrev pub greatest_of : Which → OffsetWords → ℕ
+greatest_of ReadOnly o = greatest (λ x. x) o.read_only
+greatest_of Head o = greatest (λ x. x) o.head
 
 -- the same with x as the newest of the one
 abbrev pub with_offset : Which → ℕ → OffsetWords → OffsetWords

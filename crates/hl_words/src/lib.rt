@@ -15,9 +15,9 @@
 //!
 //! The rule, in `specs/Rule.antt`, holds between any two steps: a cell is 0 where no rider stored into it, else it is some
 //! rider's last store there; a load is of the rider's last store before it, or of a value that another rider stores, or
-//! of 0 where the rider had seen nothing else there; an offset word is the master's last store, and each that a rider
-//! loaded is one of the master's stores, or 0, and at most the last. `close` says it of exactly what the riders stored and loaded that are handed in, and of what the words
-//! hold then, which `LastWords` tells.
+//! of 0 where the rider had seen nothing else there; an offset word is the master's last store and never falls, and each
+//! that a rider loaded is one of the master's stores, or 0, and at most the last. `close` says it of exactly what the
+//! riders stored and loaded that are handed in, and of what the words hold then, which `LastWords` tells.
 //!
 //! Only the types keep the following, and no contract says it: that the rule holds while threads still run (the contract
 //! of one load says just that the rider noted it); that a rider is used by one thread at a time; that values of two

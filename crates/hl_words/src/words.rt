@@ -1,7 +1,7 @@
 ghost use Rattle.std.specs.Prelude.{◌≡◌, ◌≢◌, ◌+◌, ◌<◌, ◌≤◌, ℕ, List, [], map, length, replicate, IfOk, OnOk, IfErr};
 ghost use Rattle.std.specs.List.{sum_by};
 ghost use Rattle.hl_model.specs.declared.fault.Fault.TheVariants.{OutOfMemory};
-ghost use Rattle.hl_words.specs.Views.{no_offsets, offset_of, with_offset, stored, loaded, with_loaded};
+ghost use Rattle.hl_words.specs.Views.{no_offsets, offset_of, greatest_of, with_offset, stored, loaded, with_loaded};
 ghost use Rattle.hl_words.specs.Rule.{IsRuled};
 ghost use Rattle.hl_words.specs.States.{IsSeedOf, IsMasterSeat, new_rider};
 
@@ -116,7 +116,7 @@ impl<L: Realm> Words<L> {
     /// has the load; that it is one of the master's stores, or 0, is what `close` tells of all loads.
     pub fn load_offset(&self, rider: &mut Rider<L>, which: Which) -> u64
         ensures view { rider.new ≡ record { view = with_loaded which result rider.old.view; share = rider.old.share } }
-        ensures rises { offset_of which rider.old.view.offsets ≤ result }
+        ensures rises { greatest_of which rider.old.view.offsets ≤ result }
     {
         let shared = &self.table.shared;
         let seat = &mut rider.seat;

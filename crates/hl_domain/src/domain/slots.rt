@@ -6,6 +6,7 @@ ghost use Rattle.hl_model.specs.Replies.{unless_fault};
 ghost use Rattle.hl_model.specs.Views.{view_of};
 ghost use Rattle.hl_domain.specs.Passes.{seen, rested, with_share, new_pass, with_tail};
 ghost use Rattle.hl_domain.specs.Calls.{step_fault, call_fault, refresh_fault, touched_list, told, IsUpTo};
+ghost use Rattle.hl_domain.specs.Stamps.{acquires_in};
 ghost use Rattle.hl_domain.specs.Domains.{UnderLock};
 
 use crate::domain::Domain;
@@ -28,8 +29,8 @@ impl<E: Epochs + Drop, F: Task, P: Promise, L: Realm> Domain<E, F, P, L> {
         rider: Rider<L>,
     ) -> Result<Pass<L>, (Fault, Rider<L>)>
         ensures met { UnderLock F self.now (λ k A. told result ≡ unless_fault (step_fault k A (ACQUIRE t))
-            (new_pass t (k.stamp + k.acquired + 1) (view_of k.core.sizes t (A ++ ACQUIRE t ∷ []))
-            (with_share 1 rider))) }
+            (new_pass t (k.stamp + acquires_in (A ++ ACQUIRE t ∷ []))
+            (view_of k.core.sizes t (A ++ ACQUIRE t ∷ [])) (with_share 1 rider))) }
         ensures refused { IfErr result (λ back. back.1 ≡ rider) }
     {
         self.lock(rt).acquire(&self.words, t, rider)

@@ -1,7 +1,7 @@
 //! What riders do without the lock.
 ghost use Rattle.std.specs.Prelude.{◌≡◌, ◌==◌, Some, None, max, length, IfOk, OnOk, OnErr, MatchResult};
 ghost use Rattle.hl_model.specs.Replies.{unless_fault, unless_refused};
-ghost use Rattle.hl_domain.specs.Passes.{seen, touch_fault, store_fault, load_fault, with_look, with_store, with_load, last_read_only, last_head};
+ghost use Rattle.hl_domain.specs.Passes.{seen, touch_fault, store_fault, load_fault, with_look, with_store, with_load, last_read_only, last_head, LooksOn};
 ghost use Rattle.hl_domain.specs.Calls.{unless_stranger};
 ghost use Rattle.hl_domain.specs.Pages.{first_cell, zeroed, loaded_all};
 
@@ -16,7 +16,8 @@ use hl_words::{Realm, Rider};
 
 impl<E: Epochs + Drop, F: Task, P: Promise, L: Realm> Domain<E, F, P, L> {
     /// Looks at both offset words: each of the pass's two offsets becomes the greater of the loaded and its own.
-    /// A look that raises neither is no touch. The answer is what the pass sees then.
+    /// A look that raises neither is no touch. The answer is what the pass sees then. Neither load is below any
+    /// that the rider loaded of that word before.
     ///
     /// `TouchesFull` where the pass has 32 touches; then nothing is loaded.
     pub fn look(&self, pass: &mut Pass<L>) -> Result<View, Fault>
@@ -24,6 +25,7 @@ impl<E: Epochs + Drop, F: Task, P: Promise, L: Realm> Domain<E, F, P, L> {
         ensures pass { let new = pass.new
             in let old = pass.old
             in new ≡ unless_refused (touch_fault old) old (with_look (last_read_only new) (last_head new) old) }
+        ensures rises { OnOk result (LooksOn pass.old pass.new) }
         ensures raised { let old = seen pass.old
             in let new = pass.new
             in IfOk result (λ view. view ≡ record {

@@ -1,10 +1,10 @@
-use Rattle.std.proofs.Common.{◌≡◌, ◌++◌, ap, ◌∙◌}
+use Rattle.std.proofs.Common.{◌≡◌, ◌++◌, refl, sym, ap, ◌∙◌}
 use Rattle.std.specs.Prelude.{None, Ok}
 use Rattle.hl_model.specs.Replies.{unless_refused}
 use Rattle.hl_model.proofs.NoFaultLaws.{unless_ok}
 use Rattle.hl_domain.specs.Passes.{PassRecord, touch_fault, with_look}
 use Rattle.hl_words.specs.Views.{newest}
-use Rattle.hl_domain.proofs.PassLaws.{look_is, look_touches, look_made-some, look_made-none, loaded_both}
+use Rattle.hl_domain.proofs.PassLaws.{look_is, look_touches, look_made-some, look_made-none, loaded_both, looks_on}
 use Rattle.hl_domain.proofs.look.look.Goals.{After-rises, After-push}
 use Rattle.hl_domain.proofs.look.look.Goals as goal
 
@@ -43,3 +43,15 @@ returns-clause-pass g c =
     look_is p r h c.load_offset-head.new.rider c.push.new.self.items fine (loaded_both r h i.rider c.load_offset-read_only.new.rider c.load_offset-head.new.rider c.load_offset-read_only.ensures.view c.load_offset-head.ensures.view)
     (c.push.ensures.items ∙ ap (λ z. i.touches.items ++ z) (look_made-some p i.view r h c.max.result c.max-2.result c.rises.result c.pass.invariant.0 c.rises.ensures c.if-not-rises.false c.max.ensures c.max-2.ensures))
     ∙ ap (λ (q : PassRecord). unless_refused (touch_fault q) q (with_look (newest c.load_offset-head.new.rider.view.offsets.read_only) (newest c.load_offset-head.new.rider.view.offsets.head) q)) c.pass.view_is
+
+pub returns-then-not-rises-clause-rises : goal.returns-then-not-rises-clause-rises
+returns-then-not-rises-clause-rises g c =
+    let i = c.pass.inside in
+    let p : PassRecord = record { slot = i.slot; stamp = i.stamp; held = i.held; touches = i.touches.items; rider = i.rider } in
+    rw (sym c.pass.view_is) (looks_on c.load_offset-read_only.result c.load_offset-head.result p (record { slot = i.slot; stamp = i.stamp; held = i.held; touches = i.touches.items; rider = c.load_offset-head.new.rider }) c.load_offset-read_only.new.rider c.load_offset-head.new.rider c.load_offset-read_only.ensures.view c.load_offset-head.ensures.view refl c.load_offset-read_only.ensures.rises c.load_offset-head.ensures.rises)
+
+pub returns-clause-rises : goal.returns-clause-rises
+returns-clause-rises g c =
+    let i = c.pass.inside in
+    let p : PassRecord = record { slot = i.slot; stamp = i.stamp; held = i.held; touches = i.touches.items; rider = i.rider } in
+    rw (sym c.pass.view_is) (looks_on c.load_offset-read_only.result c.load_offset-head.result p (record { slot = i.slot; stamp = i.stamp; held = i.held; touches = c.push.new.self.items; rider = c.load_offset-head.new.rider }) c.load_offset-read_only.new.rider c.load_offset-head.new.rider c.load_offset-read_only.ensures.view c.load_offset-head.ensures.view refl c.load_offset-read_only.ensures.rises c.load_offset-head.ensures.rises)

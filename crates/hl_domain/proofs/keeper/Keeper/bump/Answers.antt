@@ -1,11 +1,12 @@
-use Rattle.std.proofs.Common.{◌++◌, ◌∷◌, [], refl, sym, ap, ◌∙◌, arith}
+use Rattle.std.proofs.Common.{◌++◌, ◌∷◌, [], sym, ap, ◌∙◌, arith}
 use Rattle.hl_words.specs.States.{MasterState}
 use Rattle.hl_domain.specs.Keepers.{KeeperState}
 use Rattle.hl_domain.specs.Calls.{step_fault}
 use Rattle.hl_model.specs.declared.step.Reply.TheVariants.{Ticket}
 use Rattle.hl_core.specs.Steps.{asking}
 use Rattle.hl_domain.specs.Keepers.{job_tag}
-use Rattle.hl_domain.proofs.ActionLaws.{asking_quiet, bump_ticket}
+use Rattle.hl_domain.proofs.ActionLaws.{asking_quiet, asking_acquires, bump_ticket}
+use Rattle.hl_domain.proofs.KeeperLaws.{unstamped}
 use Rattle.hl_domain.proofs.StepLaws.{step_full, one_fits, one_counts, made_refused, core_refused, core_made, quiet}
 use Rattle.hl_domain.proofs.keeper.Keeper.bump.Goals as goal
 
@@ -49,7 +50,7 @@ invariant_of-self g c =
           _,
           (core_made k A s c.in_default.field-0 c.bump.new.self (Ticket c.in-Ok.ticket) c.in-Ok.ticket _ c.note.new.journal.items c.self.inside.stamps.items c.self.inside.acquired c.note.new.master.offsets c.note.new.master.total st room (c.in-Ok.ensures.made A st.core_stands)
               (bump_ticket k A c.args.ask c.bump.new.self c.in-Ok.ticket (c.in-Ok.ensures.made A st.core_stands))
-              (c.note.ensures.journal ∙ ap (λ z. c.self.inside.journal.items ++ z ∷ []) c.step_of-step.ensures) refl (omega arith)
+              (c.note.ensures.journal ∙ ap (λ z. c.self.inside.journal.items ++ z ∷ []) c.step_of-step.ensures) (unstamped k A s st (asking_acquires job_tag c.args.ask))
               (quiet k A s c.note.new.master.offsets st (asking_quiet job_tag c.args.ask).0 (asking_quiet job_tag c.args.ask).1 (ap (λ (m : MasterState). m.offsets) c.note.ensures.master))
               (ap (λ (m : MasterState). m.total) c.note.ensures.master)).standing,
         );
@@ -67,6 +68,6 @@ returns-in-Ok-clause-made g c =
     let room = rw (sym c.self.view_is) at c.in_default.ensures in
     rw (sym c.self.view_is) (λ A st. core_made k A s c.in_default.field-0 c.bump.new.self (Ticket c.in-Ok.ticket) c.in-Ok.ticket _ c.note.new.journal.items c.self.inside.stamps.items c.self.inside.acquired c.note.new.master.offsets c.note.new.master.total st room (c.in-Ok.ensures.made A st.core_stands)
     (bump_ticket k A c.args.ask c.bump.new.self c.in-Ok.ticket (c.in-Ok.ensures.made A st.core_stands))
-    (c.note.ensures.journal ∙ ap (λ z. c.self.inside.journal.items ++ z ∷ []) c.step_of-step.ensures) refl (omega arith)
+    (c.note.ensures.journal ∙ ap (λ z. c.self.inside.journal.items ++ z ∷ []) c.step_of-step.ensures) (unstamped k A s st (asking_acquires job_tag c.args.ask))
     (quiet k A s c.note.new.master.offsets st (asking_quiet job_tag c.args.ask).0 (asking_quiet job_tag c.args.ask).1 (ap (λ (m : MasterState). m.offsets) c.note.ensures.master))
     (ap (λ (m : MasterState). m.total) c.note.ensures.master))

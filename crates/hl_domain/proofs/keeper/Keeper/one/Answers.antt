@@ -1,8 +1,9 @@
-use Rattle.std.proofs.Common.{refl, sym, ap, ◌∙◌, arith}
+use Rattle.std.proofs.Common.{sym, ap, ◌∙◌, arith}
 use Rattle.std.proofs.lemmas.Result.{err_from_is_err_and}
 use Rattle.hl_words.specs.States.{MasterState}
 use Rattle.hl_domain.specs.Keepers.{KeeperState}
 use Rattle.hl_domain.specs.Calls.{step_fault}
+use Rattle.hl_domain.proofs.KeeperLaws.{unstamped}
 use Rattle.hl_domain.proofs.StepLaws.{step_full, one_fits, one_counts, made_refused, core_refused, core_made, core_told, quiet}
 use Rattle.hl_domain.proofs.keeper.Keeper.one.Goals as goal
 
@@ -44,7 +45,7 @@ invariant_of-self-2 g c =
     let st = c.self.invariant.of.standing.1 in
     record {
       of = record {
-        standing = (_, (core_made k A s c.in_ok-room.field-0 c.act.new.self c.in_ok-reply.reply c.in_ok-reply.reply _ c.note.new.journal.items c.self.inside.stamps.items c.self.inside.acquired c.note.new.master.offsets c.note.new.master.total st room (c.in_ok-reply.ensures.made A st.core_stands) (core_told k A s c.act.new.self c.in_ok-reply.reply (c.in_ok-reply.ensures.made A st.core_stands)).1 c.note.ensures.journal refl (omega arith) (quiet k A s c.note.new.master.offsets st c.requires.quiet.0 c.requires.quiet.1 (ap (λ (m : MasterState). m.offsets) c.note.ensures.master)) (ap (λ (m : MasterState). m.total) c.note.ensures.master)).standing);
+        standing = (_, (core_made k A s c.in_ok-room.field-0 c.act.new.self c.in_ok-reply.reply c.in_ok-reply.reply _ c.note.new.journal.items c.self.inside.stamps.items c.self.inside.acquired c.note.new.master.offsets c.note.new.master.total st room (c.in_ok-reply.ensures.made A st.core_stands) (core_told k A s c.act.new.self c.in_ok-reply.reply (c.in_ok-reply.ensures.made A st.core_stands)).1 c.note.ensures.journal (unstamped k A s st c.requires.unstamped) (quiet k A s c.note.new.master.offsets st c.requires.quiet.0 c.requires.quiet.1 (ap (λ (m : MasterState). m.offsets) c.note.ensures.master)) (ap (λ (m : MasterState). m.total) c.note.ensures.master)).standing);
         sizes_are = c.in_ok-reply.ensures.sizes ∙ c.self.invariant.of.sizes_are;
         stamp_is = c.self.invariant.of.stamp_is;
       };
@@ -57,4 +58,4 @@ returns-clause-made g c =
     let k : KeeperState g.row.F.Denot = (record { core = c.self.inside.core; base = c.self.inside.base; cut = c.self.inside.cut; journal = c.self.inside.journal.items; limit = c.self.inside.limit; stamps = c.self.inside.stamps.items; stamp = c.self.inside.stamp; acquired = c.self.inside.acquired; offsets = c.self.inside.master.offsets; total = c.self.inside.master.total }) in
     let s = c.args.step.now in
     let room = rw (sym c.self.view_is) at c.in_ok-room.ensures in
-    rw (sym c.self.view_is) (λ A st. core_made k A s c.in_ok-room.field-0 c.act.new.self c.in_ok-reply.reply c.in_ok-reply.reply _ c.note.new.journal.items c.self.inside.stamps.items c.self.inside.acquired c.note.new.master.offsets c.note.new.master.total st room (c.in_ok-reply.ensures.made A st.core_stands) (core_told k A s c.act.new.self c.in_ok-reply.reply (c.in_ok-reply.ensures.made A st.core_stands)).1 c.note.ensures.journal refl (omega arith) (quiet k A s c.note.new.master.offsets st c.requires.quiet.0 c.requires.quiet.1 (ap (λ (m : MasterState). m.offsets) c.note.ensures.master)) (ap (λ (m : MasterState). m.total) c.note.ensures.master))
+    rw (sym c.self.view_is) (λ A st. core_made k A s c.in_ok-room.field-0 c.act.new.self c.in_ok-reply.reply c.in_ok-reply.reply _ c.note.new.journal.items c.self.inside.stamps.items c.self.inside.acquired c.note.new.master.offsets c.note.new.master.total st room (c.in_ok-reply.ensures.made A st.core_stands) (core_told k A s c.act.new.self c.in_ok-reply.reply (c.in_ok-reply.ensures.made A st.core_stands)).1 c.note.ensures.journal (unstamped k A s st c.requires.unstamped) (quiet k A s c.note.new.master.offsets st c.requires.quiet.0 c.requires.quiet.1 (ap (λ (m : MasterState). m.offsets) c.note.ensures.master)) (ap (λ (m : MasterState). m.total) c.note.ensures.master))

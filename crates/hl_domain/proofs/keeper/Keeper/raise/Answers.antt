@@ -4,6 +4,7 @@ use Rattle.hl_words.specs.States.{MasterState}
 use Rattle.hl_domain.specs.Keepers.{KeeperState}
 use Rattle.hl_domain.specs.Calls.{step_fault}
 use Rattle.hl_model.specs.declared.step.Step.TheVariants.{Raise as RAISE}
+use Rattle.hl_domain.proofs.KeeperLaws.{unstamped}
 use Rattle.hl_domain.proofs.StepLaws.{step_full, one_fits, one_counts, made_refused, core_refused, core_made, core_told, raise_follows, raise_told}
 use Rattle.hl_domain.proofs.keeper.Keeper.raise.Goals as goal
 
@@ -49,7 +50,7 @@ invariant_of-self-2 g c =
           _,
           (core_made k A s c.in_ok-room.field-0 c.act.new.self c.in_ok-act.field-0 c.args.x _ c.note.new.journal.items c.self.inside.stamps.items c.self.inside.acquired c.note.new.master.offsets c.note.new.master.total st room (c.in_ok-act.ensures.made A st.core_stands)
               (raise_told k A c.args.x (core_told k A s c.act.new.self c.in_ok-act.field-0 (c.in_ok-act.ensures.made A st.core_stands)).0)
-              c.note.ensures.journal refl (omega arith)
+              c.note.ensures.journal (unstamped k A s st refl)
               (raise_follows k A c.args.x c.note.new.master.offsets st (core_told k A s c.act.new.self c.in_ok-act.field-0 (c.in_ok-act.ensures.made A st.core_stands)).0 (ap (λ (m : MasterState). m.offsets) c.note.ensures.master ∙ ap (λ (m : MasterState). m.offsets) c.store_offset.ensures))
               (ap (λ (m : MasterState). m.total) c.note.ensures.master ∙ ap (λ (m : MasterState). m.total + 1) c.store_offset.ensures)).standing,
         );
@@ -67,6 +68,6 @@ returns-clause-made g c =
     let room = rw (sym c.self.view_is) at c.in_ok-room.ensures in
     rw (sym c.self.view_is) (λ A st. core_made k A s c.in_ok-room.field-0 c.act.new.self c.in_ok-act.field-0 c.args.x _ c.note.new.journal.items c.self.inside.stamps.items c.self.inside.acquired c.note.new.master.offsets c.note.new.master.total st room (c.in_ok-act.ensures.made A st.core_stands)
     (raise_told k A c.args.x (core_told k A s c.act.new.self c.in_ok-act.field-0 (c.in_ok-act.ensures.made A st.core_stands)).0)
-    c.note.ensures.journal refl (omega arith)
+    c.note.ensures.journal (unstamped k A s st refl)
     (raise_follows k A c.args.x c.note.new.master.offsets st (core_told k A s c.act.new.self c.in_ok-act.field-0 (c.in_ok-act.ensures.made A st.core_stands)).0 (ap (λ (m : MasterState). m.offsets) c.note.ensures.master ∙ ap (λ (m : MasterState). m.offsets) c.store_offset.ensures))
     (ap (λ (m : MasterState). m.total) c.note.ensures.master ∙ ap (λ (m : MasterState). m.total + 1) c.store_offset.ensures))

@@ -6,6 +6,7 @@ use Rattle.hl_domain.specs.Calls.{step_fault}
 use Rattle.hl_model.specs.declared.step.Step.TheVariants.{Take as TAKE}
 use Rattle.hl_model.specs.declared.step.Reply.TheVariants.{Taken}
 use Rattle.hl_domain.proofs.ActionLaws.{take_firing}
+use Rattle.hl_domain.proofs.KeeperLaws.{unstamped}
 use Rattle.hl_domain.proofs.StepLaws.{step_full, one_fits, one_counts, made_refused, core_refused, core_made, quiet}
 use Rattle.hl_domain.proofs.keeper.Keeper.take.Goals as goal
 
@@ -50,7 +51,7 @@ invariant_of-self-2 g c =
           _,
           (core_made k A TAKE c.in_ok-room.field-0 c.take.new.self (Taken c.in_ok-firing.firing.ticket) (tt {0}) (tt {0}) c.note.new.journal.items c.self.inside.stamps.items c.self.inside.acquired c.note.new.master.offsets c.note.new.master.total st room (c.in_ok-firing.ensures.made A st.core_stands)
               refl
-              c.note.ensures.journal refl (omega arith)
+              c.note.ensures.journal (unstamped k A TAKE st refl)
               (quiet k A TAKE c.note.new.master.offsets st refl refl (ap (λ (m : MasterState). m.offsets) c.note.ensures.master))
               (ap (λ (m : MasterState). m.total) c.note.ensures.master)).standing,
         );
@@ -68,6 +69,6 @@ returns-clause-made g c =
     let room = rw (sym c.self.view_is) at c.in_ok-room.ensures in
     rw (sym c.self.view_is) (λ A st. core_made k A TAKE c.in_ok-room.field-0 c.take.new.self (Taken c.in_ok-firing.firing.ticket) (record { origin = c.of.result.origin; firing = c.of.result.firing }) _ c.note.new.journal.items c.self.inside.stamps.items c.self.inside.acquired c.note.new.master.offsets c.note.new.master.total st room (c.in_ok-firing.ensures.made A st.core_stands)
     (take_firing k A c.take.new.self c.in_ok-firing.firing c.of.result c.in_ok-firing.kept st (c.in_ok-firing.ensures.made A st.core_stands) c.in_ok-firing.ensures.safe c.of.ensures)
-    c.note.ensures.journal refl (omega arith)
+    c.note.ensures.journal (unstamped k A TAKE st refl)
     (quiet k A TAKE c.note.new.master.offsets st refl refl (ap (λ (m : MasterState). m.offsets) c.note.ensures.master))
     (ap (λ (m : MasterState). m.total) c.note.ensures.master))
