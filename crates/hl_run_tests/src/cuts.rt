@@ -96,7 +96,22 @@ fn compare(rt: &impl Abort, core: &Core<CountTable, Tag>, plain: &Plain, at: usi
     }
 }
 
+// A core behind these steps, and the slow form that goes on from its base.
 #[tactic(auto, unfolding(hl_model::specs::Bases::base_of))]
+fn cut_behind(
+    alloc: Global,
+    before: &[Step],
+    params: Params,
+) -> Result<(Core<CountTable, Tag>, Plain), Fail> {
+    let mut core = Core::<CountTable, Tag>::open(alloc, params)?;
+    let mut replies = vec![in alloc; Err(Fault::Empty); before.len()]?;
+    core.run(before, &mut replies);
+    let mut base = Base::opening(alloc, params)?;
+    core.base_into(&mut base);
+    let plain = Plain::from_base(alloc, &base)?;
+    Ok((core, plain))
+}
+
 fn cut_anywhere(
     rt: &impl Abort,
     alloc: Global,
@@ -105,12 +120,7 @@ fn cut_anywhere(
 ) -> Result<(), Fail> {
     for cut in 0..steps.len() {
         let (before, behind) = steps.split_at(cut);
-        let mut core = Core::<CountTable, Tag>::open(alloc, params)?;
-        let mut replies = vec![in alloc; Err(Fault::Empty); before.len()]?;
-        core.run(before, &mut replies);
-        let mut base = Base::opening(alloc, params)?;
-        core.base_into(&mut base);
-        let mut plain = Plain::from_base(alloc, &base)?;
+        let (mut core, mut plain) = cut_behind(alloc, before, params)?;
         for (at, step) in behind.iter().enumerate() {
             assert_eq!(rt; plain.step(step), core.step(step), "step {at} behind {cut}");
             compare(rt, &core, &plain, at);
@@ -133,5 +143,32 @@ fn three_scripts_cut_after_each_step(rt: HostRuntime) -> Result<(), Fail> {
         let steps = some_steps(rt.alloc(), params, 150, seed)?;
         cut_anywhere(&rt, rt.alloc(), &steps, params)?;
     }
+    Ok(())
+}
+
+// Each row of a base of the greatest sizes is full: first all its actions wait, then all are taken. No clause can tell
+// that memory for its copy wasn't refused.
+#[test]
+fn full_rows_are_cut(rt: HostRuntime) -> Result<(), Fail> {
+    let params = Params::checked(4, 256, 64, 64).ok_or("sizes in range")?;
+    let mut steps = Vec::new(rt.alloc());
+    for t in 0..64 {
+        steps.push(Step::Acquire { t })?;
+        steps.push(Step::Bump { tag: t })?;
+        steps.push(Step::Refresh { t })?;
+    }
+    for _ in 0..256 {
+        steps.push(Step::Allocate { t: 63, n: 4 })?;
+    }
+    let (core, plain) = cut_behind(rt.alloc(), &steps, params)?;
+    assert_eq!(rt; core.snapshot().pending, 64);
+    compare(&rt, &core, &plain, steps.len());
+    for t in 0..64 {
+        steps.push(Step::Refresh { t })?;
+        steps.push(Step::Take)?;
+    }
+    let (core, plain) = cut_behind(rt.alloc(), &steps, params)?;
+    assert_eq!(rt; core.snapshot().taken, 64);
+    compare(&rt, &core, &plain, steps.len());
     Ok(())
 }
