@@ -146,12 +146,9 @@ fn three_scripts_cut_after_each_step(rt: HostRuntime) -> Result<(), Fail> {
     Ok(())
 }
 
-// Each row of a base of the greatest sizes is full: first all its actions wait, then all are taken. No clause can tell
-// that memory for its copy wasn't refused.
-#[test]
-fn full_rows_are_cut(rt: HostRuntime) -> Result<(), Fail> {
-    let params = Params::checked(4, 256, 64, 64).ok_or("sizes in range")?;
-    let mut steps = Vec::new(rt.alloc());
+// Steps that protect 64 slots, store 64 actions and enter 256 pages of 4 words.
+fn full_rows(alloc: Global) -> Result<Vec<Step>, Fail> {
+    let mut steps = Vec::new(alloc);
     for t in 0..64 {
         steps.push(Step::Acquire { t })?;
         steps.push(Step::Bump { tag: t })?;
@@ -160,15 +157,34 @@ fn full_rows_are_cut(rt: HostRuntime) -> Result<(), Fail> {
     for _ in 0..256 {
         steps.push(Step::Allocate { t: 63, n: 4 })?;
     }
-    let (core, plain) = cut_behind(rt.alloc(), &steps, params)?;
-    assert_eq!(rt; core.snapshot().pending, 64);
-    compare(&rt, &core, &plain, steps.len());
+    Ok(steps)
+}
+
+// Each slot moves on, and an action is taken.
+fn take_all(steps: &mut Vec<Step>) -> Result<(), Fail> {
     for t in 0..64 {
         steps.push(Step::Refresh { t })?;
         steps.push(Step::Take)?;
     }
-    let (core, plain) = cut_behind(rt.alloc(), &steps, params)?;
-    assert_eq!(rt; core.snapshot().taken, 64);
-    compare(&rt, &core, &plain, steps.len());
+    Ok(())
+}
+
+// The slow form goes on from the base of these steps: how many actions wait there, and how many are taken.
+fn waiting_and_taken(rt: &impl Abort, alloc: Global, steps: &[Step]) -> Result<(u64, u64), Fail> {
+    let params = Params::checked(4, 256, 64, 64).ok_or("sizes in range")?;
+    let (core, plain) = cut_behind(alloc, steps, params)?;
+    compare(rt, &core, &plain, steps.len());
+    let now = plain.snapshot();
+    Ok((now.pending, now.taken))
+}
+
+// Each row of a base of the greatest sizes is full: first all its actions wait, then all are taken. No clause can tell
+// that memory for its copy wasn't refused.
+#[test]
+fn full_rows_are_cut(rt: HostRuntime) -> Result<(), Fail> {
+    let mut steps = full_rows(rt.alloc())?;
+    assert_eq!(rt; waiting_and_taken(&rt, rt.alloc(), &steps)?, (64, 0));
+    take_all(&mut steps)?;
+    assert_eq!(rt; waiting_and_taken(&rt, rt.alloc(), &steps)?, (0, 64));
     Ok(())
 }
