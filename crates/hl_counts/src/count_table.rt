@@ -89,7 +89,17 @@ impl CountTable {
 impl Epochs for CountTable {
     ghost table = { λ t. t.table };
 
-    fn make(alloc: Global, slots: u64, window: u64) -> Result<CountTable, Fault> {
+    /// With no turns yet.
+    fn make(alloc: Global, slots: u64, window: u64) -> Result<CountTable, Fault>
+        requires slots_least { 1 ≤ slots }
+        requires slots_most { slots ≤ 64 }
+        requires window_least { 1 ≤ window }
+        requires window_most { window ≤ 4096 }
+        ensures ok { IfOk result (λ made. made.table ≡ opened slots window 1) }
+        ensures turns { IfOk result (λ made. made.turns ≡ 0) }
+        ensures err { IfErr result (λ fault. fault ≡ Fault.OutOfMemory) }
+        ensures valid { IfOk result (λ made. IsTable made.table) }
+    {
         CountTable::resume(alloc, slots, window, 1)
     }
 

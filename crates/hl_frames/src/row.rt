@@ -1,4 +1,4 @@
-ghost use Rattle.std.specs.Prelude.{◌≡◌, ℕ, ◌+◌, ◌^◌, ◌<◌, ◌≤◌, true, false, length};
+ghost use Rattle.std.specs.Prelude.{◌≡◌, ℕ, ◌+◌, ◌^◌, ◌<◌, ◌≤◌, nat_lt, true, false, if◌then◌else◌, length};
 ghost use Rattle.hl_frames.specs.Row.{pages_in, HasFrame};
 ghost use Rattle.hl_frames.specs.Pages.{is_flushed, is_unflushed};
 
@@ -26,8 +26,9 @@ pub(crate) fn skip_flushed(row: &[Option<Held>], from: Placed, end: u64) -> Walk
     ensures most { result.at.page ≤ end }
     ensures turns { result.turns + from.page ≤ end }
 
-    // One turn for each page that it goes over, and one for the page at which it stops.
-    ensures each_once { result.turns + from.page ≤ result.at.page + 1 }
+    // One turn for each page that it goes over, and one for the page at which it stops, if any is left.
+    ensures each_once { let at = result.at.page
+        in result.turns + from.page ≡ at + (if nat_lt at end then 1 else 0) }
 {
     let mut at = from;
     let mut turns = 0;

@@ -21,6 +21,7 @@ use std::marker::Model;
 pub struct Base {
     params: Params,
     epoch: u64,
+    // No row has room for more than the sizes allow.
     slots: Vec<Option<Slot>>,
     waiting: Vec<Waiting>,
     taken: Vec<Waiting>,
@@ -163,10 +164,10 @@ impl Base {
     }
 }
 
-// An empty row with room for n elements.
+// An empty row with room for n elements, and for no more.
 fn with_room<T>(alloc: Global, n: u64) -> Result<Vec<T>, Fault>
     ensures empty { IfOk result (λ row. row.items ≡ []) }
-    ensures room { IfOk result (λ row. n ≤ vec_capacity row) }
+    ensures exact { IfOk result (λ row. vec_capacity row ≡ n) }
     ensures err { IfErr result (λ fault. fault ≡ Fault.OutOfMemory) }
 {
     Vec::with_capacity(alloc, n as usize).map_err(|_| Fault::OutOfMemory)

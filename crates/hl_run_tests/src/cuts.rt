@@ -96,7 +96,22 @@ fn compare(rt: &impl Abort, core: &Core<CountTable, Tag>, plain: &Plain, at: usi
     }
 }
 
+// A core behind these steps, and the slow form that goes on from its base.
 #[tactic(auto, unfolding(hl_model::specs::Bases::base_of))]
+fn cut_behind(
+    alloc: Global,
+    before: &[Step],
+    params: Params,
+) -> Result<(Core<CountTable, Tag>, Plain), Fail> {
+    let mut core = Core::<CountTable, Tag>::open(alloc, params)?;
+    let mut replies = vec![in alloc; Err(Fault::Empty); before.len()]?;
+    core.run(before, &mut replies);
+    let mut base = Base::opening(alloc, params)?;
+    core.base_into(&mut base);
+    let plain = Plain::from_base(alloc, &base)?;
+    Ok((core, plain))
+}
+
 fn cut_anywhere(
     rt: &impl Abort,
     alloc: Global,
@@ -105,12 +120,7 @@ fn cut_anywhere(
 ) -> Result<(), Fail> {
     for cut in 0..steps.len() {
         let (before, behind) = steps.split_at(cut);
-        let mut core = Core::<CountTable, Tag>::open(alloc, params)?;
-        let mut replies = vec![in alloc; Err(Fault::Empty); before.len()]?;
-        core.run(before, &mut replies);
-        let mut base = Base::opening(alloc, params)?;
-        core.base_into(&mut base);
-        let mut plain = Plain::from_base(alloc, &base)?;
+        let (mut core, mut plain) = cut_behind(alloc, before, params)?;
         for (at, step) in behind.iter().enumerate() {
             assert_eq!(rt; plain.step(step), core.step(step), "step {at} behind {cut}");
             compare(rt, &core, &plain, at);
@@ -133,5 +143,48 @@ fn three_scripts_cut_after_each_step(rt: HostRuntime) -> Result<(), Fail> {
         let steps = some_steps(rt.alloc(), params, 150, seed)?;
         cut_anywhere(&rt, rt.alloc(), &steps, params)?;
     }
+    Ok(())
+}
+
+// Steps that protect 64 slots, store 64 actions and enter 256 pages of 4 words.
+fn full_rows(alloc: Global) -> Result<Vec<Step>, Fail> {
+    let mut steps = Vec::new(alloc);
+    for t in 0..64 {
+        steps.push(Step::Acquire { t })?;
+        steps.push(Step::Bump { tag: t })?;
+        steps.push(Step::Refresh { t })?;
+    }
+    for _ in 0..256 {
+        steps.push(Step::Allocate { t: 63, n: 4 })?;
+    }
+    Ok(steps)
+}
+
+// Each slot moves on, and an action is taken.
+fn take_all(steps: &mut Vec<Step>) -> Result<(), Fail> {
+    for t in 0..64 {
+        steps.push(Step::Refresh { t })?;
+        steps.push(Step::Take)?;
+    }
+    Ok(())
+}
+
+// The slow form goes on from the base of these steps: how many actions wait there, and how many are taken.
+fn waiting_and_taken(rt: &impl Abort, alloc: Global, steps: &[Step]) -> Result<(u64, u64), Fail> {
+    let params = Params::checked(4, 256, 64, 64).ok_or("sizes in range")?;
+    let (core, plain) = cut_behind(alloc, steps, params)?;
+    compare(rt, &core, &plain, steps.len());
+    let now = plain.snapshot();
+    Ok((now.pending, now.taken))
+}
+
+// Each row of a base of the greatest sizes is full: first all its actions wait, then all are taken. No clause can tell
+// that memory for its copy wasn't refused.
+#[test]
+fn full_rows_are_cut(rt: HostRuntime) -> Result<(), Fail> {
+    let mut steps = full_rows(rt.alloc())?;
+    assert_eq!(rt; waiting_and_taken(&rt, rt.alloc(), &steps)?, (64, 0));
+    take_all(&mut steps)?;
+    assert_eq!(rt; waiting_and_taken(&rt, rt.alloc(), &steps)?, (0, 64));
     Ok(())
 }

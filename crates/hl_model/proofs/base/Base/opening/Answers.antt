@@ -12,8 +12,10 @@ invariant_of-result c =
     let frames = c.in_ok-frames.ensures.items ∙ ap (λ n. replicate n None) c.frames.ensures.value in
     record {
       base = record { steps = []; accepted = good-nil sizes; is = opening-base sizes _ _ _ _ _ c.slots.ensures.in_range slots c.in_ok-waiting.ensures.empty c.in_ok-taken.ensures.empty zeros frames };
-      waiting_room = omega (arith, c.in_ok-waiting.ensures.room);
-      taken_room = omega (arith, c.in_ok-taken.ensures.room);
+      slots_room = c.in_ok-slots.ensures.exact ∙ c.slots.ensures.value;
+      waiting_room = omega (arith, c.in_ok-waiting.ensures.exact);
+      taken_room = omega (arith, c.in_ok-taken.ensures.exact);
+      frames_room = c.in_ok-frames.ensures.exact ∙ c.frames.ensures.value;
     }
 
 pub returns-clause-ok : goal.returns-clause-ok
