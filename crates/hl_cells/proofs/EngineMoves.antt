@@ -43,7 +43,7 @@ use Rattle.hl_cells.specs.EngineSteps.{Told, Moved, Moves, fired}
 use Rattle.hl_cells.proofs.CellLaws.{cells-quiet, cells-allocate, cells-write, cells-clean, cells-read, cells-page, cells-nil, frame_fits, cell_words-at, length-cell_words}
 use Rattle.hl_cells.proofs.ShownPages.{unless_freed, shown-is, shown-frame}
 use Rattle.hl_cells.proofs.HoldLaws.{Found, holds-nil, holds-quiet, holds-take, holds-fits, holds-found, holds-done}
-use Rattle.hl_cells.proofs.ToldLaws.{Accepted, Refused, is_told_as_is, told_same, told_refused}
+use Rattle.hl_cells.proofs.ToldLaws.{Accepted, is_told_as_is, told_same, told_refused}
 
 -- a step that leaves all cells and all held actions
 abbrev pub is_quiet : Step → Bool
@@ -108,10 +108,6 @@ module _ {F : Type 0} where
         standing = subst (λ (B : List Step). EngineStands (record { core = core_new; words = engine.words; held = engine.held }) B) (sym (extended-some engine.core.sizes A s f h))
             (engine_stands engine.core.sizes core_new engine.words engine.held A moved.sizes (subst (λ (B : List Step). Stands job_tag core_new B) (extended-some engine.core.sizes A s f h) moved.standing) st.words_is st.held_is);
       }
-
-  -- a step of one and the same engine
-  pub moves_from : (keeps : ℕ → FiringRecord → ℕ → Type 0) (engine old new : Whole F) (s : Step) (result : Result Reply Fault) → engine ≡ old → Moves keeps engine s new result → Moves keeps old s new result
-  moves_from keeps engine old new s result e m = subst (λ (z : Whole F). Moves keeps z s new result) e m
 
   -- an engine stands at some list after a step, as before
   pub stands_after : (keeps : ℕ → FiringRecord → ℕ → Type 0) (engine new : Whole F) (s : Step) (result : Result Reply Fault) → IsEngine engine → Moves keeps engine s new result → IsEngine new
@@ -269,10 +265,6 @@ module _ {F : Type 0} where
       ∙ cell_words-at engine.core.sizes A cell d within
       ∙ ap (cell_word engine.core.sizes A) at
       ∙ cells-read engine.core.sizes A t a (page_some engine A st) (frames_some engine A st) st.core_stands.accepted h
-
-  -- a refused write's result
-  pub write_refused : (engine : Whole F) (A : List Step) (t a v : ℕ) (core_new : State (KeptRecord F)) (f : Fault) → Stepped job_tag engine.core A (Write t a v) core_new (Err f) → Refused (fault_of engine.core.sizes A (Write t a v)) f
-  write_refused engine A t a v core_new f moved = sym (ap (λ (o : Option Fault). unless_fault o tt) (unless_err (fault_of engine.core.sizes A (Write t a v)) f (answer_of engine.core.sizes A (A ++ Write t a v ∷ []) (Write t a v)) moved.reply))
 
   -- the words of a page that its frame shows
   pub page_shown : (engine : Whole F) (A : List Step) (p : ℕ) → EngineStands engine A → shown_page engine.core.sizes (p % engine.core.sizes.frames) A ≡ Some p → take engine.core.sizes.page (drop (p % engine.core.sizes.frames * engine.core.sizes.page) engine.words) ≡ page_words engine.core.sizes p A

@@ -5,7 +5,7 @@ use Rattle.std.proofs.lemmas.Bool.{cases_lt, cases_eq, eq-eqb, ne_eqb}
 use Rattle.std.proofs.lemmas.Bool.Decides.{nat_tests}
 use Rattle.std.proofs.lemmas.List.{length-replicate}
 use Rattle.std.proofs.lemmas.List.Folds.{sum_by-replicate}
-use Rattle.std.proofs.lemmas.List.Sums.{sum_by-cons, sum_by-set, count_by-le-length}
+use Rattle.std.proofs.lemmas.List.Sums.{sum_by-cons, sum_by-set}
 use Rattle.std.proofs.lemmas.Nat.{mod_below}
 use Rattle.hl_model.proofs.Remainders.{mod-apart}
 use Rattle.hl_counts.specs.Tallies.{count_at, added, removed, is_counted, IsTally}
@@ -70,12 +70,6 @@ IsTally-moved epochs counts t epoch next is within at counted =
     let raised : get_or (added next less) place 0 ≡ get_or less place 0 + share (length counts) place (Some next) =
     get_or-added_of less (length counts) next place same is.some in
     rw at (omega (arith, get_or-removed counts epoch place is.some counted)))
-
--- no place counts more than all slots
-pub count_at-most : (epoch : ℕ) (epochs : List (Option ℕ)) (counts : List ℕ) → IsTally epochs counts → count_at epoch counts ≤ length epochs
-count_at-most epoch epochs counts is =
-    let place : ℕ = epoch % length counts in
-    omega (arith, is.each place (mod_below epoch (length counts) is.some), count_by-le-length (is_counted (length counts) place) epochs)
 
 -- a slot is among those that a test counts
 count_by-some : (p : Option ℕ → Bool) (slots : List (Option ℕ)) (t epoch : ℕ) → get_or slots t None ≡ Some epoch → p (Some epoch) ≡ true → 0 < count_by p slots

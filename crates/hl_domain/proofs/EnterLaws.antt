@@ -1,5 +1,5 @@
 -- What a row of steps that a core takes makes of it and of the journal, step by step.
-use Rattle.std.proofs.Common.{◌≡◌, ℕ, suc, ◌+◌, ◌<◌, ◌≤◌, List, [], ◌∷◌, ◌++◌, length, take, drop, get_or, refl, sym, ap, ◌∙◌, subst, arith, append_assoc, append-nil, take_all}
+use Rattle.std.proofs.Common.{◌≡◌, ℕ, suc, ◌+◌, ◌<◌, List, [], ◌∷◌, ◌++◌, length, take, drop, get_or, sym, ap, ◌∙◌, subst, arith, append_assoc}
 use Rattle.std.specs.Prelude.{Some, None, Ok, Err}
 use Rattle.std.proofs.Math.Seq.{take-suc}
 use Rattle.std.proofs.lemmas.List.{take-append-drop}
@@ -39,15 +39,6 @@ module _ {J : Type 0} (tag : J → ℕ) where
     pub journal_is : journal ≡ before ++ take n xs
     pub room_is : now_room ≡ room
 
-  pub taken_none : (old : State J) (before : List Step) (room : ℕ) (xs : List Step) → Taken old before room xs 0 old before room
-  taken_none old before room xs = record {
-    sizes = refl;
-    jobs = refl;
-    standing = λ A st. subst (λ (z : List Step). Stands tag old z) (sym (append-nil A)) st;
-    journal_is = sym (append-nil before);
-    room_is = refl;
-  }
-
   -- the next is never refused
   pub next_taken : (old : State J) (before : List Step) (room : ℕ) (xs : List Step) (n : ℕ) (mid : State J) (journal : List Step) (now_room : ℕ) (s d : Step) (new : State J) (f : Fault) → Taken old before room xs n mid journal now_room → MayEnter tag old xs → n < length xs → s ≡ get_or xs n d → Made tag mid s new (Err f) → ⊥
   next_taken old before room xs n mid journal now_room s d new f at may lt e made =
@@ -73,14 +64,3 @@ module _ {J : Type 0} (tag : J → ℕ) where
     journal_is = j ∙ ap (λ z. z ++ s ∷ []) at.journal_is ∙ append_assoc before (take n xs) (s ∷ []) ∙ ap (λ z. before ++ z) (sym (take_next n xs s d lt e));
     room_is = rooms ∙ at.room_is;
   }
-
-  -- all were
-  pub taken_all : (old : State J) (before : List Step) (room : ℕ) (xs : List Step) (n : ℕ) (new : State J) (journal : List Step) (now_room : ℕ) → length xs ≤ n → Taken old before room xs n new journal now_room → Taken old before room xs (length xs) new journal now_room
-  taken_all old before room xs n new journal now_room le at =
-      let all : take n xs ≡ take (length xs) xs = take_all n xs le ∙ sym (take_all (length xs) xs (omega arith)) in record {
-        sizes = at.sizes;
-        jobs = at.jobs;
-        standing = λ A st. subst (λ (z : List Step). Stands tag new (A ++ z)) all (at.standing A st);
-        journal_is = at.journal_is ∙ ap (λ z. before ++ z) all;
-        room_is = at.room_is;
-      }

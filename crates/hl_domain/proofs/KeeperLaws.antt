@@ -104,22 +104,3 @@ module _ {F : Type 0} where
   pub base_sizes : (keeper : KeeperState F) (A : List Step) → KeeperStands keeper A → keeper.base.sizes ≡ keeper.core.sizes
   unfolding base_of
   base_sizes keeper A st = ap (λ (b : Base). b.sizes) st.base_is
-
-  -- a keeper whose steps were cut stands where it stood
-  pub cut_stands : (keeper : KeeperState F) (A : List Step) (base : Base) (cut : ℕ) (journal : List Step) → KeeperStands keeper A → base ≡ base_of keeper.core.sizes A → cut ≡ keeper.cut + length keeper.journal → journal ≡ []
-      → KeeperStands {F = F} (record { core = keeper.core; base = base; cut = cut; journal = journal; limit = keeper.limit; stamps = keeper.stamps; stamp = keeper.stamp; acquired = keeper.acquired; offsets = keeper.offsets; total = keeper.total }) A
-  cut_stands keeper A base cut journal st b c j = record {
-    core_stands = st.core_stands;
-    steps_cut = A;
-    history = sym (append-nil A) ∙ ap (λ z. A ++ z) (sym j);
-    base_is = b;
-    cut_is = omega (arith, c, counted keeper A st, st.total_is);
-    read_only_is = st.read_only_is;
-    head_is = st.head_is;
-    total_is = st.total_is;
-    total_most = st.total_most;
-    journal_most = omega (arith, ap length j);
-    acquired_is = st.acquired_is;
-    stamps_are = st.stamps_are;
-    stamp_most = st.stamp_most;
-  }

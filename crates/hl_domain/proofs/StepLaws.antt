@@ -7,7 +7,7 @@ use Rattle.hl_model.specs.declared.step.Step.{Step}
 use Rattle.hl_model.specs.declared.step.Step.TheVariants.{Raise, Shift}
 use Rattle.hl_model.specs.Offsets.{raised_to, shifted_to, read_only, head}
 use Rattle.hl_model.specs.Replies.{or_fault, fault_of, answer_of, unless_fault}
-use Rattle.hl_model.proofs.NoFaultLaws.{unless_err, unless_ok, raise-none, shift-none}
+use Rattle.hl_model.proofs.NoFaultLaws.{unless_err, unless_ok}
 use Rattle.hl_model.proofs.OffsetLaws.{read_only-stay, head-stay, read_only-raise, head-shift}
 use Rattle.hl_action.specs.Jobs.{KeptRecord}
 use Rattle.hl_words.specs.declared.view.OffsetWords.{OffsetWords}
@@ -132,13 +132,6 @@ module _ {F : Type 0} where
     read_only_is = ap (λ (z : OffsetWords). newest z.read_only) e ∙ st.read_only_is ∙ sym (read_only-stay A (Shift x) refl);
     head_is = ap (λ (z : OffsetWords). newest z.head) e ∙ sym (head-shift keeper.core.sizes A x none);
   }
-
-  -- and is not below its last
-  pub raise_above : (keeper : KeeperState F) (A : List Step) (x : ℕ) → KeeperStands keeper A → fault_of keeper.core.sizes A (Raise x) ≡ None → newest keeper.offsets.read_only ≤ x
-  raise_above keeper A x st none = omega (arith, st.read_only_is, (raise-none keeper.core.sizes A x none).0)
-
-  pub shift_above : (keeper : KeeperState F) (A : List Step) (x : ℕ) → KeeperStands keeper A → fault_of keeper.core.sizes A (Shift x) ≡ None → newest keeper.offsets.head ≤ x
-  shift_above keeper A x st none = omega (arith, st.head_is, (shift-none keeper.core.sizes A x none).0)
 
   -- the replies are the offsets
   pub raise_told : (keeper : KeeperState F) (A : List Step) (x : ℕ) → fault_of keeper.core.sizes A (Raise x) ≡ None → x ≡ read_only (A ++ Raise x ∷ [])

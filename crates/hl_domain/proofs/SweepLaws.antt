@@ -1,5 +1,5 @@
 -- Cells of a page, one after another.
-use Rattle.std.proofs.Common.{◌≡◌, ℕ, suc, ◌+◌, ◌*◌, ◌^◌, ◌%◌, ◌<◌, ◌≤◌, List, [], ◌∷◌, ◌++◌, length, take, set, refl, sym, ap, ◌∙◌, arith, take_all}
+use Rattle.std.proofs.Common.{◌≡◌, ℕ, suc, ◌+◌, ◌*◌, ◌^◌, ◌%◌, ◌<◌, ◌≤◌, List, [], ◌∷◌, ◌++◌, length, take, set, refl, sym, ap, ◌∙◌, arith}
 use Rattle.std.proofs.Math.Nat.{mul-le-mul_right, mul-le-mul_left, add-mul}
 use Rattle.std.proofs.Math.Seq.{take-suc-set}
 use Rattle.std.proofs.lemmas.Nat.{mod_below}
@@ -41,9 +41,6 @@ loaded_next first k w out before mid after lt m a =
     let len : length (take k out) ≡ k = omega (arith, length-take k out, lt) in
     a ∙ ap (λ (r : RiderState). seeing (loaded (first + k) w r.view) r) m
     ∙ sym (ap (λ ws. seeing (loaded_all first ws before.view) before) row ∙ ap (λ v. seeing v before) (loaded_push first (take k out) w before.view) ∙ ap (λ n. seeing (loaded (first + n) w (loaded_all first (take k out) before.view)) before) len)
-
-pub loaded_ends : (first n : ℕ) (out : List ℕ) (before after : RiderState) → length out ≤ n → after ≡ seeing (loaded_all first (take n out) before.view) before → after ≡ seeing (loaded_all first out before.view) before
-loaded_ends first n out before after le h = h ∙ ap (λ ws. seeing (loaded_all first ws before.view) before) (take_all n out le)
 
 -- a page's cells are cells
 pub page_fits : (page frames p : ℕ) → 0 < frames → p % frames * page + page ≤ frames * page

@@ -51,11 +51,7 @@ pub actions-nil : actions [] ≡ []
 unfolding actions gather gather_after
 actions-nil = refl
 
--- nor bump, nor take
-pub bumps-nil : bumps [] ≡ 0
-unfolding bumps
-bumps-nil = refl
-
+-- nor take
 pub takes-nil : takes [] ≡ 0
 unfolding takes
 takes-nil = refl
@@ -83,13 +79,6 @@ action_of-ticket A (Bump tag) = (refl, tt)
 action_of-ticket A Settle = (refl, tt)
 action_of-ticket A Close = (refl, tt)
 action_of-ticket A _ = tt
-
--- a step that stores an action is a bump
-pub stores-is_bump : (s : Step) → stores s ≡ true → is_bump s ≡ true
-stores-is_bump (Bump tag) h = refl
-stores-is_bump Settle h = refl
-stores-is_bump Close h = refl
-stores-is_bump _ h = cc
 
 number : (A : List Step) (s : Step) → is_bump s ≡ true → (1 ≤ current_epoch A) × (current_epoch A ≤ bumps (A ++ s ∷ []))
 number A s b = (omega (arith, current_epoch-bumps A), omega (arith, current_epoch-bumps A, bumps-push A s, one_where (is_bump s) b))

@@ -93,12 +93,6 @@ pub of_ticket-filter : (P : ℕ → Bool) (c : ℕ) (ws : List Waiting) → of_t
 of_ticket-filter P c [] = sym (cond_none (P c))
 of_ticket-filter P c (w ∷ ws) = found_cons P c w ws (of_ticket-filter P c ws) (w.ticket == c) (P w.ticket) refl refl
 
--- no ticket is below the first
-pub of_ticket-below : (c a : ℕ) (ws : List Waiting) → c ≤ a → Rising a ws → of_ticket c ws ≡ None
-of_ticket-below c a [] le r = refl
-of_ticket-below c a (w ∷ ws) le r =
-    rw (ne_eqb w.ticket c (λ e. omega (arith, r.0, e))) (of_ticket-below c w.ticket ws (omega (arith, r.0)) r.1)
-
 found_front : {X : Type 0} (p : X → Bool) (x : X) (m : ℕ) (xs : List X) → find p (take m xs) ≡ cond (list_any p (take m xs)) (find p xs) None → (b : Bool) → p x ≡ b → find p (take (suc m) (x ∷ xs)) ≡ cond (list_any p (take (suc m) (x ∷ xs))) (find p (x ∷ xs)) None
 found_front p x m xs later true e = rw e refl
 found_front p x m xs later false e = rw e later

@@ -14,7 +14,7 @@ use Rattle.hl_line.specs.declared.line.Line.TheVariants.{Config, Step as Makes, 
 use Rattle.hl_script.specs.Cut.{whole_lines, unfinished_line}
 use Rattle.hl_script.specs.Lines.{is_config, takes_memory}
 use Rattle.hl_script.specs.Text.{answers}
-use Rattle.hl_script.specs.Outcomes.{ReadWithin, ReadToEnd, IsJudged, WroteWholeLines, WroteFront, FailedWrite, WroteUpTo, LackedAtConfig, Settled, StoppedAtBadLine, StoppedByMemory, StoppedByStream, IsRunFault}
+use Rattle.hl_script.specs.Outcomes.{ReadWithin, ReadToEnd, WroteWholeLines, WroteFront, FailedWrite, WroteUpTo, LackedAtConfig, Settled, StoppedAtBadLine, StoppedByMemory, StoppedByStream, IsRunFault}
 use Rattle.hl_script.specs.Machine.{ScriptStopped}
 use Rattle.hl_script.proofs.MachineLaws.{config_first}
 use Rattle.hl_script.proofs.TextLaws.{answers-nil}
@@ -73,14 +73,6 @@ within_more few many given left input le r = record { consumed = r.consumed; few
 
 pub to_end_more : (few many : ℕ) (given left : Option (List ℕ)) (input : List ℕ) → few ≤ many → ReadToEnd few given left input → ReadToEnd many given left input
 to_end_more few many given left input le r = record { consumed = r.consumed; at_end = r.at_end; few = omega (arith, r.few, le) }
-
--- a run that stopped, by where it stopped
-pub script_bad : (may_lack : Bool) (has : ℕ → Bool) (few many : ℕ) (given left from to : Option (List ℕ)) (n : ℕ) → few ≤ many → StoppedAtBadLine has few given left from to n → ScriptStopped may_lack has many given left from to (BadLine n)
-script_bad may_lack has few many given left from to n le s = (s.0, within_more few many given left s.0 le s.1, s.2, by_judge s.3)
-  where
-    by_judge : IsJudged n s.0 ⊎ ReadToEnd few given left s.0 → IsJudged n s.0 ⊎ ReadToEnd many given left s.0
-    by_judge (inl j) = inl j
-    by_judge (inr end) = inr (to_end_more few many given left s.0 le end)
 
 pub script_lacked : (may_lack : Bool) (has : ℕ → Bool) (few many : ℕ) (given left from to : Option (List ℕ)) → few ≤ many → StoppedByMemory few given left (WroteUpTo has (takes_memory may_lack) from to) → ScriptStopped may_lack has many given left from to OutOfMemory
 script_lacked may_lack has few many given left from to le s = (s.0, within_more few many given left s.0 le s.1, s.2)
