@@ -12,6 +12,7 @@ pub fn print_reply(reply: &Reply) -> ArrayString<160>
     spelled_reply(*reply)
 }
 
+#[inline(always)]
 #[tactic(auto, using(crate::proofs::Texts::word_length, crate::proofs::Texts::number_length, crate::proofs::Texts::triple_length))]
 fn spelled_reply(reply: Reply) -> ArrayString<160>
     ensures { result.bytes ≡ reply_text reply }

@@ -7,6 +7,7 @@ use arrayvec::ArrayString;
 use itoa::Buffer;
 
 /// Appends a word and then each number, in decimal, after a space.
+#[inline(always)]
 #[tactic(auto, unfolding(crate::specs::Lines::worded))]
 pub(crate) fn append<const CAP: usize>(text: &mut ArrayString<CAP>, word: &str, numbers: &[u64])
     requires { array_string_len text.old + length (worded word.now numbers.now) ≤ CAP }
@@ -20,6 +21,7 @@ pub(crate) fn append<const CAP: usize>(text: &mut ArrayString<CAP>, word: &str, 
 }
 
 /// Appends a space and a number in decimal.
+#[inline(always)]
 fn append_number<const CAP: usize>(text: &mut ArrayString<CAP>, number: u64)
     requires { array_string_len text.old + length (spaced number) ≤ CAP }
     ensures { text.new.bytes ≡ text.old.bytes ++ spaced number }
@@ -29,6 +31,7 @@ fn append_number<const CAP: usize>(text: &mut ArrayString<CAP>, number: u64)
 }
 
 /// A word and then each number, in decimal, after a space.
+#[inline(always)]
 pub(crate) fn spelled<const CAP: usize>(word: &str, numbers: &[u64]) -> ArrayString<CAP>
     requires { length (worded word.now numbers.now) ≤ CAP }
     ensures { result.bytes ≡ worded word.now numbers.now }

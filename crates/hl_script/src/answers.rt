@@ -67,6 +67,7 @@ pub fn print_bad_line(n: u64) -> ArrayString<64>
 }
 
 /// An answer to a step, or the fault.
+#[inline(always)]
 pub(crate) fn print_result(given: &Result<Reply, Fault>) -> ArrayString<160>
     ensures { result.bytes ≡ result_text given.now }
 {
