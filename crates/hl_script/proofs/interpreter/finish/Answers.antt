@@ -1,7 +1,7 @@
 use Rattle.std.proofs.Common.{[], ◌∷◌, ◌++◌, sym}
 use Rattle.std.proofs.lemmas.Result.{err_from_is_err_and}
-use Rattle.hl_script.proofs.EngineLaws.{ended_done, ended_line, ended_stop, empty_line, some_line}
-use Rattle.hl_script.proofs.engine.finish.Goals as goal
+use Rattle.hl_script.proofs.InterpreterLaws.{ended_done, ended_line, ended_stop, empty_line, some_line}
+use Rattle.hl_script.proofs.interpreter.finish.Goals as goal
 
 pub returns-then-is_empty : goal.returns-then-is_empty
 returns-then-is_empty g c = λ has done before from at.

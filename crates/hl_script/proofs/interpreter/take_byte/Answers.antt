@@ -1,8 +1,8 @@
 use Rattle.std.proofs.Common.{◌≡◌, [], ◌∷◌, ◌++◌, length, refl, sym, subst}
 use Rattle.std.proofs.lemmas.Bool.{eqb-true, eqb-false}
-use Rattle.hl_script.specs.Engine.{Fed}
-use Rattle.hl_script.proofs.EngineLaws.{fed_end, fed_long, fed_byte}
-use Rattle.hl_script.proofs.engine.take_byte.Goals as goal
+use Rattle.hl_script.specs.Interpreter.{Fed}
+use Rattle.hl_script.proofs.InterpreterLaws.{fed_end, fed_long, fed_byte}
+use Rattle.hl_script.proofs.interpreter.take_byte.Goals as goal
 
 pub returns-then-byte-eq10-clause-fed : goal.returns-then-byte-eq10-clause-fed
 returns-then-byte-eq10-clause-fed g c = λ has done before from at.

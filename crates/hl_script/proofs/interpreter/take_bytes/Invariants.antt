@@ -1,8 +1,8 @@
 use Rattle.std.proofs.Common.{ℕ, ◌+◌, ◌≤◌, Bool, List, ◌++◌, take}
 use Rattle.std.specs.Prelude.{Option}
 use Rattle.hl_line.specs.declared.line.Line.{Line}
-use Rattle.hl_script.specs.Engine.{At}
-use Rattle.hl_script.proofs.engine.take_bytes.Given as goal
+use Rattle.hl_script.specs.Interpreter.{At}
+use Rattle.hl_script.proofs.interpreter.take_bytes.Given as goal
 
 -- the run has come to the next of these bytes
 abbrev pub invariant-loop-byte : goal.invariant-loop-byte

@@ -4,17 +4,18 @@ use Rattle.std.specs.Prelude.{Option, Some, None, Result, Ok, Err}
 use Rattle.std.specs.Io.KnownBytes.{Appends, Consumes, Keeps, IsAtEnd}
 use Rattle.std.proofs.lemmas.Bool.{eqb-true, false≢true}
 use Rattle.std.proofs.lemmas.List.{length_push}
+use Rattle.hl_model.specs.declared.fault.Fault.{Fault}
+use Rattle.hl_model.specs.declared.fault.Fault.TheVariants.{BadLine, OutOfMemory, Stream}
+use Rattle.hl_image.specs.Streams.{BreaksOff}
 use Rattle.hl_line.specs.declared.line.Line.{Line}
 use Rattle.hl_line.specs.Reading.{line_of}
 use Rattle.hl_script.specs.declared.progress.Progress.{Progress}
-use Rattle.hl_script.specs.declared.stop.Stop.{Stop}
-use Rattle.hl_script.specs.declared.stop.Stop.TheVariants.{BadLine, OutOfMemory, Reader, Writer}
 use Rattle.hl_script.specs.Cut.{whole_lines, unfinished_line}
 use Rattle.hl_script.specs.Lines.{script, bad_line, allowed, may_stand}
 use Rattle.hl_script.specs.Answers.{accepted, accepted_after}
 use Rattle.hl_script.specs.Text.{answers, bad_text, text, count_of}
-use Rattle.hl_script.specs.Outcomes.{ReadWithin, ReadToEnd, WroteWholeLines, WroteAll, WroteUpTo, AppendsFront, WroteFront}
-use Rattle.hl_script.specs.Engine.{answered, Answered, Refuses, Stopped, BrokeOff, Judges, Reached, Faces, At, JudgedGood, Judged, Fed, Ended, Ran}
+use Rattle.hl_script.specs.Outcomes.{ReadWithin, ReadToEnd, WroteWholeLines, WroteAll, WroteUpTo, WroteFront}
+use Rattle.hl_script.specs.Interpreter.{answered, Answered, Answers, Refuses, Stopped, BrokeOff, Judges, Reached, Faces, At, JudgedGood, Judged, Fed, Ended, RunStopped, Ran}
 use Rattle.hl_script.proofs.KnownLaws.{Appends-nothing, Appends-more, Appends-kept, Consumes-more, front-more, front-longer, at_end_left}
 use Rattle.hl_script.proofs.CutLaws.{whole-front, long-front}
 use Rattle.hl_script.proofs.LineLaws.{IsBad, faces_bad, faces_good}
@@ -48,20 +49,19 @@ allowed_stands before (Some other) line h = by_test (may_stand before other) ref
     by_test false is h = cc
 
 -- a bad line was told
-pub refused : (has : ℕ → Bool) (lacks : Line → Bool) (from mid to : Option (List ℕ)) (before : List Line) (bytes : List ℕ) (n : ℕ) (stop : Stop) → Appends from mid (answers has before) → Refuses mid to n stop → n ≡ length before + 1 → IsBad bytes before → Stopped has lacks from to stop bytes
+pub refused : (has : ℕ → Bool) (lacks : Line → Bool) (from mid to : Option (List ℕ)) (before : List Line) (bytes : List ℕ) (n : ℕ) (stop : Fault) → Appends from mid (answers has before) → Refuses mid to n stop → n ≡ length before + 1 → IsBad bytes before → Stopped has lacks from to stop bytes
 refused has lacks from mid to before bytes n (BadLine m) a r e b = record {
   wrote = subst (Appends from to) (sym (text_bad has bytes before b))
       (Appends-more from mid to (answers has before) (bad_text (Some (length before + 1))) a (subst (λ k. Appends mid to (bad_text (Some k))) e r.1));
   bad = b.number ∙ ap (λ k. Some k) (sym e ∙ sym r.0);
 }
-refused has lacks from mid to before bytes n OutOfMemory a r e b = absurd r
-refused has lacks from mid to before bytes n Reader a r e b = absurd r
-refused has lacks from mid to before bytes n Writer a r e b =
-    subst (AppendsFront from to) (sym (text_bad has bytes before b))
-    (front-more from mid to (answers has before) (bad_text (Some (length before + 1))) a (subst (λ k. AppendsFront mid to (bad_text (Some k))) e r))
+refused has lacks from mid to before bytes n Stream a r e b =
+    subst (BreaksOff from to) (sym (text_bad has bytes before b))
+    (front-more from mid to (answers has before) (bad_text (Some (length before + 1))) a (subst (λ k. BreaksOff mid to (bad_text (Some k))) e r))
+refused has lacks from mid to before bytes n stop a r e b = absurd r
 
 -- memory was refused at a line
-pub lacked : (has : ℕ → Bool) (lacks : Line → Bool) (from mid to : Option (List ℕ)) (before : List Line) (bytes raw : List ℕ) (line : Line) → Appends from mid (answers has before) → Appends mid to [] → lacks line ≡ true → Faces bytes before raw → allowed before (line_of raw) ≡ Some line → WroteUpTo has lacks from to bytes
+lacked : (has : ℕ → Bool) (lacks : Line → Bool) (from mid to : Option (List ℕ)) (before : List Line) (bytes raw : List ℕ) (line : Line) → Appends from mid (answers has before) → Appends mid to [] → lacks line ≡ true → Faces bytes before raw → allowed before (line_of raw) ≡ Some line → WroteUpTo has lacks from to bytes
 lacked has lacks from mid to before bytes raw line a b l f h = record {
   lines = before;
   line = line;
@@ -73,13 +73,24 @@ lacked has lacks from mid to before bytes raw line a b l f h = record {
 }
 
 -- a write failed in an answer
-pub broken : (has : ℕ → Bool) (from mid to : Option (List ℕ)) (before : List Line) (bytes raw : List ℕ) (line : Line) → Appends from mid (answers has before) → AppendsFront mid to (answered has before line) → Faces bytes before raw → allowed before (line_of raw) ≡ Some line → AppendsFront from to (text has bytes)
+broken : (has : ℕ → Bool) (from mid to : Option (List ℕ)) (before : List Line) (bytes raw : List ℕ) (line : Line) → Appends from mid (answers has before) → BreaksOff mid to (answered has before line) → Faces bytes before raw → allowed before (line_of raw) ≡ Some line → BreaksOff from to (text has bytes)
 broken has from mid to before bytes raw line a b f h =
     let good = faces_good bytes before raw line f h in
     let front = text_front has bytes (before ++ line ∷ []) good.0 (good.1 ∙ sym (append_assoc before (line ∷ []) good.0)) in
     front-longer from to (answers has before ++ answered has before line) front.0 (text has bytes)
     (front-more from mid to (answers has before) (answered has before line) a b)
     (front.1 ∙ ap (λ z. z ++ front.0) (answers-push has before line))
+
+-- a line was not answered
+pub unanswered : (stands : (ℕ → Bool) → List Line → Type 0) (has : ℕ → Bool) (lacks : Line → Bool)
+    (from mid to : Option (List ℕ)) (before : List Line) (bytes raw : List ℕ) (line : Line) (stop : Fault)
+    → Appends from mid (answers has before) → Answers stands lacks has before line mid to (Err stop)
+    → Faces bytes before raw → allowed before (line_of raw) ≡ Some line → Stopped has lacks from to stop bytes
+unanswered stands has lacks from mid to before bytes raw line OutOfMemory a r f h =
+    lacked has lacks from mid to before bytes raw line a r.0 r.1 f h
+unanswered stands has lacks from mid to before bytes raw line Stream a r f h =
+    broken has from mid to before bytes raw line a r f h
+unanswered stands has lacks from mid to before bytes raw line stop a r f h = absurd r
 
 -- a line was answered
 pub judged : (stands : (ℕ → Bool) → List Line → Type 0) (has : ℕ → Bool) (before : List Line) (raw : List ℕ) (line : Line) (from mid to : Option (List ℕ)) (counted : Bool) (old new : Progress) → Appends from mid (answers has before) → old.lines ≡ length before → old.steps ≡ length (accepted has before) → allowed before (line_of raw) ≡ Some line → Answered stands has before line mid to counted → new.lines ≡ old.lines + 1 → new.steps ≡ old.steps + cond counted 1 0 → new.line.items ≡ [] → JudgedGood stands has before raw from to new
@@ -94,14 +105,13 @@ judged stands has before raw line from mid to counted old new a l s h answer nl 
 }
 
 -- the bytes in which a line was found bad, or its answer broke off
-judges : (has : ℕ → Bool) (lacks : Line → Bool) (from to : Option (List ℕ)) (stop : Stop) (bytes : List ℕ) → ((more : List ℕ) → Stopped has lacks from to stop (bytes ++ more)) → (whole_lines bytes ≡ bytes) ⊎ (80 < length (unfinished_line bytes)) → Judges has from to stop bytes
+judges : (has : ℕ → Bool) (lacks : Line → Bool) (from to : Option (List ℕ)) (stop : Fault) (bytes : List ℕ) → ((more : List ℕ) → Stopped has lacks from to stop (bytes ++ more)) → (whole_lines bytes ≡ bytes) ⊎ (80 < length (unfinished_line bytes)) → Judges has from to stop bytes
 judges has lacks from to (BadLine n) bytes s e = record { front = bytes; rest = []; is_front = append-nil bytes; bad = ap bad_line (sym (append-nil bytes)) ∙ (s []).bad; ended = e }
-judges has lacks from to OutOfMemory bytes s e = tt
-judges has lacks from to Reader bytes s e = tt
-judges has lacks from to Writer bytes s e = record { front = bytes; rest = []; is_front = append-nil bytes; wrote = s; ended = e }
+judges has lacks from to Stream bytes s e = record { front = bytes; rest = []; is_front = append-nil bytes; wrote = s; ended = e }
+judges has lacks from to stop bytes s e = tt
 
 -- and more of them
-judges_more : (has : ℕ → Bool) (from to : Option (List ℕ)) (stop : Stop) (bytes more : List ℕ) → Judges has from to stop bytes → Judges has from to stop (bytes ++ more)
+judges_more : (has : ℕ → Bool) (from to : Option (List ℕ)) (stop : Fault) (bytes more : List ℕ) → Judges has from to stop bytes → Judges has from to stop (bytes ++ more)
 judges_more has from to (BadLine n) bytes more j = record {
   front = j.front;
   rest = j.rest ++ more;
@@ -109,18 +119,17 @@ judges_more has from to (BadLine n) bytes more j = record {
   bad = j.bad;
   ended = j.ended;
 }
-judges_more has from to OutOfMemory bytes more j = tt
-judges_more has from to Reader bytes more j = tt
-judges_more has from to Writer bytes more j = record {
+judges_more has from to Stream bytes more j = record {
   front = j.front;
   rest = j.rest ++ more;
   is_front = sym (append_assoc j.front j.rest more) ∙ ap (λ z. z ++ more) j.is_front;
   wrote = j.wrote;
   ended = j.ended;
 }
+judges_more has from to stop bytes more j = tt
 
 -- a line ended at an LF
-pub fed_end : (old stands : (ℕ → Bool) → List Line → Type 0) (lacks : Line → Bool) (has : ℕ → Bool) (done : List ℕ) (before : List Line) (from mid to : Option (List ℕ)) (p q : Progress) (result : Result Unit Stop) → At old has done before from mid p → Judged stands lacks has before p.line.items from to q result → Fed stands lacks has (done ++ 10 ∷ []) from to q result
+pub fed_end : (old stands : (ℕ → Bool) → List Line → Type 0) (lacks : Line → Bool) (has : ℕ → Bool) (done : List ℕ) (before : List Line) (from mid to : Option (List ℕ)) (p q : Progress) (result : Result Unit Fault) → At old has done before from mid p → Judged stands lacks has before p.line.items from to q result → Fed stands lacks has (done ++ 10 ∷ []) from to q result
 fed_end old stands lacks has done before from mid to p q (Ok fed) at j = (
   before ++ j.line ∷ [],
   record {
@@ -142,13 +151,13 @@ fed_end old stands lacks has done before from mid to p q (Err stop) at j = (
 )
 
 -- the 81st byte of a line
-stopped_long : (stands : (ℕ → Bool) → List Line → Type 0) (lacks : Line → Bool) (has : ℕ → Bool) (done : List ℕ) (before : List Line) (b : ℕ) (from mid to : Option (List ℕ)) (p : Progress) (stop : Stop) → At stands has done before from mid p → length p.line.items ≡ 80 → b ≢ 10 → Refuses mid to (p.lines + 1) stop → (more : List ℕ) → Stopped has lacks from to stop ((done ++ b ∷ []) ++ more)
+stopped_long : (stands : (ℕ → Bool) → List Line → Type 0) (lacks : Line → Bool) (has : ℕ → Bool) (done : List ℕ) (before : List Line) (b : ℕ) (from mid to : Option (List ℕ)) (p : Progress) (stop : Fault) → At stands has done before from mid p → length p.line.items ≡ 80 → b ≢ 10 → Refuses mid to (p.lines + 1) stop → (more : List ℕ) → Stopped has lacks from to stop ((done ++ b ∷ []) ++ more)
 stopped_long stands lacks has done before b from mid to p stop at long ne r more =
     let far = reached_long done before p.line.items more b at.stood.reached long ne in
     let faces : Faces ((done ++ b ∷ []) ++ more) before far.0 = subst (λ z. Faces z before far.0) (sym (append_assoc done (b ∷ []) more)) far.1 in
     refused has lacks from mid to before ((done ++ b ∷ []) ++ more) (p.lines + 1) stop at.wrote r (ap (λ n. n + 1) at.stood.lines) (faces_bad ((done ++ b ∷ []) ++ more) before far.0 faces (ap (allowed before) far.2))
 
-pub fed_long : (stands : (ℕ → Bool) → List Line → Type 0) (lacks : Line → Bool) (has : ℕ → Bool) (done : List ℕ) (before : List Line) (b : ℕ) (from mid to : Option (List ℕ)) (p : Progress) (stop : Stop) → At stands has done before from mid p → length p.line.items ≡ 80 → b ≢ 10 → Refuses mid to (p.lines + 1) stop → ((more : List ℕ) → Stopped has lacks from to stop ((done ++ b ∷ []) ++ more)) × Judges has from to stop (done ++ b ∷ [])
+pub fed_long : (stands : (ℕ → Bool) → List Line → Type 0) (lacks : Line → Bool) (has : ℕ → Bool) (done : List ℕ) (before : List Line) (b : ℕ) (from mid to : Option (List ℕ)) (p : Progress) (stop : Fault) → At stands has done before from mid p → length p.line.items ≡ 80 → b ≢ 10 → Refuses mid to (p.lines + 1) stop → ((more : List ℕ) → Stopped has lacks from to stop ((done ++ b ∷ []) ++ more)) × Judges has from to stop (done ++ b ∷ [])
 fed_long stands lacks has done before b from mid to p stop at long ne r =
     let stopped : (more : List ℕ) → Stopped has lacks from to stop ((done ++ b ∷ []) ++ more) = stopped_long stands lacks has done before b from mid to p stop at long ne r in
     let unfinished : unfinished_line (done ++ b ∷ []) ≡ p.line.items ++ b ∷ [] = reached_unfinished (done ++ b ∷ []) before (p.line.items ++ b ∷ []) (reached_byte done before p.line.items b at.stood.reached ne) in
@@ -172,7 +181,7 @@ fed_byte stands has done before b from to p q at ne room l s i = (
 )
 
 -- a stop is one whatever follows
-pub fed_stop : (has : ℕ → Bool) (lacks : Line → Bool) (from to : Option (List ℕ)) (stop : Stop) (done all rest : List ℕ) → all ≡ done ++ rest → ((more : List ℕ) → Stopped has lacks from to stop (done ++ more)) × Judges has from to stop done → ((more : List ℕ) → Stopped has lacks from to stop (all ++ more)) × Judges has from to stop all
+pub fed_stop : (has : ℕ → Bool) (lacks : Line → Bool) (from to : Option (List ℕ)) (stop : Fault) (done all rest : List ℕ) → all ≡ done ++ rest → ((more : List ℕ) → Stopped has lacks from to stop (done ++ more)) × Judges has from to stop done → ((more : List ℕ) → Stopped has lacks from to stop (all ++ more)) × Judges has from to stop all
 fed_stop has lacks from to stop done all rest e h = (
   λ more. subst (Stopped has lacks from to stop) (sym (append_assoc done rest more) ∙ ap (λ z. z ++ more) (sym e)) (h.0 (rest ++ more)),
   subst (Judges has from to stop) (sym e) (judges_more has from to stop done rest h.1),
@@ -197,7 +206,7 @@ ended_line old stands has done before from mid to p q count at ne j c =
     )
 
 -- the input ended in a bad line, or a line that was not answered
-pub ended_stop : (old stands : (ℕ → Bool) → List Line → Type 0) (lacks : Line → Bool) (has : ℕ → Bool) (done : List ℕ) (before : List Line) (from mid to : Option (List ℕ)) (p q : Progress) (stop : Stop) → At old has done before from mid p → p.line.items ≢ [] → Judged stands lacks has before p.line.items from to q (Err stop) → Stopped has lacks from to stop done
+pub ended_stop : (old stands : (ℕ → Bool) → List Line → Type 0) (lacks : Line → Bool) (has : ℕ → Bool) (done : List ℕ) (before : List Line) (from mid to : Option (List ℕ)) (p q : Progress) (stop : Fault) → At old has done before from mid p → p.line.items ≢ [] → Judged stands lacks has before p.line.items from to q (Err stop) → Stopped has lacks from to stop done
 ended_stop old stands lacks has done before from mid to p q stop at ne j = j done (reached_last done before p.line.items at.stood.reached ne)
 
 -- what was written went out
@@ -242,22 +251,29 @@ failed_place has reads given left from to bytes (inl broke) = by_place (broke_pl
     by_place (inr long) = inr (inl long)
 
 -- a run stopped at a line, an error that is no failed read
-pub ran_stopped : (stands : (ℕ → Bool) → List Line → Type 0) (lacks : Line → Bool) (has : ℕ → Bool) (reads : ℕ) (given left from to : Option (List ℕ)) (stop : Stop) (input : List ℕ) → ReadWithin reads given left input → Stopped has lacks from to stop input → ((more : List ℕ) → left ≡ Some more → Stopped has lacks from to stop (input ++ more)) → Judges has from to stop input ⊎ ReadToEnd reads given left input → Ran stands lacks has reads given left from to (Err stop)
-ran_stopped stands lacks has reads given left from to (BadLine n) input c s m j = (input, c, record { given = s; with_left = m }, j)
-ran_stopped stands lacks has reads given left from to OutOfMemory input c s m j = (input, c, record { given = s; with_left = m })
-ran_stopped stands lacks has reads given left from to Reader input c s m j = absurd s
-ran_stopped stands lacks has reads given left from to Writer input c s m j = (input, c, record { front = record { given = s; with_left = m }; place = failed_place has reads given left from to input j })
+pub ran_stopped : (lacks : Line → Bool) (has : ℕ → Bool) (reads : ℕ) (given left from to : Option (List ℕ)) (stop : Fault)
+    (input : List ℕ) → ReadWithin reads given left input → Stopped has lacks from to stop input
+    → ((more : List ℕ) → left ≡ Some more → Stopped has lacks from to stop (input ++ more))
+    → Judges has from to stop input ⊎ ReadToEnd reads given left input → RunStopped lacks has reads given left from to stop
+ran_stopped lacks has reads given left from to (BadLine n) input c s m j = (input, c, record { given = s; with_left = m }, j)
+ran_stopped lacks has reads given left from to OutOfMemory input c s m j = (input, c, record { given = s; with_left = m })
+ran_stopped lacks has reads given left from to Stream input c s m j =
+    (input, c, inr (record { front = record { given = s; with_left = m }; place = failed_place has reads given left from to input j }))
+ran_stopped lacks has reads given left from to stop input c s m j = absurd s
 
 -- a run stopped in the middle of its input
-pub ran_within : (stands : (ℕ → Bool) → List Line → Type 0) (lacks : Line → Bool) (has : ℕ → Bool) (reads : ℕ) (given left from to : Option (List ℕ)) (stop : Stop) (input : List ℕ) → ReadWithin reads given left input → ((more : List ℕ) → Stopped has lacks from to stop (input ++ more)) × Judges has from to stop input → Ran stands lacks has reads given left from to (Err stop)
-ran_within stands lacks has reads given left from to stop input c s =
-    ran_stopped stands lacks has reads given left from to stop input c (subst (Stopped has lacks from to stop) (append-nil input) (s.0 [])) (λ more is. s.0 more) (inl s.1)
+pub ran_within : (lacks : Line → Bool) (has : ℕ → Bool) (reads : ℕ) (given left from to : Option (List ℕ)) (stop : Fault)
+    (input : List ℕ) → ReadWithin reads given left input
+    → ((more : List ℕ) → Stopped has lacks from to stop (input ++ more)) × Judges has from to stop input
+    → RunStopped lacks has reads given left from to stop
+ran_within lacks has reads given left from to stop input c s =
+    ran_stopped lacks has reads given left from to stop input c (subst (Stopped has lacks from to stop) (append-nil input) (s.0 [])) (λ more is. s.0 more) (inl s.1)
 
 -- a run came to the end of its input
-pub ran_ended : (stands : (ℕ → Bool) → List Line → Type 0) (lacks : Line → Bool) (has : ℕ → Bool) (reads : ℕ) (given left from to : Option (List ℕ)) (result : Result (Option ℕ) Stop) (input : List ℕ) → ReadToEnd reads given left input → Ended stands lacks has input from to result → Ran stands lacks has reads given left from to result
+pub ran_ended : (stands : (ℕ → Bool) → List Line → Type 0) (lacks : Line → Bool) (has : ℕ → Bool) (reads : ℕ) (given left from to : Option (List ℕ)) (result : Result (Option ℕ) Fault) (input : List ℕ) → ReadToEnd reads given left input → Ended stands lacks has input from to result → Ran stands lacks has reads given left from to result
 ran_ended stands lacks has reads given left from to (Ok count) input c h = (input, c, h.0, h.1, h.2)
 ran_ended stands lacks has reads given left from to (Err stop) input c h =
-    ran_stopped stands lacks has reads given left from to stop input (record { consumed = c.consumed; few = omega (arith, c.few) }) h
+    ran_stopped lacks has reads given left from to stop input (record { consumed = c.consumed; few = omega (arith, c.few) }) h
     (λ more is. subst (λ z. Stopped has lacks from to stop (input ++ z)) (sym (at_end_left left more c.at_end is)) (subst (Stopped has lacks from to stop) (sym (append-nil input)) h)) (inr c)
 
 -- a line of no bytes

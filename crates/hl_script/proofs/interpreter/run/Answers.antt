@@ -1,8 +1,8 @@
-use Rattle.std.proofs.Common.{rules, ◌≤◌, ◌*◌, [], ◌++◌, length, take, arith, length-append, length-take}
+use Rattle.std.proofs.Common.{rules, ◌≤◌, inl, ◌*◌, [], ◌++◌, length, take, arith, length-append, length-take}
 use Rattle.std.proofs.lemmas.Result.{err_from_is_err_and}
 use Rattle.hl_script.proofs.KnownLaws.{Consumes-nothing, Consumes-more, Consumes-kept}
-use Rattle.hl_script.proofs.EngineLaws.{at_start, at_flushed, read_none, read_some, read_kept, ran_ended, ran_within, ran_out}
-use Rattle.hl_script.proofs.engine.run.Goals as goal
+use Rattle.hl_script.proofs.InterpreterLaws.{at_start, at_flushed, read_none, read_some, read_kept, ran_ended, ran_within, ran_out}
+use Rattle.hl_script.proofs.interpreter.run.Goals as goal
 
 pub loop-reads-init : goal.loop-reads-init
 loop-reads-init g c = record {
@@ -33,7 +33,7 @@ returns-in_err-take_bytes-in-Ok-clause-ran g c = λ has standing.
     let here = c.loop-reads.invariant.fed has standing in
     let p = err_from_is_err_and c.from_residual.result c.from_residual.ensures.1 in
     let bytes = take c.in-Ok.count c.read.new.buffer in
-    rw (p.1, p.2) (ran_within (g.M.Machine.stands c.take_bytes.new.machine) g.M.Machine.lacks has c.args.reads.now.most (g.R.Read.remaining c.args.reader.now) (g.R.Read.remaining c.read.new.reader) (g.W.Write.contents c.args.out.now) (g.W.Write.contents c.take_bytes.new.out) c.in_err-take_bytes-in-Ok.field-0.0 (here.0 ++ bytes)
+    rw (p.1, p.2) (ran_within g.M.Machine.lacks has c.args.reads.now.most (g.R.Read.remaining c.args.reader.now) (g.R.Read.remaining c.read.new.reader) (g.W.Write.contents c.args.out.now) (g.W.Write.contents c.take_bytes.new.out) c.in_err-take_bytes-in-Ok.field-0.0 (here.0 ++ bytes)
     (read_some (g.R.Read.remaining c.args.reader.now) (g.R.Read.remaining c.loop-reads.reader) (g.R.Read.remaining c.read.new.reader) here.0 c.read.new.buffer c.in-Ok.count c.loop-reads.reads.made c.args.reads.now.most
     here.2 c.in-Ok.ensures.bytes.0 (search rules) here.4 (search rules))
     (c.in_err-take_bytes-in-Ok.ensures.fed has here.0 here.1 (g.W.Write.contents c.args.out.now) (at_flushed (g.W.Write.contents c.args.out.now) (g.W.Write.contents c.loop-reads.out) (g.W.Write.contents c.flush.new.self) here.3 c.flush.ensures.bytes)))
@@ -44,8 +44,8 @@ returns-in-Err-clause-ran g c = λ has standing.
       here.0,
       read_kept (g.R.Read.remaining c.args.reader.now) (g.R.Read.remaining c.read.new.reader) here.0 c.loop-reads.reads.made c.args.reads.now.most
           (Consumes-kept (g.R.Read.remaining c.args.reader.now) (g.R.Read.remaining c.loop-reads.reader) (g.R.Read.remaining c.read.new.reader) here.0 here.2 c.in-Err.ensures.bytes) here.4 (search rules),
-      ran_out (g.M.Machine.stands c.loop-reads.machine) has here.0 here.1 (g.W.Write.contents c.args.out.now) (g.W.Write.contents c.flush.new.self) c.loop-reads.progress
-          (at_flushed (g.W.Write.contents c.args.out.now) (g.W.Write.contents c.loop-reads.out) (g.W.Write.contents c.flush.new.self) here.3 c.flush.ensures.bytes),
+      inl (ran_out (g.M.Machine.stands c.loop-reads.machine) has here.0 here.1 (g.W.Write.contents c.args.out.now) (g.W.Write.contents c.flush.new.self) c.loop-reads.progress
+          (at_flushed (g.W.Write.contents c.args.out.now) (g.W.Write.contents c.loop-reads.out) (g.W.Write.contents c.flush.new.self) here.3 c.flush.ensures.bytes)),
     )
 
 pub returns-then-is_err-clause-ran : goal.returns-then-is_err-clause-ran
@@ -53,8 +53,8 @@ returns-then-is_err-clause-ran g c = λ has standing.
     let here = c.loop-reads.invariant.fed has standing in (
       here.0,
       read_kept (g.R.Read.remaining c.args.reader.now) (g.R.Read.remaining c.loop-reads.reader) here.0 c.loop-reads.reads.made c.args.reads.now.most here.2 here.4 (search rules),
-      ran_out (g.M.Machine.stands c.loop-reads.machine) has here.0 here.1 (g.W.Write.contents c.args.out.now) (g.W.Write.contents c.flush.new.self) c.loop-reads.progress
-          (at_flushed (g.W.Write.contents c.args.out.now) (g.W.Write.contents c.loop-reads.out) (g.W.Write.contents c.flush.new.self) here.3 c.flush.ensures.bytes),
+      inl (ran_out (g.M.Machine.stands c.loop-reads.machine) has here.0 here.1 (g.W.Write.contents c.args.out.now) (g.W.Write.contents c.flush.new.self) c.loop-reads.progress
+          (at_flushed (g.W.Write.contents c.args.out.now) (g.W.Write.contents c.loop-reads.out) (g.W.Write.contents c.flush.new.self) here.3 c.flush.ensures.bytes)),
     )
 
 pub loop-reads-preserved : goal.loop-reads-preserved
@@ -83,17 +83,29 @@ returns-clause-ran g c = λ has standing.
     let here = c.loop-reads.invariant.fed has standing in (
       here.0,
       read_kept (g.R.Read.remaining c.args.reader.now) (g.R.Read.remaining c.loop-reads.reader) here.0 c.loop-reads.reads.made c.args.reads.now.most here.2 here.4 (search rules),
-      ran_out (g.M.Machine.stands c.loop-reads.machine) has here.0 here.1 (g.W.Write.contents c.args.out.now) (g.W.Write.contents c.loop-reads.out) c.loop-reads.progress here.3,
+      inl (ran_out (g.M.Machine.stands c.loop-reads.machine) has here.0 here.1 (g.W.Write.contents c.args.out.now) (g.W.Write.contents c.loop-reads.out) c.loop-reads.progress here.3),
     )
 
 pub finish-requires-clause-standing : goal.finish-requires-clause-standing
 finish-requires-clause-standing g c =
     let r = c.requires.standing in
     let here = c.loop-reads.invariant.fed r.0 r.1 in
-    (r.0, here.0, here.1, g.W.Write.contents c.args.out.now, (at_flushed (g.W.Write.contents c.args.out.now) (g.W.Write.contents c.loop-reads.out) (g.W.Write.contents c.flush.new.self) here.3 c.flush.ensures.bytes))
+    record {
+      has = r.0;
+      done = here.0;
+      before = here.1;
+      from = g.W.Write.contents c.args.out.now;
+      here = at_flushed (g.W.Write.contents c.args.out.now) (g.W.Write.contents c.loop-reads.out) (g.W.Write.contents c.flush.new.self) here.3 c.flush.ensures.bytes;
+    }
 
 pub take_bytes-requires-clause-standing : goal.take_bytes-requires-clause-standing
 take_bytes-requires-clause-standing g c =
     let r = c.requires.standing in
     let here = c.loop-reads.invariant.fed r.0 r.1 in
-    (r.0, here.0, here.1, g.W.Write.contents c.args.out.now, (at_flushed (g.W.Write.contents c.args.out.now) (g.W.Write.contents c.loop-reads.out) (g.W.Write.contents c.flush.new.self) here.3 c.flush.ensures.bytes))
+    record {
+      has = r.0;
+      done = here.0;
+      before = here.1;
+      from = g.W.Write.contents c.args.out.now;
+      here = at_flushed (g.W.Write.contents c.args.out.now) (g.W.Write.contents c.loop-reads.out) (g.W.Write.contents c.flush.new.self) here.3 c.flush.ensures.bytes;
+    }

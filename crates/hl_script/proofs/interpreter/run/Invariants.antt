@@ -1,8 +1,8 @@
 use Rattle.std.proofs.Common.{◌≡◌, ℕ, ◌*◌, ◌-◌, ◌≤◌, Bool, List, [], length}
 use Rattle.std.specs.Io.KnownBytes.{Consumes}
 use Rattle.hl_line.specs.declared.line.Line.{Line}
-use Rattle.hl_script.specs.Engine.{At}
-use Rattle.hl_script.proofs.engine.run.Given as goal
+use Rattle.hl_script.specs.Interpreter.{At}
+use Rattle.hl_script.proofs.interpreter.run.Given as goal
 
 -- the reader gave some bytes, no more than its reads could give, and the run has come to their end
 abbrev pub invariant-loop-reads : goal.invariant-loop-reads

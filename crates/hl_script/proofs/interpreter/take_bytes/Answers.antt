@@ -1,9 +1,9 @@
 use Rattle.std.proofs.Common.{◌≡◌, ◌+◌, [], ◌∷◌, ◌++◌, take, drop, get_or, sym, ap, ◌∙◌, subst, append_assoc, arith, take_all}
 use Rattle.std.proofs.lemmas.List.{take-append-drop, take_more}
 use Rattle.std.proofs.lemmas.Result.{err_from_is_err_and}
-use Rattle.hl_script.specs.Engine.{At}
-use Rattle.hl_script.proofs.EngineLaws.{fed_stop}
-use Rattle.hl_script.proofs.engine.take_bytes.Goals as goal
+use Rattle.hl_script.specs.Interpreter.{At}
+use Rattle.hl_script.proofs.InterpreterLaws.{fed_stop}
+use Rattle.hl_script.proofs.interpreter.take_bytes.Goals as goal
 
 pub returns-in_err-take_byte-clause-fed : goal.returns-in_err-take_byte-clause-fed
 returns-in_err-take_byte-clause-fed g c = λ has done before from at.
@@ -39,5 +39,5 @@ returns-clause-fed g c = λ has done before from at.
 pub take_byte-requires-clause-standing : goal.take_byte-requires-clause-standing
 take_byte-requires-clause-standing g c =
     let r = c.requires.standing in
-    let here = c.loop-byte.invariant.fed r.0 r.1 r.2 r.3 r.4 in
-    (r.0, r.1 ++ take c.loop-byte.byte-index c.args.bytes.now, here.0, r.3, here.1)
+    let now = c.loop-byte.invariant.fed r.has r.done r.before r.from r.here in
+    record { has = r.has; done = r.done ++ take c.loop-byte.byte-index c.args.bytes.now; before = now.0; from = r.from; here = now.1 }
