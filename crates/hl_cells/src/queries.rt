@@ -16,7 +16,7 @@ impl<E: Epochs, F: Task, P: Promise> Engine<E, F, P> {
     /// The sizes that it was opened with.
     pub fn params(&self) -> Params
         ensures value { result ≡ self.now.core.sizes }
-        ensures known { IsEngine self.now }
+        ensures valid { IsEngine self.now }
     {
         self.core.params()
     }

@@ -26,7 +26,7 @@ impl<E: Epochs + Drop, F: Task, P: Promise> Engine<E, F, P> {
         ensures jobs { JobsKept self.old step.now self.new result }
         ensures ran { (A : List STEP) → EngineStands self.old A → RunsItsJob F.gives self.old A step.now result }
         ensures refused { OnErr result (self.new ≡ self.old) }
-        ensures stood { IsEngine self.old }
+        ensures valid { IsEngine self.old }
     {
         match *step {
             Step::Acquire { t } => self.acquire(t).map(entered),

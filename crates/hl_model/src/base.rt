@@ -98,7 +98,7 @@ impl Base {
     /// `OutOfMemory` where memory for its rows was refused.
     pub fn copied(&self, alloc: Global) -> Result<Base, Fault>
         ensures ok { IfOk result (λ base. base ≡ self.now) }
-        ensures known { IsBase self.now }
+        ensures valid { IsBase self.now }
         ensures err { IfErr result (λ fault. fault ≡ Fault.OutOfMemory) }
     {
         let mut base = Base::opening(alloc, self.params)?;

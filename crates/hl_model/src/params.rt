@@ -46,7 +46,7 @@ impl Params {
     /// The words of a page, P: a power of two from 4 to 4,096.
     pub fn page(self) -> u64
         ensures value { result ≡ self.page }
-        ensures in_range { AreInRange self }
+        ensures valid { AreInRange self }
     {
         self.p
     }
@@ -54,7 +54,7 @@ impl Params {
     /// The number of frames, F: 2 to 256.
     pub fn frames(self) -> u64
         ensures value { result ≡ self.frames }
-        ensures in_range { AreInRange self }
+        ensures valid { AreInRange self }
     {
         self.f
     }
@@ -62,7 +62,7 @@ impl Params {
     /// The number of thread slots, S: 1 to 64.
     pub fn slots(self) -> u64
         ensures value { result ≡ self.slots }
-        ensures in_range { AreInRange self }
+        ensures valid { AreInRange self }
     {
         self.s
     }
@@ -70,7 +70,7 @@ impl Params {
     /// The places of the drain list, D: 1 to 64.
     pub fn drain(self) -> u64
         ensures value { result ≡ self.drain }
-        ensures in_range { AreInRange self }
+        ensures valid { AreInRange self }
     {
         self.d
     }

@@ -54,7 +54,7 @@ impl Plain {
     pub fn open(alloc: Global, params: Params) -> Result<Plain, Fault>
         ensures ok { IfOk result (λ made. made ≡ begun (base_of params []) true) }
         ensures err { IfErr result (λ fault. fault ≡ Fault.OutOfMemory) }
-        ensures known { IfOk result IsHistory }
+        ensures valid { IfOk result IsHistory }
     {
         let room = params.frames();
         let base = Base::opening(alloc, params)?;
@@ -68,7 +68,7 @@ impl Plain {
     pub fn from_base(alloc: Global, base: &Base) -> Result<Plain, Fault>
         ensures ok { IfOk result (λ made. made ≡ begun base.now false) }
         ensures err { IfErr result (λ fault. fault ≡ Fault.OutOfMemory) }
-        ensures known { IfOk result IsHistory }
+        ensures valid { IfOk result IsHistory }
     {
         let room = base.params().frames();
         let base = base.copied(alloc)?;
@@ -104,7 +104,7 @@ impl Plain {
             → Follows self.old A → AnswersBehind A self.old step.now result self.new }
         ensures follows { (A : List Step) → Follows self.old A → Follows self.new A }
         ensures room { length self.old.steps < self.old.base.sizes.frames → result ≡ told self.old step.now }
-        ensures known { IsHistory self.new }
+        ensures valid { IsHistory self.new }
     {
         self.make(step)
     }
@@ -113,7 +113,7 @@ impl Plain {
     fn make(&mut self, step: &Step) -> Result<Reply, Fault>
         ensures answer { Answers self.old step.now result self.new }
         ensures room { length self.old.steps < self.old.base.sizes.frames → result ≡ told self.old step.now }
-        ensures known { IsHistory self.new }
+        ensures valid { IsHistory self.new }
     {
         if let Some(fault) = faults::fault_at(&self.present(), step) {
             return Err(fault);
@@ -179,7 +179,7 @@ impl Plain {
     /// The steps accepted since the base, oldest first.
     pub fn steps(&self) -> &[Step]
         ensures steps { result.now ≡ self.now.steps }
-        ensures known { IsHistory self.now }
+        ensures valid { IsHistory self.now }
     {
         self.steps.as_slice()
     }

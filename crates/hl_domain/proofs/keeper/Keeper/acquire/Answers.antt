@@ -9,8 +9,8 @@ use Rattle.hl_domain.proofs.keeper.Keeper.acquire.Goals as goal
 
 pub unreachable-requires : goal.unreachable-requires
 unreachable-requires g c =
-    let A = c.in-Ok.ensures.stood.0 in
-    c.in_default.not-Entered _ _ (reply_is _ _ c.in-Ok.reply _ c.one.new.self (c.in-Ok.ensures.made A c.in-Ok.ensures.stood.1))
+    let A = c.in-Ok.ensures.valid.0 in
+    c.in_default.not-Entered _ _ (reply_is _ _ c.in-Ok.reply _ c.one.new.self (c.in-Ok.ensures.made A c.in-Ok.ensures.valid.1))
 
 pub index_mut-requires : goal.index_mut-requires
 index_mut-requires g c =

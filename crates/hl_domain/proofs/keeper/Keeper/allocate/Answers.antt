@@ -30,15 +30,15 @@ returns-in_err-place-clause-made g c =
 
 pub unreachable-requires : goal.unreachable-requires
 unreachable-requires g c =
-    let A = c.in_ok-place.ensures.stood.0 in
-    c.in_default.not-At _ (accepted c.args.self.now A c.args.pass.now (ALLOCATE c.pass.inside.slot c.args.n) c.call.new.self c.in_ok-place.field-0 (c.in_ok-place.ensures.made A c.in_ok-place.ensures.stood.1)).1
+    let A = c.in_ok-place.ensures.valid.0 in
+    c.in_default.not-At _ (accepted c.args.self.now A c.args.pass.now (ALLOCATE c.pass.inside.slot c.args.n) c.call.new.self c.in_ok-place.field-0 (c.in_ok-place.ensures.made A c.in_ok-place.ensures.valid.1)).1
 
 -- where the record is placed
 placed : (g : _) (c : In-At g) → Placed c.args.self.now.core.sizes.page c.in-At.place c.args.n (seen c.args.pass.now)
 placed g c =
     let k = c.args.self.now in
-    let A = c.in_ok-place.ensures.stood.0 in
-    let st = c.in_ok-place.ensures.stood.1 in
+    let A = c.in_ok-place.ensures.valid.0 in
+    let st = c.in_ok-place.ensures.valid.1 in
     let p : PassRecord = (record { slot = c.pass.inside.slot; stamp = c.pass.inside.stamp; held = c.pass.inside.held; touches = c.pass.inside.touches.items; rider = c.pass.inside.rider }) in
     let made = rw (sym c.pass.view_is) at c.in_ok-place.ensures.made in
     let known = rw (sym c.pass.view_is) at c.in_ok-known.ensures in
