@@ -4,7 +4,7 @@ ghost use Rattle.hl_cells.specs.HeldActions.{fires};
 
 use crate::undone::Undone;
 use hl_action::{Promise, Ready, Task};
-use hl_model::Fault;
+use hl_model::{Fault, with_room};
 use std::alloc::Global;
 use std::marker::Model;
 
@@ -36,7 +36,7 @@ impl<F: Task, P: Promise> Held<F, P> {
         ensures ok { IfOk result (λ held. held ≡ record { room = places; actions = [] }) }
         ensures err { IfErr result (λ fault. fault ≡ Fault.OutOfMemory) }
     {
-        let row = Vec::with_capacity(alloc, places as usize).map_err(|_| Fault::OutOfMemory)?;
+        let row = with_room(alloc, places)?;
         Ok(Held { row })
     }
 

@@ -4,7 +4,7 @@ use crate::action::Action;
 use crate::pending::Pending;
 use crate::visits::Visits;
 use arrayvec::ArrayVec;
-use hl_model::{Fault, Kind, Tagged, Waiting};
+use hl_model::{Fault, Kind, Tagged, Waiting, with_room};
 use std::alloc::Global;
 use std::marker::Model;
 
@@ -44,7 +44,7 @@ impl<J> Drain<J> {
     {
         let limit = d as usize;
         // The row of actions comes last: where it is refused, none is left to be dropped, and `J` may forbid that.
-        let taken = Vec::with_capacity(alloc, limit).map_err(|_| Fault::OutOfMemory)?;
+        let taken = with_room(alloc, d)?;
         let pending = Pending::open(alloc, limit).map_err(|_| Fault::OutOfMemory)?;
         Ok(Drain {
             limit,

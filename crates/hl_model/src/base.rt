@@ -6,7 +6,7 @@ use crate::action::Waiting;
 use crate::fault::Fault;
 use crate::frame::Held;
 use crate::params::Params;
-use crate::rows::filled;
+use crate::rows::{filled, with_room};
 use crate::slot::Slot;
 use crate::view::Six;
 use std::alloc::Global;
@@ -161,15 +161,6 @@ impl Base {
     {
         &self.frames
     }
-}
-
-// An empty row with room for n elements.
-fn with_room<T>(alloc: Global, n: u64) -> Result<Vec<T>, Fault>
-    ensures empty { IfOk result (λ row. row.items ≡ []) }
-    ensures room { IfOk result (λ row. n ≤ vec_capacity row) }
-    ensures err { IfErr result (λ fault. fault ≡ Fault.OutOfMemory) }
-{
-    Vec::with_capacity(alloc, n as usize).map_err(|_| Fault::OutOfMemory)
 }
 
 // Puts other elements in place of those of a row that has room for them.

@@ -17,7 +17,9 @@ use crate::present::Present;
 use crate::words::word;
 use crate::{faults, replies, snapshots};
 use arrayvec::ArrayVec;
-use hl_model::{Base, Fault, FrameState, Params, Reply, Snapshot, Step, View, Waiting};
+use hl_model::{
+    Base, Fault, FrameState, Params, Reply, Snapshot, Step, View, Waiting, with_room,
+};
 use std::alloc::Global;
 use std::marker::Model;
 
@@ -82,9 +84,9 @@ impl Plain {
         ensures ok { IfOk result (λ made. made ≡ begun base has_words) }
         ensures err { IfErr result (λ fault. fault ≡ Fault.OutOfMemory) }
     {
-        let steps = row(alloc, room)?;
-        let flushes = row(alloc, room)?;
-        let cleans = row(alloc, room)?;
+        let steps = with_room(alloc, room)?;
+        let flushes = with_room(alloc, room)?;
+        let cleans = with_room(alloc, room)?;
         Ok(Plain {
             base,
             steps,
@@ -190,15 +192,6 @@ impl Plain {
     {
         Present::after(&self.base, &self.steps, &self.flushes, &self.cleans)
     }
-}
-
-// An empty row with room for so many elements.
-fn row<T>(alloc: Global, room: u64) -> Result<Vec<T>, Fault>
-    ensures ok { IfOk result (λ made. made.items ≡ []) }
-    ensures room { IfOk result (λ made. room ≤ vec_capacity made) }
-    ensures err { IfErr result (λ fault. fault ≡ Fault.OutOfMemory) }
-{
-    Vec::with_capacity(alloc, room as usize).map_err(|_| Fault::OutOfMemory)
 }
 
 // Makes room for one element more.
