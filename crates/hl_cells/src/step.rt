@@ -1,14 +1,14 @@
 ghost use Rattle.std.specs.Prelude.{◌≡◌, false, List, OnErr};
 ghost use Rattle.hl_model.specs.declared.step.Step.{Step as STEP};
-ghost use Rattle.hl_core.specs.Steps.{entered_reply};
 ghost use Rattle.hl_cells.specs.Engines.{EngineStands, IsEngine};
 ghost use Rattle.hl_cells.specs.EngineSteps.{Moves, is_job_bump};
 ghost use Rattle.hl_cells.specs.Jobs.{JobsKept, RunsItsJob};
 
 use crate::engine::Engine;
 use hl_action::{Promise, Task};
+use hl_core::entered;
 use hl_epoch::Epochs;
-use hl_model::{Fault, Reply, Slot, Step};
+use hl_model::{Fault, Reply, Step};
 
 impl<E: Epochs + Drop, F: Task, P: Promise> Engine<E, F, P> {
     /// Makes a step, of any kind but a bump, of which a job goes in. The faults are tried in their order, and a
@@ -50,12 +50,4 @@ impl<E: Epochs + Drop, F: Task, P: Promise> Engine<E, F, P> {
             Step::CleanDone { page } => self.clean_done(page).map(Reply::Freed),
         }
     }
-}
-
-/// What a slot has, as the reply to the step by which it entered.
-fn entered(slot: Slot) -> Reply
-    ensures { result ≡ entered_reply slot }
-{
-    let Slot { epoch, view } = slot;
-    Reply::Entered { epoch, view }
 }
