@@ -47,7 +47,7 @@ impl<E: Epochs + Drop, F: Task, P: Promise> Engine<E, F, P> {
     /// would end above 2^48, `Busy` where its page is new and its frame isn't free.
     pub fn allocate(&mut self, t: u64, n: u64) -> Result<u64, Fault>
         ensures moved { Moves P.keeps self.old (ALLOCATE t n) self.new (told AT result) }
-        ensures within { IfOk result (λ place. place + n ≤ 2 ^ 48) }
+        ensures within { IfOk result (λ address. address + n ≤ 2 ^ 48) }
         ensures jobs { JobsStay self.old self.new }
         ensures refused { OnErr result (self.new ≡ self.old) }
         ensures valid { IsEngine self.old }

@@ -146,49 +146,49 @@ impl Offsets {
             in result ≡ unless_fault (size_fault old.page old.tail n) (place_of old.page old.tail n) }
         ensures effect { let old = self.old
             in self.new ≡ unless_refused (size_fault old.page old.tail n) old (allocated n old) }
-        ensures above_tail { IfOk result (λ place. self.old.tail ≤ place) }
+        ensures above_tail { IfOk result (λ address. self.old.tail ≤ address) }
         ensures one_page { IfOk result (IsOnOnePage self.old.page n) }
 
-        // A lower place at or above the tail has the record on two pages.
+        // A lower address at or above the tail has the record on two pages.
         ensures lowest { let old = self.old
-            in IfOk result (λ place. (a : ℕ) → old.tail ≤ a → IsOnOnePage old.page n a → place ≤ a) }
+            in IfOk result (λ address. (a : ℕ) → old.tail ≤ a → IsOnOnePage old.page n a → address ≤ a) }
         ensures rising { NoneFalls self.old self.new }
         ensures valid { IsLog self.new }
     {
-        let place = self.place(n)?;
-        self.allocate_at(place, n);
-        Ok(place)
+        let address = self.place(n)?;
+        self.allocate_at(address, n);
+        Ok(address)
     }
 
-    /// Places a record of n words at `place`, which is where `place` told that it would lie.
-    pub fn allocate_at(&mut self, place: u64, n: u64)
+    /// Places a record of n words at `address`, where `place` told that it would lie.
+    pub fn allocate_at(&mut self, address: u64, n: u64)
         requires { let old = self.old
-            in Ok place ≡ unless_fault (size_fault old.page old.tail n) (place_of old.page old.tail n) }
+            in Ok address ≡ unless_fault (size_fault old.page old.tail n) (place_of old.page old.tail n) }
         ensures effect { self.new ≡ allocated n self.old }
         ensures rising { NoneFalls self.old self.new }
         ensures valid { IsLog self.new }
     {
-        self.tail = place + n;
+        self.tail = address + n;
     }
 
     /// Where `allocate` would place a record of n words, or the fault that it would meet. Changes nothing.
     pub fn place(&self, n: u64) -> Result<u64, Fault>
         ensures answer { let now = self.now
             in result ≡ unless_fault (size_fault now.page now.tail n) (place_of now.page now.tail n) }
-        ensures above_tail { IfOk result (λ place. self.now.tail ≤ place) }
+        ensures above_tail { IfOk result (λ address. self.now.tail ≤ address) }
         ensures one_page { IfOk result (IsOnOnePage self.now.page n) }
         ensures lowest { let now = self.now
-            in IfOk result (λ place. (a : ℕ) → now.tail ≤ a → IsOnOnePage now.page n a → place ≤ a) }
+            in IfOk result (λ address. (a : ℕ) → now.tail ≤ a → IsOnOnePage now.page n a → address ≤ a) }
         ensures valid { IsLog self.now }
     {
         if n == 0 || n > self.page {
             return Err(Fault::Size);
         }
-        let place = self.place_for(n);
-        if place + n > TAIL_MOST {
+        let address = self.place_for(n);
+        if address + n > TAIL_MOST {
             return Err(Fault::SpaceSpent);
         }
-        Ok(place)
+        Ok(address)
     }
 
     // Where n words, at most P, lie on one page at or above the tail. P is a power of two, so the low bits of the tail

@@ -139,9 +139,9 @@ fn place_one<L: Realm>(
     pass: &mut Pass<L>,
     slot: u64,
 ) -> Result<(), Fault> {
-    let place = log.allocate(rt, pass, 8)?;
-    log.store(pass, place, slot)?;
-    log.load(pass, place)?;
+    let address = log.allocate(rt, pass, 8)?;
+    log.store(pass, address, slot)?;
+    log.load(pass, address)?;
     log.refresh(rt, pass)?;
     Ok(())
 }

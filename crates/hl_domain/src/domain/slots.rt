@@ -75,7 +75,7 @@ impl<E: Epochs + Drop, F: Task, P: Promise, L: Realm> Domain<E, F, P, L> {
             (λ a. pass.new ≡ rested (with_tail (a + n) (seen old)) old)
             (λ _. pass.new ≡ old) }
         ensures above { IfOk result (λ a. (seen pass.old).tail ≤ a) }
-        ensures within { IfOk result (λ a. a + n ≤ 2 ^ 48) }
+        ensures within { IfOk result (λ address. address + n ≤ 2 ^ 48) }
         ensures one_page { let page = self.now.sizes.page
             in IfOk result (λ a. a / page ≡ (a + n - 1) / page) }
     {
