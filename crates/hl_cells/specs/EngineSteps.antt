@@ -9,7 +9,7 @@ use Rattle.hl_model.specs.Sizes.{Sizes}
 use Rattle.hl_model.specs.Replies.{word_reply_of, extended}
 use Rattle.hl_action.specs.Firings.{FiringRecord}
 use Rattle.hl_action.specs.Jobs.{KeptRecord}
-use Rattle.hl_cells.specs.HeldActions.{firing_at}
+use Rattle.hl_cells.specs.TakenActions.{firing_at}
 use Rattle.hl_cells.specs.Engines.{Whole, EngineStands}
 
 -- the firing of the action that a step ends

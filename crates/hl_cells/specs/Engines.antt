@@ -4,7 +4,7 @@ use Rattle.hl_model.specs.declared.step.Step.{Step}
 use Rattle.hl_action.specs.Jobs.{KeptRecord}
 use Rattle.hl_core.specs.Standing.{State, Stands}
 use Rattle.hl_cells.specs.CellWords.{cell_words, shown_page}
-use Rattle.hl_cells.specs.HeldActions.{Row, Holds}
+use Rattle.hl_cells.specs.TakenActions.{Row, Holds}
 
 -- what an engine keeps: a core with jobs, F * P words, and the taken actions that aren't done
 pub record Whole (F : Type 0) : Type 0 where

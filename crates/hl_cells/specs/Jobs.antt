@@ -9,7 +9,7 @@ use Rattle.hl_action.specs.Firings.{FiringRecord}
 use Rattle.hl_action.specs.Jobs.{KeptRecord, ReadyRecord}
 use Rattle.hl_drain.specs.declared.action.Action.{Action}
 use Rattle.hl_core.specs.Steps.{job_in}
-use Rattle.hl_cells.specs.HeldActions.{firing_at}
+use Rattle.hl_cells.specs.TakenActions.{firing_at}
 use Rattle.hl_cells.specs.Engines.{Whole}
 
 -- by this answer to this step the action of ticket c is done

@@ -1,6 +1,6 @@
 ghost use Rattle.std.specs.Prelude.{◌≡◌, ◌<◌, position, is_some, option_and_then, IfSome, IsSomeAnd, IfOk, IfErr, [], ◌∷◌, ◌++◌, length, remove};
 ghost use Rattle.std.specs.List.{find, position_or_len};
-ghost use Rattle.hl_cells.specs.HeldActions.{fires};
+ghost use Rattle.hl_cells.specs.TakenActions.{fires};
 
 use crate::undone::Undone;
 use hl_action::{Promise, Ready, Task};
@@ -9,35 +9,35 @@ use std::alloc::Global;
 use std::marker::Model;
 
 /// The taken actions that aren't done, in the order of their takes.
-pub(crate) struct Held<F: Task, P: Promise> {
+pub(crate) struct TakenActions<F: Task, P: Promise> {
     row: Vec<Undone<F, P>>,
 }
 
-impl<F: Task, P: Promise> Model for Held<F, P> {
+impl<F: Task, P: Promise> Model for TakenActions<F, P> {
     ghost use Rattle.std.specs.Prelude.{vec_capacity};
-    ghost use Rattle.hl_cells.specs.HeldActions.{Row};
+    ghost use Rattle.hl_cells.specs.TakenActions.{Row};
 
     ghost Value = { Row F };
 
     ghost view = { λ a. record { room = vec_capacity a.row; actions = a.row.items } };
 }
 
-impl<F: Task, P: Promise> Drop for Held<F, P> {
+impl<F: Task, P: Promise> Drop for TakenActions<F, P> {
     fn drop(self) {
-        let Held { row: _ } = self;
+        let TakenActions { row: _ } = self;
     }
 }
 
-impl<F: Task, P: Promise> Held<F, P> {
+impl<F: Task, P: Promise> TakenActions<F, P> {
     /// A row with this many places, all free. No other call takes memory.
     ///
     /// `OutOfMemory` where the places were refused.
-    pub(crate) fn open(alloc: Global, places: u64) -> Result<Held<F, P>, Fault>
+    pub(crate) fn open(alloc: Global, places: u64) -> Result<TakenActions<F, P>, Fault>
         ensures ok { IfOk result (λ held. held ≡ record { room = places; actions = [] }) }
         ensures err { IfErr result (λ fault. fault ≡ Fault.OutOfMemory) }
     {
         let row = with_room(alloc, places)?;
-        Ok(Held { row })
+        Ok(TakenActions { row })
     }
 
     /// Holds one more action. There is a free place.

@@ -2,10 +2,10 @@ use Rattle.std.proofs.Common.{◌≡◌, ◌∙◌, sym, ap, get_or, is_some, So
 use Rattle.std.specs.Prelude.{option_and_then}
 use Rattle.std.specs.List.{find}
 use Rattle.hl_action.specs.Jobs.{ReadyRecord}
-use Rattle.hl_cells.specs.HeldActions.{Row, fires}
-use Rattle.hl_cells.proofs.HeldRows.{found_nowhere, found_at_place, if_none, if_some}
-use Rattle.hl_cells.proofs.held.Held.run.Goals.{After-from_residual, After-run}
-use Rattle.hl_cells.proofs.held.Held.run.Goals as goal
+use Rattle.hl_cells.specs.TakenActions.{Row, fires}
+use Rattle.hl_cells.proofs.TakenRows.{found_nowhere, found_at_place, if_none, if_some}
+use Rattle.hl_cells.proofs.taken.TakenActions.run.Goals.{After-from_residual, After-run}
+use Rattle.hl_cells.proofs.taken.TakenActions.run.Goals as goal
 
 -- no action has the ticket
 nowhere : (g : _) (c : After-from_residual g) → find (fires c.args.ticket) c.args.self.now.actions ≡ None
