@@ -51,7 +51,8 @@ undone_firings sizes A = filter (λ firing. not (is_finished firing.ticket A)) (
 unfoldable pub firing_at : Sizes → ℕ → List Step → Option FiringRecord
 firing_at sizes ticket A = find (is_of ticket) (firings sizes A)
 
--- a row holds the actions that are taken and not done after the list A: their firings, their jobs by their tags; and it has a place for each action of the drain list
+-- a row holds the actions that are taken and not done after the list A: their firings, their jobs by their
+-- tags; and it has a place for each action of the drain list
 pub record Holds {F : Type 0} (sizes : Sizes) (A : List Step) (held : Row F) : Type 0 where
   pub firings_is : map (λ ready. ready.firing) held.actions ≡ undone_firings sizes A
   pub jobs_is : map tag_held held.actions ≡ map (λ w. tag_of w.kind) (taken A)

@@ -98,7 +98,8 @@ impl<E: Epochs + Drop, F: Task, P: Promise> Engine<E, F, P> {
     pub fn done(&mut self, ticket: u64) -> Result<Reply, Fault>
         ensures moved { Moves P.keeps self.old (DONE ticket) self.new result }
         ensures jobs { JobsKept self.old (DONE ticket) self.new result }
-        ensures ran { (A : List STEP) → EngineStands self.old A → RunsItsJob F.gives self.old A (DONE ticket) result }
+        ensures ran { (A : List STEP) → EngineStands self.old A
+            → RunsItsJob F.gives self.old A (DONE ticket) result }
         ensures refused { OnErr result (self.new ≡ self.old) }
         ensures valid { IsEngine self.old }
     {

@@ -24,7 +24,8 @@ impl<E: Epochs + Drop, F: Task, P: Promise> Engine<E, F, P> {
         requires { is_job_bump step.now ≡ false }
         ensures moved { Moves P.keeps self.old step.now self.new result }
         ensures jobs { JobsKept self.old step.now self.new result }
-        ensures ran { (A : List STEP) → EngineStands self.old A → RunsItsJob F.gives self.old A step.now result }
+        ensures ran { (A : List STEP) → EngineStands self.old A
+            → RunsItsJob F.gives self.old A step.now result }
         ensures refused { OnErr result (self.new ≡ self.old) }
         ensures valid { IsEngine self.old }
     {

@@ -51,12 +51,14 @@ impl<F: Task, P: Promise> TakenActions<F, P> {
     /// Runs the first action of this ticket, an epoch, and holds it no longer. The answer is its job's under its
     /// firing, and keeps the promise for its tag. None where it has no job, or there is no such action.
     pub(crate) fn run(&mut self, ticket: u64) -> Option<u64>
-        ensures answered { is_some result ≡ is_some (option_and_then (λ ready. ready.kept) (find (fires ticket) self.old.actions)) }
+        ensures answered { is_some result
+            ≡ is_some (option_and_then (λ ready. ready.kept) (find (fires ticket) self.old.actions)) }
         ensures gives { IfSome (find (fires ticket) self.old.actions) (λ ready.
             IfSome ready.kept (λ kept. IsSomeAnd result (F.gives kept.job ready.firing))) }
         ensures keeps { IfSome (find (fires ticket) self.old.actions) (λ ready.
             IfSome ready.kept (λ kept. IsSomeAnd result (P.keeps kept.tag ready.firing))) }
-        ensures others { self.new ≡ record { room = self.old.room; actions = remove self.old.actions (position_or_len (fires ticket) self.old.actions) } }
+        ensures others { self.new ≡ record { room = self.old.room;
+            actions = remove self.old.actions (position_or_len (fires ticket) self.old.actions) } }
     {
         let place = self.place_of(ticket)?;
         self.row.remove(place).run()

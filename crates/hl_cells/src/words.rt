@@ -51,7 +51,8 @@ impl<E: Epochs + Drop, F: Task, P: Promise> Engine<E, F, P> {
     /// `frame` gives.
     pub fn page_words(&self, page: u64) -> &[u64]
         requires { Shows self.now page }
-        ensures { (A : List STEP) → EngineStands self.now A → result.now ≡ page_words self.now.core.sizes page A }
+        ensures { (A : List STEP) → EngineStands self.now A
+            → result.now ≡ page_words self.now.core.sizes page A }
     {
         self.words.part(self.first_cell(page), self.page_len())
     }

@@ -95,7 +95,8 @@ impl<E: Epochs, J: Tagged> Core<E, J> {
     #[inline(always)]
     pub(crate) fn may_look(&self, t: u64, read_only: u64, head: u64) -> Result<View, Fault>
         ensures { (A : List Step) → Stands J.tag self.now A
-            → result ≡ unless_fault (fault_of self.now.sizes A (LOOK t read_only head)) (view_of self.now.sizes t A) }
+            → result ≡ unless_fault (fault_of self.now.sizes A (LOOK t read_only head))
+                (view_of self.now.sizes t A) }
     {
         let seen = self.seen(t)?;
         if read_only < seen.read_only || head < seen.head {
@@ -150,7 +151,8 @@ impl<E: Epochs, J: Tagged> Core<E, J> {
     /// Where a record of n words for slot t would be placed, where it may be.
     pub(crate) fn may_allocate(&self, t: u64, n: u64) -> Result<u64, Fault>
         ensures { (A : List Step) → Stands J.tag self.now A
-            → result ≡ unless_fault (fault_of self.now.sizes A (ALLOCATE t n)) (place_of self.now.sizes.page (tail self.now.sizes A) n) }
+            → result ≡ unless_fault (fault_of self.now.sizes A (ALLOCATE t n))
+                (place_of self.now.sizes.page (tail self.now.sizes A) n) }
     {
         self.seen(t)?;
         let address = self.offsets.place(n)?;

@@ -3,7 +3,9 @@ use Rattle.std.specs.Prelude.{ℕ, ◌/◌, ◌%◌, List, [], ◌∷◌, ◌++�
 
 -- a byte as two digits, the high four bits first
 abbrev pub digits : ℕ → List ℕ
-digits byte = slice_index (codes "0123456789abcdef") (byte / 16) ∷ slice_index (codes "0123456789abcdef") (byte % 16) ∷ []
+digits byte =
+    slice_index (codes "0123456789abcdef") (byte / 16) ∷ slice_index (codes "0123456789abcdef") (byte % 16)
+    ∷ []
 
 -- bytes as digits, in order
 abbrev pub hex : List ℕ → List ℕ

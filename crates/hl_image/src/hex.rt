@@ -87,7 +87,8 @@ impl<W: Write> PageWriter for HexWriter<W> {
 fn put_line<W: Write>(writer: &mut W, bytes: &[u8]) -> Result<(), Fault>
     ensures ok { OnOk result (Appends (W.contents writer.old) (W.contents writer.new) (line_of bytes.now)) }
     ensures err { IfErr result (λ fault. fault ≡ Fault.Stream) }
-    ensures left { OnErr result (BreaksOff (W.contents writer.old) (W.contents writer.new) (line_of bytes.now)) }
+    ensures left { OnErr result
+        (BreaksOff (W.contents writer.old) (W.contents writer.new) (line_of bytes.now)) }
 {
     put(writer, b"image ")?;
     let mut rest = bytes;

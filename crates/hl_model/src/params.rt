@@ -29,8 +29,10 @@ impl Params {
     /// The sizes, where each is in range: p words a page, a power of two from 4 to 4,096; f frames, 2 to 256;
     /// s thread slots, 1 to 64; d places in the drain list, 1 to 64. None otherwise.
     pub fn checked(p: u64, f: u64, s: u64, d: u64) -> Option<Params>
-        ensures in_range { IsSome result ↔ AreInRange (record { page = p; frames = f; slots = s; drain = d }) }
-        ensures value { IfSome result (λ sizes. sizes ≡ record { page = p; frames = f; slots = s; drain = d }) }
+        ensures in_range { IsSome result ↔ AreInRange
+            (record { page = p; frames = f; slots = s; drain = d }) }
+        ensures value { IfSome result
+            (λ sizes. sizes ≡ record { page = p; frames = f; slots = s; drain = d }) }
     {
         let page = PAGE_LEAST <= p && p <= PAGE_MOST && p.is_power_of_two();
         let frames = FRAMES_LEAST <= f && f <= FRAMES_MOST;

@@ -22,11 +22,15 @@ pub struct Offsets {
 impl Model for Offsets {
     ghost Value = { Log };
 
-    ghost view = { λ a. record { page = a.page; closed = a.closed; head = a.head; safe_read_only = a.safe_read_only; read_only = a.read_only; tail = a.tail } };
+    ghost view = { λ a. record { page = a.page; closed = a.closed; head = a.head;
+        safe_read_only = a.safe_read_only; read_only = a.read_only; tail = a.tail } };
 
-    ghost invariant = { λ a. IsLog (record { page = a.page; closed = a.closed; head = a.head; safe_read_only = a.safe_read_only; read_only = a.read_only; tail = a.tail }) };
+    ghost invariant = { λ a. IsLog
+        (record { page = a.page; closed = a.closed; head = a.head; safe_read_only = a.safe_read_only;
+        read_only = a.read_only; tail = a.tail }) };
 
-    ghost inverse = { λ log. record { page = log.page; closed = log.closed; head = log.head; safe_read_only = log.safe_read_only; read_only = log.read_only; tail = log.tail } };
+    ghost inverse = { λ log. record { page = log.page; closed = log.closed; head = log.head;
+        safe_read_only = log.safe_read_only; read_only = log.read_only; tail = log.tail } };
 }
 
 impl Offsets {
@@ -67,7 +71,8 @@ impl Offsets {
     ///
     /// Faults: `NotAbove` where x is at most the read-only offset, `AboveTail` where x is above the tail.
     pub fn raise(&mut self, x: u64) -> Result<(), Fault>
-        ensures answer { let old = self.old in result ≡ unless_fault (raise_fault old.read_only old.tail x) tt }
+        ensures answer { let old = self.old
+            in result ≡ unless_fault (raise_fault old.read_only old.tail x) tt }
         ensures effect { let old = self.old
             in self.new ≡ unless_refused (raise_fault old.read_only old.tail x) old (raised x old) }
         ensures rising { NoneFalls self.old self.new }
@@ -90,7 +95,8 @@ impl Offsets {
     /// where x is above `flushed`.
     pub fn shift(&mut self, x: u64, flushed: u64) -> Result<(), Fault>
         requires { flushed ≤ self.old.safe_read_only }
-        ensures answer { let old = self.old in result ≡ unless_fault (shift_fault old.page old.head flushed x) tt }
+        ensures answer { let old = self.old
+            in result ≡ unless_fault (shift_fault old.page old.head flushed x) tt }
         ensures effect { let old = self.old
             in self.new ≡ unless_refused (shift_fault old.page old.head flushed x) old (shifted x old) }
         ensures below_flushed { self.old.head ≤ flushed → self.new.head ≤ flushed }
@@ -253,7 +259,8 @@ impl Offsets {
     pub fn six(&self, flushed: u64) -> Six
         ensures value { result ≡ six_of self.now flushed }
         ensures in_order { let now = self.now
-            in now.head ≤ flushed → flushed ≤ now.safe_read_only → flushed % now.page ≡ 0 → AreInOrder now.page result }
+            in now.head ≤ flushed → flushed ≤ now.safe_read_only → flushed % now.page ≡ 0
+                → AreInOrder now.page result }
         ensures valid { IsLog self.now }
     {
         Six {

@@ -55,7 +55,8 @@ impl<E: Epochs + Drop, F: Task, P: Promise, L: Realm> Domain<E, F, P, L> {
     ///
     /// Faults, with the pass handed back: `Stranger` where the slot isn't the pass's, `JournalFull`.
     pub fn release(&self, rt: &impl Wait, pass: Pass<L>) -> Result<Rider<L>, (Fault, Pass<L>)>
-        ensures met { UnderLock F self.now (λ k A. told result ≡ unless_fault (call_fault k A pass (RELEASE pass.slot))
+        ensures met { UnderLock F self.now
+            (λ k A. told result ≡ unless_fault (call_fault k A pass (RELEASE pass.slot))
             (with_share (length pass.touches + 1) pass.rider)) }
         ensures refused { IfErr result (λ back. back.1 ≡ pass) }
     {
