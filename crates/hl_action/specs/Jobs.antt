@@ -20,4 +20,5 @@ CanBeCalled can = (firing : FiringRecord) → IsSafe firing → can firing
 -- whatever a job gives for a firing keeps the promise
 abbrev pub AnswersKeep : (FiringRecord → ℕ → Type 0) → (FiringRecord → ℕ → Type 0) → Type 0
 AnswersKeep gives keeps =
-    (firing : FiringRecord) (answer : ℕ) → IsSafe firing → answer < 2 ^ 64 → gives firing answer → keeps firing answer
+    (firing : FiringRecord) (answer : ℕ) → IsSafe firing → answer < 2 ^ 64 → gives firing answer
+    → keeps firing answer

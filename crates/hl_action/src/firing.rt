@@ -35,7 +35,7 @@ impl Firing {
     /// The action's ticket: the epoch that its bump ended.
     pub fn ticket(self) -> u64
         ensures value { result ≡ self.ticket }
-        ensures in_range { IsSafe self }
+        ensures valid { IsSafe self }
     {
         self.ticket
     }
@@ -43,7 +43,7 @@ impl Firing {
     /// The safe epoch when the action was taken.
     pub fn safe(self) -> u64
         ensures value { result ≡ self.safe }
-        ensures in_range { IsSafe self }
+        ensures valid { IsSafe self }
     {
         self.safe
     }

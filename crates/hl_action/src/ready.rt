@@ -41,7 +41,7 @@ impl<F: Task, P: Promise> Ready<F, P> {
     /// The action's ticket, an epoch.
     pub fn ticket(&self) -> u64
         ensures value { result ≡ self.now.firing.ticket }
-        ensures in_range { IsSafe self.now.firing }
+        ensures valid { IsSafe self.now.firing }
     {
         self.firing.ticket()
     }
@@ -57,7 +57,7 @@ impl<F: Task, P: Promise> Ready<F, P> {
     pub fn run(self) -> Ran
         ensures origin { result.origin ≡ self.origin }
         ensures ticket { result.ticket ≡ self.firing.ticket }
-        ensures safe { IsSafe self.firing }
+        ensures valid { IsSafe self.firing }
         ensures answered { is_some result.answer ≡ is_some self.kept }
         ensures gives { IfSome self.kept (λ kept. IsSomeAnd result.answer (F.gives kept.job self.firing)) }
         ensures keeps { IfSome self.kept (λ kept. IsSomeAnd result.answer (P.keeps kept.tag self.firing)) }

@@ -25,7 +25,8 @@ impl<F: Task, P: Promise> Model for Shelf<F, P> {
     ghost view = { λ a. a.places.items };
 
     // The row has as many places as it was opened with: it never grows or shrinks.
-    ghost invariant = { λ a. AreAtTheirTags a.places.items × (vec_capacity a.places ≡ length a.places.items) };
+    ghost invariant = { λ a. AreAtTheirTags a.places.items
+        × (vec_capacity a.places ≡ length a.places.items) };
 }
 
 impl<F: Task, P: Promise> Drop for Shelf<F, P> {
@@ -58,7 +59,8 @@ impl<F: Task, P: Promise> Shelf<F, P> {
     /// another job is there.
     pub fn put(&mut self, kept: Kept<F, P>) -> Option<Kept<F, P>>
         ensures back { result ≡ (if has_place self.old kept.tag then None else Some kept) }
-        ensures after { self.new ≡ (if has_place self.old kept.tag then slice_set self.old kept.tag (Some kept) else self.old) }
+        ensures after { self.new ≡
+            (if has_place self.old kept.tag then slice_set self.old kept.tag (Some kept) else self.old) }
     {
         let at = kept.tag() as usize;
         match self.places.get(at) {

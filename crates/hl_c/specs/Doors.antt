@@ -16,7 +16,8 @@ abbrev pub StandsAt : DoorRow.Denot → List Step → Type 0
 StandsAt core A = Stands (λ t. t.0) core A
 
 -- a core that stood at A told this of a step, and stands at the list with the step, where it was accepted
-pub record Moved (old : DoorRow.Denot) (A : List Step) (step : Step) (new : DoorRow.Denot) (reply outcome : Outcome)
+pub record Moved (old : DoorRow.Denot) (A : List Step) (step : Step) (new : DoorRow.Denot)
+    (reply outcome : Outcome)
     : Type 0 where
   pub told : outcome ≡ reply
   pub sizes : new.sizes ≡ old.sizes
@@ -31,11 +32,13 @@ Answers (Some old) step new outcome = (core : DoorRow.Denot) × (new ≡ Some co
 
 -- so for a step of which one number is told
 abbrev pub AnswersBriefly : Option DoorRow.Denot → Step → Option DoorRow.Denot → Brief → Type 0
-AnswersBriefly old step new brief = (outcome : Outcome) × Answers old step new outcome × (brief ≡ brief_of outcome)
+AnswersBriefly old step new brief = (outcome : Outcome) × Answers old step new outcome
+    × (brief ≡ brief_of outcome)
 
 -- a query: its answer is of whatever list the core stood at, which stays; where no core is open, it answers
 -- what it does then
-abbrev pub Tells : {X : Type 0} → Option DoorRow.Denot → (Sizes → List Step → X) → X → Option DoorRow.Denot → X
+abbrev pub Tells : {X : Type 0} → Option DoorRow.Denot → (Sizes → List Step → X) → X → Option DoorRow.Denot
+    → X
     → Type 0
 Tells None answer none new outcome = (outcome ≡ none) × (new ≡ None)
 Tells (Some core) answer none new outcome = (new ≡ Some core)

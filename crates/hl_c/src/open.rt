@@ -29,7 +29,8 @@ pub extern "C" fn hl_open(
     slots: u64,
     drain: u64,
 ) -> u64
-    ensures { Opens handle.old.slot.value (record { page = page; frames = frames; slots = slots; drain = drain })
+    ensures { Opens handle.old.slot.value
+        (record { page = page; frames = frames; slots = slots; drain = drain })
         handle.new.slot.value result }
 {
     let asked = Asked {

@@ -37,7 +37,7 @@ use Rattle.hl_core.specs.Steps.{Stepped, Made, told, CameOut, job_in}
 use Rattle.hl_core.proofs.LookStands.{read_ok}
 use Rattle.hl_core.proofs.StandLaws.{refused_step}
 use Rattle.hl_cells.specs.CellWords.{shown_page, cell_word, cell_words, cell_at}
-use Rattle.hl_cells.specs.HeldActions.{Row, Holds, firing_at, fires, tag_of}
+use Rattle.hl_cells.specs.TakenActions.{Row, Holds, firing_at, fires, tag_of}
 use Rattle.hl_cells.specs.Engines.{Whole, EngineStands, IsEngine, Shows, job_tag}
 use Rattle.hl_cells.specs.EngineSteps.{Told, Moved, Moves, fired}
 use Rattle.hl_cells.proofs.CellLaws.{cells-quiet, cells-allocate, cells-write, cells-clean, cells-read, cells-page, cells-nil, frame_fits, cell_words-at, length-cell_words}

@@ -17,7 +17,7 @@ use Rattle.hl_model.proofs.ActionLaws.{is_finished-push, is_finished-stay, taken
 use Rattle.hl_model.proofs.AcceptedLaws.{accepted_has}
 use Rattle.hl_model.proofs.DrainLaws.{taken-next, front-unfinished, take_fault-none, takes-le-actions, first_pending}
 use Rattle.hl_action.specs.Firings.{FiringRecord}
-use Rattle.hl_cells.specs.HeldActions.{firings, firing_of, undone_firings}
+use Rattle.hl_cells.specs.TakenActions.{firings, firing_of, undone_firings}
 
 -- a step's firings come behind those before
 pub firings-push : (sizes : Sizes) (A : List Step) (s : Step) → firings sizes (A ++ s ∷ []) ≡ firings sizes A ++ firing_of sizes A s

@@ -17,9 +17,9 @@ use Rattle.hl_model.proofs.SettledLaws.{action_at-taken}
 use Rattle.hl_model.proofs.TicketLaws.{Rising}
 use Rattle.hl_action.specs.Firings.{FiringRecord}
 use Rattle.hl_action.specs.Jobs.{ReadyRecord}
-use Rattle.hl_cells.specs.HeldActions.{Row, Holds, firings, undone_firings, firing_at, is_of, fires, tag_held, tag_of}
+use Rattle.hl_cells.specs.TakenActions.{Row, Holds, firings, undone_firings, firing_at, is_of, fires, tag_held, tag_of}
 use Rattle.hl_cells.proofs.FiringLaws.{undone-nil, undone-stay, undone-take, undone-done, tickets-undone}
-use Rattle.hl_cells.proofs.HeldRows.{map_remove}
+use Rattle.hl_cells.proofs.TakenRows.{map_remove}
 
 -- numbers that rise from above one
 abbrev Ascends : ℕ → List ℕ → Type 0

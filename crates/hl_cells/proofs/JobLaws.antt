@@ -24,11 +24,11 @@ use Rattle.hl_drain.specs.Lists.{tickets}
 use Rattle.hl_drain.proofs.Rising.{Rises, rises_head, rises_tail}
 use Rattle.hl_core.specs.Standing.{State}
 use Rattle.hl_core.specs.Steps.{Stepped, CameOut, job_in}
-use Rattle.hl_cells.specs.HeldActions.{Row, fires, firing_at}
+use Rattle.hl_cells.specs.TakenActions.{Row, fires, firing_at}
 use Rattle.hl_cells.specs.Engines.{Whole, EngineStands, job_tag}
 use Rattle.hl_cells.specs.Jobs.{of_taken, of_pending, undone_jobs, job_under, JobsStay, JobStored, JobsKept, RunsItsJob}
 use Rattle.hl_cells.proofs.EngineMoves.{answer_or, free_of}
-use Rattle.hl_cells.proofs.HeldRows.{map_remove}
+use Rattle.hl_cells.proofs.TakenRows.{map_remove}
 use Rattle.hl_cells.proofs.HoldLaws.{Found, holds-found, held_tickets, map_twice, find_mapped, place_mapped}
 
 -- A row of values under numbers.

@@ -1,8 +1,8 @@
 pub mod CellWords
 pub mod EngineSteps
 pub mod Engines
-pub mod HeldActions
 pub mod Jobs
+pub mod TakenActions
 pub use Rattle.hl_model.specs.Actions
 pub use Rattle.hl_model.specs.Frames
 pub use Rattle.hl_model.specs.Replies

@@ -26,7 +26,7 @@ impl<E: Epochs + Drop, F: Task, P: Promise> Engine<E, F, P> {
         ensures moved { Moves P.keeps self.old (BUMP kept.tag) self.new (ticket_told result) }
         ensures jobs { IfOk result (JobStored kept self.old self.new) }
         ensures refused { IfErr result (λ back. (back.1 ≡ kept) × (self.new ≡ self.old)) }
-        ensures stood { IsEngine self.old }
+        ensures valid { IsEngine self.old }
     {
         match self.core.bump(Ask::User(kept)) {
             Ok(ticket) => Ok(ticket),
@@ -44,7 +44,7 @@ impl<E: Epochs + Drop, F: Task, P: Promise> Engine<E, F, P> {
         ensures moved { Moves P.keeps self.old SETTLE self.new (told TICKET result) }
         ensures jobs { JobsStay self.old self.new }
         ensures refused { OnErr result (self.new ≡ self.old) }
-        ensures stood { IsEngine self.old }
+        ensures valid { IsEngine self.old }
     {
         self.core.settle()
     }
@@ -57,7 +57,7 @@ impl<E: Epochs + Drop, F: Task, P: Promise> Engine<E, F, P> {
         ensures moved { Moves P.keeps self.old CLOSE self.new (told TICKET result) }
         ensures jobs { JobsStay self.old self.new }
         ensures refused { OnErr result (self.new ≡ self.old) }
-        ensures stood { IsEngine self.old }
+        ensures valid { IsEngine self.old }
     {
         self.core.close()
     }
@@ -71,7 +71,7 @@ impl<E: Epochs + Drop, F: Task, P: Promise> Engine<E, F, P> {
         ensures moved { Moves P.keeps self.old BARE self.new (told BUMPED result) }
         ensures jobs { JobsStay self.old self.new }
         ensures refused { OnErr result (self.new ≡ self.old) }
-        ensures stood { IsEngine self.old }
+        ensures valid { IsEngine self.old }
     {
         self.core.bare()
     }
@@ -83,7 +83,7 @@ impl<E: Epochs + Drop, F: Task, P: Promise> Engine<E, F, P> {
         ensures moved { Moves P.keeps self.old TAKE self.new (told TAKEN result) }
         ensures jobs { JobsStay self.old self.new }
         ensures refused { OnErr result (self.new ≡ self.old) }
-        ensures stood { IsEngine self.old }
+        ensures valid { IsEngine self.old }
     {
         let (firing, kept) = self.core.take()?;
         self.held.push(Ready::of(ORIGIN, firing, kept));
@@ -98,9 +98,10 @@ impl<E: Epochs + Drop, F: Task, P: Promise> Engine<E, F, P> {
     pub fn done(&mut self, ticket: u64) -> Result<Reply, Fault>
         ensures moved { Moves P.keeps self.old (DONE ticket) self.new result }
         ensures jobs { JobsKept self.old (DONE ticket) self.new result }
-        ensures ran { (A : List STEP) → EngineStands self.old A → RunsItsJob F.gives self.old A (DONE ticket) result }
+        ensures ran { (A : List STEP) → EngineStands self.old A
+            → RunsItsJob F.gives self.old A (DONE ticket) result }
         ensures refused { OnErr result (self.new ≡ self.old) }
-        ensures stood { IsEngine self.old }
+        ensures valid { IsEngine self.old }
     {
         let reply = self.core.done(ticket)?;
         match self.held.run(ticket) {

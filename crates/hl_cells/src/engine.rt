@@ -1,7 +1,7 @@
 ghost use Rattle.std.specs.Prelude.{◌≡◌, ℕ, None, [], IfOk, IfErr};
 
 use crate::cells::Cells;
-use crate::held::Held;
+use crate::taken::TakenActions;
 use hl_action::{Kept, Promise, Task};
 use hl_core::Core;
 use hl_drain::Drain;
@@ -15,7 +15,7 @@ use std::marker::Model;
 pub struct Engine<E: Epochs, F: Task, P: Promise> {
     pub(crate) core: Core<E, Kept<F, P>>,
     pub(crate) words: Cells,
-    pub(crate) held: Held<F, P>,
+    pub(crate) held: TakenActions<F, P>,
 }
 
 impl<E: Epochs, F: Task, P: Promise> Model for Engine<E, F, P> {
@@ -53,7 +53,7 @@ impl<E: Epochs + Drop, F: Task, P: Promise> Engine<E, F, P> {
     {
         let core = Core::open(alloc, params)?;
         let words = Cells::zeros(alloc, params.frames() * params.page())?;
-        let held = Held::open(alloc, params.drain())?;
+        let held = TakenActions::open(alloc, params.drain())?;
         Ok(Engine { core, words, held })
     }
 

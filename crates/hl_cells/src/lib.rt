@@ -39,12 +39,12 @@
 mod actions;
 mod cells;
 mod engine;
-mod held;
 mod log;
 mod pages;
 mod queries;
 mod slots;
 mod step;
+mod taken;
 mod undone;
 mod words;
 

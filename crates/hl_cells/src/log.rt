@@ -20,7 +20,7 @@ impl<E: Epochs + Drop, F: Task, P: Promise> Engine<E, F, P> {
         ensures moved { Moves P.keeps self.old (RAISE x) self.new (told RAISED result) }
         ensures jobs { JobsStay self.old self.new }
         ensures refused { OnErr result (self.new ≡ self.old) }
-        ensures stood { IsEngine self.old }
+        ensures valid { IsEngine self.old }
     {
         self.core.raise(x)
     }
@@ -34,7 +34,7 @@ impl<E: Epochs + Drop, F: Task, P: Promise> Engine<E, F, P> {
         ensures moved { Moves P.keeps self.old (SHIFT x) self.new (told SHIFTED result) }
         ensures jobs { JobsStay self.old self.new }
         ensures refused { OnErr result (self.new ≡ self.old) }
-        ensures stood { IsEngine self.old }
+        ensures valid { IsEngine self.old }
     {
         self.core.shift(x)
     }
@@ -47,10 +47,10 @@ impl<E: Epochs + Drop, F: Task, P: Promise> Engine<E, F, P> {
     /// would end above 2^48, `Busy` where its page is new and its frame isn't free.
     pub fn allocate(&mut self, t: u64, n: u64) -> Result<u64, Fault>
         ensures moved { Moves P.keeps self.old (ALLOCATE t n) self.new (told AT result) }
-        ensures within { IfOk result (λ place. place + n ≤ 2 ^ 48) }
+        ensures within { IfOk result (λ address. address + n ≤ 2 ^ 48) }
         ensures jobs { JobsStay self.old self.new }
         ensures refused { OnErr result (self.new ≡ self.old) }
-        ensures stood { IsEngine self.old }
+        ensures valid { IsEngine self.old }
     {
         self.core.allocate(t, n)
     }
@@ -62,7 +62,7 @@ impl<E: Epochs + Drop, F: Task, P: Promise> Engine<E, F, P> {
         ensures moved { Moves P.keeps self.old (LOOK t read_only head) self.new (told LOOKED result) }
         ensures jobs { JobsStay self.old self.new }
         ensures refused { OnErr result (self.new ≡ self.old) }
-        ensures stood { IsEngine self.old }
+        ensures valid { IsEngine self.old }
     {
         self.core.look(t, read_only, head)
     }

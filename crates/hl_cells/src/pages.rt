@@ -20,7 +20,7 @@ impl<E: Epochs + Drop, F: Task, P: Promise> Engine<E, F, P> {
         ensures moved { Moves P.keeps self.old FLUSH_TAKE self.new (told PAGE result) }
         ensures jobs { JobsStay self.old self.new }
         ensures refused { OnErr result (self.new ≡ self.old) }
-        ensures stood { IsEngine self.old }
+        ensures valid { IsEngine self.old }
     {
         self.core.flush_take()
     }
@@ -33,7 +33,7 @@ impl<E: Epochs + Drop, F: Task, P: Promise> Engine<E, F, P> {
         ensures moved { Moves P.keeps self.old (FLUSH_DONE page ok) self.new (told FLUSHED result) }
         ensures jobs { JobsStay self.old self.new }
         ensures refused { OnErr result (self.new ≡ self.old) }
-        ensures stood { IsEngine self.old }
+        ensures valid { IsEngine self.old }
     {
         self.core.flush_done(page, ok)
     }
@@ -46,7 +46,7 @@ impl<E: Epochs + Drop, F: Task, P: Promise> Engine<E, F, P> {
         ensures moved { Moves P.keeps self.old CLEAN_TAKE self.new (told PAGE result) }
         ensures jobs { JobsStay self.old self.new }
         ensures refused { OnErr result (self.new ≡ self.old) }
-        ensures stood { IsEngine self.old }
+        ensures valid { IsEngine self.old }
     {
         self.core.clean_take()
     }
@@ -58,7 +58,7 @@ impl<E: Epochs + Drop, F: Task, P: Promise> Engine<E, F, P> {
         ensures moved { Moves P.keeps self.old (CLEAN_DONE page) self.new (told FREED result) }
         ensures jobs { JobsStay self.old self.new }
         ensures refused { OnErr result (self.new ≡ self.old) }
-        ensures stood { IsEngine self.old }
+        ensures valid { IsEngine self.old }
     {
         let start = self.first_cell(page);
         let len = self.page_len();

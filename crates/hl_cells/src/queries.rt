@@ -16,14 +16,15 @@ impl<E: Epochs, F: Task, P: Promise> Engine<E, F, P> {
     /// The sizes that it was opened with.
     pub fn params(&self) -> Params
         ensures value { result ≡ self.now.core.sizes }
-        ensures known { IsEngine self.now }
+        ensures valid { IsEngine self.now }
     {
         self.core.params()
     }
 
     /// The view of slot t. None where the slot isn't protected, or t is S or more.
     pub fn view(&self, t: u64) -> Option<View>
-        ensures value { (A : List Step) → EngineStands self.now A → result ≡ slot_view self.now.core.sizes t A }
+        ensures value { (A : List Step) → EngineStands self.now A
+            → result ≡ slot_view self.now.core.sizes t A }
         ensures bounded { let log = self.now.core.offsets
             in IfSome result (λ view. (log.safe_read_only ≤ view.read_only) × (log.closed ≤ view.head)) }
     {
@@ -55,7 +56,8 @@ impl<E: Epochs, F: Task, P: Promise> Engine<E, F, P> {
     /// The state of frame f, which is below F, and its last entered page; None where it is free.
     pub fn frame(&self, f: u64) -> (FrameState, Option<u64>)
         requires { f < self.now.core.sizes.frames }
-        ensures value { (A : List Step) → EngineStands self.now A → result ≡ frame_of self.now.core.sizes f A }
+        ensures value { (A : List Step) → EngineStands self.now A
+            → result ≡ frame_of self.now.core.sizes f A }
         ensures shown { IfSome result.1 (λ page. Shows self.now page) }
     {
         self.core.frame(f)

@@ -20,7 +20,7 @@ impl<E: Epochs + Drop, F: Task, P: Promise> Engine<E, F, P> {
         ensures moved { Moves P.keeps self.old (ACQUIRE t) self.new (told entered_reply result) }
         ensures jobs { JobsStay self.old self.new }
         ensures refused { OnErr result (self.new ≡ self.old) }
-        ensures stood { IsEngine self.old }
+        ensures valid { IsEngine self.old }
     {
         self.core.acquire(t)
     }
@@ -33,7 +33,7 @@ impl<E: Epochs + Drop, F: Task, P: Promise> Engine<E, F, P> {
         ensures moved { Moves P.keeps self.old (REFRESH t) self.new (told entered_reply result) }
         ensures jobs { JobsStay self.old self.new }
         ensures refused { OnErr result (self.new ≡ self.old) }
-        ensures stood { IsEngine self.old }
+        ensures valid { IsEngine self.old }
     {
         self.core.refresh(t)
     }
@@ -45,7 +45,7 @@ impl<E: Epochs + Drop, F: Task, P: Promise> Engine<E, F, P> {
         ensures moved { Moves P.keeps self.old (RELEASE t) self.new (told (λ _. LEFT) result) }
         ensures jobs { JobsStay self.old self.new }
         ensures refused { OnErr result (self.new ≡ self.old) }
-        ensures stood { IsEngine self.old }
+        ensures valid { IsEngine self.old }
     {
         self.core.release(t)
     }

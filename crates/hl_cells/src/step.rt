@@ -1,14 +1,14 @@
 ghost use Rattle.std.specs.Prelude.{◌≡◌, false, List, OnErr};
 ghost use Rattle.hl_model.specs.declared.step.Step.{Step as STEP};
-ghost use Rattle.hl_core.specs.Steps.{entered_reply};
 ghost use Rattle.hl_cells.specs.Engines.{EngineStands, IsEngine};
 ghost use Rattle.hl_cells.specs.EngineSteps.{Moves, is_job_bump};
 ghost use Rattle.hl_cells.specs.Jobs.{JobsKept, RunsItsJob};
 
 use crate::engine::Engine;
 use hl_action::{Promise, Task};
+use hl_core::entered;
 use hl_epoch::Epochs;
-use hl_model::{Fault, Reply, Slot, Step};
+use hl_model::{Fault, Reply, Step};
 
 impl<E: Epochs + Drop, F: Task, P: Promise> Engine<E, F, P> {
     /// Makes a step, of any kind but a bump, of which a job goes in. The faults are tried in their order, and a
@@ -24,9 +24,10 @@ impl<E: Epochs + Drop, F: Task, P: Promise> Engine<E, F, P> {
         requires { is_job_bump step.now ≡ false }
         ensures moved { Moves P.keeps self.old step.now self.new result }
         ensures jobs { JobsKept self.old step.now self.new result }
-        ensures ran { (A : List STEP) → EngineStands self.old A → RunsItsJob F.gives self.old A step.now result }
+        ensures ran { (A : List STEP) → EngineStands self.old A
+            → RunsItsJob F.gives self.old A step.now result }
         ensures refused { OnErr result (self.new ≡ self.old) }
-        ensures stood { IsEngine self.old }
+        ensures valid { IsEngine self.old }
     {
         match *step {
             Step::Acquire { t } => self.acquire(t).map(entered),
@@ -50,12 +51,4 @@ impl<E: Epochs + Drop, F: Task, P: Promise> Engine<E, F, P> {
             Step::CleanDone { page } => self.clean_done(page).map(Reply::Freed),
         }
     }
-}
-
-/// What a slot has, as the reply to the step by which it entered.
-fn entered(slot: Slot) -> Reply
-    ensures { result ≡ entered_reply slot }
-{
-    let Slot { epoch, view } = slot;
-    Reply::Entered { epoch, view }
 }

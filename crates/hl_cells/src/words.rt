@@ -20,7 +20,7 @@ impl<E: Epochs + Drop, F: Task, P: Promise> Engine<E, F, P> {
     pub fn read(&self, t: u64, a: u64) -> Result<u64, Fault>
         ensures value { (A : List STEP) → EngineStands self.now A
             → result ≡ unless_fault (fault_of self.now.core.sizes A (READ t a)) (word a A) }
-        ensures stood { IsEngine self.now }
+        ensures valid { IsEngine self.now }
     {
         self.core.may_read(t, a)?;
         let cell = self.cell_of(a);
@@ -39,7 +39,7 @@ impl<E: Epochs + Drop, F: Task, P: Promise> Engine<E, F, P> {
         ensures jobs { JobsStay self.old self.new }
         ensures sizes { self.new.core.sizes ≡ self.old.core.sizes }
         ensures refused { OnErr result (self.new ≡ self.old) }
-        ensures stood { IsEngine self.old }
+        ensures valid { IsEngine self.old }
     {
         let cell = self.cell_of(a);
         self.core.may_write(t, a)?;
@@ -51,7 +51,8 @@ impl<E: Epochs + Drop, F: Task, P: Promise> Engine<E, F, P> {
     /// `frame` gives.
     pub fn page_words(&self, page: u64) -> &[u64]
         requires { Shows self.now page }
-        ensures { (A : List STEP) → EngineStands self.now A → result.now ≡ page_words self.now.core.sizes page A }
+        ensures { (A : List STEP) → EngineStands self.now A
+            → result.now ≡ page_words self.now.core.sizes page A }
     {
         self.words.part(self.first_cell(page), self.page_len())
     }

@@ -40,7 +40,7 @@ impl<E: Epochs, J: Tagged + Drop> Core<E, J> {
 
 /// What a slot has, as the reply to the step by which it entered.
 #[inline(always)]
-fn entered(slot: Slot) -> Reply
+pub fn entered(slot: Slot) -> Reply
     ensures { result ≡ entered_reply slot }
 {
     let Slot { epoch, view } = slot;

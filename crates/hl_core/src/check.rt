@@ -13,7 +13,8 @@ use hl_model::{Fault, Step, Tagged, Waiting};
 impl<E: Epochs, J: Tagged> Core<E, J> {
     /// The fault that the step would meet, or `Ok` where it would be accepted. Changes nothing.
     pub fn check(&self, step: &Step) -> Result<(), Fault>
-        ensures { (A : List STEP) → Stands J.tag self.now A → result ≡ unless_fault (fault_of self.now.sizes A step.now) tt }
+        ensures { (A : List STEP) → Stands J.tag self.now A
+            → result ≡ unless_fault (fault_of self.now.sizes A step.now) tt }
     {
         match *step {
             Step::Acquire { t } => self.may_acquire(t),
@@ -36,7 +37,8 @@ impl<E: Epochs, J: Tagged> Core<E, J> {
     }
 
     fn may_acquire(&self, t: u64) -> Result<(), Fault>
-        ensures { (A : List STEP) → Stands J.tag self.now A → result ≡ unless_fault (acquire_fault self.now.sizes A t) tt }
+        ensures { (A : List STEP) → Stands J.tag self.now A
+            → result ≡ unless_fault (acquire_fault self.now.sizes A t) tt }
     {
         match self.views.get(t as usize) {
             None => Err(Fault::NoSlot),
@@ -46,7 +48,8 @@ impl<E: Epochs, J: Tagged> Core<E, J> {
     }
 
     fn may_bump(&self) -> Result<(), Fault>
-        ensures { (A : List STEP) → Stands J.tag self.now A → result ≡ unless_fault (bump_fault self.now.sizes A) tt }
+        ensures { (A : List STEP) → Stands J.tag self.now A
+            → result ≡ unless_fault (bump_fault self.now.sizes A) tt }
     {
         if !self.drain.has_room() {
             return Err(Fault::DrainFull);
@@ -55,13 +58,15 @@ impl<E: Epochs, J: Tagged> Core<E, J> {
     }
 
     fn may_bare(&self) -> Result<(), Fault>
-        ensures { (A : List STEP) → Stands J.tag self.now A → result ≡ unless_fault (bare_fault self.now.sizes A) tt }
+        ensures { (A : List STEP) → Stands J.tag self.now A
+            → result ≡ unless_fault (bare_fault self.now.sizes A) tt }
     {
         may_end_epoch(&self.table)
     }
 
     fn may_take(&self) -> Result<(), Fault>
-        ensures { (A : List STEP) → Stands J.tag self.now A → result ≡ unless_fault (fault_of self.now.sizes A TAKE) tt }
+        ensures { (A : List STEP) → Stands J.tag self.now A
+            → result ≡ unless_fault (fault_of self.now.sizes A TAKE) tt }
     {
         let pending = self.drain.pending();
         let Some(oldest) = pending.first() else {
@@ -76,7 +81,8 @@ impl<E: Epochs, J: Tagged> Core<E, J> {
     }
 
     fn may_end(&self, ticket: u64) -> Result<(), Fault>
-        ensures { (A : List STEP) → Stands J.tag self.now A → result ≡ unless_fault (fault_of self.now.sizes A (DONE ticket)) tt }
+        ensures { (A : List STEP) → Stands J.tag self.now A
+            → result ≡ unless_fault (fault_of self.now.sizes A (DONE ticket)) tt }
     {
         if has_ticket(&self.drain.taken(), ticket) {
             Ok(())
@@ -86,7 +92,8 @@ impl<E: Epochs, J: Tagged> Core<E, J> {
     }
 
     fn may_raise(&self, x: u64) -> Result<(), Fault>
-        ensures { (A : List STEP) → Stands J.tag self.now A → result ≡ unless_fault (fault_of self.now.sizes A (RAISE x)) tt }
+        ensures { (A : List STEP) → Stands J.tag self.now A
+            → result ≡ unless_fault (fault_of self.now.sizes A (RAISE x)) tt }
     {
         if x <= self.offsets.read_only() {
             return Err(Fault::NotAbove);
@@ -98,7 +105,8 @@ impl<E: Epochs, J: Tagged> Core<E, J> {
     }
 
     fn may_shift(&self, x: u64) -> Result<(), Fault>
-        ensures { (A : List STEP) → Stands J.tag self.now A → result ≡ unless_fault (fault_of self.now.sizes A (SHIFT x)) tt }
+        ensures { (A : List STEP) → Stands J.tag self.now A
+            → result ≡ unless_fault (fault_of self.now.sizes A (SHIFT x)) tt }
     {
         if x <= self.offsets.head() {
             return Err(Fault::NotAbove);
@@ -113,7 +121,8 @@ impl<E: Epochs, J: Tagged> Core<E, J> {
     }
 
     fn may_take_to_flush(&self) -> Result<(), Fault>
-        ensures { (A : List STEP) → Stands J.tag self.now A → result ≡ unless_fault (fault_of self.now.sizes A FLUSH_TAKE) tt }
+        ensures { (A : List STEP) → Stands J.tag self.now A
+            → result ≡ unless_fault (fault_of self.now.sizes A FLUSH_TAKE) tt }
     {
         match self.frames.next_to_flush(self.offsets.safe_read_only()) {
             Some(_) => Ok(()),
@@ -122,7 +131,8 @@ impl<E: Epochs, J: Tagged> Core<E, J> {
     }
 
     fn may_end_flush(&self, page: u64) -> Result<(), Fault>
-        ensures { (A : List STEP) (ok : Bool) → Stands J.tag self.now A → result ≡ unless_fault (fault_of self.now.sizes A (FLUSH_DONE page ok)) tt }
+        ensures { (A : List STEP) (ok : Bool) → Stands J.tag self.now A
+            → result ≡ unless_fault (fault_of self.now.sizes A (FLUSH_DONE page ok)) tt }
     {
         if self.frames.is_in_flight(page) {
             Ok(())
@@ -132,7 +142,8 @@ impl<E: Epochs, J: Tagged> Core<E, J> {
     }
 
     fn may_take_to_clean(&self) -> Result<(), Fault>
-        ensures { (A : List STEP) → Stands J.tag self.now A → result ≡ unless_fault (fault_of self.now.sizes A CLEAN_TAKE) tt }
+        ensures { (A : List STEP) → Stands J.tag self.now A
+            → result ≡ unless_fault (fault_of self.now.sizes A CLEAN_TAKE) tt }
     {
         match self.frames.next_to_clean(self.offsets.closed()) {
             Some(_) => Ok(()),
@@ -141,7 +152,8 @@ impl<E: Epochs, J: Tagged> Core<E, J> {
     }
 
     fn may_end_cleaning(&self, page: u64) -> Result<(), Fault>
-        ensures { (A : List STEP) → Stands J.tag self.now A → result ≡ unless_fault (fault_of self.now.sizes A (CLEAN_DONE page)) tt }
+        ensures { (A : List STEP) → Stands J.tag self.now A
+            → result ≡ unless_fault (fault_of self.now.sizes A (CLEAN_DONE page)) tt }
     {
         if self.frames.is_cleaning(page) {
             Ok(())

@@ -54,21 +54,21 @@ impl<E: Epochs, J: Tagged> Core<E, J> {
     #[inline(always)]
     pub fn allocate(&mut self, t: u64, n: u64) -> Result<u64, Fault>
         ensures made { Made J.tag self.old (ALLOCATE t n) self.new (told AT result) }
-        ensures within { IfOk result (λ place. place + n ≤ 2 ^ 48) }
+        ensures within { IfOk result (λ address. address + n ≤ 2 ^ 48) }
         ensures refused { OnErr result (self.new ≡ self.old) }
         ensures jobs { self.new.drain.pending ≡ self.old.drain.pending }
         ensures sizes { self.new.sizes ≡ self.old.sizes }
     {
         let seen = self.seen(t)?;
-        let place = self.offsets.place(n)?;
-        let page = place / self.params.page();
-        if !self.is_entered_at(place) {
+        let address = self.offsets.place(n)?;
+        let page = address / self.params.page();
+        if !self.is_entered_at(address) {
             self.frames.enter(page)?;
         }
-        self.offsets.allocate_at(place, n);
+        self.offsets.allocate_at(address, n);
         let tail = self.offsets.tail();
         self.views[t as usize] = Some(View { tail, ..seen });
-        Ok(place)
+        Ok(address)
     }
 
     /// Slot t sees this read-only offset and this head; the answer is its view from now on.
@@ -95,7 +95,8 @@ impl<E: Epochs, J: Tagged> Core<E, J> {
     #[inline(always)]
     pub(crate) fn may_look(&self, t: u64, read_only: u64, head: u64) -> Result<View, Fault>
         ensures { (A : List Step) → Stands J.tag self.now A
-            → result ≡ unless_fault (fault_of self.now.sizes A (LOOK t read_only head)) (view_of self.now.sizes t A) }
+            → result ≡ unless_fault (fault_of self.now.sizes A (LOOK t read_only head))
+                (view_of self.now.sizes t A) }
     {
         let seen = self.seen(t)?;
         if read_only < seen.read_only || head < seen.head {
@@ -150,13 +151,14 @@ impl<E: Epochs, J: Tagged> Core<E, J> {
     /// Where a record of n words for slot t would be placed, where it may be.
     pub(crate) fn may_allocate(&self, t: u64, n: u64) -> Result<u64, Fault>
         ensures { (A : List Step) → Stands J.tag self.now A
-            → result ≡ unless_fault (fault_of self.now.sizes A (ALLOCATE t n)) (place_of self.now.sizes.page (tail self.now.sizes A) n) }
+            → result ≡ unless_fault (fault_of self.now.sizes A (ALLOCATE t n))
+                (place_of self.now.sizes.page (tail self.now.sizes A) n) }
     {
         self.seen(t)?;
-        let place = self.offsets.place(n)?;
-        let page = place / self.params.page();
-        if self.is_entered_at(place) || self.frames.may_enter(page) {
-            Ok(place)
+        let address = self.offsets.place(n)?;
+        let page = address / self.params.page();
+        if self.is_entered_at(address) || self.frames.may_enter(page) {
+            Ok(address)
         } else {
             Err(Fault::Busy { page })
         }

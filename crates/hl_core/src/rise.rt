@@ -12,7 +12,8 @@ use hl_model::{EPOCH_LAST, EPOCH_WINDOW, Fault};
 pub(crate) fn end_epoch<E: Epochs>(table: &mut E) -> Result<u64, Fault>
     requires { (E.table table.old).window ≡ epoch_window }
     ensures answer { let old = E.table table.old in result ≡ unless_fault (rise_fault old) old.current }
-    ensures effect { let old = E.table table.old in E.table table.new ≡ unless_refused (rise_fault old) old (bumped old) }
+    ensures effect { let old = E.table table.old
+        in E.table table.new ≡ unless_refused (rise_fault old) old (bumped old) }
 {
     may_end_epoch(table)?;
     table.bump()

@@ -41,9 +41,12 @@ impl<E: Epochs + Drop> Core<E, Tag> {
     /// stands at the accepted steps of A and L, which keep the headline.
     pub fn run(&mut self, steps: &[Step], results: &mut [Result<Reply, Fault>])
         requires { length results.old ≡ length steps.now }
-        ensures replies { (A : List STEP) → Stands (λ t. t.0) self.old A → results.new ≡ replies_after self.old.sizes A steps.now }
-        ensures standing { (A : List STEP) → Stands (λ t. t.0) self.old A → Stands (λ t. t.0) self.new (good self.old.sizes (A ++ steps.now)) }
-        ensures headline { (A : List STEP) → Stands (λ t. t.0) self.old A → Headline self.old.sizes (good self.old.sizes (A ++ steps.now)) }
+        ensures replies { (A : List STEP) → Stands (λ t. t.0) self.old A
+            → results.new ≡ replies_after self.old.sizes A steps.now }
+        ensures standing { (A : List STEP) → Stands (λ t. t.0) self.old A
+            → Stands (λ t. t.0) self.new (good self.old.sizes (A ++ steps.now)) }
+        ensures headline { (A : List STEP) → Stands (λ t. t.0) self.old A
+            → Headline self.old.sizes (good self.old.sizes (A ++ steps.now)) }
         ensures sizes { self.new.sizes ≡ self.old.sizes }
     {
         for i in 0..steps.len() {

@@ -66,7 +66,8 @@ impl<E: Epochs, J: Tagged> Core<E, J> {
     /// The view of a protected slot, or the fault of a slot that isn't.
     #[inline(always)]
     pub(crate) fn seen(&self, t: u64) -> Result<View, Fault>
-        ensures { (A : List Step) → Stands J.tag self.now A → result ≡ unless_fault (protected_fault self.now.sizes A t) (view_of self.now.sizes t A) }
+        ensures { (A : List Step) → Stands J.tag self.now A
+            → result ≡ unless_fault (protected_fault self.now.sizes A t) (view_of self.now.sizes t A) }
     {
         match self.views.get(t as usize) {
             None => Err(Fault::NoSlot),
@@ -78,7 +79,8 @@ impl<E: Epochs, J: Tagged> Core<E, J> {
     /// The view of whoever enters now.
     #[inline(always)]
     fn present(&self) -> View
-        ensures { let log = self.now.offsets in result ≡ record { read_only = log.read_only; head = log.head; tail = log.tail } }
+        ensures { let log = self.now.offsets
+            in result ≡ record { read_only = log.read_only; head = log.head; tail = log.tail } }
     {
         View {
             read_only: self.offsets.read_only(),

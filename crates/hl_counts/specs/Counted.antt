@@ -18,7 +18,8 @@ abbrev pub stands_at : ℕ → Option ℕ → Bool
 stands_at epoch None = false
 stands_at epoch (Some e) = e == epoch
 
--- the turns of a refresh of slot t: none where it stands at the current epoch already; else one at the epoch that it
+-- the turns of a refresh of slot t: none where it stands at the current epoch already; else one at the epoch
+-- that it
 -- leaves, one at the current one, and those of the climb
 abbrev pub refresh_turns : ℕ → Table → Table → ℕ
 refresh_turns t old new =

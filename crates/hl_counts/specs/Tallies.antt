@@ -1,4 +1,5 @@
--- A ring of counts: how many slots stand at each epoch. The place of an epoch is the epoch modulo the ring's length.
+-- A ring of counts: how many slots stand at each epoch. The place of an epoch is the epoch modulo the ring's
+-- length.
 use Rattle.std.specs.Prelude.{◌≡◌, ℕ, ◌+◌, ◌-◌, ◌%◌, ◌<◌, ◌==◌, nat_lt, Bool, false, if◌then◌else◌, Option, Some, None, List, length, count_by, slice_index, slice_set}
 use Rattle.hl_counts.specs.declared.placed.Placed.{Placed}
 
@@ -38,7 +39,8 @@ pub record IsTally (epochs : List (Option ℕ)) (counts : List ℕ) : Type 0 whe
   pub each : (place : ℕ) → place < length counts →
       slice_index counts place ≡ count_by (is_counted (length counts) place) epochs
 
--- how many places a climb visits, from one epoch up to another, at most the current one: those of the epochs that it
+-- how many places a climb visits, from one epoch up to another, at most the current one: those of the epochs
+-- that it
 -- passes, and that of the epoch at which it stops, unless that is the current one
 abbrev pub visited : ℕ → ℕ → ℕ → ℕ
 visited from risen current = (risen - from) + (if nat_lt risen current then 1 else 0)

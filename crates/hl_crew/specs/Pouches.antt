@@ -19,7 +19,8 @@ load_count [] = 0
 load_count (None ∷ places) = load_count places
 load_count (Some job ∷ places) = 1 + load_count places
 
--- the load in place `at`, of this page, was answered as the domain answers it: it has left the pouch, or nothing
+-- the load in place `at`, of this page, was answered as the domain answers it: it has left the pouch, or
+-- nothing
 -- has changed there
 pub record Answers
     (F : Type 0) (domain : DomainState) (page : ℕ) (ok : Bool) (at : ℕ)

@@ -23,7 +23,8 @@ pub record DomainState : Type 0 where
 
 -- what a call met under the lock: a keeper of the domain's sizes and stamp, which stood at a list, and of
 -- both of which this holds
-pub record UnderLock (F : Type 0) (domain : DomainState) (Holds : KeeperState F → List Step → Type 0) : Type 0 where
+pub record UnderLock (F : Type 0) (domain : DomainState)
+    (Holds : KeeperState F → List Step → Type 0) : Type 0 where
   pub keeper : KeeperState F
   pub list : List Step
   pub stands : KeeperStands keeper list
@@ -32,7 +33,8 @@ pub record UnderLock (F : Type 0) (domain : DomainState) (Holds : KeeperState F 
   pub holds : Holds keeper list
 
 -- the job is that of the oldest action that waits in a core, which has this ticket
-pub record IsOldest {F : Type 0} (core : State (KeptRecord F)) (ticket : ℕ) (job : Option (KeptRecord F)) : Type 0 where
+pub record IsOldest {F : Type 0} (core : State (KeptRecord F)) (ticket : ℕ)
+    (job : Option (KeptRecord F)) : Type 0 where
   pub action : Action (KeptRecord F)
   pub others : List (ℕ × Action (KeptRecord F))
   pub waits : core.drain.pending ≡ (ticket, action) ∷ others

@@ -67,7 +67,8 @@ pub record Rooms : Type 0 where
   pub stamps : ℕ
 
 -- each keeper is that, its journal has room for all steps that it may keep, and its row of stamps never grew
-pub record IsKept {F : Type 0} (sizes : Sizes) (stamp : ℕ) (keeper : KeeperState F) (rooms : Rooms) : Type 0 where
+pub record IsKept {F : Type 0} (sizes : Sizes) (stamp : ℕ) (keeper : KeeperState F)
+    (rooms : Rooms) : Type 0 where
   pub of : IsOf sizes stamp keeper
   pub room : keeper.limit ≤ rooms.journal
   pub exact : rooms.stamps ≡ keeper.core.sizes.slots

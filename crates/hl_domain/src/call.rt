@@ -60,7 +60,7 @@ impl<E: Epochs + Drop, F: Task, P: Promise, L: Realm> Keeper<E, F, P, L> {
         ensures jobs { self.new.core.drain.pending ≡ self.old.core.drain.pending }
         ensures stamps { (self.new.stamps ≡ self.old.stamps) × (self.new.acquired ≡ self.old.acquired) }
         ensures pass { MatchResult result (λ _. pass.new ≡ entered_by pass.old) (λ _. pass.new ≡ pass.old) }
-        ensures stood { IsKeeper self.old }
+        ensures valid { IsKeeper self.old }
     {
         let count = pass.touches.len() as u64 + 1;
         self.room(count)?;

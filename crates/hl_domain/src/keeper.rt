@@ -10,7 +10,7 @@ use crate::ending::Ending;
 use hl_action::{Kept, Promise, Task};
 use hl_core::Core;
 use hl_epoch::Epochs;
-use hl_model::{Base, Fault, Params, Step, filled};
+use hl_model::{Base, Fault, Params, Step, filled, with_room};
 use hl_words::{Master, Realm, Rider, Seed, Words};
 use std::alloc::Global;
 use std::marker::Model;
@@ -39,9 +39,15 @@ impl<E: Epochs, F: Task, P: Promise, L: Realm> Model for Keeper<E, F, P, L> {
 
     ghost Value = { KeeperState F };
 
-    ghost view = { λ k. record { core = k.core; base = k.base; cut = k.cut; journal = k.journal.items; limit = k.limit; stamps = k.stamps.items; stamp = k.stamp; acquired = k.acquired; offsets = k.master.offsets; total = k.master.total } };
+    ghost view = { λ k. record { core = k.core; base = k.base; cut = k.cut; journal = k.journal.items;
+        limit = k.limit; stamps = k.stamps.items; stamp = k.stamp; acquired = k.acquired;
+        offsets = k.master.offsets; total = k.master.total } };
 
-    ghost invariant = { λ k. IsKept L.sizes L.stamp (record { core = k.core; base = k.base; cut = k.cut; journal = k.journal.items; limit = k.limit; stamps = k.stamps.items; stamp = k.stamp; acquired = k.acquired; offsets = k.master.offsets; total = k.master.total }) (record { journal = vec_capacity k.journal; stamps = vec_capacity k.stamps }) };
+    ghost invariant = { λ k. IsKept L.sizes L.stamp
+        (record { core = k.core; base = k.base; cut = k.cut; journal = k.journal.items; limit = k.limit;
+        stamps = k.stamps.items; stamp = k.stamp; acquired = k.acquired; offsets = k.master.offsets;
+        total = k.master.total })
+        (record { journal = vec_capacity k.journal; stamps = vec_capacity k.stamps }) };
 }
 
 impl<E: Epochs + Drop, F: Task, P: Promise, L: Realm> Drop for Keeper<E, F, P, L> {
@@ -154,13 +160,4 @@ impl<E: Epochs + Drop, F: Task, P: Promise, L: Realm> Keeper<E, F, P, L> {
             }
         }
     }
-}
-
-// An empty row with room for n steps.
-fn with_room(alloc: Global, n: u64) -> Result<Vec<Step>, Fault>
-    ensures empty { IfOk result (λ row. row.items ≡ []) }
-    ensures room { IfOk result (λ row. n ≤ vec_capacity row) }
-    ensures memory { IfErr result (λ fault. fault ≡ OutOfMemory) }
-{
-    Vec::with_capacity(alloc, n as usize).map_err(|_| Fault::OutOfMemory)
 }

@@ -29,9 +29,11 @@ impl<L: Realm> Model for Pass<L> {
 
     ghost Value = { PassRecord };
 
-    ghost view = { λ p. record { slot = p.slot; stamp = p.stamp; held = p.held; touches = p.touches.items; rider = p.rider } };
+    ghost view = { λ p. record { slot = p.slot; stamp = p.stamp; held = p.held; touches = p.touches.items;
+        rider = p.rider } };
 
-    ghost invariant = { λ p. (p.view ≡ view_after p.held p.touches.items) × AreTouches p.slot p.held p.touches.items };
+    ghost invariant = { λ p. (p.view ≡ view_after p.held p.touches.items)
+        × AreTouches p.slot p.held p.touches.items };
 }
 
 impl<L: Realm> Pass<L> {

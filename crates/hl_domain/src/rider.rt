@@ -30,7 +30,7 @@ impl<E: Epochs + Drop, F: Task, P: Promise, L: Realm> Keeper<E, F, P, L> {
         ensures jobs { self.new.core.drain.pending ≡ self.old.core.drain.pending }
         ensures stamps { (self.new.stamps ≡ self.old.stamps) × (self.new.acquired ≡ self.old.acquired) }
         ensures rider { Shares 1 result rider.old rider.new }
-        ensures stood { IsKeeper self.old }
+        ensures valid { IsKeeper self.old }
     {
         self.room(1)?;
         let reply = self.core.act(step)?;

@@ -91,7 +91,7 @@ impl<E: Epochs + Drop, F: Task, P: Promise, L: Realm> Keeper<E, F, P, L> {
             (λ a. pass.new ≡ rested (with_tail (a + n) (seen old)) old)
             (λ _. pass.new ≡ old) }
         ensures above { IfOk result (λ a. (seen pass.old).tail ≤ a) }
-        ensures within { IfOk result (λ a. a + n ≤ 2 ^ 48) }
+        ensures within { IfOk result (λ address. address + n ≤ 2 ^ 48) }
         ensures one_page { let page = self.old.core.sizes.page
             in IfOk result (λ a. a / page ≡ (a + n - 1) / page) }
     {
@@ -99,12 +99,12 @@ impl<E: Epochs + Drop, F: Task, P: Promise, L: Realm> Keeper<E, F, P, L> {
         let seen = pass.view;
         let step = Step::Allocate { t: pass.slot, n };
         match self.call(pass, &step)? {
-            Reply::At(place) => {
+            Reply::At(address) => {
                 pass.rest(View {
-                    tail: place + n,
+                    tail: address + n,
                     ..seen
                 });
-                Ok(place)
+                Ok(address)
             }
             _ => unreachable!(),
         }

@@ -4,7 +4,7 @@ use crate::action::Action;
 use crate::pending::Pending;
 use crate::visits::Visits;
 use arrayvec::ArrayVec;
-use hl_model::{Fault, Kind, Tagged, Waiting};
+use hl_model::{Fault, Kind, Tagged, Waiting, with_room};
 use std::alloc::Global;
 use std::marker::Model;
 
@@ -44,7 +44,7 @@ impl<J> Drain<J> {
     {
         let limit = d as usize;
         // The row of actions comes last: where it is refused, none is left to be dropped, and `J` may forbid that.
-        let taken = Vec::with_capacity(alloc, limit).map_err(|_| Fault::OutOfMemory)?;
+        let taken = with_room(alloc, d)?;
         let pending = Pending::open(alloc, limit).map_err(|_| Fault::OutOfMemory)?;
         Ok(Drain {
             limit,
@@ -62,7 +62,7 @@ impl<J> Drain<J> {
         ensures answer { result ≡ put_answer self.old action }
         ensures lists { self.new ≡ after_put self.old ticket action }
         ensures refused { OnErr result (self.new ≡ self.old) }
-        ensures known { IsDrain self.new }
+        ensures valid { IsDrain self.new }
     {
         if !self.has_room() {
             return Err((Fault::DrainFull, action));
@@ -79,7 +79,7 @@ impl<J> Drain<J> {
         ensures answer { result ≡ done_answer self.old ticket }
         ensures lists { self.new ≡ after_done self.old ticket }
         ensures refused { OnErr result (self.new ≡ self.old) }
-        ensures known { IsDrain self.new }
+        ensures valid { IsDrain self.new }
     {
         let Some(place) = self.place_of(ticket) else {
             return Err(Fault::NotTaken);
@@ -93,7 +93,7 @@ impl<J> Drain<J> {
         ensures answer { result ≡ slice_get self.old.pending 0 }
         ensures lists { self.new ≡ after_give_up self.old }
         ensures none { IfNone result (self.new ≡ self.old) }
-        ensures known { IsDrain self.new }
+        ensures valid { IsDrain self.new }
     {
         self.pending.pop(&mut Visits::none())
     }
@@ -101,7 +101,7 @@ impl<J> Drain<J> {
     /// How many pending places the last accepted `take` visited.
     pub fn turns(&self) -> u64
         ensures bound { result ≤ 1 }
-        ensures known { IsDrain self.now }
+        ensures valid { IsDrain self.now }
     {
         self.last_take.count()
     }
@@ -109,7 +109,7 @@ impl<J> Drain<J> {
     /// The taken actions that aren't done, oldest first.
     pub fn taken(&self) -> ArrayVec<Waiting, 64>
         ensures list { result.items ≡ self.now.taken }
-        ensures known { IsDrain self.now }
+        ensures valid { IsDrain self.now }
     {
         let mut row = ArrayVec::new();
         for waiting in &self.taken {
@@ -121,7 +121,7 @@ impl<J> Drain<J> {
     /// Whether a put would be taken: fewer actions are pending and taken than the limit.
     pub fn has_room(&self) -> bool
         ensures room { IsTrue result ↔ (count_of self.now < self.now.limit) }
-        ensures known { IsDrain self.now }
+        ensures valid { IsDrain self.now }
     {
         self.pending.len() + self.taken.len() < self.limit
     }
@@ -129,7 +129,7 @@ impl<J> Drain<J> {
     /// The place of the taken action of this ticket, if there is one.
     fn place_of(&self, ticket: u64) -> Option<usize>
         ensures place { result ≡ position (has_ticket ticket) self.now.taken }
-        ensures known { IsDrain self.now }
+        ensures valid { IsDrain self.now }
     {
         self.taken
             .iter()
@@ -149,7 +149,7 @@ impl<J: Tagged> Drain<J> {
         ensures answer { result ≡ take_answer self.old safe }
         ensures lists { self.new ≡ after_take J.tag result self.old }
         ensures refused { OnErr result (self.new ≡ self.old) }
-        ensures known { IsDrain self.new }
+        ensures valid { IsDrain self.new }
     {
         let front = self.pending.front().ok_or(Fault::Empty)?;
         if front > safe {
@@ -165,7 +165,7 @@ impl<J: Tagged> Drain<J> {
     /// The pending actions, oldest first.
     pub fn pending(&self) -> ArrayVec<Waiting, 64>
         ensures list { result.items ≡ map (waiting_of J.tag) self.now.pending }
-        ensures known { IsDrain self.now }
+        ensures valid { IsDrain self.now }
     {
         let mut row = ArrayVec::new();
         for (ticket, action) in self.pending.iter() {

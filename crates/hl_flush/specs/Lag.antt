@@ -14,7 +14,8 @@ pages_up_to page tail = (tail + page - 1) / page
 abbrev pub read_only_at : ℕ → Six → ℕ → ℕ
 read_only_at page six mutable = max six.read_only (page * (pages_up_to page six.tail - mutable))
 
--- where the head should be: so many pages behind the tail, at most at the flushed offset, and never lower than it is
+-- where the head should be: so many pages behind the tail, at most at the flushed offset, and never lower
+-- than it is
 abbrev pub head_at : ℕ → Six → ℕ → ℕ
 head_at page six resident = max six.head (min six.flushed (page * (pages_up_to page six.tail - resident)))
 

@@ -35,7 +35,8 @@ where
     ensures faults { IfErr result (λ fault. (fault ≡ Fault.NoneSealed) ⊎ (fault ≡ Fault.Device)) }
     ensures unchanged { result ≡ Err Fault.NoneSealed
         → (engine.new ≡ engine.old) × (writer.new ≡ writer.old) × (image.new ≡ image.old) }
-    ensures one_counted { result ≡ Err Fault.Device → W.failures writer.new ≡ one_more (W.failures writer.old) }
+    ensures one_counted { result ≡ Err Fault.Device
+        → W.failures writer.new ≡ one_more (W.failures writer.old) }
     ensures none_counted { OnOk result (W.failures writer.new ≡ W.failures writer.old) }
     ensures jobs { JobsStay engine.old engine.new }
     ensures sizes { engine.new.core.sizes ≡ engine.old.core.sizes }

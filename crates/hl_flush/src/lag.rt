@@ -25,7 +25,8 @@ pub fn lag_steps(params: Params, six: Six, mutable: u64, resident: u64) -> Array
     requires mutable_most { mutable ≤ resident }
     requires resident_most { resident ≤ params.frames }
     ensures steps { result.items ≡ lag_of params.page six mutable resident }
-    ensures lawful { AreInOrder params.page six → All (λ step. fault_at params.page six step ≡ None) result.items }
+    ensures lawful { AreInOrder params.page six
+        → All (λ step. fault_at params.page six step ≡ None) result.items }
 {
     let page = params.page();
     let pages = six.tail.div_ceil(page);

@@ -45,7 +45,7 @@ impl Frames {
     pub fn open(alloc: Global, params: Params) -> Result<Frames, Fault>
         ensures ok { IfOk result (λ made. made ≡ opened params.page params.frames) }
         ensures err { IfErr result (λ fault. fault ≡ Fault.OutOfMemory) }
-        ensures known { IfOk result IsFrames }
+        ensures valid { IfOk result IsFrames }
     {
         let first = Placed { page: 0, frame: 0 };
         Ok(Frames {
@@ -73,7 +73,7 @@ impl Frames {
         ensures answer { result ≡ enter_answer page self.old }
         ensures pages { self.new ≡ after_enter page self.old }
         ensures refused { OnErr result (self.new ≡ self.old) }
-        ensures known { IsFrames self.new }
+        ensures valid { IsFrames self.new }
     {
         let frame = self.frame_of(page);
         if !self.is_free(frame, page) {
@@ -94,7 +94,7 @@ impl Frames {
     /// Whether the frame of this page is free for it: the page is below F, or the page F before it is freed.
     pub fn may_enter(&self, page: u64) -> bool
         ensures free { result ≡ may_enter page self.now }
-        ensures known { IsFrames self.now }
+        ensures valid { IsFrames self.now }
     {
         self.is_free(self.frame_of(page), page)
     }
@@ -109,7 +109,7 @@ impl Frames {
         ensures answer { result ≡ page_or Fault.NoneSealed (next_to_flush sro self.old) }
         ensures pages { self.new ≡ after_take flush_begun (next_to_flush sro self.old) self.old }
         ensures refused { OnErr result (self.new ≡ self.old) }
-        ensures known { IsFrames self.new }
+        ensures valid { IsFrames self.new }
     {
         let Some(page) = self.next_to_flush(sro) else {
             return Err(Fault::NoneSealed);
@@ -130,7 +130,7 @@ impl Frames {
         ensures answer { result ≡ flush_done_answer page ok self.old }
         ensures pages { self.new ≡ after_flush_done page ok self.old }
         ensures refused { OnErr result (self.new ≡ self.old) }
-        ensures known { IsFrames self.new }
+        ensures valid { IsFrames self.new }
     {
         let frame = self.frame_of(page);
         if !is_in_flight(self.held[frame], page) {
@@ -157,7 +157,7 @@ impl Frames {
         ensures answer { result ≡ page_or Fault.NoneClosed (next_to_clean closed self.old) }
         ensures pages { self.new ≡ after_take clean_begun (next_to_clean closed self.old) self.old }
         ensures refused { OnErr result (self.new ≡ self.old) }
-        ensures known { IsFrames self.new }
+        ensures valid { IsFrames self.new }
     {
         let Some(page) = self.next_to_clean(closed) else {
             return Err(Fault::NoneClosed);
@@ -176,7 +176,7 @@ impl Frames {
         ensures answer { result ≡ clean_done_answer page self.old }
         ensures pages { self.new ≡ after_clean_done page self.old }
         ensures refused { OnErr result (self.new ≡ self.old) }
-        ensures known { IsFrames self.new }
+        ensures valid { IsFrames self.new }
     {
         let frame = self.frame_of(page);
         if !is_cleaning(self.held[frame], page) {
@@ -191,7 +191,7 @@ impl Frames {
     pub fn marks(&self, frame: u64) -> Option<Held>
         requires { frame < length self.now.frames }
         ensures held { result ≡ slice_index_or self.now.frames frame None }
-        ensures known { IsFrames self.now }
+        ensures valid { IsFrames self.now }
     {
         self.held[frame as usize]
     }
@@ -204,7 +204,7 @@ impl Frames {
         requires sealed_entered { pages_below sro self.now ≤ self.now.entered }
         requires closed_flushed { closed ≤ flushed_offset self.now }
         ensures state { result ≡ state_of frame sro closed self.now }
-        ensures known { IsFrames self.now }
+        ensures valid { IsFrames self.now }
     {
         let Some(held) = self.marks(frame) else {
             return (FrameState::Free, None);
@@ -227,7 +227,7 @@ impl Frames {
     #[inline(always)]
     pub fn flushed_until(&self) -> u64
         ensures offset { result ≡ flushed_offset self.now }
-        ensures known { IsFrames self.now }
+        ensures valid { IsFrames self.now }
     {
         self.run.page * self.words
     }
@@ -237,7 +237,7 @@ impl Frames {
     #[inline(always)]
     pub fn next_to_flush(&self, sro: u64) -> Option<u64>
         ensures page { result ≡ next_to_flush sro self.now }
-        ensures known { IsFrames self.now }
+        ensures valid { IsFrames self.now }
     {
         let page = self.to_flush.page;
         let end = (page + 1) * self.words;
@@ -249,7 +249,7 @@ impl Frames {
     #[inline(always)]
     pub fn next_to_clean(&self, closed: u64) -> Option<u64>
         ensures page { result ≡ next_to_clean closed self.now }
-        ensures known { IsFrames self.now }
+        ensures valid { IsFrames self.now }
     {
         let page = self.to_clean.page;
         let end = (page + 1) * self.words;
@@ -308,7 +308,7 @@ impl Frames {
     fn is_free(&self, frame: usize, page: u64) -> bool
         requires { frame ≡ page % length self.now.frames }
         ensures free { result ≡ may_enter page self.now }
-        ensures known { IsFrames self.now }
+        ensures valid { IsFrames self.now }
     {
         let frames = self.held.len() as u64;
         page < frames || is_freed(self.held[frame], page - frames)

@@ -4,7 +4,8 @@ use Rattle.std.specs.Io.KnownBytes.{Appends}
 use Rattle.std.proofs.KnownBytes.{Appends-nil, Appends-trans}
 use Rattle.std.proofs.lemmas.List.{take_all, length-drop}
 use Rattle.std.proofs.lemmas.Grind.{flat_map-append}
-use Rattle.hl_image.specs.Lines.{digits, hex, BreaksOff}
+use Rattle.hl_image.specs.Lines.{digits, hex}
+use Rattle.hl_image.specs.Streams.{BreaksOff}
 
 -- known bytes grew by a beginning of the text, and `rest` is to come
 pub record Grows (old new : Option (List ℕ)) (text rest : List ℕ) : Type 0 where

@@ -5,3 +5,4 @@ pub mod Lines
 pub mod Pages
 pub mod Places
 pub mod Rows
+pub mod Streams

@@ -1,10 +1,11 @@
 -- A page image as a line of text.
-use Rattle.std.specs.Prelude.{ℕ, ◌≡◌, ◌/◌, ◌%◌, ◌<◌, Option, List, [], ◌∷◌, ◌++◌, length, slice_index, flat_map, codes}
-use Rattle.std.specs.Io.KnownBytes.{Appends}
+use Rattle.std.specs.Prelude.{ℕ, ◌/◌, ◌%◌, List, [], ◌∷◌, ◌++◌, slice_index, flat_map, codes}
 
 -- a byte as two digits, the high four bits first
 abbrev pub digits : ℕ → List ℕ
-digits byte = slice_index (codes "0123456789abcdef") (byte / 16) ∷ slice_index (codes "0123456789abcdef") (byte % 16) ∷ []
+digits byte =
+    slice_index (codes "0123456789abcdef") (byte / 16) ∷ slice_index (codes "0123456789abcdef") (byte % 16)
+    ∷ []
 
 -- bytes as digits, in order
 abbrev pub hex : List ℕ → List ℕ
@@ -13,11 +14,3 @@ hex bytes = flat_map digits bytes
 -- the line of an image: the word, a space, the bytes, and the line's end
 abbrev pub line_of : List ℕ → List ℕ
 line_of bytes = codes "image " ++ hex bytes ++ 10 ∷ []
-
--- known bytes grew by a beginning of this text, which ends before the text does
-pub record BreaksOff (old new : Option (List ℕ)) (text : List ℕ) : Type 0 where
-  pub written : List ℕ
-  pub missing : List ℕ
-  pub is_missing : 0 < length missing
-  pub both : written ++ missing ≡ text
-  pub grown : Appends old new written

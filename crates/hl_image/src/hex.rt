@@ -1,7 +1,9 @@
 ghost use Rattle.std.specs.Prelude.{◌≡◌, ◌≤◌, length, OnOk, OnErr, IfErr};
 ghost use Rattle.std.specs.Io.KnownBytes.{Appends};
-ghost use Rattle.hl_image.specs.Lines.{digits, hex, line_of, BreaksOff};
+ghost use Rattle.hl_image.specs.Lines.{digits, hex, line_of};
+ghost use Rattle.hl_image.specs.Streams.{BreaksOff};
 
+use crate::stream::put;
 use crate::writer::{PageWriter, with_one_more};
 use arrayvec::ArrayVec;
 use hl_model::Fault;
@@ -67,11 +69,11 @@ impl<W: Write> PageWriter for HexWriter<W> {
     ghost failures = { λ hex. hex.failures };
 
     fn write_page(&mut self, page: u64, bytes: &[u8]) -> Result<(), Fault> {
-        let written = put_line(&mut self.writer, bytes);
-        if written.is_err() {
+        if put_line(&mut self.writer, bytes).is_err() {
             self.failures = with_one_more(self.failures);
+            return Err(Fault::Device);
         }
-        written
+        Ok(())
     }
 
     fn failures(&self) -> u64 {
@@ -81,11 +83,12 @@ impl<W: Write> PageWriter for HexWriter<W> {
 
 // Writes the line of these bytes.
 //
-// Fault: `Device` where a write fails.
+// Fault: `Stream` where a write failed or took no byte.
 fn put_line<W: Write>(writer: &mut W, bytes: &[u8]) -> Result<(), Fault>
     ensures ok { OnOk result (Appends (W.contents writer.old) (W.contents writer.new) (line_of bytes.now)) }
-    ensures err { IfErr result (λ fault. fault ≡ Fault.Device) }
-    ensures left { OnErr result (BreaksOff (W.contents writer.old) (W.contents writer.new) (line_of bytes.now)) }
+    ensures err { IfErr result (λ fault. fault ≡ Fault.Stream) }
+    ensures left { OnErr result
+        (BreaksOff (W.contents writer.old) (W.contents writer.new) (line_of bytes.now)) }
 {
     put(writer, b"image ")?;
     let mut rest = bytes;
@@ -108,22 +111,4 @@ fn hex_of(bytes: &[u8]) -> ArrayVec<u8, 64>
         text.push(DIGITS[(byte % 16) as usize]);
     }
     text
-}
-
-// Writes all of the text. What a short write left is written next, but no failed write is tried again.
-//
-// Fault: `Device` where a write fails or takes no byte.
-fn put<W: Write>(writer: &mut W, text: &[u8]) -> Result<(), Fault>
-    ensures ok { OnOk result (Appends (W.contents writer.old) (W.contents writer.new) text.now) }
-    ensures err { IfErr result (λ fault. fault ≡ Fault.Device) }
-    ensures left { OnErr result (BreaksOff (W.contents writer.old) (W.contents writer.new) text.now) }
-{
-    let mut rest = text;
-    while !rest.is_empty() {
-        match writer.write(rest) {
-            Ok(0) | Err(_) => return Err(Fault::Device),
-            Ok(taken) => rest = &rest[taken..],
-        }
-    }
-    Ok(())
 }

@@ -28,6 +28,9 @@
 //! the failures (`Counted`). Where that writer tells its bytes, an accepted write appends the whole line, and a
 //! failed one a beginning of it that isn't the whole.
 //!
+//! [`put`] writes all of some bytes to a `std::io::Write`, and makes no write after one that failed. The parts of such a
+//! line go through it; so do the report of hl_monitor and the answers of hl_script.
+//!
 //! Why the writer below refused is nothing that a contract of `std::io::Write` tells. So it is only tested that a
 //! `HexWriter` fails no write which that writer would take, also after a failure, and that nothing is tried again.
 #![tactic(auto)]
@@ -35,9 +38,11 @@
 mod hex;
 mod image;
 mod memory;
+mod stream;
 mod writer;
 
 pub use hex::HexWriter;
 pub use image::image_of;
 pub use memory::MemoryWriter;
+pub use stream::put;
 pub use writer::PageWriter;

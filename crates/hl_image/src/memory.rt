@@ -5,7 +5,7 @@ ghost use Rattle.hl_image.specs.Pages.{opened, image_at, is_refused, IsStored, I
 mod row;
 
 use crate::writer::{PageWriter, with_one_more};
-use hl_model::Fault;
+use hl_model::{Fault, with_room};
 use row::Row;
 use std::alloc::Global;
 use std::marker::Model;
@@ -44,7 +44,7 @@ impl MemoryWriter {
         ensures err { IfErr result (λ fault. fault ≡ Fault.OutOfMemory) }
     {
         let size = bytes as usize;
-        let mut rows = Vec::with_capacity(alloc, pages as usize).map_err(|_| Fault::OutOfMemory)?;
+        let mut rows = with_room(alloc, pages)?;
         for _ in 0..pages {
             rows.push_reserved(Row::open(alloc, size)?);
         }

@@ -1,4 +1,5 @@
--- The line that some bytes spell: they are read loosely, and the spelling of what was read is compared with them.
+-- The line that some bytes spell: they are read loosely, and the spelling of what was read is compared with
+-- them.
 use Rattle.std.specs.Prelude.{ℕ, ◌+◌, ◌-◌, ◌*◌, ◌^◌, min, ◌==◌, nat_le, Bool, ◌&&◌, if◌then◌else◌, Option, Some, None, option_map, option_and_then, List, [], ◌∷◌, ◌++◌, codes, fold, bytes_eq}
 use Rattle.std.specs.Int.{is_power_of_two}
 use Rattle.std.specs.List.{before_first, after_first}
@@ -56,7 +57,8 @@ epoch_steps a =
     ∷ (codes "done", Done a)
     ∷ []
 
--- the keywords of the offsets and the words, and the step that each makes with as many of the numbers as it has
+-- the keywords of the offsets and the words, and the step that each makes with as many of the numbers as it
+-- has
 abbrev pub word_steps : ℕ → ℕ → ℕ → List (List ℕ × Step)
 word_steps a b c =
     (codes "raise", Raise a)
@@ -94,7 +96,8 @@ step_with keyword first second third =
 -- the line of a keyword with these words after it, if it is one
 unfoldable pub line_with : List ℕ → List ℕ → List ℕ → List ℕ → List ℕ → Option Line
 line_with keyword first second third fourth =
-    let sizes : Sizes = record { page = number_in first; frames = number_in second; slots = number_in third; drain = number_in fourth } in
+    let sizes : Sizes = record { page = number_in first; frames = number_in second; slots = number_in third;
+    drain = number_in fourth } in
     if bytes_eq keyword (codes "config") then config_of sizes
     else if bytes_eq keyword (codes "status") then Some Status
     else if bytes_eq keyword (codes "pending") then Some Pending

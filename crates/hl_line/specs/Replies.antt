@@ -10,7 +10,8 @@ use Rattle.hl_line.specs.Lines.{worded}
 -- the answer to an accepted step; a view is its read-only offset, its head and its tail
 abbrev pub reply_text : Reply → List ℕ
 reply_text (Entered epoch view) =
-    worded (codes "epoch") (epoch ∷ []) ++ worded (codes " view") (view.read_only ∷ view.head ∷ view.tail ∷ [])
+    worded (codes "epoch") (epoch ∷ [])
+    ++ worded (codes " view") (view.read_only ∷ view.head ∷ view.tail ∷ [])
 reply_text Left = worded (codes "left") []
 reply_text (Ticket ticket) = worded (codes "ticket") (ticket ∷ [])
 reply_text (Bumped epoch) = worded (codes "bumped") (epoch ∷ [])

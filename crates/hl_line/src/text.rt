@@ -12,7 +12,8 @@ use itoa::Buffer;
 pub(crate) fn append<const CAP: usize>(text: &mut ArrayString<CAP>, word: &str, numbers: &[u64])
     requires { array_string_len text.old + length (worded word.now numbers.now) ≤ CAP }
     ensures bytes { text.new.bytes ≡ text.old.bytes ++ worded word.now numbers.now }
-    ensures len { array_string_len text.new ≡ array_string_len text.old + length (worded word.now numbers.now) }
+    ensures len { array_string_len text.new
+        ≡ array_string_len text.old + length (worded word.now numbers.now) }
 {
     text.push_str(word);
     for number in numbers {

@@ -6,7 +6,7 @@ use crate::action::Waiting;
 use crate::fault::Fault;
 use crate::frame::Held;
 use crate::params::Params;
-use crate::rows::filled;
+use crate::rows::{filled, with_room};
 use crate::slot::Slot;
 use crate::view::Six;
 use std::alloc::Global;
@@ -99,7 +99,7 @@ impl Base {
     /// `OutOfMemory` where memory for its rows was refused.
     pub fn copied(&self, alloc: Global) -> Result<Base, Fault>
         ensures ok { IfOk result (λ base. base ≡ self.now) }
-        ensures known { IsBase self.now }
+        ensures valid { IsBase self.now }
         ensures err { IfErr result (λ fault. fault ≡ Fault.OutOfMemory) }
     {
         let mut base = Base::opening(alloc, self.params)?;
@@ -162,15 +162,6 @@ impl Base {
     {
         &self.frames
     }
-}
-
-// An empty row with room for n elements, and for no more.
-fn with_room<T>(alloc: Global, n: u64) -> Result<Vec<T>, Fault>
-    ensures empty { IfOk result (λ row. row.items ≡ []) }
-    ensures exact { IfOk result (λ row. vec_capacity row ≡ n) }
-    ensures err { IfErr result (λ fault. fault ≡ Fault.OutOfMemory) }
-{
-    Vec::with_capacity(alloc, n as usize).map_err(|_| Fault::OutOfMemory)
 }
 
 // Puts other elements in place of those of a row that has room for them.

@@ -39,7 +39,7 @@ pub use limits::{
     SLOTS_MOST, TAIL_MOST,
 };
 pub use params::Params;
-pub use rows::filled;
+pub use rows::{filled, with_room};
 pub use slot::Slot;
 pub use snapshot::Snapshot;
 pub use step::{Reply, Step};

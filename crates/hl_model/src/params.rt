@@ -29,8 +29,10 @@ impl Params {
     /// The sizes, where each is in range: p words a page, a power of two from 4 to 4,096; f frames, 2 to 256;
     /// s thread slots, 1 to 64; d places in the drain list, 1 to 64. None otherwise.
     pub fn checked(p: u64, f: u64, s: u64, d: u64) -> Option<Params>
-        ensures in_range { IsSome result ↔ AreInRange (record { page = p; frames = f; slots = s; drain = d }) }
-        ensures value { IfSome result (λ sizes. sizes ≡ record { page = p; frames = f; slots = s; drain = d }) }
+        ensures in_range { IsSome result ↔ AreInRange
+            (record { page = p; frames = f; slots = s; drain = d }) }
+        ensures value { IfSome result
+            (λ sizes. sizes ≡ record { page = p; frames = f; slots = s; drain = d }) }
     {
         let page = PAGE_LEAST <= p && p <= PAGE_MOST && p.is_power_of_two();
         let frames = FRAMES_LEAST <= f && f <= FRAMES_MOST;
@@ -46,7 +48,7 @@ impl Params {
     /// The words of a page, P: a power of two from 4 to 4,096.
     pub fn page(self) -> u64
         ensures value { result ≡ self.page }
-        ensures in_range { AreInRange self }
+        ensures valid { AreInRange self }
     {
         self.p
     }
@@ -54,7 +56,7 @@ impl Params {
     /// The number of frames, F: 2 to 256.
     pub fn frames(self) -> u64
         ensures value { result ≡ self.frames }
-        ensures in_range { AreInRange self }
+        ensures valid { AreInRange self }
     {
         self.f
     }
@@ -62,7 +64,7 @@ impl Params {
     /// The number of thread slots, S: 1 to 64.
     pub fn slots(self) -> u64
         ensures value { result ≡ self.slots }
-        ensures in_range { AreInRange self }
+        ensures valid { AreInRange self }
     {
         self.s
     }
@@ -70,7 +72,7 @@ impl Params {
     /// The places of the drain list, D: 1 to 64.
     pub fn drain(self) -> u64
         ensures value { result ≡ self.drain }
-        ensures in_range { AreInRange self }
+        ensures valid { AreInRange self }
     {
         self.d
     }

@@ -1,7 +1,18 @@
-ghost use Rattle.std.specs.Prelude.{◌≡◌, IfOk, IfErr, replicate, vec_len, vec_capacity};
+ghost use Rattle.std.specs.Prelude.{◌≡◌, IfOk, IfErr, [], replicate, vec_len, vec_capacity};
 
 use crate::fault::Fault;
 use std::alloc::Global;
+
+/// An empty row with room for n elements, exactly.
+///
+/// Fault: `OutOfMemory` where memory is refused.
+pub fn with_room<T>(alloc: Global, n: u64) -> Result<Vec<T>, Fault>
+    ensures empty { IfOk result (λ row. row.items ≡ []) }
+    ensures room { IfOk result (λ row. vec_capacity row ≡ n) }
+    ensures err { IfErr result (λ fault. fault ≡ Fault.OutOfMemory) }
+{
+    Vec::with_capacity(alloc, n as usize).map_err(|_| Fault::OutOfMemory)
+}
 
 /// A row of n copies of x, with no room beside them.
 ///
@@ -12,9 +23,7 @@ pub fn filled<T: Copy>(alloc: Global, n: u64, x: T) -> Result<Vec<T>, Fault>
     ensures exact { IfOk result (λ row. vec_capacity row ≡ n) }
     ensures err { IfErr result (λ fault. fault ≡ Fault.OutOfMemory) }
 {
-    let Ok(mut row) = Vec::with_capacity(alloc, n as usize) else {
-        return Err(Fault::OutOfMemory);
-    };
+    let mut row = with_room(alloc, n)?;
     for _ in 0..n {
         row.push_reserved(x);
     }

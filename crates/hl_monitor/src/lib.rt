@@ -18,12 +18,10 @@
 //! | Module | What it does |
 //! |---|---|
 //! | `lines` | the labels with their numbers, and each as a line |
-//! | `put` | writes all of some bytes, and makes no write after one that failed |
 //! | `worked` | worked examples, as theorems |
 #![tactic(auto)]
 
 mod lines;
-mod put;
 pub mod worked;
 
 pub use lines::report;

@@ -1,6 +1,6 @@
 -- How a record lies among the pages of a log.
 use Rattle.std.specs.Prelude.{◌≡◌, ℕ, ◌+◌, ◌-◌, ◌/◌}
 
--- the first and the last word of a record of n words at this place are on the same page
+-- the first and the last word of a record of n words at this address are on the same page
 abbrev pub IsOnOnePage : ℕ → ℕ → ℕ → Type 0
-IsOnOnePage page n place = place / page ≡ (place + n - 1) / page
+IsOnOnePage page n address = address / page ≡ (address + n - 1) / page

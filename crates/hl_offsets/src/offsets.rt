@@ -22,11 +22,15 @@ pub struct Offsets {
 impl Model for Offsets {
     ghost Value = { Log };
 
-    ghost view = { λ a. record { page = a.page; closed = a.closed; head = a.head; safe_read_only = a.safe_read_only; read_only = a.read_only; tail = a.tail } };
+    ghost view = { λ a. record { page = a.page; closed = a.closed; head = a.head;
+        safe_read_only = a.safe_read_only; read_only = a.read_only; tail = a.tail } };
 
-    ghost invariant = { λ a. IsLog (record { page = a.page; closed = a.closed; head = a.head; safe_read_only = a.safe_read_only; read_only = a.read_only; tail = a.tail }) };
+    ghost invariant = { λ a. IsLog
+        (record { page = a.page; closed = a.closed; head = a.head; safe_read_only = a.safe_read_only;
+        read_only = a.read_only; tail = a.tail }) };
 
-    ghost inverse = { λ log. record { page = log.page; closed = log.closed; head = log.head; safe_read_only = log.safe_read_only; read_only = log.read_only; tail = log.tail } };
+    ghost inverse = { λ log. record { page = log.page; closed = log.closed; head = log.head;
+        safe_read_only = log.safe_read_only; read_only = log.read_only; tail = log.tail } };
 }
 
 impl Offsets {
@@ -67,7 +71,8 @@ impl Offsets {
     ///
     /// Faults: `NotAbove` where x is at most the read-only offset, `AboveTail` where x is above the tail.
     pub fn raise(&mut self, x: u64) -> Result<(), Fault>
-        ensures answer { let old = self.old in result ≡ unless_fault (raise_fault old.read_only old.tail x) tt }
+        ensures answer { let old = self.old
+            in result ≡ unless_fault (raise_fault old.read_only old.tail x) tt }
         ensures effect { let old = self.old
             in self.new ≡ unless_refused (raise_fault old.read_only old.tail x) old (raised x old) }
         ensures rising { NoneFalls self.old self.new }
@@ -90,7 +95,8 @@ impl Offsets {
     /// where x is above `flushed`.
     pub fn shift(&mut self, x: u64, flushed: u64) -> Result<(), Fault>
         requires { flushed ≤ self.old.safe_read_only }
-        ensures answer { let old = self.old in result ≡ unless_fault (shift_fault old.page old.head flushed x) tt }
+        ensures answer { let old = self.old
+            in result ≡ unless_fault (shift_fault old.page old.head flushed x) tt }
         ensures effect { let old = self.old
             in self.new ≡ unless_refused (shift_fault old.page old.head flushed x) old (shifted x old) }
         ensures below_flushed { self.old.head ≤ flushed → self.new.head ≤ flushed }
@@ -146,49 +152,49 @@ impl Offsets {
             in result ≡ unless_fault (size_fault old.page old.tail n) (place_of old.page old.tail n) }
         ensures effect { let old = self.old
             in self.new ≡ unless_refused (size_fault old.page old.tail n) old (allocated n old) }
-        ensures above_tail { IfOk result (λ place. self.old.tail ≤ place) }
+        ensures above_tail { IfOk result (λ address. self.old.tail ≤ address) }
         ensures one_page { IfOk result (IsOnOnePage self.old.page n) }
 
-        // A lower place at or above the tail has the record on two pages.
+        // A lower address at or above the tail has the record on two pages.
         ensures lowest { let old = self.old
-            in IfOk result (λ place. (a : ℕ) → old.tail ≤ a → IsOnOnePage old.page n a → place ≤ a) }
+            in IfOk result (λ address. (a : ℕ) → old.tail ≤ a → IsOnOnePage old.page n a → address ≤ a) }
         ensures rising { NoneFalls self.old self.new }
         ensures valid { IsLog self.new }
     {
-        let place = self.place(n)?;
-        self.allocate_at(place, n);
-        Ok(place)
+        let address = self.place(n)?;
+        self.allocate_at(address, n);
+        Ok(address)
     }
 
-    /// Places a record of n words at `place`, which is where `place` told that it would lie.
-    pub fn allocate_at(&mut self, place: u64, n: u64)
+    /// Places a record of n words at `address`, where `place` told that it would lie.
+    pub fn allocate_at(&mut self, address: u64, n: u64)
         requires { let old = self.old
-            in Ok place ≡ unless_fault (size_fault old.page old.tail n) (place_of old.page old.tail n) }
+            in Ok address ≡ unless_fault (size_fault old.page old.tail n) (place_of old.page old.tail n) }
         ensures effect { self.new ≡ allocated n self.old }
         ensures rising { NoneFalls self.old self.new }
         ensures valid { IsLog self.new }
     {
-        self.tail = place + n;
+        self.tail = address + n;
     }
 
     /// Where `allocate` would place a record of n words, or the fault that it would meet. Changes nothing.
     pub fn place(&self, n: u64) -> Result<u64, Fault>
         ensures answer { let now = self.now
             in result ≡ unless_fault (size_fault now.page now.tail n) (place_of now.page now.tail n) }
-        ensures above_tail { IfOk result (λ place. self.now.tail ≤ place) }
+        ensures above_tail { IfOk result (λ address. self.now.tail ≤ address) }
         ensures one_page { IfOk result (IsOnOnePage self.now.page n) }
         ensures lowest { let now = self.now
-            in IfOk result (λ place. (a : ℕ) → now.tail ≤ a → IsOnOnePage now.page n a → place ≤ a) }
+            in IfOk result (λ address. (a : ℕ) → now.tail ≤ a → IsOnOnePage now.page n a → address ≤ a) }
         ensures valid { IsLog self.now }
     {
         if n == 0 || n > self.page {
             return Err(Fault::Size);
         }
-        let place = self.place_for(n);
-        if place + n > TAIL_MOST {
+        let address = self.place_for(n);
+        if address + n > TAIL_MOST {
             return Err(Fault::SpaceSpent);
         }
-        Ok(place)
+        Ok(address)
     }
 
     // Where n words, at most P, lie on one page at or above the tail. P is a power of two, so the low bits of the tail
@@ -253,7 +259,8 @@ impl Offsets {
     pub fn six(&self, flushed: u64) -> Six
         ensures value { result ≡ six_of self.now flushed }
         ensures in_order { let now = self.now
-            in now.head ≤ flushed → flushed ≤ now.safe_read_only → flushed % now.page ≡ 0 → AreInOrder now.page result }
+            in now.head ≤ flushed → flushed ≤ now.safe_read_only → flushed % now.page ≡ 0
+                → AreInOrder now.page result }
         ensures valid { IsLog self.now }
     {
         Six {

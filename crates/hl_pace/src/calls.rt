@@ -18,9 +18,9 @@ pub(crate) fn call_all<E: Epochs + Drop, F: Task, P: Promise, L: Realm>(
     calls: u64,
 ) -> Option<Rider<L>> {
     let mut pass = domain.acquire(rt, slot, rider).ok()?;
-    let place = domain.allocate(rt, &mut pass, 1).ok()?;
+    let address = domain.allocate(rt, &mut pass, 1).ok()?;
     for _ in 0..calls {
-        call(rt, domain, floor, &mut pass, place, kind).ok()?;
+        call(rt, domain, floor, &mut pass, address, kind).ok()?;
     }
     domain.release(rt, pass).ok()
 }
@@ -31,7 +31,7 @@ fn call<E: Epochs + Drop, F: Task, P: Promise, L: Realm>(
     domain: &Domain<E, F, P, L>,
     floor: &Mutex<u64>,
     pass: &mut Pass<L>,
-    place: u64,
+    address: u64,
     kind: Kind,
 ) -> Result<(), Fault> {
     match kind {
@@ -46,12 +46,12 @@ fn call<E: Epochs + Drop, F: Task, P: Promise, L: Realm>(
             domain.allocate(rt, pass, 1)?;
         }
         Kind::Store => {
-            if let Err(Fault::TouchesFull) = domain.store(pass, place, 1) {
+            if let Err(Fault::TouchesFull) = domain.store(pass, address, 1) {
                 domain.refresh(rt, pass)?;
             }
         }
         Kind::Load => {
-            domain.load(pass, place)?;
+            domain.load(pass, address)?;
         }
         Kind::Look => {
             domain.look(pass)?;

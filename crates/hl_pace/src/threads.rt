@@ -7,7 +7,7 @@ use crate::work::Work;
 use hl_action::{AnyAnswer, NoJob};
 use hl_counts::CountTable;
 use hl_domain::Domain;
-use hl_model::{Fault, Params};
+use hl_model::{Fault, Params, with_room};
 use hl_words::{Realm, Rider, Seed};
 use std::alloc::Global;
 use std::marker::Brand;
@@ -46,7 +46,7 @@ fn run_over<L: Realm + Send + Sync, R: Threads + Wait + Sync>(
         alloc, seed, JOURNAL, STAMP,
     )?;
     let floor = Mutex::new(0);
-    let mut seats = Vec::with_capacity(alloc, riders.len()).map_err(|_| Fault::OutOfMemory)?;
+    let mut seats = with_room(alloc, riders.len() as u64)?;
     for rider in riders {
         seats.push(Some(rider)).map_err(|_| Fault::OutOfMemory)?;
     }

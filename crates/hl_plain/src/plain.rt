@@ -17,7 +17,9 @@ use crate::present::Present;
 use crate::words::word;
 use crate::{faults, replies, snapshots};
 use arrayvec::ArrayVec;
-use hl_model::{Base, Fault, FrameState, Params, Reply, Snapshot, Step, View, Waiting};
+use hl_model::{
+    Base, Fault, FrameState, Params, Reply, Snapshot, Step, View, Waiting, with_room,
+};
 use std::alloc::Global;
 use std::marker::Model;
 
@@ -54,7 +56,7 @@ impl Plain {
     pub fn open(alloc: Global, params: Params) -> Result<Plain, Fault>
         ensures ok { IfOk result (λ made. made ≡ begun (base_of params []) true) }
         ensures err { IfErr result (λ fault. fault ≡ Fault.OutOfMemory) }
-        ensures known { IfOk result IsHistory }
+        ensures valid { IfOk result IsHistory }
     {
         let room = params.frames();
         let base = Base::opening(alloc, params)?;
@@ -68,7 +70,7 @@ impl Plain {
     pub fn from_base(alloc: Global, base: &Base) -> Result<Plain, Fault>
         ensures ok { IfOk result (λ made. made ≡ begun base.now false) }
         ensures err { IfErr result (λ fault. fault ≡ Fault.OutOfMemory) }
-        ensures known { IfOk result IsHistory }
+        ensures valid { IfOk result IsHistory }
     {
         let room = base.params().frames();
         let base = base.copied(alloc)?;
@@ -82,9 +84,9 @@ impl Plain {
         ensures ok { IfOk result (λ made. made ≡ begun base has_words) }
         ensures err { IfErr result (λ fault. fault ≡ Fault.OutOfMemory) }
     {
-        let steps = row(alloc, room)?;
-        let flushes = row(alloc, room)?;
-        let cleans = row(alloc, room)?;
+        let steps = with_room(alloc, room)?;
+        let flushes = with_room(alloc, room)?;
+        let cleans = with_room(alloc, room)?;
         Ok(Plain {
             base,
             steps,
@@ -104,7 +106,7 @@ impl Plain {
             → Follows self.old A → AnswersBehind A self.old step.now result self.new }
         ensures follows { (A : List Step) → Follows self.old A → Follows self.new A }
         ensures room { length self.old.steps < self.old.base.sizes.frames → result ≡ told self.old step.now }
-        ensures known { IsHistory self.new }
+        ensures valid { IsHistory self.new }
     {
         self.make(step)
     }
@@ -113,7 +115,7 @@ impl Plain {
     fn make(&mut self, step: &Step) -> Result<Reply, Fault>
         ensures answer { Answers self.old step.now result self.new }
         ensures room { length self.old.steps < self.old.base.sizes.frames → result ≡ told self.old step.now }
-        ensures known { IsHistory self.new }
+        ensures valid { IsHistory self.new }
     {
         if let Some(fault) = faults::fault_at(&self.present(), step) {
             return Err(fault);
@@ -179,7 +181,7 @@ impl Plain {
     /// The steps accepted since the base, oldest first.
     pub fn steps(&self) -> &[Step]
         ensures steps { result.now ≡ self.now.steps }
-        ensures known { IsHistory self.now }
+        ensures valid { IsHistory self.now }
     {
         self.steps.as_slice()
     }
@@ -190,15 +192,6 @@ impl Plain {
     {
         Present::after(&self.base, &self.steps, &self.flushes, &self.cleans)
     }
-}
-
-// An empty row with room for so many elements.
-fn row<T>(alloc: Global, room: u64) -> Result<Vec<T>, Fault>
-    ensures ok { IfOk result (λ made. made.items ≡ []) }
-    ensures room { IfOk result (λ made. room ≤ vec_capacity made) }
-    ensures err { IfErr result (λ fault. fault ≡ Fault.OutOfMemory) }
-{
-    Vec::with_capacity(alloc, room as usize).map_err(|_| Fault::OutOfMemory)
 }
 
 // Makes room for one element more.
@@ -222,16 +215,19 @@ fn accept(
     cleans: &mut Vec<Mark>,
     step: &Step,
 ) -> Reply
-    requires kept { let history : History = record { base = base.now; steps = steps.old.items; has_words = has_words }
+    requires kept { let history : History = record { base = base.now; steps = steps.old.items;
+        has_words = has_words }
         in AreKept history flushes.old.items cleans.old.items }
     requires accepted { fault_after base.now steps.old.items step.now ≡ None }
     requires steps_room { vec_len steps.old < vec_capacity steps.old }
     requires flushes_room { vec_len flushes.old < vec_capacity flushes.old }
     requires cleans_room { vec_len cleans.old < vec_capacity cleans.old }
-    ensures reply { let history : History = record { base = base.now; steps = steps.old.items; has_words = has_words }
+    ensures reply { let history : History = record { base = base.now; steps = steps.old.items;
+        has_words = has_words }
         in result ≡ answer_told history step.now }
     ensures steps { steps.new.items ≡ steps.old.items ++ step.now ∷ [] }
-    ensures kept { let history : History = record { base = base.now; steps = steps.new.items; has_words = has_words }
+    ensures kept { let history : History = record { base = base.now; steps = steps.new.items;
+        has_words = has_words }
         in AreKept history flushes.new.items cleans.new.items }
     ensures steps_room { vec_capacity steps.new ≡ vec_capacity steps.old }
     ensures flushes_room { vec_capacity flushes.new ≡ vec_capacity flushes.old }

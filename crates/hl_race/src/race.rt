@@ -10,7 +10,7 @@ use hl_counts::CountTable;
 use hl_crew::{CrewEnd, OpenGate, run_crew};
 use hl_domain::{Domain, Ending};
 use hl_image::MemoryWriter;
-use hl_model::{Fault, Params};
+use hl_model::{Fault, Params, with_room};
 use hl_words::{Realm, Rider, Seed};
 use std::alloc::Global;
 use std::marker::Brand;
@@ -162,7 +162,7 @@ fn run_on<L: Realm + Send + Sync, R: Threads + Wait + Sync>(
     let crew = [first, second, third, fourth];
     let one = MemoryWriter::open(alloc, PAGES, 136)?;
     let other = MemoryWriter::open(alloc, PAGES, 136)?;
-    let mut seats = Vec::with_capacity(alloc, riders.len()).map_err(|_| Fault::OutOfMemory)?;
+    let mut seats = with_room(alloc, riders.len() as u64)?;
     for rider in riders {
         seats.push(Some(rider)).map_err(|_| Fault::OutOfMemory)?;
     }
@@ -183,7 +183,7 @@ fn run_on<L: Realm + Send + Sync, R: Threads + Wait + Sync>(
         Ok(end) => end.riders,
         Err((fault, ..)) => return Err(fault),
     };
-    let mut back = Vec::with_capacity(alloc, seats.len() + CREW).map_err(|_| Fault::OutOfMemory)?;
+    let mut back = with_room(alloc, (seats.len() + CREW) as u64)?;
     for rider in seats.into_iter().flatten() {
         back.push(rider).map_err(|_| Fault::OutOfMemory)?;
     }

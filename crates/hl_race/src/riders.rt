@@ -53,9 +53,9 @@ fn round_of<E: Epochs + Drop, F: Task, P: Promise, L: Realm>(
     value: u64,
 ) -> Result<(), Fault> {
     match domain.allocate(rt, pass, 1) {
-        Ok(place) => {
-            domain.store(pass, place, value)?;
-            domain.load(pass, place)?;
+        Ok(address) => {
+            domain.store(pass, address, value)?;
+            domain.load(pass, address)?;
         }
         Err(fault @ (Fault::Stranger { .. } | Fault::JournalFull)) => return Err(fault),
         // The pages have no room yet.

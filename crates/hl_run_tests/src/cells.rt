@@ -53,7 +53,7 @@ fn words_of_a_page(rt: HostRuntime) -> Result<(), Fail> {
 enum End {
     Pending,
     InItsDrainList,
-    Held,
+    Taken,
     GivenUp,
     Refused,
     Done,
@@ -68,7 +68,7 @@ fn spend(alloc: Global, end: End, calls: &AtomicU64) -> Result<(), Fault> {
     match end {
         End::Pending => drop(engine),
         End::InItsDrainList => drop(engine.into_drain()),
-        End::Held => {
+        End::Taken => {
             engine.step(&Step::Take)?;
             drop(engine);
         }
@@ -90,8 +90,8 @@ fn a_job_is_run_by_its_done_alone(rt: HostRuntime) -> Result<(), Fault> {
     let rows = [
         ("pending in a dropped engine", End::Pending, 0),
         ("dropped in a drain list", End::InItsDrainList, 0),
-        ("held by a dropped engine", End::Held, 0),
-        ("held and given up by into_drain", End::GivenUp, 0),
+        ("taken in a dropped engine", End::Taken, 0),
+        ("taken and given up by into_drain", End::GivenUp, 0),
         ("refused by a bump", End::Refused, 0),
         ("done", End::Done, 1),
     ];

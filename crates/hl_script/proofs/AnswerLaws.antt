@@ -5,7 +5,7 @@ use Rattle.std.specs.List.{flat_map, range_with_len}
 use Rattle.std.specs.Io.KnownBytes.{Appends}
 use Rattle.std.proofs.lemmas.Grind.{flat_map-append}
 use Rattle.hl_model.specs.declared.fault.Fault.{Fault}
-use Rattle.hl_model.specs.declared.fault.Fault.TheVariants.{NoJob}
+use Rattle.hl_model.specs.declared.fault.Fault.TheVariants.{NoJob, Stream}
 use Rattle.hl_model.specs.declared.step.Reply.{Reply}
 use Rattle.hl_model.specs.declared.step.Step.{Step}
 use Rattle.hl_model.specs.declared.snapshot.Snapshot.{Snapshot}
@@ -14,11 +14,8 @@ use Rattle.hl_model.specs.Frames.{frame_of}
 use Rattle.hl_model.specs.Snapshots.{snapshot_of}
 use Rattle.hl_model.specs.Replies.{fault_of, unless_fault}
 use Rattle.hl_model.proofs.ListLaws.{range-push}
-use Rattle.hl_script.specs.declared.machine.Broken.{Broken}
-use Rattle.hl_script.specs.declared.machine.Broken.TheVariants.{OutOfMemory as NoMemory, Stream}
+use Rattle.hl_image.specs.Streams.{BreaksOff}
 use Rattle.hl_script.specs.Answers.{lacks_job, line_fault, line_answer, quantities_text, status_text, frame_text, result_text}
-use Rattle.hl_script.specs.Engine.{Puts}
-use Rattle.hl_script.specs.Outcomes.{AppendsFront}
 use Rattle.hl_script.specs.Stepping.{Stepped, StepAnswers, QueryAnswers}
 
 -- where the tag has a job, the fault is the definitions'
@@ -38,18 +35,23 @@ step_answered stands may_lack has sizes A step result old new counted st a c = (
 )
 
 -- or its first bytes
-pub step_broken : (stands : (ℕ → Bool) → Sizes → List Step → Type 0) (may_lack : Bool) (has : ℕ → Bool) (sizes : Sizes) (A : List Step) (step : Step) (result : Result Reply Fault) (old new : Option (List ℕ)) (e : Broken) → Stepped stands may_lack has sizes A step (Some result) → Puts {A = Unit {0}} old new (result_text result ++ 10 ∷ []) (Err e) → StepAnswers stands may_lack has sizes A step old new (Err e)
-step_broken stands may_lack has sizes A step result old new NoMemory st p = absurd p
-step_broken stands may_lack has sizes A step result old new Stream st p = subst (λ r. AppendsFront old new (result_text r ++ 10 ∷ [])) st.0 p
+pub step_broken : (stands : (ℕ → Bool) → Sizes → List Step → Type 0) (may_lack : Bool) (has : ℕ → Bool) (sizes : Sizes)
+    (A : List Step) (step : Step) (result : Result Reply Fault) (text : List ℕ) (old new : Option (List ℕ)) (fault : Fault)
+    → Stepped stands may_lack has sizes A step (Some result) → text ≡ result_text result → fault ≡ Stream
+    → BreaksOff old new (text ++ 10 ∷ []) → StepAnswers stands may_lack has sizes A step old new (Err fault)
+step_broken stands may_lack has sizes A step result text old new fault st told is b =
+    subst (λ e. StepAnswers stands may_lack has sizes A step old new (Err e)) (sym is)
+    (subst (λ z. BreaksOff old new (z ++ 10 ∷ [])) (told ∙ ap result_text st.0) b)
 
 -- a query's answer was written
 pub query_answered : (text bytes : List ℕ) (old new : Option (List ℕ)) → text ≡ bytes → Appends old new (text ++ 10 ∷ []) → QueryAnswers bytes old new (Ok false)
 query_answered text bytes old new e a = (subst (λ z. Appends old new (z ++ 10 ∷ [])) e a, refl)
 
 -- or its first bytes
-pub query_broken : (text bytes : List ℕ) (old new : Option (List ℕ)) (e : Broken) → text ≡ bytes → Puts {A = Unit {0}} old new (text ++ 10 ∷ []) (Err e) → QueryAnswers bytes old new (Err e)
-query_broken text bytes old new NoMemory h p = absurd p
-query_broken text bytes old new Stream h p = subst (λ z. AppendsFront old new (z ++ 10 ∷ [])) h p
+pub query_broken : (text bytes : List ℕ) (old new : Option (List ℕ)) (fault : Fault) → text ≡ bytes → fault ≡ Stream
+    → BreaksOff old new (text ++ 10 ∷ []) → QueryAnswers bytes old new (Err fault)
+query_broken text bytes old new fault same is b =
+    subst (λ e. QueryAnswers bytes old new (Err e)) (sym is) (subst (λ z. BreaksOff old new (z ++ 10 ∷ [])) same b)
 
 -- the first n frames
 abbrev pub frames_so_far : Sizes → List Step → ℕ → List ℕ

@@ -7,7 +7,7 @@ use Rattle.std.specs.List.{list_any}
 use Rattle.hl_model.specs.Lists.{until_last}
 use Rattle.hl_model.proofs.ListLaws.{until_last-push, until_last-le}
 use Rattle.hl_script.specs.Cut.{cut, longer, whole_lines, unfinished_line}
-use Rattle.hl_script.specs.Engine.{is_end}
+use Rattle.hl_script.specs.Interpreter.{is_end}
 
 -- a byte that ends no line
 pub cut-byte : (b : ℕ) (bytes : List ℕ) → is_end b ≡ false → cut (b ∷ bytes) ≡ longer b (cut bytes)

@@ -14,7 +14,7 @@ use Rattle.hl_model.specs.declared.step.Step.TheVariants.{Bump, Done}
 use Rattle.hl_model.specs.Sizes.{Sizes}
 use Rattle.hl_model.specs.Replies.{fault_of, answer_of, unless_fault, extended, with_word, word_reply_of}
 use Rattle.hl_line.specs.declared.line.Line.TheVariants.{Step as Makes}
-use Rattle.hl_cells.specs.HeldActions.{is_of, firings, firing_at}
+use Rattle.hl_cells.specs.TakenActions.{is_of, firings, firing_at}
 use Rattle.hl_cells.specs.Engines.{Whole, EngineStands}
 use Rattle.hl_cells.specs.EngineSteps.{fired, Told, Moved, is_job_bump}
 use Rattle.hl_script.specs.Answers.{bears, lacks_job, line_fault, shown, line_answer, line_reply, with_line}

@@ -1,7 +1,7 @@
 pub mod AnswerLaws
 pub mod CutLaws
-pub mod EngineLaws
 pub mod FastLaws
+pub mod InterpreterLaws
 pub mod KnownLaws
 pub mod LineLaws
 pub mod MachineLaws

@@ -6,7 +6,7 @@ use Rattle.hl_line.specs.declared.line.Line.{Line}
 use Rattle.hl_line.specs.Reading.{line_of}
 use Rattle.hl_script.specs.Cut.{cut}
 use Rattle.hl_script.specs.Lines.{allowed, good_lines, script, bad_line}
-use Rattle.hl_script.specs.Engine.{Faces}
+use Rattle.hl_script.specs.Interpreter.{Faces}
 
 pub good-nil : (before : List Line) → good_lines before [] ≡ []
 unfolding good_lines

@@ -2,17 +2,17 @@
 use Rattle.std.proofs.Common.{◌≡◌, ℕ, Bool, true, false, cond, not, List, [], ◌∷◌, ◌++◌, length, refl, sym, ap, ◌∙◌, subst, arith, ne_eqb}
 use Rattle.std.specs.Prelude.{Option, Some, None, Result, Ok, Err, codes}
 use Rattle.std.specs.Io.KnownBytes.{Appends}
+use Rattle.hl_model.specs.declared.fault.Fault.{Fault}
+use Rattle.hl_model.specs.declared.fault.Fault.TheVariants.{OutOfMemory, Stream}
 use Rattle.hl_model.specs.declared.step.Step.{Step}
 use Rattle.hl_model.specs.Sizes.{Sizes}
 use Rattle.hl_model.specs.Actions.{pending}
+use Rattle.hl_image.specs.Streams.{BreaksOff}
 use Rattle.hl_line.specs.declared.line.Line.{Line}
 use Rattle.hl_line.specs.declared.line.Line.TheVariants.{Config, Step as Makes, Status, Pending, Frames}
-use Rattle.hl_script.specs.declared.machine.Broken.{Broken}
-use Rattle.hl_script.specs.declared.machine.Broken.TheVariants.{OutOfMemory as NoMemory, Stream}
 use Rattle.hl_script.specs.Lines.{is_config, may_stand, takes_memory}
 use Rattle.hl_script.specs.Answers.{sizes_of, with_line, is_accepted, status_text, pending_text, frames_text, answer_text, accepted_after, accepted}
-use Rattle.hl_script.specs.Outcomes.{AppendsFront}
-use Rattle.hl_script.specs.Engine.{Answered, Answers}
+use Rattle.hl_script.specs.Interpreter.{Answered, Answers}
 use Rattle.hl_script.specs.Stepping.{StepAnswers, QueryAnswers}
 use Rattle.hl_script.specs.Machine.{StandsAt, Stands}
 use Rattle.hl_script.proofs.TextLaws.{sizes_of-push, accepted-push}
@@ -61,17 +61,18 @@ config_answered begins stands opening was opened has before line sizes old new l
       counts = refl;
     }))
 
-step_made : (stands : (ℕ → Bool) → Sizes → List Step → Type 0) (may_lack : Bool) (has : ℕ → Bool) (before : List Line) (step : Step) (given : Sizes) (others : List Line) (old new : Option (List ℕ)) (r : Result Bool Broken) → before ≡ Config given ∷ others → StepAnswers stands may_lack has (sizes_of before) (accepted has before) step old new r → Answers (StandsAt stands) (takes_memory may_lack) has before (Makes step) old new r
+step_made : (stands : (ℕ → Bool) → Sizes → List Step → Type 0) (may_lack : Bool) (has : ℕ → Bool) (before : List Line) (step : Step) (given : Sizes) (others : List Line) (old new : Option (List ℕ)) (r : Result Bool Fault) → before ≡ Config given ∷ others → StepAnswers stands may_lack has (sizes_of before) (accepted has before) step old new r → Answers (StandsAt stands) (takes_memory may_lack) has before (Makes step) old new r
 step_made stands may_lack has before step given others old new (Ok counted) e s = record {
   wrote = s.0;
   standing = lines_more stands has before given others (Makes step) e s.1;
   counts = s.2;
 }
-step_made stands may_lack has before step given others old new (Err NoMemory) e s = s
+step_made stands may_lack has before step given others old new (Err OutOfMemory) e s = s
 step_made stands may_lack has before step given others old new (Err Stream) e s = s
+step_made stands may_lack has before step given others old new (Err fault) e s = absurd s
 
 -- a step was answered
-pub step_answers : (was now : (ℕ → Bool) → Sizes → List Step → Type 0) (may_lack : Bool) (has : ℕ → Bool) (before : List Line) (line : Line) (step : Step) (old new : Option (List ℕ)) (r : Result Bool Broken) → line ≡ Makes step → StandsAt was has before → ((has : ℕ → Bool) (sizes : Sizes) (A : List Step) → was has sizes A → StepAnswers now may_lack has sizes A step old new r) → Answers (StandsAt now) (takes_memory may_lack) has before line old new r
+pub step_answers : (was now : (ℕ → Bool) → Sizes → List Step → Type 0) (may_lack : Bool) (has : ℕ → Bool) (before : List Line) (line : Line) (step : Step) (old new : Option (List ℕ)) (r : Result Bool Fault) → line ≡ Makes step → StandsAt was has before → ((has : ℕ → Bool) (sizes : Sizes) (A : List Step) → was has sizes A → StepAnswers now may_lack has sizes A step old new r) → Answers (StandsAt now) (takes_memory may_lack) has before line old new r
 step_answers was now may_lack has before line step old new r l st made =
     subst (λ z. Answers (StandsAt now) (takes_memory may_lack) has before z old new r) (sym l)
     (step_made now may_lack has before step st.given st.others old new r st.first (made has (sizes_of before) (accepted has before) st.standing))
@@ -92,14 +93,14 @@ pub is_frames : (line : Line) → line ≡ Frames → IsQuery line frames_text
 is_frames line e = subst (λ z. IsQuery z frames_text) (sym e) (record { told = λ has sizes A. refl; stays = λ has sizes A. refl; uncounted = λ has sizes A. refl })
 
 -- a query was answered
-pub query_answers : (stands : (ℕ → Bool) → Sizes → List Step → Type 0) (lacks : Line → Bool) (has : ℕ → Bool) (before : List Line) (line : Line) (text : Sizes → List Step → List ℕ) (old new : Option (List ℕ)) (r : Result Bool Broken) → IsQuery line text → StandsAt stands has before → ((has : ℕ → Bool) (sizes : Sizes) (A : List Step) → stands has sizes A → QueryAnswers (text sizes A) old new r) → Answers (StandsAt stands) lacks has before line old new r
+pub query_answers : (stands : (ℕ → Bool) → Sizes → List Step → Type 0) (lacks : Line → Bool) (has : ℕ → Bool) (before : List Line) (line : Line) (text : Sizes → List Step → List ℕ) (old new : Option (List ℕ)) (r : Result Bool Fault) → IsQuery line text → StandsAt stands has before → ((has : ℕ → Bool) (sizes : Sizes) (A : List Step) → stands has sizes A → QueryAnswers (text sizes A) old new r) → Answers (StandsAt stands) lacks has before line old new r
 query_answers stands lacks has before line text old new r q st told = by_result r (told has (sizes_of before) (accepted has before) st.standing)
   where
-    by_result : (r : Result Bool Broken) → QueryAnswers (text (sizes_of before) (accepted has before)) old new r → Answers (StandsAt stands) lacks has before line old new r
+    by_result : (r : Result Bool Fault) → QueryAnswers (text (sizes_of before) (accepted has before)) old new r → Answers (StandsAt stands) lacks has before line old new r
     by_result (Ok counted) a = record {
       wrote = subst (λ z. Appends old new (z ++ 10 ∷ [])) (sym (q.told has (sizes_of before) (accepted has before))) a.0;
       standing = lines_more stands has before st.given st.others line st.first (subst (stands has (sizes_of before)) (sym (q.stays has (sizes_of before) (accepted has before))) st.standing);
       counts = a.1 ∙ sym (q.uncounted has (sizes_of before) (accepted has before));
     }
-    by_result (Err NoMemory) a = absurd a
-    by_result (Err Stream) a = subst (λ z. AppendsFront old new (z ++ 10 ∷ [])) (sym (q.told has (sizes_of before) (accepted has before))) a
+    by_result (Err Stream) a = subst (λ z. BreaksOff old new (z ++ 10 ∷ [])) (sym (q.told has (sizes_of before) (accepted has before))) a
+    by_result (Err fault) a = absurd a

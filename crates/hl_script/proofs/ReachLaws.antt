@@ -11,7 +11,7 @@ use Rattle.hl_line.specs.Reading.{line_of}
 use Rattle.hl_line.proofs.Reading.{line_of-long}
 use Rattle.hl_script.specs.Cut.{cut, whole_lines, unfinished_line}
 use Rattle.hl_script.specs.Lines.{allowed, good_lines, script, bad_line}
-use Rattle.hl_script.specs.Engine.{is_end, Reached, Faces}
+use Rattle.hl_script.specs.Interpreter.{is_end, Reached, Faces}
 use Rattle.hl_script.proofs.CutLaws.{cut-nil, cut-line, cut-begun, cut-last, until_last-none}
 use Rattle.hl_script.proofs.LineLaws.{good-nil, good-line, good-append}
 

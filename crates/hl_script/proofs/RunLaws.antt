@@ -14,8 +14,8 @@ use Rattle.hl_line.specs.declared.line.Line.TheVariants.{Config, Step as Makes, 
 use Rattle.hl_script.specs.Cut.{whole_lines, unfinished_line}
 use Rattle.hl_script.specs.Lines.{is_config, takes_memory}
 use Rattle.hl_script.specs.Text.{answers}
-use Rattle.hl_script.specs.Outcomes.{ReadWithin, ReadToEnd, WroteWholeLines, WroteFront, FailedWrite, WroteUpTo, LackedAtConfig, Settled, StoppedAtBadLine, StoppedByMemory, StoppedByStream, IsRunFault}
-use Rattle.hl_script.specs.Machine.{ScriptStopped}
+use Rattle.hl_script.specs.Outcomes.{ReadWithin, ReadToEnd, IsJudged, WroteWholeLines, WroteFront, FailedWrite, WroteUpTo, LackedAtConfig, Settled, StoppedAtBadLine, StoppedByMemory, StoppedByStream, IsRunFault}
+use Rattle.hl_script.specs.Interpreter.{RunStopped}
 use Rattle.hl_script.proofs.MachineLaws.{config_first}
 use Rattle.hl_script.proofs.TextLaws.{answers-nil}
 
@@ -47,21 +47,21 @@ settled_lacked has left from to input s = record {
 }
 
 -- a run that stopped at a fault, by the fault
-pub stopped_bad : (may_lack : Bool) (has : ℕ → Bool) (reads : ℕ) (given left from to : Option (List ℕ)) (f : Fault) (n : ℕ) → ScriptStopped may_lack has reads given left from to f → f ≡ BadLine n → StoppedAtBadLine has reads given left from to n
-stopped_bad may_lack has reads given left from to f n s e = subst (ScriptStopped may_lack has reads given left from to) e s
+pub stopped_bad : (may_lack : Bool) (has : ℕ → Bool) (reads : ℕ) (given left from to : Option (List ℕ)) (f : Fault) (n : ℕ) → RunStopped (takes_memory may_lack) has reads given left from to f → f ≡ BadLine n → StoppedAtBadLine has reads given left from to n
+stopped_bad may_lack has reads given left from to f n s e = subst (RunStopped (takes_memory may_lack) has reads given left from to) e s
 
-pub stopped_lacked : (has : ℕ → Bool) (reads : ℕ) (given left from to : Option (List ℕ)) (f : Fault) → ScriptStopped false has reads given left from to f → f ≡ OutOfMemory → StoppedByMemory reads given left (LackedAtConfig from to)
+pub stopped_lacked : (has : ℕ → Bool) (reads : ℕ) (given left from to : Option (List ℕ)) (f : Fault) → RunStopped (takes_memory false) has reads given left from to f → f ≡ OutOfMemory → StoppedByMemory reads given left (LackedAtConfig from to)
 stopped_lacked has reads given left from to f s e =
-    let here : ScriptStopped false has reads given left from to OutOfMemory = subst (ScriptStopped false has reads given left from to) e s in
+    let here : RunStopped (takes_memory false) has reads given left from to OutOfMemory = subst (RunStopped (takes_memory false) has reads given left from to) e s in
     (here.0, here.1, settled_lacked has left from to here.0 here.2)
 
-pub stopped_up_to : (has : ℕ → Bool) (reads : ℕ) (given left from to : Option (List ℕ)) (f : Fault) → ScriptStopped true has reads given left from to f → f ≡ OutOfMemory → StoppedByMemory reads given left (WroteUpTo has (takes_memory true) from to)
-stopped_up_to has reads given left from to f s e = subst (ScriptStopped true has reads given left from to) e s
+pub stopped_up_to : (has : ℕ → Bool) (reads : ℕ) (given left from to : Option (List ℕ)) (f : Fault) → RunStopped (takes_memory true) has reads given left from to f → f ≡ OutOfMemory → StoppedByMemory reads given left (WroteUpTo has (takes_memory true) from to)
+stopped_up_to has reads given left from to f s e = subst (RunStopped (takes_memory true) has reads given left from to) e s
 
-pub stopped_stream : (may_lack : Bool) (has : ℕ → Bool) (reads : ℕ) (given left from to : Option (List ℕ)) (f : Fault) → ScriptStopped may_lack has reads given left from to f → f ≡ Stream → StoppedByStream has reads given left from to
-stopped_stream may_lack has reads given left from to f s e = subst (ScriptStopped may_lack has reads given left from to) e s
+pub stopped_stream : (may_lack : Bool) (has : ℕ → Bool) (reads : ℕ) (given left from to : Option (List ℕ)) (f : Fault) → RunStopped (takes_memory may_lack) has reads given left from to f → f ≡ Stream → StoppedByStream has reads given left from to
+stopped_stream may_lack has reads given left from to f s e = subst (RunStopped (takes_memory may_lack) has reads given left from to) e s
 
-pub stopped_fault : (may_lack : Bool) (has : ℕ → Bool) (reads : ℕ) (given left from to : Option (List ℕ)) (f : Fault) → ScriptStopped may_lack has reads given left from to f → IsRunFault f
+pub stopped_fault : (may_lack : Bool) (has : ℕ → Bool) (reads : ℕ) (given left from to : Option (List ℕ)) (f : Fault) → RunStopped (takes_memory may_lack) has reads given left from to f → IsRunFault f
 stopped_fault may_lack has reads given left from to (BadLine n) s = tt
 stopped_fault may_lack has reads given left from to OutOfMemory s = tt
 stopped_fault may_lack has reads given left from to Stream s = tt
@@ -74,19 +74,31 @@ within_more few many given left input le r = record { consumed = r.consumed; few
 pub to_end_more : (few many : ℕ) (given left : Option (List ℕ)) (input : List ℕ) → few ≤ many → ReadToEnd few given left input → ReadToEnd many given left input
 to_end_more few many given left input le r = record { consumed = r.consumed; at_end = r.at_end; few = omega (arith, r.few, le) }
 
-pub script_lacked : (may_lack : Bool) (has : ℕ → Bool) (few many : ℕ) (given left from to : Option (List ℕ)) → few ≤ many → StoppedByMemory few given left (WroteUpTo has (takes_memory may_lack) from to) → ScriptStopped may_lack has many given left from to OutOfMemory
-script_lacked may_lack has few many given left from to le s = (s.0, within_more few many given left s.0 le s.1, s.2)
+-- a run that stopped did so within more reads too
+judged_more : (few many n : ℕ) (given left : Option (List ℕ)) (input : List ℕ) → few ≤ many
+    → IsJudged n input ⊎ ReadToEnd few given left input → IsJudged n input ⊎ ReadToEnd many given left input
+judged_more few many n given left input le (inl judged) = inl judged
+judged_more few many n given left input le (inr end) = inr (to_end_more few many given left input le end)
 
-pub script_read : (may_lack : Bool) (has : ℕ → Bool) (few many : ℕ) (given left from to : Option (List ℕ)) (input : List ℕ) → few ≤ many → ReadWithin few given left input → WroteWholeLines has from to input → ScriptStopped may_lack has many given left from to Stream
-script_read may_lack has few many given left from to input le r w = (input, within_more few many given left input le r, inl w)
-
-pub script_broken : (may_lack : Bool) (has : ℕ → Bool) (few many : ℕ) (given left from to : Option (List ℕ)) (input : List ℕ) → few ≤ many → ReadWithin few given left input → FailedWrite has few given left from to input → ScriptStopped may_lack has many given left from to Stream
-script_broken may_lack has few many given left from to input le r f = (input, within_more few many given left input le r, inr (record { front = f.front; place = by_place f.place }))
+failed_more : (has : ℕ → Bool) (few many : ℕ) (given left from to : Option (List ℕ)) (input : List ℕ) → few ≤ many
+    → WroteWholeLines has from to input ⊎ FailedWrite has few given left from to input
+    → WroteWholeLines has from to input ⊎ FailedWrite has many given left from to input
+failed_more has few many given left from to input le (inl whole) = inl whole
+failed_more has few many given left from to input le (inr failed) = inr (record { front = failed.front; place = by_place failed.place })
   where
     by_place : WroteFront has from to (whole_lines input) ⊎ (80 < length (unfinished_line input)) ⊎ ReadToEnd few given left input → WroteFront has from to (whole_lines input) ⊎ (80 < length (unfinished_line input)) ⊎ ReadToEnd many given left input
     by_place (inl missing) = inl missing
     by_place (inr (inl long)) = inr (inl long)
     by_place (inr (inr end)) = inr (inr (to_end_more few many given left input le end))
+
+pub stopped_more : (lacks : Line → Bool) (has : ℕ → Bool) (few many : ℕ) (given left from to : Option (List ℕ)) (f : Fault)
+    → few ≤ many → RunStopped lacks has few given left from to f → RunStopped lacks has many given left from to f
+stopped_more lacks has few many given left from to (BadLine n) le s =
+    (s.0, within_more few many given left s.0 le s.1, s.2, judged_more few many n given left s.0 le s.3)
+stopped_more lacks has few many given left from to OutOfMemory le s = (s.0, within_more few many given left s.0 le s.1, s.2)
+stopped_more lacks has few many given left from to Stream le s =
+    (s.0, within_more few many given left s.0 le s.1, failed_more has few many given left from to s.0 le s.2)
+stopped_more lacks has few many given left from to f le s = absurd s
 
 -- the steps at which an engine stands keep the headline
 pub engine_headline : {F : Type 0} {engine : Whole F} {sizes : Sizes} {A : List Step} → engine.core.sizes ≡ sizes → EngineStands engine A → Headline sizes A

@@ -4,7 +4,7 @@ use Rattle.std.proofs.lemmas.List.{take-append-drop}
 use Rattle.std.specs.Prelude.{Some}
 use Rattle.hl_model.specs.Lists.{until_last}
 use Rattle.hl_script.specs.Cut.{whole_lines, unfinished_line}
-use Rattle.hl_script.specs.Engine.{is_end}
+use Rattle.hl_script.specs.Interpreter.{is_end}
 use Rattle.hl_script.specs.Outcomes.{ReadToEnd, WroteAll, WroteWholeLines, WroteFront, FailedWrite}
 use Rattle.hl_script.specs.Text.{text}
 
@@ -14,7 +14,8 @@ all_length has before after bytes w = ap length w.wrote ∙ length-append before
 
 -- or less
 front_length : (has : ℕ → Bool) (before after bytes : List ℕ) → WroteFront has (Some before) (Some after) bytes → length after < length before + length (text has bytes)
-front_length has before after bytes f = omega (arith, ap length f.wrote, length-append before f.front, ap length f.is_front, length-append f.front f.rest, f.missing)
+front_length has before after bytes f =
+    omega (arith, ap length f.grown, length-append before f.written, ap length f.both, length-append f.written f.missing, f.is_missing)
 
 -- bytes that are whole lines
 lines_alone : (bytes : List ℕ) → unfinished_line bytes ≡ [] → whole_lines bytes ≡ bytes

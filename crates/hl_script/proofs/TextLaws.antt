@@ -10,7 +10,7 @@ use Rattle.hl_line.specs.declared.line.Line.{Line}
 use Rattle.hl_line.specs.declared.line.Line.TheVariants.{Config, Step as Makes, Status, Pending, Frames}
 use Rattle.hl_script.specs.Answers.{sizes_of, line_fault, is_accepted, with_line, accepted_after, accepted}
 use Rattle.hl_script.specs.Text.{answers}
-use Rattle.hl_script.specs.Engine.{answered}
+use Rattle.hl_script.specs.Interpreter.{answered}
 
 pub answers-nil : (has : ℕ → Bool) → answers has [] ≡ []
 unfolding answers gather gather_after

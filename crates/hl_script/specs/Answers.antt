@@ -42,7 +42,8 @@ abbrev pub shown : Step → Reply → Reply
 shown (Done ticket) (Ran tag) = Answer (tag + ticket)
 shown _ reply = reply
 
--- the answer to a script's step that is accepted after the steps A: a read is told the word, a done what its job answers
+-- the answer to a script's step that is accepted after the steps A: a read is told the word, a done what its
+-- job answers
 abbrev pub line_answer : Sizes → List Step → Step → Reply
 line_answer sizes A step = shown step (with_word A step (answer_of sizes A (A ++ step ∷ []) step))
 
@@ -83,12 +84,15 @@ unfoldable pub quantities_text : ℕ → ℕ → ℕ → ℕ → Six → List �
 quantities_text epoch safe pending taken six =
     codes "status" ++ named (codes "epoch") epoch ++ named (codes "safe") safe
     ++ named (codes "pending") pending ++ named (codes "taken") taken
-    ++ named (codes "closed") six.closed ++ named (codes "head") six.head ++ named (codes "flushed") six.flushed
-    ++ named (codes "safe_read_only") six.safe_read_only ++ named (codes "read_only") six.read_only ++ named (codes "tail") six.tail
+    ++ named (codes "closed") six.closed ++ named (codes "head") six.head
+    ++ named (codes "flushed") six.flushed ++ named (codes "safe_read_only") six.safe_read_only
+    ++ named (codes "read_only") six.read_only ++ named (codes "tail") six.tail
 
 -- the quantities after the accepted steps A
 unfoldable pub status_text : Sizes → List Step → List ℕ
-status_text sizes A = quantities_text (current_epoch A) (safe_epoch sizes.slots A) (length (pending A)) (length (taken A)) (six sizes A)
+status_text sizes A =
+    quantities_text (current_epoch A) (safe_epoch sizes.slots A) (length (pending A)) (length (taken A))
+    (six sizes A)
 
 -- what an action does, with its tag or its stored offset
 abbrev pub kind_text : Kind → List ℕ
@@ -123,7 +127,8 @@ frame_text frame = 32 ∷ (state_text frame.0 ++ page_text frame.1)
 
 -- what each frame is at after the accepted steps A
 unfoldable pub frames_text : Sizes → List Step → List ℕ
-frames_text sizes A = codes "frames" ++ flat_map (λ f. frame_text (frame_of sizes f A)) (range_with_len 0 sizes.frames)
+frames_text sizes A =
+    codes "frames" ++ flat_map (λ f. frame_text (frame_of sizes f A)) (range_with_len 0 sizes.frames)
 
 -- an answer, or the fault
 abbrev pub result_text : Result Reply Fault → List ℕ

@@ -7,7 +7,8 @@ abbrev pub longer : ℕ → List (List ℕ) → List (List ℕ)
 longer b [] = (b ∷ []) ∷ []
 longer b (line ∷ lines) = (b ∷ line) ∷ lines
 
--- the lines of a script, each without its LF: it is cut at each byte 10, and what follows the last is a line too where it isn't empty
+-- the lines of a script, each without its LF: it is cut at each byte 10, and what follows the last is a line
+-- too where it isn't empty
 unfoldable pub cut : List ℕ → List (List ℕ)
 cut [] = []
 cut (b ∷ bytes) = if b == 10 then [] ∷ cut bytes else longer b (cut bytes)

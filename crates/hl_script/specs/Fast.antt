@@ -18,7 +18,8 @@ abbrev pub AreLeft : {F : Type 0} → (ℕ → Bool) → List Step → List (Opt
 AreLeft has A shelf = (tag : ℕ) → tags_on shelf tag ≡ not (lacks_job has A (Bump tag))
 
 -- the engine stands at the steps, and the shelf has the jobs that are left
-pub record IsFast {F : Type 0} (shelf : List (Option (KeptRecord F))) (engine : Whole F) (has : ℕ → Bool) (sizes : Sizes) (A : List Step) : Type 0 where
+pub record IsFast {F : Type 0} (shelf : List (Option (KeptRecord F))) (engine : Whole F) (has : ℕ → Bool)
+    (sizes : Sizes) (A : List Step) : Type 0 where
   pub sizes_is : engine.core.sizes ≡ sizes
   pub standing : EngineStands engine A
   pub left : AreLeft has A shelf

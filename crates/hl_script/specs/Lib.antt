@@ -1,7 +1,7 @@
 pub mod Answers
 pub mod Cut
-pub mod Engine
 pub mod Fast
+pub mod Interpreter
 pub mod Lines
 pub mod Machine
 pub mod Outcomes

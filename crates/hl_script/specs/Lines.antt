@@ -28,7 +28,8 @@ allowed before found = option_and_then (λ line. if may_stand before line then S
 -- the good lines that come after those of before, up to the first that is no step
 unfoldable pub good_lines : List Line → List (List ℕ) → List Line
 good_lines before [] = []
-good_lines before (bytes ∷ others) = option_map_or (λ line. line ∷ good_lines (before ++ line ∷ []) others) (allowed before (line_of bytes)) []
+good_lines before (bytes ∷ others) =
+    option_map_or (λ line. line ∷ good_lines (before ++ line ∷ []) others) (allowed before (line_of bytes)) []
 
 -- the lines of a script before the first that is no step
 unfoldable pub script : List ℕ → List Line
@@ -36,4 +37,5 @@ script bytes = good_lines [] (cut bytes)
 
 -- the number, from 1, of the first line that is no step
 unfoldable pub bad_line : List ℕ → Option ℕ
-bad_line bytes = if length (script bytes) == length (cut bytes) then None else Some (length (script bytes) + 1)
+bad_line bytes =
+    if length (script bytes) == length (cut bytes) then None else Some (length (script bytes) + 1)

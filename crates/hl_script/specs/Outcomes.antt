@@ -1,6 +1,7 @@
 -- What a run over a reader and a writer has done when it ends.
 use Rattle.std.specs.Prelude.{◌≡◌, ◌<◌, ◌≤◌, ◌⊎◌, ◌+◌, ◌*◌, length, ⊤, ℕ, Bool, true, Option, Some, None, List, [], ◌∷◌, ◌++◌}
 use Rattle.std.specs.Io.KnownBytes.{Appends, Consumes, IsAtEnd}
+use Rattle.hl_image.specs.Streams.{BreaksOff}
 use Rattle.hl_line.specs.declared.line.Line.{Line}
 use Rattle.hl_model.specs.declared.fault.Fault.{Fault}
 use Rattle.hl_model.specs.declared.fault.Fault.TheVariants.{BadLine as BadLineFault, OutOfMemory as OutOfMemoryFault, Stream as StreamFault}
@@ -37,21 +38,15 @@ pub record IsJudged (n : ℕ) (bytes : List ℕ) : Type 0 where
   pub bad : bad_line front ≡ Some n
   pub ended : (whole_lines front ≡ front) ⊎ (80 < length (unfinished_line front))
 
--- the writer took the text of the whole lines of these bytes, none of them bad, and the line that isn't whole is no longer than a line may be
+-- the writer took the text of the whole lines of these bytes, none of them bad, and the line that isn't whole
+-- is no longer than a line may be
 pub record WroteWholeLines (has : ℕ → Bool) (before after : Option (List ℕ)) (bytes : List ℕ) : Type 0 where
   pub whole : WroteAll has before after (whole_lines bytes)
   pub unfinished : length (unfinished_line bytes) ≤ 80
 
--- the writer took the beginning of these bytes, and not all of them
-pub record AppendsFront (before after : Option (List ℕ)) (bytes : List ℕ) : Type 0 where
-  pub front : List ℕ
-  pub rest : List ℕ
-  pub wrote : Appends before after front
-  pub is_front : front ++ rest ≡ bytes
-  pub missing : 0 < length rest
-
 -- the writer took the answers to the lines before this one, at which memory was refused
-pub record WroteUpTo (has : ℕ → Bool) (lacks : Line → Bool) (before after : Option (List ℕ)) (bytes : List ℕ) : Type 0 where
+pub record WroteUpTo (has : ℕ → Bool) (lacks : Line → Bool) (before after : Option (List ℕ)) (bytes : List ℕ)
+    : Type 0 where
   pub lines : List Line
   pub line : Line
   pub others : List Line
@@ -67,12 +62,15 @@ pub record Settled (left : Option (List ℕ)) (P : List ℕ → Type 0) (input :
 
 -- the writer took the beginning of the text of these bytes, and not all of it
 abbrev pub WroteFront : (ℕ → Bool) → Option (List ℕ) → Option (List ℕ) → List ℕ → Type 0
-WroteFront has before after bytes = AppendsFront before after (text has bytes)
+WroteFront has before after bytes = BreaksOff before after (text has bytes)
 
--- a write failed: what is missing is of the text of the whole lines, or of a line with an 81st byte, or the input has ended
-pub record FailedWrite (has : ℕ → Bool) (reads : ℕ) (given left before after : Option (List ℕ)) (input : List ℕ) : Type 0 where
+-- a write failed: what is missing is of the text of the whole lines, or of a line with an 81st byte, or the
+-- input has ended
+pub record FailedWrite (has : ℕ → Bool) (reads : ℕ) (given left before after : Option (List ℕ))
+    (input : List ℕ) : Type 0 where
   pub front : Settled left (WroteFront has before after) input
-  pub place : WroteFront has before after (whole_lines input) ⊎ (80 < length (unfinished_line input)) ⊎ ReadToEnd reads given left input
+  pub place : WroteFront has before after (whole_lines input) ⊎ (80 < length (unfinished_line input))
+      ⊎ ReadToEnd reads given left input
 
 -- memory was refused at line 1 of these bytes, a config, and nothing was written
 pub record LackedAtConfig (before after : Option (List ℕ)) (bytes : List ℕ) : Type 0 where
@@ -83,17 +81,21 @@ pub record LackedAtConfig (before after : Option (List ℕ)) (bytes : List ℕ) 
   pub nothing : Appends before after []
 
 -- a run stopped at line n, which is no step: its LF, its 81st byte or the end of the input was read
-abbrev pub StoppedAtBadLine : (ℕ → Bool) → ℕ → Option (List ℕ) → Option (List ℕ) → Option (List ℕ) → Option (List ℕ) → ℕ → Type 0
+abbrev pub StoppedAtBadLine : (ℕ → Bool) → ℕ → Option (List ℕ) → Option (List ℕ) → Option (List ℕ)
+    → Option (List ℕ) → ℕ → Type 0
 StoppedAtBadLine has reads given left before after n =
     (input : List ℕ) × ReadWithin reads given left input × Settled left (WroteBad has before after n) input
     × (IsJudged n input ⊎ ReadToEnd reads given left input)
 
 -- a run stopped where memory was refused
 abbrev pub StoppedByMemory : ℕ → Option (List ℕ) → Option (List ℕ) → (List ℕ → Type 0) → Type 0
-StoppedByMemory reads given left P = (input : List ℕ) × ReadWithin reads given left input × Settled left P input
+StoppedByMemory reads given left P =
+    (input : List ℕ) × ReadWithin reads given left input × Settled left P input
 
--- a run stopped at its reader: a read or the flush before it failed, or all reads were made; or it stopped at its writer
-abbrev pub StoppedByStream : (ℕ → Bool) → ℕ → Option (List ℕ) → Option (List ℕ) → Option (List ℕ) → Option (List ℕ) → Type 0
+-- a run stopped at its reader: a read or the flush before it failed, or all reads were made; or it stopped at
+-- its writer
+abbrev pub StoppedByStream : (ℕ → Bool) → ℕ → Option (List ℕ) → Option (List ℕ) → Option (List ℕ)
+    → Option (List ℕ) → Type 0
 StoppedByStream has reads given left before after =
     (input : List ℕ) × ReadWithin reads given left input
     × (WroteWholeLines has before after input ⊎ FailedWrite has reads given left before after input)

@@ -23,7 +23,8 @@ abbrev pub tag_is_below : ℕ → Waiting → Bool
 tag_is_below tags w = kind_is_below tags w.kind
 
 -- it was opened and has the steps, and the tags stored are below the number, which leaves room for a ticket
-pub record IsSlow (tags : ℕ) (history : History) (has : ℕ → Bool) (sizes : Sizes) (A : List Step) : Type 0 where
+pub record IsSlow (tags : ℕ) (history : History) (has : ℕ → Bool) (sizes : Sizes) (A : List Step)
+    : Type 0 where
   pub has_is : has ≡ below tags
   pub opened : Follows history []
   pub has_words : history.has_words ≡ true

@@ -1,12 +1,12 @@
-ghost use Rattle.std.specs.Prelude.{◌≡◌, ◌+◌, ◌≤◌, ◌++◌, ◌∷◌, [], length, Some};
+ghost use Rattle.std.specs.Prelude.{◌≡◌, ◌+◌, ◌≤◌, ◌++◌, ◌∷◌, [], length, Some, OnOk, OnErr, IfErr};
+ghost use Rattle.std.specs.Io.KnownBytes.{Appends};
 ghost use Rattle.arrayvec.specs.ArrayString.{array_string_len};
+ghost use Rattle.hl_image.specs.Streams.{BreaksOff};
 ghost use Rattle.hl_script.specs.Answers.{named, quantities_text, waiting_text, pending_text, frame_text, result_text};
-ghost use Rattle.hl_script.specs.Engine.{Puts};
 ghost use Rattle.hl_script.specs.Text.{bad_text};
 
-use crate::machine::Broken;
-use crate::put::put;
 use arrayvec::ArrayString;
+use hl_image::put;
 use hl_line::{print_fault, print_reply};
 use hl_model::{Fault, FrameState, Kind, Reply, Snapshot, Waiting};
 use itoa::Buffer;
@@ -14,9 +14,11 @@ use std::io::Write;
 
 /// Writes a text and an LF.
 ///
-/// `Stream` where a write failed or took no byte; the first of the bytes were written.
-pub(crate) fn put_line<W: Write>(out: &mut W, text: &str) -> Result<(), Broken>
-    ensures { Puts (W.contents out.old) (W.contents out.new) (text.now ++ 10 ∷ []) result }
+/// Fault: `Stream` where a write failed or took no byte. A beginning of the line was then written, and not all of it.
+pub(crate) fn put_line<W: Write>(out: &mut W, text: &str) -> Result<(), Fault>
+    ensures ok { OnOk result (Appends (W.contents out.old) (W.contents out.new) (text.now ++ 10 ∷ [])) }
+    ensures err { IfErr result (λ fault. fault ≡ Fault.Stream) }
+    ensures left { OnErr result (BreaksOff (W.contents out.old) (W.contents out.new) (text.now ++ 10 ∷ [])) }
 {
     put(out, text.as_bytes())?;
     put(out, b"\n")
@@ -38,7 +40,8 @@ pub(crate) fn add_named(text: &mut ArrayString<320>, name: &str, number: u64)
 /// The quantities by their names.
 #[tactic(auto, unfolding(crate::specs::Answers::quantities_text))]
 pub(crate) fn print_quantities(snapshot: &Snapshot) -> ArrayString<320>
-    ensures { result.bytes ≡ quantities_text snapshot.now.epoch snapshot.now.safe snapshot.now.pending snapshot.now.taken snapshot.now.six }
+    ensures { let now = snapshot.now
+        in result.bytes ≡ quantities_text now.epoch now.safe now.pending now.taken now.six }
 {
     let mut text = ArrayString::new();
     text.push_str("status");

@@ -75,7 +75,8 @@ impl<E: Epochs + Drop, F: Task> Stepping for Fast<E, F> {
 impl<E: Epochs + Drop, F: Task> Fast<E, F> {
     /// A bump with the job of this tag, which leaves the shelf where the bump is accepted.
     fn bump(&mut self, tag: u64) -> Result<Reply, Fault>
-        ensures { (has : ℕ → Bool) (sizes : Sizes) (A : List STEP) → IsFast self.old.shelf self.old.engine has sizes A
+        ensures { (has : ℕ → Bool) (sizes : Sizes) (A : List STEP)
+            → IsFast self.old.shelf self.old.engine has sizes A
             → Stepped (IsFast self.new.shelf self.new.engine) false has sizes A (BUMP tag) (Some result) }
     {
         let Some(kept) = self.shelf.take(tag) else {

@@ -22,7 +22,7 @@
 //!
 //! | Module | What it does |
 //! |---|---|
-//! | `engine` | cuts, judges, has each line answered, and stops: at a bad line, at the end, at a fault of a stream |
+//! | `interpreter` | cuts, judges, has each line answered, and stops: at a bad line, at the end, at a fault of a stream |
 //! | `reads` | counts the reads, which end a run that would go on |
 //! | `progress` | what is kept between two bytes: two counts, and a line of at most 80 bytes |
 //! | `machine` | the trait of what answers a line; a machine need not keep the lines that it answered |
@@ -34,26 +34,23 @@
 //! | `sum` | the promise of the jobs |
 //! | `answers` | the texts of answers |
 //! | `laws` | what a caller can tell after `Stream` |
-//! | `put` | writes all of some bytes, and makes no write after one that failed |
 //!
 //! A line is judged when its LF was read, when the input ended, or at its 81st byte; until then it isn't answered.
 //! Nothing is tried again after a fault of a stream, an interruption among them.
 #![tactic(auto)]
 
 mod answers;
-mod engine;
 mod fast;
+mod interpreter;
 pub mod laws;
 mod lines;
 mod machine;
 mod progress;
-mod put;
 mod reads;
 mod run;
 mod script;
 mod slow;
 mod stepping;
-mod stop;
 mod sum;
 
 pub use answers::print_bad_line;

@@ -6,10 +6,9 @@ ghost use Rattle.hl_script.specs.Answers.{status_text, pending_text, frames_text
 ghost use Rattle.hl_script.specs.Stepping.{IsStanding, StepAnswers, QueryAnswers};
 
 use crate::answers::{add_frame, print_pending, print_quantities, print_result, put_line};
-use crate::machine::Broken;
 use crate::stepping::Stepping;
 use arrayvec::ArrayString;
-use hl_model::Step;
+use hl_model::{Fault, Step};
 use std::io::Write;
 
 /// Makes a step and writes its answer, with an LF. The answer tells whether the step was accepted.
@@ -20,13 +19,14 @@ pub(crate) fn answer_step<S: Stepping, W: Write>(
     stepping: &mut S,
     step: &Step,
     out: &mut W,
-) -> Result<bool, Broken>
+) -> Result<bool, Fault>
     requires { IsStanding (S.stands stepping.old) }
     ensures { (has : ℕ → Bool) (sizes : Sizes) (A : List Step) → S.stands stepping.old has sizes A
-        → StepAnswers (S.stands stepping.new) S.may_lack has sizes A step.now (W.contents out.old) (W.contents out.new) result }
+        → StepAnswers (S.stands stepping.new) S.may_lack has sizes A step.now (W.contents out.old)
+        (W.contents out.new) result }
 {
     let Some(result) = stepping.step(step) else {
-        return Err(Broken::OutOfMemory);
+        return Err(Fault::OutOfMemory);
     };
     put_line(out, print_result(&result).as_str())?;
     Ok(result.is_ok())
@@ -35,10 +35,7 @@ pub(crate) fn answer_step<S: Stepping, W: Write>(
 /// Writes the answer to a query of the quantities, with an LF. It is no step: the answer is false.
 ///
 /// `Stream` as for a step.
-pub(crate) fn answer_status<S: Stepping, W: Write>(
-    stepping: &S,
-    out: &mut W,
-) -> Result<bool, Broken>
+pub(crate) fn answer_status<S: Stepping, W: Write>(stepping: &S, out: &mut W) -> Result<bool, Fault>
     requires { IsStanding (S.stands stepping.now) }
     ensures { (has : ℕ → Bool) (sizes : Sizes) (A : List Step) → S.stands stepping.now has sizes A
         → QueryAnswers (status_text sizes A) (W.contents out.old) (W.contents out.new) result }
@@ -51,7 +48,7 @@ pub(crate) fn answer_status<S: Stepping, W: Write>(
 pub(crate) fn answer_pending<S: Stepping, W: Write>(
     stepping: &S,
     out: &mut W,
-) -> Result<bool, Broken>
+) -> Result<bool, Fault>
     requires { IsStanding (S.stands stepping.now) }
     ensures { (has : ℕ → Bool) (sizes : Sizes) (A : List Step) → S.stands stepping.now has sizes A
         → QueryAnswers (pending_text (pending A)) (W.contents out.old) (W.contents out.new) result }
@@ -61,10 +58,7 @@ pub(crate) fn answer_pending<S: Stepping, W: Write>(
 }
 
 /// The same for a query of the frames.
-pub(crate) fn answer_frames<S: Stepping, W: Write>(
-    stepping: &S,
-    out: &mut W,
-) -> Result<bool, Broken>
+pub(crate) fn answer_frames<S: Stepping, W: Write>(stepping: &S, out: &mut W) -> Result<bool, Fault>
     requires { IsStanding (S.stands stepping.now) }
     ensures { (has : ℕ → Bool) (sizes : Sizes) (A : List Step) → S.stands stepping.now has sizes A
         → QueryAnswers (frames_text sizes A) (W.contents out.old) (W.contents out.new) result }
@@ -76,7 +70,8 @@ pub(crate) fn answer_frames<S: Stepping, W: Write>(
 /// The word `frames` and what each frame is at.
 fn print_frames<S: Stepping>(stepping: &S) -> ArrayString<8192>
     requires { IsStanding (S.stands stepping.now) }
-    ensures { (has : ℕ → Bool) (sizes : Sizes) (A : List Step) → S.stands stepping.now has sizes A → result.bytes ≡ frames_text sizes A }
+    ensures { (has : ℕ → Bool) (sizes : Sizes) (A : List Step) → S.stands stepping.now has sizes A
+        → result.bytes ≡ frames_text sizes A }
 {
     let mut text = ArrayString::new();
     text.push_str("frames");

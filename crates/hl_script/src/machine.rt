@@ -1,19 +1,11 @@
 ghost use Rattle.std.specs.Prelude.{◌≡◌, ℕ, Bool, true, List};
 ghost use Rattle.hl_line.specs.declared.line.Line.{Line};
 ghost use Rattle.hl_script.specs.Lines.{may_stand};
-ghost use Rattle.hl_script.specs.Engine.{Answers};
+ghost use Rattle.hl_script.specs.Interpreter.{Answers};
 
 use hl_line::Line;
+use hl_model::Fault;
 use std::io::Write;
-
-/// Why a line could not be answered.
-#[derive(Clone, Copy, Debug, PartialEq, Eq)]
-pub(crate) enum Broken {
-    /// Memory was refused.
-    OutOfMemory,
-    /// A write failed, or took no byte.
-    Stream,
-}
 
 /// What answers the lines of a script, one after another.
 pub(crate) trait Machine {
@@ -28,8 +20,11 @@ pub(crate) trait Machine {
     ///
     /// `OutOfMemory` where memory was refused; nothing was written. `Stream` where a write failed or took no
     /// byte; the first bytes of the answer were written.
-    fn answer<W: Write>(&mut self, line: &Line, out: &mut W) -> Result<bool, Broken>
-        requires { (has : ℕ → Bool) × (before : List Line) × stands self.old has before × (may_stand before line.now ≡ true) }
-        ensures { (has : ℕ → Bool) (before : List Line) → stands self.old has before → may_stand before line.now ≡ true
-            → Answers (stands self.new) lacks has before line.now (W.contents out.old) (W.contents out.new) result };
+    fn answer<W: Write>(&mut self, line: &Line, out: &mut W) -> Result<bool, Fault>
+        requires { (has : ℕ → Bool) × (before : List Line)
+            × stands self.old has before × (may_stand before line.now ≡ true) }
+        ensures { (has : ℕ → Bool) (before : List Line)
+            → stands self.old has before → may_stand before line.now ≡ true
+            → Answers (stands self.new) lacks has before line.now (W.contents out.old) (W.contents out.new)
+            result };
 }

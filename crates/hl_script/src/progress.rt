@@ -35,7 +35,8 @@ impl Progress {
 
     /// The line that the bytes so far spell, where it may stand here: a config is the first line, and no other.
     pub(crate) fn ended_line(&self) -> Option<Line>
-        ensures { (before : List Line) → self.now.lines ≡ length before → result ≡ allowed before (line_of self.now.line.items) }
+        ensures { (before : List Line) → self.now.lines ≡ length before
+            → result ≡ allowed before (line_of self.now.line.items) }
     {
         let line = read_line(self.line.as_slice())?;
         let is_config = matches!(line, Line::Config(_));
@@ -48,7 +49,8 @@ impl Progress {
 
     /// How many steps were accepted. None where there was no line.
     pub(crate) fn count(&self) -> Option<u64>
-        ensures { (has : ℕ → Bool) (lines : List Line) → self.now.lines ≡ length lines → self.now.steps ≡ length (accepted has lines)
+        ensures { (has : ℕ → Bool) (lines : List Line)
+            → self.now.lines ≡ length lines → self.now.steps ≡ length (accepted has lines)
             → result ≡ count_of has lines }
     {
         if self.lines == 0 {

@@ -3,12 +3,11 @@ ghost use Rattle.hl_script.specs.Lines.{takes_memory};
 ghost use Rattle.hl_script.specs.Machine.{Stands, ScriptRan};
 
 use crate::answers::put_line;
-use crate::engine::run;
+use crate::interpreter::run;
 use crate::lines::{answer_frames, answer_pending, answer_status, answer_step};
-use crate::machine::{Broken, Machine};
+use crate::machine::Machine;
 use crate::reads::Reads;
 use crate::stepping::{Opening, Stepping};
-use crate::stop::Stop;
 use hl_line::Line;
 use hl_model::Fault;
 use std::io::{Read, Write};
@@ -27,14 +26,14 @@ impl<O: Opening<S> + Drop, S: Stepping + Drop> Machine for Script<O, S> {
 
     ghost lacks = { takes_memory S.may_lack };
 
-    fn answer<W: Write>(&mut self, line: &Line, out: &mut W) -> Result<bool, Broken> {
+    fn answer<W: Write>(&mut self, line: &Line, out: &mut W) -> Result<bool, Fault> {
         match *line {
             Line::Config(sizes) => {
                 let Some(opening) = self.opening.take() else {
-                    return Err(Broken::OutOfMemory);
+                    return Err(Fault::OutOfMemory);
                 };
                 let Some(opened) = opening.open(sizes) else {
-                    return Err(Broken::OutOfMemory);
+                    return Err(Fault::OutOfMemory);
                 };
                 self.opened = Some(opened);
                 put_line(out, "opened")?;
@@ -42,19 +41,19 @@ impl<O: Opening<S> + Drop, S: Stepping + Drop> Machine for Script<O, S> {
             }
             Line::Step(step) => match &mut self.opened {
                 Some(opened) => answer_step(opened, &step, out),
-                None => Err(Broken::OutOfMemory),
+                None => Err(Fault::OutOfMemory),
             },
             Line::Status => match &self.opened {
                 Some(opened) => answer_status(opened, out),
-                None => Err(Broken::OutOfMemory),
+                None => Err(Fault::OutOfMemory),
             },
             Line::Pending => match &self.opened {
                 Some(opened) => answer_pending(opened, out),
-                None => Err(Broken::OutOfMemory),
+                None => Err(Fault::OutOfMemory),
             },
             Line::Frames => match &self.opened {
                 Some(opened) => answer_frames(opened, out),
-                None => Err(Broken::OutOfMemory),
+                None => Err(Fault::OutOfMemory),
             },
         }
     }
@@ -72,17 +71,13 @@ pub(crate) fn run_script<O: Opening<S> + Drop, S: Stepping + Drop, R: Read, W: W
 ) -> Result<Option<(S, u64)>, Fault>
     requires { (has : ℕ → Bool) × O.begins opening has }
     ensures { (has : ℕ → Bool) → O.begins opening has
-        → ScriptRan S.stands S.may_lack has reads (R.remaining reader.old) (R.remaining reader.new) (W.contents out.old) (W.contents out.new) result }
+        → ScriptRan S.stands S.may_lack has reads (R.remaining reader.old) (R.remaining reader.new)
+        (W.contents out.old) (W.contents out.new) result }
 {
     let mut script = Script {
         opening: Some(opening),
         opened: None,
     };
-    match run(&mut script, &mut Reads::up_to(reads), reader, out) {
-        Ok(count) => Ok(script.opened.zip(count)),
-        Err(Stop::BadLine { n }) => Err(Fault::BadLine { n }),
-        Err(Stop::OutOfMemory) => Err(Fault::OutOfMemory),
-        Err(Stop::Reader) => Err(Fault::Stream),
-        Err(Stop::Writer) => Err(Fault::Stream),
-    }
+    let count = run(&mut script, &mut Reads::up_to(reads), reader, out)?;
+    Ok(script.opened.zip(count))
 }

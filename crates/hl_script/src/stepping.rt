@@ -22,28 +22,34 @@ pub(crate) trait Stepping {
     /// None where memory was refused; then it stands as before.
     fn step(&mut self, step: &Step) -> Option<Result<Reply, Fault>>
         requires { IsStanding (stands self.old) }
-        ensures { (has : ℕ → Bool) (sizes : Sizes) (A : List Step) → stands self.old has sizes A → Stepped (stands self.new) may_lack has sizes A step.now result };
+        ensures { (has : ℕ → Bool) (sizes : Sizes) (A : List Step) → stands self.old has sizes A
+            → Stepped (stands self.new) may_lack has sizes A step.now result };
 
     /// The quantities.
     fn snapshot(&self) -> Snapshot
         requires { IsStanding (stands self.now) }
-        ensures { (has : ℕ → Bool) (sizes : Sizes) (A : List Step) → stands self.now has sizes A → result ≡ snapshot_of sizes A };
+        ensures { (has : ℕ → Bool) (sizes : Sizes) (A : List Step) → stands self.now has sizes A
+            → result ≡ snapshot_of sizes A };
 
     /// The pending actions, oldest first.
     fn pending(&self) -> ArrayVec<Waiting, 64>
         requires { IsStanding (stands self.now) }
-        ensures { (has : ℕ → Bool) (sizes : Sizes) (A : List Step) → stands self.now has sizes A → result.items ≡ pending A };
+        ensures { (has : ℕ → Bool) (sizes : Sizes) (A : List Step) → stands self.now has sizes A
+            → result.items ≡ pending A };
 
     /// How many frames there are.
     fn frames(&self) -> u64
         requires { IsStanding (stands self.now) }
-        ensures frames { (has : ℕ → Bool) (sizes : Sizes) (A : List Step) → stands self.now has sizes A → result ≡ sizes.frames }
+        ensures frames { (has : ℕ → Bool) (sizes : Sizes) (A : List Step) → stands self.now has sizes A
+            → result ≡ sizes.frames }
         ensures most { result ≤ 256 };
 
     /// What frame f is at, and its last entered page where it isn't free.
     fn frame(&self, f: u64) -> (FrameState, Option<u64>)
-        requires { (has : ℕ → Bool) × (sizes : Sizes) × (A : List Step) × stands self.now has sizes A × (f < sizes.frames) }
-        ensures { (has : ℕ → Bool) (sizes : Sizes) (A : List Step) → stands self.now has sizes A → result ≡ frame_of sizes f A };
+        requires { (has : ℕ → Bool) × (sizes : Sizes) × (A : List Step)
+            × stands self.now has sizes A × (f < sizes.frames) }
+        ensures { (has : ℕ → Bool) (sizes : Sizes) (A : List Step) → stands self.now has sizes A
+            → result ≡ frame_of sizes f A };
 }
 
 /// What a script is begun with: its config's sizes make of it what makes the steps.
@@ -53,5 +59,6 @@ pub(crate) trait Opening<S: Stepping> {
 
     /// No step was made yet. None where memory was refused.
     fn open(self, params: Params) -> Option<S>
-        ensures { (has : ℕ → Bool) → begins self has → IfSome result (λ opened. S.stands opened has params []) };
+        ensures { (has : ℕ → Bool) → begins self has
+            → IfSome result (λ opened. S.stands opened has params []) };
 }

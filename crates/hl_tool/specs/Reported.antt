@@ -12,9 +12,12 @@ use Rattle.hl_monitor.specs.Reports.{report_text}
 abbrev pub reported : (ℕ → Bool) → List Line → List ℕ
 reported has [] = []
 reported has (line ∷ lines) =
-    report_text (snapshot_of (sizes_of (line ∷ lines)) (accepted has (line ∷ lines))) (length (accepted has (line ∷ lines))) 0
+    report_text (snapshot_of (sizes_of (line ∷ lines)) (accepted has (line ∷ lines)))
+    (length (accepted has (line ∷ lines))) 0
 
 -- the script was read to its end, and its report was written
-abbrev pub Reports : (ℕ → Bool) → Option (List ℕ) → Option (List ℕ) → Option (List ℕ) → Option (List ℕ) → Type 0
+abbrev pub Reports : (ℕ → Bool) → Option (List ℕ) → Option (List ℕ) → Option (List ℕ) → Option (List ℕ)
+    → Type 0
 Reports has given left before after =
-    (input : List ℕ) × ReadToEnd (2 ^ 32) given left input × Appends before after (reported has (script input))
+    (input : List ℕ) × ReadToEnd (2 ^ 32) given left input
+    × Appends before after (reported has (script input))

@@ -29,7 +29,8 @@ pub(crate) fn report_script<E: Epochs + Drop, F: Task, R: Read, W: Write>(
         (Reports (tags_on shelf) (R.remaining reader.old) (R.remaining reader.new)
         (W.contents writer.old) (W.contents writer.new)) }
     ensures bad_line { (n : ℕ) → result ≡ Err (BadLine n)
-        → StoppedAtBadLine (tags_on shelf) (2 ^ 32) (R.remaining reader.old) (R.remaining reader.new) None None n }
+        → StoppedAtBadLine (tags_on shelf) (2 ^ 32) (R.remaining reader.old)
+            (R.remaining reader.new) None None n }
     ensures told { (n : ℕ) → result ≡ Err (BadLine n)
         → Appends (W.contents writer.old) (W.contents writer.new) (bad_text (Some n)) }
 {

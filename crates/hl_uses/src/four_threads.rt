@@ -5,6 +5,7 @@ use crate::say::say;
 use hl_crew::{CrewEnd, OpenGate, run_crew};
 use hl_domain::{AnyAnswer, CountTable, Domain, Fault, NoJob, Params, Pass, Realm, Rider, Seed};
 use hl_image::MemoryWriter;
+use hl_model::with_room;
 use std::alloc::Global;
 use std::io::Write;
 use std::marker::Brand;
@@ -74,7 +75,7 @@ fn work<L: Realm + Send + Sync, R: Threads + Wait + Sync>(
     };
     let one = MemoryWriter::open(alloc, 64, 520)?;
     let other = MemoryWriter::open(alloc, 64, 520)?;
-    let mut seats = Vec::with_capacity(alloc, 8).map_err(|_| Fault::OutOfMemory)?;
+    let mut seats = with_room(alloc, 8)?;
     for rider in riders {
         seats.push(Some(rider)).map_err(|_| Fault::OutOfMemory)?;
     }
@@ -93,7 +94,7 @@ fn work<L: Realm + Send + Sync, R: Threads + Wait + Sync>(
         Ok(end) => end.riders,
         Err((fault, ..)) => return Err(fault),
     };
-    let mut riders = Vec::with_capacity(alloc, 8).map_err(|_| Fault::OutOfMemory)?;
+    let mut riders = with_room(alloc, 8)?;
     for rider in seats.into_iter().flatten().chain(crew) {
         riders.push(rider).map_err(|_| Fault::OutOfMemory)?;
     }
@@ -138,9 +139,9 @@ fn place_one<L: Realm>(
     pass: &mut Pass<L>,
     slot: u64,
 ) -> Result<(), Fault> {
-    let place = log.allocate(rt, pass, 8)?;
-    log.store(pass, place, slot)?;
-    log.load(pass, place)?;
+    let address = log.allocate(rt, pass, 8)?;
+    log.store(pass, address, slot)?;
+    log.load(pass, address)?;
     log.refresh(rt, pass)?;
     Ok(())
 }

@@ -14,15 +14,15 @@ pub fn run<W: Write>(alloc: Global, out: &mut W) -> Result<(), Fault> {
     let params = Params::checked(4, 2, 1, 4).ok_or(Fault::Size)?;
     let mut engine = Engine::<CountTable, NoJob, AnyAnswer>::open(alloc, params)?;
     let slot = engine.acquire(0)?;
-    let place = engine.allocate(0, 4)?;
+    let address = engine.allocate(0, 4)?;
     for word in 0..4 {
-        engine.write(0, place + word, 10 + word)?;
+        engine.write(0, address + word, 10 + word)?;
     }
     say(out, "epoch", slot.epoch)?;
-    say(out, "record at", place)?;
+    say(out, "record at", address)?;
 
     // Once every slot has refreshed behind the raise, no write reaches the record.
-    engine.raise(place + 4)?;
+    engine.raise(address + 4)?;
     engine.settle()?;
     engine.refresh(0)?;
     finish_one(&mut engine)?;
@@ -36,7 +36,7 @@ pub fn run<W: Write>(alloc: Global, out: &mut W) -> Result<(), Fault> {
     say(out, "flushed page", page)?;
 
     // Once every slot has refreshed behind the shift, no read reaches the page, and its frame may be cleaned.
-    engine.shift(place + 4)?;
+    engine.shift(address + 4)?;
     engine.close()?;
     engine.refresh(0)?;
     finish_one(&mut engine)?;

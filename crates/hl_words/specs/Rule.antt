@@ -1,4 +1,5 @@
--- The rule that cells, offset words, the master's stores and the riders' stores and loads meet between any two steps.
+-- The rule that cells, offset words, the master's stores and the riders' stores and loads meet between any
+-- two steps.
 use Rattle.std.specs.Prelude.{ℕ, ◌≡◌, ◌≢◌, ◌+◌, ◌<◌, ◌≤◌, ◌==◌, ◌⊎◌, if◌then◌else◌, List, [], ◌∷◌, Option, Some, None, slice_get, slice_index, AllPairs}
 use Rattle.std.specs.List.{AllByRecursion, Contains}
 use Rattle.hl_model.specs.Lists.{greatest}
@@ -32,15 +33,19 @@ SomeRider P riders = (i : ℕ) × (r : RiderView) × (slice_get riders i ≡ Som
 abbrev pub IsElsewhere : List RiderView → ℕ → ℕ → ℕ → Type 0
 IsElsewhere riders i c v = SomeRider (λ j r. (j ≢ i) × Contains r.touches (Stored c v)) riders
 
--- each load is of the last store before it in the list, or of a value stored elsewhere, or of 0 where the list before it has no store and no load but of 0
+-- each load is of the last store before it in the list, or of a value stored elsewhere, or of 0 where the
+-- list before it has no store and no load but of 0
 abbrev pub IsLawful : (ℕ → ℕ → Type 0) → List Touch → Type 0
 IsLawful Elsewhere [] = Unit {0}
 IsLawful Elsewhere (Stored c v ∷ before) = IsLawful Elsewhere before
-IsLawful Elsewhere (Loaded c v ∷ before) = ((last_store c before ≡ Some v) ⊎ (Elsewhere c v ⊎ ((v ≡ 0) × IsQuiet c before))) × IsLawful Elsewhere before
+IsLawful Elsewhere (Loaded c v ∷ before) =
+    ((last_store c before ≡ Some v) ⊎ (Elsewhere c v ⊎ ((v ≡ 0) × IsQuiet c before)))
+    × IsLawful Elsewhere before
 
 -- the cell is 0 where no rider stored there, else it is some rider's last store there
 abbrev pub IsCell : List RiderView → ℕ → ℕ → Type 0
-IsCell riders c w = ((w ≡ 0) × EachRider (λ i r. last_store c r.touches ≡ None) riders) ⊎ SomeRider (λ i r. last_store c r.touches ≡ Some w) riders
+IsCell riders c w = ((w ≡ 0) × EachRider (λ i r. last_store c r.touches ≡ None) riders)
+    ⊎ SomeRider (λ i r. last_store c r.touches ≡ Some w) riders
 
 -- no store of an offset word is below an earlier one
 abbrev pub NeverFalls : List ℕ → Type 0
@@ -48,14 +53,17 @@ NeverFalls stores = AllPairs (λ later earlier. earlier ≤ later) stores
 
 -- each load of an offset word is of 0 or of one of its stores, and the greatest is at most the newest store
 abbrev pub AreLoads : List ℕ → List ℕ → Type 0
-AreLoads stores loads =
-    (greatest (λ x. x) loads ≤ newest stores) × AllByRecursion (λ x. (x ≡ 0) ⊎ Contains stores x) loads
+AreLoads stores loads = (greatest (λ x. x) loads ≤ newest stores)
+    × AllByRecursion (λ x. (x ≡ 0) ⊎ Contains stores x) loads
 
--- The rule on words, the master's stores and the riders' views: first the cells, then the read-only word and the head word
-pub record IsRuled (cells : ℕ) (words : List ℕ) (stores : OffsetWords) (riders : List RiderView) : Type 0 where
+-- The rule on words, the master's stores and the riders' views: first the cells, then the read-only word and
+-- the head word
+pub record IsRuled (cells : ℕ) (words : List ℕ) (stores : OffsetWords)
+    (riders : List RiderView) : Type 0 where
   pub cell : (c : ℕ) → c < cells → IsCell riders c (slice_index words c)
   pub load : EachRider (λ i r. IsLawful (IsElsewhere riders i) r.touches) riders
   pub read_only : slice_index words cells ≡ newest stores.read_only
   pub head : slice_index words (cells + 1) ≡ newest stores.head
   pub never_falls : NeverFalls stores.read_only × NeverFalls stores.head
-  pub offset : EachRider (λ i r. AreLoads stores.read_only r.offsets.read_only × AreLoads stores.head r.offsets.head) riders
+  pub offset : EachRider
+      (λ i r. AreLoads stores.read_only r.offsets.read_only × AreLoads stores.head r.offsets.head) riders

@@ -33,7 +33,8 @@ abbrev pub riders_in : List SeatView → List RiderView
 riders_in [] = []
 riders_in (v ∷ vs) = v.riders ++ riders_in vs
 
--- The table has the cells and two offset words, the seats stand for all riders, and the rule holds, the master having seat 0
+-- The table has the cells and two offset words, the seats stand for all riders, and the rule holds, the
+-- master having seat 0
 pub record IsKept (room : Room) (words : List ℕ) (views : List SeatView) : Type 0 where
   pub master : SeatView
   pub seat : get_elem? views 0 ≡ some master
@@ -64,13 +65,13 @@ Loads s before found after = after ≡ (moved (touched (Loaded s.word found)) be
 
 -- of a load of an offset word: the rider's view has it, and the rider loaded no greater one before
 abbrev pub Looks : Which → Step (Unit {0}) → Me (Unit {0}) SeatView → ℕ → Me (Unit {0}) SeatView → Type 0
-Looks which s before found after =
-    (after ≡ (moved (with_loaded which found) before.0, before.1))
+Looks which s before found after = (after ≡ (moved (with_loaded which found) before.0, before.1))
     × EachRider (λ i r. greatest_of which r.offsets ≤ found) before.0.riders
 
 -- of a store of an offset word: it is the master's newest
 abbrev pub Sets : Which → Step (Unit {0}) → Me (Unit {0}) SeatView → ℕ → Me (Unit {0}) SeatView → Type 0
-Sets which s before found after = after ≡ (seat_of (with_offset which s.first before.0.offsets) before.0.riders, before.1)
+Sets which s before found after =
+    after ≡ (seat_of (with_offset which s.first before.0.offsets) before.0.riders, before.1)
 
 -- the seat without its first rider
 abbrev pub left_seat : SeatView → SeatView

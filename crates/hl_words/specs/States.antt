@@ -30,7 +30,8 @@ pub record LastState : Type 0 where
   pub cells : ℕ
   pub words : List ℕ
 
--- the sizes of a seed's allocator, how many cells and how many riders it has, with the names of its table and of its ledger
+-- the sizes of a seed's allocator, how many cells and how many riders it has, with the names of its table and
+-- of its ledger
 pub record SeedState : Type 0 where
   pub sizes : Sizes
   pub cells : ℕ
@@ -56,7 +57,8 @@ pub record IsTableOf (room : Room) (key : Room) (table : TableId) : Type 0 where
   pub at_most : room.riders ≤ 128
 
 -- the master's seat, which is the table's first and has no slot
-pub record IsMasterSeat (last : OffsetWords) (riders : List RiderView) (id : ℕ) (me : Me (Unit {0}) SeatView) : Type 0 where
+pub record IsMasterSeat (last : OffsetWords) (riders : List RiderView) (id : ℕ)
+    (me : Me (Unit {0}) SeatView) : Type 0 where
   pub first : id ≡ 0
   pub knows : me ≡ (seat_of last riders, [])
 

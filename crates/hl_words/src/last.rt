@@ -23,7 +23,8 @@ impl Model for LastWords {
 
     ghost view = { λ l. record { cells = l.cells; words = slots_items l.closed.words } };
 
-    ghost invariant = { λ l. IsFull l.closed.words × (slots_len l.closed.words ≡ l.cells + 2) × (slots_len l.closed.slots ≡ 0) × (l.cells ≤ 2 ^ 20) };
+    ghost invariant = { λ l. IsFull l.closed.words × (slots_len l.closed.words ≡ l.cells + 2)
+        × (slots_len l.closed.slots ≡ 0) × (l.cells ≤ 2 ^ 20) };
 }
 
 impl Drop for LastWords {

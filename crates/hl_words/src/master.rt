@@ -24,7 +24,9 @@ impl<L: Realm> Model for Master<L> {
 
     ghost view = { λ m. record { offsets = m.seat.me.0.offsets; total = m.total } };
 
-    ghost invariant = { λ m. IsMasterSeat m.seat.me.0.offsets [] m.seat.id m.seat.me × (m.seat.table_id ≡ L.table) × (m.book.total ≡ m.total) × (m.total ≤ 2 ^ 62) × (m.share.parts ≡ 0) × (m.share.amount ≡ 0) };
+    ghost invariant = { λ m. IsMasterSeat m.seat.me.0.offsets [] m.seat.id m.seat.me
+        × (m.seat.table_id ≡ L.table) × (m.book.total ≡ m.total) × (m.total ≤ 2 ^ 62) × (m.share.parts ≡ 0)
+        × (m.share.amount ≡ 0) };
 }
 
 impl<L: Realm> Master<L> {

@@ -22,7 +22,8 @@ impl<L: Realm> Model for Rider<L> {
 
     ghost view = { λ r. record { view = first_rider r.seat.me.0; share = r.entered } };
 
-    ghost invariant = { λ r. (r.seat.me ≡ (rider_seat (first_rider r.seat.me.0), [])) × (r.seat.table_id ≡ L.table) × (r.share.parts ≡ 1) × (r.share.amount ≡ r.entered) };
+    ghost invariant = { λ r. (r.seat.me ≡ (rider_seat (first_rider r.seat.me.0), []))
+        × (r.seat.table_id ≡ L.table) × (r.share.parts ≡ 1) × (r.share.amount ≡ r.entered) };
 }
 
 impl<L: Realm> Rider<L> {

@@ -33,7 +33,8 @@ pub trait Realm: Ledger {
 impl Realm for Brand {
     ghost use Rattle.std.specs.Prelude.{[]};
 
-    ghost table = { record { words = 0; slots = 0; views_name = 0; atom = 0; block = 0; offset = 0; slot_names = [] } };
+    ghost table = { record { words = 0; slots = 0; views_name = 0; atom = 0; block = 0; offset = 0;
+        slot_names = [] } };
 
     ghost sizes = { record { page = 4; frames = 2; slots = 1; drain = 1 } };
 
@@ -59,9 +60,13 @@ impl Model for Seed {
 
     ghost Value = { SeedState };
 
-    ghost view = { λ s. record { sizes = s.params; cells = s.room.cells; riders = s.room.riders; table = s.table.shared.table_id; name = s.blank.name } };
+    ghost view = { λ s. record { sizes = s.params; cells = s.room.cells; riders = s.room.riders;
+        table = s.table.shared.table_id; name = s.blank.name } };
 
-    ghost invariant = { λ s. IsTableOf s.room s.table.shared.key s.table.shared.table_id × IsMasterSeat no_offsets (first_seat s.room).riders s.seat.id s.seat.me × (s.seat.table_id ≡ s.table.shared.table_id) × (s.blank.parts ≡ s.room.riders) × (s.room.cells ≡ s.params.frames * s.params.page) };
+    ghost invariant = { λ s. IsTableOf s.room s.table.shared.key s.table.shared.table_id
+        × IsMasterSeat no_offsets (first_seat s.room).riders s.seat.id s.seat.me
+        × (s.seat.table_id ≡ s.table.shared.table_id) × (s.blank.parts ≡ s.room.riders)
+        × (s.room.cells ≡ s.params.frames * s.params.page) };
 }
 
 impl Seed {
@@ -100,8 +105,11 @@ impl Seed {
 // The table, all 0, and its first seat.
 fn laid(alloc: Global, room: Room) -> Result<(WordTable, WordSeat), AllocError>
     requires { room.cells ≤ 2 ^ 20 }
-    ensures table { IfOk result (λ t. (t.0.shared.key ≡ room) × (t.0.shared.table_id.words ≡ room.cells + 2) × (t.0.shared.table_id.slots ≡ 0)) }
-    ensures seat { IfOk result (λ t. (t.1.table_id ≡ t.0.shared.table_id) × (t.1.id ≡ 0) × (t.1.me ≡ (first_seat room, []))) }
+    ensures table { IfOk result
+        (λ t. (t.0.shared.key ≡ room) × (t.0.shared.table_id.words ≡ room.cells + 2)
+        × (t.0.shared.table_id.slots ≡ 0)) }
+    ensures seat { IfOk result
+        (λ t. (t.1.table_id ≡ t.0.shared.table_id) × (t.1.id ≡ 0) × (t.1.me ≡ (first_seat room, []))) }
 {
     let words = vec![in alloc; 0u64; room.cells + 2]?;
     Table::of_words(alloc, words.as_slice(), &room)

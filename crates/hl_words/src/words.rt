@@ -34,7 +34,8 @@ impl<L: Realm> Model for Words<L> {
 
     ghost view = { λ w. record { cells = w.room.cells; riders = w.room.riders } };
 
-    ghost invariant = { λ w. IsTableOf w.room w.table.shared.key w.table.shared.table_id × (w.table.shared.table_id ≡ L.table) × (w.room.riders ≡ L.parts) };
+    ghost invariant = { λ w. IsTableOf w.room w.table.shared.key w.table.shared.table_id
+        × (w.table.shared.table_id ≡ L.table) × (w.room.riders ≡ L.parts) };
 }
 
 impl<L: Realm> Words<L> {
@@ -42,7 +43,8 @@ impl<L: Realm> Words<L> {
     /// given up.
     pub fn open(alloc: Global, seed: Seed) -> Result<(Words<L>, Master<L>, Vec<Rider<L>>), Fault>
         requires { IsSeedOf L.name L.parts L.table seed }
-        ensures words { IfOk result (λ opened. opened.0 ≡ record { cells = seed.cells; riders = seed.riders }) }
+        ensures words { IfOk result
+            (λ opened. opened.0 ≡ record { cells = seed.cells; riders = seed.riders }) }
         ensures master { IfOk result (λ opened. opened.1 ≡ record { offsets = no_offsets; total = 0 }) }
         ensures riders { IfOk result (λ opened. opened.2.items ≡ replicate seed.riders new_rider) }
         ensures memory { IfErr result (λ fault. fault ≡ OutOfMemory) }
@@ -102,7 +104,8 @@ impl<L: Realm> Words<L> {
     /// Stores an offset word, in words of the log. The caller sees to it that it isn't below the master's last store.
     pub fn store_offset(&self, master: &mut Master<L>, which: Which, offset: u64)
         requires { offset_of which master.old.offsets ≤ offset }
-        ensures { master.new ≡ record { offsets = with_offset which offset master.old.offsets; total = master.old.total } }
+        ensures { master.new
+            ≡ record { offsets = with_offset which offset master.old.offsets; total = master.old.total } }
     {
         let shared = &self.table.shared;
         let seat = &mut master.seat;
@@ -115,7 +118,8 @@ impl<L: Realm> Words<L> {
     /// Loads an offset word, in words of the log. It isn't below what this rider loaded of it before. The rider's view
     /// has the load; that it is one of the master's stores, or 0, is what `close` tells of all loads.
     pub fn load_offset(&self, rider: &mut Rider<L>, which: Which) -> u64
-        ensures view { rider.new ≡ record { view = with_loaded which result rider.old.view; share = rider.old.share } }
+        ensures view { rider.new
+            ≡ record { view = with_loaded which result rider.old.view; share = rider.old.share } }
         ensures rises { greatest_of which rider.old.view.offsets ≤ result }
     {
         let shared = &self.table.shared;
@@ -137,7 +141,8 @@ impl<L: Realm> Words<L> {
         ensures all { OnOk result (length riders.items ≡ self.riders) }
         ensures total { OnOk result (master.total ≡ sum_by (λ r. r.share) riders.items) }
         ensures cells { IfOk result (λ last. last.cells ≡ self.cells) }
-        ensures rule { IfOk result (λ last. IsRuled self.cells last.words master.offsets (map (λ r. r.view) riders.items)) }
+        ensures rule { IfOk result
+            (λ last. IsRuled self.cells last.words master.offsets (map (λ r. r.view) riders.items)) }
         ensures missing { IfErr result (λ _. length riders.items ≢ self.riders) }
         ensures back { IfErr result (λ back. (back.0 ≡ self) × (back.1 ≡ master) × (back.2 ≡ riders)) }
     {
@@ -165,8 +170,10 @@ fn gather<L: Realm>(
     mut riders: Vec<Rider<L>>,
 )
     requires table { (table.now.shared.table_id ≡ L.table) × (0 < table.now.shared.table_id.words) }
-    requires seat { (seat.old.table_id ≡ L.table) × IsMasterSeat seat.old.me.0.offsets [] seat.old.id seat.old.me }
-    ensures seat { (seat.new.table_id ≡ L.table) × IsMasterSeat seat.old.me.0.offsets (map (λ r. r.view) riders.items) seat.new.id seat.new.me }
+    requires seat { (seat.old.table_id ≡ L.table)
+        × IsMasterSeat seat.old.me.0.offsets [] seat.old.id seat.old.me }
+    ensures seat { (seat.new.table_id ≡ L.table)
+        × IsMasterSeat seat.old.me.0.offsets (map (λ r. r.view) riders.items) seat.new.id seat.new.me }
     ensures parts { share.new.parts ≡ share.old.parts + length riders.items }
     ensures amount { share.new.amount ≡ share.old.amount + sum_by (λ r. r.share) riders.items }
 {

@@ -56,7 +56,8 @@ impl<E: Epochs + Drop, F: Task, P: Promise, L: Realm> Domain<E, F, P, L> {
     ///
     /// Faults, with the pass handed back: `Stranger` where the slot isn't the pass's, `JournalFull`.
     pub fn release(&self, rt: &impl Wait, pass: Pass<L>) -> Result<Rider<L>, (Fault, Pass<L>)>
-        ensures met { UnderLock F self.now (λ k A. told result ≡ unless_fault (call_fault k A pass (RELEASE pass.slot))
+        ensures met { UnderLock F self.now
+            (λ k A. told result ≡ unless_fault (call_fault k A pass (RELEASE pass.slot))
             (with_share (length pass.touches + 1) pass.rider)) }
         ensures refused { IfErr result (λ back. back.1 ≡ pass) }
     {
@@ -76,7 +77,7 @@ impl<E: Epochs + Drop, F: Task, P: Promise, L: Realm> Domain<E, F, P, L> {
             (λ a. pass.new ≡ rested (with_tail (a + n) (seen old)) old)
             (λ _. pass.new ≡ old) }
         ensures above { IfOk result (λ a. (seen pass.old).tail ≤ a) }
-        ensures within { IfOk result (λ a. a + n ≤ 2 ^ 48) }
+        ensures within { IfOk result (λ address. address + n ≤ 2 ^ 48) }
         ensures one_page { let page = self.now.sizes.page
             in IfOk result (λ a. a / page ≡ (a + n - 1) / page) }
     {

@@ -24,7 +24,8 @@ impl<E: Epochs + Drop, F: Task, P: Promise, L: Realm> Domain<E, F, P, L> {
         ensures answer { result ≡ unless_fault (touch_fault pass.old) (seen pass.new) }
         ensures pass { let new = pass.new
             in let old = pass.old
-            in new ≡ unless_refused (touch_fault old) old (with_look (last_read_only new) (last_head new) old) }
+            in new ≡ unless_refused (touch_fault old) old
+                (with_look (last_read_only new) (last_head new) old) }
         ensures rises { OnOk result (LooksOn pass.old pass.new) }
         ensures raised { let old = seen pass.old
             in let new = pass.new

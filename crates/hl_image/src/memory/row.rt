@@ -1,7 +1,7 @@
 ghost use Rattle.std.specs.Prelude.{◌≡◌, ◌≤◌, Some, None, length, IfOk, IfErr};
 ghost use Rattle.std.specs.Option.{option_copied};
 
-use hl_model::Fault;
+use hl_model::{Fault, with_room};
 use std::alloc::Global;
 use std::marker::Model;
 
@@ -34,7 +34,7 @@ impl Row {
         ensures ok { IfOk result (λ row. row ≡ record { size = size; image = None }) }
         ensures err { IfErr result (λ fault. fault ≡ Fault.OutOfMemory) }
     {
-        let mut bytes = Vec::with_capacity(alloc, size).map_err(|_| Fault::OutOfMemory)?;
+        let mut bytes = with_room(alloc, size as u64)?;
         for _ in 0..size {
             bytes.push_reserved(0);
         }

@@ -16,18 +16,18 @@ returns-in_err-page-clause-flushes g c A before =
 
 pub returns-in_err-page-clause-faults : goal.returns-in_err-page-clause-faults
 returns-in_err-page-clause-faults g c =
-    let stood = c.flush_take.ensures.stood in
+    let stood = c.flush_take.ensures.valid in
     let p = err_from_is_err_and c.from_residual.result c.from_residual.ensures.1 in
     rw (p.1, p.2) (inl (take-refused g.P.Promise.keeps c.args.engine.now c.flush_take.new.self stood.0 c.in_err-page.field-0.0 (c.in_err-page.ensures.moved stood.0 stood.1)))
 
 pub page_words-requires : goal.page_words-requires
 page_words-requires g c =
-    let stood = c.flush_take.ensures.stood in
+    let stood = c.flush_take.ensures.valid in
     taken-shown stood.0 c.args.engine.now c.flush_take.new.self c.in_ok-page.page stood.1 (take-taken g.P.Promise.keeps c.args.engine.now c.flush_take.new.self stood.0 c.in_ok-page.page (c.in_ok-page.ensures.moved stood.0 stood.1))
 
 pub image_of-requires : goal.image_of-requires
 image_of-requires g c =
-    let stood = c.flush_take.ensures.stood in
+    let stood = c.flush_take.ensures.valid in
     let t : TakesPage stood.0 c.args.engine.now c.flush_take.new.self c.in_ok-page.page = take-taken g.P.Promise.keeps c.args.engine.now c.flush_take.new.self stood.0 c.in_ok-page.page (c.in_ok-page.ensures.moved stood.0 stood.1) in
     let sizes : Sizes = c.flush_take.new.self.core.sizes in
     let words : length c.page_words.result.now ≡ sizes.page = ap length (c.page_words.ensures (stood.0 ++ FlushTake ∷ []) t.standing) ∙ length-page_words sizes c.in_ok-page.page (stood.0 ++ FlushTake ∷ []) in

@@ -1,6 +1,6 @@
 use Rattle.std.proofs.Common.{◌*◌, ap, ap₂, []}
 use Rattle.hl_cells.proofs.EngineMoves.{engine_opens}
-use Rattle.hl_cells.specs.HeldActions.{Row}
+use Rattle.hl_cells.specs.TakenActions.{Row}
 use Rattle.hl_cells.proofs.JobLaws.{no_jobs}
 use Rattle.hl_cells.proofs.engine.Engine.open.Goals as goal
 

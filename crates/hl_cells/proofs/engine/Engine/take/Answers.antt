@@ -3,7 +3,7 @@ use Rattle.std.specs.Prelude.{Ok}
 use Rattle.hl_model.specs.declared.step.Step.TheVariants.{Take as TAKE}
 use Rattle.hl_model.specs.declared.step.Reply.TheVariants.{Taken}
 use Rattle.hl_action.specs.Jobs.{ReadyRecord}
-use Rattle.hl_cells.specs.HeldActions.{Row}
+use Rattle.hl_cells.specs.TakenActions.{Row}
 use Rattle.std.proofs.lemmas.Result.{err_from_is_err_and}
 use Rattle.hl_cells.proofs.EngineMoves.{moved_err, moved_take, take_fits, stands_after}
 use Rattle.hl_cells.proofs.JobLaws.{taken_job}

@@ -18,10 +18,10 @@ put-requires g c = put_fits g.J.Tagged.tag _ c.in-Ok.ticket c.self.invariant.sta
 
 pub invariant_of-self-2 : goal.invariant_of-self-2
 invariant_of-self-2 g c = record {
-  standing = still_stands g.J.Tagged.tag _ _ _ _ c.self.invariant.standing (bump_ok g.J.Tagged.tag _ c.args.ask c.in-Ok.ticket (g.E.Epochs.table c.end_epoch.new.table) c.stored.result c.put.new.self (search rules) c.in-Ok.ensures.answer c.in-Ok.ensures.effect c.stored.ensures c.put.ensures.lists c.put.ensures.known);
+  standing = still_stands g.J.Tagged.tag _ _ _ _ c.self.invariant.standing (bump_ok g.J.Tagged.tag _ c.args.ask c.in-Ok.ticket (g.E.Epochs.table c.end_epoch.new.table) c.stored.result c.put.new.self (search rules) c.in-Ok.ensures.answer c.in-Ok.ensures.effect c.stored.ensures c.put.ensures.lists c.put.ensures.valid);
   exact = c.self.invariant.exact;
 }
 
 pub returns-clause-made : goal.returns-clause-made
 returns-clause-made g c =
-    rw (sym c.self.view_is) (bump_ok g.J.Tagged.tag _ c.args.ask c.in-Ok.ticket (g.E.Epochs.table c.end_epoch.new.table) c.stored.result c.put.new.self (search rules) c.in-Ok.ensures.answer c.in-Ok.ensures.effect c.stored.ensures c.put.ensures.lists c.put.ensures.known)
+    rw (sym c.self.view_is) (bump_ok g.J.Tagged.tag _ c.args.ask c.in-Ok.ticket (g.E.Epochs.table c.end_epoch.new.table) c.stored.result c.put.new.self (search rules) c.in-Ok.ensures.answer c.in-Ok.ensures.effect c.stored.ensures c.put.ensures.lists c.put.ensures.valid)

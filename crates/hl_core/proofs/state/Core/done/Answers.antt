@@ -20,27 +20,27 @@ close-requires-clause-most g c = close_fits g.J.Tagged.tag _ c.args.ticket c.in-
 
 pub invariant_of-self-in-User : goal.invariant_of-self-in-User
 invariant_of-self-in-User g c = record {
-  standing = still_stands g.J.Tagged.tag _ _ _ _ c.self.invariant.standing (done_user g.J.Tagged.tag _ c.args.ticket c.in-User.tag c.in_ok-tag.field-0 c.done.new.self c.in-User.is c.in_ok-tag.ensures.answer c.in_ok-tag.ensures.lists c.done.ensures.known);
+  standing = still_stands g.J.Tagged.tag _ _ _ _ c.self.invariant.standing (done_user g.J.Tagged.tag _ c.args.ticket c.in-User.tag c.in_ok-tag.field-0 c.done.new.self c.in-User.is c.in_ok-tag.ensures.answer c.in_ok-tag.ensures.lists c.done.ensures.valid);
   exact = c.self.invariant.exact;
 }
 
 pub returns-in-User-clause-made : goal.returns-in-User-clause-made
-returns-in-User-clause-made g c = rw (sym c.self.view_is) (done_user g.J.Tagged.tag _ c.args.ticket c.in-User.tag c.in_ok-tag.field-0 c.done.new.self c.in-User.is c.in_ok-tag.ensures.answer c.in_ok-tag.ensures.lists c.done.ensures.known)
+returns-in-User-clause-made g c = rw (sym c.self.view_is) (done_user g.J.Tagged.tag _ c.args.ticket c.in-User.tag c.in_ok-tag.field-0 c.done.new.self c.in-User.is c.in_ok-tag.ensures.answer c.in_ok-tag.ensures.lists c.done.ensures.valid)
 
 pub invariant_of-self-in-Settle : goal.invariant_of-self-in-Settle
 invariant_of-self-in-Settle g c = record {
-  standing = still_stands g.J.Tagged.tag _ _ _ _ c.self.invariant.standing (done_settle g.J.Tagged.tag _ c.args.ticket c.in-Settle.x c.in_ok-tag.field-0 c.done.new.self c.settle.new.self c.settle.result c.in-Settle.is c.in_ok-tag.ensures.answer c.in_ok-tag.ensures.lists c.done.ensures.known c.settle.ensures.effect c.settle.ensures.answer);
+  standing = still_stands g.J.Tagged.tag _ _ _ _ c.self.invariant.standing (done_settle g.J.Tagged.tag _ c.args.ticket c.in-Settle.x c.in_ok-tag.field-0 c.done.new.self c.settle.new.self c.settle.result c.in-Settle.is c.in_ok-tag.ensures.answer c.in_ok-tag.ensures.lists c.done.ensures.valid c.settle.ensures.effect c.settle.ensures.answer);
   exact = c.self.invariant.exact;
 }
 
 pub returns-in-Settle-clause-made : goal.returns-in-Settle-clause-made
-returns-in-Settle-clause-made g c = rw (sym c.self.view_is) (done_settle g.J.Tagged.tag _ c.args.ticket c.in-Settle.x c.in_ok-tag.field-0 c.done.new.self c.settle.new.self c.settle.result c.in-Settle.is c.in_ok-tag.ensures.answer c.in_ok-tag.ensures.lists c.done.ensures.known c.settle.ensures.effect c.settle.ensures.answer)
+returns-in-Settle-clause-made g c = rw (sym c.self.view_is) (done_settle g.J.Tagged.tag _ c.args.ticket c.in-Settle.x c.in_ok-tag.field-0 c.done.new.self c.settle.new.self c.settle.result c.in-Settle.is c.in_ok-tag.ensures.answer c.in_ok-tag.ensures.lists c.done.ensures.valid c.settle.ensures.effect c.settle.ensures.answer)
 
 pub invariant_of-self-in-Close : goal.invariant_of-self-in-Close
 invariant_of-self-in-Close g c = record {
-  standing = still_stands g.J.Tagged.tag _ _ _ _ c.self.invariant.standing (done_close g.J.Tagged.tag _ c.args.ticket c.in-Close.x c.in_ok-tag.field-0 c.done.new.self c.close.new.self c.close.result c.in-Close.is c.in_ok-tag.ensures.answer c.in_ok-tag.ensures.lists c.done.ensures.known c.close.ensures.effect c.close.ensures.answer);
+  standing = still_stands g.J.Tagged.tag _ _ _ _ c.self.invariant.standing (done_close g.J.Tagged.tag _ c.args.ticket c.in-Close.x c.in_ok-tag.field-0 c.done.new.self c.close.new.self c.close.result c.in-Close.is c.in_ok-tag.ensures.answer c.in_ok-tag.ensures.lists c.done.ensures.valid c.close.ensures.effect c.close.ensures.answer);
   exact = c.self.invariant.exact;
 }
 
 pub returns-in-Close-clause-made : goal.returns-in-Close-clause-made
-returns-in-Close-clause-made g c = rw (sym c.self.view_is) (done_close g.J.Tagged.tag _ c.args.ticket c.in-Close.x c.in_ok-tag.field-0 c.done.new.self c.close.new.self c.close.result c.in-Close.is c.in_ok-tag.ensures.answer c.in_ok-tag.ensures.lists c.done.ensures.known c.close.ensures.effect c.close.ensures.answer)
+returns-in-Close-clause-made g c = rw (sym c.self.view_is) (done_close g.J.Tagged.tag _ c.args.ticket c.in-Close.x c.in_ok-tag.field-0 c.done.new.self c.close.new.self c.close.result c.in-Close.is c.in_ok-tag.ensures.answer c.in_ok-tag.ensures.lists c.done.ensures.valid c.close.ensures.effect c.close.ensures.answer)

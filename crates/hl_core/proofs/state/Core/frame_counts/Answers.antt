@@ -6,7 +6,7 @@ use Rattle.hl_core.proofs.state.Core.frame_counts.Goals.{in-Opened, in-Sealed, i
 
 pub overflow_add-counts : goal.overflow_add-counts
 overflow_add-counts g c =
-    omega (arith, counted_fit g.J.Tagged.tag _ c.loop-f.f c.loop-f.counts c.self.invariant.standing (rw (sym c.self.view_is) at c.loop-f.invariant) c.match-frame.place, c.loop-f-test.true, c.frames-f-end.ensures.value, c.frames-f-end.ensures.in_range.frames_most)
+    omega (arith, counted_fit g.J.Tagged.tag _ c.loop-f.f c.loop-f.counts c.self.invariant.standing (rw (sym c.self.view_is) at c.loop-f.invariant) c.match-frame.place, c.loop-f-test.true, c.frames-f-end.ensures.value, c.frames-f-end.ensures.valid.frames_most)
 
 pub loop-f-preserved : goal.loop-f-preserved
 loop-f-preserved g c = λ A st. elim c.match-frame.branch [

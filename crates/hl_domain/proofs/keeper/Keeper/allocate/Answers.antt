@@ -19,47 +19,47 @@ returns-in_err-known-clause-made g c =
 pub call-requires-clause-known : goal.call-requires-clause-known
 call-requires-clause-known g c = knows c.args.self.now c.args.pass.now c.in_ok-known.field-0 c.in_ok-known.ensures
 
-pub returns-in_err-place-clause-made : goal.returns-in_err-place-clause-made
-returns-in_err-place-clause-made g c =
-    let q = err_from_is_err_and c.from_residual-in_err-place.result c.from_residual-in_err-place.ensures.1 in
+pub returns-in_err-address-clause-made : goal.returns-in_err-address-clause-made
+returns-in_err-address-clause-made g c =
+    let q = err_from_is_err_and c.from_residual-in_err-address.result c.from_residual-in_err-address.ensures.1 in
     let k = c.args.self.now in
     let p = c.args.pass.now in
     let s = ALLOCATE p.slot c.args.n in
-    let made = rw (ap (λ (z : PassRecord). z.slot) c.pass.view_is) at c.in_err-place.ensures.made in
-    rw (q.1, q.2) (λ A st. replied_err k A p s c.call.new.self (call_fault k A p s) c.in_err-place.field-0.0 _ (call_known k A p s c.in_ok-known.field-0 (c.in_ok-known.ensures A st)) (made A st))
+    let made = rw (ap (λ (z : PassRecord). z.slot) c.pass.view_is) at c.in_err-address.ensures.made in
+    rw (q.1, q.2) (λ A st. replied_err k A p s c.call.new.self (call_fault k A p s) c.in_err-address.field-0.0 _ (call_known k A p s c.in_ok-known.field-0 (c.in_ok-known.ensures A st)) (made A st))
 
 pub unreachable-requires : goal.unreachable-requires
 unreachable-requires g c =
-    let A = c.in_ok-place.ensures.stood.0 in
-    c.in_default.not-At _ (accepted c.args.self.now A c.args.pass.now (ALLOCATE c.pass.inside.slot c.args.n) c.call.new.self c.in_ok-place.field-0 (c.in_ok-place.ensures.made A c.in_ok-place.ensures.stood.1)).1
+    let A = c.in_ok-address.ensures.valid.0 in
+    c.in_default.not-At _ (accepted c.args.self.now A c.args.pass.now (ALLOCATE c.pass.inside.slot c.args.n) c.call.new.self c.in_ok-address.field-0 (c.in_ok-address.ensures.made A c.in_ok-address.ensures.valid.1)).1
 
 -- where the record is placed
-placed : (g : _) (c : In-At g) → Placed c.args.self.now.core.sizes.page c.in-At.place c.args.n (seen c.args.pass.now)
+placed : (g : _) (c : In-At g) → Placed c.args.self.now.core.sizes.page c.in-At.address c.args.n (seen c.args.pass.now)
 placed g c =
     let k = c.args.self.now in
-    let A = c.in_ok-place.ensures.stood.0 in
-    let st = c.in_ok-place.ensures.stood.1 in
+    let A = c.in_ok-address.ensures.valid.0 in
+    let st = c.in_ok-address.ensures.valid.1 in
     let p : PassRecord = (record { slot = c.pass.inside.slot; stamp = c.pass.inside.stamp; held = c.pass.inside.held; touches = c.pass.inside.touches.items; rider = c.pass.inside.rider }) in
-    let made = rw (sym c.pass.view_is) at c.in_ok-place.ensures.made in
+    let made = rw (sym c.pass.view_is) at c.in_ok-address.ensures.made in
     let known = rw (sym c.pass.view_is) at c.in_ok-known.ensures in
-    rw (sym c.pass.view_is) (allocate_placed k A p c.args.n c.call.new.self c.in_ok-place.field-0 c.in-At.place st (knows k p c.in_ok-known.field-0 known) c.pass.invariant.1 (made A st) c.in-At.is)
+    rw (sym c.pass.view_is) (allocate_placed k A p c.args.n c.call.new.self c.in_ok-address.field-0 c.in-At.address st (knows k p c.in_ok-known.field-0 known) c.pass.invariant.1 (made A st) c.in-At.is)
 
-pub overflow_add-place : goal.overflow_add-place
-overflow_add-place g c = omega (arith, (placed g c.before).most)
+pub overflow_add-address : goal.overflow_add-address
+overflow_add-address g c = omega (arith, (placed g c.before).most)
 
 pub returns-clause-made : goal.returns-clause-made
 returns-clause-made g c =
     let k = c.args.self.now in
     let p = c.args.pass.now in
     let s = ALLOCATE p.slot c.args.n in
-    let made = rw (ap (λ (z : PassRecord). z.slot) c.pass.view_is) at c.in_ok-place.ensures.made in
-    λ A st. replied_ok k A p s c.call.new.self (call_fault k A p s) c.in_ok-place.field-0 c.in-At.place _ (call_known k A p s c.in_ok-known.field-0 (c.in_ok-known.ensures A st)) (made A st)
-    (allocate_place k A p p.slot c.args.n c.call.new.self c.in_ok-place.field-0 c.in-At.place (made A st) c.in-At.is)
+    let made = rw (ap (λ (z : PassRecord). z.slot) c.pass.view_is) at c.in_ok-address.ensures.made in
+    λ A st. replied_ok k A p s c.call.new.self (call_fault k A p s) c.in_ok-address.field-0 c.in-At.address _ (call_known k A p s c.in_ok-known.field-0 (c.in_ok-known.ensures A st)) (made A st)
+    (allocate_place k A p p.slot c.args.n c.call.new.self c.in_ok-address.field-0 c.in-At.address (made A st) c.in-At.is)
 
 pub returns-clause-pass : goal.returns-clause-pass
 returns-clause-pass g c =
-    rested_is c.args.pass.now c.call.new.pass c.rest.new.self (with_tail (c.in-At.place + c.args.n) c.pass.inside.view) (with_tail (c.in-At.place + c.args.n) (seen c.args.pass.now)) c.in_ok-place.ensures.pass c.rest.ensures
-    (ap (with_tail (c.in-At.place + c.args.n)) (c.pass.invariant.0 ∙ ap seen c.pass.view_is))
+    rested_is c.args.pass.now c.call.new.pass c.rest.new.self (with_tail (c.in-At.address + c.args.n) c.pass.inside.view) (with_tail (c.in-At.address + c.args.n) (seen c.args.pass.now)) c.in_ok-address.ensures.pass c.rest.ensures
+    (ap (with_tail (c.in-At.address + c.args.n)) (c.pass.invariant.0 ∙ ap seen c.pass.view_is))
 
 pub returns-clause-above : goal.returns-clause-above
 returns-clause-above g c = (placed g c.before.before).above

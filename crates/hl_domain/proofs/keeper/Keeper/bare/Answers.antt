@@ -10,8 +10,8 @@ value a b h = cc
 
 pub unreachable-requires : goal.unreachable-requires
 unreachable-requires g c =
-    let A = c.in_ok-ended.ensures.stood.0 in
-    c.in_default.not-Bumped _ (reply_is _ _ c.in_ok-ended.field-0 _ c.one.new.self (c.in_ok-ended.ensures.made A c.in_ok-ended.ensures.stood.1))
+    let A = c.in_ok-ended.ensures.valid.0 in
+    c.in_default.not-Bumped _ (reply_is _ _ c.in_ok-ended.field-0 _ c.one.new.self (c.in_ok-ended.ensures.made A c.in_ok-ended.ensures.valid.1))
 
 pub returns-clause-made : goal.returns-clause-made
 returns-clause-made g c =

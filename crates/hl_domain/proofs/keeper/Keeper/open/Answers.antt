@@ -10,7 +10,7 @@ invariant_of-keeper g c = record {
     sizes_are = c.in_ok-core.ensures.ok.1 ∙ c.params-params.ensures.value ∙ c.requires.named.0;
     stamp_is = c.requires.named.1;
   };
-  room = c.in_ok-journal.ensures.room;
+  room = omega (arith, c.in_ok-journal.ensures.room);
   exact = c.in_ok-stamps.ensures.exact ∙ c.slots.ensures.value ∙ ap (λ (z : Sizes). z.slots) (sym c.in_ok-core.ensures.ok.1);
 }
 

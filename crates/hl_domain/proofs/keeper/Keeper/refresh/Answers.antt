@@ -26,8 +26,8 @@ returns-in_err-view-clause-made g c =
 
 pub unreachable-requires : goal.unreachable-requires
 unreachable-requires g c =
-    let A = c.in_ok-view.ensures.stood.0 in
-    c.in_default.not-Entered _ _ (accepted c.args.self.now A c.args.pass.now (REFRESH c.pass.inside.slot) c.call.new.self c.in_ok-view.field-0 (c.in_ok-view.ensures.made A c.in_ok-view.ensures.stood.1)).1
+    let A = c.in_ok-view.ensures.valid.0 in
+    c.in_default.not-Entered _ _ (accepted c.args.self.now A c.args.pass.now (REFRESH c.pass.inside.slot) c.call.new.self c.in_ok-view.field-0 (c.in_ok-view.ensures.made A c.in_ok-view.ensures.valid.1)).1
 
 pub returns-clause-made : goal.returns-clause-made
 returns-clause-made g c =
@@ -43,8 +43,8 @@ returns-clause-pass g c = rested_is c.args.pass.now c.call.new.pass c.rest.new.s
 pub returns-clause-fresh : goal.returns-clause-fresh
 returns-clause-fresh g c =
     let k = c.args.self.now in
-    let A = c.in_ok-view.ensures.stood.0 in
-    let st = c.in_ok-view.ensures.stood.1 in
+    let A = c.in_ok-view.ensures.valid.0 in
+    let st = c.in_ok-view.ensures.valid.1 in
     let p : PassRecord = (record { slot = c.pass.inside.slot; stamp = c.pass.inside.stamp; held = c.pass.inside.held; touches = c.pass.inside.touches.items; rider = c.pass.inside.rider }) in
     let made = rw (sym c.pass.view_is) at c.in_ok-view.ensures.made in
     let known = rw (sym c.pass.view_is) at c.in_ok-known_behind.ensures in

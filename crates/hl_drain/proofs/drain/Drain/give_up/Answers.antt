@@ -12,5 +12,5 @@ invariant_of-self g c =
       turns = c.self.invariant.turns;
     }
 
-pub returns-clause-known : goal.returns-clause-known
-returns-clause-known g c = (invariant_of-self g c).lists
+pub returns-clause-valid : goal.returns-clause-valid
+returns-clause-valid g c = (invariant_of-self g c).lists

@@ -10,7 +10,7 @@ invariant_of-self g c =
     let within = subst (λ lists. count_of lists < lists.limit) (sym c.self.view_is) room in
     let free : length c.self.inside.pending.ring.items < c.self.inside.pending.ring.capacity = omega arith in
     let row = ok_of c.push.result _ (c.push.ensures.room.1 free) c.push.ensures.ok in
-    let stored = IsDrain-put c.args.self.now c.args.ticket c.args.action c.has_room.ensures.known room c.requires in
+    let stored = IsDrain-put c.args.self.now c.args.ticket c.args.action c.has_room.ensures.valid room c.requires in
     record {
       lists = rw row
           (subst (λ lists. IsDrain (record lists { pending = lists.pending ++ (c.args.ticket, c.args.action) ∷ [] })) (sym c.self.view_is) stored);
@@ -19,5 +19,5 @@ invariant_of-self g c =
       turns = c.self.invariant.turns;
     }
 
-pub returns-clause-known : goal.returns-clause-known
-returns-clause-known g c = (invariant_of-self g c).lists
+pub returns-clause-valid : goal.returns-clause-valid
+returns-clause-valid g c = (invariant_of-self g c).lists

@@ -17,5 +17,5 @@ invariant_of-self-2 g c =
       turns = omega arith;
     }
 
-pub returns-clause-known : goal.returns-clause-known
-returns-clause-known g c = (invariant_of-self-2 g c).lists
+pub returns-clause-valid : goal.returns-clause-valid
+returns-clause-valid g c = (invariant_of-self-2 g c).lists

@@ -40,5 +40,5 @@ invariant_of-self c =
       turns = rw length-set (record { enter = omega arith; flush_done = kept.turns.flush_done; clean_done = kept.turns.clean_done });
     }
 
-pub returns-clause-known : goal.returns-clause-known
-returns-clause-known c = rw (row c) (known c)
+pub returns-clause-valid : goal.returns-clause-valid
+returns-clause-valid c = rw (row c) (known c)

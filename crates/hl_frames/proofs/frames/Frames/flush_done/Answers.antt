@@ -98,8 +98,8 @@ returns-clause-answer c =
     ] in
     rw (← c.self.view_is) (rw (flies (at_deref c)) (ap (λ (n : ℕ). Ok n) told))
 
-pub returns-clause-known : goal.returns-clause-known
-returns-clause-known c =
+pub returns-clause-valid : goal.returns-clause-valid
+returns-clause-valid c =
     let here = at_deref c in
     elim c.if-not-ok.branch [
       | then-not-ok w ↦ rw w.self-inside-is (rw (row here) (known here))

@@ -95,8 +95,8 @@ invariant_of-self c =
       turns = rw length-set kept.turns;
     }
 
-pub returns-clause-known : goal.returns-clause-known
-returns-clause-known c = rw (row (at_len c)) (known (at_len c))
+pub returns-clause-valid : goal.returns-clause-valid
+returns-clause-valid c = rw (row (at_len c)) (known (at_len c))
 
 pub returns-clause-pages : goal.returns-clause-pages
 returns-clause-pages c =

@@ -8,7 +8,7 @@ use Rattle.hl_plain.proofs.plain.Plain.from_base.Goals as goal
 pub begin-requires-clause-history : goal.begin-requires-clause-history
 begin-requires-clause-history c =
     subst (λ (b : Base). IsHistory (begun b false)) (sym c.in_ok-base.ensures.ok)
-    (IsHistory-base c.args.base.now (subst AreInRange c.params.ensures c.frames-room.ensures.in_range) c.in_ok-base.ensures.known)
+    (IsHistory-base c.args.base.now (subst AreInRange c.params.ensures c.frames-room.ensures.valid) c.in_ok-base.ensures.valid)
 
 pub begin-requires-clause-room : goal.begin-requires-clause-room
 begin-requires-clause-room c =

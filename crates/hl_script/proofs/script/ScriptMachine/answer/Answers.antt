@@ -8,7 +8,7 @@ use Rattle.hl_script.proofs.script.ScriptMachine.answer.Goals as goal
 pub returns-in_ok-put_line-in-Config : goal.returns-in_ok-put_line-in-Config
 returns-in_ok-put_line-in-Config g c = λ has before st may.
     config_answered g.O.Opening.begins g.S.Stepping.stands c.in-Some.opening c.args.self.now.opened c.in-Some-open.opened has before c.args.line.now c.in-Config.sizes (g.W.Write.contents c.args.out.now) (g.W.Write.contents c.put_line.new.out)
-    c.in-Config.is (rw (sym c.in-Some.ensures.value) at st) may c.in-Some-open.ensures c.in_ok-put_line-in-Config.ensures
+    c.in-Config.is (rw (sym c.in-Some.ensures.value) at st) may c.in-Some-open.ensures c.in_ok-put_line-in-Config.ensures.ok
 
 pub returns-in-Some-opened : goal.returns-in-Some-opened
 returns-in-Some-opened g c = λ has before st may.

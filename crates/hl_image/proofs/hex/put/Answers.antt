@@ -1,6 +1,0 @@
-use Rattle.hl_image.proofs.Growing.{Grows-taken}
-use Rattle.hl_image.proofs.hex.put.Goals as goal
-
-pub loop-rest-preserved : goal.loop-rest-preserved
-loop-rest-preserved g c =
-    Grows-taken _ _ _ c.args.text.now c.loop-rest.rest.now c.in-Ok.taken c.loop-rest.invariant c.in-Ok.ensures.bytes

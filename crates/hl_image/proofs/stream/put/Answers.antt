@@ -1,0 +1,6 @@
+use Rattle.hl_image.proofs.Growing.{Grows-taken}
+use Rattle.hl_image.proofs.stream.put.Goals as goal
+
+pub loop-rest-preserved : goal.loop-rest-preserved
+loop-rest-preserved g c =
+    Grows-taken _ _ _ c.args.bytes.now c.loop-rest.rest.now c.in-Ok.taken c.loop-rest.invariant c.in-Ok.ensures.bytes
