@@ -1,4 +1,4 @@
-ghost use Rattle.std.specs.Prelude.{◌≡◌, ℕ, ◌+◌, ◌<◌, Some, None, Err, replicate, position, is_none, length, IfSome, IfNone, IsSome, OnOk, OnErr, false, slice_get, slice_set};
+ghost use Rattle.std.specs.Prelude.{◌≡◌, ℕ, ◌+◌, ◌<◌, Some, None, Err, replicate, position, is_none, is_some, length, IfSome, IfNone, OnOk, OnErr, false, slice_get, slice_set};
 ghost use Rattle.hl_model.specs.declared.fault.Fault.TheVariants.{NotInFlight};
 ghost use Rattle.hl_domain.specs.Passes.{Shares};
 ghost use Rattle.hl_crew.specs.Pouches.{is_of, load_count, Answers};
@@ -105,20 +105,28 @@ impl Pouch {
     // The page of the first that it holds.
     fn first(&self) -> Option<u64>
         ensures none { IfNone result (load_count self.now ≡ 0) }
-        ensures held { IfSome result (λ page. IsSome (position (is_of page) self.now)) }
+        ensures held { IfSome result (λ page. (at : ℕ) × (position (is_of page) self.now ≡ Some at)) }
     {
-        for held in &self.loads {
-            if let Some(load) = held {
-                return Some(load.job().page);
-            }
+        let at = self.held_place()?;
+        match &self.loads[at] {
+            Some(load) => Some(load.job().page),
+            None => unreachable!(),
         }
-        None
     }
 
     /// Gives up all that it holds: these pages stay in flight.
     pub fn forsake(self) {
         let Pouch { loads } = self;
         forsake_all(loads);
+    }
+
+    // The first place that holds a load.
+    fn held_place(&self) -> Option<usize>
+        ensures place { result ≡ position is_some self.now }
+        ensures within { IfSome result (λ at. at < 4) }
+        ensures places { length self.now ≡ 4 }
+    {
+        self.loads.iter().position(|held| held.is_some())
     }
 
     // The first place that is free.

@@ -1,4 +1,4 @@
-ghost use Rattle.std.specs.Prelude.{◌≡◌, ◌≤◌, OnOk};
+ghost use Rattle.std.specs.Prelude.{◌≡◌, OnOk};
 ghost use Rattle.hl_crew.specs.Pouches.{load_count};
 
 use crate::flusher::{Flusher, FlusherState};
@@ -37,15 +37,13 @@ impl<R: Wait, E: Epochs + Drop, F: Task, P: Promise, L: Realm> Flusher<'_, R, E,
         own: &mut FlusherState<L>,
         pouch: &mut Pouch,
     ) -> Result<(), Over>
-        requires { load_count pouch.old ≤ 4 }
         ensures { OnOk result (load_count pouch.new ≡ 0) }
     {
-        for _ in 0..4 {
-            match pouch.fail_first(self.rt, self.domain, &mut own.rider) {
-                None => return Ok(()),
-                Some(Ok(_)) => own.counts.count(false),
-                Some(Err(_)) => return Err(Over),
+        while let Some(answer) = pouch.fail_first(self.rt, self.domain, &mut own.rider) {
+            if answer.is_err() {
+                return Err(Over);
             }
+            own.counts.count(false);
         }
         Ok(())
     }
