@@ -1,6 +1,6 @@
 -- The places of a pouch.
 use Rattle.std.proofs.Common.{◌≡◌, ℕ, zero, suc, ◌+◌, ◌<◌, ◌≤◌, Bool, true, false, cond, List, [], ◌∷◌, ◌++◌, length, get_or, set, refl, sym, ap, ◌∙◌, subst, arith}
-use Rattle.std.specs.Prelude.{Option, Some, None, Result, MatchResult, position, is_none, nat_lt, slice_get}
+use Rattle.std.specs.Prelude.{Option, Some, None, Result, MatchResult, position, is_none, is_some, nat_lt, slice_get}
 use Rattle.std.specs.List.{position_or_len}
 use Rattle.std.proofs.lemmas.Bool.{ltb-false}
 use Rattle.std.proofs.lemmas.List.Quantifiers.{position-Some}
@@ -10,10 +10,9 @@ use Rattle.std.proofs.lemmas.Option.{get_or_from_slice_get}
 use Rattle.hl_model.specs.declared.fault.Fault.{Fault}
 use Rattle.hl_model.specs.declared.step.Step.TheVariants.{FlushDone}
 use Rattle.hl_model.specs.Pages.{flushed}
-use Rattle.hl_model.specs.Replies.{unless_fault}
 use Rattle.hl_domain.specs.declared.load.PageJob.{PageJob}
-use Rattle.hl_domain.specs.Calls.{end_fault}
-use Rattle.hl_domain.specs.Domains.{DomainState, UnderLock}
+use Rattle.hl_domain.specs.Calls.{Ends}
+use Rattle.hl_domain.specs.Domains.{DomainState, MakesUnderLock}
 use Rattle.hl_crew.specs.Pouches.{is_of, load_count, Answers}
 
 -- where no place is free, as many loads are held as there are places
@@ -54,7 +53,7 @@ put_back places at job held =
 -- what an answer says of the place that was found
 pub answered : (F : Type 0) (domain : DomainState) (page : ℕ) (ok : Bool) (at other : ℕ) (job : PageJob) (old new : List (Option PageJob)) (result : Result ℕ Fault)
     → position (is_of page) old ≡ Some at → slice_get old at ≡ Some (Some job)
-    → UnderLock F domain (λ k A. result ≡ unless_fault (end_fault k A job.stamp (FlushDone job.page ok)) (flushed k.core.sizes (A ++ FlushDone job.page ok ∷ [])))
+    → MakesUnderLock F domain (λ before after. Ends before job.stamp (FlushDone job.page ok) (λ A. flushed before.core.sizes (A ++ FlushDone job.page ok ∷ [])) after result)
     → MatchResult result (λ _. new ≡ set old at None) (λ _. new ≡ old)
     → position (is_of page) old ≡ Some other → Answers F domain page ok other old new result
 answered F domain page ok at other job old new result is held met left found =
@@ -65,7 +64,7 @@ answered F domain page ok at other job old new result is held met left found =
       job = job;
       held = held;
       page_is = page_is;
-      met = subst (λ page. UnderLock F domain (λ k A. result ≡ unless_fault (end_fault k A job.stamp (FlushDone page ok)) (flushed k.core.sizes (A ++ FlushDone page ok ∷ [])))) page_is met;
+      met = subst (λ page. MakesUnderLock F domain (λ before after. Ends before job.stamp (FlushDone page ok) (λ A. flushed before.core.sizes (A ++ FlushDone page ok ∷ [])) after result)) page_is met;
       left = left;
     })
 
@@ -76,3 +75,27 @@ not_free page at places is free =
     let none = get_or_from_slice_get places at None None free in
     let contrary : false ≡ true = ap (is_of page) (sym none) ∙ found.1 in
     cc
+
+-- where no place holds a load, none is held
+none_there : (places : List (Option PageJob)) → length places ≤ position_or_len is_some places → load_count places ≡ 0
+none_there [] none = refl
+none_there (None ∷ places) none = none_there places (omega arith)
+none_there (Some job ∷ places) none = absurd (omega arith)
+
+pub none_held : (places : List (Option PageJob)) → position is_some places ≡ None → load_count places ≡ 0
+none_held places none = none_there places (ltb-false (position_or_len is_some places) (length places) (by (nat_lt (position_or_len is_some places) (length places)) none))
+  where
+    by : (t : Bool) → cond t (Some (position_or_len is_some places)) None ≡ None → t ≡ false
+    by true e = cc
+    by false e = refl
+
+-- a load was taken out
+one_less : (places : List (Option PageJob)) (at : ℕ) (job : PageJob) → at < length places → get_or places at None ≡ Some job → load_count (set places at None) + 1 ≡ load_count places
+one_less [] at job within held = absurd (omega arith)
+one_less (None ∷ places) zero job within held = cc
+one_less (Some other ∷ places) zero job within held = omega arith
+one_less (None ∷ places) (suc at) job within held = one_less places at job (omega arith) held
+one_less (Some other ∷ places) (suc at) job within held = let others = one_less places at job (omega arith) held in omega arith
+
+pub taken_out : (places : List (Option PageJob)) (at : ℕ) (job : PageJob) → at < length places → slice_get places at ≡ Some (Some job) → load_count (set places at None) + 1 ≡ load_count places
+taken_out places at job within held = one_less places at job within (get_or_from_slice_get places at (Some job) None held)

@@ -1,2 +1,4 @@
+pub mod Counting
 pub mod Lags
 pub mod Pouches
+pub mod Writes

@@ -3,10 +3,9 @@ use Rattle.std.specs.Prelude.{◌≡◌, ℕ, ◌+◌, ◌==◌, Bool, false, Op
 use Rattle.hl_model.specs.declared.fault.Fault.{Fault}
 use Rattle.hl_model.specs.declared.step.Step.TheVariants.{FlushDone}
 use Rattle.hl_model.specs.Pages.{flushed}
-use Rattle.hl_model.specs.Replies.{unless_fault}
 use Rattle.hl_domain.specs.declared.load.PageJob.{PageJob}
-use Rattle.hl_domain.specs.Calls.{end_fault}
-use Rattle.hl_domain.specs.Domains.{DomainState, UnderLock}
+use Rattle.hl_domain.specs.Calls.{Ends}
+use Rattle.hl_domain.specs.Domains.{DomainState, MakesUnderLock}
 
 -- whether a place holds a load of this page
 abbrev pub is_of : ℕ → Option PageJob → Bool
@@ -29,7 +28,6 @@ pub record Answers
   pub job : PageJob
   pub held : slice_get old at ≡ Some (Some job)
   pub page_is : job.page ≡ page
-  pub met : UnderLock F domain (λ k A. result
-      ≡ unless_fault (end_fault k A job.stamp (FlushDone page ok))
-      (flushed k.core.sizes (A ++ FlushDone page ok ∷ [])))
+  pub met : MakesUnderLock F domain (λ before after. Ends before job.stamp (FlushDone page ok)
+      (λ A. flushed before.core.sizes (A ++ FlushDone page ok ∷ [])) after result)
   pub left : MatchResult result (λ _. new ≡ slice_set old at None) (λ _. new ≡ old)

@@ -1,3 +1,6 @@
+ghost use Rattle.std.specs.Prelude.{◌≡◌};
+ghost use Rattle.hl_crew.specs.Counting.{nothing, counted, one_stranger};
+
 /// How many flushes were answered as ended well, and how many not; and how many acknowledgements named a page that
 /// wasn't in the pouch.
 #[derive(Clone, Copy)]
@@ -9,7 +12,9 @@ pub(crate) struct Counts {
 
 impl Counts {
     /// Nothing was counted.
-    pub(crate) fn none() -> Counts {
+    pub(crate) fn none() -> Counts
+        ensures { result ≡ nothing }
+    {
         Counts {
             written: 0,
             failed: 0,
@@ -18,7 +23,9 @@ impl Counts {
     }
 
     /// Counts a flush that was answered.
-    pub(crate) fn count(&mut self, ok: bool) {
+    pub(crate) fn count(&mut self, ok: bool)
+        ensures { self.new ≡ counted ok self.old }
+    {
         if ok {
             self.written = self.written.saturating_add(1);
         } else {
@@ -27,7 +34,9 @@ impl Counts {
     }
 
     /// Counts an acknowledgement of a page that isn't in the pouch.
-    pub(crate) fn count_stranger(&mut self) {
+    pub(crate) fn count_stranger(&mut self)
+        ensures { self.new ≡ one_stranger self.old }
+    {
         self.strangers = self.strangers.saturating_add(1);
     }
 }

@@ -1,4 +1,4 @@
-ghost use Rattle.std.specs.Prelude.{◌≡◌};
+ghost use Rattle.std.specs.Prelude.{◌≡◌, OnOk};
 ghost use Rattle.hl_crew.specs.Lags.{IsLag};
 ghost use Rattle.hl_crew.specs.Pouches.{load_count};
 
@@ -70,9 +70,11 @@ impl<R: Wait, E: Epochs + Drop, F: Task, P: Promise, L: Realm> Flusher<'_, R, E,
         Ok(())
     }
 
-    // Sends pages to the writers, and answers each of them. What is in the pouch then can't be answered.
+    // Sends pages to the writers, and answers each of them: no page is left in the pouch. Where a call of the domain
+    // or a channel failed, what is left there can't be answered.
     fn flush(&self, own: &mut FlusherState<L>, pouch: &mut Pouch) -> Result<(), Over>
         requires { load_count pouch.old ≡ 0 }
+        ensures { OnOk result (load_count pouch.new ≡ 0) }
     {
         let mut sent = 0;
         let all_sent = self.send_pages(&mut own.rider, pouch, &mut sent);

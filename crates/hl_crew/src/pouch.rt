@@ -1,4 +1,4 @@
-ghost use Rattle.std.specs.Prelude.{◌≡◌, ℕ, ◌+◌, ◌<◌, Some, None, Err, replicate, position, is_none, length, IfSome, slice_get, slice_set};
+ghost use Rattle.std.specs.Prelude.{◌≡◌, ℕ, ◌+◌, ◌<◌, Some, None, Err, replicate, position, is_none, is_some, length, IfSome, IfNone, OnOk, OnErr, false, slice_get, slice_set};
 ghost use Rattle.hl_model.specs.declared.fault.Fault.TheVariants.{NotInFlight};
 ghost use Rattle.hl_domain.specs.Passes.{Shares};
 ghost use Rattle.hl_crew.specs.Pouches.{is_of, load_count, Answers};
@@ -67,6 +67,8 @@ impl Pouch {
             → (result ≡ Err NotInFlight) × (self.new ≡ self.old) × (rider.new ≡ rider.old) }
         ensures held { (at : ℕ) → position (is_of page) self.old ≡ Some at
             → Answers F domain.now page ok at self.old self.new result }
+        ensures fewer { OnOk result (load_count self.new + 1 ≡ load_count self.old) }
+        ensures refused { OnErr result (self.new ≡ self.old) }
         ensures rider { Shares 1 result rider.old rider.new }
     {
         let Some(at) = self.place_of(page) else {
@@ -84,20 +86,47 @@ impl Pouch {
         }
     }
 
-    /// The page of the first that it holds.
-    pub(crate) fn first(&self) -> Option<u64> {
-        for held in &self.loads {
-            if let Some(load) = held {
-                return Some(load.job().page);
-            }
+    /// Answers the first page that it holds as failed; none where it holds none.
+    pub(crate) fn fail_first<R: Wait, E: Epochs + Drop, F: Task, P: Promise, L: Realm>(
+        &mut self,
+        rt: &R,
+        domain: &Domain<E, F, P, L>,
+        rider: &mut Rider<L>,
+    ) -> Option<Result<u64, Fault>>
+        ensures none { IfNone result ((load_count self.old ≡ 0) × (self.new ≡ self.old)) }
+        ensures failed { IfSome result (λ answer. (page : ℕ) × (at : ℕ)
+            × Answers F domain.now page false at self.old self.new answer) }
+        ensures fewer { IfSome result (λ answer. OnOk answer (load_count self.new + 1 ≡ load_count self.old)) }
+    {
+        let page = self.first()?;
+        Some(self.answer(rt, domain, rider, page, false))
+    }
+
+    // The page of the first that it holds.
+    fn first(&self) -> Option<u64>
+        ensures none { IfNone result (load_count self.now ≡ 0) }
+        ensures held { IfSome result (λ page. (at : ℕ) × (position (is_of page) self.now ≡ Some at)) }
+    {
+        let at = self.held_place()?;
+        match &self.loads[at] {
+            Some(load) => Some(load.job().page),
+            None => unreachable!(),
         }
-        None
     }
 
     /// Gives up all that it holds: these pages stay in flight.
     pub fn forsake(self) {
         let Pouch { loads } = self;
         forsake_all(loads);
+    }
+
+    // The first place that holds a load.
+    fn held_place(&self) -> Option<usize>
+        ensures place { result ≡ position is_some self.now }
+        ensures within { IfSome result (λ at. at < 4) }
+        ensures places { length self.now ≡ 4 }
+    {
+        self.loads.iter().position(|held| held.is_some())
     }
 
     // The first place that is free.

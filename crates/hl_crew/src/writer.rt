@@ -1,3 +1,6 @@
+ghost use Rattle.std.specs.Prelude.{◌≡◌, true};
+ghost use Rattle.hl_crew.specs.Writes.{IsWritten};
+
 use crate::gate::Gate;
 use crate::messages::{Acknowledgement, Channels, Message};
 use hl_action::{Promise, Task};
@@ -76,7 +79,11 @@ where
     }
 
     // Copies the words of a page, and writes its image: whether it is written.
-    fn write<W: PageWriter>(&self, own: &mut WriterState<L, W>, job: PageJob) -> bool {
+    fn write<W: PageWriter>(&self, own: &mut WriterState<L, W>, job: PageJob) -> bool
+        ensures { let sizes = self.now.domain.now.sizes
+            in result ≡ true
+            → IsWritten W.wrote sizes job own.old.rider own.new.rider own.old.pages own.new.pages }
+    {
         let mut words = [0; WORDS];
         let mut image = [0; BYTES];
         let places = self.domain.params().page() as usize;

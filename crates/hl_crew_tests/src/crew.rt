@@ -76,8 +76,16 @@ pub(crate) const STAMP: u64 = 1000;
 pub(crate) fn seed(alloc: Global) -> Result<Seed, Fault>
     ensures { IfOk result (λ seed. seed.sizes.frames ≡ 4) }
 {
+    seed_of(alloc, 4)
+}
+
+/// Words for so many riders, of pages of 4 words in 4 frames.
+pub(crate) fn seed_of(alloc: Global, riders: usize) -> Result<Seed, Fault>
+    requires { (1 ≤ riders) × (riders ≤ 128) }
+    ensures { IfOk result (λ seed. seed.sizes.frames ≡ 4) }
+{
     let params = Params::checked(4, 4, 2, 4).ok_or(Fault::Size)?;
-    Seed::make(alloc, params, 4)
+    Seed::make(alloc, params, riders)
 }
 
 /// A slot acquires, allocates three pages whole, and leaves.

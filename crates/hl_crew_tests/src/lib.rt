@@ -10,3 +10,5 @@ mod crew;
 mod gates;
 #[cfg(test)]
 mod pouch;
+#[cfg(test)]
+mod waits;

@@ -1,7 +1,6 @@
--- What a call met under the lock.
+-- What a call met and left under the lock.
 use Rattle.std.proofs.Common.{◌≡◌, ℕ, List, ◌++◌, length, map, sym, ap, ◌∙◌, subst, arith}
-use Rattle.std.specs.Prelude.{Result, Ok, Err, IfOk, IfErr}
-use Rattle.hl_model.specs.declared.fault.Fault.{Fault}
+use Rattle.std.specs.Prelude.{Result, Ok, Err, IfErr}
 use Rattle.hl_model.specs.declared.step.Step.{Step}
 use Rattle.hl_model.specs.Sizes.{Sizes}
 use Rattle.hl_model.specs.Actions.{pending, taken}
@@ -10,27 +9,20 @@ use Rattle.hl_model.specs.Replies.{IsAccepted}
 use Rattle.hl_model.specs.Snapshots.{snapshot_of}
 use Rattle.hl_drain.specs.Actions.{waiting_of}
 use Rattle.hl_drain.specs.Lists.{Lists}
-use Rattle.hl_action.specs.Jobs.{KeptRecord, ReadyRecord}
-use Rattle.hl_core.specs.Steps.{CameOut}
+use Rattle.hl_action.specs.Jobs.{KeptRecord}
 use Rattle.hl_domain.specs.Keepers.{job_tag, KeeperState, KeeperStands, IsKeeper, IsOf}
 use Rattle.hl_domain.proofs.KeeperLaws.{counted}
-use Rattle.hl_domain.specs.Domains.{DomainState, UnderLock, IsOldest, EndingState, IsEnding}
+use Rattle.hl_domain.specs.Domains.{DomainState, LeavesUnderLock, EndingState, IsEnding}
 
--- what a keeper of the domain answers wherever it stands, a call under the lock answered
-pub met : {F : Type 0} (domain : DomainState) (k : KeeperState F) (Holds : KeeperState F → List Step → Type 0) → IsOf domain.sizes domain.stamp k → ((A : List Step) → KeeperStands k A → Holds k A) → UnderLock F domain Holds
-met domain k Holds of h = record {
-  keeper = k;
-  list = of.standing.0;
-  stands = of.standing.1;
-  sizes_are = of.sizes_are;
-  stamp_is = of.stamp_is;
-  holds = h of.standing.0 of.standing.1;
+-- a call under the lock left what it makes of a keeper of the domain
+pub leaves : {F : Type 0} (domain : DomainState) (old new : KeeperState F) (Holds : KeeperState F → KeeperState F → Type 0) → IsOf domain.sizes domain.stamp old → new.core.sizes ≡ old.core.sizes → new.stamp ≡ old.stamp → IsKeeper new → Holds old new → LeavesUnderLock F domain Holds
+leaves domain old new Holds of sizes stamp at h = record {
+  before = old;
+  after = new;
+  met = of;
+  left = record { standing = at; sizes_are = sizes ∙ of.sizes_are; stamp_is = stamp ∙ of.stamp_is };
+  holds = h;
 }
-
--- the job that came out was that of the oldest action
-pub taken_oldest : {F : Type 0} (old new : KeeperState F) (result : Result (ReadyRecord F) Fault) → IfOk result (λ ready. CameOut job_tag old.core new.core ready.firing.ticket ready.kept) → IfOk result (λ ready. IsOldest old.core ready.firing.ticket ready.kept)
-taken_oldest old new (Ok ready) out = record { action = out.action; others = new.core.drain.pending; waits = out.oldest; job_is = out.job_is }
-taken_oldest old new (Err fault) out = out
 
 -- what is handed back, without what else a refusal keeps
 pub handed_back : {X Y Z : Type 0} (result : Result X (Y × Z)) (z : Z) (Kept : Type 0) → IfErr result (λ back. (back.1 ≡ z) × Kept) → IfErr result (λ back. back.1 ≡ z)

@@ -1,5 +1,5 @@
 -- What contracts see of a domain, what a call met under its lock, and what is left of it at its end.
-use Rattle.std.specs.Prelude.{◌≡◌, ℕ, ◌+◌, Option, List, ◌∷◌, ◌++◌, length, map}
+use Rattle.std.specs.Prelude.{◌≡◌, ℕ, ◌+◌, List, ◌++◌, length, map}
 use Rattle.hl_model.specs.declared.snapshot.Snapshot.{Snapshot}
 use Rattle.hl_model.specs.declared.step.Step.{Step}
 use Rattle.hl_model.specs.Sizes.{Sizes}
@@ -7,13 +7,11 @@ use Rattle.hl_model.specs.Actions.{pending, taken}
 use Rattle.hl_model.specs.Bases.{Base, base_of}
 use Rattle.hl_model.specs.Replies.{IsAccepted}
 use Rattle.hl_model.specs.Snapshots.{snapshot_of}
-use Rattle.hl_drain.specs.declared.action.Action.{Action}
 use Rattle.hl_drain.specs.Actions.{waiting_of}
 use Rattle.hl_drain.specs.Lists.{Lists}
 use Rattle.hl_action.specs.Jobs.{KeptRecord}
-use Rattle.hl_core.specs.Standing.{State}
-use Rattle.hl_core.specs.Steps.{job_in}
-use Rattle.hl_domain.specs.Keepers.{job_tag, KeeperState, KeeperStands}
+use Rattle.hl_domain.specs.Keepers.{job_tag, KeeperState, KeeperStands, IsOf}
+use Rattle.hl_domain.specs.Calls.{Stays}
 
 -- a domain: its sizes, its stamp, and how many riders it has
 pub record DomainState : Type 0 where
@@ -32,13 +30,22 @@ pub record UnderLock (F : Type 0) (domain : DomainState)
   pub stamp_is : keeper.stamp ≡ domain.stamp
   pub holds : Holds keeper list
 
--- the job is that of the oldest action that waits in a core, which has this ticket
-pub record IsOldest {F : Type 0} (core : State (KeptRecord F)) (ticket : ℕ)
-    (job : Option (KeptRecord F)) : Type 0 where
-  pub action : Action (KeptRecord F)
-  pub others : List (ℕ × Action (KeptRecord F))
-  pub waits : core.drain.pending ≡ (ticket, action) ∷ others
-  pub job_is : job ≡ job_in action
+-- what a call met under the lock, and what it left there: a keeper before it and one after it, both of the
+-- domain's sizes and stamp, and each at some list; this holds of both
+pub record LeavesUnderLock
+    (F : Type 0) (domain : DomainState) (Holds : KeeperState F → KeeperState F → Type 0)
+    : Type 0 where
+  pub before : KeeperState F
+  pub after : KeeperState F
+  pub met : IsOf domain.sizes domain.stamp before
+  pub left : IsOf domain.sizes domain.stamp after
+  pub holds : Holds before after
+
+-- likewise of a call that cuts nothing, and by which no job goes in or comes out
+abbrev pub MakesUnderLock : (F : Type 0) → DomainState → (KeeperState F → KeeperState F → Type 0) → Type 0
+MakesUnderLock F domain Holds =
+    LeavesUnderLock F domain (λ old new.
+    Holds old new × Stays old new × (new.core.drain.pending ≡ old.core.drain.pending))
 
 -- what is left of a domain at its end: the base of the steps that were cut, and how many these are; the steps
 -- since; the actions that were never taken, and those taken and not done; all quantities

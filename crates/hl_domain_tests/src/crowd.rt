@@ -37,6 +37,7 @@ fn workers_of<L: Realm>(alloc: Global, mut riders: Vec<Rider<L>>) -> Result<Vec<
             lost: false,
             fault: None,
             cuts: slot == 0,
+            cut: 0,
         })?;
     }
     Ok(workers)
@@ -77,7 +78,7 @@ fn cut_last<R: Wait, L: Realm>(
     mut workers: Vec<Worker<L>>,
 ) -> Result<Vec<Worker<L>>, Fail> {
     let mut worker = workers.pop().ok_or("eight threads")?;
-    domain.cut(rt, &mut worker.rider);
+    worker.cut = worker.cut.wrapping_add(domain.cut(rt, &mut worker.rider));
     workers.push(worker)?;
     for worker in workers.iter_mut() {
         worker.cuts = false;
@@ -104,11 +105,15 @@ fn close_and_compare<R: Abort, L: Realm>(
     domain: Pages<CountTable, L>,
     workers: Vec<Worker<L>>,
 ) -> Result<(), Fail> {
+    let cut = workers
+        .iter()
+        .fold(0u64, |sum, worker| sum.wrapping_add(worker.cut));
     let (riders, shares) = added(rt, alloc, workers)?;
     let Ok(ending) = domain.close(riders) else {
         panic!(rt; "a rider is missing")
     };
     let steps = ending.journal.len() as u64;
+    assert_eq!(rt; ending.cut, cut);
     assert_eq!(rt; ending.cut.wrapping_add(steps), shares);
     assert_eq!(rt; ending.left.pending().len(), 0);
     compare(

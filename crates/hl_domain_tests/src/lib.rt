@@ -3,7 +3,7 @@
 //!
 //! `examples` has the worked examples; `crowd` many threads on one domain and on two, which do what `work` says;
 //! `strangers` what is of another domain; `refusals` passes and pages that are given up, and riders that are
-//! missing; `limits` the greatest sizes; `jobs` what they store.
+//! missing; `journals` how many steps a journal holds; `limits` the greatest sizes; `jobs` what they store.
 //!
 //! This crate has no code beside its tests: a crate with tests is proved twice.
 #![tactic(auto)]
@@ -14,6 +14,8 @@ mod crowd;
 mod examples;
 #[cfg(test)]
 mod jobs;
+#[cfg(test)]
+mod journals;
 #[cfg(test)]
 mod limits;
 #[cfg(test)]

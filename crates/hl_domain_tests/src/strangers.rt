@@ -16,15 +16,15 @@ use std::sync::Wait;
 use std::test::Fail;
 
 /// What is out of a domain of two pages: an action of ticket 3, page 1 in flight, page 0 in cleaning.
-struct Out {
-    ready: Ready<Tells, Anything>,
-    load: Load,
-    broom: Broom,
+pub(crate) struct Out {
+    pub(crate) ready: Ready<Tells, Anything>,
+    pub(crate) load: Load,
+    pub(crate) broom: Broom,
 }
 
 impl Out {
     // Gives all up: the other domain has as much out.
-    fn forsake(self) {
+    pub(crate) fn forsake(self) {
         let Out { ready, load, broom } = self;
         ready.forsake();
         load.forsake();
@@ -73,7 +73,7 @@ fn close_page<L: Realm>(
 }
 
 // Takes an action, a page to flush and a page to clean.
-fn take_out<L: Realm>(
+pub(crate) fn take_out<L: Realm>(
     rt: &impl Wait,
     domain: &Pages<CountTable, L>,
     rider: Rider<L>,

@@ -39,8 +39,8 @@ impl Sums {
 }
 
 /// What a thread has between its calls: a slot, a rider that acquires it, and one for the calls of a rider;
-/// which jobs it stored, what the jobs that it ran answered, and whether a load told another number than was
-/// stored.
+/// which jobs it stored, what the jobs that it ran answered, whether a load told another number than was stored,
+/// and how many steps its cuts told.
 #[derive(Drop)]
 pub(crate) struct Worker<L: Realm> {
     pub(crate) slot: u64,
@@ -51,6 +51,7 @@ pub(crate) struct Worker<L: Realm> {
     pub(crate) lost: bool,
     pub(crate) fault: Option<Fault>,
     pub(crate) cuts: bool,
+    pub(crate) cut: u64,
 }
 
 type Domain<L> = Pages<CountTable, L>;
@@ -147,7 +148,7 @@ fn take_turn<R: Wait, L: Realm>(
                 Err(fault) => unless_others_may(fault)?,
             }
             if worker.cuts {
-                domain.cut(rt, rider);
+                worker.cut = worker.cut.wrapping_add(domain.cut(rt, rider));
             }
             Ok(())
         }

@@ -1,3 +1,6 @@
+ghost use Rattle.std.specs.Prelude.{◌≡◌, OnOk};
+ghost use Rattle.hl_crew.specs.Pouches.{load_count};
+
 use crate::flusher::{Flusher, FlusherState};
 use crate::messages::Over;
 use crate::pouch::Pouch;
@@ -33,15 +36,14 @@ impl<R: Wait, E: Epochs + Drop, F: Task, P: Promise, L: Realm> Flusher<'_, R, E,
         &self,
         own: &mut FlusherState<L>,
         pouch: &mut Pouch,
-    ) -> Result<(), Over> {
-        for _ in 0..4 {
-            let Some(page) = pouch.first() else {
-                return Ok(());
-            };
-            match pouch.answer(self.rt, self.domain, &mut own.rider, page, false) {
-                Ok(_) => own.counts.count(false),
-                Err(_) => return Err(Over),
+    ) -> Result<(), Over>
+        ensures { OnOk result (load_count pouch.new ≡ 0) }
+    {
+        while let Some(answer) = pouch.fail_first(self.rt, self.domain, &mut own.rider) {
+            if answer.is_err() {
+                return Err(Over);
             }
+            own.counts.count(false);
         }
         Ok(())
     }

@@ -1,16 +1,17 @@
 //! The locked calls of a rider: bumps, takes and dones, the two offsets, the cut, and the snapshot.
-ghost use Rattle.std.specs.Prelude.{◌≡◌, List, [], ◌∷◌, ◌++◌, length, IfOk, IfErr};
+ghost use Rattle.std.specs.Prelude.{◌≡◌, ◌+◌, List, [], ◌∷◌, ◌++◌, length, IfOk, IfErr};
+ghost use Rattle.hl_model.specs.declared.step.Step.{Step as STEP};
 ghost use Rattle.hl_model.specs.declared.step.Step.TheVariants.{Bare as BARE, Take as TAKE, Done as DONE, Raise as RAISE, Shift as SHIFT};
 ghost use Rattle.hl_model.specs.Actions.{bumps};
 ghost use Rattle.hl_model.specs.Offsets.{read_only, head};
-ghost use Rattle.hl_model.specs.Replies.{answer_of, unless_fault};
+ghost use Rattle.hl_model.specs.Replies.{answer_of};
 ghost use Rattle.hl_model.specs.Snapshots.{snapshot_of};
-ghost use Rattle.hl_core.specs.Steps.{asking};
+ghost use Rattle.hl_core.specs.Steps.{asking, stored, CameOut};
 ghost use Rattle.hl_domain.specs.Passes.{Shares};
-ghost use Rattle.hl_domain.specs.Keepers.{job_tag};
-ghost use Rattle.hl_domain.specs.Calls.{step_fault, end_fault, told};
+ghost use Rattle.hl_domain.specs.Keepers.{job_tag, KeeperStands};
+ghost use Rattle.hl_domain.specs.Calls.{told, Makes, Ends, Stays};
 ghost use Rattle.hl_domain.specs.Taking.{taken_from, ready_told};
-ghost use Rattle.hl_domain.specs.Domains.{UnderLock, IsOldest};
+ghost use Rattle.hl_domain.specs.Domains.{UnderLock, LeavesUnderLock, MakesUnderLock};
 
 use crate::domain::Domain;
 use hl_action::{Kept, Promise, Ran, Ready, Task};
@@ -32,8 +33,10 @@ impl<E: Epochs + Drop, F: Task, P: Promise, L: Realm> Domain<E, F, P, L> {
         ask: Ask<Kept<F, P>>,
     ) -> Result<u64, (Fault, Ask<Kept<F, P>>)>
         ensures met { let step = asking job_tag ask
-            in UnderLock F self.now (λ k A.
-            told result ≡ unless_fault (step_fault k A step) (bumps (A ++ step ∷ []))) }
+            in LeavesUnderLock F self.now (λ old new.
+            Makes old step (λ A. bumps (A ++ step ∷ [])) new (told result) × Stays old new
+            × IfOk result (λ ticket. new.core.drain.pending
+            ≡ old.core.drain.pending ++ (ticket, stored old.core.offsets ask) ∷ [])) }
         ensures refused { IfErr result (λ back. back.1 ≡ ask) }
         ensures rider { Shares 1 result rider.old rider.new }
     {
@@ -44,8 +47,8 @@ impl<E: Epochs + Drop, F: Task, P: Promise, L: Realm> Domain<E, F, P, L> {
     ///
     /// Faults: `JournalFull`, `EpochsSpent`, `WindowFull`.
     pub fn bare(&self, rt: &impl Wait, rider: &mut Rider<L>) -> Result<u64, Fault>
-        ensures met { UnderLock F self.now (λ k A.
-            result ≡ unless_fault (step_fault k A BARE) (bumps (A ++ BARE ∷ []))) }
+        ensures met { MakesUnderLock F self.now (λ old new.
+            Makes old BARE (λ A. bumps (A ++ BARE ∷ [])) new result) }
         ensures rider { Shares 1 result rider.old rider.new }
     {
         self.lock(rt).bare(&self.words, rider)
@@ -56,9 +59,9 @@ impl<E: Epochs + Drop, F: Task, P: Promise, L: Realm> Domain<E, F, P, L> {
     ///
     /// Faults: `JournalFull`, `Empty`, `NotReady`.
     pub fn take(&self, rt: &impl Wait, rider: &mut Rider<L>) -> Result<Ready<F, P>, Fault>
-        ensures met { UnderLock F self.now (λ k A.
-            (ready_told result ≡ unless_fault (step_fault k A TAKE) (taken_from k A))
-            × IfOk result (λ ready. IsOldest k.core ready.firing.ticket ready.kept)) }
+        ensures met { LeavesUnderLock F self.now (λ old new.
+            Makes old TAKE (taken_from old) new (ready_told result) × Stays old new
+            × IfOk result (λ ready. CameOut job_tag old.core new.core ready.firing.ticket ready.kept)) }
         ensures rider { Shares 1 result rider.old rider.new }
     {
         self.lock(rt).take(&self.words, rider)
@@ -75,8 +78,8 @@ impl<E: Epochs + Drop, F: Task, P: Promise, L: Realm> Domain<E, F, P, L> {
         ran: Ran,
     ) -> Result<Reply, (Fault, Ran)>
         ensures met { let step = DONE ran.ticket
-            in UnderLock F self.now (λ k A. told result ≡ unless_fault (end_fault k A ran.origin step)
-            (answer_of k.core.sizes A (A ++ step ∷ []) step)) }
+            in MakesUnderLock F self.now (λ old new. Ends old ran.origin step
+            (λ A. answer_of old.core.sizes A (A ++ step ∷ []) step) new (told result)) }
         ensures refused { IfErr result (λ back. back.1 ≡ ran) }
         ensures rider { Shares 1 result rider.old rider.new }
     {
@@ -87,8 +90,8 @@ impl<E: Epochs + Drop, F: Task, P: Promise, L: Realm> Domain<E, F, P, L> {
     ///
     /// Faults: `JournalFull`, `NotAbove`, `AboveTail`.
     pub fn raise(&self, rt: &impl Wait, rider: &mut Rider<L>, x: u64) -> Result<u64, Fault>
-        ensures met { UnderLock F self.now (λ k A.
-            result ≡ unless_fault (step_fault k A (RAISE x)) (read_only (A ++ RAISE x ∷ []))) }
+        ensures met { MakesUnderLock F self.now (λ old new.
+            Makes old (RAISE x) (λ A. read_only (A ++ RAISE x ∷ [])) new result) }
         ensures same { IfOk result (λ raised. raised ≡ x) }
         ensures rider { Shares 1 result rider.old rider.new }
     {
@@ -99,8 +102,8 @@ impl<E: Epochs + Drop, F: Task, P: Promise, L: Realm> Domain<E, F, P, L> {
     ///
     /// Faults: `JournalFull`, `NotAbove`, `NotPage`, `AboveFlushed`.
     pub fn shift(&self, rt: &impl Wait, rider: &mut Rider<L>, x: u64) -> Result<u64, Fault>
-        ensures met { UnderLock F self.now (λ k A.
-            result ≡ unless_fault (step_fault k A (SHIFT x)) (head (A ++ SHIFT x ∷ []))) }
+        ensures met { MakesUnderLock F self.now (λ old new.
+            Makes old (SHIFT x) (λ A. head (A ++ SHIFT x ∷ [])) new result) }
         ensures same { IfOk result (λ shifted. shifted ≡ x) }
         ensures rider { Shares 1 result rider.old rider.new }
     {
@@ -110,7 +113,10 @@ impl<E: Epochs + Drop, F: Task, P: Promise, L: Realm> Domain<E, F, P, L> {
     /// Forgets the steps since the last cut, and puts the base of now in place of the one before them; the
     /// answer is their number. It is no step, and is never refused.
     pub fn cut(&self, rt: &impl Wait, rider: &mut Rider<L>) -> u64
-        ensures met { UnderLock F self.now (λ k A. result ≡ length k.journal) }
+        ensures met { LeavesUnderLock F self.now (λ old new. (result ≡ length old.journal)
+            × (new.journal ≡ []) × (new.cut ≡ old.cut + length old.journal)
+            × (new.core ≡ old.core) × (new.limit ≡ old.limit)
+            × ((A : List STEP) → KeeperStands old A → KeeperStands new A)) }
         ensures rider { rider.new ≡ rider.old }
     {
         self.lock(rt).cut(&self.words, rider)

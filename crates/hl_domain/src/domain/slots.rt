@@ -2,12 +2,11 @@
 ghost use Rattle.std.specs.Prelude.{◌≡◌, ◌+◌, ◌-◌, ◌/◌, ◌^◌, ◌≤◌, List, [], ◌∷◌, ◌++◌, length, IfOk, IfErr, MatchResult};
 ghost use Rattle.hl_model.specs.declared.step.Step.TheVariants.{Acquire as ACQUIRE, Refresh as REFRESH, Release as RELEASE, Allocate as ALLOCATE};
 ghost use Rattle.hl_model.specs.Offsets.{place_of, tail};
-ghost use Rattle.hl_model.specs.Replies.{unless_fault};
 ghost use Rattle.hl_model.specs.Views.{view_of};
 ghost use Rattle.hl_domain.specs.Passes.{seen, rested, with_share, new_pass, with_tail};
-ghost use Rattle.hl_domain.specs.Calls.{step_fault, call_fault, refresh_fault, touched_list, told, IsUpTo};
+ghost use Rattle.hl_domain.specs.Calls.{call_fault, refresh_fault, touched_list, told, Makes, MakesTouched, IsUpTo};
 ghost use Rattle.hl_domain.specs.Stamps.{acquires_in};
-ghost use Rattle.hl_domain.specs.Domains.{UnderLock};
+ghost use Rattle.hl_domain.specs.Domains.{MakesUnderLock};
 
 use crate::domain::Domain;
 use crate::pass::Pass;
@@ -28,9 +27,10 @@ impl<E: Epochs + Drop, F: Task, P: Promise, L: Realm> Domain<E, F, P, L> {
         t: u64,
         rider: Rider<L>,
     ) -> Result<Pass<L>, (Fault, Rider<L>)>
-        ensures met { UnderLock F self.now (λ k A. told result ≡ unless_fault (step_fault k A (ACQUIRE t))
-            (new_pass t (k.stamp + acquires_in (A ++ ACQUIRE t ∷ []))
-            (view_of k.core.sizes t (A ++ ACQUIRE t ∷ [])) (with_share 1 rider))) }
+        ensures met { MakesUnderLock F self.now (λ old new. Makes old (ACQUIRE t)
+            (λ A. new_pass t (old.stamp + acquires_in (A ++ ACQUIRE t ∷ []))
+            (view_of old.core.sizes t (A ++ ACQUIRE t ∷ [])) (with_share 1 rider))
+            new (told result)) }
         ensures refused { IfErr result (λ back. back.1 ≡ rider) }
     {
         self.lock(rt).acquire(&self.words, t, rider)
@@ -43,8 +43,9 @@ impl<E: Epochs + Drop, F: Task, P: Promise, L: Realm> Domain<E, F, P, L> {
     /// `JournalFull`.
     pub fn refresh(&self, rt: &impl Wait, pass: &mut Pass<L>) -> Result<View, Fault>
         ensures met { let p = pass.old
-            in UnderLock F self.now (λ k A. result ≡ unless_fault (refresh_fault k A p)
-            (view_of k.core.sizes p.slot (touched_list A p (REFRESH p.slot)))) }
+            in MakesUnderLock F self.now (λ old new. MakesTouched old p (REFRESH p.slot)
+            (λ A. refresh_fault old A p)
+            (λ A. view_of old.core.sizes p.slot (touched_list A p (REFRESH p.slot))) new result) }
         ensures pass { let old = pass.old
             in MatchResult result (λ view. pass.new ≡ rested view old) (λ _. pass.new ≡ old) }
         ensures fresh { IfOk result (IsUpTo (seen pass.old)) }
@@ -56,9 +57,10 @@ impl<E: Epochs + Drop, F: Task, P: Promise, L: Realm> Domain<E, F, P, L> {
     ///
     /// Faults, with the pass handed back: `Stranger` where the slot isn't the pass's, `JournalFull`.
     pub fn release(&self, rt: &impl Wait, pass: Pass<L>) -> Result<Rider<L>, (Fault, Pass<L>)>
-        ensures met { UnderLock F self.now
-            (λ k A. told result ≡ unless_fault (call_fault k A pass (RELEASE pass.slot))
-            (with_share (length pass.touches + 1) pass.rider)) }
+        ensures met { let step = RELEASE pass.slot
+            in MakesUnderLock F self.now (λ old new. MakesTouched old pass step
+            (λ A. call_fault old A pass step)
+            (λ A. with_share (length pass.touches + 1) pass.rider) new (told result)) }
         ensures refused { IfErr result (λ back. back.1 ≡ pass) }
     {
         self.lock(rt).release(&self.words, pass)
@@ -70,8 +72,9 @@ impl<E: Epochs + Drop, F: Task, P: Promise, L: Realm> Domain<E, F, P, L> {
     /// Faults: `Stranger` where the slot isn't the pass's, `JournalFull`, `Size`, `SpaceSpent`, `Busy`.
     pub fn allocate(&self, rt: &impl Wait, pass: &mut Pass<L>, n: u64) -> Result<u64, Fault>
         ensures met { let p = pass.old
-            in UnderLock F self.now (λ k A. result ≡ unless_fault (call_fault k A p (ALLOCATE p.slot n))
-            (place_of k.core.sizes.page (tail k.core.sizes (A ++ p.touches)) n)) }
+            in MakesUnderLock F self.now (λ old new. MakesTouched old p (ALLOCATE p.slot n)
+            (λ A. call_fault old A p (ALLOCATE p.slot n))
+            (λ A. place_of old.core.sizes.page (tail old.core.sizes (A ++ p.touches)) n) new result) }
         ensures pass { let old = pass.old
             in MatchResult result
             (λ a. pass.new ≡ rested (with_tail (a + n) (seen old)) old)

@@ -1,6 +1,8 @@
-use Rattle.std.proofs.Common.{◌∙◌, sym, ap, Some}
-use Rattle.std.specs.Prelude.{slice_set}
-use Rattle.hl_crew.proofs.PouchLaws.{answered, put_back, not_free}
+use Rattle.std.proofs.Common.{◌+◌, ◌∙◌, sym, ap, Some}
+use Rattle.std.specs.Prelude.{None, slice_set}
+use Rattle.std.proofs.lemmas.List.Quantifiers.{position-Some}
+use Rattle.hl_crew.specs.Pouches.{load_count, is_of}
+use Rattle.hl_crew.proofs.PouchLaws.{answered, put_back, not_free, taken_out}
 use Rattle.hl_crew.proofs.pouch.Pouch.answer.Goals as goal
 
 pub unreachable-requires : goal.unreachable-requires
@@ -22,3 +24,18 @@ returns-in-Err-clause-held g c = λ other.
     let back = put_back old at job c.in-Some-take.ensures.value in
     answered _ _ _ _ at other job old _ _ (sym c.in-Some.ensures.place) c.in-Some-take.ensures.value
     c.in-Err.ensures.met (c.set.ensures ∙ put ∙ taken ∙ back)
+
+pub returns-in-Ok-clause-fewer : goal.returns-in-Ok-clause-fewer
+returns-in-Ok-clause-fewer g c =
+    let old = c.args.self.now in
+    let place = position-Some (is_of c.args.page) old c.in-Some.at None (sym c.in-Some.ensures.place) in
+    ap (λ places. load_count places + 1) c.in-Some-take.ensures.after
+    ∙ taken_out old c.in-Some.at c.in-Some-take.load place.0 c.in-Some-take.ensures.value
+
+pub returns-in-Err-clause-refused : goal.returns-in-Err-clause-refused
+returns-in-Err-clause-refused g c =
+    let at = c.in-Some.at in
+    let job = c.in-Some-take.load in
+    let put = ap (λ job. slice_set c.take.new.self at (Some job)) c.in-Err.ensures.refused in
+    let taken = ap (λ places. slice_set places at (Some job)) c.in-Some-take.ensures.after in
+    c.set.ensures ∙ put ∙ taken ∙ put_back c.args.self.now at job c.in-Some-take.ensures.value

@@ -1,11 +1,12 @@
 use Rattle.std.proofs.Common.{sym}
-use Rattle.hl_domain.proofs.DomainLaws.{met, handed_back}
+use Rattle.hl_domain.proofs.DomainLaws.{leaves, handed_back}
 use Rattle.hl_domain.proofs.domain.Domain.clean_done.Goals as goal
 
 pub returns-clause-met : goal.returns-clause-met
 returns-clause-met g c =
     let of = rw (sym c.deref_mut.ensures.value) at c.lock.ensures in
-    met c.args.self.now c.deref_mut.result.now _ of (λ A st. (c.clean_done.ensures.made A st).reply)
+    let e = c.clean_done.ensures in
+    leaves c.args.self.now c.deref_mut.result.now c.clean_done.new.self _ of e.stays.sizes e.stays.stamp (_, (e.made of.standing.0 of.standing.1).standing) (e.made, e.stays, e.jobs)
 
 pub returns-clause-refused : goal.returns-clause-refused
 returns-clause-refused g c = handed_back c.clean_done.result c.args.broom _ c.clean_done.ensures.refused

@@ -1,8 +1,9 @@
 use Rattle.std.proofs.Common.{sym}
-use Rattle.hl_domain.proofs.DomainLaws.{met}
+use Rattle.hl_domain.proofs.DomainLaws.{leaves}
 use Rattle.hl_domain.proofs.domain.Domain.refresh.Goals as goal
 
 pub returns-clause-met : goal.returns-clause-met
 returns-clause-met g c =
     let of = rw (sym c.deref_mut.ensures.value) at c.lock.ensures in
-    met c.args.self.now c.deref_mut.result.now _ of (λ A st. (c.refresh.ensures.made A st).reply)
+    let e = c.refresh.ensures in
+    leaves c.args.self.now c.deref_mut.result.now c.refresh.new.self _ of e.stays.sizes e.stays.stamp (_, (e.made of.standing.0 of.standing.1).standing) (e.made, e.stays, e.jobs)

@@ -1,0 +1,152 @@
+//! A crew beside what it must wait for, and what it hands back in which order.
+ghost use Rattle.std.specs.Prelude.{◌≡◌};
+ghost use Rattle.hl_words.specs.States.{IsSeedOf};
+
+use crate::crew::{Pages, STAMP, allocate_pages, seed_of};
+use crate::gates::HoldsFirst;
+use hl_crew::{CrewEnd, OpenGate, run_crew};
+use hl_drain::Ask;
+use hl_image::{MemoryWriter, PageWriter};
+use hl_model::Fault;
+use hl_words::{Realm, Rider, Seed};
+use std::alloc::Global;
+use std::marker::Brand;
+use std::process::Abort;
+use std::sync::Wait;
+use std::test::Fail;
+use std::thread::Threads;
+
+/// The last four of these riders.
+fn four<L: Realm>(riders: &mut Vec<Rider<L>>) -> Result<[Rider<L>; 4], Fail> {
+    Ok([
+        riders.pop().ok_or("five riders")?,
+        riders.pop().ok_or("five riders")?,
+        riders.pop().ok_or("five riders")?,
+        riders.pop().ok_or("five riders")?,
+    ])
+}
+
+fn protected_slot<R, L>(rt: &R, alloc: Global, seed: Seed) -> Result<(), Fail>
+where
+    R: Threads + Wait + Abort + Sync,
+    L: Realm + Send + Sync,
+    requires seed { IsSeedOf L.name L.parts L.table seed }
+    requires named { (seed.sizes ≡ L.sizes) × (STAMP ≡ L.stamp) }
+    requires frames { seed.sizes.frames ≡ 4 }
+{
+    let (domain, mut riders) = Pages::<L>::open(alloc, seed, 100, STAMP)?;
+    let crew = four(&mut riders)?;
+    let Ok(mut pass) = domain.acquire(rt, 0, riders.pop().ok_or("five riders")?) else {
+        panic!(rt; "the slot is free")
+    };
+    for _ in 0..3 {
+        domain.allocate(rt, &mut pass, 4)?;
+    }
+    let (one, two) = (
+        MemoryWriter::open(alloc, 3, 40)?,
+        MemoryWriter::open(alloc, 3, 40)?,
+    );
+    let end = run_crew(rt, alloc, &domain, crew, one, two, &OpenGate, 1, 4, 3, true);
+    assert!(rt; end.is_ok_and(|end| end.written == 0 && end.failed == 0 && end.strangers == 0));
+    // An acquire, three records, a raise and a settle, which waits for the slot.
+    let (now, kept, cut) = domain.snapshot(rt);
+    assert!(rt; kept == 0 && cut == 6 && now.pending == 1 && now.taken == 0);
+    assert!(rt; now.six.read_only == 8 && now.six.safe_read_only == 0);
+    Ok(())
+}
+
+/// A settle isn't ready, since a slot doesn't move on: the flusher makes its other turns, and cuts in each.
+#[test]
+fn a_crew_goes_on_where_no_action_is_ready(rt: HostRuntime) -> Result<(), Fail> {
+    protected_slot::<_, Brand>(&rt, rt.alloc(), seed_of(rt.alloc(), 5)?)
+}
+
+fn taken_elsewhere<R, L>(rt: &R, alloc: Global, seed: Seed) -> Result<(), Fail>
+where
+    R: Threads + Wait + Abort + Sync,
+    L: Realm + Send + Sync,
+    requires seed { IsSeedOf L.name L.parts L.table seed }
+    requires named { (seed.sizes ≡ L.sizes) × (STAMP ≡ L.stamp) }
+    requires frames { seed.sizes.frames ≡ 4 }
+{
+    let (domain, mut riders) = Pages::<L>::open(alloc, seed, 100, STAMP)?;
+    let crew = four(&mut riders)?;
+    let mut rider = allocate_pages(rt, &domain, riders.pop().ok_or("five riders")?)?;
+    if let Err((fault, _)) = domain.bump(rt, &mut rider, Ask::Settle) {
+        return Err(fault)?;
+    }
+    let (one, two) = (
+        MemoryWriter::open(alloc, 3, 40)?,
+        MemoryWriter::open(alloc, 3, 40)?,
+    );
+    let ready = domain.take(rt, &mut rider)?;
+    let end = run_crew(
+        rt, alloc, &domain, crew, one, two, &OpenGate, 1, 4, 3, false,
+    );
+    let (now, _, _) = domain.snapshot(rt);
+    let done = match domain.done(rt, &mut rider, ready.run()) {
+        Ok(_) => true,
+        Err((_, ran)) => {
+            ran.forsake();
+            false
+        }
+    };
+    assert!(rt; end.is_ok() && done && now.taken == 1);
+    assert!(rt; now.pending == 0 && now.six.read_only == 0);
+    Ok(())
+}
+
+/// An action that somebody else has taken isn't done yet: the flusher leaves the offsets where they are.
+#[test]
+fn a_crew_leaves_the_offsets_while_an_action_runs(rt: HostRuntime) -> Result<(), Fail> {
+    taken_elsewhere::<_, Brand>(&rt, rt.alloc(), seed_of(rt.alloc(), 5)?)
+}
+
+fn own_order<R, L>(rt: &R, alloc: Global, seed: Seed) -> Result<(), Fail>
+where
+    R: Threads + Wait + Abort + Sync,
+    L: Realm + Send + Sync,
+    requires seed { IsSeedOf L.name L.parts L.table seed }
+    requires named { (seed.sizes ≡ L.sizes) × (STAMP ≡ L.stamp) }
+    requires frames { seed.sizes.frames ≡ 4 }
+{
+    let (domain, mut riders) = Pages::<L>::open(alloc, seed, 100, STAMP)?;
+    let crew = four(&mut riders)?;
+    let rider = allocate_pages(rt, &domain, riders.pop().ok_or("five riders")?)?;
+    let (one, two) = (
+        MemoryWriter::open(alloc, 3, 40)?,
+        MemoryWriter::open(alloc, 3, 39)?,
+    );
+    let gate = HoldsFirst::new();
+    let Ok(end) = run_crew(rt, alloc, &domain, crew, one, two, &gate, 1, 4, 1, false) else {
+        panic!(rt; "there is memory")
+    };
+    let CrewEnd {
+        riders,
+        writers,
+        written,
+        failed,
+        ..
+    } = end;
+    let [flushing, first, second, cleaning] = riders;
+    let [one, two] = writers;
+    assert!(rt; written == 1 && failed == 1 && one.failures() == 0 && two.failures() == 1);
+    // A raise, a settle, its take and its done, and two pages taken and ended.
+    assert_eq!(rt;
+        [
+            flushing.share(),
+            first.share(),
+            second.share(),
+            cleaning.share()
+        ],
+        [8, 0, 0, 0]
+    );
+    assert_eq!(rt; rider.share(), 5);
+    Ok(())
+}
+
+/// Each writer has a page, and one of them fails: riders and writers come back in the order in which they went in.
+#[test]
+fn a_crew_hands_back_in_order(rt: HostRuntime) -> Result<(), Fail> {
+    own_order::<_, Brand>(&rt, rt.alloc(), seed_of(rt.alloc(), 5)?)
+}
