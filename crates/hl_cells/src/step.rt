@@ -30,8 +30,9 @@ impl<E: Epochs + Drop, F: Task, P: Promise> Engine<E, F, P> {
         ensures valid { IsEngine self.old }
     {
         match *step {
-            Step::Acquire { t } => self.acquire(t).map(entered),
-            Step::Refresh { t } => self.refresh(t).map(entered),
+            // A function of another crate can't be handed over by its name.
+            Step::Acquire { t } => self.acquire(t).map(|slot| entered(slot)),
+            Step::Refresh { t } => self.refresh(t).map(|slot| entered(slot)),
             Step::Release { t } => self.release(t).map(|()| Reply::Left),
             Step::Bump { .. } => unreachable!(),
             Step::Settle => self.settle().map(Reply::Ticket),
