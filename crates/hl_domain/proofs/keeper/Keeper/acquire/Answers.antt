@@ -16,16 +16,16 @@ pub index_mut-requires : goal.index_mut-requires
 index_mut-requires g c =
     let m : KeeperState g.row.F.Denot = (record { core = c.self.inside.core; base = c.self.inside.base; cut = c.self.inside.cut; journal = c.self.inside.journal.items; limit = c.self.inside.limit; stamps = c.self.inside.stamps.items; stamp = c.self.inside.stamp; acquired = c.self.inside.acquired; offsets = c.self.inside.master.offsets; total = c.self.inside.master.total }) in
     let h = rw (sym c.self.view_is) at c.in-Ok.ensures in
-    let A = h.stood.0 in
-    let at : c.args.t < length c.self.inside.stamps.items = acquire_place c.args.self.now m A c.args.t c.in-Ok.reply h.stood.1 (h.made A h.stood.1) h.stamps.1 h.stays.sizes in
+    let A = h.valid.0 in
+    let at : c.args.t < length c.self.inside.stamps.items = acquire_place c.args.self.now m A c.args.t c.in-Ok.reply h.valid.1 (h.made A h.valid.1) h.stamps.1 h.stays.sizes in
     omega (arith, at, c.self.inside.stamps.ok.0)
 
 pub invariant_of-self : goal.invariant_of-self
 invariant_of-self g c =
     let m : KeeperState g.row.F.Denot = (record { core = c.self.inside.core; base = c.self.inside.base; cut = c.self.inside.cut; journal = c.self.inside.journal.items; limit = c.self.inside.limit; stamps = c.self.inside.stamps.items; stamp = c.self.inside.stamp; acquired = c.self.inside.acquired; offsets = c.self.inside.master.offsets; total = c.self.inside.master.total }) in
     let h = rw (sym c.self.view_is) at c.in-Ok.ensures in
-    let A = h.stood.0 in
-    let st = h.stood.1 in
+    let A = h.valid.0 in
+    let st = h.valid.1 in
     record {
       of = record {
         standing = (_, (acquire_made c.args.self.now m A c.args.t c.in-Ok.reply st (h.made A st) h.stamps.1 h.stays.sizes _ c.in-Entered.view (slice_set c.self.inside.stamps.items c.args.t (c.self.inside.stamp + (c.self.inside.acquired + 1))) (c.self.inside.acquired + 1) (c.self.inside.stamp + (c.self.inside.acquired + 1)) c.args.rider c.one.new.rider c.new.result c.in-Entered.is h.stays.stamp (length-set c.self.inside.stamps.items c.args.t (c.self.inside.stamp + (c.self.inside.acquired + 1))) refl refl c.new.ensures h.rider).standing);

@@ -29,8 +29,8 @@ value a b h = cc
 pub unreachable-requires : goal.unreachable-requires
 unreachable-requires g c =
     let h = c.in-Ok.ensures in
-    let A = h.stood.0 in
-    c.in_default-reply.not-Flushed _ (reply_is _ _ c.in-Ok.reply _ c.one.new.self (h.made A h.stood.1))
+    let A = h.valid.0 in
+    c.in_default-reply.not-Flushed _ (reply_is _ _ c.in-Ok.reply _ c.one.new.self (h.made A h.valid.1))
 
 pub returns-clause-made : goal.returns-clause-made
 returns-clause-made g c =
