@@ -63,7 +63,7 @@ impl Ran {
         outcome
     }
 
-    /// Gives it up for good: the action was run, and stays taken.
+    /// Lets it go: the action was run, and where no done is made of it, stays taken for good.
     pub fn forsake(self) {
         let Ran { outcome: _ } = self;
     }

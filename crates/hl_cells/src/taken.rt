@@ -57,8 +57,10 @@ impl<F: Task, P: Promise> TakenActions<F, P> {
             IfSome ready.kept (λ kept. IsSomeAnd result (F.gives kept.job ready.firing))) }
         ensures keeps { IfSome (find (fires ticket) self.old.actions) (λ ready.
             IfSome ready.kept (λ kept. IsSomeAnd result (P.keeps kept.tag ready.firing))) }
-        ensures others { self.new ≡ record { room = self.old.room;
-            actions = remove self.old.actions (position_or_len (fires ticket) self.old.actions) } }
+        ensures others { self.new ≡ record {
+          room = self.old.room;
+          actions = remove self.old.actions (position_or_len (fires ticket) self.old.actions);
+        } }
     {
         let place = self.place_of(ticket)?;
         self.row.remove(place).run()

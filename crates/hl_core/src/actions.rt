@@ -26,8 +26,8 @@ impl<E: Epochs, J: Tagged + Drop> Core<E, J> {
         ensures refused { IfErr result (λ back. (back.1 ≡ ask) × (self.new ≡ self.old)) }
         ensures jobs { let old = self.old
             in IfOk result
-                (λ ticket. self.new.drain.pending ≡ old.drain.pending
-                ++ (ticket, stored old.offsets ask) ∷ []) }
+            (λ ticket. self.new.drain.pending ≡ old.drain.pending
+            ++ (ticket, stored old.offsets ask) ∷ []) }
         ensures sizes { self.new.sizes ≡ self.old.sizes }
     {
         if !self.drain.has_room() {

@@ -96,7 +96,7 @@ impl<E: Epochs, J: Tagged> Core<E, J> {
     pub(crate) fn may_look(&self, t: u64, read_only: u64, head: u64) -> Result<View, Fault>
         ensures { (A : List Step) → Stands J.tag self.now A
             → result ≡ unless_fault (fault_of self.now.sizes A (LOOK t read_only head))
-                (view_of self.now.sizes t A) }
+            (view_of self.now.sizes t A) }
     {
         let seen = self.seen(t)?;
         if read_only < seen.read_only || head < seen.head {
@@ -152,7 +152,7 @@ impl<E: Epochs, J: Tagged> Core<E, J> {
     pub(crate) fn may_allocate(&self, t: u64, n: u64) -> Result<u64, Fault>
         ensures { (A : List Step) → Stands J.tag self.now A
             → result ≡ unless_fault (fault_of self.now.sizes A (ALLOCATE t n))
-                (place_of self.now.sizes.page (tail self.now.sizes A) n) }
+            (place_of self.now.sizes.page (tail self.now.sizes A) n) }
     {
         self.seen(t)?;
         let address = self.offsets.place(n)?;

@@ -26,12 +26,24 @@ impl<E: Epochs, J: Tagged> Model for Core<E, J> {
 
     ghost Value = { State J };
 
-    ghost view = { λ a. record { sizes = a.params; table = E.table a.table; views = a.views.items;
-        drain = a.drain; offsets = a.offsets; pages = a.frames } };
+    ghost view = { λ a. record {
+      sizes = a.params;
+      table = E.table a.table;
+      views = a.views.items;
+      drain = a.drain;
+      offsets = a.offsets;
+      pages = a.frames;
+    } };
 
     ghost invariant = { λ a. IsKept J.tag
-        (record { sizes = a.params; table = E.table a.table; views = a.views.items; drain = a.drain;
-        offsets = a.offsets; pages = a.frames }) (vec_capacity a.views) };
+        (record {
+          sizes = a.params;
+          table = E.table a.table;
+          views = a.views.items;
+          drain = a.drain;
+          offsets = a.offsets;
+          pages = a.frames;
+        }) (vec_capacity a.views) };
 }
 
 impl<E: Epochs + Drop, J: Tagged + Drop> Core<E, J> {

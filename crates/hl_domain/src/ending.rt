@@ -23,8 +23,13 @@ impl<F: Task, P: Promise> Model for Ending<F, P> {
 
     ghost Value = { EndingState F };
 
-    ghost view = { λ e. record { base = e.base; cut = e.cut; journal = e.journal.items; left = e.left;
-        snapshot = e.snapshot } };
+    ghost view = { λ e. record {
+      base = e.base;
+      cut = e.cut;
+      journal = e.journal.items;
+      left = e.left;
+      snapshot = e.snapshot;
+    } };
 }
 
 impl<F: Task, P: Promise> Drop for Ending<F, P> {

@@ -39,14 +39,32 @@ impl<E: Epochs, F: Task, P: Promise, L: Realm> Model for Keeper<E, F, P, L> {
 
     ghost Value = { KeeperState F };
 
-    ghost view = { λ k. record { core = k.core; base = k.base; cut = k.cut; journal = k.journal.items;
-        limit = k.limit; stamps = k.stamps.items; stamp = k.stamp; acquired = k.acquired;
-        offsets = k.master.offsets; total = k.master.total } };
+    ghost view = { λ k. record {
+      core = k.core;
+      base = k.base;
+      cut = k.cut;
+      journal = k.journal.items;
+      limit = k.limit;
+      stamps = k.stamps.items;
+      stamp = k.stamp;
+      acquired = k.acquired;
+      offsets = k.master.offsets;
+      total = k.master.total;
+    } };
 
     ghost invariant = { λ k. IsKept L.sizes L.stamp
-        (record { core = k.core; base = k.base; cut = k.cut; journal = k.journal.items; limit = k.limit;
-        stamps = k.stamps.items; stamp = k.stamp; acquired = k.acquired; offsets = k.master.offsets;
-        total = k.master.total })
+        (record {
+          core = k.core;
+          base = k.base;
+          cut = k.cut;
+          journal = k.journal.items;
+          limit = k.limit;
+          stamps = k.stamps.items;
+          stamp = k.stamp;
+          acquired = k.acquired;
+          offsets = k.master.offsets;
+          total = k.master.total;
+        })
         (record { journal = vec_capacity k.journal; stamps = vec_capacity k.stamps }) };
 }
 

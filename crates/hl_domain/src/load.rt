@@ -40,7 +40,7 @@ impl Load {
         self.job
     }
 
-    /// Gives it up for good: the page stays in flight.
+    /// Lets it go. Where no `flush_done` was made of it, the page stays in flight for good.
     pub fn forsake(self) {
         let Load { job: _ } = self;
     }
@@ -101,7 +101,7 @@ impl Broom {
         self.swept
     }
 
-    /// Gives it up for good: the page stays in cleaning.
+    /// Lets it go. Where no `clean_done` was made of it, the page stays in cleaning for good.
     pub fn forsake(self) {
         let Broom {
             stamp: _,

@@ -29,8 +29,13 @@ impl<L: Realm> Model for Pass<L> {
 
     ghost Value = { PassRecord };
 
-    ghost view = { λ p. record { slot = p.slot; stamp = p.stamp; held = p.held; touches = p.touches.items;
-        rider = p.rider } };
+    ghost view = { λ p. record {
+      slot = p.slot;
+      stamp = p.stamp;
+      held = p.held;
+      touches = p.touches.items;
+      rider = p.rider;
+    } };
 
     ghost invariant = { λ p. (p.view ≡ view_after p.held p.touches.items)
         × AreTouches p.slot p.held p.touches.items };
@@ -76,8 +81,8 @@ impl<L: Realm> Pass<L> {
         &self.rider
     }
 
-    /// Gives the rider back without a release: the slot stays protected for good, and its touches never enter
-    /// the journal.
+    /// Gives the rider back and lets the pass go. Where its slot wasn't released, it stays protected for good, and the
+    /// touches never enter the journal.
     pub fn abandon(self) -> Rider<L>
         ensures { result ≡ self.rider }
     {

@@ -50,8 +50,10 @@ pub(crate) fn sweep<L: Realm>(
         in OnOk result (broom.new ≡ record { stamp = old.stamp; page = old.page; swept = params.page }) }
     ensures stores { let old = rider.old
         in OnOk result (rider.new
-        ≡ record { view = zeroed (first_cell params broom.old.page) params.page old.view;
-        share = old.share }) }
+        ≡ record {
+          view = zeroed (first_cell params broom.old.page) params.page old.view;
+          share = old.share;
+        }) }
     ensures refused { OnErr result ((broom.new ≡ broom.old) × (rider.new ≡ rider.old)) }
 {
     if broom.stamp() != stamp {

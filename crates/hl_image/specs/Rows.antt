@@ -6,8 +6,13 @@ use Rattle.hl_image.specs.Pages.{Pages}
 -- the image in each row
 abbrev pub pages_of : Inside → Pages
 pages_of a =
-    record { images = map (λ place. place.image) a.rows.items; size = a.size; writes = a.writes;
-    fails_at = a.fails_at; failures = a.failures }
+    record {
+      images = map (λ place. place.image) a.rows.items;
+      size = a.size;
+      writes = a.writes;
+      fails_at = a.fails_at;
+      failures = a.failures;
+    }
 
 -- the rows have the room that opening made, exactly, and each is as long as an image
 pub record IsKept (a : Inside) : Type 0 where

@@ -96,8 +96,12 @@ step_with keyword first second third =
 -- the line of a keyword with these words after it, if it is one
 unfoldable pub line_with : List ℕ → List ℕ → List ℕ → List ℕ → List ℕ → Option Line
 line_with keyword first second third fourth =
-    let sizes : Sizes = record { page = number_in first; frames = number_in second; slots = number_in third;
-    drain = number_in fourth } in
+    let sizes : Sizes = record {
+      page = number_in first;
+      frames = number_in second;
+      slots = number_in third;
+      drain = number_in fourth;
+    } in
     if bytes_eq keyword (codes "config") then config_of sizes
     else if bytes_eq keyword (codes "status") then Some Status
     else if bytes_eq keyword (codes "pending") then Some Pending

@@ -150,14 +150,14 @@ CutBareBump = Cuts
 -- a base at an epoch, with one slot at another, and these actions waiting
 abbrev pub at_epoch : ℕ → ℕ → List Waiting → Base
 at_epoch epoch slot waiting = record {
-      sizes = small;
-      epoch = epoch;
-      slots = Some (slot_at slot 0 0 0) ∷ None ∷ [];
-      waiting = waiting;
-      taken = [];
-      six = no_offsets;
-      frames = None ∷ None ∷ [];
-    }
+  sizes = small;
+  epoch = epoch;
+  slots = Some (slot_at slot 0 0 0) ∷ None ∷ [];
+  waiting = waiting;
+  taken = [];
+  six = no_offsets;
+  frames = None ∷ None ∷ [];
+}
 
 -- 4,096 epochs may have ended and not be safe, and no more; the last epoch and the drain list are tried first
 pub record FullWindow : Type 0 where

@@ -41,8 +41,14 @@ started page = record { page = page; closed = 0; head = 0; safe_read_only = 0; r
 -- the offsets of the six but the flushed one
 abbrev pub resumed : ℕ → Six → Log
 resumed page six =
-    record { page = page; closed = six.closed; head = six.head; safe_read_only = six.safe_read_only;
-    read_only = six.read_only; tail = six.tail }
+    record {
+      page = page;
+      closed = six.closed;
+      head = six.head;
+      safe_read_only = six.safe_read_only;
+      read_only = six.read_only;
+      tail = six.tail;
+    }
 
 -- the read-only offset is x
 abbrev pub raised : ℕ → Log → Log
@@ -67,5 +73,11 @@ allocated n log = record log { tail = place_of log.page log.tail n + n }
 -- the offsets with this flushed one among them
 abbrev pub six_of : Log → ℕ → Six
 six_of log flushed =
-    record { closed = log.closed; head = log.head; flushed = flushed; safe_read_only = log.safe_read_only;
-    read_only = log.read_only; tail = log.tail }
+    record {
+      closed = log.closed;
+      head = log.head;
+      flushed = flushed;
+      safe_read_only = log.safe_read_only;
+      read_only = log.read_only;
+      tail = log.tail;
+    }

@@ -22,15 +22,33 @@ pub struct Offsets {
 impl Model for Offsets {
     ghost Value = { Log };
 
-    ghost view = { λ a. record { page = a.page; closed = a.closed; head = a.head;
-        safe_read_only = a.safe_read_only; read_only = a.read_only; tail = a.tail } };
+    ghost view = { λ a. record {
+      page = a.page;
+      closed = a.closed;
+      head = a.head;
+      safe_read_only = a.safe_read_only;
+      read_only = a.read_only;
+      tail = a.tail;
+    } };
 
     ghost invariant = { λ a. IsLog
-        (record { page = a.page; closed = a.closed; head = a.head; safe_read_only = a.safe_read_only;
-        read_only = a.read_only; tail = a.tail }) };
+        (record {
+          page = a.page;
+          closed = a.closed;
+          head = a.head;
+          safe_read_only = a.safe_read_only;
+          read_only = a.read_only;
+          tail = a.tail;
+        }) };
 
-    ghost inverse = { λ log. record { page = log.page; closed = log.closed; head = log.head;
-        safe_read_only = log.safe_read_only; read_only = log.read_only; tail = log.tail } };
+    ghost inverse = { λ log. record {
+      page = log.page;
+      closed = log.closed;
+      head = log.head;
+      safe_read_only = log.safe_read_only;
+      read_only = log.read_only;
+      tail = log.tail;
+    } };
 }
 
 impl Offsets {
@@ -260,7 +278,7 @@ impl Offsets {
         ensures value { result ≡ six_of self.now flushed }
         ensures in_order { let now = self.now
             in now.head ≤ flushed → flushed ≤ now.safe_read_only → flushed % now.page ≡ 0
-                → AreInOrder now.page result }
+            → AreInOrder now.page result }
         ensures valid { IsLog self.now }
     {
         Six {

@@ -24,7 +24,11 @@ const STAMP: u64 = 1000;
 /// Makes the calls, and answers whether all were accepted: a thread ends at a call that is refused.
 ///
 /// `OutOfMemory` where memory was refused.
-pub(crate) fn run<R: Threads + Wait + Sync>(rt: &R, alloc: Global, work: Work) -> Result<bool, Fault>
+pub(crate) fn run<R: Threads + Wait + Sync>(
+    rt: &R,
+    alloc: Global,
+    work: Work,
+) -> Result<bool, Fault>
     requires { (1 ≤ work.threads) × (work.threads ≤ 8) }
 {
     let params = Params::checked(4096, 256, 8, 64).ok_or(Fault::Size)?;

@@ -17,9 +17,7 @@ use crate::present::Present;
 use crate::words::word;
 use crate::{faults, replies, snapshots};
 use arrayvec::ArrayVec;
-use hl_model::{
-    Base, Fault, FrameState, Params, Reply, Snapshot, Step, View, Waiting, with_room,
-};
+use hl_model::{Base, Fault, FrameState, Params, Reply, Snapshot, Step, View, Waiting, with_room};
 use std::alloc::Global;
 use std::marker::Model;
 
@@ -215,19 +213,28 @@ fn accept(
     cleans: &mut Vec<Mark>,
     step: &Step,
 ) -> Reply
-    requires kept { let history : History = record { base = base.now; steps = steps.old.items;
-        has_words = has_words }
+    requires kept { let history : History = record {
+      base = base.now;
+      steps = steps.old.items;
+      has_words = has_words;
+    }
         in AreKept history flushes.old.items cleans.old.items }
     requires accepted { fault_after base.now steps.old.items step.now ≡ None }
     requires steps_room { vec_len steps.old < vec_capacity steps.old }
     requires flushes_room { vec_len flushes.old < vec_capacity flushes.old }
     requires cleans_room { vec_len cleans.old < vec_capacity cleans.old }
-    ensures reply { let history : History = record { base = base.now; steps = steps.old.items;
-        has_words = has_words }
+    ensures reply { let history : History = record {
+      base = base.now;
+      steps = steps.old.items;
+      has_words = has_words;
+    }
         in result ≡ answer_told history step.now }
     ensures steps { steps.new.items ≡ steps.old.items ++ step.now ∷ [] }
-    ensures kept { let history : History = record { base = base.now; steps = steps.new.items;
-        has_words = has_words }
+    ensures kept { let history : History = record {
+      base = base.now;
+      steps = steps.new.items;
+      has_words = has_words;
+    }
         in AreKept history flushes.new.items cleans.new.items }
     ensures steps_room { vec_capacity steps.new ≡ vec_capacity steps.old }
     ensures flushes_room { vec_capacity flushes.new ≡ vec_capacity flushes.old }

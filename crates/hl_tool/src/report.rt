@@ -30,7 +30,7 @@ pub(crate) fn report_script<E: Epochs + Drop, F: Task, R: Read, W: Write>(
         (W.contents writer.old) (W.contents writer.new)) }
     ensures bad_line { (n : ℕ) → result ≡ Err (BadLine n)
         → StoppedAtBadLine (tags_on shelf) (2 ^ 32) (R.remaining reader.old)
-            (R.remaining reader.new) None None n }
+        (R.remaining reader.new) None None n }
     ensures told { (n : ℕ) → result ≡ Err (BadLine n)
         → Appends (W.contents writer.old) (W.contents writer.new) (bad_text (Some n)) }
 {

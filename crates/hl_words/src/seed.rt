@@ -33,8 +33,15 @@ pub trait Realm: Ledger {
 impl Realm for Brand {
     ghost use Rattle.std.specs.Prelude.{[]};
 
-    ghost table = { record { words = 0; slots = 0; views_name = 0; atom = 0; block = 0; offset = 0;
-        slot_names = [] } };
+    ghost table = { record {
+      words = 0;
+      slots = 0;
+      views_name = 0;
+      atom = 0;
+      block = 0;
+      offset = 0;
+      slot_names = [];
+    } };
 
     ghost sizes = { record { page = 4; frames = 2; slots = 1; drain = 1 } };
 
@@ -60,8 +67,13 @@ impl Model for Seed {
 
     ghost Value = { SeedState };
 
-    ghost view = { λ s. record { sizes = s.params; cells = s.room.cells; riders = s.room.riders;
-        table = s.table.shared.table_id; name = s.blank.name } };
+    ghost view = { λ s. record {
+      sizes = s.params;
+      cells = s.room.cells;
+      riders = s.room.riders;
+      table = s.table.shared.table_id;
+      name = s.blank.name;
+    } };
 
     ghost invariant = { λ s. IsTableOf s.room s.table.shared.key s.table.shared.table_id
         × IsMasterSeat no_offsets (first_seat s.room).riders s.seat.id s.seat.me

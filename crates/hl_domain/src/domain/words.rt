@@ -25,7 +25,7 @@ impl<E: Epochs + Drop, F: Task, P: Promise, L: Realm> Domain<E, F, P, L> {
         ensures pass { let new = pass.new
             in let old = pass.old
             in new ≡ unless_refused (touch_fault old) old
-                (with_look (last_read_only new) (last_head new) old) }
+            (with_look (last_read_only new) (last_head new) old) }
         ensures rises { OnOk result (LooksOn pass.old pass.new) }
         ensures raised { let old = seen pass.old
             in let new = pass.new
