@@ -6,7 +6,7 @@ use Rattle.hl_words.specs.States.{RiderState}
 use Rattle.hl_domain.specs.declared.load.PageJob.{PageJob}
 use Rattle.hl_domain.specs.Pages.{first_cell, loaded_all}
 
--- some words, as many as a page has, were loaded from the page's cells, and the page's image of these words was
+-- some words, as many as a page has, were loaded from the page's cells, and the page's image of them was
 -- written
 pub record IsWritten
     {W : Type 0} (wrote : W → ℕ → List ℕ → W → Type 0) (sizes : Sizes) (job : PageJob)
@@ -14,5 +14,6 @@ pub record IsWritten
     : Type 0 where
   pub words : List ℕ
   pub places : length words ≡ sizes.page
-  pub loaded : new ≡ record { view = loaded_all (first_cell sizes job.page) words old.view; share = old.share }
+  pub loaded : new
+      ≡ record { view = loaded_all (first_cell sizes job.page) words old.view; share = old.share }
   pub written : wrote before job.page (image job.page words) after

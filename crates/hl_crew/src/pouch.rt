@@ -96,7 +96,8 @@ impl Pouch {
         ensures none { IfNone result ((load_count self.old ≡ 0) × (self.new ≡ self.old)) }
         ensures failed { IfSome result (λ answer. (page : ℕ) × (at : ℕ)
             × Answers F domain.now page false at self.old self.new answer) }
-        ensures fewer { IfSome result (λ answer. OnOk answer (load_count self.new + 1 ≡ load_count self.old)) }
+        ensures fewer { IfSome result
+            (λ answer. OnOk answer (load_count self.new + 1 ≡ load_count self.old)) }
     {
         let page = self.first()?;
         Some(self.answer(rt, domain, rider, page, false))

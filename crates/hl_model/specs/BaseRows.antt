@@ -15,8 +15,8 @@ base_in a = record {
   frames = a.frames.items;
 }
 
--- it is that of some accepted list, in rows with room for all its slots, actions and frames, and for no more: they
--- never grew
+-- it is that of some accepted list, in rows with room for all its slots, actions and frames, and for no more:
+-- they never grew
 pub record HasRows (a : Inside) : Type 0 where
   pub base : IsBase (base_in a)
   pub slots_room : vec_capacity a.slots ≡ a.params.slots

@@ -53,8 +53,8 @@ slot_epoch t A = if is_protected t A then Some (epoch_of t A) else None
 unfoldable pub slot_epochs : ℕ → List Step → List (Option ℕ)
 slot_epochs n A = map (λ t. slot_epoch t A) (range_with_len 0 n)
 
--- the greatest epoch below those of all protected slots, or, which is our choice, below the current one where there
--- is none
+-- the greatest epoch below those of all protected slots, or, which is our choice, below the current one where
+-- there is none
 unfoldable pub safe_among : ℕ → List (Option ℕ) → ℕ
 safe_among current epochs = least_or current (filter_map (λ epoch. epoch) epochs) - 1
 

@@ -1,5 +1,5 @@
--- The offsets that done actions settle: nobody writes below the first any more (FASTER's safe read-only offset,
--- section on the HybridLog), and nobody reads below the second, which is our own.
+-- The offsets that done actions settle: nobody writes below the first any more (FASTER's safe read-only
+-- offset, section on the HybridLog), and nobody reads below the second, which is our own.
 use Rattle.std.specs.Prelude.{ℕ, ◌+◌, ◌*◌, ◌/◌, nat_le, Bool, if◌then◌else◌, List}
 use Rattle.hl_model.specs.declared.action.Kind.{Kind}
 use Rattle.hl_model.specs.declared.action.Kind.TheVariants.{Settle, Close}

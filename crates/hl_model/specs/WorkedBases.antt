@@ -110,7 +110,8 @@ CutLook = Cuts
       frames = Some (bare_page 0) ∷ None ∷ [];
     })
     (Look 0 2 0 ∷ Write 0 3 1 ∷ Look 0 4 0 ∷ Bare ∷ [])
-    (Err Stale ∷ Err (Below 4) ∷ Ok (Looked (record { read_only = 4; head = 0; tail = 4 })) ∷ Ok (Bumped 1) ∷ [])
+    (Err Stale ∷ Err (Below 4) ∷ Ok (Looked (record { read_only = 4; head = 0; tail = 4 }))
+    ∷ Ok (Bumped 1) ∷ [])
     (record {
       sizes = small;
       epoch = 2;
@@ -135,8 +136,8 @@ CutBareBump = Cuts
       frames = None ∷ None ∷ [];
     })
     (Bare ∷ Bump 8 ∷ Refresh 0 ∷ Take ∷ Bump 8 ∷ Done 1 ∷ Bump 8 ∷ [])
-    (Ok (Bumped 4) ∷ Err DrainFull ∷ Ok (Entered 5 (record { read_only = 0; head = 0; tail = 0 })) ∷ Ok (Taken 1)
-    ∷ Err DrainFull ∷ Ok (Ran 5) ∷ Ok (Ticket 5) ∷ [])
+    (Ok (Bumped 4) ∷ Err DrainFull ∷ Ok (Entered 5 (record { read_only = 0; head = 0; tail = 0 }))
+    ∷ Ok (Taken 1) ∷ Err DrainFull ∷ Ok (Ran 5) ∷ Ok (Ticket 5) ∷ [])
     (record {
       sizes = small;
       epoch = 6;
