@@ -1,4 +1,4 @@
-use Rattle.std.proofs.Common.{[], replicate, sym, ap, ◌∙◌}
+use Rattle.std.proofs.Common.{[], replicate, sym, ap, ◌∙◌, arith}
 use Rattle.hl_model.specs.Sizes.{Sizes}
 use Rattle.hl_domain.proofs.KeeperLaws.{opened}
 use Rattle.hl_domain.proofs.keeper.Keeper.open.Goals as goal
