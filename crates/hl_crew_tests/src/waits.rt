@@ -128,19 +128,14 @@ where
         failed,
         ..
     } = end;
-    let [flushing, first, second, cleaning] = riders;
-    let [one, two] = writers;
-    assert!(rt; written == 1 && failed == 1 && one.failures() == 0 && two.failures() == 1);
+    assert!(rt; written == 1 && failed == 1);
+    for (writer, failures) in writers.iter().zip([0, 1]) {
+        assert_eq!(rt; writer.failures(), failures);
+    }
     // A raise, a settle, its take and its done, and two pages taken and ended.
-    assert_eq!(rt;
-        [
-            flushing.share(),
-            first.share(),
-            second.share(),
-            cleaning.share()
-        ],
-        [8, 0, 0, 0]
-    );
+    for (rider, share) in riders.iter().zip([8, 0, 0, 0]) {
+        assert_eq!(rt; rider.share(), share);
+    }
     assert_eq!(rt; rider.share(), 5);
     Ok(())
 }
