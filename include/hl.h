@@ -107,10 +107,10 @@ typedef struct hl_quantities {
 
 /* ---- A core. Every call below but hl_open answers HL_NO_CORE, and changes nothing, where none is open. ---- */
 
-/* Opens a core at the empty list: page_words words a page, a power of two from 4 to 4,096; 2 to 256 frames; 1 to 64
+/* Opens a core at the empty list: page_size words a page, a power of two from 4 to 4,096; 2 to 256 frames; 1 to 64
  * slots; 1 to 64 places in the drain list. 0 where it did. HL_NO_CORE where one is open already, which stays;
  * HL_OUT_OF_RANGE where a size is; HL_OUT_OF_MEMORY where malloc refused. */
-uint64_t hl_open(hl_core *core, uint64_t page_words, uint64_t frames, uint64_t slots, uint64_t drain_places);
+uint64_t hl_open(hl_core *core, uint64_t page_size, uint64_t frames, uint64_t slots, uint64_t drain_places);
 
 /* Frees the core; the handle is then all zero, and may be opened again. 0, or HL_NO_CORE where none was open. */
 uint64_t hl_free(hl_core *core);
@@ -175,7 +175,7 @@ hl_brief hl_write(hl_core *core, uint64_t slot, uint64_t address, uint64_t value
  * HL_BEYOND: at the view's tail or above. */
 hl_brief hl_read(hl_core *core, uint64_t slot, uint64_t address);
 
-/* ---- Pages. Page p has the addresses from p * page_words on, and lies in frame p modulo the frames. ---- */
+/* ---- Pages. Page p has the addresses from p * page_size on, and lies in frame p modulo the frames. ---- */
 
 /* Takes the least sealed page that is neither flushed nor in flight: a the page. HL_NONE_SEALED: there is none. */
 hl_brief hl_flush_take(hl_core *core);

@@ -11,7 +11,7 @@ use std::alloc::Global;
 #[derive(Drop)]
 struct Asked {
     alloc: Global,
-    page: u64,
+    page_size: u64,
     frames: u64,
     slots: u64,
     drain: u64,
@@ -24,18 +24,18 @@ struct Asked {
 pub extern "C" fn hl_open(
     alloc: Global,
     handle: &mut Handle,
-    page: u64,
+    page_size: u64,
     frames: u64,
     slots: u64,
     drain: u64,
 ) -> u64
     ensures { Opens handle.old.slot.value
-        (record { page = page; frames = frames; slots = slots; drain = drain })
+        (record { page_size = page_size; frames = frames; slots = slots; drain = drain })
         handle.new.slot.value result }
 {
     let asked = Asked {
         alloc,
-        page,
+        page_size,
         frames,
         slots,
         drain,
@@ -54,13 +54,19 @@ pub extern "C" fn hl_free(alloc: Global, handle: &mut Handle) -> u64
 
 fn opened(handle: Handle, asked: Asked) -> (Handle, u64)
     ensures { Opens handle.slot.value
-        (record { page = asked.page; frames = asked.frames; slots = asked.slots; drain = asked.drain })
+        (record {
+          page_size = asked.page_size;
+          frames = asked.frames;
+          slots = asked.slots;
+          drain = asked.drain;
+        })
         result.0.slot.value result.1 }
 {
     if handle.live != 0 {
         return (handle, 255);
     }
-    let Some(params) = Params::checked(asked.page, asked.frames, asked.slots, asked.drain) else {
+    let Some(params) = Params::checked(asked.page_size, asked.frames, asked.slots, asked.drain)
+    else {
         return (handle, 254);
     };
     match boxed(asked.alloc, params) {

@@ -54,7 +54,7 @@ is_quiet (Read t a) = false
 is_quiet (CleanDone page) = false
 is_quiet _ = true
 
-quiet_cells : (sizes : Sizes) (A : List Step) (s : Step) → is_quiet s ≡ true → 0 < sizes.page → 0 < sizes.frames → IsAccepted sizes A → fault_of sizes A s ≡ None → cell_words sizes (A ++ s ∷ []) ≡ cell_words sizes A
+quiet_cells : (sizes : Sizes) (A : List Step) (s : Step) → is_quiet s ≡ true → 0 < sizes.page_size → 0 < sizes.frames → IsAccepted sizes A → fault_of sizes A s ≡ None → cell_words sizes (A ++ s ∷ []) ≡ cell_words sizes A
 quiet_cells sizes A (Allocate t n) e page frames acc h = cells-allocate sizes A t n page frames acc h
 quiet_cells sizes A (Write t a v) e page frames acc h = cc
 quiet_cells sizes A (CleanDone p) e page frames acc h = cc
@@ -92,8 +92,8 @@ module _ {F : Type 0} where
     held_is = subst (λ (z : Sizes). Holds z B held) (sym same) h;
   }
 
-  page_some : (engine : Whole F) (A : List Step) → EngineStands engine A → 0 < engine.core.sizes.page
-  page_some engine A st = omega (arith, st.core_stands.in_range.page_least)
+  page_some : (engine : Whole F) (A : List Step) → EngineStands engine A → 0 < engine.core.sizes.page_size
+  page_some engine A st = omega (arith, st.core_stands.in_range.page_size_least)
 
   frames_some : (engine : Whole F) (A : List Step) → EngineStands engine A → 0 < engine.core.sizes.frames
   frames_some engine A st = omega (arith, st.core_stands.in_range.frames_least)
@@ -163,7 +163,7 @@ module _ {F : Type 0} where
       (holds-quiet engine.core.sizes A (Write t a v) engine.held st.core_stands.accepted refl (λ c. refl) st.held_is)
 
   -- a clean done zeroes the cells of its page's frame
-  pub moved_zeroed : (keeps : ℕ → FiringRecord → ℕ → Type 0) (engine : Whole F) (A : List Step) (p start len : ℕ) (core_new : State (KeptRecord F)) (before words : List ℕ) (r : Reply) → EngineStands engine A → Stepped job_tag engine.core A (CleanDone p) core_new (Ok r) → start ≡ p % engine.core.sizes.frames * engine.core.sizes.page → len ≡ engine.core.sizes.page → before ≡ engine.words → words ≡ take start before ++ (replicate len 0 ++ drop (start + len) before) → Moved keeps engine A (CleanDone p) (record { core = core_new; words = words; held = engine.held }) (Ok r)
+  pub moved_zeroed : (keeps : ℕ → FiringRecord → ℕ → Type 0) (engine : Whole F) (A : List Step) (p start len : ℕ) (core_new : State (KeptRecord F)) (before words : List ℕ) (r : Reply) → EngineStands engine A → Stepped job_tag engine.core A (CleanDone p) core_new (Ok r) → start ≡ p % engine.core.sizes.frames * engine.core.sizes.page_size → len ≡ engine.core.sizes.page_size → before ≡ engine.words → words ≡ take start before ++ (replicate len 0 ++ drop (start + len) before) → Moved keeps engine A (CleanDone p) (record { core = core_new; words = words; held = engine.held }) (Ok r)
   moved_zeroed keeps engine A p start len core_new before words r st moved s l w zeroed =
       let h = (free_of engine A (CleanDone p) core_new r moved).0 in
       moved_accepted keeps engine A (CleanDone p) core_new words engine.held (Ok r) (Ok r) moved h
@@ -255,11 +255,11 @@ module _ {F : Type 0} where
       kind_is = ap kind_or_job_0 (action_at-done c A ∙ found.listed_as)
 
   -- an engine has F * P words
-  pub words_length : (engine : Whole F) → IsEngine engine → length engine.words ≡ engine.core.sizes.frames * engine.core.sizes.page
+  pub words_length : (engine : Whole F) → IsEngine engine → length engine.words ≡ engine.core.sizes.frames * engine.core.sizes.page_size
   words_length engine at = ap length at.1.words_is ∙ length-cell_words engine.core.sizes at.0
 
   -- the word at an address that may be read
-  pub read_word : (engine : Whole F) (A : List Step) (t a cell d : ℕ) → EngineStands engine A → fault_of engine.core.sizes A (Read t a) ≡ None → cell ≡ cell_at engine.core.sizes a → cell < engine.core.sizes.frames * engine.core.sizes.page → get_or engine.words cell d ≡ word a A
+  pub read_word : (engine : Whole F) (A : List Step) (t a cell d : ℕ) → EngineStands engine A → fault_of engine.core.sizes A (Read t a) ≡ None → cell ≡ cell_at engine.core.sizes a → cell < engine.core.sizes.frames * engine.core.sizes.page_size → get_or engine.words cell d ≡ word a A
   read_word engine A t a cell d st h at within =
       ap (λ ws. get_or ws cell d) st.words_is
       ∙ cell_words-at engine.core.sizes A cell d within
@@ -267,8 +267,8 @@ module _ {F : Type 0} where
       ∙ cells-read engine.core.sizes A t a (page_some engine A st) (frames_some engine A st) st.core_stands.accepted h
 
   -- the words of a page that its frame shows
-  pub page_shown : (engine : Whole F) (A : List Step) (p : ℕ) → EngineStands engine A → shown_page engine.core.sizes (p % engine.core.sizes.frames) A ≡ Some p → take engine.core.sizes.page (drop (p % engine.core.sizes.frames * engine.core.sizes.page) engine.words) ≡ page_words engine.core.sizes p A
-  page_shown engine A p st shown = ap (λ ws. take engine.core.sizes.page (drop (p % engine.core.sizes.frames * engine.core.sizes.page) ws)) st.words_is ∙ sym (cells-page engine.core.sizes A p (page_some engine A st) (frames_some engine A st) shown)
+  pub page_shown : (engine : Whole F) (A : List Step) (p : ℕ) → EngineStands engine A → shown_page engine.core.sizes (p % engine.core.sizes.frames) A ≡ Some p → take engine.core.sizes.page_size (drop (p % engine.core.sizes.frames * engine.core.sizes.page_size) engine.words) ≡ page_words engine.core.sizes p A
+  page_shown engine A p st shown = ap (λ ws. take engine.core.sizes.page_size (drop (p % engine.core.sizes.frames * engine.core.sizes.page_size) ws)) st.words_is ∙ sym (cells-page engine.core.sizes A p (page_some engine A st) (frames_some engine A st) shown)
 
   -- what a frame shows is told by the core: it shows the same at each list where the engine stands
   pub shown_alike : (engine : Whole F) (A B : List Step) (f : ℕ) → EngineStands engine A → EngineStands engine B → f < engine.core.sizes.frames → shown_page engine.core.sizes f A ≡ shown_page engine.core.sizes f B
@@ -288,11 +288,11 @@ module _ {F : Type 0} where
       shown_held A (Some p) = refl
 
   -- a page's cells lie in the row
-  pub page_fits : (engine : Whole F) (p start len : ℕ) (words : List ℕ) → IsEngine engine → start ≡ p % engine.core.sizes.frames * engine.core.sizes.page → len ≡ engine.core.sizes.page → words ≡ engine.words → start + len ≤ length words
+  pub page_fits : (engine : Whole F) (p start len : ℕ) (words : List ℕ) → IsEngine engine → start ≡ p % engine.core.sizes.frames * engine.core.sizes.page_size → len ≡ engine.core.sizes.page_size → words ≡ engine.words → start + len ≤ length words
   page_fits engine p start len words at s l w = omega (arith, s, l, ap length w, words_length engine at, frame_fits engine.core.sizes p (frames_some engine at.0 at.1))
 
   -- these words are those of a page that the engine has in its frame
-  pub page_words_of : (engine : Whole F) (A : List Step) (p start len : ℕ) (words : List ℕ) → Shows engine p → EngineStands engine A → start ≡ p % engine.core.sizes.frames * engine.core.sizes.page → len ≡ engine.core.sizes.page → words ≡ engine.words → take len (drop start words) ≡ page_words engine.core.sizes p A
+  pub page_words_of : (engine : Whole F) (A : List Step) (p start len : ℕ) (words : List ℕ) → Shows engine p → EngineStands engine A → start ≡ p % engine.core.sizes.frames * engine.core.sizes.page_size → len ≡ engine.core.sizes.page_size → words ≡ engine.words → take len (drop start words) ≡ page_words engine.core.sizes p A
   page_words_of engine A p start len words shows st s l w =
       ap (λ ws. take len (drop start ws)) w
       ∙ ap₂ (λ i n. take n (drop i engine.words)) s l
@@ -307,17 +307,17 @@ module _ {F : Type 0} where
       moved_err keeps engine A (Read t a) engine.core f st (refused_step job_tag engine.core A (Read t a) f st.core_stands (unless_err (fault_of engine.core.sizes A (Read t a)) f (word a A) h))
 
   -- an engine that was just opened
-  pub engine_opens : (sizes : Sizes) (core : State (KeptRecord F)) (words : List ℕ) (held : Row F) (cells places : ℕ) → Stands job_tag core [] × (core.sizes ≡ sizes) → words ≡ replicate cells 0 → cells ≡ sizes.frames * sizes.page → held ≡ record { room = places; actions = [] } → places ≡ sizes.drain → EngineStands (record { core = core; words = words; held = held }) []
+  pub engine_opens : (sizes : Sizes) (core : State (KeptRecord F)) (words : List ℕ) (held : Row F) (cells places : ℕ) → Stands job_tag core [] × (core.sizes ≡ sizes) → words ≡ replicate cells 0 → cells ≡ sizes.frames * sizes.page_size → held ≡ record { room = places; actions = [] } → places ≡ sizes.drain → EngineStands (record { core = core; words = words; held = held }) []
   engine_opens sizes core words held cells places opened w c h p =
       engine_stands sizes core words held [] opened.1 opened.0
-      (w ∙ ap (λ n. replicate n 0) c ∙ sym (cells-nil sizes (omega (arith, opened.0.in_range.page_least, ap (λ (z : Sizes). z.page) opened.1))))
+      (w ∙ ap (λ n. replicate n 0) c ∙ sym (cells-nil sizes (omega (arith, opened.0.in_range.page_size_least, ap (λ (z : Sizes). z.page_size) opened.1))))
       (holds-nil sizes held (h ∙ ap (λ n. row_of n) p))
     where
       row_of : ℕ → Row F
       row_of n = record { room = n; actions = [] }
 
   -- a read that is checked and finds this word
-  pub found_word : (engine : Whole F) (A : List Step) (t a v cell d : ℕ) → EngineStands engine A → Accepted (fault_of engine.core.sizes A (Read t a)) → cell ≡ cell_at engine.core.sizes a → cell < engine.core.sizes.frames * engine.core.sizes.page → v ≡ get_or engine.words cell d → Ok v ≡ unless_fault (fault_of engine.core.sizes A (Read t a)) (word a A)
+  pub found_word : (engine : Whole F) (A : List Step) (t a v cell d : ℕ) → EngineStands engine A → Accepted (fault_of engine.core.sizes A (Read t a)) → cell ≡ cell_at engine.core.sizes a → cell < engine.core.sizes.frames * engine.core.sizes.page_size → v ≡ get_or engine.words cell d → Ok v ≡ unless_fault (fault_of engine.core.sizes A (Read t a)) (word a A)
   found_word engine A t a v cell d st free at within is =
       let h = (unless_ok {X = Unit {0}} (fault_of engine.core.sizes A (Read t a)) tt tt free).0 in
       ap (λ z. Ok z) (is ∙ read_word engine A t a cell d st h at within) ∙ sym (ap (λ (o : Option Fault). unless_fault o (word a A)) h)

@@ -72,7 +72,7 @@ shown-some sizes f p A h = by_last (last_entered sizes f A) refl
     by_last (Some q) l = by_test q l (is_freed sizes q A) refl
 
 -- a frame of a shown page is the page's
-pub shown-frame : (sizes : Sizes) (f p : ℕ) (A : List Step) → 0 < sizes.page → 0 < sizes.frames → shown_page sizes f A ≡ Some p → p % sizes.frames ≡ f
+pub shown-frame : (sizes : Sizes) (f p : ℕ) (A : List Step) → 0 < sizes.page_size → 0 < sizes.frames → shown_page sizes f A ≡ Some p → p % sizes.frames ≡ f
 shown-frame sizes f p A page frames h =
     let last : IsLastOf sizes f p A = last_entered-some sizes f p A page frames (shown-some sizes f p A h).0 in last.of_frame
 
@@ -88,11 +88,11 @@ shown-same sizes f A s l h =
     ∙ sym (shown-is sizes f A)
 
 -- an allocation in an entered page leaves the last entered pages
-last_entered-within : (sizes : Sizes) (f : ℕ) (A : List Step) (t n : ℕ) → 0 < sizes.page → 0 < sizes.frames → f < sizes.frames → HasRoom sizes A n → is_entered sizes (place_of sizes.page (tail sizes A) n / sizes.page) A ≡ true → last_entered sizes f (A ++ Allocate t n ∷ []) ≡ last_entered sizes f A
+last_entered-within : (sizes : Sizes) (f : ℕ) (A : List Step) (t n : ℕ) → 0 < sizes.page_size → 0 < sizes.frames → f < sizes.frames → HasRoom sizes A n → is_entered sizes (place_of sizes.page_size (tail sizes A) n / sizes.page_size) A ≡ true → last_entered sizes f (A ++ Allocate t n ∷ []) ≡ last_entered sizes f A
 last_entered-within sizes f A t n page frames below room entered = by_cases (last_entered-cases sizes f A page below)
   where
     q : ℕ
-    q = place_of sizes.page (tail sizes A) n / sizes.page
+    q = place_of sizes.page_size (tail sizes A) n / sizes.page_size
 
     same : (p : ℕ) → is_entered sizes p (A ++ Allocate t n ∷ []) ≡ is_entered sizes p A
     same p = is_entered-allocate sizes p A t n page room.least room.most ∙ by_eq (cases_eq p q)
@@ -116,11 +116,11 @@ pub record Enters (sizes : Sizes) (f : ℕ) (A : List Step) (s : Step) : Type 0 
   pub after : last_entered sizes f (A ++ s ∷ []) ≡ Some page
 
 -- one of the two
-pub shown-allocate : (sizes : Sizes) (f : ℕ) (A : List Step) (t n : ℕ) → 0 < sizes.page → 0 < sizes.frames → f < sizes.frames → fault_of sizes A (Allocate t n) ≡ None → (shown_page sizes f (A ++ Allocate t n ∷ []) ≡ shown_page sizes f A) ⊎ Enters sizes f A (Allocate t n)
+pub shown-allocate : (sizes : Sizes) (f : ℕ) (A : List Step) (t n : ℕ) → 0 < sizes.page_size → 0 < sizes.frames → f < sizes.frames → fault_of sizes A (Allocate t n) ≡ None → (shown_page sizes f (A ++ Allocate t n ∷ []) ≡ shown_page sizes f A) ⊎ Enters sizes f A (Allocate t n)
 shown-allocate sizes f A t n page frames below free = by_entered (is_entered sizes q A) refl
   where
     q : ℕ
-    q = place_of sizes.page (tail sizes A) n / sizes.page
+    q = place_of sizes.page_size (tail sizes A) n / sizes.page_size
 
     room : HasRoom sizes A n
     room = allocate-room sizes A t n free
@@ -157,25 +157,25 @@ shown-allocate sizes f A t n page frames below free = by_entered (is_entered siz
     by_entered false e = by_frame e (cases_eq (q % sizes.frames) f)
 
 -- an address from the closed offset up to the tail is on a page that its frame shows
-pub shown-within : (sizes : Sizes) (A : List Step) (a : ℕ) → 0 < sizes.page → 0 < sizes.frames → IsAccepted sizes A → closed A ≤ a → a < tail sizes A → shown_page sizes (a / sizes.page % sizes.frames) A ≡ Some (a / sizes.page)
-shown-within sizes A a page frames acc least below = by_freed (is_freed sizes (a / sizes.page) A) refl
+pub shown-within : (sizes : Sizes) (A : List Step) (a : ℕ) → 0 < sizes.page_size → 0 < sizes.frames → IsAccepted sizes A → closed A ≤ a → a < tail sizes A → shown_page sizes (a / sizes.page_size % sizes.frames) A ≡ Some (a / sizes.page_size)
+shown-within sizes A a page frames acc least below = by_freed (is_freed sizes (a / sizes.page_size) A) refl
   where
-    start : a / sizes.page * sizes.page ≤ a
-    start = omega (arith, div-add-mod' a sizes.page)
+    start : a / sizes.page_size * sizes.page_size ≤ a
+    start = omega (arith, div-add-mod' a sizes.page_size)
 
-    entered : is_entered sizes (a / sizes.page) A ≡ true
-    entered = lt-ltb (a / sizes.page * sizes.page) (tail sizes A) (omega (arith, start, below))
+    entered : is_entered sizes (a / sizes.page_size) A ≡ true
+    entered = lt-ltb (a / sizes.page_size * sizes.page_size) (tail sizes A) (omega (arith, start, below))
 
-    by_freed : (b : Bool) → is_freed sizes (a / sizes.page) A ≡ b → shown_page sizes (a / sizes.page % sizes.frames) A ≡ Some (a / sizes.page)
+    by_freed : (b : Bool) → is_freed sizes (a / sizes.page_size) A ≡ b → shown_page sizes (a / sizes.page_size % sizes.frames) A ≡ Some (a / sizes.page_size)
     by_freed true e =
-        let ends : (a / sizes.page + 1) * sizes.page ≤ closed A = freed_closed sizes A (a / sizes.page) page acc e in
-        let more : (a / sizes.page + 1) * sizes.page ≡ a / sizes.page * sizes.page + sizes.page = omega arith in
-        let within : a < a / sizes.page * sizes.page + sizes.page = lt-div-mul-add page in
+        let ends : (a / sizes.page_size + 1) * sizes.page_size ≤ closed A = freed_closed sizes A (a / sizes.page_size) page acc e in
+        let more : (a / sizes.page_size + 1) * sizes.page_size ≡ a / sizes.page_size * sizes.page_size + sizes.page_size = omega arith in
+        let within : a < a / sizes.page_size * sizes.page_size + sizes.page_size = lt-div-mul-add page in
         absurd (omega (arith, ends, more, within, least))
-    by_freed false e = shown-last sizes (a / sizes.page % sizes.frames) (a / sizes.page) A (unfreed_last sizes A (a / sizes.page) page frames acc entered e) e
+    by_freed false e = shown-last sizes (a / sizes.page_size % sizes.frames) (a / sizes.page_size) A (unfreed_last sizes A (a / sizes.page_size) page frames acc entered e) e
 
 -- so is what may be written
-pub shown-written : (sizes : Sizes) (A : List Step) (t a v : ℕ) → 0 < sizes.page → 0 < sizes.frames → IsAccepted sizes A → fault_of sizes A (Write t a v) ≡ None → shown_page sizes (a / sizes.page % sizes.frames) A ≡ Some (a / sizes.page)
+pub shown-written : (sizes : Sizes) (A : List Step) (t a v : ℕ) → 0 < sizes.page_size → 0 < sizes.frames → IsAccepted sizes A → fault_of sizes A (Write t a v) ≡ None → shown_page sizes (a / sizes.page_size % sizes.frames) A ≡ Some (a / sizes.page_size)
 shown-written sizes A t a v page frames acc free =
     let parts : (protected_fault sizes A t ≡ None) × (seen_read_only t A ≤ a) × (a < seen_tail sizes t A) = write-none sizes A t a v free in
     let bounds : (safe_read_only A ≤ seen_read_only t A) × (closed A ≤ seen_head t A) = views_are_bounded sizes A t acc (protected-none sizes A t parts.0).1 in
@@ -184,14 +184,14 @@ shown-written sizes A t a v page frames acc free =
     (omega (arith, seen_tail-le sizes t A page, parts.2))
 
 -- and what may be read
-pub shown-read : (sizes : Sizes) (A : List Step) (t a : ℕ) → 0 < sizes.page → 0 < sizes.frames → IsAccepted sizes A → fault_of sizes A (Read t a) ≡ None → shown_page sizes (a / sizes.page % sizes.frames) A ≡ Some (a / sizes.page)
+pub shown-read : (sizes : Sizes) (A : List Step) (t a : ℕ) → 0 < sizes.page_size → 0 < sizes.frames → IsAccepted sizes A → fault_of sizes A (Read t a) ≡ None → shown_page sizes (a / sizes.page_size % sizes.frames) A ≡ Some (a / sizes.page_size)
 shown-read sizes A t a page frames acc free =
     let parts : (protected_fault sizes A t ≡ None) × (seen_head t A ≤ a) × (a < seen_tail sizes t A) = read-none sizes A t a free in
     let bounds : (safe_read_only A ≤ seen_read_only t A) × (closed A ≤ seen_head t A) = views_are_bounded sizes A t acc (protected-none sizes A t parts.0).1 in
     shown-within sizes A a page frames acc (omega (arith, bounds.1, parts.1)) (omega (arith, seen_tail-le sizes t A page, parts.2))
 
 -- a page's cleaning ends: its frame shows none
-pub shown-cleaned : (sizes : Sizes) (A : List Step) (p : ℕ) → 0 < sizes.page → 0 < sizes.frames → IsAccepted sizes A → fault_of sizes A (CleanDone p) ≡ None → shown_page sizes (p % sizes.frames) (A ++ CleanDone p ∷ []) ≡ None
+pub shown-cleaned : (sizes : Sizes) (A : List Step) (p : ℕ) → 0 < sizes.page_size → 0 < sizes.frames → IsAccepted sizes A → fault_of sizes A (CleanDone p) ≡ None → shown_page sizes (p % sizes.frames) (A ++ CleanDone p ∷ []) ≡ None
 shown-cleaned sizes A p page frames acc free =
     shown-freed sizes (p % sizes.frames) p (A ++ CleanDone p ∷ [])
     (last_entered-stay sizes (p % sizes.frames) A (CleanDone p) refl ∙ cleaning_last sizes A p page frames acc (clean_done-none sizes A p free))
@@ -202,7 +202,7 @@ shown-cleaned sizes A p page frames acc free =
     or_true false = refl
 
 -- and other frames what they showed
-pub shown-elsewhere : (sizes : Sizes) (A : List Step) (p f : ℕ) → 0 < sizes.page → 0 < sizes.frames → p % sizes.frames ≢ f → shown_page sizes f (A ++ CleanDone p ∷ []) ≡ shown_page sizes f A
+pub shown-elsewhere : (sizes : Sizes) (A : List Step) (p f : ℕ) → 0 < sizes.page_size → 0 < sizes.frames → p % sizes.frames ≢ f → shown_page sizes f (A ++ CleanDone p ∷ []) ≡ shown_page sizes f A
 shown-elsewhere sizes A p f page frames other =
     shown-same sizes f A (CleanDone p) (last_entered-stay sizes f A (CleanDone p) refl)
     (λ q l. let last : IsLastOf sizes f q A = last_entered-some sizes f q A page frames l in ne_eqb p q (λ e. other (ap (λ z. z % sizes.frames) e ∙ last.of_frame)))

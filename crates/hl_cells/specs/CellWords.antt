@@ -13,16 +13,16 @@ shown_page sizes f A = (frame_of sizes f A).1
 -- the k-th word of a page, and 0 where there is none
 abbrev pub word_of_page : Sizes → List Step → ℕ → Option ℕ → ℕ
 word_of_page sizes A k None = 0
-word_of_page sizes A k (Some p) = word (p * sizes.page + k) A
+word_of_page sizes A k (Some p) = word (p * sizes.page_size + k) A
 
 -- what cell c holds: its word of the page that its frame shows
 unfoldable pub cell_word : Sizes → List Step → ℕ → ℕ
-cell_word sizes A c = word_of_page sizes A (c % sizes.page) (shown_page sizes (c / sizes.page) A)
+cell_word sizes A c = word_of_page sizes A (c % sizes.page_size) (shown_page sizes (c / sizes.page_size) A)
 
 -- what all cells hold, frame by frame
 unfoldable pub cell_words : Sizes → List Step → List ℕ
-cell_words sizes A = map (cell_word sizes A) (range_with_len 0 (sizes.frames * sizes.page))
+cell_words sizes A = map (cell_word sizes A) (range_with_len 0 (sizes.frames * sizes.page_size))
 
 -- the cell of address a
 abbrev pub cell_at : Sizes → ℕ → ℕ
-cell_at sizes a = a / sizes.page % sizes.frames * sizes.page + a % sizes.page
+cell_at sizes a = a / sizes.page_size % sizes.frames * sizes.page_size + a % sizes.page_size

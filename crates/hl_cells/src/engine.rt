@@ -52,7 +52,7 @@ impl<E: Epochs + Drop, F: Task, P: Promise> Engine<E, F, P> {
         ensures err { IfErr result (λ fault. fault ≡ Fault.OutOfMemory) }
     {
         let core = Core::open(alloc, params)?;
-        let words = Cells::zeros(alloc, params.frames() * params.page())?;
+        let words = Cells::zeros(alloc, params.frames() * params.page_size())?;
         let held = TakenActions::open(alloc, params.drain())?;
         Ok(Engine { core, words, held })
     }

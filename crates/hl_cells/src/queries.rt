@@ -34,7 +34,7 @@ impl<E: Epochs, F: Task, P: Promise> Engine<E, F, P> {
     /// The six offsets.
     pub fn six(&self) -> Six
         ensures value { (A : List Step) → EngineStands self.now A → result ≡ six self.now.core.sizes A }
-        ensures in_order { AreInOrder self.now.core.sizes.page result }
+        ensures in_order { AreInOrder self.now.core.sizes.page_size result }
     {
         self.core.six()
     }

@@ -60,23 +60,23 @@ impl<E: Epochs + Drop, F: Task, P: Promise> Engine<E, F, P> {
     /// The cell of address a.
     fn cell_of(&self, a: u64) -> usize
         ensures value { let sizes = self.now.core.sizes in result ≡ cell_at sizes a }
-        ensures in_range { let sizes = self.now.core.sizes in result < sizes.frames * sizes.page }
+        ensures in_range { let sizes = self.now.core.sizes in result < sizes.frames * sizes.page_size }
     {
         cell_of(self.core.params(), a) as usize
     }
 
     /// The cell of a page's first word.
     pub(crate) fn first_cell(&self, page: u64) -> usize
-        ensures { let sizes = self.now.core.sizes in result ≡ page % sizes.frames * sizes.page }
+        ensures { let sizes = self.now.core.sizes in result ≡ page % sizes.frames * sizes.page_size }
     {
         let params = self.core.params();
-        (page % params.frames() * params.page()) as usize
+        (page % params.frames() * params.page_size()) as usize
     }
 
     /// The words of a page.
     pub(crate) fn page_len(&self) -> usize
-        ensures { result ≡ self.now.core.sizes.page }
+        ensures { result ≡ self.now.core.sizes.page_size }
     {
-        self.core.params().page() as usize
+        self.core.params().page_size() as usize
     }
 }

@@ -48,43 +48,43 @@ module _ {J : Type 0} (tag : J → ℕ) (core : State J) where
 
   -- the place of a record is told, or its fault
   abbrev pub PlacedAs : ℕ → Result ℕ Fault → Type 0
-  PlacedAs n told = told ≡ unless_fault (size_fault core.offsets.page core.offsets.tail n) (place_of core.offsets.page core.offsets.tail n)
+  PlacedAs n told = told ≡ unless_fault (size_fault core.offsets.page_size core.offsets.tail n) (place_of core.offsets.page_size core.offsets.tail n)
 
   -- a slot with a view is protected
   seen_none : (A : List Step) (t : ℕ) (view : View) → Stands tag core A → SeenAs t (Ok view) → (protected_fault core.sizes A t ≡ None) × (view ≡ view_of core.sizes t A)
   seen_none A t view st seen = unless_ok (protected_fault core.sizes A t) view (view_of core.sizes t A) (seen A st)
 
   -- the size is judged by the list's page and tail
-  size_same : (A : List Step) (n : ℕ) → Stands tag core A → size_fault core.offsets.page core.offsets.tail n ≡ size_fault core.sizes.page (tail core.sizes A) n
-  size_same A n st = ap (λ log. size_fault log.page log.tail n) st.offsets_is
+  size_same : (A : List Step) (n : ℕ) → Stands tag core A → size_fault core.offsets.page_size core.offsets.tail n ≡ size_fault core.sizes.page_size (tail core.sizes A) n
+  size_same A n st = ap (λ log. size_fault log.page_size log.tail n) st.offsets_is
 
   -- and so is the place
-  place_same : (A : List Step) (n : ℕ) → Stands tag core A → place_of core.offsets.page core.offsets.tail n ≡ place_of core.sizes.page (tail core.sizes A) n
-  place_same A n st = ap (λ log. place_of log.page log.tail n) st.offsets_is
+  place_same : (A : List Step) (n : ℕ) → Stands tag core A → place_of core.offsets.page_size core.offsets.tail n ≡ place_of core.sizes.page_size (tail core.sizes A) n
+  place_same A n st = ap (λ log. place_of log.page_size log.tail n) st.offsets_is
 
   -- a record that is placed has no fault of its size, and lies there
-  placed_ok : (A : List Step) (n place : ℕ) → Stands tag core A → PlacedAs n (Ok place) → (size_fault core.sizes.page (tail core.sizes A) n ≡ None) × (place ≡ place_of core.sizes.page (tail core.sizes A) n)
+  placed_ok : (A : List Step) (n place : ℕ) → Stands tag core A → PlacedAs n (Ok place) → (size_fault core.sizes.page_size (tail core.sizes A) n ≡ None) × (place ≡ place_of core.sizes.page_size (tail core.sizes A) n)
   placed_ok A n place st h =
-      let told = unless_ok (size_fault core.offsets.page core.offsets.tail n) place (place_of core.offsets.page core.offsets.tail n) h in
+      let told = unless_ok (size_fault core.offsets.page_size core.offsets.tail n) place (place_of core.offsets.page_size core.offsets.tail n) h in
       (sym (size_same A n st) ∙ told.0, told.1 ∙ place_same A n st)
 
   -- the fault of an allocation by a protected slot
-  fault_is : (A : List Step) (t n : ℕ) (o : Option Fault) → protected_fault core.sizes A t ≡ None → size_fault core.sizes.page (tail core.sizes A) n ≡ o → fault_of core.sizes A (Allocate t n) ≡ or_fault o (page_fault core.sizes A (place_of core.sizes.page (tail core.sizes A) n / core.sizes.page))
+  fault_is : (A : List Step) (t n : ℕ) (o : Option Fault) → protected_fault core.sizes A t ≡ None → size_fault core.sizes.page_size (tail core.sizes A) n ≡ o → fault_of core.sizes A (Allocate t n) ≡ or_fault o (page_fault core.sizes A (place_of core.sizes.page_size (tail core.sizes A) n / core.sizes.page_size))
   fault_is A t n o seated size =
       ap (λ f. or_fault f (allocate_fault core.sizes A n)) seated
-      ∙ ap (λ f. or_fault f (page_fault core.sizes A (place_of core.sizes.page (tail core.sizes A) n / core.sizes.page))) size
+      ∙ ap (λ f. or_fault f (page_fault core.sizes A (place_of core.sizes.page_size (tail core.sizes A) n / core.sizes.page_size))) size
 
   -- the page of a place that was told
-  page_is : (A : List Step) (n place page : ℕ) → Stands tag core A → PlacedAs n (Ok place) → page ≡ core.sizes.page → place / page ≡ place_of core.sizes.page (tail core.sizes A) n / core.sizes.page
-  page_is A n place page st h is = ap₂ (λ a b. a / b) (placed_ok A n place st h).1 is
+  page_is : (A : List Step) (n place page_size : ℕ) → Stands tag core A → PlacedAs n (Ok place) → page_size ≡ core.sizes.page_size → place / page_size ≡ place_of core.sizes.page_size (tail core.sizes A) n / core.sizes.page_size
+  page_is A n place page_size st h is = ap₂ (λ a b. a / b) (placed_ok A n place st h).1 is
 
   -- what an allocation would be answered
-  pub may_allocate_told : (t n place page : ℕ) (view : View) (b : Bool) → SeenAs t (Ok view) → PlacedAs n (Ok place) → page ≡ core.sizes.page → ((A : List Step) → Stands tag core A → (is_entered core.sizes (place / page) A || may_enter core.sizes (place / page) A) ≡ b) → (A : List Step) → Stands tag core A → unless_fault (cond b None (Some (Busy (place / page)))) place ≡ unless_fault (fault_of core.sizes A (Allocate t n)) (place_of core.sizes.page (tail core.sizes A) n)
-  may_allocate_told t n place page view b seen placed at enters A st =
+  pub may_allocate_told : (t n place page_size : ℕ) (view : View) (b : Bool) → SeenAs t (Ok view) → PlacedAs n (Ok place) → page_size ≡ core.sizes.page_size → ((A : List Step) → Stands tag core A → (is_entered core.sizes (place / page_size) A || may_enter core.sizes (place / page_size) A) ≡ b) → (A : List Step) → Stands tag core A → unless_fault (cond b None (Some (Busy (place / page_size)))) place ≡ unless_fault (fault_of core.sizes A (Allocate t n)) (place_of core.sizes.page_size (tail core.sizes A) n)
+  may_allocate_told t n place page_size view b seen placed at enters A st =
       let told = placed_ok A n place st placed in
-      let there : place / page ≡ place_of core.sizes.page (tail core.sizes A) n / core.sizes.page = page_is A n place page st placed at in
+      let there : place / page_size ≡ place_of core.sizes.page_size (tail core.sizes A) n / core.sizes.page_size = page_is A n place page_size st placed at in
       ap₂ unless_fault
-      (ap (λ e. cond e None (Some (Busy (place / page)))) (sym (enters A st))
+      (ap (λ e. cond e None (Some (Busy (place / page_size)))) (sym (enters A st))
       ∙ ap (page_fault core.sizes A) there
       ∙ sym (fault_is A t n None (seen_none A t view st seen).0 told.0))
       told.1
@@ -92,62 +92,62 @@ module _ {J : Type 0} (tag : J → ℕ) (core : State J) where
   -- an allocation of a bad size
   pub size_refused : (t n : ℕ) (view : View) (f : Fault) → SeenAs t (Ok view) → PlacedAs n (Err f) → Made tag core (Allocate t n) core (Err f)
   size_refused t n view f seen placed A st =
-      let size : size_fault core.sizes.page (tail core.sizes A) n ≡ Some f = sym (size_same A n st) ∙ unless_err (size_fault core.offsets.page core.offsets.tail n) f (place_of core.offsets.page core.offsets.tail n) placed in
+      let size : size_fault core.sizes.page_size (tail core.sizes A) n ≡ Some f = sym (size_same A n st) ∙ unless_err (size_fault core.offsets.page_size core.offsets.tail n) f (place_of core.offsets.page_size core.offsets.tail n) placed in
       refused_step tag core A (Allocate t n) f st (fault_is A t n (Some f) (seen_none A t view st seen).0 size)
 
   -- a page that is entered is the next one
-  pub enter_next : (n place page : ℕ) → IsStanding tag core → PlacedAs n (Ok place) → page ≡ core.sizes.page → EnteredAs (place / page) false → place / page ≡ core.pages.entered
-  enter_next n place page (A, st) placed at unentered =
+  pub enter_next : (n place page_size : ℕ) → IsStanding tag core → PlacedAs n (Ok place) → page_size ≡ core.sizes.page_size → EnteredAs (place / page_size) false → place / page_size ≡ core.pages.entered
+  enter_next n place page_size (A, st) placed at unentered =
       let told = placed_ok A n place st placed in
-      let there : place / page ≡ place_of core.sizes.page (tail core.sizes A) n / core.sizes.page = page_is A n place page st placed at in
+      let there : place / page_size ≡ place_of core.sizes.page_size (tail core.sizes A) n / core.sizes.page_size = page_is A n place page_size st placed at in
       sym (ap (λ (pages : Pages). pages.entered) st.pages_is
-      ∙ new_is_next core.sizes A 0 n (place / page) st.in_range st.accepted told.0 (sym there) (sym (unentered A st)))
+      ∙ new_is_next core.sizes A 0 n (place / page_size) st.in_range st.accepted told.0 (sym there) (sym (unentered A st)))
 
   -- and lies below the last address
-  pub enter_fits : (n place page : ℕ) → IsStanding tag core → PlacedAs n (Ok place) → page ≡ core.sizes.page → place / page < 2 ^ 48 / core.pages.page
-  enter_fits n place page (A, st) placed at =
+  pub enter_fits : (n place page_size : ℕ) → IsStanding tag core → PlacedAs n (Ok place) → page_size ≡ core.sizes.page_size → place / page_size < 2 ^ 48 / core.pages.page_size
+  enter_fits n place page_size (A, st) placed at =
       let told = placed_ok A n place st placed in
-      let there : place / page ≡ place_of core.sizes.page (tail core.sizes A) n / core.sizes.page = page_is A n place page st placed at in
-      subst (λ (q : ℕ). q < 2 ^ 48 / core.pages.page) (sym there)
-      (subst (λ (words : ℕ). place_of core.sizes.page (tail core.sizes A) n / core.sizes.page < 2 ^ 48 / words) (sym (ap (λ (pages : Pages). pages.page) st.pages_is)) (new_within_space core.sizes A n st.in_range told.0))
+      let there : place / page_size ≡ place_of core.sizes.page_size (tail core.sizes A) n / core.sizes.page_size = page_is A n place page_size st placed at in
+      subst (λ (q : ℕ). q < 2 ^ 48 / core.pages.page_size) (sym there)
+      (subst (λ (words : ℕ). place_of core.sizes.page_size (tail core.sizes A) n / core.sizes.page_size < 2 ^ 48 / words) (sym (ap (λ (pages : Pages). pages.page_size) st.pages_is)) (new_within_space core.sizes A n st.in_range told.0))
 
   -- an allocation into a page whose frame isn't free
-  pub enter_refused : (t n place page : ℕ) (view : View) (f : Fault) (pages : Pages) → SeenAs t (Ok view) → PlacedAs n (Ok place) → page ≡ core.sizes.page → EnteredAs (place / page) false → Err f ≡ enter_answer (place / page) core.pages → pages ≡ after_enter (place / page) core.pages → Made tag core (Allocate t n) (record { sizes = core.sizes; table = core.table; views = core.views; drain = core.drain; offsets = core.offsets; pages = pages }) (Err f)
-  enter_refused t n place page view f pages seen placed at unentered h e A st =
+  pub enter_refused : (t n place page_size : ℕ) (view : View) (f : Fault) (pages : Pages) → SeenAs t (Ok view) → PlacedAs n (Ok place) → page_size ≡ core.sizes.page_size → EnteredAs (place / page_size) false → Err f ≡ enter_answer (place / page_size) core.pages → pages ≡ after_enter (place / page_size) core.pages → Made tag core (Allocate t n) (record { sizes = core.sizes; table = core.table; views = core.views; drain = core.drain; offsets = core.offsets; pages = pages }) (Err f)
+  enter_refused t n place page_size view f pages seen placed at unentered h e A st =
       let told = placed_ok A n place st placed in
-      let there : place / page ≡ place_of core.sizes.page (tail core.sizes A) n / core.sizes.page = page_is A n place page st placed at in
-      let busy = refused_by_test (Busy (place / page)) f (MAY_ENTER (place / page) core.pages) (tt {0}) h in
-      let shut : may_enter core.sizes (place / page) A ≡ false = sym (enter_found tag core A (place / page) st) ∙ busy.0 in
-      let no_page : page_fault core.sizes A (place / page) ≡ Some f = ap (λ b. cond b None (Some (Busy (place / page)))) (or_from (is_entered core.sizes (place / page) A) (may_enter core.sizes (place / page) A) (sym (unentered A st)) shut) ∙ ap Some (sym busy.1) in
+      let there : place / page_size ≡ place_of core.sizes.page_size (tail core.sizes A) n / core.sizes.page_size = page_is A n place page_size st placed at in
+      let busy = refused_by_test (Busy (place / page_size)) f (MAY_ENTER (place / page_size) core.pages) (tt {0}) h in
+      let shut : may_enter core.sizes (place / page_size) A ≡ false = sym (enter_found tag core A (place / page_size) st) ∙ busy.0 in
+      let no_page : page_fault core.sizes A (place / page_size) ≡ Some f = ap (λ b. cond b None (Some (Busy (place / page_size)))) (or_from (is_entered core.sizes (place / page_size) A) (may_enter core.sizes (place / page_size) A) (sym (unentered A st)) shut) ∙ ap Some (sym busy.1) in
       let fault : fault_of core.sizes A (Allocate t n) ≡ Some f = fault_is A t n None (seen_none A t view st seen).0 told.0 ∙ sym (ap (page_fault core.sizes A) there) ∙ no_page in
-      let same : pages ≡ core.pages = e ∙ ap (λ b. cond b (entered (place / page) core.pages) core.pages) busy.0 in
+      let same : pages ≡ core.pages = e ∙ ap (λ b. cond b (entered (place / page_size) core.pages) core.pages) busy.0 in
       subst (λ (z : Pages). Stepped tag core A (Allocate t n) (record { sizes = core.sizes; table = core.table; views = core.views; drain = core.drain; offsets = core.offsets; pages = z }) (Err f)) (sym same) (refused_step tag core A (Allocate t n) f st fault)
 
   -- the frames are those of the list with the record, whose page is entered or may be
   abbrev pub EnteredBy : ℕ → ℕ → Pages → Type 0
-  EnteredBy t n pages = (A : List Step) → Stands tag core A → (page_fault core.sizes A (place_of core.sizes.page (tail core.sizes A) n / core.sizes.page) ≡ None) × (pages ≡ pages_of core.sizes (A ++ Allocate t n ∷ []))
+  EnteredBy t n pages = (A : List Step) → Stands tag core A → (page_fault core.sizes A (place_of core.sizes.page_size (tail core.sizes A) n / core.sizes.page_size) ≡ None) × (pages ≡ pages_of core.sizes (A ++ Allocate t n ∷ []))
 
   -- so they are where the page was entered
-  pub entered_before : (t n place page : ℕ) → PlacedAs n (Ok place) → page ≡ core.sizes.page → EnteredAs (place / page) true → EnteredBy t n core.pages
-  entered_before t n place page placed at was A st =
+  pub entered_before : (t n place page_size : ℕ) → PlacedAs n (Ok place) → page_size ≡ core.sizes.page_size → EnteredAs (place / page_size) true → EnteredBy t n core.pages
+  entered_before t n place page_size placed at was A st =
       let told = placed_ok A n place st placed in
-      let there : place / page ≡ place_of core.sizes.page (tail core.sizes A) n / core.sizes.page = page_is A n place page st placed at in
-      let old : is_entered core.sizes (place_of core.sizes.page (tail core.sizes A) n / core.sizes.page) A ≡ true = sym (was A st ∙ ap (λ q. is_entered core.sizes q A) there) in (
-        ap (λ b. cond b None (Some (Busy (place_of core.sizes.page (tail core.sizes A) n / core.sizes.page)))) (or_left (is_entered core.sizes (place_of core.sizes.page (tail core.sizes A) n / core.sizes.page) A) (may_enter core.sizes (place_of core.sizes.page (tail core.sizes A) n / core.sizes.page) A) old),
+      let there : place / page_size ≡ place_of core.sizes.page_size (tail core.sizes A) n / core.sizes.page_size = page_is A n place page_size st placed at in
+      let old : is_entered core.sizes (place_of core.sizes.page_size (tail core.sizes A) n / core.sizes.page_size) A ≡ true = sym (was A st ∙ ap (λ q. is_entered core.sizes q A) there) in (
+        ap (λ b. cond b None (Some (Busy (place_of core.sizes.page_size (tail core.sizes A) n / core.sizes.page_size)))) (or_left (is_entered core.sizes (place_of core.sizes.page_size (tail core.sizes A) n / core.sizes.page_size) A) (may_enter core.sizes (place_of core.sizes.page_size (tail core.sizes A) n / core.sizes.page_size) A) old),
         st.pages_is ∙ sym (allocated_within core.sizes A t n st.in_range told.0 old),
       )
 
   -- and where it is entered now
-  pub entered_now : (t n place page : ℕ) (pages : Pages) → PlacedAs n (Ok place) → page ≡ core.sizes.page → EnteredAs (place / page) false → Ok (tt {0}) ≡ enter_answer (place / page) core.pages → pages ≡ after_enter (place / page) core.pages → EnteredBy t n pages
-  entered_now t n place page pages placed at unentered h e A st =
+  pub entered_now : (t n place page_size : ℕ) (pages : Pages) → PlacedAs n (Ok place) → page_size ≡ core.sizes.page_size → EnteredAs (place / page_size) false → Ok (tt {0}) ≡ enter_answer (place / page_size) core.pages → pages ≡ after_enter (place / page_size) core.pages → EnteredBy t n pages
+  entered_now t n place page_size pages placed at unentered h e A st =
       let told = placed_ok A n place st placed in
-      let there : place / page ≡ place_of core.sizes.page (tail core.sizes A) n / core.sizes.page = page_is A n place page st placed at in
-      let free : MAY_ENTER (place / page) core.pages ≡ true = (passed_by_test (Busy (place / page)) (MAY_ENTER (place / page) core.pages) (tt {0}) (tt {0}) h).0 in
-      let may : may_enter core.sizes (place / page) A ≡ true = sym (enter_found tag core A (place / page) st) ∙ free in
-      let none : page_fault core.sizes A (place / page) ≡ None = ap (λ b. cond b None (Some (Busy (place / page)))) (or_right (is_entered core.sizes (place / page) A) (may_enter core.sizes (place / page) A) may) in (
+      let there : place / page_size ≡ place_of core.sizes.page_size (tail core.sizes A) n / core.sizes.page_size = page_is A n place page_size st placed at in
+      let free : MAY_ENTER (place / page_size) core.pages ≡ true = (passed_by_test (Busy (place / page_size)) (MAY_ENTER (place / page_size) core.pages) (tt {0}) (tt {0}) h).0 in
+      let may : may_enter core.sizes (place / page_size) A ≡ true = sym (enter_found tag core A (place / page_size) st) ∙ free in
+      let none : page_fault core.sizes A (place / page_size) ≡ None = ap (λ b. cond b None (Some (Busy (place / page_size)))) (or_right (is_entered core.sizes (place / page_size) A) (may_enter core.sizes (place / page_size) A) may) in (
         sym (ap (page_fault core.sizes A) there) ∙ none,
-        e ∙ ap (λ b. cond b (entered (place / page) core.pages) core.pages) free ∙ ap (entered (place / page)) st.pages_is
-            ∙ sym (entered-is core.sizes A t n (place / page) st.in_range st.accepted told.0 (sym there) (sym (unentered A st))),
+        e ∙ ap (λ b. cond b (entered (place / page_size) core.pages) core.pages) free ∙ ap (entered (place / page_size)) st.pages_is
+            ∙ sym (entered-is core.sizes A t n (place / page_size) st.in_range st.accepted told.0 (sym there) (sym (unentered A st))),
       )
 
   -- a slot that saw something has a view's place
@@ -182,8 +182,8 @@ module _ {J : Type 0} (tag : J → ℕ) (core : State J) where
       ap (λ e. e || may_enter core.sizes q A) (sym (told A st) ∙ f) ∙ sym (enter_found tag core A q st) ∙ sym free ∙ is
 
   -- what is told of an address's page, by the words of a page
-  pub entered_at : (place page : ℕ) (r : Bool) → page ≡ core.sizes.page → EnteredAs (place / core.sizes.page) r → EnteredAs (place / page) r
-  entered_at place page r is told = subst (λ (w : ℕ). EnteredAs (place / w) r) (sym is) told
+  pub entered_at : (place page_size : ℕ) (r : Bool) → page_size ≡ core.sizes.page_size → EnteredAs (place / core.sizes.page_size) r → EnteredAs (place / page_size) r
+  entered_at place page_size r is told = subst (λ (w : ℕ). EnteredAs (place / w) r) (sym is) told
 
   -- what is told of a page, by its answer
   pub entered_as : (q : ℕ) (r b : Bool) → r ≡ b → EnteredAs q r → EnteredAs q b

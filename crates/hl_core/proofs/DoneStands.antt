@@ -60,20 +60,20 @@ found_none None f h = (refl, cc)
 found_none (Some w) f h = cc
 
 -- the settled offsets after an accepted done of an action of this kind
-log-done : (sizes : Sizes) (A : List Step) (c : ℕ) (w : Waiting) → IsAccepted sizes A → fault_of sizes A (Done c) ≡ None → action_at c A ≡ Some w → log_of sizes (A ++ Done c ∷ []) ≡ record { page = sizes.page; closed = max (closed A) (closes w.kind); head = head A; safe_read_only = max (safe_read_only A) (settles w.kind); read_only = read_only A; tail = tail sizes A }
+log-done : (sizes : Sizes) (A : List Step) (c : ℕ) (w : Waiting) → IsAccepted sizes A → fault_of sizes A (Done c) ≡ None → action_at c A ≡ Some w → log_of sizes (A ++ Done c ∷ []) ≡ record { page_size = sizes.page_size; closed = max (closed A) (closes w.kind); head = head A; safe_read_only = max (safe_read_only A) (settles w.kind); read_only = read_only A; tail = tail sizes A }
 log-done sizes A c w acc h found =
     let closed_is : closed (A ++ Done c ∷ []) ≡ max (closed A) (closes w.kind) = done_greatest-done sizes closes A c w acc h found in
     let safe_is : safe_read_only (A ++ Done c ∷ []) ≡ max (safe_read_only A) (settles w.kind) = done_greatest-done sizes settles A c w acc h found in
     rw (closed_is, head-stay A (Done c) refl, safe_is, read_only-stay A (Done c) refl, tail-stays sizes A (Done c) (λ p t. refl)) refl
 
 -- the offsets after a done of each kind
-log-user : (log : Log) (n : ℕ) → record { page = log.page; closed = max log.closed (closes (User n)); head = log.head; safe_read_only = max log.safe_read_only (settles (User n)); read_only = log.read_only; tail = log.tail } ≡ log
+log-user : (log : Log) (n : ℕ) → record { page_size = log.page_size; closed = max log.closed (closes (User n)); head = log.head; safe_read_only = max log.safe_read_only (settles (User n)); read_only = log.read_only; tail = log.tail } ≡ log
 log-user log n = rw (max-zero log.closed, max-zero log.safe_read_only) refl
 
-log-settle : (log : Log) (x : ℕ) → record { page = log.page; closed = max log.closed (closes (Settle x)); head = log.head; safe_read_only = max log.safe_read_only (settles (Settle x)); read_only = log.read_only; tail = log.tail } ≡ settled x log
+log-settle : (log : Log) (x : ℕ) → record { page_size = log.page_size; closed = max log.closed (closes (Settle x)); head = log.head; safe_read_only = max log.safe_read_only (settles (Settle x)); read_only = log.read_only; tail = log.tail } ≡ settled x log
 log-settle log x = rw (max-zero log.closed) refl
 
-log-close : (log : Log) (x : ℕ) → record { page = log.page; closed = max log.closed (closes (Close x)); head = log.head; safe_read_only = max log.safe_read_only (settles (Close x)); read_only = log.read_only; tail = log.tail } ≡ closed_up_to x log
+log-close : (log : Log) (x : ℕ) → record { page_size = log.page_size; closed = max log.closed (closes (Close x)); head = log.head; safe_read_only = max log.safe_read_only (settles (Close x)); read_only = log.read_only; tail = log.tail } ≡ closed_up_to x log
 log-close log x = rw (max-zero log.safe_read_only) refl
 
 module _ {J : Type 0} (tag : J → ℕ) where
@@ -83,7 +83,7 @@ module _ {J : Type 0} (tag : J → ℕ) where
     kind_is : kind ≡ waiting.kind
     free : fault_of core.sizes A (Done c) ≡ None
     action : action_at c A ≡ Some waiting
-    log : log_of core.sizes (A ++ Done c ∷ []) ≡ record { page = core.sizes.page; closed = max (closed A) (closes kind); head = head A; safe_read_only = max (safe_read_only A) (settles kind); read_only = read_only A; tail = tail core.sizes A }
+    log : log_of core.sizes (A ++ Done c ∷ []) ≡ record { page_size = core.sizes.page_size; closed = max (closed A) (closes kind); head = head A; safe_read_only = max (safe_read_only A) (settles kind); read_only = read_only A; tail = tail core.sizes A }
 
   found_at : (core : State J) (A : List Step) (c : ℕ) (kind : Kind) → Stands tag core A → Ok kind ≡ kind_or_fault (find (has_ticket c) core.drain.taken) → Found core A c kind
   found_at core A c kind st a =
@@ -95,7 +95,7 @@ module _ {J : Type 0} (tag : J → ℕ) where
         kind_is = found.2;
         free = free;
         action = parts.1;
-        log = log-done core.sizes A c found.0 st.accepted free parts.1 ∙ ap (λ (k : Kind). record { page = core.sizes.page; closed = max (closed A) (closes k); head = head A; safe_read_only = max (safe_read_only A) (settles k); read_only = read_only A; tail = tail core.sizes A }) (sym found.2);
+        log = log-done core.sizes A c found.0 st.accepted free parts.1 ∙ ap (λ (k : Kind). record { page_size = core.sizes.page_size; closed = max (closed A) (closes k); head = head A; safe_read_only = max (safe_read_only A) (settles k); read_only = read_only A; tail = tail core.sizes A }) (sym found.2);
       }
 
   -- an accepted done
@@ -158,10 +158,10 @@ module _ {J : Type 0} (tag : J → ℕ) where
       let stored : closes kind ≤ head A = kind_has (λ k. closes k ≤ head A) core A c kind st a (closes-le A) in
       omega (arith, stored, ap closes is, ap (λ (z : Log). z.head) st.offsets_is)
 
-  pub close_whole : (core : State J) (c x : ℕ) (kind : Kind) → IsStanding tag core → kind ≡ Close x → Ok kind ≡ kind_or_fault (find (has_ticket c) core.drain.taken) → x % core.offsets.page ≡ 0
+  pub close_whole : (core : State J) (c x : ℕ) (kind : Kind) → IsStanding tag core → kind ≡ Close x → Ok kind ≡ kind_or_fault (find (has_ticket c) core.drain.taken) → x % core.offsets.page_size ≡ 0
   close_whole core c x kind (A, st) is a =
-      ap₂ (λ (n m : ℕ). n % m) (sym (ap closes is)) (ap (λ (z : Log). z.page) st.offsets_is)
-      ∙ kind_has (λ k. closes k % core.sizes.page ≡ 0) core A c kind st a (closes-whole core.sizes A st.accepted)
+      ap₂ (λ (n m : ℕ). n % m) (sym (ap closes is)) (ap (λ (z : Log). z.page_size) st.offsets_is)
+      ∙ kind_has (λ k. closes k % core.sizes.page_size ≡ 0) core A c kind st a (closes-whole core.sizes A st.accepted)
 
   -- a ticket that the list's taken actions lack
   not_taken : (core : State J) (A : List Step) (c : ℕ) → Stands tag core A → find (has_ticket c) core.drain.taken ≡ None → is_taken c A ≡ false

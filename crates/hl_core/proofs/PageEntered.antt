@@ -25,7 +25,7 @@ use Rattle.hl_core.proofs.PageMoves.{pages_with, marked-stay, marked-with}
 last_entered-agree : (sizes : Sizes) (f : ℕ) (A B : List Step) → AreInRange sizes → ((p : ℕ) → p % sizes.frames ≡ f → is_entered sizes p B ≡ is_entered sizes p A) → last_entered sizes f B ≡ last_entered sizes f A
 last_entered-agree sizes f A B range agree = by_first (last_entered sizes f A) refl
   where
-    page : 0 < sizes.page
+    page : 0 < sizes.page_size
     page = page_some sizes range
 
     frames : 0 < sizes.frames
@@ -65,8 +65,8 @@ held_of-allocate sizes A t n f range agree =
     ∙ marked-allocate_in sizes A t n (last_entered sizes f A)
 
 -- which pages are entered with an accepted record in page q
-enters : (sizes : Sizes) (A : List Step) (t n p : ℕ) → AreInRange sizes → size_fault sizes.page (tail sizes A) n ≡ None → is_entered sizes p (A ++ Allocate t n ∷ []) ≡ (is_entered sizes p A || p == place_of sizes.page (tail sizes A) n / sizes.page)
-enters sizes A t n p range h = let size : (0 < n) × (n ≤ sizes.page) × (place_of sizes.page (tail sizes A) n + n ≤ 2 ^ 48) = size-none sizes.page (tail sizes A) n h in is_entered-allocate sizes p A t n (page_some sizes range) (omega (arith, size.0)) size.1
+enters : (sizes : Sizes) (A : List Step) (t n p : ℕ) → AreInRange sizes → size_fault sizes.page_size (tail sizes A) n ≡ None → is_entered sizes p (A ++ Allocate t n ∷ []) ≡ (is_entered sizes p A || p == place_of sizes.page_size (tail sizes A) n / sizes.page_size)
+enters sizes A t n p range h = let size : (0 < n) × (n ≤ sizes.page_size) × (place_of sizes.page_size (tail sizes A) n + n ≤ 2 ^ 48) = size-none sizes.page_size (tail sizes A) n h in is_entered-allocate sizes p A t n (page_some sizes range) (omega (arith, size.0)) size.1
 
 -- a test that adds nothing
 or_stays : (a b : Bool) → (b ≡ true → a ≡ true) → (a || b) ≡ a
@@ -75,7 +75,7 @@ or_stays false true h = let no : false ≡ true = h refl in cc
 or_stays false false h = refl
 
 -- a record in a page that is entered leaves the frames
-pub allocated_within : (sizes : Sizes) (A : List Step) (t n : ℕ) → AreInRange sizes → size_fault sizes.page (tail sizes A) n ≡ None → is_entered sizes (place_of sizes.page (tail sizes A) n / sizes.page) A ≡ true → pages_of sizes (A ++ Allocate t n ∷ []) ≡ pages_of sizes A
+pub allocated_within : (sizes : Sizes) (A : List Step) (t n : ℕ) → AreInRange sizes → size_fault sizes.page_size (tail sizes A) n ≡ None → is_entered sizes (place_of sizes.page_size (tail sizes A) n / sizes.page_size) A ≡ true → pages_of sizes (A ++ Allocate t n ∷ []) ≡ pages_of sizes A
 allocated_within sizes A t n range h e =
     ap₂ (pages_with sizes)
     (rows_same (held_of sizes (A ++ Allocate t n ∷ [])) (held_of sizes A) sizes.frames (λ f. held_of-allocate sizes A t n f range (λ p there. agree p)))
@@ -86,11 +86,11 @@ allocated_within sizes A t n range h e =
     agree : (p : ℕ) → is_entered sizes p (A ++ Allocate t n ∷ []) ≡ is_entered sizes p A
     agree p =
         enters sizes A t n p range h
-        ∙ or_stays (is_entered sizes p A) (p == place_of sizes.page (tail sizes A) n / sizes.page)
-        (λ same. ap (λ r. is_entered sizes r A) (eqb-true p (place_of sizes.page (tail sizes A) n / sizes.page) same) ∙ e)
+        ∙ or_stays (is_entered sizes p A) (p == place_of sizes.page_size (tail sizes A) n / sizes.page_size)
+        (λ same. ap (λ r. is_entered sizes r A) (eqb-true p (place_of sizes.page_size (tail sizes A) n / sizes.page_size) same) ∙ e)
 
 -- a page that an accepted record enters
-module _ (sizes : Sizes) (A : List Step) (t n q : ℕ) (range : AreInRange sizes) (a : IsAccepted sizes A) (h : size_fault sizes.page (tail sizes A) n ≡ None) (is : place_of sizes.page (tail sizes A) n / sizes.page ≡ q) (new : is_entered sizes q A ≡ false) where
+module _ (sizes : Sizes) (A : List Step) (t n q : ℕ) (range : AreInRange sizes) (a : IsAccepted sizes A) (h : size_fault sizes.page_size (tail sizes A) n ≡ None) (is : place_of sizes.page_size (tail sizes A) n / sizes.page_size ≡ q) (new : is_entered sizes q A ≡ false) where
   -- the pages entered with the record
   now : (p : ℕ) → is_entered sizes p (A ++ Allocate t n ∷ []) ≡ (is_entered sizes p A || p == q)
   now p = enters sizes A t n p range h ∙ ap (λ r. is_entered sizes p A || p == r) is
@@ -138,8 +138,8 @@ module _ (sizes : Sizes) (A : List Step) (t n q : ℕ) (range : AreInRange sizes
           (λ p there. now p ∙ or_stays (is_entered sizes p A) (p == q) (λ same. absurd (ne (sym there ∙ ap (λ r. r % sizes.frames) (eqb-true p q same)))))
 
 -- a record that ends at or below 2^48 is in a page below it
-pub new_within_space : (sizes : Sizes) (A : List Step) (n : ℕ) → AreInRange sizes → size_fault sizes.page (tail sizes A) n ≡ None → place_of sizes.page (tail sizes A) n / sizes.page < 2 ^ 48 / sizes.page
+pub new_within_space : (sizes : Sizes) (A : List Step) (n : ℕ) → AreInRange sizes → size_fault sizes.page_size (tail sizes A) n ≡ None → place_of sizes.page_size (tail sizes A) n / sizes.page_size < 2 ^ 48 / sizes.page_size
 new_within_space sizes A n range h =
-    let size : (0 < n) × (n ≤ sizes.page) × (place_of sizes.page (tail sizes A) n + n ≤ 2 ^ 48) = size-none sizes.page (tail sizes A) n h in
-    let whole : 2 ^ 48 / sizes.page * sizes.page ≡ 2 ^ 48 = whole_pages sizes.page (page_some sizes range) range.page_most range.page_power in
+    let size : (0 < n) × (n ≤ sizes.page_size) × (place_of sizes.page_size (tail sizes A) n + n ≤ 2 ^ 48) = size-none sizes.page_size (tail sizes A) n h in
+    let whole : 2 ^ 48 / sizes.page_size * sizes.page_size ≡ 2 ^ 48 = whole_pages sizes.page_size (page_some sizes range) range.page_size_most range.page_size_power in
     (div-lt_iff_lt-mul (page_some sizes range)).1 (omega (arith, size.0, size.2, whole))

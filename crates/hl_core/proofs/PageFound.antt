@@ -45,8 +45,8 @@ module _ {J : Type 0} (tag : J → ℕ) (core : State J) where
   entered_found q told is A st = is ∙ ap (λ (p : Pages). ltb q p.entered) st.pages_is ∙ is_entered-is core.sizes A q (page_some core.sizes st.in_range)
 
   -- and whether an address's page is
-  pub entered_at_found : (a : ℕ) (told : Bool) → told ≡ ltb (a / core.pages.page) core.pages.entered → (A : List Step) → Stands tag core A → told ≡ is_entered core.sizes (a / core.sizes.page) A
-  entered_at_found a told is A st = entered_found (a / core.pages.page) told is A st ∙ ap (λ (p : Pages). is_entered core.sizes (a / p.page) A) st.pages_is
+  pub entered_at_found : (a : ℕ) (told : Bool) → told ≡ ltb (a / core.pages.page_size) core.pages.entered → (A : List Step) → Stands tag core A → told ≡ is_entered core.sizes (a / core.sizes.page_size) A
+  entered_at_found a told is A st = entered_found (a / core.pages.page_size) told is A st ∙ ap (λ (p : Pages). is_entered core.sizes (a / p.page_size) A) st.pages_is
 
   -- what a frame is at
   pub state_found : (A : List Step) (f : ℕ) → Stands tag core A → f < core.sizes.frames → state_of f core.offsets.safe_read_only core.offsets.closed core.pages ≡ frame_of core.sizes f A
@@ -62,10 +62,10 @@ module _ {J : Type 0} (tag : J → ℕ) (core : State J) where
   -- sealed pages are entered
   pub sealed_fits : IsStanding tag core → pages_below core.offsets.safe_read_only core.pages ≤ core.pages.entered
   sealed_fits (A, st) =
-      let some : 0 < core.sizes.page = page_some core.sizes st.in_range in
+      let some : 0 < core.sizes.page_size = page_some core.sizes st.in_range in
       let order = offsets_are_in_order core.sizes A some st.accepted in
-      let starts : safe_read_only A / core.sizes.page * core.sizes.page ≤ tail core.sizes A + core.sizes.page - 1 = omega (arith, div-mul-le_self (safe_read_only A) core.sizes.page, order.safe_read_only_most, order.read_only_most, some) in
-      let entered : safe_read_only A / core.sizes.page ≤ pages_entered core.sizes A = (le-div_iff_mul-le some).1 starts in
+      let starts : safe_read_only A / core.sizes.page_size * core.sizes.page_size ≤ tail core.sizes A + core.sizes.page_size - 1 = omega (arith, div-mul-le_self (safe_read_only A) core.sizes.page_size, order.safe_read_only_most, order.read_only_most, some) in
+      let entered : safe_read_only A / core.sizes.page_size ≤ pages_entered core.sizes A = (le-div_iff_mul-le some).1 starts in
       subst (λ (n : ℕ). pages_below n core.pages ≤ core.pages.entered) (sym (ap (λ log. log.safe_read_only) st.offsets_is))
       (subst (λ (pages : Pages). pages_below (safe_read_only A) pages ≤ pages.entered) (sym st.pages_is) entered)
 

@@ -20,8 +20,8 @@ use Rattle.hl_core.specs.Standing.{pages_of}
 use Rattle.hl_core.proofs.PageRows.{length-frames, left_or_marked-is, is_marked-is}
 
 -- the sizes are not 0
-pub page_some : (sizes : Sizes) → AreInRange sizes → 0 < sizes.page
-page_some sizes range = omega (arith, range.page_least)
+pub page_some : (sizes : Sizes) → AreInRange sizes → 0 < sizes.page_size
+page_some sizes range = omega (arith, range.page_size_least)
 
 -- nor are there no frames
 pub frames_some : (sizes : Sizes) → AreInRange sizes → 0 < sizes.frames
@@ -32,17 +32,17 @@ pub kept : (sizes : Sizes) (A : List Step) → AreInRange sizes → IsAccepted s
 kept sizes A range a = pages_kept sizes A (page_some sizes range) (frames_some sizes range) a
 
 -- the offsets are in order
-pub in_order : (sizes : Sizes) (A : List Step) → AreInRange sizes → IsAccepted sizes A → AreInOrder sizes.page (six sizes A)
+pub in_order : (sizes : Sizes) (A : List Step) → AreInRange sizes → IsAccepted sizes A → AreInOrder sizes.page_size (six sizes A)
 in_order sizes A range a = offsets_are_in_order sizes A (page_some sizes range) a
 
 -- closed pages are sealed
-pub closed_sealed : (sizes : Sizes) (A : List Step) (p : ℕ) → AreInRange sizes → IsAccepted sizes A → (p + 1) * sizes.page ≤ closed A → (p + 1) * sizes.page ≤ safe_read_only A
+pub closed_sealed : (sizes : Sizes) (A : List Step) (p : ℕ) → AreInRange sizes → IsAccepted sizes A → (p + 1) * sizes.page_size ≤ closed A → (p + 1) * sizes.page_size ≤ safe_read_only A
 closed_sealed sizes A p range a h =
-    let order : AreInOrder sizes.page (six sizes A) = in_order sizes A range a in
+    let order : AreInOrder sizes.page_size (six sizes A) = in_order sizes A range a in
     omega (arith, order.closed_most, order.head_most, order.flushed_most)
 
 -- what makes a page sealed is told of none that isn't entered
-ahead : (sizes : Sizes) (A : List Step) (p : ℕ) (b : Bool) → AreInRange sizes → IsAccepted sizes A → (b ≡ true → (p + 1) * sizes.page ≤ safe_read_only A) → is_entered sizes p A ≡ false → b ≡ false
+ahead : (sizes : Sizes) (A : List Step) (p : ℕ) (b : Bool) → AreInRange sizes → IsAccepted sizes A → (b ≡ true → (p + 1) * sizes.page_size ≤ safe_read_only A) → is_entered sizes p A ≡ false → b ≡ false
 ahead sizes A p b range a sealed e = false_from_ne_true b (λ t. both_ways (is_entered sizes p A) e (sealed_entered sizes A p (page_some sizes range) a (sealed t)))
 
 -- a page that isn't entered has no mark
@@ -81,14 +81,14 @@ is_cleaning-is sizes A p a = is_marked-is sizes A p (λ held. held.cleaning) ∙
 pub next_to_flush-is : (sizes : Sizes) (A : List Step) → IsAccepted sizes A → NEXT_TO_FLUSH (safe_read_only A) (pages_of sizes A) ≡ next_to_flush sizes A
 unfolding next_page
 next_to_flush-is sizes A a =
-    find-same (is_unflushed (pages_of sizes A)) (λ p. not (is_flushed sizes p A || is_in_flight sizes p A)) (range_with_len 0 (safe_read_only A / sizes.page))
+    find-same (is_unflushed (pages_of sizes A)) (λ p. not (is_flushed sizes p A || is_in_flight sizes p A)) (range_with_len 0 (safe_read_only A / sizes.page_size))
     (λ p. ap₂ (λ b c. not (b || c)) (is_flushed-is sizes A p a) (is_in_flight-is sizes A p a))
 
 -- the page to clean
 pub next_to_clean-is : (sizes : Sizes) (A : List Step) → IsAccepted sizes A → NEXT_TO_CLEAN (closed A) (pages_of sizes A) ≡ next_to_clean sizes A
 unfolding next_page
 next_to_clean-is sizes A a =
-    find-same (is_uncleaned (pages_of sizes A)) (λ p. not (is_freed sizes p A || is_cleaning sizes p A)) (range_with_len 0 (closed A / sizes.page))
+    find-same (is_uncleaned (pages_of sizes A)) (λ p. not (is_freed sizes p A || is_cleaning sizes p A)) (range_with_len 0 (closed A / sizes.page_size))
     (λ p. ap₂ (λ b c. not (b || c)) (is_freed-is sizes A p a) (is_cleaning-is sizes A p a))
 
 -- whether a page may be entered

@@ -47,16 +47,16 @@ marked-stay sizes A s p tf ff fl tc fc fr =
 -- where the tail stays, so do each frame's last page and the number of pages
 last_entered-same : (sizes : Sizes) (f : ℕ) (A B : List Step) → tail sizes B ≡ tail sizes A → last_entered sizes f B ≡ last_entered sizes f A
 unfolding last_entered
-last_entered-same sizes f A B same = ap (λ a. greatest_below (λ p. ltb (p * sizes.page) a && p % sizes.frames == f) (a / sizes.page + 1)) same
+last_entered-same sizes f A B same = ap (λ a. greatest_below (λ p. ltb (p * sizes.page_size) a && p % sizes.frames == f) (a / sizes.page_size + 1)) same
 
 -- the pages of these frames
 abbrev pub pages_with : Sizes → List (Option Held) → ℕ → Pages
-pages_with sizes frames entered = record { page = sizes.page; frames = frames; entered = entered }
+pages_with sizes frames entered = record { page_size = sizes.page_size; frames = frames; entered = entered }
 
 -- a step that leaves the tail and touches no page leaves the frames
 pub pages_of-quiet : (sizes : Sizes) (A : List Step) (s : Step) → tail sizes (A ++ s ∷ []) ≡ tail sizes A → takes_to_flush s ≡ false → flush_of s ≡ None → ((p : ℕ) → flushes p s ≡ false) → takes_to_clean s ≡ false → clean_of s ≡ None → ((p : ℕ) → frees p s ≡ false) → pages_of sizes (A ++ s ∷ []) ≡ pages_of sizes A
 pages_of-quiet sizes A s same tf ff fl tc fc fr =
-    ap₂ (pages_with sizes) (rows_same (held_of sizes (A ++ s ∷ [])) (held_of sizes A) sizes.frames each) (ap (λ a. (a + sizes.page - 1) / sizes.page) same)
+    ap₂ (pages_with sizes) (rows_same (held_of sizes (A ++ s ∷ [])) (held_of sizes A) sizes.frames each) (ap (λ a. (a + sizes.page_size - 1) / sizes.page_size) same)
   where
     of_page : (o : Option ℕ) → option_map (marked sizes (A ++ s ∷ [])) o ≡ option_map (marked sizes A) o
     of_page None = refl
@@ -71,7 +71,7 @@ changed-is sizes A s q change range same last here others =
     ap₂ (pages_with sizes)
     (rows_set (held_of sizes (A ++ s ∷ [])) (held_of sizes A) sizes.frames (q % sizes.frames) (option_map change (held_for q (pages_of sizes A))) at each
     ∙ ap (λ n. set (pages_of sizes A).frames (q % n) (option_map change (held_for q (pages_of sizes A)))) (sym (length-frames sizes A)))
-    (ap (λ a. (a + sizes.page - 1) / sizes.page) same)
+    (ap (λ a. (a + sizes.page_size - 1) / sizes.page_size) same)
   where
     at : held_of sizes (A ++ s ∷ []) (q % sizes.frames) ≡ option_map change (held_for q (pages_of sizes A))
     at =
@@ -113,11 +113,11 @@ gone_when false c h = cc
 pub flush_begun-is : (sizes : Sizes) (A : List Step) (q : ℕ) → AreInRange sizes → IsAccepted sizes A → next_to_flush sizes A ≡ Some q → pages_of sizes (A ++ FlushTake ∷ []) ≡ flush_begun q (pages_of sizes A)
 flush_begun-is sizes A q range a h = changed-is sizes A FlushTake q (λ held. record held { in_flight = true }) range (tail-push sizes A FlushTake) last here others
   where
-    parts : (q < safe_read_only A / sizes.page) × (is_flushed sizes q A ≡ false) × (is_in_flight sizes q A ≡ false)
+    parts : (q < safe_read_only A / sizes.page_size) × (is_flushed sizes q A ≡ false) × (is_in_flight sizes q A ≡ false)
     parts = next_page-parts (flushing sizes) A (marks (flushing sizes) A) q h
 
     last : last_entered sizes (q % sizes.frames) A ≡ Some q
-    last = unflushed_last sizes A q range a (sealed_entered sizes A q (page_some sizes range) a (ends_below sizes.page (safe_read_only A) q parts.0)) parts.1
+    last = unflushed_last sizes A q range a (sealed_entered sizes A q (page_some sizes range) a (ends_below sizes.page_size (safe_read_only A) q parts.0)) parts.1
 
     here : marked sizes (A ++ FlushTake ∷ []) q ≡ held_with q (is_flushed sizes q A) true (is_freed sizes q A) (is_cleaning sizes q A)
     here =
@@ -161,11 +161,11 @@ flush_ended-is sizes A q ok range a h = changed-is sizes A (FlushDone q ok) q (�
 pub clean_begun-is : (sizes : Sizes) (A : List Step) (q : ℕ) → AreInRange sizes → IsAccepted sizes A → next_to_clean sizes A ≡ Some q → pages_of sizes (A ++ CleanTake ∷ []) ≡ clean_begun q (pages_of sizes A)
 clean_begun-is sizes A q range a h = changed-is sizes A CleanTake q (λ held. record held { cleaning = true }) range (tail-push sizes A CleanTake) last here others
   where
-    parts : (q < closed A / sizes.page) × (is_freed sizes q A ≡ false) × (is_cleaning sizes q A ≡ false)
+    parts : (q < closed A / sizes.page_size) × (is_freed sizes q A ≡ false) × (is_cleaning sizes q A ≡ false)
     parts = next_page-parts (cleaning sizes) A (marks (cleaning sizes) A) q h
 
     last : last_entered sizes (q % sizes.frames) A ≡ Some q
-    last = unfreed_last sizes A q (page_some sizes range) (frames_some sizes range) a (sealed_entered sizes A q (page_some sizes range) a (closed_sealed sizes A q range a (ends_below sizes.page (closed A) q parts.0))) parts.1
+    last = unfreed_last sizes A q (page_some sizes range) (frames_some sizes range) a (sealed_entered sizes A q (page_some sizes range) a (closed_sealed sizes A q range a (ends_below sizes.page_size (closed A) q parts.0))) parts.1
 
     here : marked sizes (A ++ CleanTake ∷ []) q ≡ held_with q (is_flushed sizes q A) (is_in_flight sizes q A) (is_freed sizes q A) true
     here =

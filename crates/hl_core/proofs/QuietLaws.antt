@@ -37,7 +37,7 @@ pub record PagesStay (s : Step) : Type 0 where
   pub freed : (p : ℕ) → frees p s ≡ false
 
 pub tail-stays : (sizes : Sizes) (A : List Step) (s : Step) → ((page tail : ℕ) → tail_past page tail s ≡ tail) → tail sizes (A ++ s ∷ []) ≡ tail sizes A
-tail-stays sizes A s h = tail-push sizes A s ∙ h sizes.page (tail sizes A)
+tail-stays sizes A s h = tail-push sizes A s ∙ h sizes.page_size (tail sizes A)
 
 -- the offsets after it
 pub log-stays : (sizes : Sizes) (A : List Step) (s : Step) → IsAccepted sizes A → OffsetsStay s → log_of sizes (A ++ s ∷ []) ≡ log_of sizes A

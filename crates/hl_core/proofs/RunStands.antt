@@ -37,7 +37,7 @@ replies_after-nil sizes A = refl
 module _ {J : Type 0} (tag : J → ℕ) where
   -- the accepted steps keep the headline
   pub ran_headline : (old : State J) (A steps : List Step) → Stands tag old A → Headline old.sizes (good old.sizes (A ++ steps))
-  ran_headline old A steps st = headline old.sizes (good old.sizes (A ++ steps)) (omega (arith, st.in_range.page_least)) (IsAccepted-good old.sizes (A ++ steps))
+  ran_headline old A steps st = headline old.sizes (good old.sizes (A ++ steps)) (omega (arith, st.in_range.page_size_least)) (IsAccepted-good old.sizes (A ++ steps))
 
   -- from A on the first n steps were made: what they were answered, and where the core stands
   pub record RanFrom (sizes : Sizes) (A steps : List Step) (new : State J) (results : List (Result Reply Fault)) (n : ℕ) : Type 0 where

@@ -30,8 +30,8 @@ one_digit_divides (suc k) n one h =
     (found.0, found.1 ∙ sym (pow-suc 2 k))
 
 -- pages of a power of two words, up to 4,096, end at 2^48
-pub whole_pages : (page : ℕ) → 0 < page → page ≤ 4096 → IsTrue (is_power_of_two page) → 2 ^ 48 / page * page ≡ 2 ^ 48
-whole_pages page some most power =
-    let whole : (m : ℕ) × (m * page ≡ 2 ^ 48) = one_digit_divides 48 page (eqb-true (count_ones page) 1 power) (omega arith) in
-    let count : 2 ^ 48 / page ≡ whole.0 = ap (λ n. n / page) (sym whole.1) ∙ mul-div_cancel whole.0 some in
-    ap (λ n. n * page) count ∙ whole.1
+pub whole_pages : (page_size : ℕ) → 0 < page_size → page_size ≤ 4096 → IsTrue (is_power_of_two page_size) → 2 ^ 48 / page_size * page_size ≡ 2 ^ 48
+whole_pages page_size some most power =
+    let whole : (m : ℕ) × (m * page_size ≡ 2 ^ 48) = one_digit_divides 48 page_size (eqb-true (count_ones page_size) 1 power) (omega arith) in
+    let count : 2 ^ 48 / page_size ≡ whole.0 = ap (λ n. n / page_size) (sym whole.1) ∙ mul-div_cancel whole.0 some in
+    ap (λ n. n * page_size) count ∙ whole.1

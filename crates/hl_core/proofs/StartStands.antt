@@ -36,22 +36,22 @@ epochs-nil : (sizes : Sizes) → replicate sizes.slots None ≡ slot_epochs size
 unfolding slot_epochs
 epochs-nil sizes = row_same (λ t. slot_epoch t []) None 0 sizes.slots (λ t l u. slot_epoch-nil t)
 
-log-nil : (sizes : Sizes) → started sizes.page ≡ log_of sizes []
+log-nil : (sizes : Sizes) → started sizes.page_size ≡ log_of sizes []
 log-nil sizes =
     let closed_is : closed [] ≡ 0 = done_greatest-nil closes in
     let safe_is : safe_read_only [] ≡ 0 = done_greatest-nil settles in
     rw (closed_is, head-nil, safe_is, read_only-nil, tail-nil sizes) refl
 
-entered-nil : (sizes : Sizes) → 0 < sizes.page → pages_entered sizes [] ≡ 0
-entered-nil sizes page = ap (λ (n : ℕ). (n + sizes.page - 1) / sizes.page) (tail-nil sizes) ∙ div-eq_of_lt (omega (arith, page))
+entered-nil : (sizes : Sizes) → 0 < sizes.page_size → pages_entered sizes [] ≡ 0
+entered-nil sizes page = ap (λ (n : ℕ). (n + sizes.page_size - 1) / sizes.page_size) (tail-nil sizes) ∙ div-eq_of_lt (omega (arith, page))
 
-pages-nil : (sizes : Sizes) → AreInRange sizes → opened_pages sizes.page sizes.frames ≡ pages_of sizes []
+pages-nil : (sizes : Sizes) → AreInRange sizes → opened_pages sizes.page_size sizes.frames ≡ pages_of sizes []
 pages-nil sizes r =
-    let page : 0 < sizes.page = omega (arith, r.page_least) in
-    ap₂ (λ (xs : List (Option Held)) (n : ℕ). record { page = sizes.page; frames = xs; entered = n }) (row_same (held_of sizes []) None 0 sizes.frames (λ f l u. held_of-nil sizes f page (omega (arith, u)))) (sym (entered-nil sizes page))
+    let page : 0 < sizes.page_size = omega (arith, r.page_size_least) in
+    ap₂ (λ (xs : List (Option Held)) (n : ℕ). record { page_size = sizes.page_size; frames = xs; entered = n }) (row_same (held_of sizes []) None 0 sizes.frames (λ f l u. held_of-nil sizes f page (omega (arith, u)))) (sym (entered-nil sizes page))
 
 -- before the first step
-pub stands_start : {J : Type 0} (tag : J → ℕ) (sizes : Sizes) (slots limit : ℕ) (table : Table) (views : List (Option View)) (drain : Lists J) (offsets : Log) (pages : Pages) → AreInRange sizes → slots ≡ sizes.slots → limit ≡ sizes.drain → table ≡ opened slots epoch_window 1 → views ≡ replicate slots None → drain ≡ record { limit = limit; pending = []; taken = [] } → offsets ≡ started sizes.page → pages ≡ opened_pages sizes.page sizes.frames → Stands tag (record { sizes = sizes; table = table; views = views; drain = drain; offsets = offsets; pages = pages }) []
+pub stands_start : {J : Type 0} (tag : J → ℕ) (sizes : Sizes) (slots limit : ℕ) (table : Table) (views : List (Option View)) (drain : Lists J) (offsets : Log) (pages : Pages) → AreInRange sizes → slots ≡ sizes.slots → limit ≡ sizes.drain → table ≡ opened slots epoch_window 1 → views ≡ replicate slots None → drain ≡ record { limit = limit; pending = []; taken = [] } → offsets ≡ started sizes.page_size → pages ≡ opened_pages sizes.page_size sizes.frames → Stands tag (record { sizes = sizes; table = table; views = views; drain = drain; offsets = offsets; pages = pages }) []
 stands_start {J = J} tag sizes slots limit table views drain offsets pages r s l t v d o q = record {
   in_range = r;
   accepted = good-nil sizes;

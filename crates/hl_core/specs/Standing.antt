@@ -29,7 +29,7 @@ pub record State (J : Type 0) : Type 0 where
 -- the offsets of a list
 abbrev pub log_of : Sizes → List Step → Log
 log_of sizes A = record {
-  page = sizes.page;
+  page_size = sizes.page_size;
   closed = closed A;
   head = head A;
   safe_read_only = safe_read_only A;
@@ -39,12 +39,12 @@ log_of sizes A = record {
 
 -- how many pages begin below the tail: those are entered
 abbrev pub pages_entered : Sizes → List Step → ℕ
-pages_entered sizes A = (tail sizes A + sizes.page - 1) / sizes.page
+pages_entered sizes A = (tail sizes A + sizes.page_size - 1) / sizes.page_size
 
 -- the pages of a list
 abbrev pub pages_of : Sizes → List Step → Pages
 pages_of sizes A = record {
-  page = sizes.page;
+  page_size = sizes.page_size;
   frames = map (held_of sizes A) (range_with_len 0 sizes.frames);
   entered = pages_entered sizes A;
 }

@@ -111,7 +111,7 @@ impl<E: Epochs, J: Tagged> Core<E, J> {
         if x <= self.offsets.head() {
             return Err(Fault::NotAbove);
         }
-        if x % self.params.page() != 0 {
+        if x % self.params.page_size() != 0 {
             return Err(Fault::NotPage);
         }
         if x > self.frames.flushed_until() {

@@ -61,7 +61,7 @@ impl<E: Epochs, J: Tagged> Core<E, J> {
     {
         let seen = self.seen(t)?;
         let address = self.offsets.place(n)?;
-        let page = address / self.params.page();
+        let page = address / self.params.page_size();
         if !self.is_entered_at(address) {
             self.frames.enter(page)?;
         }
@@ -152,11 +152,11 @@ impl<E: Epochs, J: Tagged> Core<E, J> {
     pub(crate) fn may_allocate(&self, t: u64, n: u64) -> Result<u64, Fault>
         ensures { (A : List Step) → Stands J.tag self.now A
             → result ≡ unless_fault (fault_of self.now.sizes A (ALLOCATE t n))
-            (place_of self.now.sizes.page (tail self.now.sizes A) n) }
+            (place_of self.now.sizes.page_size (tail self.now.sizes A) n) }
     {
         self.seen(t)?;
         let address = self.offsets.place(n)?;
-        let page = address / self.params.page();
+        let page = address / self.params.page_size();
         if self.is_entered_at(address) || self.frames.may_enter(page) {
             Ok(address)
         } else {
@@ -168,7 +168,7 @@ impl<E: Epochs, J: Tagged> Core<E, J> {
     #[inline(always)]
     fn is_entered_at(&self, a: u64) -> bool
         ensures { (A : List Step) → Stands J.tag self.now A
-            → result ≡ is_entered self.now.sizes (a / self.now.sizes.page) A }
+            → result ≡ is_entered self.now.sizes (a / self.now.sizes.page_size) A }
     {
         self.frames.is_entered_at(a)
     }

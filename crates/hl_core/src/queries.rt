@@ -31,7 +31,7 @@ impl<E: Epochs, J: Tagged> Core<E, J> {
     /// The six offsets.
     pub fn six(&self) -> Six
         ensures value { (A : List Step) → Stands J.tag self.now A → result ≡ six self.now.sizes A }
-        ensures in_order { AreInOrder self.now.sizes.page result }
+        ensures in_order { AreInOrder self.now.sizes.page_size result }
     {
         self.offsets.six(self.frames.flushed_until())
     }

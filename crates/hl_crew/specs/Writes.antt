@@ -13,7 +13,7 @@ pub record IsWritten
     (old new : RiderState) (before after : W)
     : Type 0 where
   pub words : List ℕ
-  pub places : length words ≡ sizes.page
+  pub places : length words ≡ sizes.page_size
   pub loaded : new
       ≡ record { view = loaded_all (first_cell sizes job.page) words old.view; share = old.share }
   pub written : wrote before job.page (image job.page words) after

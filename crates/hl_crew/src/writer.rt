@@ -86,7 +86,7 @@ where
     {
         let mut words = [0; WORDS];
         let mut image = [0; BYTES];
-        let places = self.domain.params().page() as usize;
+        let places = self.domain.params().page_size() as usize;
         let words = &mut words[..places];
         let image = &mut image[..8 + 8 * places];
         if self.domain.copy_page(job, &mut own.rider, words).is_err() {

@@ -43,9 +43,9 @@ test_true true s u h = refl
 test_true false s u h = cc
 
 -- where an allocation places
-pub record Placed (page a n : ℕ) (v : View) : Type 0 where
+pub record Placed (page_size a n : ℕ) (v : View) : Type 0 where
   pub above : v.tail ≤ a
-  pub one_page : a / page ≡ (a + n - 1) / page
+  pub one_page : a / page_size ≡ (a + n - 1) / page_size
   pub most : a + n ≤ 2 ^ 48
 
 module _ {F : Type 0} where
@@ -118,8 +118,8 @@ module _ {F : Type 0} where
       of_reply : (e : ℕ) (v : View) (d : ℕ) (w : View) → Entered e v ≡ Entered d w → v ≡ w
       of_reply e v d w h = cc
 
-  pub allocate_place : (old : KeeperState F) (A : List Step) (p : PassRecord) (t n : ℕ) (new : KeeperState F) (r : Reply) (a : ℕ) → Called old A p (Allocate t n) new (Ok r) → r ≡ At a → a ≡ place_of old.core.sizes.page (tail old.core.sizes (A ++ p.touches)) n
-  allocate_place old A p t n new r a called is = of_reply a (place_of old.core.sizes.page (tail old.core.sizes (A ++ p.touches)) n) (sym is ∙ (accepted old A p (Allocate t n) new r called).1)
+  pub allocate_place : (old : KeeperState F) (A : List Step) (p : PassRecord) (t n : ℕ) (new : KeeperState F) (r : Reply) (a : ℕ) → Called old A p (Allocate t n) new (Ok r) → r ≡ At a → a ≡ place_of old.core.sizes.page_size (tail old.core.sizes (A ++ p.touches)) n
+  allocate_place old A p t n new r a called is = of_reply a (place_of old.core.sizes.page_size (tail old.core.sizes (A ++ p.touches)) n) (sym is ∙ (accepted old A p (Allocate t n) new r called).1)
     where
       of_reply : (a b : ℕ) → At a ≡ At b → a ≡ b
       of_reply a b h = cc
@@ -129,7 +129,7 @@ module _ {F : Type 0} where
   tail_behind keeper A p st view are =
       let rise = touches_rise p.slot p.held p.touches are in
       let held = (viewed keeper.core.sizes p.slot A p.held view).1 in
-      omega (arith, rise.2, ap (λ (w : View). w.tail) held, seen_tail-le keeper.core.sizes p.slot A (omega (arith, st.core_stands.in_range.page_least)) st.core_stands.accepted)
+      omega (arith, rise.2, ap (λ (w : View). w.tail) held, seen_tail-le keeper.core.sizes p.slot A (omega (arith, st.core_stands.in_range.page_size_least)) st.core_stands.accepted)
 
   -- a refreshed view isn't below the pass's own
   pub refresh_fresh : (keeper : KeeperState F) (A : List Step) (p : PassRecord) (u : Unit {0}) (v : View) → KeeperStands keeper A → Knows keeper p → AreTouches p.slot p.held p.touches → Ok u ≡ unless_fault (ahead_fault keeper A p) (tt {0}) → v ≡ view_of keeper.core.sizes p.slot (touched_list A p (Refresh p.slot)) → IsUpTo (seen p) v
@@ -143,19 +143,19 @@ module _ {F : Type 0} where
         omega (arith, tail_behind keeper A p st (known A st) are, still.2, ap (λ (w : View). w.tail) is),
       )
 
-  pub allocate_placed : (keeper : KeeperState F) (A : List Step) (p : PassRecord) (n : ℕ) (new : KeeperState F) (r : Reply) (a : ℕ) → KeeperStands keeper A → Knows keeper p → AreTouches p.slot p.held p.touches → Called keeper A p (Allocate p.slot n) new (Ok r) → r ≡ At a → Placed keeper.core.sizes.page a n (seen p)
+  pub allocate_placed : (keeper : KeeperState F) (A : List Step) (p : PassRecord) (n : ℕ) (new : KeeperState F) (r : Reply) (a : ℕ) → KeeperStands keeper A → Knows keeper p → AreTouches p.slot p.held p.touches → Called keeper A p (Allocate p.slot n) new (Ok r) → r ≡ At a → Placed keeper.core.sizes.page_size a n (seen p)
   unfolding touched_fault
   allocate_placed keeper A p n new r a st known are called is =
       let sizes : Sizes = keeper.core.sizes in
       let T : ℕ = tail sizes (A ++ p.touches) in
       let none = (accepted keeper A p (Allocate p.slot n) new r called).0 in
       let fine : fault_of sizes (A ++ p.touches) (Allocate p.slot n) ≡ None = (or_fault-none (room_fault keeper (length p.touches + 1)) (fault_of sizes (A ++ p.touches) (Allocate p.slot n)) none).1 in
-      let size = size-none sizes.page T n (allocate-none sizes (A ++ p.touches) p.slot n fine).1 in
-      let place : a ≡ place_of sizes.page T n = allocate_place keeper A p p.slot n new r a called is in
-      let some : 0 < sizes.page = omega (arith, st.core_stands.in_range.page_least) in
+      let size = size-none sizes.page_size T n (allocate-none sizes (A ++ p.touches) p.slot n fine).1 in
+      let place : a ≡ place_of sizes.page_size T n = allocate_place keeper A p p.slot n new r a called is in
+      let some : 0 < sizes.page_size = omega (arith, st.core_stands.in_range.page_size_least) in
       let still = touches_leave_offsets sizes p.slot A p.held p.touches are in record {
-        above = omega (arith, place, place_of-le sizes.page T n some, still.2, tail_behind keeper A p st (known A st) are);
-        one_page = subst (λ (z : ℕ). z / sizes.page ≡ (z + n - 1) / sizes.page) (sym place) (place_of-one_page sizes.page T n some size.0 size.1);
+        above = omega (arith, place, place_of-le sizes.page_size T n some, still.2, tail_behind keeper A p st (known A st) are);
+        one_page = subst (λ (z : ℕ). z / sizes.page_size ≡ (z + n - 1) / sizes.page_size) (sym place) (place_of-one_page sizes.page_size T n some size.0 size.1);
         most = omega (arith, place, size.2);
       }
 

@@ -43,12 +43,12 @@ loaded_next first k w out before mid after lt m a =
     ∙ sym (ap (λ ws. seeing (loaded_all first ws before.view) before) row ∙ ap (λ v. seeing v before) (loaded_push first (take k out) w before.view) ∙ ap (λ n. seeing (loaded (first + n) w (loaded_all first (take k out) before.view)) before) len)
 
 -- a page's cells are cells
-pub page_fits : (page frames p : ℕ) → 0 < frames → p % frames * page + page ≤ frames * page
-page_fits page frames p some =
+pub page_fits : (page_size frames p : ℕ) → 0 < frames → p % frames * page_size + page_size ≤ frames * page_size
+page_fits page_size frames p some =
     let lt : p % frames + 1 ≤ frames = omega (arith, mod_below p frames some) in
-    omega (arith, mul-le-mul_right page lt, add-mul (p % frames) 1 page)
+    omega (arith, mul-le-mul_right page_size lt, add-mul (p % frames) 1 page_size)
 
 -- and there are few of them
-pub page_few : (page frames p : ℕ) → 2 ≤ frames → frames ≤ 256 → page ≤ 4096 → p % frames * page + page ≤ 2 ^ 20
-page_few page frames p some f g =
-    omega (arith, page_fits page frames p (omega arith), mul-le-mul_right page f, mul-le-mul_left 256 g)
+pub page_few : (page_size frames p : ℕ) → 2 ≤ frames → frames ≤ 256 → page_size ≤ 4096 → p % frames * page_size + page_size ≤ 2 ^ 20
+page_few page_size frames p some f g =
+    omega (arith, page_fits page_size frames p (omega arith), mul-le-mul_right page_size f, mul-le-mul_left 256 g)

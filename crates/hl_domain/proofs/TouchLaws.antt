@@ -100,7 +100,7 @@ still_protected sizes A s t h = is_protected-push t A s ∙ ap₂ (λ b c. cond 
 
 -- the tail
 still_tail : (sizes : Sizes) (A : List Step) (s : Step) → IsStill s → tail sizes (A ++ s ∷ []) ≡ tail sizes A
-still_tail sizes A s h = tail-push sizes A s ∙ h.tail_stays sizes.page (tail sizes A)
+still_tail sizes A s h = tail-push sizes A s ∙ h.tail_stays sizes.page_size (tail sizes A)
 
 -- the fault of a slot
 still_slot : (sizes : Sizes) (A : List Step) (s : Step) (t : ℕ) → IsStill s → protected_fault sizes (A ++ s ∷ []) t ≡ protected_fault sizes A t
@@ -108,12 +108,12 @@ still_slot sizes A s t h = ap (λ b. cond (leb sizes.slots t) (Some NoSlot) (con
 
 -- the page of a record where the tail is T
 abbrev page_at : Sizes → ℕ → ℕ → ℕ
-page_at sizes n T = place_of sizes.page T n / sizes.page
+page_at sizes n T = place_of sizes.page_size T n / sizes.page_size
 
 -- the fault of an allocation, told the tail and whether the page is freed whose frame it wants
 abbrev allocation : Sizes → ℕ → ℕ → Bool → Option Fault
 allocation sizes n T freed =
-    or_fault (size_fault sizes.page T n) (cond (ltb (page_at sizes n T * sizes.page) T || cond (ltb (page_at sizes n T) sizes.frames) true freed) None (Some (Busy (page_at sizes n T))))
+    or_fault (size_fault sizes.page_size T n) (cond (ltb (page_at sizes n T * sizes.page_size) T || cond (ltb (page_at sizes n T) sizes.frames) true freed) None (Some (Busy (page_at sizes n T))))
 
 still_allocation : (sizes : Sizes) (A : List Step) (s : Step) (n : ℕ) → IsStill s → allocate_fault sizes (A ++ s ∷ []) n ≡ allocate_fault sizes A n
 still_allocation sizes A s n h =
@@ -174,7 +174,7 @@ touches_rise t v (Write u a x ∷ xs) are = touches_rise t v xs are.1
 touches_rise t v (_ ∷ xs) are = absurd are.0
 
 -- a slot never saw a tail above the present one
-pub seen_tail-le : (sizes : Sizes) (t : ℕ) (A : List Step) → 0 < sizes.page → IsAccepted sizes A → seen_tail sizes t A ≤ tail sizes A
+pub seen_tail-le : (sizes : Sizes) (t : ℕ) (A : List Step) → 0 < sizes.page_size → IsAccepted sizes A → seen_tail sizes t A ≤ tail sizes A
 unfolding seen_tail
 seen_tail-le sizes t A some a =
     let n : ℕ = max (mark t A) (until_last (allocates t) A) in

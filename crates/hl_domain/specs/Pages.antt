@@ -23,7 +23,7 @@ to_clean sizes stamp A = record { stamp = stamp; page = unwrap_or (next_to_clean
 
 -- the first cell of page p
 abbrev pub first_cell : Sizes → ℕ → ℕ
-first_cell sizes p = p % sizes.frames * sizes.page
+first_cell sizes p = p % sizes.frames * sizes.page_size
 
 -- a rider's view after it stored 0 into n cells from a cell on
 unfoldable pub zeroed : ℕ → ℕ → RiderView → RiderView

@@ -49,7 +49,7 @@ load_fault p a = if nat_lt a (seen p).head then Some (Evicted (seen p).head) els
 
 -- the cell of address a
 abbrev pub cell_at : Sizes → ℕ → ℕ
-cell_at sizes a = a / sizes.page % sizes.frames * sizes.page + a % sizes.page
+cell_at sizes a = a / sizes.page_size % sizes.frames * sizes.page_size + a % sizes.page_size
 
 -- the pass after a store of v at address a: its rider stored it into the address's cell, and it has one touch
 -- more

@@ -40,7 +40,7 @@ impl<E: Epochs, F: Task, P: Promise, L: Realm> Model for Domain<E, F, P, L> {
     ghost view = { λ d. record { sizes = d.params; stamp = d.stamp; riders = d.words.riders } };
 
     ghost invariant = { λ d. (d.params ≡ L.sizes) × (d.stamp ≡ L.stamp)
-        × (d.words.cells ≡ d.params.frames * d.params.page) };
+        × (d.words.cells ≡ d.params.frames * d.params.page_size) };
 }
 
 impl<E: Epochs + Drop, F: Task, P: Promise, L: Realm> Drop for Domain<E, F, P, L> {

@@ -104,7 +104,7 @@ impl<E: Epochs + Drop, F: Task, P: Promise, L: Realm> Keeper<E, F, P, L> {
         ensures limit { IfOk result (λ opened. opened.0.limit ≡ journal) }
         ensures stamp { IfOk result (λ opened. (opened.0.stamp ≡ stamp) × (opened.0.acquired ≡ 0)) }
         ensures words { IfOk result (λ opened.
-            opened.1 ≡ record { cells = seed.sizes.frames * seed.sizes.page; riders = seed.riders }) }
+            opened.1 ≡ record { cells = seed.sizes.frames * seed.sizes.page_size; riders = seed.riders }) }
         ensures riders { IfOk result (λ opened. opened.2.items ≡ replicate seed.riders new_rider) }
         ensures memory { IfErr result (λ fault. fault ≡ OutOfMemory) }
     {

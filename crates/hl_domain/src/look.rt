@@ -58,7 +58,7 @@ pub(crate) fn store<L: Realm>(
     a: u64,
     v: u64,
 ) -> Result<(), Fault>
-    requires { words.now.cells ≡ params.frames * params.page }
+    requires { words.now.cells ≡ params.frames * params.page_size }
     ensures answer { result ≡ unless_fault (store_fault pass.old a) tt }
     ensures pass { let old = pass.old
         in pass.new ≡ unless_refused (store_fault old a) old (with_store params a v old) }
@@ -80,7 +80,7 @@ pub(crate) fn load<L: Realm>(
     pass: &mut Pass<L>,
     a: u64,
 ) -> Result<u64, Fault>
-    requires { words.now.cells ≡ params.frames * params.page }
+    requires { words.now.cells ≡ params.frames * params.page_size }
     ensures answer { let met = load_fault pass.old a
         in MatchResult result (λ _. met ≡ None) (λ fault. met ≡ Some fault) }
     ensures pass { let old = pass.old

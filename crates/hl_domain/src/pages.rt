@@ -102,7 +102,7 @@ impl<E: Epochs + Drop, F: Task, P: Promise, L: Realm> Keeper<E, F, P, L> {
         rider: &mut Rider<L>,
         broom: Broom,
     ) -> Result<u64, (Fault, Broom)>
-        requires { broom.swept ≡ self.old.core.sizes.page }
+        requires { broom.swept ≡ self.old.core.sizes.page_size }
         ensures made { Ends self.old broom.stamp (CLEAN_DONE broom.page)
             (λ A. broom.page) self.new (told result) }
         ensures refused { IfErr result (λ back. (back.1 ≡ broom) × (self.new ≡ self.old)) }

@@ -81,7 +81,7 @@ impl<E: Epochs + Drop, F: Task, P: Promise, L: Realm> Keeper<E, F, P, L> {
         ensures made { let sizes = self.old.core.sizes
             in let p = pass.old
             in MakesTouched self.old p (ALLOCATE p.slot n) (λ A. call_fault self.old A p (ALLOCATE p.slot n))
-            (λ A. place_of sizes.page (tail sizes (A ++ p.touches)) n) self.new result }
+            (λ A. place_of sizes.page_size (tail sizes (A ++ p.touches)) n) self.new result }
         ensures refused { OnErr result (self.new ≡ self.old) }
         ensures stays { Stays self.old self.new }
         ensures stamps { (self.new.stamps ≡ self.old.stamps) × (self.new.acquired ≡ self.old.acquired) }
@@ -92,8 +92,8 @@ impl<E: Epochs + Drop, F: Task, P: Promise, L: Realm> Keeper<E, F, P, L> {
             (λ _. pass.new ≡ old) }
         ensures above { IfOk result (λ a. (seen pass.old).tail ≤ a) }
         ensures within { IfOk result (λ address. address + n ≤ 2 ^ 48) }
-        ensures one_page { let page = self.old.core.sizes.page
-            in IfOk result (λ a. a / page ≡ (a + n - 1) / page) }
+        ensures one_page { let page_size = self.old.core.sizes.page_size
+            in IfOk result (λ a. a / page_size ≡ (a + n - 1) / page_size) }
     {
         self.known(pass)?;
         let seen = pass.view;

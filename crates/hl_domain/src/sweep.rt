@@ -19,8 +19,8 @@ pub(crate) fn copy_page<L: Realm>(
     rider: &mut Rider<L>,
     out: &mut [u64],
 ) -> Result<(), Fault>
-    requires cells { words.now.cells ≡ params.frames * params.page }
-    requires places { length out.old ≡ params.page }
+    requires cells { words.now.cells ≡ params.frames * params.page_size }
+    requires places { length out.old ≡ params.page_size }
     ensures answer { result ≡ unless_fault (unless_stranger (job.stamp == stamp) stamp) tt }
     ensures loads { let old = rider.old
         in OnOk result (rider.new
@@ -44,14 +44,14 @@ pub(crate) fn sweep<L: Realm>(
     broom: &mut Broom,
     rider: &mut Rider<L>,
 ) -> Result<(), Fault>
-    requires { words.now.cells ≡ params.frames * params.page }
+    requires { words.now.cells ≡ params.frames * params.page_size }
     ensures answer { result ≡ unless_fault (unless_stranger (broom.old.stamp == stamp) stamp) tt }
     ensures broom { let old = broom.old
-        in OnOk result (broom.new ≡ record { stamp = old.stamp; page = old.page; swept = params.page }) }
+        in OnOk result (broom.new ≡ record { stamp = old.stamp; page = old.page; swept = params.page_size }) }
     ensures stores { let old = rider.old
         in OnOk result (rider.new
         ≡ record {
-          view = zeroed (first_cell params broom.old.page) params.page old.view;
+          view = zeroed (first_cell params broom.old.page) params.page_size old.view;
           share = old.share;
         }) }
     ensures refused { OnErr result ((broom.new ≡ broom.old) × (rider.new ≡ rider.old)) }
@@ -59,7 +59,7 @@ pub(crate) fn sweep<L: Realm>(
     if broom.stamp() != stamp {
         return Err(Fault::Stranger { stamp });
     }
-    let (first, places) = (first_cell(params, broom.page()), params.page());
+    let (first, places) = (first_cell(params, broom.page()), params.page_size());
     zero_cells(words, rider, first, places);
     broom.count(places);
     Ok(())
@@ -68,10 +68,10 @@ pub(crate) fn sweep<L: Realm>(
 // The first cell of a page. Behind it the page has P cells.
 fn first_cell(params: Params, page: u64) -> u64
     ensures value { result ≡ first_cell params page }
-    ensures room { result + params.page ≤ params.frames * params.page }
-    ensures few { result + params.page ≤ 2 ^ 20 }
+    ensures room { result + params.page_size ≤ params.frames * params.page_size }
+    ensures few { result + params.page_size ≤ 2 ^ 20 }
 {
-    page % params.frames() * params.page()
+    page % params.frames() * params.page_size()
 }
 
 // Loads as many cells as there are places.

@@ -45,7 +45,7 @@ pub(crate) fn job(tag: u64, number: u64) -> Asked {
 /// Words for this many riders, of pages of 4 words in 2 frames, 2 slots and 4 places for actions.
 pub(crate) fn small_seed(alloc: Global, riders: usize) -> Result<Seed, Fault>
     requires { (1 ≤ riders) × (riders ≤ 128) }
-    ensures { IfOk result (λ seed. seed.sizes.page ≡ 4) }
+    ensures { IfOk result (λ seed. seed.sizes.page_size ≡ 4) }
 {
     let params = Params::checked(4, 2, 2, 4).ok_or(Fault::Size)?;
     Seed::make(alloc, params, riders)

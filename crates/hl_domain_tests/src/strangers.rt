@@ -137,7 +137,7 @@ fn strange_load<L: Realm, M: Realm>(
     theirs: &mut Rider<M>,
     load: Load,
 )
-    requires { other.now.sizes.page ≡ 4 }
+    requires { other.now.sizes.page_size ≡ 4 }
 {
     let before = other.snapshot(rt);
     let copied = other.copy_page(load.job(), theirs, &mut [0; 4]);
@@ -165,7 +165,7 @@ fn strange_broom<L: Realm, M: Realm>(
     theirs: &mut Rider<M>,
     broom: Broom,
 )
-    requires { (one.now.sizes.page ≡ 4) × (other.now.sizes.page ≡ 4) }
+    requires { (one.now.sizes.page_size ≡ 4) × (other.now.sizes.page_size ≡ 4) }
 {
     let mut broom = broom;
     let before = other.snapshot(rt);
@@ -198,7 +198,7 @@ fn strangers<L: Realm, M: Realm>(
     requires first_named { (first.sizes ≡ L.sizes) × (1000 ≡ L.stamp) }
     requires second { IsSeedOf M.name M.parts M.table second }
     requires second_named { (second.sizes ≡ M.sizes) × (2000 ≡ M.stamp) }
-    requires pages { (first.sizes.page ≡ 4) × (second.sizes.page ≡ 4) }
+    requires pages { (first.sizes.page_size ≡ 4) × (second.sizes.page_size ≡ 4) }
 {
     let (one, mut riders) = Pages::<CountTable, L>::open(alloc, first, 100, 1000)?;
     let (other, mut others) = Pages::<CountTable, M>::open(alloc, second, 100, 2000)?;

@@ -73,7 +73,7 @@ module _ {F : Type 0} (A : List Step) (old new : Whole F) (page : ℕ) (before :
   taken-shown =
       let range : AreInRange new.core.sizes = t.standing.core_stands.in_range in
       let accepted : IsAccepted new.core.sizes (A ++ FlushTake ∷ []) = t.standing.core_stands.accepted in
-      let some_words : 0 < new.core.sizes.page = omega (arith, range.page_least) in
+      let some_words : 0 < new.core.sizes.page_size = omega (arith, range.page_size_least) in
       let some_frames : 0 < new.core.sizes.frames = omega (arith, range.frames_least) in (
         A ++ FlushTake ∷ [],
         t.standing,

@@ -29,7 +29,7 @@ where
     F: Task,
     P: Promise,
     W: PageWriter,
-    requires { length image.old ≡ 8 + 8 * engine.old.core.sizes.page }
+    requires { length image.old ≡ 8 + 8 * engine.old.core.sizes.page_size }
     ensures flushes { (A : List STEP) → EngineStands engine.old A
         → Flushes A W.wrote W.failed engine.old engine.new writer.old writer.new result }
     ensures faults { IfErr result (λ fault. (fault ≡ Fault.NoneSealed) ⊎ (fault ≡ Fault.Device)) }

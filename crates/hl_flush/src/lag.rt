@@ -24,14 +24,14 @@ pub fn lag_steps(params: Params, six: Six, mutable: u64, resident: u64) -> Array
     requires mutable_least { 1 ≤ mutable }
     requires mutable_most { mutable ≤ resident }
     requires resident_most { resident ≤ params.frames }
-    ensures steps { result.items ≡ lag_of params.page six mutable resident }
-    ensures lawful { AreInOrder params.page six
-        → All (λ step. fault_at params.page six step ≡ None) result.items }
+    ensures steps { result.items ≡ lag_of params.page_size six mutable resident }
+    ensures lawful { AreInOrder params.page_size six
+        → All (λ step. fault_at params.page_size six step ≡ None) result.items }
 {
-    let page = params.page();
-    let pages = six.tail.div_ceil(page);
-    let writable_from = page * pages.saturating_sub(mutable);
-    let resident_from = page * pages.saturating_sub(resident);
+    let page_size = params.page_size();
+    let pages = six.tail.div_ceil(page_size);
+    let writable_from = page_size * pages.saturating_sub(mutable);
+    let resident_from = page_size * pages.saturating_sub(resident);
     let read_only = six.read_only.max(writable_from);
     let head = six.head.max(six.flushed.min(resident_from));
     let raise = Step::Raise { x: read_only };

@@ -93,28 +93,28 @@ least-below waits q n passes least =
     ]
 
 -- the least that waits is found, where its page ends at or below the offset
-pub least-found : (T : Pages) (waits : ℕ → Bool) (q offset : ℕ) → IsFrames T → IsLeast waits q → then_some (leb ((q + 1) * T.page) offset) q ≡ find waits (range_with_len 0 (pages_below offset T))
+pub least-found : (T : Pages) (waits : ℕ → Bool) (q offset : ℕ) → IsFrames T → IsLeast waits q → then_some (leb ((q + 1) * T.page_size) offset) q ≡ find waits (range_with_len 0 (pages_below offset T))
 least-found T waits q offset is least =
     elim (cases_lt q (pages_below offset T)) [
       | inl below ↦
-          rw (le-leb ((q + 1) * T.page) offset ((is.ends q offset).0 below))
+          rw (le-leb ((q + 1) * T.page_size) offset ((is.ends q offset).0 below))
           (sym (find-first waits 0 (pages_below offset T) q (λ k from less. least.before k less) (omega arith) (omega arith) least.here))
       | inr past ↦
-          let ends : offset < (q + 1) * T.page = elim (cases_lt offset ((q + 1) * T.page)) [
+          let ends : offset < (q + 1) * T.page_size = elim (cases_lt offset ((q + 1) * T.page_size)) [
             | inl less ↦ less
             | inr most ↦ let e = (is.ends q offset).1 most in absurd (omega arith)
           ] in
-          rw (lt-leb ((q + 1) * T.page) offset ends)
+          rw (lt-leb ((q + 1) * T.page_size) offset ends)
           (sym (find-missing waits 0 (pages_below offset T) (λ k from less. least.before k (omega arith))))
     ]
 
 -- the end of a page at or below the next one is an address
-pub end_fits : (T : Pages) (q : ℕ) → IsFrames T → q ≤ T.entered → (q + 1) * T.page ≤ 2 ^ 48 + 4096
-end_fits T q is most = omega (arith, mul-le-mul_right T.page most, is.within_space, is.page_most)
+pub end_fits : (T : Pages) (q : ℕ) → IsFrames T → q ≤ T.entered → (q + 1) * T.page_size ≤ 2 ^ 48 + 4096
+end_fits T q is most = omega (arith, mul-le-mul_right T.page_size most, is.within_space, is.page_size_most)
 
 -- and so is its number
 pub number_fits : (T : Pages) (q : ℕ) → IsFrames T → q ≤ T.entered → q + 1 ≤ 2 ^ 48 + 4096
-number_fits T q is most = omega (arith, end_fits T q is most, mul-le-mul_left (q + 1) is.page_least)
+number_fits T q is most = omega (arith, end_fits T q is most, mul-le-mul_left (q + 1) is.page_size_least)
 
 -- the flushed run is of flushed pages
 run-flushed : (T : Pages) (q : ℕ) → q < flushed_run T → is_flushed q T ≡ true
@@ -200,7 +200,7 @@ run-walked T T' run r is' was keeps walked stops most =
 
 -- a page that is found is the least that waits
 pub found-least : (T : Pages) (waits : ℕ → Bool) (least q offset : ℕ) → IsFrames T → IsLeast waits least → find waits (range_with_len 0 (pages_below offset T)) ≡ Some q → least ≡ q
-found-least T waits least q offset is stored found = then_some-is (leb ((least + 1) * T.page) offset) least q (least-found T waits least offset is stored ∙ found)
+found-least T waits least q offset is stored found = then_some-is (leb ((least + 1) * T.page_size) offset) least q (least-found T waits least offset is stored ∙ found)
 
 -- the stored pages after each call
 pub stored-entered : (T : Pages) (q run to_flush to_clean : ℕ) → IsFrames T → q ≡ T.entered → may_enter q T ≡ true → IsFrames (entered q T) → AreStored T run to_flush to_clean → AreStored (entered q T) run to_flush to_clean

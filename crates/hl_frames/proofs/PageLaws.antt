@@ -69,8 +69,8 @@ IsFrames-changed T q change is keeps marks =
       | inr other ↦ ap page_in (get_or-set_other T.frames place f (option_map change (get_or T.frames place None)) None other)
     ] in
     record {
-      page_least = is.page_least;
-      page_most = is.page_most;
+      page_size_least = is.page_size_least;
+      page_size_most = is.page_size_most;
       frames_least = rw count is.frames_least;
       frames_most = rw count is.frames_most;
       within_space = is.within_space;
@@ -94,7 +94,7 @@ run_within T = omega (arith, prefix_len-le-length (λ q. is_flushed q T) (range_
 
 -- the flushed offset is an address
 pub offset_within : (T : Pages) → IsFrames T → flushed_offset T ≤ 2 ^ 48
-offset_within T is = omega (arith, mul-le-mul_right T.page (run_within T), is.within_space)
+offset_within T is = omega (arith, mul-le-mul_right T.page_size (run_within T), is.within_space)
 
 -- neither of two
 neither : (a b : Bool) → not (a || b) ≡ true → (a ≡ false) × (b ≡ false)
@@ -211,14 +211,14 @@ IsFrames-clean_ended T q is cleans =
 -- pages below the flushed offset are flushed
 pub closed-flushed : (T : Pages) (closed q : ℕ) → IsFrames T → closed ≤ flushed_offset T → q < pages_below closed T → (is_flushed q T ≡ true) × (q < T.entered)
 closed-flushed T closed q is most below =
-    let some : 0 < T.page = omega (arith, is.page_least) in
-    let most_pages : pages_below closed T ≤ flushed_run T = div-le_of_le-mul T.page (rw (mul_comm T.page (flushed_run T)) most) in
+    let some : 0 < T.page_size = omega (arith, is.page_size_least) in
+    let most_pages : pages_below closed T ≤ flushed_run T = div-le_of_le-mul T.page_size (rw (mul_comm T.page_size (flushed_run T)) most) in
     let run = run_within T in
     let entered : q < T.entered = omega arith in
     (rw (get_or-range_with_len, zero-add) at (prefix_len_passes (λ q. is_flushed q T) (range_with_len 0 T.entered) q 0 (omega arith)), entered)
 
 -- where the next page is entered, all frames stay frames
-pub IsFrames-entered : (T : Pages) (q : ℕ) → IsFrames T → q ≡ T.entered → q < 2 ^ 48 / T.page → IsFrames (entered q T)
+pub IsFrames-entered : (T : Pages) (q : ℕ) → IsFrames T → q ≡ T.entered → q < 2 ^ 48 / T.page_size → IsFrames (entered q T)
 IsFrames-entered T q is next space =
     let F : ℕ = length T.frames in
     let place : ℕ = q % F in
@@ -226,12 +226,12 @@ IsFrames-entered T q is next space =
     let frames : List (Option Held) = set T.frames place (Some (unmarked q)) in
     let count : length frames ≡ F = length-set T.frames place (Some (unmarked q)) in
     let here : get_or frames place None ≡ Some (unmarked q) = get_or-set_same T.frames place (Some (unmarked q)) None there in
-    let some : 0 < T.page = omega (arith, is.page_least) in
+    let some : 0 < T.page_size = omega (arith, is.page_size_least) in
     let below : place ≤ q = mod-le q F in
-    let room : q + 1 ≤ 2 ^ 48 / T.page = omega arith in
+    let room : q + 1 ≤ 2 ^ 48 / T.page_size = omega arith in
     record {
-      page_least = is.page_least;
-      page_most = is.page_most;
+      page_size_least = is.page_size_least;
+      page_size_most = is.page_size_most;
       frames_least = rw count is.frames_least;
       frames_most = rw count is.frames_most;
       within_space = (le-div_iff_mul-le some).0 room;

@@ -10,7 +10,7 @@ use Rattle.hl_frames.specs.Pages.{Pages, held_for, may_enter, is_in_flight, is_c
 
 -- no page was entered
 abbrev pub opened : ℕ → ℕ → Pages
-opened page frames = record { page = page; frames = replicate frames None; entered = 0 }
+opened page_size frames = record { page_size = page_size; frames = replicate frames None; entered = 0 }
 
 -- a page with no mark
 abbrev pub unmarked : ℕ → Held

@@ -22,13 +22,13 @@ HasLeft q (Some held) = q < held.page
 
 -- what is true of all frames
 pub record IsFrames (T : Pages) : Type 0 where
-  pub page_least : 4 ≤ T.page
-  pub page_most : T.page ≤ 4096
+  pub page_size_least : 4 ≤ T.page_size
+  pub page_size_most : T.page_size ≤ 4096
   pub frames_least : 2 ≤ length T.frames
   pub frames_most : length T.frames ≤ 256
-  pub within_space : T.entered * T.page ≤ 2 ^ 48
+  pub within_space : T.entered * T.page_size ≤ 2 ^ 48
   -- the pages that end at or below an offset are those below their number
-  pub ends : (q offset : ℕ) → (q < pages_below offset T) ↔ ((q + 1) * T.page ≤ offset)
+  pub ends : (q offset : ℕ) → (q < pages_below offset T) ↔ ((q + 1) * T.page_size ≤ offset)
   -- each of the last F pages lies in its frame
   pub held : (q : ℕ) → q < T.entered → T.entered ≤ q + length T.frames → page_in (held_for q T) ≡ Some q
   -- each entered page before these left it

@@ -8,7 +8,7 @@ use Rattle.hl_frames.specs.Row.{HasFrame}
 
 -- the pages of these fields
 abbrev pub pages_of : Inside → Pages
-pages_of a = record { page = a.words; frames = a.held.items; entered = a.entered }
+pages_of a = record { page_size = a.page_size; frames = a.held.items; entered = a.entered }
 
 -- page q is the least that waits
 pub record IsLeast (waits : ℕ → Bool) (q : ℕ) : Type 0 where

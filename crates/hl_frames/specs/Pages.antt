@@ -6,7 +6,7 @@ use Rattle.hl_model.specs.declared.frame.Held.{Held}
 -- the words of a page; what each frame holds, None where nothing was entered; how many pages were entered, 0
 -- and on
 pub record Pages : Type 0 where
-  pub page : ℕ
+  pub page_size : ℕ
   pub frames : List (Option Held)
   pub entered : ℕ
 
@@ -46,7 +46,7 @@ may_enter q T = if nat_lt q (length T.frames) then true else is_freed (q - lengt
 
 -- how many pages end at or below an offset: those below this number
 abbrev pub pages_below : ℕ → Pages → ℕ
-pages_below offset T = offset / T.page
+pages_below offset T = offset / T.page_size
 
 -- page q waits to be flushed, once it is sealed
 abbrev pub is_unflushed : Pages → ℕ → Bool
@@ -70,4 +70,4 @@ flushed_run T = prefix_len (λ q. is_flushed q T) (range_with_len 0 T.entered)
 
 -- the flushed offset
 abbrev pub flushed_offset : Pages → ℕ
-flushed_offset T = flushed_run T * T.page
+flushed_offset T = flushed_run T * T.page_size

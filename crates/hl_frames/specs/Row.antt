@@ -6,7 +6,7 @@ use Rattle.hl_frames.specs.Pages.{Pages}
 
 -- these frames, with nothing said of the words of a page or of how many were entered
 abbrev pub pages_in : List (Option Held) → Pages
-pages_in frames = record { page = 0; frames = frames; entered = 0 }
+pages_in frames = record { page_size = 0; frames = frames; entered = 0 }
 
 -- the frame that is kept beside a page is the page's
 abbrev pub HasFrame : Placed → List (Option Held) → Type 0

@@ -14,7 +14,7 @@ use std::marker::Model;
 /// The frames of a log, with the marks of the pages in them.
 #[derive(Drop)]
 pub struct Frames {
-    words: u64,
+    page_size: u64,
     entered: u64,
     held: Vec<Option<Held>>,
     // The least page that isn't flushed: so many pages are, from page 0 on.
@@ -43,13 +43,13 @@ impl Frames {
     ///
     /// `OutOfMemory` where memory for the row was refused.
     pub fn open(alloc: Global, params: Params) -> Result<Frames, Fault>
-        ensures ok { IfOk result (λ made. made ≡ opened params.page params.frames) }
+        ensures ok { IfOk result (λ made. made ≡ opened params.page_size params.frames) }
         ensures err { IfErr result (λ fault. fault ≡ Fault.OutOfMemory) }
         ensures valid { IfOk result IsFrames }
     {
         let first = Placed { page: 0, frame: 0 };
         Ok(Frames {
-            words: params.page(),
+            page_size: params.page_size(),
             entered: 0,
             held: filled(alloc, params.frames(), None)?,
             run: first,
@@ -69,7 +69,7 @@ impl Frames {
     /// `Busy`, with the page, where its frame isn't free: the page F before it isn't freed.
     pub fn enter(&mut self, page: u64) -> Result<(), Fault>
         requires next { page ≡ self.old.entered }
-        requires within_space { page < 2 ^ 48 / self.old.page }
+        requires within_space { page < 2 ^ 48 / self.old.page_size }
         ensures answer { result ≡ enter_answer page self.old }
         ensures pages { self.new ≡ after_enter page self.old }
         ensures refused { OnErr result (self.new ≡ self.old) }
@@ -144,7 +144,7 @@ impl Frames {
             // The page waits again.
             self.to_flush = self.to_flush.min(Placed { page, frame });
         }
-        Ok(self.run.page * self.words)
+        Ok(self.run.page * self.page_size)
     }
 
     /// Takes the least closed page that is neither freed nor being cleaned: it then is being cleaned. `closed` is
@@ -212,11 +212,11 @@ impl Frames {
         let page = held.page;
         if held.freed {
             (FrameState::Free, None)
-        } else if page < closed / self.words {
+        } else if page < closed / self.page_size {
             (FrameState::Closed, Some(page))
         } else if held.flushed {
             (FrameState::Flushed, Some(page))
-        } else if page < sro / self.words {
+        } else if page < sro / self.page_size {
             (FrameState::Sealed, Some(page))
         } else {
             (FrameState::Opened, Some(page))
@@ -229,7 +229,7 @@ impl Frames {
         ensures offset { result ≡ flushed_offset self.now }
         ensures valid { IsFrames self.now }
     {
-        self.run.page * self.words
+        self.run.page * self.page_size
     }
 
     /// The page that `flush_take` would take: the least one below the safe read-only offset, a word's address, that is
@@ -240,7 +240,7 @@ impl Frames {
         ensures valid { IsFrames self.now }
     {
         let page = self.to_flush.page;
-        let end = (page + 1) * self.words;
+        let end = (page + 1) * self.page_size;
         (end <= sro).then_some(page)
     }
 
@@ -252,7 +252,7 @@ impl Frames {
         ensures valid { IsFrames self.now }
     {
         let page = self.to_clean.page;
-        let end = (page + 1) * self.words;
+        let end = (page + 1) * self.page_size;
         (end <= closed).then_some(page)
     }
 
@@ -270,20 +270,13 @@ impl Frames {
         is_cleaning(self.held[self.frame_of(page)], page)
     }
 
-    /// Whether a page was entered.
-    pub fn is_entered(&self, page: u64) -> bool
-        ensures { result ≡ nat_lt page self.now.entered }
-    {
-        page < self.entered
-    }
-
     /// Whether the page of an address, in words, was entered. The end of the entered pages is a product, where the page
     /// of the address would be a quotient.
     #[inline(always)]
     pub fn is_entered_at(&self, address: u64) -> bool
-        ensures { result ≡ nat_lt (address / self.now.page) self.now.entered }
+        ensures { result ≡ nat_lt (address / self.now.page_size) self.now.entered }
     {
-        address < self.entered * self.words
+        address < self.entered * self.page_size
     }
 
     /// How many frames of the row the last accepted call of each kind visited.

@@ -18,12 +18,12 @@ in_range_if s h =
     let least6 = and_parts _ (leb 1 s.slots) most6.0 in
     let most4 = and_parts _ (leb s.frames 256) least6.0 in
     let least4 = and_parts _ (leb 2 s.frames) most4.0 in
-    let power = and_parts _ (is_power_of_two s.page) least4.0 in
-    let page = and_parts (leb 4 s.page) (leb s.page 4096) power.0 in
+    let power = and_parts _ (is_power_of_two s.page_size) least4.0 in
+    let page = and_parts (leb 4 s.page_size) (leb s.page_size 4096) power.0 in
     record {
-      page_least = leb-true 4 s.page page.0;
-      page_most = leb-true s.page 4096 page.1;
-      page_power = power.1;
+      page_size_least = leb-true 4 s.page_size page.0;
+      page_size_most = leb-true s.page_size 4096 page.1;
+      page_size_power = power.1;
       frames_least = leb-true 2 s.frames least4.1;
       frames_most = leb-true s.frames 256 most4.1;
       slots_least = leb-true 1 s.slots least6.1;
@@ -35,8 +35,8 @@ in_range_if s h =
 -- sizes in range pass it
 in_range_test : (s : Sizes) → AreInRange s → are_in_range s ≡ true
 in_range_test s h =
-    and_from _ (leb s.drain 64) (and_from _ (leb 1 s.drain) (and_from _ (leb s.slots 64) (and_from _ (leb 1 s.slots) (and_from _ (leb s.frames 256) (and_from _ (leb 2 s.frames) (and_from _ (is_power_of_two s.page) (and_from (leb 4 s.page) (leb s.page 4096)
-    (le-leb 4 s.page h.page_least) (le-leb s.page 4096 h.page_most)) h.page_power) (le-leb 2 s.frames h.frames_least)) (le-leb s.frames 256 h.frames_most)) (le-leb 1 s.slots h.slots_least)) (le-leb s.slots 64 h.slots_most)) (le-leb 1 s.drain h.drain_least)) (le-leb s.drain 64 h.drain_most)
+    and_from _ (leb s.drain 64) (and_from _ (leb 1 s.drain) (and_from _ (leb s.slots 64) (and_from _ (leb 1 s.slots) (and_from _ (leb s.frames 256) (and_from _ (leb 2 s.frames) (and_from _ (is_power_of_two s.page_size) (and_from (leb 4 s.page_size) (leb s.page_size 4096)
+    (le-leb 4 s.page_size h.page_size_least) (le-leb s.page_size 4096 h.page_size_most)) h.page_size_power) (le-leb 2 s.frames h.frames_least)) (le-leb s.frames 256 h.frames_most)) (le-leb 1 s.slots h.slots_least)) (le-leb s.slots 64 h.slots_most)) (le-leb 1 s.drain h.drain_least)) (le-leb s.drain 64 h.drain_most)
 
 -- sizes in range open
 pub config_of-in_range : (s : Sizes) → AreInRange s → config_of s ≡ Some (Config s)

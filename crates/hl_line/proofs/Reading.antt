@@ -15,25 +15,25 @@ use Rattle.hl_line.proofs.Words.{first_number, after_number, last_number, kept_i
 use Rattle.hl_line.proofs.Fitting.{config_of-in_range, guess_fits}
 
 -- sizes that are equal, number by number
-config_same : (a b c d : ℕ) (s : Sizes) → a ≡ s.page → b ≡ s.frames → c ≡ s.slots → d ≡ s.drain → config_of (record { page = a; frames = b; slots = c; drain = d }) ≡ config_of s
+config_same : (a b c d : ℕ) (s : Sizes) → a ≡ s.page_size → b ≡ s.frames → c ≡ s.slots → d ≡ s.drain → config_of (record { page_size = a; frames = b; slots = c; drain = d }) ≡ config_of s
 config_same a b c d s p f t e = rw (p, f, t, e) refl
 
 -- the spelling of a config looks like this config
 guess_of-config : (s : Sizes) → AreInRange s → guess_of (spelling (Config s)) ≡ Some (Config s)
 unfolding guess_of line_with worded
 guess_of-config s h =
-    let p : s.page < 2 ^ 64 = omega arith in
+    let p : s.page_size < 2 ^ 64 = omega arith in
     let f : s.frames < 2 ^ 64 = omega arith in
     let t : s.slots < 2 ^ 64 = omega arith in
     let d : s.drain < 2 ^ 64 = omega arith in
     let rest3 = decimal s.drain ++ [] in
     let rest2 = decimal s.slots ++ (32 ∷ rest3) in
     let rest1 = decimal s.frames ++ (32 ∷ rest2) in
-    let rest0 = decimal s.page ++ (32 ∷ rest1) in
-    let e1 : other_words rest0 ≡ rest1 = after_number s.page rest1 p in
+    let rest0 = decimal s.page_size ++ (32 ∷ rest1) in
+    let e1 : other_words rest0 ≡ rest1 = after_number s.page_size rest1 p in
     let e2 : other_words (other_words rest0) ≡ rest2 = ap other_words e1 ∙ after_number s.frames rest2 f in
     let e3 : other_words (other_words (other_words rest0)) ≡ rest3 = ap other_words e2 ∙ after_number s.slots rest3 t in
-    let n0 : number_in (first_word rest0) ≡ s.page = first_number s.page rest1 p in
+    let n0 : number_in (first_word rest0) ≡ s.page_size = first_number s.page_size rest1 p in
     let n1 : number_in (first_word (other_words rest0)) ≡ s.frames = ap (λ r. number_in (first_word r)) e1 ∙ first_number s.frames rest2 f in
     let n2 : number_in (first_word (other_words (other_words rest0))) ≡ s.slots = ap (λ r. number_in (first_word r)) e2 ∙ first_number s.slots rest3 t in
     let n3 : number_in (first_word (other_words (other_words (other_words rest0)))) ≡ s.drain = ap (λ r. number_in (first_word r)) e3 ∙ last_number s.drain d in

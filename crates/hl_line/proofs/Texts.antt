@@ -46,14 +46,14 @@ triple_length word a b c ha hb hc =
     omega (arith, length-append word (flat_map spaced (a ∷ b ∷ c ∷ [])), length-append (decimal a) (flat_map spaced (b ∷ c ∷ [])), length-append (decimal b) (flat_map spaced (c ∷ [])), length-append (decimal c) [])
 
 -- the sizes of a `config`, of at most four digits each
-pub config_length : (word : List ℕ) (s : Sizes) → AreInRange s → length (worded word (s.page ∷ s.frames ∷ s.slots ∷ s.drain ∷ [])) ≤ length word + 20
+pub config_length : (word : List ℕ) (s : Sizes) → AreInRange s → length (worded word (s.page_size ∷ s.frames ∷ s.slots ∷ s.drain ∷ [])) ≤ length word + 20
 unfolding worded
 config_length word s h =
-    let dp = length-decimal-le 4 s.page (lit< tt) (omega arith) (omega arith) in
+    let dp = length-decimal-le 4 s.page_size (lit< tt) (omega arith) (omega arith) in
     let df = length-decimal-le 4 s.frames (lit< tt) (omega arith) (omega arith) in
     let ds = length-decimal-le 4 s.slots (lit< tt) (omega arith) (omega arith) in
     let dd = length-decimal-le 4 s.drain (lit< tt) (omega arith) (omega arith) in
-    omega (arith, length-append word (flat_map spaced (s.page ∷ s.frames ∷ s.slots ∷ s.drain ∷ [])), length-append (decimal s.page) (flat_map spaced (s.frames ∷ s.slots ∷ s.drain ∷ [])), length-append (decimal s.frames) (flat_map spaced (s.slots ∷ s.drain ∷ [])), length-append (decimal s.slots) (flat_map spaced (s.drain ∷ [])), length-append (decimal s.drain) [])
+    omega (arith, length-append word (flat_map spaced (s.page_size ∷ s.frames ∷ s.slots ∷ s.drain ∷ [])), length-append (decimal s.page_size) (flat_map spaced (s.frames ∷ s.slots ∷ s.drain ∷ [])), length-append (decimal s.frames) (flat_map spaced (s.slots ∷ s.drain ∷ [])), length-append (decimal s.slots) (flat_map spaced (s.drain ∷ [])), length-append (decimal s.drain) [])
 
 -- the end of a flush is short
 ending_short : (ok : Bool) → length (ending ok) ≤ 7
@@ -181,12 +181,12 @@ step_free CleanTake h = worded_free (codes "clean take") [] refl none_fit
 step_free (CleanDone page) h = worded_free (codes "clean done") (page ∷ []) refl (one_fits page h)
 
 -- no LF stands in a config's line
-config_free : (s : Sizes) → AreInRange s → NoLineFeed (worded (codes "config") (s.page ∷ s.frames ∷ s.slots ∷ s.drain ∷ []))
+config_free : (s : Sizes) → AreInRange s → NoLineFeed (worded (codes "config") (s.page_size ∷ s.frames ∷ s.slots ∷ s.drain ∷ []))
 config_free s h =
     let drain = one_fits s.drain (omega arith) in
     let slots = more_fit s.slots (s.drain ∷ []) (omega arith) drain in
     let frames = more_fit s.frames (s.slots ∷ s.drain ∷ []) (omega arith) slots in
-    worded_free (codes "config") (s.page ∷ s.frames ∷ s.slots ∷ s.drain ∷ []) refl (more_fit s.page (s.frames ∷ s.slots ∷ s.drain ∷ []) (omega arith) frames)
+    worded_free (codes "config") (s.page_size ∷ s.frames ∷ s.slots ∷ s.drain ∷ []) refl (more_fit s.page_size (s.frames ∷ s.slots ∷ s.drain ∷ []) (omega arith) frames)
 
 -- no byte of a spelling is an LF
 pub spelling_free : (l : Line) → Fits l → All (λ b. b ≢ 10) (spelling l)

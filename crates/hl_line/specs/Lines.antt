@@ -44,7 +44,8 @@ step_spelling (CleanDone page) = worded (codes "clean done") (page ∷ [])
 
 -- the bytes of a line, without its LF
 abbrev pub spelling : Line → List ℕ
-spelling (Config sizes) = worded (codes "config") (sizes.page ∷ sizes.frames ∷ sizes.slots ∷ sizes.drain ∷ [])
+spelling (Config sizes) =
+    worded (codes "config") (sizes.page_size ∷ sizes.frames ∷ sizes.slots ∷ sizes.drain ∷ [])
 spelling (Makes step) = step_spelling step
 spelling Status = worded (codes "status") []
 spelling Pending = worded (codes "pending") []

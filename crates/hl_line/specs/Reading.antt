@@ -30,7 +30,7 @@ number_in word = fold with_digit 0 word
 -- the sizes are in range
 abbrev pub are_in_range : Sizes → Bool
 are_in_range s =
-    nat_le 4 s.page && nat_le s.page 4096 && is_power_of_two s.page
+    nat_le 4 s.page_size && nat_le s.page_size 4096 && is_power_of_two s.page_size
     && nat_le 2 s.frames && nat_le s.frames 256
     && nat_le 1 s.slots && nat_le s.slots 64
     && nat_le 1 s.drain && nat_le s.drain 64
@@ -97,7 +97,7 @@ step_with keyword first second third =
 unfoldable pub line_with : List ℕ → List ℕ → List ℕ → List ℕ → List ℕ → Option Line
 line_with keyword first second third fourth =
     let sizes : Sizes = record {
-      page = number_in first;
+      page_size = number_in first;
       frames = number_in second;
       slots = number_in third;
       drain = number_in fourth;

@@ -14,7 +14,12 @@ pub fn print_line(line: &Line) -> ArrayString<80>
     match *line {
         Line::Config(sizes) => spelled(
             "config",
-            &[sizes.page(), sizes.frames(), sizes.slots(), sizes.drain()],
+            &[
+                sizes.page_size(),
+                sizes.frames(),
+                sizes.slots(),
+                sizes.drain(),
+            ],
         ),
         Line::Step(step) => print_step(step),
         Line::Status => spelled("status", &[]),

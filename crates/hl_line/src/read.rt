@@ -63,9 +63,10 @@ fn line_with(
 }
 
 /// The line that opens with these sizes, if they are in range.
-fn config(page: u64, frames: u64, slots: u64, drain: u64) -> Option<Line>
-    ensures { result ≡ config_of (record { page = page; frames = frames; slots = slots; drain = drain }) }
+fn config(page_size: u64, frames: u64, slots: u64, drain: u64) -> Option<Line>
+    ensures { result ≡ config_of
+        (record { page_size = page_size; frames = frames; slots = slots; drain = drain }) }
 {
-    let sizes = Params::checked(page, frames, slots, drain)?;
+    let sizes = Params::checked(page_size, frames, slots, drain)?;
     Some(Line::Config(sizes))
 }

@@ -37,34 +37,34 @@ closed-le-head sizes A a =
     done_greatest-has (λ x. x ≤ head A) closes A (omega arith) (closes-le A)
 
 -- a shift is to a whole number of pages
-shifted_to-whole : (sizes : Sizes) (A : List Step) (s : Step) → fault_of sizes A s ≡ None → shifted_to s % sizes.page ≡ 0
+shifted_to-whole : (sizes : Sizes) (A : List Step) (s : Step) → fault_of sizes A s ≡ None → shifted_to s % sizes.page_size ≡ 0
 shifted_to-whole sizes A (Shift x) h = (shift-none sizes A x h).1
-shifted_to-whole sizes A _ h = zero-mod sizes.page
+shifted_to-whole sizes A _ h = zero-mod sizes.page_size
 
 -- the head is a whole number of pages
-pub head-whole : (sizes : Sizes) (A : List Step) → IsAccepted sizes A → head A % sizes.page ≡ 0
-head-whole sizes = accepted_has sizes (λ A. head A % sizes.page ≡ 0) (ap (λ x. x % sizes.page) head-nil ∙ zero-mod sizes.page)
-    (λ A s a h before. ap (λ x. x % sizes.page) (head-push A s) ∙ max-has (λ x. x % sizes.page ≡ 0) (head A) (shifted_to s) before (shifted_to-whole sizes A s h))
+pub head-whole : (sizes : Sizes) (A : List Step) → IsAccepted sizes A → head A % sizes.page_size ≡ 0
+head-whole sizes = accepted_has sizes (λ A. head A % sizes.page_size ≡ 0) (ap (λ x. x % sizes.page_size) head-nil ∙ zero-mod sizes.page_size)
+    (λ A s a h before. ap (λ x. x % sizes.page_size) (head-push A s) ∙ max-has (λ x. x % sizes.page_size ≡ 0) (head A) (shifted_to s) before (shifted_to-whole sizes A s h))
 
 -- and so a close stores one
-stores-whole : (sizes : Sizes) (A : List Step) (s : Step) → head A % sizes.page ≡ 0 → AllByRecursion (λ w. closes w.kind % sizes.page ≡ 0) (action_of A s)
-stores-whole sizes A (Bump tag) h = (zero-mod sizes.page, tt)
-stores-whole sizes A Settle h = (zero-mod sizes.page, tt)
+stores-whole : (sizes : Sizes) (A : List Step) (s : Step) → head A % sizes.page_size ≡ 0 → AllByRecursion (λ w. closes w.kind % sizes.page_size ≡ 0) (action_of A s)
+stores-whole sizes A (Bump tag) h = (zero-mod sizes.page_size, tt)
+stores-whole sizes A Settle h = (zero-mod sizes.page_size, tt)
 stores-whole sizes A Close h = (h, tt)
 stores-whole sizes A _ h = tt
 
 -- so is what each close of the list stored
-pub closes-whole : (sizes : Sizes) (A : List Step) → IsAccepted sizes A → AllByRecursion (λ w. closes w.kind % sizes.page ≡ 0) (actions A)
-closes-whole sizes = accepted_has sizes (λ A. AllByRecursion (λ w. closes w.kind % sizes.page ≡ 0) (actions A)) none
-    (λ A s a h before. subst (AllByRecursion (λ w. closes w.kind % sizes.page ≡ 0)) (sym (actions-push A s))
-    (all-append (λ w. closes w.kind % sizes.page ≡ 0) (actions A) (action_of A s) before (stores-whole sizes A s (head-whole sizes A a))))
+pub closes-whole : (sizes : Sizes) (A : List Step) → IsAccepted sizes A → AllByRecursion (λ w. closes w.kind % sizes.page_size ≡ 0) (actions A)
+closes-whole sizes = accepted_has sizes (λ A. AllByRecursion (λ w. closes w.kind % sizes.page_size ≡ 0) (actions A)) none
+    (λ A s a h before. subst (AllByRecursion (λ w. closes w.kind % sizes.page_size ≡ 0)) (sym (actions-push A s))
+    (all-append (λ w. closes w.kind % sizes.page_size ≡ 0) (actions A) (action_of A s) before (stores-whole sizes A s (head-whole sizes A a))))
   where
-    none : AllByRecursion (λ w. closes w.kind % sizes.page ≡ 0) (actions [])
-    none = subst (AllByRecursion (λ w. closes w.kind % sizes.page ≡ 0)) (sym actions-nil) tt
+    none : AllByRecursion (λ w. closes w.kind % sizes.page_size ≡ 0) (actions [])
+    none = subst (AllByRecursion (λ w. closes w.kind % sizes.page_size ≡ 0)) (sym actions-nil) tt
 
 -- and so is the closed offset
-pub closed-whole : (sizes : Sizes) (A : List Step) → IsAccepted sizes A → closed A % sizes.page ≡ 0
-closed-whole sizes A a = done_greatest-has (λ x. x % sizes.page ≡ 0) closes A (zero-mod sizes.page) (closes-whole sizes A a)
+pub closed-whole : (sizes : Sizes) (A : List Step) → IsAccepted sizes A → closed A % sizes.page_size ≡ 0
+closed-whole sizes A a = done_greatest-has (λ x. x % sizes.page_size ≡ 0) closes A (zero-mod sizes.page_size) (closes-whole sizes A a)
 
 -- a raise is to the tail at most
 raised_to-le : (sizes : Sizes) (A : List Step) (s : Step) → fault_of sizes A s ≡ None → raised_to s ≤ tail sizes A
@@ -72,13 +72,13 @@ raised_to-le sizes A (Raise x) h = (raise-none sizes A x h).1
 raised_to-le sizes A _ h = omega arith
 
 -- the read-only offset is at most the tail
-pub read_only-le-tail : (sizes : Sizes) (A : List Step) → 0 < sizes.page → IsAccepted sizes A → read_only A ≤ tail sizes A
+pub read_only-le-tail : (sizes : Sizes) (A : List Step) → 0 < sizes.page_size → IsAccepted sizes A → read_only A ≤ tail sizes A
 read_only-le-tail sizes A page = accepted_has sizes (λ A. read_only A ≤ tail sizes A) (omega (arith, read_only-nil))
     (λ A s a h before. omega (arith, before, read_only-push A s, raised_to-le sizes A s h, tail-grows sizes A s page)) A
 
 -- no record ends above the last address
-tail_past-most : (sizes : Sizes) (A : List Step) (s : Step) → fault_of sizes A s ≡ None → tail sizes A ≤ 2 ^ 48 → tail_past sizes.page (tail sizes A) s ≤ 2 ^ 48
-tail_past-most sizes A (Allocate t n) h before = (size-none sizes.page (tail sizes A) n (allocate-none sizes A t n h).1).2
+tail_past-most : (sizes : Sizes) (A : List Step) (s : Step) → fault_of sizes A s ≡ None → tail sizes A ≤ 2 ^ 48 → tail_past sizes.page_size (tail sizes A) s ≤ 2 ^ 48
+tail_past-most sizes A (Allocate t n) h before = (size-none sizes.page_size (tail sizes A) n (allocate-none sizes A t n h).1).2
 tail_past-most sizes A _ h before = before
 
 -- the tail is at most 2^48
@@ -95,7 +95,7 @@ pub head-append : (sizes : Sizes) (A B : List Step) → IsAccepted sizes (A ++ B
 head-append sizes A B a = never_falls head head-grows A B
 
 -- nor the tail
-pub tail-append : (sizes : Sizes) (A B : List Step) → 0 < sizes.page → IsAccepted sizes (A ++ B) → tail sizes A ≤ tail sizes (A ++ B)
+pub tail-append : (sizes : Sizes) (A B : List Step) → 0 < sizes.page_size → IsAccepted sizes (A ++ B) → tail sizes A ≤ tail sizes (A ++ B)
 tail-append sizes A B page a = never_falls (tail sizes) (λ C s. tail-grows sizes C s page) A B
 
 -- nor the safe read-only offset
@@ -196,18 +196,18 @@ writes_are_above_safe_read_only sizes X t a v Y accepted =
     le_trans (views_are_bounded sizes X t (IsAccepted-front sizes X (Write t a v ∷ Y) accepted) (protected-none sizes X t lawful.0).1).0 lawful.1
 
 -- an allocation of an accepted list is of some words, and of no more than a page has
-allocated : (sizes : Sizes) (X : List Step) (t n : ℕ) (Y : List Step) → IsAccepted sizes (X ++ Allocate t n ∷ Y) → (0 < n) × (n ≤ sizes.page) × (place_of sizes.page (tail sizes X) n + n ≤ 2 ^ 48)
-allocated sizes X t n Y accepted = size-none sizes.page (tail sizes X) n (allocate-none sizes X t n (accepted_meets_no_fault sizes X (Allocate t n) Y accepted)).1
+allocated : (sizes : Sizes) (X : List Step) (t n : ℕ) (Y : List Step) → IsAccepted sizes (X ++ Allocate t n ∷ Y) → (0 < n) × (n ≤ sizes.page_size) × (place_of sizes.page_size (tail sizes X) n + n ≤ 2 ^ 48)
+allocated sizes X t n Y accepted = size-none sizes.page_size (tail sizes X) n (allocate-none sizes X t n (accepted_meets_no_fault sizes X (Allocate t n) Y accepted)).1
 
 -- each record is on one page
-pub places_are_on_one_page : (sizes : Sizes) (X : List Step) (t n : ℕ) (Y : List Step) → 0 < sizes.page → IsAccepted sizes (X ++ Allocate t n ∷ Y) → placed sizes X n / sizes.page ≡ (placed sizes X n + n - 1) / sizes.page
+pub places_are_on_one_page : (sizes : Sizes) (X : List Step) (t n : ℕ) (Y : List Step) → 0 < sizes.page_size → IsAccepted sizes (X ++ Allocate t n ∷ Y) → placed sizes X n / sizes.page_size ≡ (placed sizes X n + n - 1) / sizes.page_size
 places_are_on_one_page sizes X t n Y page accepted =
-    let size : (0 < n) × (n ≤ sizes.page) × (place_of sizes.page (tail sizes X) n + n ≤ 2 ^ 48) = allocated sizes X t n Y accepted in
-    place_of-one_page sizes.page (tail sizes X) n page size.0 size.1
+    let size : (0 < n) × (n ≤ sizes.page_size) × (place_of sizes.page_size (tail sizes X) n + n ≤ 2 ^ 48) = allocated sizes X t n Y accepted in
+    place_of-one_page sizes.page_size (tail sizes X) n page size.0 size.1
 
 -- and behind those before
-pub places_are_apart : (sizes : Sizes) (X : List Step) (t n : ℕ) (Y : List Step) (u m : ℕ) (Z : List Step) → 0 < sizes.page → IsAccepted sizes ((X ++ Allocate t n ∷ Y) ++ Allocate u m ∷ Z) → placed sizes X n + n ≤ placed sizes (X ++ Allocate t n ∷ Y) m
+pub places_are_apart : (sizes : Sizes) (X : List Step) (t n : ℕ) (Y : List Step) (u m : ℕ) (Z : List Step) → 0 < sizes.page_size → IsAccepted sizes ((X ++ Allocate t n ∷ Y) ++ Allocate u m ∷ Z) → placed sizes X n + n ≤ placed sizes (X ++ Allocate t n ∷ Y) m
 places_are_apart sizes X t n Y u m Z page accepted =
     let later : tail sizes (X ++ Allocate t n ∷ []) ≤ tail sizes (X ++ Allocate t n ∷ Y)
     = subst (λ (L : List Step). tail sizes (X ++ Allocate t n ∷ []) ≤ tail sizes L) (append_assoc X (Allocate t n ∷ []) Y) (never_falls (tail sizes) (λ C s. tail-grows sizes C s page) (X ++ Allocate t n ∷ []) Y) in
-    omega (arith, tail-push sizes X (Allocate t n), later, place_of-le sizes.page (tail sizes (X ++ Allocate t n ∷ Y)) m page)
+    omega (arith, tail-push sizes X (Allocate t n), later, place_of-le sizes.page_size (tail sizes (X ++ Allocate t n ∷ Y)) m page)

@@ -125,7 +125,7 @@ page-is sizes A q a =
 
 allocate-is : (sizes : Sizes) (A : List Step) (n : ℕ) → IsAccepted sizes A → allocate_fault_at (base_of sizes A) n ≡ allocate_fault sizes A n
 unfolding base_of
-allocate-is sizes A n a = ap (or_fault (size_fault sizes.page (tail sizes A) n)) (page-is sizes A (place_of sizes.page (tail sizes A) n / sizes.page) a)
+allocate-is sizes A n a = ap (or_fault (size_fault sizes.page_size (tail sizes A) n)) (page-is sizes A (place_of sizes.page_size (tail sizes A) n / sizes.page_size) a)
 
 -- the page to flush
 pub to_flush_in-is : (sizes : Sizes) (A : List Step) → IsAccepted sizes A → to_flush_in (base_of sizes A) ≡ next_to_flush sizes A

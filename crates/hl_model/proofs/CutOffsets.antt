@@ -28,4 +28,4 @@ head_after-is sizes A L = omega (arith, greatest-append shifted_to A L)
 -- the tail
 pub tail_after-is : (sizes : Sizes) (A L : List Step) → tail_after (base_of sizes A) L ≡ tail sizes (A ++ L)
 unfolding tail_after base_of tail
-tail_after-is sizes A L = sym (fold-append (tail_past sizes.page) 0 A L)
+tail_after-is sizes A L = sym (fold-append (tail_past sizes.page_size) 0 A L)

@@ -74,15 +74,15 @@ cleaning_page-is sizes A L p a =
     is_out_after-is sizes (cleaning_after (base_of sizes A)) (clean_due sizes) A p L (cleaning_on sizes A (IsAccepted-front sizes A L a)) a
 
 -- no flushed page is beyond the tail
-flushed_within : (sizes : Sizes) (A : List Step) (p : ℕ) → IsAccepted sizes A → is_flushed sizes p A ≡ true → p < tail sizes A / sizes.page + 1
+flushed_within : (sizes : Sizes) (A : List Step) (p : ℕ) → IsAccepted sizes A → is_flushed sizes p A ≡ true → p < tail sizes A / sizes.page_size + 1
 flushed_within sizes A p a h = by_sizes (paged-cases sizes)
   where
-    by_sizes : (((0 < sizes.page) × (0 < sizes.frames)) ⊎ IsUnpaged sizes) → p < tail sizes A / sizes.page + 1
+    by_sizes : (((0 < sizes.page_size) × (0 < sizes.frames)) ⊎ IsUnpaged sizes) → p < tail sizes A / sizes.page_size + 1
     by_sizes (inl (page, frames)) = entered_within sizes p A page (flushed_entered sizes A p page a h)
     by_sizes (inr none) = absurd (both_ways (is_flushed sizes p A) ((no_pages sizes A none a).unflushed p) h)
 
 -- nor is one beyond the greatest flushed since
-beyond_both : (sizes : Sizes) (A L : List Step) → IsAccepted sizes A → is_complete_after (flushing_after (base_of sizes A)) (max (tail sizes A / sizes.page + 1) (greatest flushes_below L)) L ≡ false
+beyond_both : (sizes : Sizes) (A L : List Step) → IsAccepted sizes A → is_complete_after (flushing_after (base_of sizes A)) (max (tail sizes A / sizes.page_size + 1) (greatest flushes_below L)) L ≡ false
 unfolding is_complete_after is_complete
 beyond_both sizes A L a =
     or_from (flushed_in (base_of sizes A) n) (is_flushed sizes n L)
@@ -90,7 +90,7 @@ beyond_both sizes A L a =
     (false_from_ne_true (is_flushed sizes n L) (λ h. omega (arith, flushed-below sizes n L h)))
   where
     n : ℕ
-    n = max (tail sizes A / sizes.page + 1) (greatest flushes_below L)
+    n = max (tail sizes A / sizes.page_size + 1) (greatest flushes_below L)
 
 -- the run of flushed pages
 flushed_run_after-is : (sizes : Sizes) (A L : List Step) → IsAccepted sizes (A ++ L) → flushed_run_after (base_of sizes A) L ≡ flushed_run sizes (A ++ L)
@@ -104,18 +104,18 @@ flushed_run_after-is sizes A L a =
     test p = is_complete_after (flushing_after (base_of sizes A)) p L
 
     n : ℕ
-    n = max (tail sizes A / sizes.page + 1) (greatest flushes_below L)
+    n = max (tail sizes A / sizes.page_size + 1) (greatest flushes_below L)
 
 -- the flushed offset
 pub flushed_after-is : (sizes : Sizes) (A L : List Step) → IsAccepted sizes (A ++ L) → flushed_after (base_of sizes A) L ≡ flushed sizes (A ++ L)
 unfolding base_of
-flushed_after-is sizes A L a = ap (λ n. sizes.page * n) (flushed_run_after-is sizes A L a)
+flushed_after-is sizes A L a = ap (λ n. sizes.page_size * n) (flushed_run_after-is sizes A L a)
 
 -- the last page of a frame
 last_entered_after-is : (sizes : Sizes) (f : ℕ) (A L : List Step) → last_entered_after (base_of sizes A) f L ≡ last_entered sizes f (A ++ L)
 unfolding last_entered_after last_entered base_of
 last_entered_after-is sizes f A L =
-    ap (λ a. greatest_below (λ p. ltb (p * sizes.page) a && p % sizes.frames == f) (a / sizes.page + 1)) (tail_after-is sizes A L)
+    ap (λ a. greatest_below (λ p. ltb (p * sizes.page_size) a && p % sizes.frames == f) (a / sizes.page_size + 1)) (tail_after-is sizes A L)
 
 -- a page with its marks, from these
 same_marks : (p : ℕ) (a b c d e f g h : Bool) → a ≡ b → c ≡ d → e ≡ f → g ≡ h → ◌≡◌ {A = Held} (record { page = p; flushed = a; in_flight = c; freed = e; cleaning = g }) (record { page = p; flushed = b; in_flight = d; freed = f; cleaning = h })

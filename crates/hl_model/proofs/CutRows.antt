@@ -37,7 +37,7 @@ held_in-none sizes A p empty = by_order (cases_lt 0 sizes.frames)
 
 -- what a page's frame holds: the page; a later page, with the frame's next one entered; or, where the page isn't
 -- entered, nothing or an earlier one
-by_place : (sizes : Sizes) (A : List Step) (p : ℕ) (P : Option Held → Type 0) → 0 < sizes.page → 0 < sizes.frames → P (Some (marked sizes A p)) → ((q : ℕ) → is_entered sizes (p + sizes.frames) A ≡ true → p < q → P (Some (marked sizes A q))) → (is_entered sizes p A ≡ false → P None) → ((q : ℕ) → is_entered sizes p A ≡ false → q < p → P (Some (marked sizes A q))) → P (held_in (base_of sizes A) p)
+by_place : (sizes : Sizes) (A : List Step) (p : ℕ) (P : Option Held → Type 0) → 0 < sizes.page_size → 0 < sizes.frames → P (Some (marked sizes A p)) → ((q : ℕ) → is_entered sizes (p + sizes.frames) A ≡ true → p < q → P (Some (marked sizes A q))) → (is_entered sizes p A ≡ false → P None) → ((q : ℕ) → is_entered sizes p A ≡ false → q < p → P (Some (marked sizes A q))) → P (held_in (base_of sizes A) p)
 by_place sizes A p P page frames lies left empty ahead = subst P (sym (held_in-is sizes A p frames)) (by_case (last_entered-cases sizes (p % sizes.frames) A page (mod-lt p frames)))
   where
     by_order : (q : ℕ) → IsLastOf sizes (p % sizes.frames) q A → ((p ≡ q) ⊎ ((p < q) ⊎ (q < p))) → P (Some (marked sizes A q))
@@ -62,7 +62,7 @@ own_core : (p : ℕ) (m b : Bool) → m ≡ b → (p == p && m) ≡ b
 own_core p m b h = rw (eq-eqb p p refl) h
 
 -- a mark that each page has that left its frame, and none that isn't entered
-completed_in-is : (sizes : Sizes) (A : List Step) (p : ℕ) (mark : Held → Bool) (b : Bool) → 0 < sizes.page → 0 < sizes.frames → mark (marked sizes A p) ≡ b → (is_entered sizes (p + sizes.frames) A ≡ true → b ≡ true) → (is_entered sizes p A ≡ false → b ≡ false) → completed_in mark p (held_in (base_of sizes A) p) ≡ b
+completed_in-is : (sizes : Sizes) (A : List Step) (p : ℕ) (mark : Held → Bool) (b : Bool) → 0 < sizes.page_size → 0 < sizes.frames → mark (marked sizes A p) ≡ b → (is_entered sizes (p + sizes.frames) A ≡ true → b ≡ true) → (is_entered sizes p A ≡ false → b ≡ false) → completed_in mark p (held_in (base_of sizes A) p) ≡ b
 completed_in-is sizes A p mark b page frames here gone ahead =
     by_place sizes A p (λ o. completed_in mark p o ≡ b) page frames
     (here_core p (mark (marked sizes A p)) b here)
@@ -71,7 +71,7 @@ completed_in-is sizes A p mark b page frames here gone ahead =
     (λ q e gt. or_from (ltb p q) (p == q && mark (marked sizes A q)) (le-ltb p q (omega (arith, gt))) (and_left (p == q) (mark (marked sizes A q)) (ne_eqb p q (λ same. omega (arith, gt, same)))) ∙ sym (ahead e))
 
 -- a mark that no page has but one that its frame holds
-marked_in-is : (sizes : Sizes) (A : List Step) (p : ℕ) (mark : Held → Bool) (b : Bool) → 0 < sizes.page → 0 < sizes.frames → mark (marked sizes A p) ≡ b → (is_entered sizes (p + sizes.frames) A ≡ true → b ≡ false) → (is_entered sizes p A ≡ false → b ≡ false) → marked_in mark p (held_in (base_of sizes A) p) ≡ b
+marked_in-is : (sizes : Sizes) (A : List Step) (p : ℕ) (mark : Held → Bool) (b : Bool) → 0 < sizes.page_size → 0 < sizes.frames → mark (marked sizes A p) ≡ b → (is_entered sizes (p + sizes.frames) A ≡ true → b ≡ false) → (is_entered sizes p A ≡ false → b ≡ false) → marked_in mark p (held_in (base_of sizes A) p) ≡ b
 marked_in-is sizes A p mark b page frames here gone ahead =
     by_place sizes A p (λ o. marked_in mark p o ≡ b) page frames
     (own_core p (mark (marked sizes A p)) b here)
@@ -80,7 +80,7 @@ marked_in-is sizes A p mark b page frames here gone ahead =
     (λ q e gt. and_left (p == q) (mark (marked sizes A q)) (ne_eqb p q (λ same. omega (arith, gt, same))) ∙ sym (ahead e))
 
 -- a page that left its frame was freed
-left_freed : (sizes : Sizes) (A : List Step) (p : ℕ) → 0 < sizes.page → IsAccepted sizes A → is_entered sizes (p + sizes.frames) A ≡ true → is_freed sizes p A ≡ true
+left_freed : (sizes : Sizes) (A : List Step) (p : ℕ) → 0 < sizes.page_size → IsAccepted sizes A → is_entered sizes (p + sizes.frames) A ≡ true → is_freed sizes p A ≡ true
 left_freed sizes A p page a e =
     let back : (p + sizes.frames) - sizes.frames ≡ p = omega arith in
     ap (λ q. is_freed sizes q A) (sym back) ∙ round_freed sizes (p + sizes.frames) page (omega arith) A a e
@@ -89,7 +89,7 @@ left_freed sizes A p page a e =
 pub flushed_in-is : (sizes : Sizes) (A : List Step) (p : ℕ) → IsAccepted sizes A → flushed_in (base_of sizes A) p ≡ is_flushed sizes p A
 flushed_in-is sizes A p a = by_sizes (paged-cases sizes)
   where
-    by_sizes : (((0 < sizes.page) × (0 < sizes.frames)) ⊎ IsUnpaged sizes) → flushed_in (base_of sizes A) p ≡ is_flushed sizes p A
+    by_sizes : (((0 < sizes.page_size) × (0 < sizes.frames)) ⊎ IsUnpaged sizes) → flushed_in (base_of sizes A) p ≡ is_flushed sizes p A
     by_sizes (inl (page, frames)) =
         completed_in-is sizes A p (λ held. held.flushed) (is_flushed sizes p A) page frames refl
         (λ e. freed_flushed sizes A p page a (left_freed sizes A p page a e))
@@ -102,7 +102,7 @@ flushed_in-is sizes A p a = by_sizes (paged-cases sizes)
 pub freed_in-is : (sizes : Sizes) (A : List Step) (p : ℕ) → IsAccepted sizes A → freed_in (base_of sizes A) p ≡ is_freed sizes p A
 freed_in-is sizes A p a = by_sizes (paged-cases sizes)
   where
-    by_sizes : (((0 < sizes.page) × (0 < sizes.frames)) ⊎ IsUnpaged sizes) → freed_in (base_of sizes A) p ≡ is_freed sizes p A
+    by_sizes : (((0 < sizes.page_size) × (0 < sizes.frames)) ⊎ IsUnpaged sizes) → freed_in (base_of sizes A) p ≡ is_freed sizes p A
     by_sizes (inl (page, frames)) =
         completed_in-is sizes A p (λ held. held.freed) (is_freed sizes p A) page frames refl
         (λ e. left_freed sizes A p page a e)
@@ -115,7 +115,7 @@ freed_in-is sizes A p a = by_sizes (paged-cases sizes)
 pub in_flight_in-is : (sizes : Sizes) (A : List Step) (p : ℕ) → IsAccepted sizes A → in_flight_in (base_of sizes A) p ≡ is_in_flight sizes p A
 in_flight_in-is sizes A p a = by_sizes (paged-cases sizes)
   where
-    by_sizes : (((0 < sizes.page) × (0 < sizes.frames)) ⊎ IsUnpaged sizes) → in_flight_in (base_of sizes A) p ≡ is_in_flight sizes p A
+    by_sizes : (((0 < sizes.page_size) × (0 < sizes.frames)) ⊎ IsUnpaged sizes) → in_flight_in (base_of sizes A) p ≡ is_in_flight sizes p A
     by_sizes (inl (page, frames)) =
         marked_in-is sizes A p (λ held. held.in_flight) (is_in_flight sizes p A) page frames refl
         (λ e. false_from_ne_true (is_in_flight sizes p A) (λ h. both_ways (is_freed sizes p A) (in_flight_unfreed sizes A p page a h) (left_freed sizes A p page a e)))
@@ -128,7 +128,7 @@ in_flight_in-is sizes A p a = by_sizes (paged-cases sizes)
 pub cleaning_in-is : (sizes : Sizes) (A : List Step) (p : ℕ) → IsAccepted sizes A → cleaning_in (base_of sizes A) p ≡ is_cleaning sizes p A
 cleaning_in-is sizes A p a = by_sizes (paged-cases sizes)
   where
-    by_sizes : (((0 < sizes.page) × (0 < sizes.frames)) ⊎ IsUnpaged sizes) → cleaning_in (base_of sizes A) p ≡ is_cleaning sizes p A
+    by_sizes : (((0 < sizes.page_size) × (0 < sizes.frames)) ⊎ IsUnpaged sizes) → cleaning_in (base_of sizes A) p ≡ is_cleaning sizes p A
     by_sizes (inl (page, frames)) =
         marked_in-is sizes A p (λ held. held.cleaning) (is_cleaning sizes p A) page frames refl
         (λ e. false_from_ne_true (is_cleaning sizes p A) (λ h. both_ways (is_freed sizes p A) (cleaning_unfreed sizes A p page a h) (left_freed sizes A p page a e)))

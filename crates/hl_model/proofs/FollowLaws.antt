@@ -48,7 +48,7 @@ six_at sizes B c h f s r t is_closed is_head is_flushed is_safe is_read_only is_
 
 -- a step that ends no flush leaves the flushed offset
 flushed-stay : (sizes : Sizes) (A : List Step) (s : Step) → ((p : ℕ) → flushes p s ≡ false) → flushed sizes (A ++ s ∷ []) ≡ flushed sizes A
-flushed-stay sizes A s quiet = ap (λ n. sizes.page * n) (flushed_run-stay sizes A s quiet)
+flushed-stay sizes A s quiet = ap (λ n. sizes.page_size * n) (flushed_run-stay sizes A s quiet)
 
 module _ (sizes : Sizes) (A : List Step) (acc : IsAccepted sizes A) where
   closed-same : (s : Step) → is_done s ≡ false → closed (A ++ s ∷ []) ≡ closed A
@@ -58,7 +58,7 @@ module _ (sizes : Sizes) (A : List Step) (acc : IsAccepted sizes A) where
   safe-same s d = done_greatest-quiet sizes settles A s acc d
 
   -- a step that moves no offset
-  six-stay : (s : Step) → is_done s ≡ false → shifted_to s ≡ 0 → ((p : ℕ) → flushes p s ≡ false) → raised_to s ≡ 0 → tail_past sizes.page (tail sizes A) s ≡ tail sizes A → six sizes (A ++ s ∷ []) ≡ six sizes A
+  six-stay : (s : Step) → is_done s ≡ false → shifted_to s ≡ 0 → ((p : ℕ) → flushes p s ≡ false) → raised_to s ≡ 0 → tail_past sizes.page_size (tail sizes A) s ≡ tail sizes A → six sizes (A ++ s ∷ []) ≡ six sizes A
   six-stay s d h f r t =
       six_at sizes (A ++ s ∷ []) (closed A) (head A) (flushed sizes A) (safe_read_only A) (read_only A) (tail sizes A)
       (closed-same s d) (head-stay A s h) (flushed-stay sizes A s f) (safe-same s d) (read_only-stay A s r) (tail-push sizes A s ∙ t)
@@ -81,7 +81,7 @@ module _ (sizes : Sizes) (A : List Step) (acc : IsAccepted sizes A) where
         (closed-same (Raise x) refl) (head-stay A (Raise x) refl) (flushed-stay sizes A (Raise x) (λ p. refl)) (safe-same (Raise x) refl) (read_only-raise sizes A x h) (tail-push sizes A (Raise x));
     shift = λ x h. six_at sizes (A ++ Shift x ∷ []) (closed A) x (flushed sizes A) (safe_read_only A) (read_only A) (tail sizes A)
         (closed-same (Shift x) refl) (head-shift sizes A x h) (flushed-stay sizes A (Shift x) (λ p. refl)) (safe-same (Shift x) refl) (read_only-stay A (Shift x) refl) (tail-push sizes A (Shift x));
-    allocate = λ t n. six_at sizes (A ++ Allocate t n ∷ []) (closed A) (head A) (flushed sizes A) (safe_read_only A) (read_only A) (place_of sizes.page (tail sizes A) n + n)
+    allocate = λ t n. six_at sizes (A ++ Allocate t n ∷ []) (closed A) (head A) (flushed sizes A) (safe_read_only A) (read_only A) (place_of sizes.page_size (tail sizes A) n + n)
         (closed-same (Allocate t n) refl) (head-stay A (Allocate t n) refl) (flushed-stay sizes A (Allocate t n) (λ p. refl)) (safe-same (Allocate t n) refl) (read_only-stay A (Allocate t n) refl) (tail-push sizes A (Allocate t n));
     done = λ c w h found. six_at sizes (A ++ Done c ∷ []) (max (closed A) (closes w.kind)) (head A) (flushed sizes A) (max (safe_read_only A) (settles w.kind)) (read_only A) (tail sizes A)
         (done_greatest-done sizes closes A c w acc (done-free c h) found) (head-stay A (Done c) refl) (flushed-stay sizes A (Done c) (λ p. refl)) (done_greatest-done sizes settles A c w acc (done-free c h) found) (read_only-stay A (Done c) refl) (tail-push sizes A (Done c));

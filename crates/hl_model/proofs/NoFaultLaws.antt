@@ -51,33 +51,33 @@ raise-none sizes A x h =
     (leb-false x (read_only A) outer.0, ltb-false (tail sizes A) x (later_fault (ltb (tail sizes A) x) AboveTail None outer.1).0)
 
 -- a shift: above the head, a whole number of pages, and at most the flushed offset
-pub shift-none : (sizes : Sizes) (A : List Step) (x : ℕ) → fault_of sizes A (Shift x) ≡ None → (head A < x) × (x % sizes.page ≡ 0) × (x ≤ flushed sizes A)
+pub shift-none : (sizes : Sizes) (A : List Step) (x : ℕ) → fault_of sizes A (Shift x) ≡ None → (head A < x) × (x % sizes.page_size ≡ 0) × (x ≤ flushed sizes A)
 shift-none sizes A x h =
-    let outer : (leb x (head A) ≡ false) × (cond (x % sizes.page == 0) (cond (ltb (flushed sizes A) x) (Some AboveFlushed) None) (Some NotPage) ≡ None)
-    = later_fault (leb x (head A)) NotAbove (cond (x % sizes.page == 0) (cond (ltb (flushed sizes A) x) (Some AboveFlushed) None) (Some NotPage)) h in
-    let inner : ((x % sizes.page == 0) ≡ true) × (cond (ltb (flushed sizes A) x) (Some AboveFlushed) None ≡ None)
-    = met_fault (x % sizes.page == 0) NotPage (cond (ltb (flushed sizes A) x) (Some AboveFlushed) None) outer.1 in
-    (leb-false x (head A) outer.0, eqb-true (x % sizes.page) 0 inner.0, ltb-false (flushed sizes A) x (later_fault (ltb (flushed sizes A) x) AboveFlushed None inner.1).0)
+    let outer : (leb x (head A) ≡ false) × (cond (x % sizes.page_size == 0) (cond (ltb (flushed sizes A) x) (Some AboveFlushed) None) (Some NotPage) ≡ None)
+    = later_fault (leb x (head A)) NotAbove (cond (x % sizes.page_size == 0) (cond (ltb (flushed sizes A) x) (Some AboveFlushed) None) (Some NotPage)) h in
+    let inner : ((x % sizes.page_size == 0) ≡ true) × (cond (ltb (flushed sizes A) x) (Some AboveFlushed) None ≡ None)
+    = met_fault (x % sizes.page_size == 0) NotPage (cond (ltb (flushed sizes A) x) (Some AboveFlushed) None) outer.1 in
+    (leb-false x (head A) outer.0, eqb-true (x % sizes.page_size) 0 inner.0, ltb-false (flushed sizes A) x (later_fault (ltb (flushed sizes A) x) AboveFlushed None inner.1).0)
 
 -- and a shift is lawful above the head and up to the flushed offset, where a page begins
-pub shift_lawful : (page head flushed x : ℕ) → head < x → x % page ≡ 0 → x ≤ flushed → shift_fault page head flushed x ≡ None
-shift_lawful page head flushed x above whole most =
-    rw (lt-leb x head above, eq-eqb (x % page) 0 whole, le-ltb flushed x most) refl
+pub shift_lawful : (page_size head flushed x : ℕ) → head < x → x % page_size ≡ 0 → x ≤ flushed → shift_fault page_size head flushed x ≡ None
+shift_lawful page_size head flushed x above whole most =
+    rw (lt-leb x head above, eq-eqb (x % page_size) 0 whole, le-ltb flushed x most) refl
 
 -- a record: of some words, at most those of a page, and its end is an address
-pub size-none : (page tail n : ℕ) → size_fault page tail n ≡ None → (0 < n) × (n ≤ page) × (place_of page tail n + n ≤ 2 ^ 48)
-size-none page tail n h =
-    let outer : (((n == 0) || ltb page n) ≡ false) × (cond (ltb (2 ^ 48) (place_of page tail n + n)) (Some SpaceSpent) None ≡ None)
-    = later_fault ((n == 0) || ltb page n) Size (cond (ltb (2 ^ 48) (place_of page tail n + n)) (Some SpaceSpent) None) h in
-    let parts : ((n == 0) ≡ false) × (ltb page n ≡ false) = or_parts (n == 0) (ltb page n) outer.0 in
-    (omega (arith, eqb-false n 0 parts.0), ltb-false page n parts.1, ltb-false (2 ^ 48) (place_of page tail n + n) (later_fault (ltb (2 ^ 48) (place_of page tail n + n)) SpaceSpent None outer.1).0)
+pub size-none : (page_size tail n : ℕ) → size_fault page_size tail n ≡ None → (0 < n) × (n ≤ page_size) × (place_of page_size tail n + n ≤ 2 ^ 48)
+size-none page_size tail n h =
+    let outer : (((n == 0) || ltb page_size n) ≡ false) × (cond (ltb (2 ^ 48) (place_of page_size tail n + n)) (Some SpaceSpent) None ≡ None)
+    = later_fault ((n == 0) || ltb page_size n) Size (cond (ltb (2 ^ 48) (place_of page_size tail n + n)) (Some SpaceSpent) None) h in
+    let parts : ((n == 0) ≡ false) × (ltb page_size n ≡ false) = or_parts (n == 0) (ltb page_size n) outer.0 in
+    (omega (arith, eqb-false n 0 parts.0), ltb-false page_size n parts.1, ltb-false (2 ^ 48) (place_of page_size tail n + n) (later_fault (ltb (2 ^ 48) (place_of page_size tail n + n)) SpaceSpent None outer.1).0)
 
 -- an allocation: the slot is protected, the record is of a size, and its page may be entered
-pub allocate-none : (sizes : Sizes) (A : List Step) (t n : ℕ) → fault_of sizes A (Allocate t n) ≡ None → (protected_fault sizes A t ≡ None) × (size_fault sizes.page (tail sizes A) n ≡ None) × (page_fault sizes A (place_of sizes.page (tail sizes A) n / sizes.page) ≡ None)
+pub allocate-none : (sizes : Sizes) (A : List Step) (t n : ℕ) → fault_of sizes A (Allocate t n) ≡ None → (protected_fault sizes A t ≡ None) × (size_fault sizes.page_size (tail sizes A) n ≡ None) × (page_fault sizes A (place_of sizes.page_size (tail sizes A) n / sizes.page_size) ≡ None)
 allocate-none sizes A t n h =
     let outer : (protected_fault sizes A t ≡ None) × (allocate_fault sizes A n ≡ None) = or_fault-none (protected_fault sizes A t) (allocate_fault sizes A n) h in
-    let inner : (size_fault sizes.page (tail sizes A) n ≡ None) × (page_fault sizes A (place_of sizes.page (tail sizes A) n / sizes.page) ≡ None)
-    = or_fault-none (size_fault sizes.page (tail sizes A) n) (page_fault sizes A (place_of sizes.page (tail sizes A) n / sizes.page)) outer.1 in
+    let inner : (size_fault sizes.page_size (tail sizes A) n ≡ None) × (page_fault sizes A (place_of sizes.page_size (tail sizes A) n / sizes.page_size) ≡ None)
+    = or_fault-none (size_fault sizes.page_size (tail sizes A) n) (page_fault sizes A (place_of sizes.page_size (tail sizes A) n / sizes.page_size)) outer.1 in
     (outer.0, inner.0, inner.1)
 
 -- a look: the slot is protected, and neither offset is below what it saw

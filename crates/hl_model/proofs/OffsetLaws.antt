@@ -25,9 +25,9 @@ unfolding head
 head-push A s = greatest-push shifted_to A s
 
 -- the tail
-pub tail-push : (sizes : Sizes) (A : List Step) (s : Step) → tail sizes (A ++ s ∷ []) ≡ tail_past sizes.page (tail sizes A) s
+pub tail-push : (sizes : Sizes) (A : List Step) (s : Step) → tail sizes (A ++ s ∷ []) ≡ tail_past sizes.page_size (tail sizes A) s
 unfolding tail
-tail-push sizes A s = fold-append (tail_past sizes.page) 0 A (s ∷ [])
+tail-push sizes A s = fold-append (tail_past sizes.page_size) 0 A (s ∷ [])
 
 pub read_only-nil : read_only [] ≡ 0
 unfolding read_only greatest
@@ -66,40 +66,40 @@ pub head-grows : (A : List Step) (s : Step) → head A ≤ head (A ++ s ∷ [])
 head-grows A s = omega (arith, head-push A s)
 
 -- the start of the next page is above
-pub next_page-above : (page tail : ℕ) → 0 < page → tail < (tail / page + 1) * page
-next_page-above page tail h = omega (arith, add-mul (tail / page) 1 page, div-add-mod' tail page, mod_below tail page h)
+pub next_page-above : (page_size tail : ℕ) → 0 < page_size → tail < (tail / page_size + 1) * page_size
+next_page-above page_size tail h = omega (arith, add-mul (tail / page_size) 1 page_size, div-add-mod' tail page_size, mod_below tail page_size h)
 
 -- a record is placed at the tail or behind it
-pub place_of-le : (page tail n : ℕ) → 0 < page → tail ≤ place_of page tail n
-place_of-le page tail n h = by_test (leb (tail % page + n) page)
+pub place_of-le : (page_size tail n : ℕ) → 0 < page_size → tail ≤ place_of page_size tail n
+place_of-le page_size tail n h = by_test (leb (tail % page_size + n) page_size)
   where
-    by_test : (b : Bool) → tail ≤ cond b tail ((tail / page + 1) * page)
+    by_test : (b : Bool) → tail ≤ cond b tail ((tail / page_size + 1) * page_size)
     by_test true = omega arith
-    by_test false = omega (arith, next_page-above page tail h)
+    by_test false = omega (arith, next_page-above page_size tail h)
 
 -- its page has room for it
-pub place_of-fits : (page tail n : ℕ) → 0 < page → n ≤ page → place_of page tail n % page + n ≤ page
-place_of-fits page tail n h fits = by_test (leb (tail % page + n) page) refl
+pub place_of-fits : (page_size tail n : ℕ) → 0 < page_size → n ≤ page_size → place_of page_size tail n % page_size + n ≤ page_size
+place_of-fits page_size tail n h fits = by_test (leb (tail % page_size + n) page_size) refl
   where
-    by_test : (b : Bool) → leb (tail % page + n) page ≡ b → cond b tail ((tail / page + 1) * page) % page + n ≤ page
-    by_test true e = leb-true (tail % page + n) page e
-    by_test false e = omega (arith, mul-mod_left (tail / page + 1) page, fits)
+    by_test : (b : Bool) → leb (tail % page_size + n) page_size ≡ b → cond b tail ((tail / page_size + 1) * page_size) % page_size + n ≤ page_size
+    by_test true e = leb-true (tail % page_size + n) page_size e
+    by_test false e = omega (arith, mul-mod_left (tail / page_size + 1) page_size, fits)
 
 -- where a page has room for some words from an address on, the last of them is on that page
-pub one_page : (page a n : ℕ) → 0 < n → a % page + n ≤ page → a / page ≡ (a + n - 1) / page
-one_page page a n some fits =
-    let last : a + n - 1 ≡ a / page * page + (a % page + n - 1) = omega (arith, div-add-mod' a page) in
-    sym (ap (λ x. x / page) last ∙ div-mul-add (a / page) page (a % page + n - 1) (omega arith))
+pub one_page : (page_size a n : ℕ) → 0 < n → a % page_size + n ≤ page_size → a / page_size ≡ (a + n - 1) / page_size
+one_page page_size a n some fits =
+    let last : a + n - 1 ≡ a / page_size * page_size + (a % page_size + n - 1) = omega (arith, div-add-mod' a page_size) in
+    sym (ap (λ x. x / page_size) last ∙ div-mul-add (a / page_size) page_size (a % page_size + n - 1) (omega arith))
 
 -- so is the last word of a record
-pub place_of-one_page : (page tail n : ℕ) → 0 < page → 0 < n → n ≤ page → place_of page tail n / page ≡ (place_of page tail n + n - 1) / page
-place_of-one_page page tail n h some fits = one_page page (place_of page tail n) n some (place_of-fits page tail n h fits)
+pub place_of-one_page : (page_size tail n : ℕ) → 0 < page_size → 0 < n → n ≤ page_size → place_of page_size tail n / page_size ≡ (place_of page_size tail n + n - 1) / page_size
+place_of-one_page page_size tail n h some fits = one_page page_size (place_of page_size tail n) n some (place_of-fits page_size tail n h fits)
 
 -- no step lowers the tail
-tail_past-le : (page tail : ℕ) (s : Step) → 0 < page → tail ≤ tail_past page tail s
-tail_past-le page tail (Allocate t n) h = omega (arith, place_of-le page tail n h)
-tail_past-le page tail _ h = omega arith
+tail_past-le : (page_size tail : ℕ) (s : Step) → 0 < page_size → tail ≤ tail_past page_size tail s
+tail_past-le page_size tail (Allocate t n) h = omega (arith, place_of-le page_size tail n h)
+tail_past-le page_size tail _ h = omega arith
 
 -- the tail never falls
-pub tail-grows : (sizes : Sizes) (A : List Step) (s : Step) → 0 < sizes.page → tail sizes A ≤ tail sizes (A ++ s ∷ [])
-tail-grows sizes A s h = omega (arith, tail-push sizes A s, tail_past-le sizes.page (tail sizes A) s h)
+pub tail-grows : (sizes : Sizes) (A : List Step) (s : Step) → 0 < sizes.page_size → tail sizes A ≤ tail sizes (A ++ s ∷ [])
+tail-grows sizes A s h = omega (arith, tail-push sizes A s, tail_past-le sizes.page_size (tail sizes A) s h)

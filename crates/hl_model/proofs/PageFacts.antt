@@ -89,15 +89,15 @@ out_incomplete sizes work p lawful = accepted_has sizes (λ A. is_out p (marks w
             (false_from_ne_true (work.completes p s) (λ c. old.1 (lawful.takes_nothing s p (lawful.completes_ends s p c)) (lawful.completes_ends s p c)))
 
 -- fewer pages end at or below a lower address
-pub pages_more : (page a b : ℕ) → 0 < page → a ≤ b → a / page ≤ b / page
-pages_more page a b some le = le-div (a / page) b page some (omega (arith, div-mul-le_self a page))
+pub pages_more : (page_size a b : ℕ) → 0 < page_size → a ≤ b → a / page_size ≤ b / page_size
+pages_more page_size a b some le = le-div (a / page_size) b page_size some (omega (arith, div-mul-le_self a page_size))
 
 -- a page below the number of those that end at or below an address ends there too
-pub ends_below : (page a p : ℕ) → p < a / page → (p + 1) * page ≤ a
-ends_below page a p lt =
-    let upper : p + 1 ≤ a / page = omega arith in
-    let step : (p + 1) * page ≤ a / page * page = mul-le-mul_right page upper in
-    omega (arith, div-mul-le_self a page)
+pub ends_below : (page_size a p : ℕ) → p < a / page_size → (p + 1) * page_size ≤ a
+ends_below page_size a p lt =
+    let upper : p + 1 ≤ a / page_size = omega arith in
+    let step : (p + 1) * page_size ≤ a / page_size * page_size = mul-le-mul_right page_size upper in
+    omega (arith, div-mul-le_self a page_size)
 
 pub flush_takes_nothing : (s : Step) (p : ℕ) → flush_of s ≡ Some p → takes_to_flush s ≡ false
 flush_takes_nothing FlushTake p h = cc
@@ -113,9 +113,9 @@ pub flush_was_out : (sizes : Sizes) (A : List Step) (s : Step) (p : ℕ) → fau
 flush_was_out sizes A (FlushDone page ok) p h e = let same : page ≡ p = cc in ap (λ q. is_in_flight sizes q A) (sym same) ∙ flush_done-none sizes A page ok h
 flush_was_out sizes A _ p h e = cc
 
-flushing_lawful : (sizes : Sizes) → 0 < sizes.page → Lawful sizes (flushing sizes)
+flushing_lawful : (sizes : Sizes) → 0 < sizes.page_size → Lawful sizes (flushing sizes)
 flushing_lawful sizes some = record {
-  grows = λ A s a. pages_more sizes.page (safe_read_only A) (safe_read_only (A ++ s ∷ [])) some (safe_read_only-append sizes A (s ∷ []) a);
+  grows = λ A s a. pages_more sizes.page_size (safe_read_only A) (safe_read_only (A ++ s ∷ [])) some (safe_read_only-append sizes A (s ∷ []) a);
   takes_nothing = flush_takes_nothing;
   completes_ends = flushes_flush_of;
   ends_out = flush_was_out sizes;
@@ -133,53 +133,53 @@ pub clean_was_out : (sizes : Sizes) (A : List Step) (s : Step) (p : ℕ) → fau
 clean_was_out sizes A (CleanDone page) p h e = let same : page ≡ p = cc in ap (λ q. is_cleaning sizes q A) (sym same) ∙ clean_done-none sizes A page h
 clean_was_out sizes A _ p h e = cc
 
-cleaning_lawful : (sizes : Sizes) → 0 < sizes.page → Lawful sizes (cleaning sizes)
+cleaning_lawful : (sizes : Sizes) → 0 < sizes.page_size → Lawful sizes (cleaning sizes)
 cleaning_lawful sizes some = record {
-  grows = λ A s a. pages_more sizes.page (closed A) (closed (A ++ s ∷ [])) some (closed-append sizes A (s ∷ []) a);
+  grows = λ A s a. pages_more sizes.page_size (closed A) (closed (A ++ s ∷ [])) some (closed-append sizes A (s ∷ []) a);
   takes_nothing = clean_takes_nothing;
   completes_ends = frees_clean_of;
   ends_out = clean_was_out sizes;
 }
 
 -- flushed pages are sealed
-pub flushed_sealed : (sizes : Sizes) (A : List Step) (p : ℕ) → 0 < sizes.page → IsAccepted sizes A → is_flushed sizes p A ≡ true → (p + 1) * sizes.page ≤ safe_read_only A
-flushed_sealed sizes A p some a h = ends_below sizes.page (safe_read_only A) p (complete_due sizes (flushing sizes) p (flushing_lawful sizes some) A a h)
+pub flushed_sealed : (sizes : Sizes) (A : List Step) (p : ℕ) → 0 < sizes.page_size → IsAccepted sizes A → is_flushed sizes p A ≡ true → (p + 1) * sizes.page_size ≤ safe_read_only A
+flushed_sealed sizes A p some a h = ends_below sizes.page_size (safe_read_only A) p (complete_due sizes (flushing sizes) p (flushing_lawful sizes some) A a h)
 
 -- so are those in flight
-pub in_flight_sealed : (sizes : Sizes) (A : List Step) (p : ℕ) → 0 < sizes.page → IsAccepted sizes A → is_in_flight sizes p A ≡ true → (p + 1) * sizes.page ≤ safe_read_only A
-in_flight_sealed sizes A p some a h = ends_below sizes.page (safe_read_only A) p (out_due sizes (flushing sizes) p (flushing_lawful sizes some) A a h)
+pub in_flight_sealed : (sizes : Sizes) (A : List Step) (p : ℕ) → 0 < sizes.page_size → IsAccepted sizes A → is_in_flight sizes p A ≡ true → (p + 1) * sizes.page_size ≤ safe_read_only A
+in_flight_sealed sizes A p some a h = ends_below sizes.page_size (safe_read_only A) p (out_due sizes (flushing sizes) p (flushing_lawful sizes some) A a h)
 
 -- which aren't flushed
-pub in_flight_unflushed : (sizes : Sizes) (A : List Step) (p : ℕ) → 0 < sizes.page → IsAccepted sizes A → is_in_flight sizes p A ≡ true → is_flushed sizes p A ≡ false
+pub in_flight_unflushed : (sizes : Sizes) (A : List Step) (p : ℕ) → 0 < sizes.page_size → IsAccepted sizes A → is_in_flight sizes p A ≡ true → is_flushed sizes p A ≡ false
 in_flight_unflushed sizes A p some a h = out_incomplete sizes (flushing sizes) p (flushing_lawful sizes some) A a h
 
 -- freed pages are closed
-pub freed_closed : (sizes : Sizes) (A : List Step) (p : ℕ) → 0 < sizes.page → IsAccepted sizes A → is_freed sizes p A ≡ true → (p + 1) * sizes.page ≤ closed A
-freed_closed sizes A p some a h = ends_below sizes.page (closed A) p (complete_due sizes (cleaning sizes) p (cleaning_lawful sizes some) A a h)
+pub freed_closed : (sizes : Sizes) (A : List Step) (p : ℕ) → 0 < sizes.page_size → IsAccepted sizes A → is_freed sizes p A ≡ true → (p + 1) * sizes.page_size ≤ closed A
+freed_closed sizes A p some a h = ends_below sizes.page_size (closed A) p (complete_due sizes (cleaning sizes) p (cleaning_lawful sizes some) A a h)
 
 -- so are those being cleaned
-pub cleaning_closed : (sizes : Sizes) (A : List Step) (p : ℕ) → 0 < sizes.page → IsAccepted sizes A → is_cleaning sizes p A ≡ true → (p + 1) * sizes.page ≤ closed A
-cleaning_closed sizes A p some a h = ends_below sizes.page (closed A) p (out_due sizes (cleaning sizes) p (cleaning_lawful sizes some) A a h)
+pub cleaning_closed : (sizes : Sizes) (A : List Step) (p : ℕ) → 0 < sizes.page_size → IsAccepted sizes A → is_cleaning sizes p A ≡ true → (p + 1) * sizes.page_size ≤ closed A
+cleaning_closed sizes A p some a h = ends_below sizes.page_size (closed A) p (out_due sizes (cleaning sizes) p (cleaning_lawful sizes some) A a h)
 
 -- which aren't freed
-pub cleaning_unfreed : (sizes : Sizes) (A : List Step) (p : ℕ) → 0 < sizes.page → IsAccepted sizes A → is_cleaning sizes p A ≡ true → is_freed sizes p A ≡ false
+pub cleaning_unfreed : (sizes : Sizes) (A : List Step) (p : ℕ) → 0 < sizes.page_size → IsAccepted sizes A → is_cleaning sizes p A ≡ true → is_freed sizes p A ≡ false
 cleaning_unfreed sizes A p some a h = out_incomplete sizes (cleaning sizes) p (cleaning_lawful sizes some) A a h
 
 -- the flushed offset is at most the safe read-only one
-pub flushed-le-safe_read_only : (sizes : Sizes) (A : List Step) → 0 < sizes.page → IsAccepted sizes A → flushed sizes A ≤ safe_read_only A
+pub flushed-le-safe_read_only : (sizes : Sizes) (A : List Step) → 0 < sizes.page_size → IsAccepted sizes A → flushed sizes A ≤ safe_read_only A
 flushed-le-safe_read_only sizes A some a = by_order (cases_lt 0 (flushed_run sizes A))
   where
     by_order : ((0 < flushed_run sizes A) ⊎ (flushed_run sizes A ≤ 0)) → flushed sizes A ≤ safe_read_only A
     by_order (inl lt) =
         let last : is_flushed sizes (flushed_run sizes A - 1) A ≡ true = flushed_run-passes sizes A (flushed_run sizes A - 1) (omega arith) in
-        let sealed : (flushed_run sizes A - 1 + 1) * sizes.page ≤ safe_read_only A = flushed_sealed sizes A (flushed_run sizes A - 1) some a last in
+        let sealed : (flushed_run sizes A - 1 + 1) * sizes.page_size ≤ safe_read_only A = flushed_sealed sizes A (flushed_run sizes A - 1) some a last in
         let whole : flushed_run sizes A - 1 + 1 ≡ flushed_run sizes A = omega arith in
-        let same : (flushed_run sizes A - 1 + 1) * sizes.page ≡ flushed_run sizes A * sizes.page = ap (λ n. n * sizes.page) whole in
-        let swap : flushed_run sizes A * sizes.page ≡ sizes.page * flushed_run sizes A = omega arith in
+        let same : (flushed_run sizes A - 1 + 1) * sizes.page_size ≡ flushed_run sizes A * sizes.page_size = ap (λ n. n * sizes.page_size) whole in
+        let swap : flushed_run sizes A * sizes.page_size ≡ sizes.page_size * flushed_run sizes A = omega arith in
         omega arith
     by_order (inr none) =
         let zero_run : flushed_run sizes A ≡ 0 = omega arith in
-        let nothing : sizes.page * flushed_run sizes A ≡ sizes.page * 0 = ap (λ n. sizes.page * n) zero_run in
+        let nothing : sizes.page_size * flushed_run sizes A ≡ sizes.page_size * 0 = ap (λ n. sizes.page_size * n) zero_run in
         omega arith
 
 shifted_flushed : (sizes : Sizes) (A : List Step) (s : Step) → fault_of sizes A s ≡ None → shifted_to s ≤ flushed sizes A
@@ -192,25 +192,25 @@ head-le-flushed sizes = accepted_has sizes (λ A. head A ≤ flushed sizes A) (o
     (λ A s a h before. omega (arith, head-push A s, shifted_flushed sizes A s h, flushed-grows sizes A s))
 
 -- closed pages are flushed
-pub closed_flushed : (sizes : Sizes) (A : List Step) (p : ℕ) → 0 < sizes.page → IsAccepted sizes A → (p + 1) * sizes.page ≤ closed A → is_flushed sizes p A ≡ true
+pub closed_flushed : (sizes : Sizes) (A : List Step) (p : ℕ) → 0 < sizes.page_size → IsAccepted sizes A → (p + 1) * sizes.page_size ≤ closed A → is_flushed sizes p A ≡ true
 closed_flushed sizes A p some a h =
-    let reached : (p + 1) * sizes.page ≤ sizes.page * flushed_run sizes A = omega (arith, h, closed-le-head sizes A a, head-le-flushed sizes A a) in
-    let swap : sizes.page * flushed_run sizes A ≡ flushed_run sizes A * sizes.page = omega arith in
-    let within : p + 1 ≤ flushed_run sizes A = le_of_mul-le-mul_right {k = sizes.page} (omega arith) some in
+    let reached : (p + 1) * sizes.page_size ≤ sizes.page_size * flushed_run sizes A = omega (arith, h, closed-le-head sizes A a, head-le-flushed sizes A a) in
+    let swap : sizes.page_size * flushed_run sizes A ≡ flushed_run sizes A * sizes.page_size = omega arith in
+    let within : p + 1 ≤ flushed_run sizes A = le_of_mul-le-mul_right {k = sizes.page_size} (omega arith) some in
     flushed_run-passes sizes A p (omega arith)
 
 -- a page that is entered after an accepted step was entered before, or might be
-entered_or_may : (sizes : Sizes) (q : ℕ) (A : List Step) (s : Step) → 0 < sizes.page → fault_of sizes A s ≡ None → is_entered sizes q (A ++ s ∷ []) ≡ true → (is_entered sizes q A ≡ true) ⊎ (may_enter sizes q A ≡ true)
-entered_or_may sizes q A (Allocate t n) some h e = by_part (or_cases (is_entered sizes q A) (q == place_of sizes.page (tail sizes A) n / sizes.page) (sym (is_entered-allocate sizes q A t n some room.least room.most) ∙ e))
+entered_or_may : (sizes : Sizes) (q : ℕ) (A : List Step) (s : Step) → 0 < sizes.page_size → fault_of sizes A s ≡ None → is_entered sizes q (A ++ s ∷ []) ≡ true → (is_entered sizes q A ≡ true) ⊎ (may_enter sizes q A ≡ true)
+entered_or_may sizes q A (Allocate t n) some h e = by_part (or_cases (is_entered sizes q A) (q == place_of sizes.page_size (tail sizes A) n / sizes.page_size) (sym (is_entered-allocate sizes q A t n some room.least room.most) ∙ e))
   where
     room : HasRoom sizes A n
     room = allocate-room sizes A t n h
 
-    by_part : ((is_entered sizes q A ≡ true) ⊎ ((q == place_of sizes.page (tail sizes A) n / sizes.page) ≡ true)) → (is_entered sizes q A ≡ true) ⊎ (may_enter sizes q A ≡ true)
+    by_part : ((is_entered sizes q A ≡ true) ⊎ ((q == place_of sizes.page_size (tail sizes A) n / sizes.page_size) ≡ true)) → (is_entered sizes q A ≡ true) ⊎ (may_enter sizes q A ≡ true)
     by_part (inl old) = inl old
     by_part (inr new) =
         or_cases (is_entered sizes q A) (may_enter sizes q A)
-        (ap (λ p. is_entered sizes p A || may_enter sizes p A) (eqb-true q (place_of sizes.page (tail sizes A) n / sizes.page) new) ∙ room.enters)
+        (ap (λ p. is_entered sizes p A || may_enter sizes p A) (eqb-true q (place_of sizes.page_size (tail sizes A) n / sizes.page_size) new) ∙ room.enters)
 entered_or_may sizes q A s some h e = inl (sym (is_entered-stay sizes q A s refl) ∙ e)
 
 -- a page of a used frame may be entered where the frame's page before it is freed
@@ -218,10 +218,10 @@ pub may_enter-freed : (sizes : Sizes) (q : ℕ) (A : List Step) → sizes.frames
 may_enter-freed sizes q A le h = sym (ap (λ b. cond b true (is_freed sizes (q - sizes.frames) A)) (le-ltb q sizes.frames le)) ∙ h
 
 is_entered-nil : (sizes : Sizes) (q : ℕ) → is_entered sizes q [] ≡ false
-is_entered-nil sizes q = le-ltb (q * sizes.page) (tail sizes []) (omega (arith, tail-nil sizes))
+is_entered-nil sizes q = le-ltb (q * sizes.page_size) (tail sizes []) (omega (arith, tail-nil sizes))
 
 -- a frame's page is freed before its next one is entered
-pub round_freed : (sizes : Sizes) (q : ℕ) → 0 < sizes.page → sizes.frames ≤ q → (A : List Step) → IsAccepted sizes A → is_entered sizes q A ≡ true → is_freed sizes (q - sizes.frames) A ≡ true
+pub round_freed : (sizes : Sizes) (q : ℕ) → 0 < sizes.page_size → sizes.frames ≤ q → (A : List Step) → IsAccepted sizes A → is_entered sizes q A ≡ true → is_freed sizes (q - sizes.frames) A ≡ true
 round_freed sizes q some le = accepted_has sizes (λ A. is_entered sizes q A ≡ true → is_freed sizes (q - sizes.frames) A ≡ true) (λ h. absurd (both_ways (is_entered sizes q []) (is_entered-nil sizes q) h)) step
   where
     step : (A : List Step) (s : Step) → IsAccepted sizes A → fault_of sizes A s ≡ None → (is_entered sizes q A ≡ true → is_freed sizes (q - sizes.frames) A ≡ true) → is_entered sizes q (A ++ s ∷ []) ≡ true → is_freed sizes (q - sizes.frames) (A ++ s ∷ []) ≡ true
@@ -233,17 +233,17 @@ round_freed sizes q some le = accepted_has sizes (λ A. is_entered sizes q A ≡
 
 -- what holds of the pages of an accepted list
 pub record PagesKept (sizes : Sizes) (A : List Step) : Type 0 where
-  pub flushed_sealed : (p : ℕ) → is_flushed sizes p A ≡ true → (p + 1) * sizes.page ≤ safe_read_only A
-  pub in_flight_sealed : (p : ℕ) → is_in_flight sizes p A ≡ true → (p + 1) * sizes.page ≤ safe_read_only A
+  pub flushed_sealed : (p : ℕ) → is_flushed sizes p A ≡ true → (p + 1) * sizes.page_size ≤ safe_read_only A
+  pub in_flight_sealed : (p : ℕ) → is_in_flight sizes p A ≡ true → (p + 1) * sizes.page_size ≤ safe_read_only A
   pub in_flight_unflushed : (p : ℕ) → is_in_flight sizes p A ≡ true → is_flushed sizes p A ≡ false
-  pub freed_closed : (p : ℕ) → is_freed sizes p A ≡ true → (p + 1) * sizes.page ≤ closed A
-  pub cleaning_closed : (p : ℕ) → is_cleaning sizes p A ≡ true → (p + 1) * sizes.page ≤ closed A
+  pub freed_closed : (p : ℕ) → is_freed sizes p A ≡ true → (p + 1) * sizes.page_size ≤ closed A
+  pub cleaning_closed : (p : ℕ) → is_cleaning sizes p A ≡ true → (p + 1) * sizes.page_size ≤ closed A
   pub cleaning_unfreed : (p : ℕ) → is_cleaning sizes p A ≡ true → is_freed sizes p A ≡ false
-  pub closed_flushed : (p : ℕ) → (p + 1) * sizes.page ≤ closed A → is_flushed sizes p A ≡ true
+  pub closed_flushed : (p : ℕ) → (p + 1) * sizes.page_size ≤ closed A → is_flushed sizes p A ≡ true
   pub round_freed : (q : ℕ) → sizes.frames ≤ q → is_entered sizes q A ≡ true → is_freed sizes (q - sizes.frames) A ≡ true
 
 -- all of it
-pub pages_kept : (sizes : Sizes) (A : List Step) → 0 < sizes.page → 0 < sizes.frames → IsAccepted sizes A → PagesKept sizes A
+pub pages_kept : (sizes : Sizes) (A : List Step) → 0 < sizes.page_size → 0 < sizes.frames → IsAccepted sizes A → PagesKept sizes A
 pages_kept sizes A page frames a = record {
   flushed_sealed = λ p. flushed_sealed sizes A p page a;
   in_flight_sealed = λ p. in_flight_sealed sizes A p page a;

@@ -24,7 +24,7 @@ use Rattle.hl_model.proofs.BoundLaws.{safe_read_only-append, closed-le-head, vie
 use Rattle.hl_model.proofs.OffsetLaws.{next_page-above}
 
 -- what a slot reaches isn't below the closed offset
-reached_above : (sizes : Sizes) (X : List Step) (u a v : ℕ) → 0 < sizes.page → IsAccepted sizes X → ((fault_of sizes X (Read u a) ≡ None) ⊎ (fault_of sizes X (Write u a v) ≡ None)) → closed X ≤ a
+reached_above : (sizes : Sizes) (X : List Step) (u a v : ℕ) → 0 < sizes.page_size → IsAccepted sizes X → ((fault_of sizes X (Read u a) ≡ None) ⊎ (fault_of sizes X (Write u a v) ≡ None)) → closed X ≤ a
 reached_above sizes X u a v some acc (inl reads) =
     let parts : (protected_fault sizes X u ≡ None) × (seen_head u X ≤ a) × (a < seen_tail sizes u X) = read-none sizes X u a reads in
     let bounds : (safe_read_only X ≤ seen_read_only u X) × (closed X ≤ seen_head u X) = views_are_bounded sizes X u acc (protected-none sizes X u parts.0).1 in
@@ -35,16 +35,16 @@ reached_above sizes X u a v some acc (inr writes) =
     omega (arith, bounds.0, parts.1, closed-le-head sizes X acc, head-le-flushed sizes X acc, flushed-le-safe_read_only sizes X some acc)
 
 -- the old page is freed, so it lies below the closed offset, and what is reached doesn't
-pub no_frame_is_reused_while_reached : (sizes : Sizes) (X : List Step) (t n : ℕ) (Y : List Step) (u : ℕ) → 0 < sizes.page → IsAccepted sizes (X ++ Allocate t n ∷ Y) → is_entered sizes (placed sizes X n / sizes.page) X ≡ false → sizes.frames ≤ placed sizes X n / sizes.page → Reaches sizes u (placed sizes X n / sizes.page - sizes.frames) X → ⊥
+pub no_frame_is_reused_while_reached : (sizes : Sizes) (X : List Step) (t n : ℕ) (Y : List Step) (u : ℕ) → 0 < sizes.page_size → IsAccepted sizes (X ++ Allocate t n ∷ Y) → is_entered sizes (placed sizes X n / sizes.page_size) X ≡ false → sizes.frames ≤ placed sizes X n / sizes.page_size → Reaches sizes u (placed sizes X n / sizes.page_size - sizes.frames) X → ⊥
 no_frame_is_reused_while_reached sizes X t n Y u some a fresh used reach =
     let whole : (X ++ Allocate t n ∷ []) ++ Y ≡ X ++ Allocate t n ∷ Y = append_assoc X (Allocate t n ∷ []) Y in
     let parts : IsAccepted sizes X × (fault_of sizes X (Allocate t n) ≡ None) = IsAccepted-parts sizes X (Allocate t n) (IsAccepted-front sizes (X ++ Allocate t n ∷ []) Y (subst (IsAccepted sizes) (sym whole) a)) in
     let room : HasRoom sizes X n = allocate-room sizes X t n parts.1 in
-    let may : may_enter sizes (placed sizes X n / sizes.page) X ≡ true = sym (ap (λ b. b || may_enter sizes (placed sizes X n / sizes.page) X) fresh) ∙ room.enters in
-    let freed : is_freed sizes (placed sizes X n / sizes.page - sizes.frames) X ≡ true = may_enter-freed sizes (placed sizes X n / sizes.page) X used may in
-    let gone : (placed sizes X n / sizes.page - sizes.frames + 1) * sizes.page ≤ closed X = freed_closed sizes X (placed sizes X n / sizes.page - sizes.frames) some parts.0 freed in
-    let below : reach.address < (reach.address / sizes.page + 1) * sizes.page = next_page-above sizes.page reach.address some in
-    let same : (reach.address / sizes.page + 1) * sizes.page ≡ (placed sizes X n / sizes.page - sizes.frames + 1) * sizes.page = ap (λ q. (q + 1) * sizes.page) reach.within in
+    let may : may_enter sizes (placed sizes X n / sizes.page_size) X ≡ true = sym (ap (λ b. b || may_enter sizes (placed sizes X n / sizes.page_size) X) fresh) ∙ room.enters in
+    let freed : is_freed sizes (placed sizes X n / sizes.page_size - sizes.frames) X ≡ true = may_enter-freed sizes (placed sizes X n / sizes.page_size) X used may in
+    let gone : (placed sizes X n / sizes.page_size - sizes.frames + 1) * sizes.page_size ≤ closed X = freed_closed sizes X (placed sizes X n / sizes.page_size - sizes.frames) some parts.0 freed in
+    let below : reach.address < (reach.address / sizes.page_size + 1) * sizes.page_size = next_page-above sizes.page_size reach.address some in
+    let same : (reach.address / sizes.page_size + 1) * sizes.page_size ≡ (placed sizes X n / sizes.page_size - sizes.frames + 1) * sizes.page_size = ap (λ q. (q + 1) * sizes.page_size) reach.within in
     let above : closed X ≤ reach.address = reached_above sizes X u reach.address reach.value some parts.0 reach.lawful in
     omega (arith, gone, below, same, above)
 
@@ -67,11 +67,11 @@ sealed_words_stay sizes A a lt = by_pushing (λ B. IsAccepted sizes (A ++ B) →
         ap (word a) (sym whole) ∙ word-stay a (A ++ B) s (unwritten sizes (A ++ B) a s all low) ∙ before parts.0
 
 -- a page in flight or flushed is sealed
-taken_sealed : (sizes : Sizes) (A : List Step) (p : ℕ) → 0 < sizes.page → IsAccepted sizes A → ((is_in_flight sizes p A ≡ true) ⊎ (is_flushed sizes p A ≡ true)) → (p + 1) * sizes.page ≤ safe_read_only A
+taken_sealed : (sizes : Sizes) (A : List Step) (p : ℕ) → 0 < sizes.page_size → IsAccepted sizes A → ((is_in_flight sizes p A ≡ true) ⊎ (is_flushed sizes p A ≡ true)) → (p + 1) * sizes.page_size ≤ safe_read_only A
 taken_sealed sizes A p some acc (inl h) = in_flight_sealed sizes A p some acc h
 taken_sealed sizes A p some acc (inr h) = flushed_sealed sizes A p some acc h
 
 -- what was taken is sealed
-pub taken_words_stay : (sizes : Sizes) (A B : List Step) (a : ℕ) → 0 < sizes.page → IsAccepted sizes (A ++ B) → (is_in_flight sizes (a / sizes.page) A ≡ true) ⊎ (is_flushed sizes (a / sizes.page) A ≡ true) → word a (A ++ B) ≡ word a A
+pub taken_words_stay : (sizes : Sizes) (A B : List Step) (a : ℕ) → 0 < sizes.page_size → IsAccepted sizes (A ++ B) → (is_in_flight sizes (a / sizes.page_size) A ≡ true) ⊎ (is_flushed sizes (a / sizes.page_size) A ≡ true) → word a (A ++ B) ≡ word a A
 taken_words_stay sizes A B a some acc h =
-    sealed_words_stay sizes A a (omega (arith, next_page-above sizes.page a some, taken_sealed sizes A (a / sizes.page) some (IsAccepted-front sizes A B acc) h)) B acc
+    sealed_words_stay sizes A a (omega (arith, next_page-above sizes.page_size a some, taken_sealed sizes A (a / sizes.page_size) some (IsAccepted-front sizes A B acc) h)) B acc

@@ -99,12 +99,12 @@ flushed_run-stay sizes A s quiet =
 
 -- nor does the flushed offset fall
 pub flushed-grows : (sizes : Sizes) (A : List Step) (s : Step) → flushed sizes A ≤ flushed sizes (A ++ s ∷ [])
-flushed-grows sizes A s = mul-le-mul_left sizes.page (flushed_run-grows sizes A s)
+flushed-grows sizes A s = mul-le-mul_left sizes.page_size (flushed_run-grows sizes A s)
 
 -- over many steps either
 pub flushed-append : (sizes : Sizes) (A B : List Step) → flushed sizes A ≤ flushed sizes (A ++ B)
 flushed-append sizes A B = never_falls (flushed sizes) (flushed-grows sizes) A B
 
 -- the flushed offset is the start of a page
-pub flushed-whole : (sizes : Sizes) (A : List Step) → flushed sizes A % sizes.page ≡ 0
-flushed-whole sizes A = mul-mod_right sizes.page (flushed_run sizes A)
+pub flushed-whole : (sizes : Sizes) (A : List Step) → flushed sizes A % sizes.page_size ≡ 0
+flushed-whole sizes A = mul-mod_right sizes.page_size (flushed_run sizes A)

@@ -20,13 +20,13 @@ use Rattle.hl_model.proofs.PageFacts.{Lawful, flush_takes_nothing, flushes_flush
 
 -- there are no words, or no frames
 abbrev pub IsUnpaged : Sizes → Type 0
-IsUnpaged sizes = (sizes.page ≡ 0) ⊎ (sizes.frames ≡ 0)
+IsUnpaged sizes = (sizes.page_size ≡ 0) ⊎ (sizes.frames ≡ 0)
 
 -- sizes have pages or not
-pub paged-cases : (sizes : Sizes) → ((0 < sizes.page) × (0 < sizes.frames)) ⊎ IsUnpaged sizes
-paged-cases sizes = by_order (cases_lt 0 sizes.page) (cases_lt 0 sizes.frames)
+pub paged-cases : (sizes : Sizes) → ((0 < sizes.page_size) × (0 < sizes.frames)) ⊎ IsUnpaged sizes
+paged-cases sizes = by_order (cases_lt 0 sizes.page_size) (cases_lt 0 sizes.frames)
   where
-    by_order : ((0 < sizes.page) ⊎ (sizes.page ≤ 0)) → ((0 < sizes.frames) ⊎ (sizes.frames ≤ 0)) → ((0 < sizes.page) × (0 < sizes.frames)) ⊎ IsUnpaged sizes
+    by_order : ((0 < sizes.page_size) ⊎ (sizes.page_size ≤ 0)) → ((0 < sizes.frames) ⊎ (sizes.frames ≤ 0)) → ((0 < sizes.page_size) × (0 < sizes.frames)) ⊎ IsUnpaged sizes
     by_order (inl page) (inl frames) = inl (page, frames)
     by_order (inr none) frames = inr (inl (omega (arith, none)))
     by_order page (inr none) = inr (inr (omega (arith, none)))
@@ -39,10 +39,10 @@ pub record NoPages (sizes : Sizes) (A : List Step) : Type 0 where
   pub unfreed : (p : ℕ) → is_freed sizes p A ≡ false
   pub not_cleaning : (p : ℕ) → is_cleaning sizes p A ≡ false
 
-none_due : (sizes : Sizes) (a : ℕ) → sizes.page ≡ 0 → a / sizes.page ≡ 0
+none_due : (sizes : Sizes) (a : ℕ) → sizes.page_size ≡ 0 → a / sizes.page_size ≡ 0
 none_due sizes a h = ap (λ n. a / n) h ∙ div-zero a
 
-flushing_empty : (sizes : Sizes) → sizes.page ≡ 0 → Lawful sizes (flushing sizes)
+flushing_empty : (sizes : Sizes) → sizes.page_size ≡ 0 → Lawful sizes (flushing sizes)
 flushing_empty sizes h = record {
   grows = λ A s a. omega (arith, none_due sizes (safe_read_only A) h);
   takes_nothing = flush_takes_nothing;
@@ -50,7 +50,7 @@ flushing_empty sizes h = record {
   ends_out = flush_was_out sizes;
 }
 
-cleaning_empty : (sizes : Sizes) → sizes.page ≡ 0 → Lawful sizes (cleaning sizes)
+cleaning_empty : (sizes : Sizes) → sizes.page_size ≡ 0 → Lawful sizes (cleaning sizes)
 cleaning_empty sizes h = record {
   grows = λ A s a. omega (arith, none_due sizes (closed A) h);
   takes_nothing = clean_takes_nothing;
@@ -68,18 +68,18 @@ tail-stays sizes refuses = accepted_has sizes (λ A. tail sizes A ≡ 0) (tail-n
 
 -- no page begins below a tail of 0
 pub unentered : (sizes : Sizes) (A : List Step) (p : ℕ) → tail sizes A ≡ 0 → is_entered sizes p A ≡ false
-unentered sizes A p h = ap (λ n. ltb (p * sizes.page) n) h ∙ le-ltb (p * sizes.page) 0 (omega arith)
+unentered sizes A p h = ap (λ n. ltb (p * sizes.page_size) n) h ∙ le-ltb (p * sizes.page_size) 0 (omega arith)
 
 -- without words no record has room
-without_words : (sizes : Sizes) → sizes.page ≡ 0 → (A : List Step) (t n : ℕ) → IsAccepted sizes A → tail sizes A ≡ 0 → fault_of sizes A (Allocate t n) ≡ None → ⊥
+without_words : (sizes : Sizes) → sizes.page_size ≡ 0 → (A : List Step) (t n : ℕ) → IsAccepted sizes A → tail sizes A ≡ 0 → fault_of sizes A (Allocate t n) ≡ None → ⊥
 without_words sizes h A t n a none f = let room : HasRoom sizes A n = allocate-room sizes A t n f in omega (arith, room.least, room.most, h)
 
 -- without frames no page may be entered
-without_frames : (sizes : Sizes) → 0 < sizes.page → sizes.frames ≡ 0 → (A : List Step) (t n : ℕ) → IsAccepted sizes A → tail sizes A ≡ 0 → fault_of sizes A (Allocate t n) ≡ None → ⊥
+without_frames : (sizes : Sizes) → 0 < sizes.page_size → sizes.frames ≡ 0 → (A : List Step) (t n : ℕ) → IsAccepted sizes A → tail sizes A ≡ 0 → fault_of sizes A (Allocate t n) ≡ None → ⊥
 without_frames sizes page h A t n a none f = by_part (or_cases (is_entered sizes q A) (may_enter sizes q A) (allocate-room sizes A t n f).enters)
   where
     q : ℕ
-    q = place_of sizes.page (tail sizes A) n / sizes.page
+    q = place_of sizes.page_size (tail sizes A) n / sizes.page_size
 
     by_part : ((is_entered sizes q A ≡ true) ⊎ (may_enter sizes q A ≡ true)) → ⊥
     by_part (inl e) = both_ways (is_entered sizes q A) (unentered sizes A q none) e
@@ -88,7 +88,7 @@ without_frames sizes page h A t n a none f = by_part (or_cases (is_entered sizes
         both_ways (is_entered sizes (q - sizes.frames) A) (unentered sizes A (q - sizes.frames) none) (flushed_entered sizes A (q - sizes.frames) page a (freed_flushed sizes A (q - sizes.frames) page a freed))
 
 -- where no page is entered there are none
-unentered_none : (sizes : Sizes) (A : List Step) → 0 < sizes.page → IsAccepted sizes A → tail sizes A ≡ 0 → NoPages sizes A
+unentered_none : (sizes : Sizes) (A : List Step) → 0 < sizes.page_size → IsAccepted sizes A → tail sizes A ≡ 0 → NoPages sizes A
 unentered_none sizes A page a none = record {
   tail_none = none;
   unflushed = λ p. false_from_ne_true (is_flushed sizes p A) (λ h. both_ways (is_entered sizes p A) (unentered sizes A p none) (flushed_entered sizes A p page a h));
@@ -98,7 +98,7 @@ unentered_none sizes A page a none = record {
 }
 
 -- nor where there are no words
-wordless_none : (sizes : Sizes) (A : List Step) → sizes.page ≡ 0 → IsAccepted sizes A → NoPages sizes A
+wordless_none : (sizes : Sizes) (A : List Step) → sizes.page_size ≡ 0 → IsAccepted sizes A → NoPages sizes A
 wordless_none sizes A h a = record {
   tail_none = tail-stays sizes (without_words sizes h) A a;
   unflushed = λ p. false_from_ne_true (is_flushed sizes p A) (λ e. omega (arith, complete_due sizes (flushing sizes) p (flushing_empty sizes h) A a e, none_due sizes (safe_read_only A) h));
@@ -110,9 +110,9 @@ wordless_none sizes A h a = record {
 -- no accepted list of such sizes has a page
 pub no_pages : (sizes : Sizes) (A : List Step) → IsUnpaged sizes → IsAccepted sizes A → NoPages sizes A
 no_pages sizes A (inl h) a = wordless_none sizes A h a
-no_pages sizes A (inr h) a = by_order (cases_lt 0 sizes.page)
+no_pages sizes A (inr h) a = by_order (cases_lt 0 sizes.page_size)
   where
-    by_order : ((0 < sizes.page) ⊎ (sizes.page ≤ 0)) → NoPages sizes A
+    by_order : ((0 < sizes.page_size) ⊎ (sizes.page_size ≤ 0)) → NoPages sizes A
     by_order (inl page) = unentered_none sizes A page a (tail-stays sizes (without_frames sizes page h) A a)
     by_order (inr none) = wordless_none sizes A (omega (arith, none)) a
 
@@ -120,5 +120,5 @@ no_pages sizes A (inr h) a = by_order (cases_lt 0 sizes.page)
 pub last_entered-unpaged : (sizes : Sizes) (f : ℕ) (A : List Step) → tail sizes A ≡ 0 → last_entered sizes f A ≡ None
 unfolding last_entered
 last_entered-unpaged sizes f A h =
-    greatest_below-nothing (is_entered_in sizes f A) (tail sizes A / sizes.page + 1)
+    greatest_below-nothing (is_entered_in sizes f A) (tail sizes A / sizes.page_size + 1)
     (λ m lt. and_left (is_entered sizes m A) (m % sizes.frames == f) (unentered sizes A m h))

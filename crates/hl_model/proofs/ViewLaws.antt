@@ -108,7 +108,7 @@ tail_seen sizes t A s h =
 -- the tail that a slot saw, with one step more
 pub seen_tail-enters : (sizes : Sizes) (t : ℕ) (A : List Step) (s : Step) → enters t s ≡ true → seen_tail sizes t (A ++ s ∷ []) ≡ tail sizes A
 seen_tail-enters sizes t A s h =
-    tail_seen sizes t A s (omega (arith, mark-enters t A s h)) ∙ tail-push sizes A s ∙ enters-tail_past sizes.page (tail sizes A) t s h
+    tail_seen sizes t A s (omega (arith, mark-enters t A s h)) ∙ tail-push sizes A s ∙ enters-tail_past sizes.page_size (tail sizes A) t s h
 
 pub seen_tail-allocates : (sizes : Sizes) (t : ℕ) (A : List Step) (s : Step) → allocates t s ≡ true → seen_tail sizes t (A ++ s ∷ []) ≡ tail sizes (A ++ s ∷ [])
 seen_tail-allocates sizes t A s h =

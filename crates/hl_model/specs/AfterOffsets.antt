@@ -15,4 +15,4 @@ head_after b L = max b.six.head (greatest shifted_to L)
 
 -- the tail: the end of the last record, or the base's tail
 unfoldable pub tail_after : Base → List Step → ℕ
-tail_after b L = fold (tail_past b.sizes.page) b.six.tail L
+tail_after b L = fold (tail_past b.sizes.page_size) b.six.tail L

@@ -63,17 +63,17 @@ cleaning_after b = record {
 unfoldable pub flushed_run_after : Base → List Step → ℕ
 flushed_run_after b L =
     prefix_len (λ p. is_complete_after (flushing_after b) p L)
-    (range_with_len 0 (max (b.six.tail / b.sizes.page + 1) (greatest flushes_below L)))
+    (range_with_len 0 (max (b.six.tail / b.sizes.page_size + 1) (greatest flushes_below L)))
 
 -- the flushed offset
 abbrev pub flushed_after : Base → List Step → ℕ
-flushed_after b L = b.sizes.page * flushed_run_after b L
+flushed_after b L = b.sizes.page_size * flushed_run_after b L
 
 -- the greatest entered page of frame f, if there is one: a page is entered where it begins below the tail
 unfoldable pub last_entered_after : Base → ℕ → List Step → Option ℕ
 last_entered_after b f L =
-    greatest_below (λ p. nat_lt (p * b.sizes.page) (tail_after b L) && p % b.sizes.frames == f)
-    (tail_after b L / b.sizes.page + 1)
+    greatest_below (λ p. nat_lt (p * b.sizes.page_size) (tail_after b L) && p % b.sizes.frames == f)
+    (tail_after b L / b.sizes.page_size + 1)
 
 -- a page with its marks
 abbrev pub marked_after : Base → List Step → ℕ → Held

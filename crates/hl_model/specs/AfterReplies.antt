@@ -80,15 +80,15 @@ take_fault_at b =
 -- the fault of a record's page: it isn't entered and may not be
 abbrev pub page_fault_at : Base → ℕ → Option Fault
 page_fault_at b q =
-    if nat_lt (q * b.sizes.page) b.six.tail || nat_lt q b.sizes.frames || freed_in b (q - b.sizes.frames)
+    if nat_lt (q * b.sizes.page_size) b.six.tail || nat_lt q b.sizes.frames || freed_in b (q - b.sizes.frames)
     then None
     else Some (Busy q)
 
 -- the fault of an allocation of n words
 abbrev pub allocate_fault_at : Base → ℕ → Option Fault
 allocate_fault_at b n =
-    or_fault (size_fault b.sizes.page b.six.tail n)
-    (page_fault_at b (place_of b.sizes.page b.six.tail n / b.sizes.page))
+    or_fault (size_fault b.sizes.page_size b.six.tail n)
+    (page_fault_at b (place_of b.sizes.page_size b.six.tail n / b.sizes.page_size))
 
 -- the fault of a look at these offsets, told the view
 abbrev pub look_fault_of : ℕ → ℕ → View → Option Fault
@@ -121,7 +121,7 @@ fault_at b Bare = bare_fault_at b
 fault_at b Take = take_fault_at b
 fault_at b (Done ticket) = if list_any (λ w. w.ticket == ticket) b.taken then None else Some NotTaken
 fault_at b (Raise x) = raise_fault b.six.read_only b.six.tail x
-fault_at b (Shift x) = shift_fault b.sizes.page b.six.head b.six.flushed x
+fault_at b (Shift x) = shift_fault b.sizes.page_size b.six.head b.six.flushed x
 fault_at b (Allocate t n) = view_fault_at b t (λ view. allocate_fault_at b n)
 fault_at b (Look t read_only head) = view_fault_at b t (look_fault_of read_only head)
 fault_at b (Write t a v) = view_fault_at b t (write_fault_of a)
@@ -161,7 +161,7 @@ answer_at b c Take = Taken (first_ticket b.waiting)
 answer_at b c (Done ticket) = done_answer_at c (kind_or_job_0 (find (λ w. w.ticket == ticket) b.taken))
 answer_at b c (Raise x) = Raised c.six.read_only
 answer_at b c (Shift x) = Shifted c.six.head
-answer_at b c (Allocate t n) = At (place_of b.sizes.page b.six.tail n)
+answer_at b c (Allocate t n) = At (place_of b.sizes.page_size b.six.tail n)
 answer_at b c (Look t read_only head) = looked_at (slot_in c t)
 answer_at b c (Write t a v) = Written
 answer_at b c (Read t a) = Readable

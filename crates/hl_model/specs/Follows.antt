@@ -78,7 +78,7 @@ pub record OffsetsMove (sizes : Sizes) (A : List Step) : Type 0 where
   -- an allocation moves the tail to its record's end
   pub allocate : (t n : ℕ)
       → six sizes (A ++ Allocate t n ∷ [])
-      ≡ record (six sizes A) { tail = place_of sizes.page (tail sizes A) n + n }
+      ≡ record (six sizes A) { tail = place_of sizes.page_size (tail sizes A) n + n }
   -- a done of a taken action raises an offset to what a settle or a close stored
   pub done : (c : ℕ) (w : Waiting) → is_taken c A ≡ true → action_at c A ≡ Some w
       → six sizes (A ++ Done c ∷ []) ≡ record (six sizes A) {

@@ -12,7 +12,7 @@ use Rattle.hl_model.specs.Pages.{is_flushed, is_freed}
 -- the greatest entered page of frame f, if there is one
 unfoldable pub last_entered : Sizes → ℕ → List Step → Option ℕ
 last_entered sizes f A =
-    greatest_below (λ p. is_entered sizes p A && p % sizes.frames == f) (tail sizes A / sizes.page + 1)
+    greatest_below (λ p. is_entered sizes p A && p % sizes.frames == f) (tail sizes A / sizes.page_size + 1)
 
 -- page q may be entered: its frame was never used, or the page that was there last is freed
 abbrev pub may_enter : Sizes → ℕ → List Step → Bool

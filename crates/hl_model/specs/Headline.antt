@@ -36,7 +36,7 @@ moves_on t _ = false
 
 -- where a record of n words is placed after the list A
 abbrev pub placed : Sizes → List Step → ℕ → ℕ
-placed sizes A n = place_of sizes.page (tail sizes A) n
+placed sizes A n = place_of sizes.page_size (tail sizes A) n
 
 -- what is promised of a list of steps, wherever it is cut
 pub record Headline (sizes : Sizes) (A : List Step) : Type 0 where
@@ -54,20 +54,21 @@ pub record Headline (sizes : Sizes) (A : List Step) : Type 0 where
       → safe_read_only X ≤ a
   -- where an allocation enters a page in a used frame, no protected slot reaches the page that was there
   pub none_reaches_reused : (X : List Step) (t n : ℕ) (Y : List Step) (u : ℕ) → A ≡ X ++ Allocate t n ∷ Y
-      → is_entered sizes (placed sizes X n / sizes.page) X ≡ false
-      → sizes.frames ≤ placed sizes X n / sizes.page
-      → Reaches sizes u (placed sizes X n / sizes.page - sizes.frames) X → ⊥
+      → is_entered sizes (placed sizes X n / sizes.page_size) X ≡ false
+      → sizes.frames ≤ placed sizes X n / sizes.page_size
+      → Reaches sizes u (placed sizes X n / sizes.page_size - sizes.frames) X → ⊥
   -- what a protected slot saw isn't below what is settled
   pub views_bounded : (X Y : List Step) (t : ℕ) → A ≡ X ++ Y → is_protected t X ≡ true
       → (safe_read_only X ≤ seen_read_only t X) × (closed X ≤ seen_head t X)
   -- each record is placed on one page
   pub placed_on_one_page : (X : List Step) (t n : ℕ) (Y : List Step) → A ≡ X ++ Allocate t n ∷ Y
-      → placed sizes X n / sizes.page ≡ (placed sizes X n + n - 1) / sizes.page
+      → placed sizes X n / sizes.page_size ≡ (placed sizes X n + n - 1) / sizes.page_size
   -- of two records the later one is placed behind the earlier one's last word
   pub placed_apart : (X : List Step) (t n : ℕ) (Y : List Step) (u m : ℕ) (Z : List Step)
       → A ≡ (X ++ Allocate t n ∷ Y) ++ Allocate u m ∷ Z
       → placed sizes X n + n ≤ placed sizes (X ++ Allocate t n ∷ Y) m
   -- from a page's flush take on its words stay
   pub taken_words_stay : (X Y : List Step) (a : ℕ) → A ≡ X ++ Y
-      → (is_in_flight sizes (a / sizes.page) X ≡ true) ⊎ (is_flushed sizes (a / sizes.page) X ≡ true)
+      → (is_in_flight sizes (a / sizes.page_size) X ≡ true)
+      ⊎ (is_flushed sizes (a / sizes.page_size) X ≡ true)
       → word a A ≡ word a X

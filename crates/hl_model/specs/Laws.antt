@@ -92,8 +92,8 @@ TakenAreSafe = (sizes : Sizes) (A : List Step) → IsAccepted sizes A
 
 -- the offsets of each accepted list are in order
 abbrev pub OffsetsAreInOrder : Type 0
-OffsetsAreInOrder = (sizes : Sizes) (A : List Step) → 0 < sizes.page → IsAccepted sizes A
-    → AreInOrder sizes.page (six sizes A)
+OffsetsAreInOrder = (sizes : Sizes) (A : List Step) → 0 < sizes.page_size → IsAccepted sizes A
+    → AreInOrder sizes.page_size (six sizes A)
 
 -- no offset is lower than it was
 pub record NoneFell (sizes : Sizes) (A B : List Step) : Type 0 where
@@ -106,9 +106,9 @@ pub record NoneFell (sizes : Sizes) (A B : List Step) : Type 0 where
 
 -- the offsets never fall
 abbrev pub OffsetsNeverFall : Type 0
-OffsetsNeverFall = (sizes : Sizes) (A B : List Step) → 0 < sizes.page → IsAccepted sizes (A ++ B)
+OffsetsNeverFall = (sizes : Sizes) (A B : List Step) → 0 < sizes.page_size → IsAccepted sizes (A ++ B)
     → NoneFell sizes A (A ++ B)
 
 -- the headline holds of each accepted list
 abbrev pub HeadlineHolds : Type 0
-HeadlineHolds = (sizes : Sizes) (A : List Step) → 0 < sizes.page → IsAccepted sizes A → Headline sizes A
+HeadlineHolds = (sizes : Sizes) (A : List Step) → 0 < sizes.page_size → IsAccepted sizes A → Headline sizes A

@@ -26,17 +26,18 @@ head A = greatest shifted_to A
 
 -- where a record of n words is placed: at the tail, if its page has room, else at the start of the next page
 abbrev pub place_of : ℕ → ℕ → ℕ → ℕ
-place_of page tail n = if nat_le (tail % page + n) page then tail else ((tail / page + 1) * page)
+place_of page_size tail n =
+    if nat_le (tail % page_size + n) page_size then tail else ((tail / page_size + 1) * page_size)
 
 -- the tail after a step, told the tail before it: an allocated record ends there
 abbrev pub tail_past : ℕ → ℕ → Step → ℕ
-tail_past page tail (Allocate t n) = place_of page tail n + n
-tail_past page tail _ = tail
+tail_past page_size tail (Allocate t n) = place_of page_size tail n + n
+tail_past page_size tail _ = tail
 
 -- the tail: the end of the last record, or 0
 unfoldable pub tail : Sizes → List Step → ℕ
-tail sizes A = fold (tail_past sizes.page) 0 A
+tail sizes A = fold (tail_past sizes.page_size) 0 A
 
 -- page q is entered: a record was placed in it
 abbrev pub is_entered : Sizes → ℕ → List Step → Bool
-is_entered sizes q A = nat_lt (q * sizes.page) (tail sizes A)
+is_entered sizes q A = nat_lt (q * sizes.page_size) (tail sizes A)

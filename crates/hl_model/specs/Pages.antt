@@ -142,4 +142,4 @@ flushed_run sizes A = prefix_len (λ p. is_flushed sizes p A) (range_with_len 0 
 
 -- the flushed offset (FASTER's flushed-until address, section on the HybridLog)
 abbrev pub flushed : Sizes → List Step → ℕ
-flushed sizes A = sizes.page * flushed_run sizes A
+flushed sizes A = sizes.page_size * flushed_run sizes A

@@ -9,5 +9,5 @@ use Rattle.hl_model.specs.Replies.{fault_of}
 pub record Reaches (sizes : Sizes) (t p : ℕ) (A : List Step) : Type 0 where
   pub address : ℕ
   pub value : ℕ
-  pub within : address / sizes.page ≡ p
+  pub within : address / sizes.page_size ≡ p
   pub lawful : (fault_of sizes A (Read t address) ≡ None) ⊎ (fault_of sizes A (Write t address value) ≡ None)

@@ -66,15 +66,15 @@ raise_fault read_only tail x =
 
 -- the fault of a shift of the head to x
 abbrev pub shift_fault : ℕ → ℕ → ℕ → ℕ → Option Fault
-shift_fault page head flushed x =
+shift_fault page_size head flushed x =
     if nat_le x head then Some NotAbove
-    else if x % page == 0 then (if nat_lt flushed x then Some AboveFlushed else None) else Some NotPage
+    else if x % page_size == 0 then (if nat_lt flushed x then Some AboveFlushed else None) else Some NotPage
 
 -- the fault of a record of n words: its size, or an end above the last address
 abbrev pub size_fault : ℕ → ℕ → ℕ → Option Fault
-size_fault page tail n =
-    if n == 0 || nat_lt page n then Some Size
-    else if nat_lt (2 ^ 48) (place_of page tail n + n) then Some SpaceSpent
+size_fault page_size tail n =
+    if n == 0 || nat_lt page_size n then Some Size
+    else if nat_lt (2 ^ 48) (place_of page_size tail n + n) then Some SpaceSpent
     else None
 
 -- the fault of a record's page: it isn't entered and may not be
@@ -84,8 +84,8 @@ page_fault sizes A q = if is_entered sizes q A || may_enter sizes q A then None 
 -- the fault of an allocation of n words
 abbrev pub allocate_fault : Sizes → List Step → ℕ → Option Fault
 allocate_fault sizes A n =
-    or_fault (size_fault sizes.page (tail sizes A) n)
-    (page_fault sizes A (place_of sizes.page (tail sizes A) n / sizes.page))
+    or_fault (size_fault sizes.page_size (tail sizes A) n)
+    (page_fault sizes A (place_of sizes.page_size (tail sizes A) n / sizes.page_size))
 
 -- the fault of a look that slot t takes at these offsets
 abbrev pub look_fault : List Step → ℕ → ℕ → ℕ → Option Fault
@@ -124,7 +124,7 @@ fault_of sizes A Bare = bare_fault sizes A
 fault_of sizes A Take = take_fault sizes A
 fault_of sizes A (Done ticket) = if is_taken ticket A then None else Some NotTaken
 fault_of sizes A (Raise x) = raise_fault (read_only A) (tail sizes A) x
-fault_of sizes A (Shift x) = shift_fault sizes.page (head A) (flushed sizes A) x
+fault_of sizes A (Shift x) = shift_fault sizes.page_size (head A) (flushed sizes A) x
 fault_of sizes A (Allocate t n) = or_fault (protected_fault sizes A t) (allocate_fault sizes A n)
 fault_of sizes A (Look t read_only head) =
     or_fault (protected_fault sizes A t) (look_fault A t read_only head)
@@ -160,7 +160,7 @@ answer_of sizes A B Take = Taken (front A)
 answer_of sizes A B (Done ticket) = done_answer B (kind_or_job_0 (action_at ticket B))
 answer_of sizes A B (Raise x) = Raised (read_only B)
 answer_of sizes A B (Shift x) = Shifted (head B)
-answer_of sizes A B (Allocate t n) = At (place_of sizes.page (tail sizes A) n)
+answer_of sizes A B (Allocate t n) = At (place_of sizes.page_size (tail sizes A) n)
 answer_of sizes A B (Look t read_only head) = Looked (view_of sizes t B)
 answer_of sizes A B (Write t a v) = Written
 answer_of sizes A B (Read t a) = Readable

@@ -32,12 +32,12 @@ closed A = done_greatest closes A
 
 -- page p is sealed: it ends at or below the safe read-only offset
 abbrev pub is_sealed : Sizes → ℕ → List Step → Bool
-is_sealed sizes p A = nat_le ((p + 1) * sizes.page) (safe_read_only A)
+is_sealed sizes p A = nat_le ((p + 1) * sizes.page_size) (safe_read_only A)
 
 -- page p is closed: it ends at or below the closed offset
 abbrev pub is_closed : Sizes → ℕ → List Step → Bool
-is_closed sizes p A = nat_le ((p + 1) * sizes.page) (closed A)
+is_closed sizes p A = nat_le ((p + 1) * sizes.page_size) (closed A)
 
 -- how many pages end at or below an address: those below this number
 abbrev pub pages_below : Sizes → ℕ → ℕ
-pages_below sizes a = a / sizes.page
+pages_below sizes a = a / sizes.page_size

@@ -27,10 +27,10 @@ six sizes A = record {
 
 -- six offsets are in order, where a page has this many words: closed ≤ head ≤ flushed ≤ safe read-only ≤
 -- read-only ≤ tail ≤ 2^48, the first three being multiples of P
-pub record AreInOrder (page : ℕ) (six : Six) : Type 0 where
-  pub closed_whole : six.closed % page ≡ 0
-  pub head_whole : six.head % page ≡ 0
-  pub flushed_whole : six.flushed % page ≡ 0
+pub record AreInOrder (page_size : ℕ) (six : Six) : Type 0 where
+  pub closed_whole : six.closed % page_size ≡ 0
+  pub head_whole : six.head % page_size ≡ 0
+  pub flushed_whole : six.flushed % page_size ≡ 0
   pub closed_most : six.closed ≤ six.head
   pub head_most : six.head ≤ six.flushed
   pub flushed_most : six.flushed ≤ six.safe_read_only

@@ -17,4 +17,4 @@ word a A = last_given (written_at a) 0 A
 
 -- the words of page p, in order
 unfoldable pub page_words : Sizes → ℕ → List Step → List ℕ
-page_words sizes p A = map (λ a. word a A) (range_with_len (p * sizes.page) sizes.page)
+page_words sizes p A = map (λ a. word a A) (range_with_len (p * sizes.page_size) sizes.page_size)

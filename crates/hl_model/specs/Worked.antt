@@ -16,7 +16,7 @@ use Rattle.hl_model.specs.Replies.{good, replies}
 
 -- pages of 4 words, 2 frames, 2 slots, 2 places in the drain list
 abbrev pub small : Sizes
-small = record { page = 4; frames = 2; slots = 2; drain = 2 }
+small = record { page_size = 4; frames = 2; slots = 2; drain = 2 }
 
 -- the view of a log where nothing was allocated
 abbrev pub at_start : View

@@ -20,7 +20,7 @@ use Rattle.hl_model.specs.Replies.{good, replies}
 
 -- pages of 4 words, 2 frames, 2 slots, 4 places in the drain list
 abbrev pub roomy : Sizes
-roomy = record { page = 4; frames = 2; slots = 2; drain = 4 }
+roomy = record { page_size = 4; frames = 2; slots = 2; drain = 4 }
 
 -- a view: its read-only offset, its head and its tail
 abbrev pub seeing : ℕ → ℕ → ℕ → View

@@ -7,8 +7,8 @@
 //!
 //! # Limits
 //!
-//! The ranges of the four sizes are constants, [`PAGE_LEAST`] to [`DRAIN_MOST`], which [`Params::checked`] compares with.
-//! What follows from them: the frames have at most [`FRAMES_MOST`] times [`PAGE_MOST`] words, 2^20, which are 8 MiB;
+//! The ranges of the four sizes are constants, [`PAGE_SIZE_LEAST`] to [`DRAIN_MOST`], which [`Params::checked`] compares with.
+//! What follows from them: the frames have at most [`FRAMES_MOST`] times [`PAGE_SIZE_MOST`] words, 2^20, which are 8 MiB;
 //! at most [`SLOTS_MOST`] threads are protected at once, and at most [`DRAIN_MOST`] actions wait or are taken. Two
 //! numbers end: epochs at [`EPOCH_LAST`], addresses at [`TAIL_MOST`]. At most [`EPOCH_WINDOW`] epochs have ended and are
 //! not safe. A step that would pass one of these is refused.
@@ -35,8 +35,8 @@ pub use base::{Base, Quantities};
 pub use fault::Fault;
 pub use frame::{FrameState, Held};
 pub use limits::{
-    DRAIN_MOST, EPOCH_LAST, EPOCH_WINDOW, FRAMES_LEAST, FRAMES_MOST, PAGE_LEAST, PAGE_MOST,
-    SLOTS_MOST, TAIL_MOST,
+    DRAIN_MOST, EPOCH_LAST, EPOCH_WINDOW, FRAMES_LEAST, FRAMES_MOST, PAGE_SIZE_LEAST,
+    PAGE_SIZE_MOST, SLOTS_MOST, TAIL_MOST,
 };
 pub use params::Params;
 pub use rows::{filled, with_room};

@@ -1,8 +1,8 @@
 /// The least number of words of a page, P.
-pub const PAGE_LEAST: u64 = 4;
+pub const PAGE_SIZE_LEAST: u64 = 4;
 
 /// The greatest number of words of a page.
-pub const PAGE_MOST: u64 = 4096;
+pub const PAGE_SIZE_MOST: u64 = 4096;
 
 /// The least number of frames, F.
 pub const FRAMES_LEAST: u64 = 2;

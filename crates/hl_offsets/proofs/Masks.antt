@@ -23,11 +23,11 @@ power_of (suc d) n most one =
     ]
 
 -- what the low bits tell
-pub remainder_is : (page x : ℕ) → IsTrue (is_power_of_two page) → bit_and x (page - 1) ≡ x % page
-remainder_is page x power =
-    elim (eqb_tells (count_ones page) 1) [
+pub remainder_is : (page_size x : ℕ) → IsTrue (is_power_of_two page_size) → bit_and x (page_size - 1) ≡ x % page_size
+remainder_is page_size x power =
+    elim (eqb_tells (count_ones page_size) 1) [
       | inl one ↦
-          let found = power_of page page (omega arith) one.1 in
+          let found = power_of page_size page_size (omega arith) one.1 in
           rw found.1 (and_mask x found.0)
       | inr other ↦ let never = rw other.0 at power in absurd cc
     ]

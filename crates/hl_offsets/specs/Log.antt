@@ -6,7 +6,7 @@ use Rattle.hl_model.specs.Offsets.{place_of}
 
 -- the words of a page, and the offsets, each an address
 pub record Log : Type 0 where
-  pub page : ℕ
+  pub page_size : ℕ
   pub closed : ℕ
   pub head : ℕ
   pub safe_read_only : ℕ
@@ -15,11 +15,11 @@ pub record Log : Type 0 where
 
 -- what is true of every log
 pub record IsLog (log : Log) : Type 0 where
-  pub page_least : 4 ≤ log.page
-  pub page_most : log.page ≤ 4096
-  pub page_power : IsTrue (is_power_of_two log.page)
-  pub closed_whole : log.closed % log.page ≡ 0
-  pub head_whole : log.head % log.page ≡ 0
+  pub page_size_least : 4 ≤ log.page_size
+  pub page_size_most : log.page_size ≤ 4096
+  pub page_size_power : IsTrue (is_power_of_two log.page_size)
+  pub closed_whole : log.closed % log.page_size ≡ 0
+  pub head_whole : log.head % log.page_size ≡ 0
   pub closed_most : log.closed ≤ log.head
   pub head_most : log.head ≤ log.safe_read_only
   pub safe_read_only_most : log.safe_read_only ≤ log.read_only
@@ -36,13 +36,14 @@ pub record NoneFalls (old new : Log) : Type 0 where
 
 -- nothing is allocated yet
 abbrev pub started : ℕ → Log
-started page = record { page = page; closed = 0; head = 0; safe_read_only = 0; read_only = 0; tail = 0 }
+started page_size =
+    record { page_size = page_size; closed = 0; head = 0; safe_read_only = 0; read_only = 0; tail = 0 }
 
 -- the offsets of the six but the flushed one
 abbrev pub resumed : ℕ → Six → Log
-resumed page six =
+resumed page_size six =
     record {
-      page = page;
+      page_size = page_size;
       closed = six.closed;
       head = six.head;
       safe_read_only = six.safe_read_only;
@@ -68,7 +69,7 @@ closed_up_to x log = record log { closed = max log.closed x }
 
 -- a record of n words is the last one
 abbrev pub allocated : ℕ → Log → Log
-allocated n log = record log { tail = place_of log.page log.tail n + n }
+allocated n log = record log { tail = place_of log.page_size log.tail n + n }
 
 -- the offsets with this flushed one among them
 abbrev pub six_of : Log → ℕ → Six

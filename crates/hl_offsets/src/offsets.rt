@@ -11,7 +11,7 @@ use std::marker::Model;
 /// The offsets of one log, each an address, in words.
 #[derive(Clone, Copy, Debug, PartialEq, Eq)]
 pub struct Offsets {
-    page: u64,
+    page_size: u64,
     closed: u64,
     head: u64,
     safe_read_only: u64,
@@ -23,7 +23,7 @@ impl Model for Offsets {
     ghost Value = { Log };
 
     ghost view = { λ a. record {
-      page = a.page;
+      page_size = a.page_size;
       closed = a.closed;
       head = a.head;
       safe_read_only = a.safe_read_only;
@@ -33,7 +33,7 @@ impl Model for Offsets {
 
     ghost invariant = { λ a. IsLog
         (record {
-          page = a.page;
+          page_size = a.page_size;
           closed = a.closed;
           head = a.head;
           safe_read_only = a.safe_read_only;
@@ -42,7 +42,7 @@ impl Model for Offsets {
         }) };
 
     ghost inverse = { λ log. record {
-      page = log.page;
+      page_size = log.page_size;
       closed = log.closed;
       head = log.head;
       safe_read_only = log.safe_read_only;
@@ -52,13 +52,13 @@ impl Model for Offsets {
 }
 
 impl Offsets {
-    /// The offsets of an empty log, with pages of `params.page()` words: each is 0.
+    /// The offsets of an empty log, with pages of `params.page_size()` words: each is 0.
     pub fn new(params: Params) -> Offsets
-        ensures value { result ≡ started params.page }
+        ensures value { result ≡ started params.page_size }
         ensures valid { IsLog result }
     {
         Offsets {
-            page: params.page(),
+            page_size: params.page_size(),
             closed: 0,
             head: 0,
             safe_read_only: 0,
@@ -70,12 +70,12 @@ impl Offsets {
     /// The offsets of a log that goes on from these six. They are in order, the closed, the head and the flushed
     /// offset are multiples of P, and the tail is at most 2^48. The flushed offset is not kept.
     pub fn resume(params: Params, six: Six) -> Offsets
-        requires { AreInOrder params.page six }
-        ensures value { result ≡ resumed params.page six }
+        requires { AreInOrder params.page_size six }
+        ensures value { result ≡ resumed params.page_size six }
         ensures valid { IsLog result }
     {
         Offsets {
-            page: params.page(),
+            page_size: params.page_size(),
             closed: six.closed,
             head: six.head,
             safe_read_only: six.safe_read_only,
@@ -114,9 +114,9 @@ impl Offsets {
     pub fn shift(&mut self, x: u64, flushed: u64) -> Result<(), Fault>
         requires { flushed ≤ self.old.safe_read_only }
         ensures answer { let old = self.old
-            in result ≡ unless_fault (shift_fault old.page old.head flushed x) tt }
+            in result ≡ unless_fault (shift_fault old.page_size old.head flushed x) tt }
         ensures effect { let old = self.old
-            in self.new ≡ unless_refused (shift_fault old.page old.head flushed x) old (shifted x old) }
+            in self.new ≡ unless_refused (shift_fault old.page_size old.head flushed x) old (shifted x old) }
         ensures below_flushed { self.old.head ≤ flushed → self.new.head ≤ flushed }
         ensures rising { NoneFalls self.old self.new }
         ensures valid { IsLog self.new }
@@ -124,7 +124,7 @@ impl Offsets {
         if x <= self.head {
             return Err(Fault::NotAbove);
         }
-        if x % self.page != 0 {
+        if x % self.page_size != 0 {
             return Err(Fault::NotPage);
         }
         if x > flushed {
@@ -150,7 +150,7 @@ impl Offsets {
     /// Tells that nobody reads below x any more, x having been the head at some time. The closed offset becomes
     /// the greater of itself and x, and is the answer.
     pub fn close(&mut self, x: u64) -> u64
-        requires whole { x % self.old.page ≡ 0 }
+        requires whole { x % self.old.page_size ≡ 0 }
         requires most { x ≤ self.old.head }
         ensures answer { result ≡ max self.old.closed x }
         ensures effect { self.new ≡ closed_up_to x self.old }
@@ -167,15 +167,16 @@ impl Offsets {
     /// Faults: `Size` where n is 0 or above P, `SpaceSpent` where the record would end above 2^48.
     pub fn allocate(&mut self, n: u64) -> Result<u64, Fault>
         ensures answer { let old = self.old
-            in result ≡ unless_fault (size_fault old.page old.tail n) (place_of old.page old.tail n) }
+            in result ≡ unless_fault (size_fault old.page_size old.tail n)
+            (place_of old.page_size old.tail n) }
         ensures effect { let old = self.old
-            in self.new ≡ unless_refused (size_fault old.page old.tail n) old (allocated n old) }
+            in self.new ≡ unless_refused (size_fault old.page_size old.tail n) old (allocated n old) }
         ensures above_tail { IfOk result (λ address. self.old.tail ≤ address) }
-        ensures one_page { IfOk result (IsOnOnePage self.old.page n) }
+        ensures one_page { IfOk result (IsOnOnePage self.old.page_size n) }
 
         // A lower address at or above the tail has the record on two pages.
         ensures lowest { let old = self.old
-            in IfOk result (λ address. (a : ℕ) → old.tail ≤ a → IsOnOnePage old.page n a → address ≤ a) }
+            in IfOk result (λ address. (a : ℕ) → old.tail ≤ a → IsOnOnePage old.page_size n a → address ≤ a) }
         ensures rising { NoneFalls self.old self.new }
         ensures valid { IsLog self.new }
     {
@@ -187,7 +188,8 @@ impl Offsets {
     /// Places a record of n words at `address`, where `place` told that it would lie.
     pub fn allocate_at(&mut self, address: u64, n: u64)
         requires { let old = self.old
-            in Ok address ≡ unless_fault (size_fault old.page old.tail n) (place_of old.page old.tail n) }
+            in Ok address ≡ unless_fault (size_fault old.page_size old.tail n)
+            (place_of old.page_size old.tail n) }
         ensures effect { self.new ≡ allocated n self.old }
         ensures rising { NoneFalls self.old self.new }
         ensures valid { IsLog self.new }
@@ -198,14 +200,15 @@ impl Offsets {
     /// Where `allocate` would place a record of n words, or the fault that it would meet. Changes nothing.
     pub fn place(&self, n: u64) -> Result<u64, Fault>
         ensures answer { let now = self.now
-            in result ≡ unless_fault (size_fault now.page now.tail n) (place_of now.page now.tail n) }
+            in result ≡ unless_fault (size_fault now.page_size now.tail n)
+            (place_of now.page_size now.tail n) }
         ensures above_tail { IfOk result (λ address. self.now.tail ≤ address) }
-        ensures one_page { IfOk result (IsOnOnePage self.now.page n) }
+        ensures one_page { IfOk result (IsOnOnePage self.now.page_size n) }
         ensures lowest { let now = self.now
-            in IfOk result (λ address. (a : ℕ) → now.tail ≤ a → IsOnOnePage now.page n a → address ≤ a) }
+            in IfOk result (λ address. (a : ℕ) → now.tail ≤ a → IsOnOnePage now.page_size n a → address ≤ a) }
         ensures valid { IsLog self.now }
     {
-        if n == 0 || n > self.page {
+        if n == 0 || n > self.page_size {
             return Err(Fault::Size);
         }
         let address = self.place_for(n);
@@ -218,17 +221,17 @@ impl Offsets {
     // Where n words, at most P, lie on one page at or above the tail. P is a power of two, so the low bits of the tail
     // count the words before it on its page.
     fn place_for(&self, n: u64) -> u64
-        requires { n ≤ self.now.page }
-        ensures place { result ≡ place_of self.now.page self.now.tail n }
+        requires { n ≤ self.now.page_size }
+        ensures place { result ≡ place_of self.now.page_size self.now.tail n }
         ensures least { self.now.tail ≤ result }
-        ensures most { result ≤ self.now.tail + self.now.page }
+        ensures most { result ≤ self.now.tail + self.now.page_size }
         ensures valid { IsLog self.now }
     {
-        let before = self.tail & (self.page - 1);
-        if before + n <= self.page {
+        let before = self.tail & (self.page_size - 1);
+        if before + n <= self.page_size {
             self.tail
         } else {
-            self.tail - before + self.page
+            self.tail - before + self.page_size
         }
     }
 
@@ -277,8 +280,8 @@ impl Offsets {
     pub fn six(&self, flushed: u64) -> Six
         ensures value { result ≡ six_of self.now flushed }
         ensures in_order { let now = self.now
-            in now.head ≤ flushed → flushed ≤ now.safe_read_only → flushed % now.page ≡ 0
-            → AreInOrder now.page result }
+            in now.head ≤ flushed → flushed ≤ now.safe_read_only → flushed % now.page_size ≡ 0
+            → AreInOrder now.page_size result }
         ensures valid { IsLog self.now }
     {
         Six {

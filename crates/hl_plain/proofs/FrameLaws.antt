@@ -12,7 +12,7 @@ use Rattle.hl_plain.specs.Works.{begun_of}
 
 -- page p is entered, and lies in frame f
 abbrev pub is_entered_in : Base → ℕ → List Step → ℕ → Bool
-is_entered_in b f L p = ltb (p * b.sizes.page) (tail_after b L) && p % b.sizes.frames == f
+is_entered_in b f L p = ltb (p * b.sizes.page_size) (tail_after b L) && p % b.sizes.frames == f
 
 -- a page with its marks, as code tells them
 pub marked-is : (b : Base) (L : List Step) (p : ℕ) (F C : List Mark) (flushed in_flight freed cleaning : Bool) → F ≡ marks_after (flushing_after b) L → C ≡ marks_after (cleaning_after b) L

@@ -54,12 +54,12 @@ bounded h k =
     let b = h.base in
     let B = k.before ++ h.steps in
     let is = present_is h k.before k.follows in
-    let some : 0 < b.sizes.page = omega (arith, k.in_range.page_least) in
-    let order : AreInOrder b.sizes.page (six b.sizes B) = offsets_are_in_order b.sizes B some k.follows.accepted in
+    let some : 0 < b.sizes.page_size = omega (arith, k.in_range.page_size_least) in
+    let order : AreInOrder b.sizes.page_size (six b.sizes B) = offsets_are_in_order b.sizes B some k.follows.accepted in
     let holds = drain_list_holds_them b.sizes B k.follows.accepted in
     record {
       epoch_most = omega (arith, ap (λ (x : Base). x.epoch) k.follows.base_is, current_is_at_most_last b.sizes k.before (beginnings_are_accepted b.sizes k.before h.steps k.follows.accepted));
-      tail = record { page_least = some; tail_most = omega (arith, ap (λ (x : Base). x.six.tail) is, order.tail_most) };
+      tail = record { page_size_least = some; tail_most = omega (arith, ap (λ (x : Base). x.six.tail) is, order.tail_most) };
       flushed_most = omega (arith, ap (λ (x : Base). x.six.flushed) is, order.flushed_most, order.safe_read_only_most, order.read_only_most, order.tail_most);
       waiting_most = omega (arith, ap (λ (x : Base). length x.waiting) is, holds.1, k.in_range.drain_most);
       taken_most = omega (arith, ap (λ (x : Base). length x.taken) is, holds.1, k.in_range.drain_most);

@@ -59,9 +59,9 @@ run-least b L n passes = by_order (cases_lt k n)
         (ap (λ q. is_complete_after (flushing_after b) q L) (sym there) ∙ prefix_len_stops (λ p. is_complete_after (flushing_after b) p L) (range_with_len 0 (run_end b L)) 0 (omega (arith, length-range_with_len 0 (run_end b L)))) here.1)
 
 -- where all pages that the space has are flushed, these are the run
-pub run-all : (b : Base) (L : List Step) (n : ℕ) → 0 < b.sizes.page → n ≡ 2 ^ 48 / b.sizes.page → flushed_after b L ≤ 2 ^ 48 → ((q : ℕ) → q < n → runs_at b L q ≡ true) → n ≡ flushed_run_after b L
+pub run-all : (b : Base) (L : List Step) (n : ℕ) → 0 < b.sizes.page_size → n ≡ 2 ^ 48 / b.sizes.page_size → flushed_after b L ≤ 2 ^ 48 → ((q : ℕ) → q < n → runs_at b L q ≡ true) → n ≡ flushed_run_after b L
 run-all b L n some is fits passes =
-    omega (arith, run-least b L n passes, is, le-div b.sizes.page (flushed_run_after b L) (2 ^ 48) some fits)
+    omega (arith, run-least b L n passes, is, le-div b.sizes.page_size (flushed_run_after b L) (2 ^ 48) some fits)
 
 -- below the first of two numbers, or below the second
 pub below_first : (p m n : ℕ) → p < m → ltb p m ≡ ltb p (max m n)

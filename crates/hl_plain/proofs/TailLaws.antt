@@ -12,20 +12,20 @@ use Rattle.hl_plain.specs.Bounds.{TailFits}
 use Rattle.hl_plain.proofs.TurnLaws.{tail-next, tail-push}
 
 -- no step moves the tail back
-tail_past-le : (page tail : ℕ) (s : Step) → 0 < page → tail ≤ tail_past page tail s
-tail_past-le page tail (Allocate t n) h = omega (arith, place_of-le page tail n h)
-tail_past-le page tail s h = le_refl tail
+tail_past-le : (page_size tail : ℕ) (s : Step) → 0 < page_size → tail ≤ tail_past page_size tail s
+tail_past-le page_size tail (Allocate t n) h = omega (arith, place_of-le page_size tail n h)
+tail_past-le page_size tail s h = le_refl tail
 
-tail-front : (b : Base) (L : List Step) (k : ℕ) → 0 < b.sizes.page → tail_after b (take k L) ≤ tail_after b L
+tail-front : (b : Base) (L : List Step) (k : ℕ) → 0 < b.sizes.page_size → tail_after b (take k L) ≤ tail_after b L
 tail-front b L k h =
     subst (λ (X : List Step). tail_after b (take k L) ≤ tail_after b X) (take-append-drop k L)
-    (never_falls (tail_after b) (λ X s. omega (arith, tail-push b X s, tail_past-le b.sizes.page (tail_after b X) s h)) (take k L) (drop k L))
+    (never_falls (tail_after b) (λ X s. omega (arith, tail-push b X s, tail_past-le b.sizes.page_size (tail_after b X) s h)) (take k L) (drop k L))
 
 -- the tail of a beginning fits where that of the list does
 pub TailFits-take : (b : Base) (L : List Step) (i : ℕ) → TailFits b L → TailFits b (take i L)
-TailFits-take b L i h = record { page_least = h.page_least; tail_most = le_trans (tail-front b L i h.page_least) h.tail_most }
+TailFits-take b L i h = record { page_size_least = h.page_size_least; tail_most = le_trans (tail-front b L i h.page_size_least) h.tail_most }
 
 -- so does what the next step of it makes of it
-pub tail_past-most : (b : Base) (L : List Step) (i : ℕ) (d : Step) → i < length L → TailFits b L → tail_past b.sizes.page (tail_after b (take i L)) (get_or L i d) ≤ 2 ^ 48
+pub tail_past-most : (b : Base) (L : List Step) (i : ℕ) (d : Step) → i < length L → TailFits b L → tail_past b.sizes.page_size (tail_after b (take i L)) (get_or L i d) ≤ 2 ^ 48
 tail_past-most b L i d within h =
     subst (λ (n : ℕ). n ≤ 2 ^ 48) (tail-next b L i d within) (TailFits-take b L (i + 1) h).tail_most

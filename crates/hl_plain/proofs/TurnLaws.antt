@@ -25,11 +25,11 @@ fold-push f z [] x = refl
 fold-push f z (y ∷ xs) x = fold-push f (f z y) xs x
 
 -- the tail
-pub tail-push : (b : Base) (L : List Step) (s : Step) → tail_after b (L ++ s ∷ []) ≡ tail_past b.sizes.page (tail_after b L) s
+pub tail-push : (b : Base) (L : List Step) (s : Step) → tail_after b (L ++ s ∷ []) ≡ tail_past b.sizes.page_size (tail_after b L) s
 unfolding tail_after
-tail-push b L s = fold-push (tail_past b.sizes.page) b.six.tail L s
+tail-push b L s = fold-push (tail_past b.sizes.page_size) b.six.tail L s
 
-pub tail-next : (b : Base) (L : List Step) (i : ℕ) (d : Step) → i < length L → tail_after b (take (i + 1) L) ≡ tail_past b.sizes.page (tail_after b (take i L)) (get_or L i d)
+pub tail-next : (b : Base) (L : List Step) (i : ℕ) (d : Step) → i < length L → tail_after b (take (i + 1) L) ≡ tail_past b.sizes.page_size (tail_after b (take i L)) (get_or L i d)
 tail-next b L i d h = ap (tail_after b) (take_more L i d h) ∙ tail-push b (take i L) (get_or L i d)
 
 pub tail-none : (b : Base) → tail_after b [] ≡ b.six.tail

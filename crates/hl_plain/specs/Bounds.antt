@@ -8,7 +8,7 @@ use Rattle.hl_model.specs.AfterPages.{flushed_after}
 
 -- pages have words, and the tail is an address or one past the last
 pub record TailFits (b : Base) (L : List Step) : Type 0 where
-  pub page_least : 0 < b.sizes.page
+  pub page_size_least : 0 < b.sizes.page_size
   pub tail_most : tail_after b L ≤ 2 ^ 48
 
 -- the epoch is one that there may be, the offsets are within the space, and the drain list holds its actions

@@ -12,9 +12,9 @@ abbrev pub state_at : Base → Option Held → FrameState × Option ℕ
 state_at b None = (Free, None)
 state_at b (Some held) =
     if held.freed then (Free, None)
-    else if nat_le ((held.page + 1) * b.sizes.page) b.six.closed then (Closed, Some held.page)
+    else if nat_le ((held.page + 1) * b.sizes.page_size) b.six.closed then (Closed, Some held.page)
     else if held.flushed then (Flushed, Some held.page)
-    else if nat_le ((held.page + 1) * b.sizes.page) b.six.safe_read_only then (Sealed, Some held.page)
+    else if nat_le ((held.page + 1) * b.sizes.page_size) b.six.safe_read_only then (Sealed, Some held.page)
     else (Opened, Some held.page)
 
 -- what frame f is at, and its last entered page where it isn't free

@@ -69,7 +69,7 @@ marks_in (Some mark) = as_mark mark ∷ []
 
 -- no page from this one on is flushed: it is behind the base's tail and the greatest page flushed since
 abbrev pub run_end : Base → List Step → ℕ
-run_end b L = max (b.six.tail / b.sizes.page + 1) (greatest flushes_below L)
+run_end b L = max (b.six.tail / b.sizes.page_size + 1) (greatest flushes_below L)
 
 -- page p is looked for there, and is flushed
 abbrev pub runs_at : Base → List Step → ℕ → Bool

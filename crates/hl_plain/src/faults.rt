@@ -124,11 +124,12 @@ fn raise_fault(present: &Present, x: u64) -> Option<Fault>
 
 // The fault of a shift of the head to x.
 fn shift_fault(present: &Present, x: u64) -> Option<Fault>
-    ensures { result ≡ shift_fault present.now.sizes.page present.now.six.head present.now.six.flushed x }
+    ensures { let six = present.now.six
+        in result ≡ shift_fault present.now.sizes.page_size six.head six.flushed x }
 {
     if x <= present.head() {
         Some(Fault::NotAbove)
-    } else if x % present.params().page() != 0 {
+    } else if x % present.params().page_size() != 0 {
         Some(Fault::NotPage)
     } else if present.flushed() < x {
         Some(Fault::AboveFlushed)
@@ -140,9 +141,9 @@ fn shift_fault(present: &Present, x: u64) -> Option<Fault>
 // The fault of a record's size, told the tail: a record of n words is on one page, and within the space.
 fn size_fault(params: Params, tail: u64, n: u64) -> Option<Fault>
     requires { tail ≤ 2 ^ 48 }
-    ensures { result ≡ size_fault params.page tail n }
+    ensures { result ≡ size_fault params.page_size tail n }
 {
-    if n == 0 || params.page() < n {
+    if n == 0 || params.page_size() < n {
         Some(Fault::Size)
     } else if TAIL_MOST < place_of(params, tail, n) + n {
         Some(Fault::SpaceSpent)
@@ -153,12 +154,12 @@ fn size_fault(params: Params, tail: u64, n: u64) -> Option<Fault>
 
 // The fault of a record's page: it isn't entered and may not be.
 fn page_fault(present: &Present, q: u64) -> Option<Fault>
-    requires { q * present.now.sizes.page ≤ 2 ^ 49 }
+    requires { q * present.now.sizes.page_size ≤ 2 ^ 49 }
     ensures { result ≡ page_fault_at present.now q }
 {
     let params = present.params();
     let frames = params.frames();
-    if q * params.page() < present.tail()
+    if q * params.page_size() < present.tail()
         || q < frames
         || is_freed(present, q.saturating_sub(frames))
     {
@@ -177,7 +178,7 @@ fn allocate_fault(present: &Present, n: u64) -> Option<Fault>
     if let Some(fault) = size_fault(params, tail, n) {
         return Some(fault);
     }
-    page_fault(present, place_of(params, tail, n) / params.page())
+    page_fault(present, place_of(params, tail, n) / params.page_size())
 }
 
 // The fault of a look at these offsets, told the view.

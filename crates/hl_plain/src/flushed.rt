@@ -31,7 +31,7 @@ fn is_flushed_from(p: u64, steps: &[Step]) -> bool
 fn may_be_flushed(base: &Base, p: u64, steps: &[Step]) -> bool
     ensures { result ≡ nat_lt p (run_end base.now steps.now) }
 {
-    p < base.six().tail / base.params().page() + 1 || is_flushed_from(p, steps)
+    p < base.six().tail / base.params().page_size() + 1 || is_flushed_from(p, steps)
 }
 
 // Whether page p is not beyond these, and is flushed.
@@ -46,7 +46,7 @@ fn flushed_run(base: &Base, steps: &[Step]) -> u64
     requires { flushed_after base.now steps.now ≤ 2 ^ 48 }
     ensures { result ≡ flushed_run_after base.now steps.now }
 {
-    let pages = TAIL_MOST / base.params().page();
+    let pages = TAIL_MOST / base.params().page_size();
     for p in 0..pages {
         if !runs_at(base, p, steps) {
             return p;
@@ -60,5 +60,5 @@ pub fn flushed(base: &Base, steps: &[Step]) -> u64
     requires { flushed_after base.now steps.now ≤ 2 ^ 48 }
     ensures { result ≡ flushed_after base.now steps.now }
 {
-    base.params().page() * flushed_run(base, steps)
+    base.params().page_size() * flushed_run(base, steps)
 }

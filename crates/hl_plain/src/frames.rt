@@ -13,14 +13,14 @@ use hl_model::{Base, Held, Step};
 fn last_entered(base: &Base, f: u64, steps: &[Step]) -> Option<u64>
     requires { TailFits base.now steps.now }
     ensures page { result ≡ last_entered_after base.now f steps.now }
-    ensures within { IfSome result (λ p. p * base.now.sizes.page < 2 ^ 48) }
+    ensures within { IfSome result (λ p. p * base.now.sizes.page_size < 2 ^ 48) }
 {
-    let page = base.params().page();
+    let page_size = base.params().page_size();
     let frames = base.params().frames();
     let end = tail(base, steps);
     let mut last = None;
-    for p in 0..end / page + 1 {
-        if p * page < end && p % frames == f {
+    for p in 0..end / page_size + 1 {
+        if p * page_size < end && p % frames == f {
             last = Some(p);
         }
     }
@@ -48,7 +48,7 @@ pub fn held(base: &Base, steps: &[Step], flushes: &[Mark], cleans: &[Mark], f: u
     requires flushes { map as_mark flushes.now ≡ marks_after (flushing_after base.now) steps.now }
     requires cleans { map as_mark cleans.now ≡ marks_after (cleaning_after base.now) steps.now }
     ensures held { result ≡ held_after base.now steps.now f }
-    ensures within { IfSome result (λ held. held.page * base.now.sizes.page < 2 ^ 48) }
+    ensures within { IfSome result (λ held. held.page * base.now.sizes.page_size < 2 ^ 48) }
 {
     let page = last_entered(base, f, steps)?;
     Some(marked(base, steps, flushes, cleans, page))

@@ -53,20 +53,20 @@ pub fn head(base: &Base, steps: &[Step]) -> u64
 pub fn place_of(params: Params, tail: u64, n: u64) -> u64
     requires tail { tail ≤ 2 ^ 48 }
     requires words { n ≤ 2 ^ 48 }
-    ensures { result ≡ place_of params.page tail n }
+    ensures { result ≡ place_of params.page_size tail n }
 {
-    let page = params.page();
-    if tail % page + n <= page {
+    let page_size = params.page_size();
+    if tail % page_size + n <= page_size {
         tail
     } else {
-        (tail / page + 1) * page
+        (tail / page_size + 1) * page_size
     }
 }
 
 // The tail after a step, told the tail before it; neither is above the space.
 fn tail_past(params: Params, tail: u64, step: &Step) -> u64
-    requires { tail_past params.page tail step.now ≤ 2 ^ 48 }
-    ensures { result ≡ tail_past params.page tail step.now }
+    requires { tail_past params.page_size tail step.now ≤ 2 ^ 48 }
+    ensures { result ≡ tail_past params.page_size tail step.now }
 {
     match *step {
         Step::Allocate { n, .. } => place_of(params, tail, n) + n,

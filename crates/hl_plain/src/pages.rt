@@ -103,7 +103,7 @@ impl Work {
             Work::Flushing => safe_read_only(base, steps),
             Work::Cleaning => closed(base, steps),
         };
-        end / base.params().page()
+        end / base.params().page_size()
     }
 
     // Whether the work on a frame's page is marked complete.

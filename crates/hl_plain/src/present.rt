@@ -152,7 +152,7 @@ impl<'a> Present<'a> {
     #[tactic(auto, unfolding(hl_model::specs::AfterReplies::base_after))]
     pub fn held(&self, f: u64) -> Option<Held>
         ensures held { result ≡ slice_index_or self.now.frames f None }
-        ensures within { IfSome result (λ held. held.page * self.now.sizes.page < 2 ^ 48) }
+        ensures within { IfSome result (λ held. held.page * self.now.sizes.page_size < 2 ^ 48) }
     {
         if f < self.base.params().frames() {
             frames::held(self.base, self.steps, self.flushes, self.cleans, f)

@@ -91,7 +91,7 @@ fn page_told(page: Option<u64>) -> Reply
 // The place of a record of n words, which is accepted.
 fn placed(present: &Present, n: u64) -> Reply
     requires { n ≤ 2 ^ 48 }
-    ensures { result ≡ Reply.At (place_of present.now.sizes.page present.now.six.tail n) }
+    ensures { result ≡ Reply.At (place_of present.now.sizes.page_size present.now.six.tail n) }
 {
     Reply::At(place_of(present.params(), present.tail(), n))
 }

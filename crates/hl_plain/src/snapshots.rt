@@ -46,11 +46,11 @@ fn six(present: &Present) -> Six
 
 // What a frame is at that holds a page, and the page where it isn't free.
 fn state_at(present: &Present, held: Held) -> (FrameState, Option<u64>)
-    requires { held.page * present.now.sizes.page < 2 ^ 48 }
+    requires { held.page * present.now.sizes.page_size < 2 ^ 48 }
     ensures { result ≡ state_at present.now (Some held) }
 {
     let page = held.page;
-    let end = page * present.params().page() + present.params().page();
+    let end = page * present.params().page_size() + present.params().page_size();
     if held.freed {
         (FrameState::Free, None)
     } else if end <= present.closed() {

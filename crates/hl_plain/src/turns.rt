@@ -38,7 +38,7 @@ fn due(work: Work, present: &Present) -> u64
         Work::Flushing => present.safe_read_only(),
         Work::Cleaning => present.closed(),
     };
-    end / present.params().page()
+    end / present.params().page_size()
 }
 
 /// The least page that is due and neither complete nor out.

@@ -43,7 +43,7 @@ fn flush<W: PageWriter>(
     engine: &mut TestEngine,
     writer: &mut W,
 ) -> Result<u64, Fault> {
-    let size = 8 + 8 * engine.params().page();
+    let size = 8 + 8 * engine.params().page_size();
     let mut image = vec![in alloc; 0; size as usize].map_err(|_| Fault::OutOfMemory)?;
     flush_one(engine, writer, &mut image)
 }

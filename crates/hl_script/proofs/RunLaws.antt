@@ -103,4 +103,4 @@ stopped_more lacks has few many given left from to f le s = absurd s
 -- the steps at which an engine stands keep the headline
 pub engine_headline : {F : Type 0} {engine : Whole F} {sizes : Sizes} {A : List Step} → engine.core.sizes ≡ sizes → EngineStands engine A → Headline sizes A
 engine_headline {F} {engine} {sizes} {A} same st =
-    subst (λ (z : Sizes). Headline z A) same (headline engine.core.sizes A (omega (arith, st.core_stands.in_range.page_least)) st.core_stands.accepted)
+    subst (λ (z : Sizes). Headline z A) same (headline engine.core.sizes A (omega (arith, st.core_stands.in_range.page_size_least)) st.core_stands.accepted)

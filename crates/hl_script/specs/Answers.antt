@@ -54,7 +54,7 @@ line_reply has sizes A step = unless_fault (line_fault has sizes A step) (line_a
 -- the sizes of the config that stands first; all 0 without one
 abbrev pub sizes_of : List Line → Sizes
 sizes_of (Config sizes ∷ others) = sizes
-sizes_of _ = record { page = 0; frames = 0; slots = 0; drain = 0 }
+sizes_of _ = record { page_size = 0; frames = 0; slots = 0; drain = 0 }
 
 -- whether a line is a step that is accepted after the accepted steps A
 abbrev pub is_accepted : (ℕ → Bool) → Sizes → List Step → Line → Bool

@@ -6,7 +6,7 @@ use std::process::Abort;
 
 // Sizes with pages of 4 words.
 fn small_pages(rt: &impl Abort) -> Params
-    ensures { result.page ≡ 4 }
+    ensures { result.page_size ≡ 4 }
 {
     match Params::checked(4, 2, 2, 4) {
         Some(params) => params,

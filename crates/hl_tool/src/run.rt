@@ -103,7 +103,7 @@ fn flush_pages<E: Epochs + Drop, F: Task, W: Write>(
 ) -> Result<(), Fault> {
     let mut engine = engine;
     let params = engine.params();
-    let size = 8 + 8 * params.page();
+    let size = 8 + 8 * params.page_size();
     let mut image = zeros(alloc, size as usize)?;
     let mut pages = HexWriter::new(writer);
     // No frame holds more than one page that isn't flushed.

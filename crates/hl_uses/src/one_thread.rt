@@ -30,7 +30,7 @@ pub fn run<W: Write>(alloc: Global, out: &mut W) -> Result<(), Fault> {
 
     // Its page is sealed, and may be flushed.
     let mut device = MemoryWriter::open(alloc, 2, 40)?;
-    let size = 8 + 8 * engine.params().page() as usize;
+    let size = 8 + 8 * engine.params().page_size() as usize;
     let mut image = vec![in alloc; 0; size].map_err(|_| Fault::OutOfMemory)?;
     let page = flush_one(&mut engine, &mut device, &mut image)?;
     say(out, "flushed page", page)?;

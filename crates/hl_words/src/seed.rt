@@ -43,7 +43,7 @@ impl Realm for Brand {
       slot_names = [];
     } };
 
-    ghost sizes = { record { page = 4; frames = 2; slots = 1; drain = 1 } };
+    ghost sizes = { record { page_size = 4; frames = 2; slots = 1; drain = 1 } };
 
     ghost stamp = { 0 };
 }
@@ -78,7 +78,7 @@ impl Model for Seed {
     ghost invariant = { λ s. IsTableOf s.room s.table.shared.key s.table.shared.table_id
         × IsMasterSeat no_offsets (first_seat s.room).riders s.seat.id s.seat.me
         × (s.seat.table_id ≡ s.table.shared.table_id) × (s.blank.parts ≡ s.room.riders)
-        × (s.room.cells ≡ s.params.frames * s.params.page) };
+        × (s.room.cells ≡ s.params.frames * s.params.page_size) };
 }
 
 impl Seed {
@@ -87,11 +87,11 @@ impl Seed {
     pub fn make(alloc: Global, params: Params, riders: usize) -> Result<Seed, Fault>
         requires { (1 ≤ riders) × (riders ≤ 128) }
         ensures sizes { IfOk result (λ seed. seed.sizes ≡ params) }
-        ensures cells { IfOk result (λ seed. seed.cells ≡ params.frames * params.page) }
+        ensures cells { IfOk result (λ seed. seed.cells ≡ params.frames * params.page_size) }
         ensures riders { IfOk result (λ seed. seed.riders ≡ riders) }
         ensures memory { IfErr result (λ fault. fault ≡ OutOfMemory) }
     {
-        let cells = params.frames() as usize * params.page() as usize;
+        let cells = params.frames() as usize * params.page_size() as usize;
         let room = Room { cells, riders };
         let Ok((table, seat)) = laid(alloc, room) else {
             return Err(Fault::OutOfMemory);
@@ -108,7 +108,7 @@ impl Seed {
     /// The sizes of the allocator whose words they are.
     pub fn params(&self) -> Params
         ensures value { result ≡ self.now.sizes }
-        ensures cells { self.now.cells ≡ self.now.sizes.frames * self.now.sizes.page }
+        ensures cells { self.now.cells ≡ self.now.sizes.frames * self.now.sizes.page_size }
     {
         self.params
     }

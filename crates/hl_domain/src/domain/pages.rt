@@ -69,7 +69,7 @@ impl<E: Epochs + Drop, F: Task, P: Promise, L: Realm> Domain<E, F, P, L> {
         rider: &mut Rider<L>,
         broom: Broom,
     ) -> Result<u64, (Fault, Broom)>
-        requires { broom.swept ≡ self.now.sizes.page }
+        requires { broom.swept ≡ self.now.sizes.page_size }
         ensures met { MakesUnderLock F self.now (λ old new. Ends old broom.stamp (CLEAN_DONE broom.page)
             (λ A. broom.page) new (told result)) }
         ensures refused { IfErr result (λ back. back.1 ≡ broom) }

@@ -74,15 +74,15 @@ impl<E: Epochs + Drop, F: Task, P: Promise, L: Realm> Domain<E, F, P, L> {
         ensures met { let p = pass.old
             in MakesUnderLock F self.now (λ old new. MakesTouched old p (ALLOCATE p.slot n)
             (λ A. call_fault old A p (ALLOCATE p.slot n))
-            (λ A. place_of old.core.sizes.page (tail old.core.sizes (A ++ p.touches)) n) new result) }
+            (λ A. place_of old.core.sizes.page_size (tail old.core.sizes (A ++ p.touches)) n) new result) }
         ensures pass { let old = pass.old
             in MatchResult result
             (λ a. pass.new ≡ rested (with_tail (a + n) (seen old)) old)
             (λ _. pass.new ≡ old) }
         ensures above { IfOk result (λ a. (seen pass.old).tail ≤ a) }
         ensures within { IfOk result (λ address. address + n ≤ 2 ^ 48) }
-        ensures one_page { let page = self.now.sizes.page
-            in IfOk result (λ a. a / page ≡ (a + n - 1) / page) }
+        ensures one_page { let page_size = self.now.sizes.page_size
+            in IfOk result (λ a. a / page_size ≡ (a + n - 1) / page_size) }
     {
         self.lock(rt).allocate(&self.words, pass, n)
     }

@@ -75,7 +75,7 @@ impl<E: Epochs + Drop, F: Task, P: Promise, L: Realm> Domain<E, F, P, L> {
         rider: &mut Rider<L>,
         out: &mut [u64],
     ) -> Result<(), Fault>
-        requires { length out.old ≡ self.now.sizes.page }
+        requires { length out.old ≡ self.now.sizes.page_size }
         ensures answer { let stamp = self.now.stamp
             in result ≡ unless_fault (unless_stranger (job.stamp == stamp) stamp) tt }
         ensures loads { let old = rider.old
@@ -95,11 +95,11 @@ impl<E: Epochs + Drop, F: Task, P: Promise, L: Realm> Domain<E, F, P, L> {
             in result ≡ unless_fault (unless_stranger (broom.old.stamp == stamp) stamp) tt }
         ensures broom { let old = broom.old
             in OnOk result
-            (broom.new ≡ record { stamp = old.stamp; page = old.page; swept = self.now.sizes.page }) }
+            (broom.new ≡ record { stamp = old.stamp; page = old.page; swept = self.now.sizes.page_size }) }
         ensures stores { let old = rider.old
             in let first = first_cell self.now.sizes broom.old.page
             in OnOk result (rider.new
-            ≡ record { view = zeroed first self.now.sizes.page old.view; share = old.share }) }
+            ≡ record { view = zeroed first self.now.sizes.page_size old.view; share = old.share }) }
         ensures refused { OnErr result ((broom.new ≡ broom.old) × (rider.new ≡ rider.old)) }
     {
         sweep::sweep(&self.words, self.params, self.stamp, broom, rider)

@@ -18,7 +18,7 @@ pub(super) struct Alone<E: Epochs, F: Task, P: Promise, L: Realm> {
     pub(super) keeper: Keeper<E, F, P, L>,
     pub(super) words: Words<L>,
     pub(super) params: Params,
-    ghost cells: { words.cells ≡ params.frames * params.page },
+    ghost cells: { words.cells ≡ params.frames * params.page_size },
 }
 
 /// The one that is asked.
@@ -177,7 +177,7 @@ impl<E: Epochs + Drop, F: Task, P: Promise, L: Realm> Asked<E, F, P, L> {
         match self {
             Asked::Alone(alone) => {
                 let params = alone.params;
-                if alone.keeper.params().page() != params.page() {
+                if alone.keeper.params().page_size() != params.page_size() {
                     return Err((Fault::Size, broom));
                 }
                 if let Err(fault) = sweep(&alone.words, params, STAMP, &mut broom, rider) {

@@ -30,8 +30,8 @@ image_of-requires g c =
     let stood = c.flush_take.ensures.valid in
     let t : TakesPage stood.0 c.args.engine.now c.flush_take.new.self c.in_ok-page.page = take-taken g.P.Promise.keeps c.args.engine.now c.flush_take.new.self stood.0 c.in_ok-page.page (c.in_ok-page.ensures.moved stood.0 stood.1) in
     let sizes : Sizes = c.flush_take.new.self.core.sizes in
-    let words : length c.page_words.result.now ≡ sizes.page = ap length (c.page_words.ensures (stood.0 ++ FlushTake ∷ []) t.standing) ∙ length-page_words sizes c.in_ok-page.page (stood.0 ++ FlushTake ∷ []) in
-    let same : sizes.page ≡ c.args.engine.now.core.sizes.page = ap (λ s. s.page) t.sizes in
+    let words : length c.page_words.result.now ≡ sizes.page_size = ap length (c.page_words.ensures (stood.0 ++ FlushTake ∷ []) t.standing) ∙ length-page_words sizes c.in_ok-page.page (stood.0 ++ FlushTake ∷ []) in
+    let same : sizes.page_size ≡ c.args.engine.now.core.sizes.page_size = ap (λ s. s.page_size) t.sizes in
     omega (arith, c.requires, words, same)
 
 pub returns-in_err-written-clause-flushes : goal.returns-in_err-written-clause-flushes

@@ -7,5 +7,5 @@ use Rattle.hl_plain.proofs.frames.last_entered.Given as goal
 abbrev pub invariant-loop-p : goal.invariant-loop-p
 invariant-loop-p l = record {
   page : l.last ≡ greatest_below (is_entered_in l.base l.f l.steps) l.p;
-  within : IfSome l.last (λ p. p * l.page < l.end);
+  within : IfSome l.last (λ p. p * l.page_size < l.end);
 }

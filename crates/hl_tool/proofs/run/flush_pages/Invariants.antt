@@ -3,4 +3,4 @@ use Rattle.hl_tool.proofs.run.flush_pages.Given as goal
 
 -- the buffer has the size of an image
 abbrev pub invariant-loop : goal.invariant-loop
-invariant-loop g l = length l.image.items ≡ 8 + 8 * l.engine.core.sizes.page
+invariant-loop g l = length l.image.items ≡ 8 + 8 * l.engine.core.sizes.page_size

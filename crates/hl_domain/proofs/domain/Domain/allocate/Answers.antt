@@ -13,4 +13,4 @@ returns-clause-met g c =
 pub returns-clause-one_page : goal.returns-clause-one_page
 returns-clause-one_page g c =
     let of = rw (sym c.deref_mut.ensures.value) at c.lock.ensures in
-    subst (λ (z : Sizes). IfOk c.allocate.result (λ a. a / z.page ≡ (a + c.args.n - 1) / z.page)) of.sizes_are c.allocate.ensures.one_page
+    subst (λ (z : Sizes). IfOk c.allocate.result (λ a. a / z.page_size ≡ (a + c.args.n - 1) / z.page_size)) of.sizes_are c.allocate.ensures.one_page

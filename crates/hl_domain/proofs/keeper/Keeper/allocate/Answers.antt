@@ -34,7 +34,7 @@ unreachable-requires g c =
     c.in_default.not-At _ (accepted c.args.self.now A c.args.pass.now (ALLOCATE c.pass.inside.slot c.args.n) c.call.new.self c.in_ok-address.field-0 (c.in_ok-address.ensures.made A c.in_ok-address.ensures.valid.1)).1
 
 -- where the record is placed
-placed : (g : _) (c : In-At g) → Placed c.args.self.now.core.sizes.page c.in-At.address c.args.n (seen c.args.pass.now)
+placed : (g : _) (c : In-At g) → Placed c.args.self.now.core.sizes.page_size c.in-At.address c.args.n (seen c.args.pass.now)
 placed g c =
     let k = c.args.self.now in
     let A = c.in_ok-address.ensures.valid.0 in

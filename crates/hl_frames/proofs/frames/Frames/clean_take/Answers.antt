@@ -84,4 +84,4 @@ returns-clause-valid c = rw (row (at_len c)) (known (at_len c))
 
 pub returns-clause-pages : goal.returns-clause-pages
 returns-clause-pages c =
-    rw (← c.self.view_is, found (at_len c)) (ap {B = Pages} (λ frames. record { page = c.self.inside.words; frames = frames; entered = c.self.inside.entered }) (row (at_len c)))
+    rw (← c.self.view_is, found (at_len c)) (ap {B = Pages} (λ frames. record { page_size = c.self.inside.page_size; frames = frames; entered = c.self.inside.entered }) (row (at_len c)))

@@ -58,7 +58,7 @@ moved c =
     (rw (walked here) at walk.flushed) (rw (walked here) at walk.stops) walk.most
 
 -- what is true of the fields with this page to be flushed next
-kept_with : (c : goal.Joined-not-ok) (to_flush : Placed) → AreStored (flush_ended c.args.page c.args.ok (pages_of c.self.inside)) c.skip_flushed-walk.result.at.page to_flush.page c.self.inside.to_clean.page → HasFrame to_flush c.self.inside.held.items → IsKept (record { words = c.self.inside.words; entered = c.self.inside.entered; held = with_item c.self.inside.held c.frame_of-frame.result c.end_flush.new.held; run = c.skip_flushed-walk.result.at; to_flush = to_flush; to_clean = c.self.inside.to_clean; turns = record { enter = c.self.inside.turns.enter; flush_done = 1 + c.skip_flushed-walk.result.turns; clean_done = c.self.inside.turns.clean_done } })
+kept_with : (c : goal.Joined-not-ok) (to_flush : Placed) → AreStored (flush_ended c.args.page c.args.ok (pages_of c.self.inside)) c.skip_flushed-walk.result.at.page to_flush.page c.self.inside.to_clean.page → HasFrame to_flush c.self.inside.held.items → IsKept (record { words = c.self.inside.page_size; entered = c.self.inside.entered; held = with_item c.self.inside.held c.frame_of-frame.result c.end_flush.new.held; run = c.skip_flushed-walk.result.at; to_flush = to_flush; to_clean = c.self.inside.to_clean; turns = record { enter = c.self.inside.turns.enter; flush_done = 1 + c.skip_flushed-walk.result.turns; clean_done = c.self.inside.turns.clean_done } })
 kept_with c to_flush stored placed =
     let here = at_deref c in
     let kept = c.self.invariant in
@@ -91,8 +91,8 @@ invariant_of-self c =
 pub returns-clause-answer : goal.returns-clause-answer
 returns-clause-answer c =
     let T' = flush_ended c.args.page c.args.ok (pages_of c.self.inside) in
-    let offset : c.skip_flushed-walk.result.at.page * c.self.inside.words ≡ flushed_offset T' = ap (λ n. n * c.self.inside.words) (moved c) in
-    let told : c.if-not-ok.self-inside.run.page * c.if-not-ok.self-inside.words ≡ flushed_offset T' = elim c.if-not-ok.branch [
+    let offset : c.skip_flushed-walk.result.at.page * c.self.inside.page_size ≡ flushed_offset T' = ap (λ n. n * c.self.inside.page_size) (moved c) in
+    let told : c.if-not-ok.self-inside.run.page * c.if-not-ok.self-inside.page_size ≡ flushed_offset T' = elim c.if-not-ok.branch [
       | then-not-ok w ↦ rw w.self-inside-is offset
       | else-not-ok w ↦ rw w.self-inside-is offset
     ] in

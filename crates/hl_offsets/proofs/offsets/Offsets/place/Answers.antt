@@ -5,10 +5,10 @@ use Rattle.hl_offsets.proofs.offsets.Offsets.place.Goals as goal
 pub returns-clause-one_page : goal.returns-clause-one_page
 returns-clause-one_page c =
     let now = c.args.self.now in
-    let fits : c.args.n ≤ now.page = rw (← c.self.view_is) (omega arith) in
-    rw c.place_for-address.ensures.place (IsOnOnePage-place now.page now.tail c.args.n (omega arith) fits)
+    let fits : c.args.n ≤ now.page_size = rw (← c.self.view_is) (omega arith) in
+    rw c.place_for-address.ensures.place (IsOnOnePage-place now.page_size now.tail c.args.n (omega arith) fits)
 
 pub returns-clause-lowest : goal.returns-clause-lowest
 returns-clause-lowest c =
     let now = c.args.self.now in
-    rw c.place_for-address.ensures.place (lowest-place now.page now.tail c.args.n (omega arith))
+    rw c.place_for-address.ensures.place (lowest-place now.page_size now.tail c.args.n (omega arith))
