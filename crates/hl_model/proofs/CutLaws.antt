@@ -19,7 +19,7 @@ use Rattle.hl_model.proofs.AppendLaws.{gather-same}
 use Rattle.hl_model.proofs.CutActions.{waiting_after-is, taken_after-is}
 use Rattle.hl_model.proofs.CutFaults.{fault_at-is}
 use Rattle.hl_model.proofs.CutOffsets.{epoch_after-is, read_only_after-is, head_after-is, tail_after-is}
-use Rattle.hl_model.proofs.CutPages.{flushed_after-is, held_after-is}
+use Rattle.hl_model.proofs.CutPages.{flushed_after-is, held_after-is, next_to_flush-is, next_to_clean-is}
 use Rattle.hl_model.proofs.CutReplies.{answer_at-is}
 use Rattle.hl_model.proofs.CutSettled.{safe_read_only_after-is, closed_after-is}
 use Rattle.hl_model.proofs.CutViews.{slot_after-is}
@@ -75,6 +75,8 @@ cuts_anywhere sizes A L a = record {
   base = base_after-is sizes A L a;
   fault = λ s. fault_after-is sizes A L s a;
   reply = λ s. reply_after-is sizes A L s a;
+  to_flush = next_to_flush-is sizes A L a;
+  to_clean = next_to_clean-is sizes A L a;
 }
 
 extended_core : (o : Option Fault) (A K : List Step) (s : Step) → cond (is_none o) ((A ++ K) ++ s ∷ []) (A ++ K) ≡ A ++ cond (is_none o) (K ++ s ∷ []) K

@@ -8,16 +8,16 @@ use Rattle.hl_model.specs.Lists.{greatest, greatest_below}
 use Rattle.hl_model.specs.Sizes.{Sizes}
 use Rattle.hl_model.specs.Offsets.{tail}
 use Rattle.hl_model.specs.Settled.{safe_read_only, closed, pages_below}
-use Rattle.hl_model.specs.Pages.{is_complete, is_flushed, is_in_flight, is_freed, is_cleaning, flushes_below, flushed_run, flushed}
+use Rattle.hl_model.specs.Pages.{is_complete, is_flushed, is_in_flight, is_freed, is_cleaning, flushes_below, flushed_run, flushed, next_to_flush, next_to_clean}
 use Rattle.hl_model.specs.Frames.{last_entered}
 use Rattle.hl_model.specs.Replies.{IsAccepted}
 use Rattle.hl_model.specs.Bases.{base_of, marked, held_of, flushed_in}
-use Rattle.hl_model.specs.AfterPages.{is_complete_after, is_out_after, marks_after, flushing_after, cleaning_after, flushed_run_after, flushed_after, last_entered_after, marked_after, held_after}
+use Rattle.hl_model.specs.AfterPages.{is_complete_after, is_out_after, marks_after, next_after, flushing_after, cleaning_after, flushed_run_after, flushed_after, last_entered_after, marked_after, held_after}
 use Rattle.hl_model.proofs.AcceptedLaws.{IsAccepted-front}
 use Rattle.hl_model.proofs.CutOffsets.{tail_after-is}
 use Rattle.hl_model.proofs.CutRows.{flushed_in-is, freed_in-is, in_flight_in-is, cleaning_in-is}
 use Rattle.hl_model.proofs.CutSettled.{safe_read_only_after-is, closed_after-is}
-use Rattle.hl_model.proofs.CutWork.{GoesOn, is_complete_after-is, is_out_after-is}
+use Rattle.hl_model.proofs.CutWork.{GoesOn, is_complete_after-is, is_out_after-is, next_page_after-is}
 use Rattle.hl_model.proofs.FrameFacts.{flushed_entered}
 use Rattle.hl_model.proofs.FrameLaws.{entered_within}
 use Rattle.hl_model.proofs.RunLaws.{flushed-below, run_passes, run_fails, flushed_run-is}
@@ -72,6 +72,18 @@ cleaning_page-is : (sizes : Sizes) (A L : List Step) (p : ℕ) → IsAccepted si
 unfolding base_of
 cleaning_page-is sizes A L p a =
     is_out_after-is sizes (cleaning_after (base_of sizes A)) (clean_due sizes) A p L (cleaning_on sizes A (IsAccepted-front sizes A L a)) a
+
+-- the page to flush
+pub next_to_flush-is : (sizes : Sizes) (A L : List Step) → IsAccepted sizes (A ++ L) → next_after (flushing_after (base_of sizes A)) L ≡ next_to_flush sizes (A ++ L)
+unfolding base_of
+next_to_flush-is sizes A L a =
+    next_page_after-is sizes (flushing_after (base_of sizes A)) (flush_due sizes) A L (flushing_on sizes A (IsAccepted-front sizes A L a)) a
+
+-- and the page to clean
+pub next_to_clean-is : (sizes : Sizes) (A L : List Step) → IsAccepted sizes (A ++ L) → next_after (cleaning_after (base_of sizes A)) L ≡ next_to_clean sizes (A ++ L)
+unfolding base_of
+next_to_clean-is sizes A L a =
+    next_page_after-is sizes (cleaning_after (base_of sizes A)) (clean_due sizes) A L (cleaning_on sizes A (IsAccepted-front sizes A L a)) a
 
 -- no flushed page is beyond the tail
 flushed_within : (sizes : Sizes) (A : List Step) (p : ℕ) → IsAccepted sizes A → is_flushed sizes p A ≡ true → p < tail sizes A / sizes.page_size + 1

@@ -77,3 +77,9 @@ marks-append sizes begun due A on = by_pushing (λ L. IsAccepted sizes (A ++ L) 
 pub is_out_after-is : (sizes : Sizes) (begun : Begun) (due : List Step → ℕ) (A : List Step) (p : ℕ) (L : List Step) → GoesOn sizes begun due A → IsAccepted sizes (A ++ L) → is_out_after begun p (marks_after begun L) ≡ is_out p (marks (whole_work begun due) (A ++ L))
 is_out_after-is sizes begun due A p L on a =
     out_after-is sizes begun due A p (marks_after begun L) on ∙ ap (is_out p) (sym (marks-append sizes begun due A on L a))
+
+-- the next page
+pub next_page_after-is : (sizes : Sizes) (begun : Begun) (due : List Step → ℕ) (A L : List Step) → GoesOn sizes begun due A → IsAccepted sizes (A ++ L) → next_page_after begun L (marks_after begun L) ≡ next_page (whole_work begun due) (A ++ L) (marks (whole_work begun due) (A ++ L))
+next_page_after-is sizes begun due A L on a =
+    next_after-is sizes begun due A L (marks_after begun L) on a
+    ∙ ap (next_page (whole_work begun due) (A ++ L)) (sym (marks-append sizes begun due A on L a))

@@ -42,6 +42,10 @@ marks_after_step begun L marks s =
 unfoldable pub marks_after : Begun → List Step → List Mark
 marks_after begun L = unroll (marks_after_step begun) L
 
+-- the page that a take names
+abbrev pub next_after : Begun → List Step → Option ℕ
+next_after begun L = next_page_after begun L (marks_after begun L)
+
 -- flushing that goes on from a base
 abbrev pub flushing_after : Base → Begun
 flushing_after b = record {

@@ -8,8 +8,10 @@ use Rattle.hl_model.specs.Sizes.{Sizes}
 use Rattle.hl_model.specs.Actions.{first_ticket}
 use Rattle.hl_model.specs.Headline.{moves_on}
 use Rattle.hl_model.specs.Replies.{fault_of, reply_of, good, IsAccepted, replies_after}
+use Rattle.hl_model.specs.Pages.{next_to_flush, next_to_clean}
 use Rattle.hl_model.specs.Bases.{base_of, slot_in}
 use Rattle.hl_model.specs.AfterActions.{waiting_after}
+use Rattle.hl_model.specs.AfterPages.{flushing_after, cleaning_after, next_after}
 use Rattle.hl_model.specs.AfterReplies.{base_after, fault_after, reply_after, good_from, replies_from}
 
 -- an accepted list may be cut to its base
@@ -31,6 +33,9 @@ pub record IsCutHere (sizes : Sizes) (A L : List Step) : Type 0 where
   pub base : base_after (base_of sizes A) L ≡ base_of sizes (A ++ L)
   pub fault : (s : Step) → fault_after (base_of sizes A) L s ≡ fault_of sizes (A ++ L) s
   pub reply : (s : Step) → reply_after (base_of sizes A) L s ≡ reply_of sizes (A ++ L) s
+  -- the pages that takes name, by which the marks since the base are counted, are those of the whole list
+  pub to_flush : next_after (flushing_after (base_of sizes A)) L ≡ next_to_flush sizes (A ++ L)
+  pub to_clean : next_after (cleaning_after (base_of sizes A)) L ≡ next_to_clean sizes (A ++ L)
 
 -- so at each place of an accepted list
 abbrev pub CutsAnywhere : Type 0
