@@ -258,3 +258,19 @@ fn crew_cuts(rt: HostRuntime) -> Result<(), Fail> {
     assert!(rt; left.steps == left.shares);
     Ok(())
 }
+
+/// A cleaner that has found no closed page goes on: of the turns that the flusher makes here nearly all come after the
+/// close, and in one of them the cleaner runs.
+#[test]
+fn a_crew_frees_what_it_closed(rt: HostRuntime) -> Result<(), Fail> {
+    let run = Run {
+        resident: 1,
+        turns: 200_000,
+        cut: true,
+        ..ONE_TURN
+    };
+    let left = crew_left::<_, Brand, _>(&rt, rt.alloc(), seed(rt.alloc())?, &OpenGate, run)?;
+    assert_eq!(rt; left.now.frames, [1, 0, 0, 0, 3]);
+    assert!(rt; left.written == 2 && left.now.six.closed == 8 && left.steps == left.shares);
+    Ok(())
+}
