@@ -58,7 +58,7 @@ moved c =
     (rw (walked here) at walk.flushed) (rw (walked here) at walk.stops) walk.most
 
 -- what is true of the fields with this page to be flushed next
-kept_with : (c : goal.Joined-not-ok) (to_flush : Placed) → AreStored (flush_ended c.args.page c.args.ok (pages_of c.self.inside)) c.skip_flushed-walk.result.at.page to_flush.page c.self.inside.to_clean.page → HasFrame to_flush c.self.inside.held.items → IsKept (record { words = c.self.inside.page_size; entered = c.self.inside.entered; held = with_item c.self.inside.held c.frame_of-frame.result c.end_flush.new.held; run = c.skip_flushed-walk.result.at; to_flush = to_flush; to_clean = c.self.inside.to_clean; turns = record { enter = c.self.inside.turns.enter; flush_done = 1 + c.skip_flushed-walk.result.turns; clean_done = c.self.inside.turns.clean_done } })
+kept_with : (c : goal.Joined-not-ok) (to_flush : Placed) → AreStored (flush_ended c.args.page c.args.ok (pages_of c.self.inside)) c.skip_flushed-walk.result.at.page to_flush.page c.self.inside.to_clean.page → HasFrame to_flush c.self.inside.held.items → IsKept (record { page_size = c.self.inside.page_size; entered = c.self.inside.entered; held = with_item c.self.inside.held c.frame_of-frame.result c.end_flush.new.held; run = c.skip_flushed-walk.result.at; to_flush = to_flush; to_clean = c.self.inside.to_clean; turns = record { enter = c.self.inside.turns.enter; flush_done = 1 + c.skip_flushed-walk.result.turns; clean_done = c.self.inside.turns.clean_done } })
 kept_with c to_flush stored placed =
     let here = at_deref c in
     let kept = c.self.invariant in

@@ -21,4 +21,4 @@ below_end a n w some = elim (cases_lt (a / w) n) [
 pub returns : goal.returns
 returns c =
     let T = c.self.inside in
-    rw (← c.self.view_is) (below_end c.args.address T.entered T.words (omega (arith, c.self.invariant.pages.page_size_least)))
+    rw (← c.self.view_is) (below_end c.args.address T.entered T.page_size (omega (arith, c.self.invariant.pages.page_size_least)))
