@@ -7,15 +7,15 @@
 #include <sched.h>
 #include <stdio.h>
 
-enum { PAGE_WORDS = 8, FRAMES = 4, THREADS = 4, RECORDS = 2000, WORDS = 3 };
+enum { PAGE_SIZE = 8, FRAMES = 4, THREADS = 4, RECORDS = 2000, WORDS = 3 };
 
 static hl_core core;
 static pthread_mutex_t lock = PTHREAD_MUTEX_INITIALIZER;
-static uint64_t cells[FRAMES * PAGE_WORDS];
+static uint64_t cells[FRAMES * PAGE_SIZE];
 static uint64_t flushed_pages, wrong;
 
 static uint64_t *cell_of(uint64_t address) {
-    return &cells[address / PAGE_WORDS % FRAMES * PAGE_WORDS + address % PAGE_WORDS];
+    return &cells[address / PAGE_SIZE % FRAMES * PAGE_SIZE + address % PAGE_SIZE];
 }
 
 /* Runs the actions that are ready, and flushes and cleans what is due. */
@@ -30,8 +30,8 @@ static void serve(void) {
         hl_flush_done(&core, next.a, true);
     }
     while ((next = hl_clean_take(&core)).number == 0) {
-        for (uint64_t i = 0; i < PAGE_WORDS; i++) {
-            *cell_of(next.a * PAGE_WORDS + i) = 0;
+        for (uint64_t i = 0; i < PAGE_SIZE; i++) {
+            *cell_of(next.a * PAGE_SIZE + i) = 0;
         }
         hl_clean_done(&core, next.a);
     }
@@ -40,7 +40,7 @@ static void serve(void) {
 /* Moves the offsets behind the tail's page, so that the oldest frames come free once every thread has refreshed. */
 static void move_on(void) {
     hl_offsets six = hl_six(&core);
-    uint64_t page = six.tail / PAGE_WORDS * PAGE_WORDS;
+    uint64_t page = six.tail / PAGE_SIZE * PAGE_SIZE;
     if (page > six.read_only && hl_raise(&core, page).number == 0) {
         hl_settle(&core);
     }
@@ -81,7 +81,7 @@ static void *ride(void *number) {
 
 int main(void) {
     pthread_t threads[THREADS];
-    if (hl_open(&core, PAGE_WORDS, FRAMES, THREADS, 16) != 0) {
+    if (hl_open(&core, PAGE_SIZE, FRAMES, THREADS, 16) != 0) {
         return 1;
     }
     for (uintptr_t i = 0; i < THREADS; i++) {

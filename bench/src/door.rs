@@ -65,7 +65,7 @@ pub struct Handle {
 }
 
 extern "C" {
-    fn hl_open(core: &mut Handle, page: u64, frames: u64, slots: u64, drain: u64) -> u64;
+    fn hl_open(core: &mut Handle, page_size: u64, frames: u64, slots: u64, drain: u64) -> u64;
     fn hl_free(core: &mut Handle) -> u64;
     fn hl_acquire(core: &mut Handle, slot: u64) -> Outcome;
     fn hl_refresh(core: &mut Handle, slot: u64) -> Outcome;
@@ -111,14 +111,14 @@ impl Door {
     pub fn open(sizes: Sizes) -> Door {
         let mut door = Door::closed();
         assert_eq!(
-            door.try_open(sizes.page_words, sizes.frames, sizes.slots, sizes.drain_places),
+            door.try_open(sizes.page_size, sizes.frames, sizes.slots, sizes.drain_places),
             0
         );
         door
     }
 
-    pub fn try_open(&mut self, page: u64, frames: u64, slots: u64, drain: u64) -> u64 {
-        unsafe { hl_open(&mut self.core, page, frames, slots, drain) }
+    pub fn try_open(&mut self, page_size: u64, frames: u64, slots: u64, drain: u64) -> u64 {
+        unsafe { hl_open(&mut self.core, page_size, frames, slots, drain) }
     }
 
     pub fn free(&mut self) -> u64 {

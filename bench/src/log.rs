@@ -4,7 +4,7 @@ use crate::rules::{Fault, View, SPACE};
 
 #[derive(Clone, Copy, Default)]
 pub struct Log {
-    page_words: u64,
+    page_size: u64,
     pub closed: u64,
     pub head: u64,
     pub safe_read_only: u64,
@@ -13,9 +13,9 @@ pub struct Log {
 }
 
 impl Log {
-    pub fn new(page_words: u64) -> Log {
+    pub fn new(page_size: u64) -> Log {
         Log {
-            page_words,
+            page_size,
             ..Log::default()
         }
     }
@@ -42,7 +42,7 @@ impl Log {
     pub fn shift(&mut self, to: u64, flushed: u64) -> Result<u64, Fault> {
         if to <= self.head {
             Err(Fault::NotAbove)
-        } else if to & (self.page_words - 1) != 0 {
+        } else if to & (self.page_size - 1) != 0 {
             Err(Fault::NotPage)
         } else if to > flushed {
             Err(Fault::AboveFlushed)
@@ -64,14 +64,14 @@ impl Log {
 
     /// Where a record of so many words goes: at the tail where it ends on the tail's page, else on the next page.
     pub fn place(&self, words: u64) -> Result<u64, Fault> {
-        if words == 0 || words > self.page_words {
+        if words == 0 || words > self.page_size {
             return Err(Fault::Size);
         }
-        let used = self.tail & (self.page_words - 1);
-        let place = if used + words <= self.page_words {
+        let used = self.tail & (self.page_size - 1);
+        let place = if used + words <= self.page_size {
             self.tail
         } else {
-            self.tail - used + self.page_words
+            self.tail - used + self.page_size
         };
         if place + words > SPACE {
             Err(Fault::SpaceSpent)

@@ -23,9 +23,9 @@ pub struct Pages {
 }
 
 impl Pages {
-    pub fn new(page_words: u64, frames: u64) -> Pages {
+    pub fn new(page_size: u64, frames: u64) -> Pages {
         Pages {
-            shift: page_words.trailing_zeros(),
+            shift: page_size.trailing_zeros(),
             frames: vec![Frame::default(); frames as usize],
             flush_next: 0,
             clean_next: 0,

@@ -84,10 +84,10 @@ fn slot(random: &mut Random, sizes: Sizes) -> u64 {
 
 fn words(random: &mut Random, sizes: Sizes) -> u64 {
     match random.below(8) {
-        0 => random.near(&[0, sizes.page_words]),
-        1 => sizes.page_words,
+        0 => random.near(&[0, sizes.page_size]),
+        1 => sizes.page_size,
         2 => 1,
-        _ => 1 + random.below(sizes.page_words),
+        _ => 1 + random.below(sizes.page_size),
     }
 }
 
@@ -145,12 +145,12 @@ pub fn step(random: &mut Random, twin: &Twin, open: &Open, sizes: Sizes, mood: M
         },
         51..=54 => Step::FlushTake,
         55..=58 => Step::FlushDone {
-            page: page(random, &open.flights, six.flushed / sizes.page_words),
+            page: page(random, &open.flights, six.flushed / sizes.page_size),
             ok: random.below(5) != 0,
         },
         59..=61 => Step::CleanTake,
         _ => Step::CleanDone {
-            page: page(random, &open.cleanings, six.closed / sizes.page_words),
+            page: page(random, &open.cleanings, six.closed / sizes.page_size),
         },
     }
 }
@@ -168,7 +168,7 @@ fn done(random: &mut Random, twin: &Twin, open: &Open) -> Step {
 fn raise(random: &mut Random, six: &Six, sizes: Sizes) -> Step {
     let to = match random.below(4) {
         0 => random.near(&[six.read_only, six.tail]),
-        1 => six.tail / sizes.page_words * sizes.page_words,
+        1 => six.tail / sizes.page_size * sizes.page_size,
         2 => six.tail,
         _ => six.read_only + 1 + random.below(six.tail - six.read_only),
     };
@@ -176,11 +176,11 @@ fn raise(random: &mut Random, six: &Six, sizes: Sizes) -> Step {
 }
 
 fn shift(random: &mut Random, six: &Six, sizes: Sizes) -> Step {
-    let pages = (six.flushed - six.head) / sizes.page_words;
+    let pages = (six.flushed - six.head) / sizes.page_size;
     let to = match random.below(4) {
-        0 => random.near(&[six.head, six.flushed, six.flushed + sizes.page_words]),
+        0 => random.near(&[six.head, six.flushed, six.flushed + sizes.page_size]),
         1 => six.flushed,
-        _ => six.head + (1 + random.below(pages)) * sizes.page_words,
+        _ => six.head + (1 + random.below(pages)) * sizes.page_size,
     };
     Step::Shift { to }
 }

@@ -10,7 +10,7 @@ pub const SPACE: u64 = 1 << 48;
 /// The four sizes of an allocator.
 #[derive(Clone, Copy, Debug, PartialEq, Eq)]
 pub struct Sizes {
-    pub page_words: u64,
+    pub page_size: u64,
     pub frames: u64,
     pub slots: u64,
     pub drain_places: u64,
@@ -18,14 +18,14 @@ pub struct Sizes {
 
 impl Sizes {
     /// These sizes, where they are in their ranges.
-    pub fn checked(page_words: u64, frames: u64, slots: u64, drain_places: u64) -> Option<Sizes> {
-        let fit = page_words.is_power_of_two()
-            && (4..=4096).contains(&page_words)
+    pub fn checked(page_size: u64, frames: u64, slots: u64, drain_places: u64) -> Option<Sizes> {
+        let fit = page_size.is_power_of_two()
+            && (4..=4096).contains(&page_size)
             && (2..=256).contains(&frames)
             && (1..=64).contains(&slots)
             && (1..=64).contains(&drain_places);
         fit.then_some(Sizes {
-            page_words,
+            page_size,
             frames,
             slots,
             drain_places,

@@ -88,8 +88,8 @@ fn timed(turns: u64, mut turn: impl FnMut(u64)) -> f64 {
     start.elapsed().as_nanos() as f64 / turns as f64
 }
 
-fn sizes(page_words: u64, frames: u64) -> Sizes {
-    Sizes::checked(page_words, frames, 64, 64).expect("sizes in range")
+fn sizes(page_size: u64, frames: u64) -> Sizes {
+    Sizes::checked(page_size, frames, 64, 64).expect("sizes in range")
 }
 
 fn with_slots<C: Core>(sizes: Sizes, slots: u64) -> C {
@@ -129,7 +129,7 @@ fn settle_take_done<C: Core>() -> f64 {
 fn allocate<C: Core>(words: u64) -> f64 {
     let sizes = sizes(4096, 256);
     let mut core: C = with_slots(sizes, 1);
-    timed(CALLS.min(sizes.page_words * sizes.frames / words), |_| {
+    timed(CALLS.min(sizes.page_size * sizes.frames / words), |_| {
         core.make(Step::Allocate { slot: 0, words });
     })
 }

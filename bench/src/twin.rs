@@ -28,8 +28,8 @@ impl Twin {
             epochs: Epochs::new(sizes.slots),
             views: vec![View::default(); sizes.slots as usize],
             drain: Drain::new(sizes.drain_places),
-            log: Log::new(sizes.page_words),
-            pages: Pages::new(sizes.page_words, sizes.frames),
+            log: Log::new(sizes.page_size),
+            pages: Pages::new(sizes.page_size, sizes.frames),
         }
     }
 

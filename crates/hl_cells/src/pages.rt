@@ -61,7 +61,7 @@ impl<E: Epochs + Drop, F: Task, P: Promise> Engine<E, F, P> {
         ensures valid { IsEngine self.old }
     {
         let start = self.first_cell(page);
-        let len = self.page_len();
+        let len = self.page_size();
         let freed = self.core.clean_done(page)?;
         self.words.zero(start, len);
         Ok(freed)

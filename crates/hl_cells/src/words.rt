@@ -54,7 +54,7 @@ impl<E: Epochs + Drop, F: Task, P: Promise> Engine<E, F, P> {
         ensures { (A : List STEP) → EngineStands self.now A
             → result.now ≡ page_words self.now.core.sizes page A }
     {
-        self.words.part(self.first_cell(page), self.page_len())
+        self.words.part(self.first_cell(page), self.page_size())
     }
 
     /// The cell of address a.
@@ -73,8 +73,8 @@ impl<E: Epochs + Drop, F: Task, P: Promise> Engine<E, F, P> {
         (page % params.frames() * params.page_size()) as usize
     }
 
-    /// The words of a page.
-    pub(crate) fn page_len(&self) -> usize
+    /// How many words a page has.
+    pub(crate) fn page_size(&self) -> usize
         ensures { result ≡ self.now.core.sizes.page_size }
     {
         self.core.params().page_size() as usize

@@ -19,8 +19,7 @@ stands_at epoch None = false
 stands_at epoch (Some e) = e == epoch
 
 -- the turns of a refresh of slot t: none where it stands at the current epoch already; else one at the epoch
--- that it
--- leaves, one at the current one, and those of the climb
+-- that it leaves, one at the current one, and those of the climb
 abbrev pub refresh_turns : ℕ → Table → Table → ℕ
 refresh_turns t old new =
     if stands_at old.current (epoch_at t old) then 0 else 2 + climb_turns old new

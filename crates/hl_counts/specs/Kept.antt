@@ -15,8 +15,7 @@ abbrev pub counted_in : Inside → Counted
 counted_in a = record { table = table_in a; turns = a.ring.turns }
 
 -- the safe epoch is exact, the ring counts the slots, both epochs have their places in it, and the row of
--- slots has no
--- room beside them
+-- slots has no room beside them
 pub record IsKept (a : Inside) : Type 0 where
   pub table : IsTable (table_in a)
   pub next : a.next.epoch ≡ safe_of (table_in a) + 1

@@ -40,7 +40,6 @@ pub record IsTally (epochs : List (Option ℕ)) (counts : List ℕ) : Type 0 whe
       slice_index counts place ≡ count_by (is_counted (length counts) place) epochs
 
 -- how many places a climb visits, from one epoch up to another, at most the current one: those of the epochs
--- that it
--- passes, and that of the epoch at which it stops, unless that is the current one
+-- that it passes, and that of the epoch at which it stops, unless that is the current one
 abbrev pub visited : ℕ → ℕ → ℕ → ℕ
 visited from risen current = (risen - from) + (if nat_lt risen current then 1 else 0)

@@ -19,8 +19,7 @@ load_count (None ∷ places) = load_count places
 load_count (Some job ∷ places) = 1 + load_count places
 
 -- the load in place `at`, of this page, was answered as the domain answers it: it has left the pouch, or
--- nothing
--- has changed there
+-- nothing has changed there
 pub record Answers
     (F : Type 0) (domain : DomainState) (page : ℕ) (ok : Bool) (at : ℕ)
     (old new : List (Option PageJob)) (result : Result ℕ Fault)

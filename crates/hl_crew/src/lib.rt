@@ -24,8 +24,9 @@
 //!
 //! # How it ends
 //!
-//! The flusher and the cleaner end after so many turns, or before where the journal is full; the flusher then stops
-//! the writers. Riders and page writers come back by value, also where a thread couldn't be made: each lies under a
+//! The flusher and the cleaner end after so many turns, or before where the journal is full or a channel fails; the
+//! flusher then stops the writers. What was taken and can't be answered then is forsaken: such a page stays in flight
+//! or in cleaning, such an action taken. Riders and page writers come back by value, also where a thread couldn't be made: each lies under a
 //! lock that its thread takes once. That is what the types say, and a clause that no refusal is other than
 //! `OutOfMemory`. That a thread gets on, what is done in a turn, and what [`CrewEnd`] counts, no clause says.
 //!

@@ -7,6 +7,7 @@ use hl_action::{Promise, Task};
 use hl_domain::{Domain, PageJob};
 use hl_epoch::Epochs;
 use hl_image::{PageWriter, image_of};
+use hl_model::PAGE_SIZE_MOST;
 use hl_words::{Realm, Rider};
 use std::sync::{Mutex, Wait};
 use std::thread;
@@ -14,11 +15,11 @@ use std::thread;
 /// How often a writer asks whether it may write a page.
 const ASKS: u32 = 1_000_000;
 
-/// The most words of a page.
-const WORDS: usize = 4096;
+/// The most words that a page has.
+const WORDS: usize = PAGE_SIZE_MOST as usize;
 
 /// The bytes of the image of so many words.
-const BYTES: usize = 32_776;
+const BYTES: usize = 8 + 8 * WORDS;
 
 /// What a writer works on.
 #[derive(Drop)]

@@ -4,7 +4,7 @@ use Rattle.hl_model.specs.declared.frame.Held.{Held}
 use Rattle.hl_frames.specs.declared.placed.Placed.{Placed}
 use Rattle.hl_frames.specs.Pages.{Pages}
 
--- these frames, with nothing said of the words of a page or of how many were entered
+-- these frames, with nothing said of how many words a page has or how many pages were entered
 abbrev pub pages_in : List (Option Held) → Pages
 pages_in frames = record { page_size = 0; frames = frames; entered = 0 }
 

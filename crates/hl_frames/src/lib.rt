@@ -62,7 +62,7 @@
 //!
 //! # What a contract sees
 //!
-//! The words of a page, what each frame holds, and how many pages were entered. Each answer and each change is an
+//! How many words a page has, what each frame holds, and how many pages were entered. Each answer and change is an
 //! equation on these, and each call tells besides what is true of all frames (`IsFrames`). The read-only, safe
 //! read-only, head and closed offsets are the caller's: it hands in the ones that a call needs.
 //!

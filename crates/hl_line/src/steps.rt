@@ -58,7 +58,7 @@ pub(crate) fn step_with(keyword: &[u8], first: &[u8], second: &[u8], third: &[u8
     } else if keyword == b"clean".as_slice() {
         clean_step(first, b)
     } else {
-        epoch_step(keyword, a).or(word_step(keyword, a, b, c))
+        epoch_step(keyword, a).or_else(|| word_step(keyword, a, b, c))
     }
 }
 

@@ -2,7 +2,7 @@
 use Rattle.std.specs.Prelude.{ℕ, ◌≤◌, IsTrue}
 use Rattle.std.specs.Int.{is_power_of_two}
 
--- words of a page, frames, thread slots, places of the drain list
+-- how many words a page has, frames, thread slots, places of the drain list
 pub record Sizes : Type 0 where
   pub page_size : ℕ
   pub frames : ℕ

@@ -21,7 +21,7 @@ use std::marker::Model;
 pub struct Base {
     params: Params,
     epoch: u64,
-    // No row has room for more than the sizes allow.
+    // Each row has room for exactly what the sizes allow.
     slots: Vec<Option<Slot>>,
     waiting: Vec<Waiting>,
     taken: Vec<Waiting>,

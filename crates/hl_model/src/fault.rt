@@ -45,7 +45,8 @@ pub enum Fault {
     /// The address is above the flushed offset.
     #[error("fault 13 AboveFlushed")]
     AboveFlushed,
-    /// A record of no word, or of more words than a page has.
+    /// A record of no word, or of more words than a page has. (Sizes out of range are no fault of a step:
+    /// [`Params::checked`](crate::Params::checked) is None there, and callers say `Size` for it.)
     #[error("fault 14 Size")]
     Size,
     /// The record would enter this page, whose frame isn't free.
@@ -90,13 +91,13 @@ pub enum Fault {
     /// A page could not be written.
     #[error("fault 28 Device")]
     Device,
-    /// Memory was refused.
+    /// Memory was refused, or a thread.
     #[error("fault 29 OutOfMemory")]
     OutOfMemory,
     /// Line `n` of a script, counted from 1, is no step.
     #[error("fault 30 BadLine n {n}")]
     BadLine { n: u64 },
-    /// A reader or a writer failed.
+    /// A reader or a writer failed, or all reads that were allowed were made.
     #[error("fault 31 Stream")]
     Stream,
     /// 4,096 epochs have ended and aren't safe.

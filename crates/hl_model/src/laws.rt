@@ -33,7 +33,8 @@ pub fn safe_is_greatest()
     ensures { SafeIsGreatest }
 {}
 
-/// A protected slot's epoch exceeds a bump's ticket exactly where its mark, its last acquire or refresh, lies after the bump.
+/// A protected slot's epoch exceeds a bump's ticket exactly where its mark, its last acquire or refresh, lies after the
+/// bump.
 #[tactic(auto, using(crate::proofs::LawProofs::mark_after_bump))]
 pub fn mark_after_bump()
     ensures { MarkAfterBump }

@@ -7,11 +7,11 @@
 //!
 //! # Limits
 //!
-//! The ranges of the four sizes are constants, [`PAGE_SIZE_LEAST`] to [`DRAIN_MOST`], which [`Params::checked`] compares with.
-//! What follows from them: the frames have at most [`FRAMES_MOST`] times [`PAGE_SIZE_MOST`] words, 2^20, which are 8 MiB;
-//! at most [`SLOTS_MOST`] threads are protected at once, and at most [`DRAIN_MOST`] actions wait or are taken. Two
-//! numbers end: epochs at [`EPOCH_LAST`], addresses at [`TAIL_MOST`]. At most [`EPOCH_WINDOW`] epochs have ended and are
-//! not safe. A step that would pass one of these is refused.
+//! The ranges of the four sizes are constants, [`PAGE_SIZE_LEAST`] to [`DRAIN_MOST`], which [`Params::checked`]
+//! compares with. What follows from them: the frames have at most [`FRAMES_MOST`] times [`PAGE_SIZE_MOST`] words,
+//! 2^20, which are 8 MiB; at most [`SLOTS_MOST`] threads are protected at once, and at most [`DRAIN_MOST`] actions wait
+//! or are taken. Two numbers end: epochs at [`EPOCH_LAST`], addresses at [`TAIL_MOST`]. At most [`EPOCH_WINDOW`] epochs
+//! have ended and are not safe. A step that would pass one of these is refused.
 #![tactic(auto)]
 
 mod action;

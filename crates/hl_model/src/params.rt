@@ -48,7 +48,7 @@ impl Params {
         }
     }
 
-    /// The words of a page, P: a power of two from 4 to 4,096.
+    /// How many words a page has, P: a power of two from 4 to 4,096.
     pub fn page_size(self) -> u64
         ensures value { result ≡ self.page_size }
         ensures valid { AreInRange self }

@@ -4,7 +4,7 @@ use Rattle.std.specs.Int.{is_power_of_two}
 use Rattle.hl_model.specs.declared.view.Six.{Six}
 use Rattle.hl_model.specs.Offsets.{place_of}
 
--- the words of a page, and the offsets, each an address
+-- how many words a page has, and the offsets, each an address
 pub record Log : Type 0 where
   pub page_size : ℕ
   pub closed : ℕ

@@ -47,7 +47,7 @@
 //!
 //! # What a contract sees
 //!
-//! A plain record, `Log`: the words of a page, and the five offsets. Each answer and each change is an equation
+//! A plain record, `Log`: the size of a page, and the five offsets. Each answer and each change is an equation
 //! on it; what is refused changes nothing. Beside it each call tells what is true of every log (`IsLog`), and
 //! each call that moves an offset that none fell (`NoneFalls`). No call takes memory.
 #![tactic(auto)]

@@ -1,4 +1,4 @@
-ghost use Rattle.std.specs.Prelude.{◌≡◌, ◌+◌, ◌<◌, ◌≤◌, ◌^◌};
+ghost use Rattle.std.specs.Prelude.{◌≡◌, ◌+◌, ◌<◌, ◌≤◌, ◌^◌, min};
 ghost use Rattle.std.specs.Io.{ReadsAtMost};
 ghost use Rattle.std.specs.Io.KnownBytes.{ReadConsumes};
 
@@ -19,6 +19,7 @@ impl Reads {
     /// None was made, and so many may be, up to 2^48.
     pub(crate) fn up_to(reads: u64) -> Reads
         ensures made { result.made ≡ 0 }
+        ensures all { result.most ≡ min reads MOST_READS }
         ensures most { result.most ≤ reads }
         ensures countable { result.most ≤ MOST_READS }
     {

@@ -30,8 +30,8 @@ pub struct Finished<E: Epochs, F: Task> {
 }
 
 /// Runs the script that the reader gives, with the jobs on the shelf, over an engine whose table of epochs is an E,
-/// and writes its text. What was answered is flushed before each read. A job is run at its done, under the firing of its
-/// take. The answer is None where there was no line. The engine stands at the accepted steps, which keep the headline.
+/// and writes its text. What was answered is flushed before each read. A job is run at its done, under the firing of
+/// its take. The answer is None where there was no line. The engine stands at the accepted steps, which keep the headline.
 /// Jobs whose actions aren't done at the end go with the engine.
 ///
 /// - `BadLine` with the number of the first line that is no step, when its LF or its 81st byte was read, or at the
@@ -68,8 +68,8 @@ pub fn run_text<E: Epochs + Drop, F: Task, R: Read, W: Write>(
     run_text_within(alloc, reader, writer, shelf, READS)
 }
 
-/// The same in at most `reads` reads, and no more than 2^48 of them, each of at most 16384 bytes. Where none of them told
-/// the end and no line was bad, it answers `Stream`, as after a failed read, and reads nothing more.
+/// The same in at most `reads` reads, and no more than 2^48 of them, each of at most 16384 bytes. Where none of them
+/// told the end and no line was bad, it answers `Stream`, as after a failed read, and reads nothing more.
 pub fn run_text_within<E: Epochs + Drop, F: Task, R: Read, W: Write>(
     alloc: Global,
     reader: &mut R,

@@ -32,10 +32,10 @@ enum Wanted {
 /// are refused, with the reason on `errors`.
 ///
 /// `run` answers the script that the reader gives, with jobs of the tags 0 to 999; with `--flush` it then writes the
-/// image of each page that can be flushed, one a line. `slow` answers it in the slow form. `report` runs it with the same
-/// jobs, writes no answer, and then writes the report of what it left and of its accepted steps: nothing where there is no
-/// line, and the text of a bad line alone. `race` runs riders beside a crew, each in a thread, and writes whether what they
-/// left is what their steps say; where it isn't, the status is 1.
+/// image of each page that can be flushed, one a line. `slow` answers it in the slow form. `report` runs it with the
+/// same jobs, writes no answer, and then writes the report of what it left and of its accepted steps: nothing where
+/// there is no line, and the text of a bad line alone. `race` runs riders beside a crew, each in a thread, and writes
+/// whether what they left is what their steps say; where it isn't, the status is 1.
 pub fn command<T: Threads + Wait + Sync, S: AsStr, R: Read, W: Write, E: Write>(
     rt: &T,
     alloc: Global,
@@ -101,6 +101,18 @@ fn program<'a>(alloc: Global) -> Result<Command<'a>, AllocError> {
     let report = Command::new(alloc, "report")
         .about("Runs the script without its answers, and reports what it left, in eighteen lines")
         .override_usage("hl_tool report < SCRIPT");
+    Command::new(alloc, "hl_tool")
+        .about("Epoch protection and page frames after FASTER, on scripts of steps")
+        .after_help("docs/FORMATS.md tells the lines of a script, and of its answers")
+        .subcommand_required(true)
+        .subcommand(run)?
+        .subcommand(slow)?
+        .subcommand(report)?
+        .subcommand(race_words(alloc)?)
+}
+
+/// The words of a race.
+fn race_words<'a>(alloc: Global) -> Result<Command<'a>, AllocError> {
     let riders = Arg::new(alloc, "riders")
         .required(true)
         .value_name("RIDERS")
@@ -115,20 +127,12 @@ fn program<'a>(alloc: Global) -> Result<Command<'a>, AllocError> {
         .long("cut")
         .action(ArgAction::SetTrue)
         .help("Cuts the journal at the end of each of the crew's turns");
-    let race = Command::new(alloc, "race")
+    Command::new(alloc, "race")
         .about("Runs threads against each other, and checks what they left against their journal")
         .override_usage("hl_tool race RIDERS ROUNDS [--cut]")
         .arg(riders)?
         .arg(rounds)?
-        .arg(cut)?;
-    Command::new(alloc, "hl_tool")
-        .about("Epoch protection and page frames after FASTER, on scripts of steps")
-        .after_help("docs/FORMATS.md tells the lines of a script, and of its answers")
-        .subcommand_required(true)
-        .subcommand(run)?
-        .subcommand(slow)?
-        .subcommand(report)?
-        .subcommand(race)
+        .arg(cut)
 }
 
 /// Tells the user why the words gave no command: help was wanted, or they were refused.
