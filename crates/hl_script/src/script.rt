@@ -30,7 +30,8 @@ impl<O: Opening<S> + Drop, S: Stepping + Drop> Machine for Script<O, S> {
         match *line {
             Line::Config(sizes) => {
                 let Some(opening) = self.opening.take() else {
-                    return Err(Fault::OutOfMemory);
+                    // A config stands first.
+                    unreachable!()
                 };
                 let Some(opened) = opening.open(sizes) else {
                     return Err(Fault::OutOfMemory);
@@ -41,19 +42,19 @@ impl<O: Opening<S> + Drop, S: Stepping + Drop> Machine for Script<O, S> {
             }
             Line::Step(step) => match &mut self.opened {
                 Some(opened) => answer_step(opened, &step, out),
-                None => Err(Fault::OutOfMemory),
+                None => unreachable!(),
             },
             Line::Status => match &self.opened {
                 Some(opened) => answer_status(opened, out),
-                None => Err(Fault::OutOfMemory),
+                None => unreachable!(),
             },
             Line::Pending => match &self.opened {
                 Some(opened) => answer_pending(opened, out),
-                None => Err(Fault::OutOfMemory),
+                None => unreachable!(),
             },
             Line::Frames => match &self.opened {
                 Some(opened) => answer_frames(opened, out),
-                None => Err(Fault::OutOfMemory),
+                None => unreachable!(),
             },
         }
     }
