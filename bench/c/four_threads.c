@@ -40,8 +40,8 @@ static void serve(void) {
 /* Moves the offsets behind the tail's page, so that the oldest frames come free once every thread has refreshed. */
 static void move_on(void) {
     hl_offsets six = hl_six(&core);
-    uint64_t page = six.tail / PAGE_SIZE * PAGE_SIZE;
-    if (page > six.read_only && hl_raise(&core, page).number == 0) {
+    uint64_t page_start = six.tail / PAGE_SIZE * PAGE_SIZE;
+    if (page_start > six.read_only && hl_raise(&core, page_start).number == 0) {
         hl_settle(&core);
     }
     if (six.flushed > six.head && hl_shift(&core, six.flushed).number == 0) {

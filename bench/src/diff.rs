@@ -57,8 +57,8 @@ pub fn run(steps: u64, seed: u64) -> bool {
 
 /// Both at the same sizes, through a round.
 fn one_round(random: &mut Random, round: u64, length: u64, met: &mut Met) -> Result<(), String> {
-    let [page, frames, slots, drain] = SIZES[(round % SIZES.len() as u64) as usize];
-    let sizes = Sizes::checked(page, frames, slots, drain).expect("sizes in range");
+    let [page_size, frames, slots, drain] = SIZES[(round % SIZES.len() as u64) as usize];
+    let sizes = Sizes::checked(page_size, frames, slots, drain).expect("sizes in range");
     let mood = Mood {
         still: random.below(3) == 0,
     };
@@ -143,15 +143,15 @@ fn opens() -> bool {
         u64::MAX,
     ];
     let mut agree = closed;
-    for page in borders {
+    for page_size in borders {
         for other in borders {
             for [frames, slots, drain] in [[other, 2, 2], [2, other, 2], [2, 2, other]] {
-                let wanted = if Sizes::checked(page, frames, slots, drain).is_some() {
+                let wanted = if Sizes::checked(page_size, frames, slots, drain).is_some() {
                     0
                 } else {
                     254
                 };
-                agree &= door.try_open(page, frames, slots, drain) == wanted;
+                agree &= door.try_open(page_size, frames, slots, drain) == wanted;
                 agree &= door.free() == if wanted == 0 { 0 } else { 255 };
             }
         }

@@ -67,7 +67,7 @@ word() {
         0) line="raise $tail" ;;
         1) near "$tail" && line="raise $n" ;;
         2 | 8) line="shift $flushed" ;;
-        3) below "$((2 * page))" && line="shift $((head + n))" ;;
+        3) below "$((2 * page_size))" && line="shift $((head + n))" ;;
         4)
             near "$read_only"
             near_read_only="$n"
@@ -76,13 +76,13 @@ word() {
         5) near "$last" && printf -v line 'write %d %d %u' "$t" "$n" "$random" ;;
         6) near "$head" && line="read $t $n" ;;
         7) near "$last" && line="read $t $n" ;;
-        *) below "$((page + 2))" && line="alloc $t $n" ;;
+        *) below "$((page_size + 2))" && line="alloc $t $n" ;;
     esac
 }
 
 # Sets line to a step of the pages.
 page_step() {
-    local first="$((flushed / page))" last_closed="$((closed / page > 0 ? closed / page - 1 : 0))"
+    local first="$((flushed / page_size))" last_closed="$((closed / page_size > 0 ? closed / page_size - 1 : 0))"
     below 6
     case "$n" in
         0 | 1) line="flush take" ;;
@@ -120,12 +120,12 @@ next_of_pages() {
         below 6
         case "$n" in
             0) line="flush take" ;;
-            1) line="flush done $((flushed / page)) ok" ;;
+            1) line="flush done $((flushed / page_size)) ok" ;;
             2) line="clean take" ;;
-            3) line="alloc $t $((page - 1))" ;;
+            3) line="alloc $t $((page_size - 1))" ;;
             *)
                 below "$frames"
-                line="clean done $((closed / page > n + 1 ? closed / page - n - 1 : 0))"
+                line="clean done $((closed / page_size > n + 1 ? closed / page_size - n - 1 : 0))"
                 ;;
         esac
     fi
@@ -151,7 +151,7 @@ next_line() {
 # A script of 1,000 lines with these sizes has one text in both forms, and that is what was answered line by line.
 same_text() {
     local line="config $*" n t reply epoch safe pending taken closed head flushed safe_read_only read_only tail
-    local page="$1" frames="$2" slots="$3" in_hand=0 last_taken=0 random=1 made=0
+    local page_size="$1" frames="$2" slots="$3" in_hand=0 last_taken=0 random=1 made=0
     coproc talk { exec timeout 100 "$program" run; }
     local pid="$talk_PID" to="${talk[1]}" from="${talk[0]}"
     : > "$room/script" > "$room/expected"
@@ -171,7 +171,7 @@ same_text() {
     wait "$pid" || true
     cat "$room/expected" >> "$room/texts"
     [ "$made" = 1000 ] || { echo "no answer to '$line'"; return 1; }
-    ((tail / page >= 3 * frames)) || { echo "only $((tail / page)) pages"; return 1; }
+    ((tail / page_size >= 3 * frames)) || { echo "only $((tail / page_size)) pages"; return 1; }
     answers "$room/script" "$room/expected" 0 run && answers "$room/script" "$room/expected" 0 slow
 }
 

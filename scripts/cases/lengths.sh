@@ -78,8 +78,8 @@ longest_frames() {
 
 # Opens these sizes in both forms, where the last slot fills a page and has its last word.
 opens() {
-    local page="$1" last_slot="$(($3 - 1))" last_word="$(($1 - 1))" greatest=18446744073709551615
-    printf '%s\n' "config $*" "acquire $last_slot" "alloc $last_slot $page" \
+    local page_size="$1" last_slot="$(($3 - 1))" last_word="$(($1 - 1))" greatest=18446744073709551615
+    printf '%s\n' "config $*" "acquire $last_slot" "alloc $last_slot $page_size" \
         "write $last_slot $last_word $greatest" "read $last_slot $last_word" > "$room/script"
     printf '%s\n' opened 'epoch 1 view 0 0 0' 'at 0' written "value $greatest" > "$room/expected"
     answers "$room/script" "$room/expected" 0 run && answers "$room/script" "$room/expected" 0 slow

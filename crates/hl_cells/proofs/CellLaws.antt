@@ -70,11 +70,11 @@ cells-quiet sizes A s quiet frees_none writes_none = cell_words-same sizes A (A 
 
 -- the words of a page that isn't entered are 0
 fresh : (sizes : Sizes) (A : List Step) (p k : ℕ) → 0 < sizes.page_size → IsAccepted sizes A → is_entered sizes p A ≡ false → word (p * sizes.page_size + k) A ≡ 0
-fresh sizes A p k page acc new = word-fresh sizes (p * sizes.page_size + k) page A acc (omega (arith, ltb-false (p * sizes.page_size) (tail sizes A) new))
+fresh sizes A p k page_size acc new = word-fresh sizes (p * sizes.page_size + k) page_size A acc (omega (arith, ltb-false (p * sizes.page_size) (tail sizes A) new))
 
 -- a page that was just entered shows 0, as its free frame did
 entered_zero : (sizes : Sizes) (A : List Step) (t n k : ℕ) (f : ℕ) → 0 < sizes.page_size → IsAccepted sizes A → Enters sizes f A (Allocate t n) → word_of_page sizes (A ++ Allocate t n ∷ []) k (shown_page sizes f (A ++ Allocate t n ∷ [])) ≡ 0
-entered_zero sizes A t n k f page acc new =
+entered_zero sizes A t n k f page_size acc new =
     ap (word_of_page sizes B k) (shown-is sizes f B ∙ ap (unless_freed sizes B) new.after) ∙ by_freed (is_freed sizes new.page B)
   where
     B : List Step
@@ -82,43 +82,43 @@ entered_zero sizes A t n k f page acc new =
 
     by_freed : (b : Bool) → word_of_page sizes B k (cond b None (Some new.page)) ≡ 0
     by_freed true = refl
-    by_freed false = word-stay (new.page * sizes.page_size + k) A (Allocate t n) refl ∙ fresh sizes A new.page k page acc new.unentered
+    by_freed false = word-stay (new.page * sizes.page_size + k) A (Allocate t n) refl ∙ fresh sizes A new.page k page_size acc new.unentered
 
 -- an allocation leaves all cells: a page that it enters was never written, and its frame was free
 pub cells-allocate : (sizes : Sizes) (A : List Step) (t n : ℕ) → 0 < sizes.page_size → 0 < sizes.frames → IsAccepted sizes A → fault_of sizes A (Allocate t n) ≡ None → cell_words sizes (A ++ Allocate t n ∷ []) ≡ cell_words sizes A
-cells-allocate sizes A t n page frames acc free = cell_words-same sizes A (A ++ Allocate t n ∷ []) (λ c within. by_frame c (shown-allocate sizes (c / sizes.page_size) A t n page frames (frame_within sizes.frames sizes.page_size c within) free))
+cells-allocate sizes A t n page_size frames acc free = cell_words-same sizes A (A ++ Allocate t n ∷ []) (λ c within. by_frame c (shown-allocate sizes (c / sizes.page_size) A t n page_size frames (frame_within sizes.frames sizes.page_size c within) free))
   where
     by_frame : (c : ℕ) → (shown_page sizes (c / sizes.page_size) (A ++ Allocate t n ∷ []) ≡ shown_page sizes (c / sizes.page_size) A) ⊎ Enters sizes (c / sizes.page_size) A (Allocate t n) → cell_word sizes (A ++ Allocate t n ∷ []) c ≡ cell_word sizes A c
     by_frame c (inl same) = cell_word-same sizes A (Allocate t n) c (λ a. refl) same
     by_frame c (inr new) =
         cell_word-of sizes (A ++ Allocate t n ∷ []) c (shown_page sizes (c / sizes.page_size) (A ++ Allocate t n ∷ [])) refl
-        ∙ entered_zero sizes A t n (c % sizes.page_size) (c / sizes.page_size) page acc new
+        ∙ entered_zero sizes A t n (c % sizes.page_size) (c / sizes.page_size) page_size acc new
         ∙ sym (cell_word-of sizes A c None new.before)
 
 -- the cell of an address lies in the frame of its page
 cell_frame : (sizes : Sizes) (a : ℕ) → 0 < sizes.page_size → (cell_at sizes a / sizes.page_size ≡ a / sizes.page_size % sizes.frames) × (cell_at sizes a % sizes.page_size ≡ a % sizes.page_size)
-cell_frame sizes a page =
-    let within : a % sizes.page_size < sizes.page_size = mod_below a sizes.page_size page in
+cell_frame sizes a page_size =
+    let within : a % sizes.page_size < sizes.page_size = mod_below a sizes.page_size page_size in
     (div-mul-add (a / sizes.page_size % sizes.frames) sizes.page_size (a % sizes.page_size) within, mod-mul-add (a / sizes.page_size % sizes.frames) sizes.page_size (a % sizes.page_size) within)
 
 -- the cell of an address on a page that its frame shows holds its word
 cell_word-shown : (sizes : Sizes) (A : List Step) (a : ℕ) → 0 < sizes.page_size → shown_page sizes (a / sizes.page_size % sizes.frames) A ≡ Some (a / sizes.page_size) → cell_word sizes A (cell_at sizes a) ≡ word a A
-cell_word-shown sizes A a page shown =
-    let at = cell_frame sizes a page in
+cell_word-shown sizes A a page_size shown =
+    let at = cell_frame sizes a page_size in
     cell_word-of sizes A (cell_at sizes a) (Some (a / sizes.page_size)) (ap (λ f. shown_page sizes f A) at.0 ∙ shown)
     ∙ ap (λ k. word (a / sizes.page_size * sizes.page_size + k) A) at.1
     ∙ ap (λ b. word b A) (div-add-mod' a sizes.page_size)
 
 -- what is read is the word
 pub cells-read : (sizes : Sizes) (A : List Step) (t a : ℕ) → 0 < sizes.page_size → 0 < sizes.frames → IsAccepted sizes A → fault_of sizes A (Read t a) ≡ None → cell_word sizes A (cell_at sizes a) ≡ word a A
-cells-read sizes A t a page frames acc free = cell_word-shown sizes A a page (shown-read sizes A t a page frames acc free)
+cells-read sizes A t a page_size frames acc free = cell_word-shown sizes A a page_size (shown-read sizes A t a page_size frames acc free)
 
 -- a write sets the cell of its address alone
 pub cells-write : (sizes : Sizes) (A : List Step) (t a v : ℕ) → 0 < sizes.page_size → 0 < sizes.frames → IsAccepted sizes A → fault_of sizes A (Write t a v) ≡ None → cell_words sizes (A ++ Write t a v ∷ []) ≡ set (cell_words sizes A) (cell_at sizes a) v
 unfolding cell_words
-cells-write sizes A t a v page frames acc free =
+cells-write sizes A t a v page_size frames acc free =
     rows_set (cell_word sizes B) (cell_word sizes A) (sizes.frames * sizes.page_size) (cell_at sizes a) v
-    (cell_word-shown sizes B a page (shown_stays (a / sizes.page_size % sizes.frames) ∙ shown-written sizes A t a v page frames acc free) ∙ word-write a A t v)
+    (cell_word-shown sizes B a page_size (shown_stays (a / sizes.page_size % sizes.frames) ∙ shown-written sizes A t a v page_size frames acc free) ∙ word-write a A t v)
     (λ c other. cell_word-of sizes B c (shown_page sizes (c / sizes.page_size) A) (shown_stays (c / sizes.page_size)) ∙ by_shown c other (shown_page sizes (c / sizes.page_size) A) refl ∙ sym (cell_word-of sizes A c (shown_page sizes (c / sizes.page_size) A) refl))
   where
     B : List Step
@@ -130,10 +130,10 @@ cells-write sizes A t a v page frames acc free =
     -- another cell is that of another address
     elsewhere : (c p : ℕ) → c ≢ cell_at sizes a → shown_page sizes (c / sizes.page_size) A ≡ Some p → a ≢ p * sizes.page_size + c % sizes.page_size
     elsewhere c p other e same =
-        let within : c % sizes.page_size < sizes.page_size = mod_below c sizes.page_size page in
+        let within : c % sizes.page_size < sizes.page_size = mod_below c sizes.page_size page_size in
         let on_page : a / sizes.page_size ≡ p = ap (λ z. z / sizes.page_size) same ∙ div-mul-add p sizes.page_size (c % sizes.page_size) within in
         let at : a % sizes.page_size ≡ c % sizes.page_size = ap (λ z. z % sizes.page_size) same ∙ mod-mul-add p sizes.page_size (c % sizes.page_size) within in
-        let in_frame : a / sizes.page_size % sizes.frames ≡ c / sizes.page_size = ap (λ z. z % sizes.frames) on_page ∙ shown-frame sizes (c / sizes.page_size) p A page frames e in
+        let in_frame : a / sizes.page_size % sizes.frames ≡ c / sizes.page_size = ap (λ z. z % sizes.frames) on_page ∙ shown-frame sizes (c / sizes.page_size) p A page_size frames e in
         other (sym (ap₂ (λ f k. f * sizes.page_size + k) in_frame at ∙ div-add-mod' c sizes.page_size))
 
     by_shown : (c : ℕ) → c ≢ cell_at sizes a → (o : Option ℕ) → shown_page sizes (c / sizes.page_size) A ≡ o → word_of_page sizes B (c % sizes.page_size) (shown_page sizes (c / sizes.page_size) A) ≡ word_of_page sizes A (c % sizes.page_size) (shown_page sizes (c / sizes.page_size) A)
@@ -145,7 +145,7 @@ cells-write sizes A t a v page frames acc free =
 
 -- at first all cells are 0
 pub cells-nil : (sizes : Sizes) → 0 < sizes.page_size → cell_words sizes [] ≡ replicate (sizes.frames * sizes.page_size) 0
-cells-nil sizes page = sym (cell_words-is sizes [] (replicate (sizes.frames * sizes.page_size) 0) (length-replicate (sizes.frames * sizes.page_size) 0)
+cells-nil sizes page_size = sym (cell_words-is sizes [] (replicate (sizes.frames * sizes.page_size) 0) (length-replicate (sizes.frames * sizes.page_size) 0)
     (λ k d within. get_or-replicate (sizes.frames * sizes.page_size) k 0 d within ∙ sym (zero_at k (shown_page sizes (k / sizes.page_size) []) refl)))
   where
     zero_at : (k : ℕ) (o : Option ℕ) → shown_page sizes (k / sizes.page_size) [] ≡ o → cell_word sizes [] k ≡ 0
@@ -195,7 +195,7 @@ zeroed_at ws start len k d fits within = by_start (cases_lt k start)
 
 -- a clean done zeroes the cells of its page's frame alone
 pub cells-clean : (sizes : Sizes) (A : List Step) (p : ℕ) → 0 < sizes.page_size → 0 < sizes.frames → IsAccepted sizes A → fault_of sizes A (CleanDone p) ≡ None → take (p % sizes.frames * sizes.page_size) (cell_words sizes A) ++ (replicate sizes.page_size 0 ++ drop (p % sizes.frames * sizes.page_size + sizes.page_size) (cell_words sizes A)) ≡ cell_words sizes (A ++ CleanDone p ∷ [])
-cells-clean sizes A p page frames acc free = cell_words-is sizes B ws zeroed_len at
+cells-clean sizes A p page_size frames acc free = cell_words-is sizes B ws zeroed_len at
   where
     B : List Step
     B = A ++ CleanDone p ∷ []
@@ -235,7 +235,7 @@ cells-clean sizes A p page frames acc free = cell_words-is sizes B ws zeroed_len
         omega (arith, same, below, div-add-mod' k sizes.page_size)
     outside k (inr past) e =
         let same : k / sizes.page_size * sizes.page_size ≡ start = ap (λ z. z * sizes.page_size) (sym e) in
-        let rest : k % sizes.page_size < sizes.page_size = mod_below k sizes.page_size page in
+        let rest : k % sizes.page_size < sizes.page_size = mod_below k sizes.page_size page_size in
         omega (arith, same, past, rest, div-add-mod' k sizes.page_size)
 
     at : (k d : ℕ) → k < sizes.frames * sizes.page_size → get_or ws k d ≡ cell_word sizes B k
@@ -243,14 +243,14 @@ cells-clean sizes A p page frames acc free = cell_words-is sizes B ws zeroed_len
       where
         by_place : ((start ≤ k) × (k < start + sizes.page_size) × (get_or ws k d ≡ 0)) ⊎ (((k < start) ⊎ (start + sizes.page_size ≤ k)) × (get_or ws k d ≡ get_or (cell_words sizes A) k d)) → get_or ws k d ≡ cell_word sizes B k
         by_place (inl zero_here) =
-            zero_here.2 ∙ sym (cell_word-of sizes B k None (ap (λ f. shown_page sizes f B) (sym (in_frame k zero_here.0 zero_here.1)) ∙ shown-cleaned sizes A p page frames acc free))
+            zero_here.2 ∙ sym (cell_word-of sizes B k None (ap (λ f. shown_page sizes f B) (sym (in_frame k zero_here.0 zero_here.1)) ∙ shown-cleaned sizes A p page_size frames acc free))
         by_place (inr as_before) =
             as_before.1 ∙ cell_words-at sizes A k d within
-            ∙ sym (cell_word-same sizes A (CleanDone p) k (λ a. refl) (shown-elsewhere sizes A p (k / sizes.page_size) page frames (outside k as_before.0)))
+            ∙ sym (cell_word-same sizes A (CleanDone p) k (λ a. refl) (shown-elsewhere sizes A p (k / sizes.page_size) page_size frames (outside k as_before.0)))
 
 -- the cells of the frame of a page that it shows hold the page's words
 pub cells-page : (sizes : Sizes) (A : List Step) (p : ℕ) → 0 < sizes.page_size → 0 < sizes.frames → shown_page sizes (p % sizes.frames) A ≡ Some p → page_words sizes p A ≡ take sizes.page_size (drop (p % sizes.frames * sizes.page_size) (cell_words sizes A))
-cells-page sizes A p page frames shown = page_words-is sizes p A ws ws_len at
+cells-page sizes A p page_size frames shown = page_words-is sizes p A ws ws_len at
   where
     start : ℕ
     start = p % sizes.frames * sizes.page_size

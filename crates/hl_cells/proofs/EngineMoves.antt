@@ -55,10 +55,10 @@ is_quiet (CleanDone page) = false
 is_quiet _ = true
 
 quiet_cells : (sizes : Sizes) (A : List Step) (s : Step) → is_quiet s ≡ true → 0 < sizes.page_size → 0 < sizes.frames → IsAccepted sizes A → fault_of sizes A s ≡ None → cell_words sizes (A ++ s ∷ []) ≡ cell_words sizes A
-quiet_cells sizes A (Allocate t n) e page frames acc h = cells-allocate sizes A t n page frames acc h
-quiet_cells sizes A (Write t a v) e page frames acc h = cc
-quiet_cells sizes A (CleanDone p) e page frames acc h = cc
-quiet_cells sizes A s e page frames acc h = cells-quiet sizes A s refl (λ p. refl) (λ a. refl)
+quiet_cells sizes A (Allocate t n) e page_size frames acc h = cells-allocate sizes A t n page_size frames acc h
+quiet_cells sizes A (Write t a v) e page_size frames acc h = cc
+quiet_cells sizes A (CleanDone p) e page_size frames acc h = cc
+quiet_cells sizes A s e page_size frames acc h = cells-quiet sizes A s refl (λ p. refl) (λ a. refl)
 
 quiet_takes : (s : Step) → is_quiet s ≡ true → is_take s ≡ false
 quiet_takes Take e = cc
@@ -92,8 +92,8 @@ module _ {F : Type 0} where
     held_is = subst (λ (z : Sizes). Holds z B held) (sym same) h;
   }
 
-  page_some : (engine : Whole F) (A : List Step) → EngineStands engine A → 0 < engine.core.sizes.page_size
-  page_some engine A st = omega (arith, st.core_stands.in_range.page_size_least)
+  page_size_some : (engine : Whole F) (A : List Step) → EngineStands engine A → 0 < engine.core.sizes.page_size
+  page_size_some engine A st = omega (arith, st.core_stands.in_range.page_size_least)
 
   frames_some : (engine : Whole F) (A : List Step) → EngineStands engine A → 0 < engine.core.sizes.frames
   frames_some engine A st = omega (arith, st.core_stands.in_range.frames_least)
@@ -131,7 +131,7 @@ module _ {F : Type 0} where
 
       by_fault : (o : Option Fault) → fault_of engine.core.sizes A s ≡ o → Moved keeps engine A s (record { core = core_new; words = engine.words; held = engine.held }) result
       by_fault None h = moved_accepted keeps engine A s core_new engine.words engine.held result result moved h told
-          (st.words_is ∙ sym (quiet_cells engine.core.sizes A s e (page_some engine A st) (frames_some engine A st) st.core_stands.accepted h))
+          (st.words_is ∙ sym (quiet_cells engine.core.sizes A s e (page_size_some engine A st) (frames_some engine A st) st.core_stands.accepted h))
           (holds-quiet engine.core.sizes A s engine.held st.core_stands.accepted (quiet_takes s e) (quiet_ends s e) st.held_is)
       by_fault (Some f) h = record {
         told = told;
@@ -159,7 +159,7 @@ module _ {F : Type 0} where
       let h = (free_of engine A (Write t a v) core_new r moved).0 in
       moved_accepted keeps engine A (Write t a v) core_new (set engine.words cell v) engine.held (Ok r) (Ok r) moved h
       (told_same keeps engine.core.sizes A (Write t a v) (Ok r) refl moved.reply)
-      (ap₂ (λ ws c. set ws c v) st.words_is at ∙ sym (cells-write engine.core.sizes A t a v (page_some engine A st) (frames_some engine A st) st.core_stands.accepted h))
+      (ap₂ (λ ws c. set ws c v) st.words_is at ∙ sym (cells-write engine.core.sizes A t a v (page_size_some engine A st) (frames_some engine A st) st.core_stands.accepted h))
       (holds-quiet engine.core.sizes A (Write t a v) engine.held st.core_stands.accepted refl (λ c. refl) st.held_is)
 
   -- a clean done zeroes the cells of its page's frame
@@ -170,7 +170,7 @@ module _ {F : Type 0} where
       (told_same keeps engine.core.sizes A (CleanDone p) (Ok r) refl moved.reply)
       (zeroed ∙ ap (λ ws. take start ws ++ (replicate len 0 ++ drop (start + len) ws)) (w ∙ st.words_is)
       ∙ ap₂ (λ i n. take i (cell_words engine.core.sizes A) ++ (replicate n 0 ++ drop (i + n) (cell_words engine.core.sizes A))) s l
-      ∙ cells-clean engine.core.sizes A p (page_some engine A st) (frames_some engine A st) st.core_stands.accepted h)
+      ∙ cells-clean engine.core.sizes A p (page_size_some engine A st) (frames_some engine A st) st.core_stands.accepted h)
       (holds-quiet engine.core.sizes A (CleanDone p) engine.held st.core_stands.accepted refl (λ c. refl) st.held_is)
 
   -- a read is answered with the word
@@ -264,11 +264,11 @@ module _ {F : Type 0} where
       ap (λ ws. get_or ws cell d) st.words_is
       ∙ cell_words-at engine.core.sizes A cell d within
       ∙ ap (cell_word engine.core.sizes A) at
-      ∙ cells-read engine.core.sizes A t a (page_some engine A st) (frames_some engine A st) st.core_stands.accepted h
+      ∙ cells-read engine.core.sizes A t a (page_size_some engine A st) (frames_some engine A st) st.core_stands.accepted h
 
   -- the words of a page that its frame shows
   pub page_shown : (engine : Whole F) (A : List Step) (p : ℕ) → EngineStands engine A → shown_page engine.core.sizes (p % engine.core.sizes.frames) A ≡ Some p → take engine.core.sizes.page_size (drop (p % engine.core.sizes.frames * engine.core.sizes.page_size) engine.words) ≡ page_words engine.core.sizes p A
-  page_shown engine A p st shown = ap (λ ws. take engine.core.sizes.page_size (drop (p % engine.core.sizes.frames * engine.core.sizes.page_size) ws)) st.words_is ∙ sym (cells-page engine.core.sizes A p (page_some engine A st) (frames_some engine A st) shown)
+  page_shown engine A p st shown = ap (λ ws. take engine.core.sizes.page_size (drop (p % engine.core.sizes.frames * engine.core.sizes.page_size) ws)) st.words_is ∙ sym (cells-page engine.core.sizes A p (page_size_some engine A st) (frames_some engine A st) shown)
 
   -- what a frame shows is told by the core: it shows the same at each list where the engine stands
   pub shown_alike : (engine : Whole F) (A B : List Step) (f : ℕ) → EngineStands engine A → EngineStands engine B → f < engine.core.sizes.frames → shown_page engine.core.sizes f A ≡ shown_page engine.core.sizes f B
@@ -337,5 +337,5 @@ module _ {F : Type 0} where
       by_page : (o : Option ℕ) → shown_page engine.core.sizes f at.0 ≡ o → IfSome o (λ p. Shows engine p)
       by_page None e = tt
       by_page (Some p) e =
-          let of_f = shown-frame engine.core.sizes f p at.0 (page_some engine at.0 at.1) (frames_some engine at.0 at.1) e in
+          let of_f = shown-frame engine.core.sizes f p at.0 (page_size_some engine at.0 at.1) (frames_some engine at.0 at.1) e in
           (at.0, at.1, ap (λ z. shown_page engine.core.sizes z at.0) of_f ∙ e)

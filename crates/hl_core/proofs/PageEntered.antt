@@ -16,7 +16,7 @@ use Rattle.hl_frames.specs.Answers.{unmarked, entered}
 use Rattle.hl_model.specs.Bases.{marked, held_of}
 use Rattle.hl_core.specs.Standing.{pages_entered, pages_of}
 use Rattle.hl_core.proofs.PageRows.{length-frames}
-use Rattle.hl_core.proofs.PageMarks.{page_some, frames_some, ahead_unflushed, ahead_unflown, ahead_unfreed, ahead_uncleaned}
+use Rattle.hl_core.proofs.PageMarks.{page_size_some, frames_some, ahead_unflushed, ahead_unflown, ahead_unfreed, ahead_uncleaned}
 use Rattle.hl_core.proofs.PageOffsets.{below_entered, unentered_end, pages_entered-is}
 use Rattle.hl_core.proofs.Space.{whole_pages}
 use Rattle.hl_core.proofs.PageMoves.{pages_with, marked-stay, marked-with}
@@ -25,21 +25,21 @@ use Rattle.hl_core.proofs.PageMoves.{pages_with, marked-stay, marked-with}
 last_entered-agree : (sizes : Sizes) (f : ℕ) (A B : List Step) → AreInRange sizes → ((p : ℕ) → p % sizes.frames ≡ f → is_entered sizes p B ≡ is_entered sizes p A) → last_entered sizes f B ≡ last_entered sizes f A
 last_entered-agree sizes f A B range agree = by_first (last_entered sizes f A) refl
   where
-    page : 0 < sizes.page_size
-    page = page_some sizes range
+    page_size : 0 < sizes.page_size
+    page_size = page_size_some sizes range
 
     frames : 0 < sizes.frames
     frames = frames_some sizes range
 
     there : (p : ℕ) → last_entered sizes f A ≡ Some p → last_entered sizes f B ≡ Some p
     there p h =
-        let last : IsLastOf sizes f p A = last_entered-some sizes f p A page frames h in
-        last_entered-is sizes f p B page frames (agree p last.of_frame ∙ last.entered) last.of_frame (agree (p + sizes.frames) (add-mod_right p sizes.frames ∙ last.of_frame) ∙ last.next_not)
+        let last : IsLastOf sizes f p A = last_entered-some sizes f p A page_size frames h in
+        last_entered-is sizes f p B page_size frames (agree p last.of_frame ∙ last.entered) last.of_frame (agree (p + sizes.frames) (add-mod_right p sizes.frames ∙ last.of_frame) ∙ last.next_not)
 
     back : (p : ℕ) → last_entered sizes f B ≡ Some p → last_entered sizes f A ≡ Some p
     back p h =
-        let last : IsLastOf sizes f p B = last_entered-some sizes f p B page frames h in
-        last_entered-is sizes f p A page frames (sym (agree p last.of_frame) ∙ last.entered) last.of_frame (sym (agree (p + sizes.frames) (add-mod_right p sizes.frames ∙ last.of_frame)) ∙ last.next_not)
+        let last : IsLastOf sizes f p B = last_entered-some sizes f p B page_size frames h in
+        last_entered-is sizes f p A page_size frames (sym (agree p last.of_frame) ∙ last.entered) last.of_frame (sym (agree (p + sizes.frames) (add-mod_right p sizes.frames ∙ last.of_frame)) ∙ last.next_not)
 
     by_second : (o : Option ℕ) → last_entered sizes f B ≡ o → last_entered sizes f A ≡ None → last_entered sizes f B ≡ last_entered sizes f A
     by_second None h none = h ∙ sym none
@@ -66,7 +66,7 @@ held_of-allocate sizes A t n f range agree =
 
 -- which pages are entered with an accepted record in page q
 enters : (sizes : Sizes) (A : List Step) (t n p : ℕ) → AreInRange sizes → size_fault sizes.page_size (tail sizes A) n ≡ None → is_entered sizes p (A ++ Allocate t n ∷ []) ≡ (is_entered sizes p A || p == place_of sizes.page_size (tail sizes A) n / sizes.page_size)
-enters sizes A t n p range h = let size : (0 < n) × (n ≤ sizes.page_size) × (place_of sizes.page_size (tail sizes A) n + n ≤ 2 ^ 48) = size-none sizes.page_size (tail sizes A) n h in is_entered-allocate sizes p A t n (page_some sizes range) (omega (arith, size.0)) size.1
+enters sizes A t n p range h = let size : (0 < n) × (n ≤ sizes.page_size) × (place_of sizes.page_size (tail sizes A) n + n ≤ 2 ^ 48) = size-none sizes.page_size (tail sizes A) n h in is_entered-allocate sizes p A t n (page_size_some sizes range) (omega (arith, size.0)) size.1
 
 -- a test that adds nothing
 or_stays : (a b : Bool) → (b ≡ true → a ≡ true) → (a || b) ≡ a
@@ -79,9 +79,9 @@ pub allocated_within : (sizes : Sizes) (A : List Step) (t n : ℕ) → AreInRang
 allocated_within sizes A t n range h e =
     ap₂ (pages_with sizes)
     (rows_same (held_of sizes (A ++ Allocate t n ∷ [])) (held_of sizes A) sizes.frames (λ f. held_of-allocate sizes A t n f range (λ p there. agree p)))
-    (pages_entered-is sizes (A ++ Allocate t n ∷ []) (pages_entered sizes A) (page_some sizes range)
-    (λ p lt. agree p ∙ below_entered sizes A p (page_some sizes range) lt)
-    (agree (pages_entered sizes A) ∙ unentered_end sizes A (page_some sizes range)))
+    (pages_entered-is sizes (A ++ Allocate t n ∷ []) (pages_entered sizes A) (page_size_some sizes range)
+    (λ p lt. agree p ∙ below_entered sizes A p (page_size_some sizes range) lt)
+    (agree (pages_entered sizes A) ∙ unentered_end sizes A (page_size_some sizes range)))
   where
     agree : (p : ℕ) → is_entered sizes p (A ++ Allocate t n ∷ []) ≡ is_entered sizes p A
     agree p =
@@ -113,7 +113,7 @@ module _ (sizes : Sizes) (A : List Step) (t n q : ℕ) (range : AreInRange sizes
 
   -- it is the next page
   pub new_is_next : pages_entered sizes A ≡ q
-  new_is_next = pages_entered-is sizes A q (page_some sizes range) was_below new
+  new_is_next = pages_entered-is sizes A q (page_size_some sizes range) was_below new
 
   -- its frame then holds it, with no mark, and the other frames stay
   pub entered-is : pages_of sizes (A ++ Allocate t n ∷ []) ≡ entered q (pages_of sizes A)
@@ -121,14 +121,14 @@ module _ (sizes : Sizes) (A : List Step) (t n q : ℕ) (range : AreInRange sizes
       ap₂ (pages_with sizes)
       (rows_set (held_of sizes (A ++ Allocate t n ∷ [])) (held_of sizes A) sizes.frames (q % sizes.frames) (Some (unmarked q)) at each
       ∙ ap (λ f. set (pages_of sizes A).frames (q % f) (Some (unmarked q))) (sym (length-frames sizes A)))
-      (pages_entered-is sizes (A ++ Allocate t n ∷ []) (q + 1) (page_some sizes range)
+      (pages_entered-is sizes (A ++ Allocate t n ∷ []) (q + 1) (page_size_some sizes range)
       (λ p lt. entered_below sizes q p (A ++ Allocate t n ∷ []) now_entered (omega (arith, lt)))
       (now_above (q + 1) (omega arith)))
     where
       at : held_of sizes (A ++ Allocate t n ∷ []) (q % sizes.frames) ≡ Some (unmarked q)
       at =
           ap (option_map (marked sizes (A ++ Allocate t n ∷ [])))
-          (last_entered-is sizes (q % sizes.frames) q (A ++ Allocate t n ∷ []) (page_some sizes range) (frames_some sizes range) now_entered refl (now_above (q + sizes.frames) (omega (arith, frames_some sizes range))))
+          (last_entered-is sizes (q % sizes.frames) q (A ++ Allocate t n ∷ []) (page_size_some sizes range) (frames_some sizes range) now_entered refl (now_above (q + sizes.frames) (omega (arith, frames_some sizes range))))
           ∙ ap Some (marked-allocate sizes A t n q
           ∙ marked-with sizes A q false false false false (ahead_unflushed sizes A q range a new) (ahead_unflown sizes A q range a new) (ahead_unfreed sizes A q range a new) (ahead_uncleaned sizes A q range a new))
 
@@ -141,5 +141,5 @@ module _ (sizes : Sizes) (A : List Step) (t n q : ℕ) (range : AreInRange sizes
 pub new_within_space : (sizes : Sizes) (A : List Step) (n : ℕ) → AreInRange sizes → size_fault sizes.page_size (tail sizes A) n ≡ None → place_of sizes.page_size (tail sizes A) n / sizes.page_size < 2 ^ 48 / sizes.page_size
 new_within_space sizes A n range h =
     let size : (0 < n) × (n ≤ sizes.page_size) × (place_of sizes.page_size (tail sizes A) n + n ≤ 2 ^ 48) = size-none sizes.page_size (tail sizes A) n h in
-    let whole : 2 ^ 48 / sizes.page_size * sizes.page_size ≡ 2 ^ 48 = whole_pages sizes.page_size (page_some sizes range) range.page_size_most range.page_size_power in
-    (div-lt_iff_lt-mul (page_some sizes range)).1 (omega (arith, size.0, size.2, whole))
+    let whole : 2 ^ 48 / sizes.page_size * sizes.page_size ≡ 2 ^ 48 = whole_pages sizes.page_size (page_size_some sizes range) range.page_size_most range.page_size_power in
+    (div-lt_iff_lt-mul (page_size_some sizes range)).1 (omega (arith, size.0, size.2, whole))

@@ -16,7 +16,7 @@ use Rattle.hl_frames.specs.Pages.{Pages, pages_below, flushed_offset, is_in_flig
 use Rattle.hl_frames.specs.Answers.{state_of}
 use Rattle.hl_core.specs.Standing.{State, Stands, IsStanding, pages_entered}
 use Rattle.hl_core.proofs.PageRows.{length-frames}
-use Rattle.hl_core.proofs.PageMarks.{page_some, next_to_flush-is, next_to_clean-is, is_in_flight-is, is_cleaning-is, may_enter-is}
+use Rattle.hl_core.proofs.PageMarks.{page_size_some, next_to_flush-is, next_to_clean-is, is_in_flight-is, is_cleaning-is, may_enter-is}
 use Rattle.hl_core.proofs.PageOffsets.{is_entered-is, closed_within, frame_of-is}
 
 module _ {J : Type 0} (tag : J → ℕ) (core : State J) where
@@ -42,7 +42,7 @@ module _ {J : Type 0} (tag : J → ℕ) (core : State J) where
 
   -- whether a page is entered
   pub entered_found : (q : ℕ) (told : Bool) → told ≡ ltb q core.pages.entered → (A : List Step) → Stands tag core A → told ≡ is_entered core.sizes q A
-  entered_found q told is A st = is ∙ ap (λ (p : Pages). ltb q p.entered) st.pages_is ∙ is_entered-is core.sizes A q (page_some core.sizes st.in_range)
+  entered_found q told is A st = is ∙ ap (λ (p : Pages). ltb q p.entered) st.pages_is ∙ is_entered-is core.sizes A q (page_size_some core.sizes st.in_range)
 
   -- and whether an address's page is
   pub entered_at_found : (a : ℕ) (told : Bool) → told ≡ ltb (a / core.pages.page_size) core.pages.entered → (A : List Step) → Stands tag core A → told ≡ is_entered core.sizes (a / core.sizes.page_size) A
@@ -62,7 +62,7 @@ module _ {J : Type 0} (tag : J → ℕ) (core : State J) where
   -- sealed pages are entered
   pub sealed_fits : IsStanding tag core → pages_below core.offsets.safe_read_only core.pages ≤ core.pages.entered
   sealed_fits (A, st) =
-      let some : 0 < core.sizes.page_size = page_some core.sizes st.in_range in
+      let some : 0 < core.sizes.page_size = page_size_some core.sizes st.in_range in
       let order = offsets_are_in_order core.sizes A some st.accepted in
       let starts : safe_read_only A / core.sizes.page_size * core.sizes.page_size ≤ tail core.sizes A + core.sizes.page_size - 1 = omega (arith, div-mul-le_self (safe_read_only A) core.sizes.page_size, order.safe_read_only_most, order.read_only_most, some) in
       let entered : safe_read_only A / core.sizes.page_size ≤ pages_entered core.sizes A = (le-div_iff_mul-le some).1 starts in

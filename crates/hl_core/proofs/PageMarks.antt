@@ -20,8 +20,8 @@ use Rattle.hl_core.specs.Standing.{pages_of}
 use Rattle.hl_core.proofs.PageRows.{length-frames, left_or_marked-is, is_marked-is}
 
 -- the sizes are not 0
-pub page_some : (sizes : Sizes) → AreInRange sizes → 0 < sizes.page_size
-page_some sizes range = omega (arith, range.page_size_least)
+pub page_size_some : (sizes : Sizes) → AreInRange sizes → 0 < sizes.page_size
+page_size_some sizes range = omega (arith, range.page_size_least)
 
 -- nor are there no frames
 pub frames_some : (sizes : Sizes) → AreInRange sizes → 0 < sizes.frames
@@ -29,11 +29,11 @@ frames_some sizes range = omega (arith, range.frames_least)
 
 -- what holds of the pages of an accepted list
 pub kept : (sizes : Sizes) (A : List Step) → AreInRange sizes → IsAccepted sizes A → PagesKept sizes A
-kept sizes A range a = pages_kept sizes A (page_some sizes range) (frames_some sizes range) a
+kept sizes A range a = pages_kept sizes A (page_size_some sizes range) (frames_some sizes range) a
 
 -- the offsets are in order
 pub in_order : (sizes : Sizes) (A : List Step) → AreInRange sizes → IsAccepted sizes A → AreInOrder sizes.page_size (six sizes A)
-in_order sizes A range a = offsets_are_in_order sizes A (page_some sizes range) a
+in_order sizes A range a = offsets_are_in_order sizes A (page_size_some sizes range) a
 
 -- closed pages are sealed
 pub closed_sealed : (sizes : Sizes) (A : List Step) (p : ℕ) → AreInRange sizes → IsAccepted sizes A → (p + 1) * sizes.page_size ≤ closed A → (p + 1) * sizes.page_size ≤ safe_read_only A
@@ -43,7 +43,7 @@ closed_sealed sizes A p range a h =
 
 -- what makes a page sealed is told of none that isn't entered
 ahead : (sizes : Sizes) (A : List Step) (p : ℕ) (b : Bool) → AreInRange sizes → IsAccepted sizes A → (b ≡ true → (p + 1) * sizes.page_size ≤ safe_read_only A) → is_entered sizes p A ≡ false → b ≡ false
-ahead sizes A p b range a sealed e = false_from_ne_true b (λ t. both_ways (is_entered sizes p A) e (sealed_entered sizes A p (page_some sizes range) a (sealed t)))
+ahead sizes A p b range a sealed e = false_from_ne_true b (λ t. both_ways (is_entered sizes p A) e (sealed_entered sizes A p (page_size_some sizes range) a (sealed t)))
 
 -- a page that isn't entered has no mark
 pub ahead_unflushed : (sizes : Sizes) (A : List Step) (p : ℕ) → AreInRange sizes → IsAccepted sizes A → is_entered sizes p A ≡ false → is_flushed sizes p A ≡ false

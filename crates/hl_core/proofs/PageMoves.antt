@@ -24,7 +24,7 @@ use Rattle.hl_frames.specs.Answers.{changed, entered, flush_begun, flush_ended, 
 use Rattle.hl_model.specs.Bases.{marked, held_of}
 use Rattle.hl_core.specs.Standing.{pages_of}
 use Rattle.hl_core.proofs.PageRows.{length-frames, held_for-is}
-use Rattle.hl_core.proofs.PageMarks.{page_some, frames_some, kept, closed_sealed}
+use Rattle.hl_core.proofs.PageMarks.{page_size_some, frames_some, kept, closed_sealed}
 
 -- a page with these marks
 abbrev pub held_with : ℕ → Bool → Bool → Bool → Bool → Held
@@ -83,7 +83,7 @@ changed-is sizes A s q change range same last here others =
     of_page : (f : ℕ) → (f ≢ (q % sizes.frames)) → (o : Option ℕ) → last_entered sizes f A ≡ o → option_map (marked sizes (A ++ s ∷ [])) o ≡ option_map (marked sizes A) o
     of_page f ne None is = refl
     of_page f ne (Some p) is =
-        ap Some (others p (λ one. ne (sym (last_entered-some sizes f p A (page_some sizes range) (frames_some sizes range) is).of_frame ∙ ap (λ r. r % sizes.frames) one)))
+        ap Some (others p (λ one. ne (sym (last_entered-some sizes f p A (page_size_some sizes range) (frames_some sizes range) is).of_frame ∙ ap (λ r. r % sizes.frames) one)))
 
     each : (f : ℕ) → (f ≢ (q % sizes.frames)) → held_of sizes (A ++ s ∷ []) f ≡ held_of sizes A f
     each f ne = ap (option_map (marked sizes (A ++ s ∷ []))) (last_entered-same sizes f A (A ++ s ∷ []) same) ∙ of_page f ne (last_entered sizes f A) refl
@@ -91,7 +91,7 @@ changed-is sizes A s q change range same last here others =
 -- an entered page that isn't flushed is the last of its frame: a freed one is
 unflushed_last : (sizes : Sizes) (A : List Step) (q : ℕ) → AreInRange sizes → IsAccepted sizes A → is_entered sizes q A ≡ true → is_flushed sizes q A ≡ false → last_entered sizes (q % sizes.frames) A ≡ Some q
 unflushed_last sizes A q range a e f =
-    unfreed_last sizes A q (page_some sizes range) (frames_some sizes range) a e
+    unfreed_last sizes A q (page_size_some sizes range) (frames_some sizes range) a e
     (false_from_ne_true (is_freed sizes q A) (λ t. both_ways (is_flushed sizes q A) f ((kept sizes A range a).closed_flushed q ((kept sizes A range a).freed_closed q t))))
 
 -- a take leaves another page
@@ -117,7 +117,7 @@ flush_begun-is sizes A q range a h = changed-is sizes A FlushTake q (λ held. re
     parts = next_page-parts (flushing sizes) A (marks (flushing sizes) A) q h
 
     last : last_entered sizes (q % sizes.frames) A ≡ Some q
-    last = unflushed_last sizes A q range a (sealed_entered sizes A q (page_some sizes range) a (ends_below sizes.page_size (safe_read_only A) q parts.0)) parts.1
+    last = unflushed_last sizes A q range a (sealed_entered sizes A q (page_size_some sizes range) a (ends_below sizes.page_size (safe_read_only A) q parts.0)) parts.1
 
     here : marked sizes (A ++ FlushTake ∷ []) q ≡ held_with q (is_flushed sizes q A) true (is_freed sizes q A) (is_cleaning sizes q A)
     here =
@@ -141,7 +141,7 @@ flush_ended-is sizes A q ok range a h = changed-is sizes A (FlushDone q ok) q (�
     unflushed = (kept sizes A range a).in_flight_unflushed q h
 
     last : last_entered sizes (q % sizes.frames) A ≡ Some q
-    last = unflushed_last sizes A q range a (sealed_entered sizes A q (page_some sizes range) a ((kept sizes A range a).in_flight_sealed q h)) unflushed
+    last = unflushed_last sizes A q range a (sealed_entered sizes A q (page_size_some sizes range) a ((kept sizes A range a).in_flight_sealed q h)) unflushed
 
     here : marked sizes (A ++ FlushDone q ok ∷ []) q ≡ held_with q ok false (is_freed sizes q A) (is_cleaning sizes q A)
     here =
@@ -165,7 +165,7 @@ clean_begun-is sizes A q range a h = changed-is sizes A CleanTake q (λ held. re
     parts = next_page-parts (cleaning sizes) A (marks (cleaning sizes) A) q h
 
     last : last_entered sizes (q % sizes.frames) A ≡ Some q
-    last = unfreed_last sizes A q (page_some sizes range) (frames_some sizes range) a (sealed_entered sizes A q (page_some sizes range) a (closed_sealed sizes A q range a (ends_below sizes.page_size (closed A) q parts.0))) parts.1
+    last = unfreed_last sizes A q (page_size_some sizes range) (frames_some sizes range) a (sealed_entered sizes A q (page_size_some sizes range) a (closed_sealed sizes A q range a (ends_below sizes.page_size (closed A) q parts.0))) parts.1
 
     here : marked sizes (A ++ CleanTake ∷ []) q ≡ held_with q (is_flushed sizes q A) (is_in_flight sizes q A) (is_freed sizes q A) true
     here =
@@ -186,7 +186,7 @@ pub clean_ended-is : (sizes : Sizes) (A : List Step) (q : ℕ) → AreInRange si
 clean_ended-is sizes A q range a h = changed-is sizes A (CleanDone q) q (λ held. record held { cleaning = false; freed = true }) range (tail-push sizes A (CleanDone q)) last here others
   where
     last : last_entered sizes (q % sizes.frames) A ≡ Some q
-    last = unfreed_last sizes A q (page_some sizes range) (frames_some sizes range) a (sealed_entered sizes A q (page_some sizes range) a (closed_sealed sizes A q range a ((kept sizes A range a).cleaning_closed q h))) ((kept sizes A range a).cleaning_unfreed q h)
+    last = unfreed_last sizes A q (page_size_some sizes range) (frames_some sizes range) a (sealed_entered sizes A q (page_size_some sizes range) a (closed_sealed sizes A q range a ((kept sizes A range a).cleaning_closed q h))) ((kept sizes A range a).cleaning_unfreed q h)
 
     here : marked sizes (A ++ CleanDone q ∷ []) q ≡ held_with q (is_flushed sizes q A) (is_in_flight sizes q A) true false
     here =

@@ -20,7 +20,7 @@ use Rattle.hl_model.proofs.SearchLaws.{prefix_len-first}
 use Rattle.hl_model.specs.Bases.{marked}
 use Rattle.hl_core.specs.Standing.{pages_entered, pages_of}
 use Rattle.hl_core.proofs.PageRows.{frame_holds}
-use Rattle.hl_core.proofs.PageMarks.{page_some, in_order, is_flushed-is, ahead_unflushed}
+use Rattle.hl_core.proofs.PageMarks.{page_size_some, in_order, is_flushed-is, ahead_unflushed}
 
 -- a page below the number of those that begin below an address begins there
 begins_before : (page_size end q : ℕ) → 0 < page_size → q < (end + page_size - 1) / page_size → q * page_size < end
@@ -79,7 +79,7 @@ run_entered sizes A range a = by_order (cases_lt (pages_entered sizes A) (flushe
   where
     by_order : ((pages_entered sizes A < flushed_run sizes A) ⊎ (flushed_run sizes A ≤ pages_entered sizes A)) → flushed_run sizes A ≤ pages_entered sizes A
     by_order (inl lt) =
-        absurd (both_ways (is_flushed sizes (pages_entered sizes A) A) (ahead_unflushed sizes A (pages_entered sizes A) range a (unentered_end sizes A (page_some sizes range))) (flushed_run-passes sizes A (pages_entered sizes A) lt))
+        absurd (both_ways (is_flushed sizes (pages_entered sizes A) A) (ahead_unflushed sizes A (pages_entered sizes A) range a (unentered_end sizes A (page_size_some sizes range))) (flushed_run-passes sizes A (pages_entered sizes A) lt))
     by_order (inr le) = le
 
 -- the run of flushed pages
@@ -126,4 +126,4 @@ state_same sizes A (Some p) some =
 pub frame_of-is : (sizes : Sizes) (A : List Step) (f : ℕ) → AreInRange sizes → f < sizes.frames → state_of f (safe_read_only A) (closed A) (pages_of sizes A) ≡ frame_of sizes f A
 frame_of-is sizes A f range h =
     ap (λ o. state_in (safe_read_only A / sizes.page_size) (closed A / sizes.page_size) o) (frame_holds sizes A f h)
-    ∙ state_same sizes A (last_entered sizes f A) (page_some sizes range)
+    ∙ state_same sizes A (last_entered sizes f A) (page_size_some sizes range)

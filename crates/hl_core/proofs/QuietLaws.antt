@@ -25,7 +25,7 @@ pub record OffsetsStay (s : Step) : Type 0 where
   pub done : is_done s ≡ false
   pub raised : raised_to s ≡ 0
   pub shifted : shifted_to s ≡ 0
-  pub allocated : (page tail : ℕ) → tail_past page tail s ≡ tail
+  pub allocated : (page_size tail : ℕ) → tail_past page_size tail s ≡ tail
 
 -- a step that takes no page and ends no page's work
 pub record PagesStay (s : Step) : Type 0 where
@@ -36,7 +36,7 @@ pub record PagesStay (s : Step) : Type 0 where
   pub clean_ended : clean_of s ≡ None
   pub freed : (p : ℕ) → frees p s ≡ false
 
-pub tail-stays : (sizes : Sizes) (A : List Step) (s : Step) → ((page tail : ℕ) → tail_past page tail s ≡ tail) → tail sizes (A ++ s ∷ []) ≡ tail sizes A
+pub tail-stays : (sizes : Sizes) (A : List Step) (s : Step) → ((page_size tail : ℕ) → tail_past page_size tail s ≡ tail) → tail sizes (A ++ s ∷ []) ≡ tail sizes A
 tail-stays sizes A s h = tail-push sizes A s ∙ h sizes.page_size (tail sizes A)
 
 -- the offsets after it
@@ -45,5 +45,5 @@ log-stays sizes A s acc h =
     rw (closed-quiet sizes A s acc h.done, head-stay A s h.shifted, safe_read_only-quiet sizes A s acc h.done, read_only-stay A s h.raised, tail-stays sizes A s h.allocated) refl
 
 -- and the pages
-pub pages-stay : (sizes : Sizes) (A : List Step) (s : Step) → ((page tail : ℕ) → tail_past page tail s ≡ tail) → PagesStay s → pages_of sizes (A ++ s ∷ []) ≡ pages_of sizes A
+pub pages-stay : (sizes : Sizes) (A : List Step) (s : Step) → ((page_size tail : ℕ) → tail_past page_size tail s ≡ tail) → PagesStay s → pages_of sizes (A ++ s ∷ []) ≡ pages_of sizes A
 pages-stay sizes A s t h = pages_of-quiet sizes A s (tail-stays sizes A s t) h.flush_taken h.flush_ended h.flushed h.clean_taken h.clean_ended h.freed

@@ -43,12 +43,12 @@ log-nil sizes =
     rw (closed_is, head-nil, safe_is, read_only-nil, tail-nil sizes) refl
 
 entered-nil : (sizes : Sizes) → 0 < sizes.page_size → pages_entered sizes [] ≡ 0
-entered-nil sizes page = ap (λ (n : ℕ). (n + sizes.page_size - 1) / sizes.page_size) (tail-nil sizes) ∙ div-eq_of_lt (omega (arith, page))
+entered-nil sizes page_size = ap (λ (n : ℕ). (n + sizes.page_size - 1) / sizes.page_size) (tail-nil sizes) ∙ div-eq_of_lt (omega (arith, page_size))
 
 pages-nil : (sizes : Sizes) → AreInRange sizes → opened_pages sizes.page_size sizes.frames ≡ pages_of sizes []
 pages-nil sizes r =
-    let page : 0 < sizes.page_size = omega (arith, r.page_size_least) in
-    ap₂ (λ (xs : List (Option Held)) (n : ℕ). record { page_size = sizes.page_size; frames = xs; entered = n }) (row_same (held_of sizes []) None 0 sizes.frames (λ f l u. held_of-nil sizes f page (omega (arith, u)))) (sym (entered-nil sizes page))
+    let page_size : 0 < sizes.page_size = omega (arith, r.page_size_least) in
+    ap₂ (λ (xs : List (Option Held)) (n : ℕ). record { page_size = sizes.page_size; frames = xs; entered = n }) (row_same (held_of sizes []) None 0 sizes.frames (λ f l u. held_of-nil sizes f page_size (omega (arith, u)))) (sym (entered-nil sizes page_size))
 
 -- before the first step
 pub stands_start : {J : Type 0} (tag : J → ℕ) (sizes : Sizes) (slots limit : ℕ) (table : Table) (views : List (Option View)) (drain : Lists J) (offsets : Log) (pages : Pages) → AreInRange sizes → slots ≡ sizes.slots → limit ≡ sizes.drain → table ≡ opened slots epoch_window 1 → views ≡ replicate slots None → drain ≡ record { limit = limit; pending = []; taken = [] } → offsets ≡ started sizes.page_size → pages ≡ opened_pages sizes.page_size sizes.frames → Stands tag (record { sizes = sizes; table = table; views = views; drain = drain; offsets = offsets; pages = pages }) []

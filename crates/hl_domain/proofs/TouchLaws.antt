@@ -44,7 +44,7 @@ pub record IsStill (s : Step) : Type 0 where
   pub leaves_none : (t : ℕ) → leaves t s ≡ false
   pub raises_none : raised_to s ≡ 0
   pub shifts_none : shifted_to s ≡ 0
-  pub tail_stays : (page tail : ℕ) → tail_past page tail s ≡ tail
+  pub tail_stays : (page_size tail : ℕ) → tail_past page_size tail s ≡ tail
   pub frees_none : (p : ℕ) → frees p s ≡ false
   pub acted : is_acted s ≡ true
 

@@ -19,10 +19,10 @@ in_range_if s h =
     let most4 = and_parts _ (leb s.frames 256) least6.0 in
     let least4 = and_parts _ (leb 2 s.frames) most4.0 in
     let power = and_parts _ (is_power_of_two s.page_size) least4.0 in
-    let page = and_parts (leb 4 s.page_size) (leb s.page_size 4096) power.0 in
+    let page_size = and_parts (leb 4 s.page_size) (leb s.page_size 4096) power.0 in
     record {
-      page_size_least = leb-true 4 s.page_size page.0;
-      page_size_most = leb-true s.page_size 4096 page.1;
+      page_size_least = leb-true 4 s.page_size page_size.0;
+      page_size_most = leb-true s.page_size 4096 page_size.1;
       page_size_power = power.1;
       frames_least = leb-true 2 s.frames least4.1;
       frames_most = leb-true s.frames 256 most4.1;

@@ -29,8 +29,8 @@ unfolding slot_of
 slot_of-nil sizes t = rw (is_protected-slot_epoch t [] ∙ ap (λ (o : Option ℕ). is_some o) (slot_epoch-nil t)) refl
 
 pub held_of-nil : (sizes : Sizes) (f : ℕ) → 0 < sizes.page_size → f < sizes.frames → held_of sizes [] f ≡ None
-held_of-nil sizes f page lt =
-    ap (option_map (marked sizes [])) (last_entered-none sizes f [] page lt (ap (ltb (f * sizes.page_size)) (tail-nil sizes) ∙ le-ltb (f * sizes.page_size) 0 (omega arith)))
+held_of-nil sizes f page_size lt =
+    ap (option_map (marked sizes [])) (last_entered-none sizes f [] page_size lt (ap (ltb (f * sizes.page_size)) (tail-nil sizes) ∙ le-ltb (f * sizes.page_size) 0 (omega arith)))
 
 flushed-nil : (sizes : Sizes) → flushed sizes [] ≡ 0
 unfolding flushed_run greatest
@@ -46,9 +46,9 @@ six-nil sizes =
 pub base_of-nil : (sizes : Sizes) → AreInRange sizes → record { sizes = sizes; epoch = 1; slots = replicate sizes.slots None; waiting = []; taken = []; six = record { closed = 0; head = 0; flushed = 0; safe_read_only = 0; read_only = 0; tail = 0 }; frames = replicate sizes.frames None } ≡ base_of sizes []
 unfolding base_of
 base_of-nil sizes r =
-    let page : 0 < sizes.page_size = omega (arith, r.page_size_least) in
+    let page_size : 0 < sizes.page_size = omega (arith, r.page_size_least) in
     let slots = row_same (λ t. slot_of sizes t []) None 0 sizes.slots (λ t l u. slot_of-nil sizes t) in
-    let frames = row_same (held_of sizes []) None 0 sizes.frames (λ f l u. held_of-nil sizes f page (omega (arith, u))) in
+    let frames = row_same (held_of sizes []) None 0 sizes.frames (λ f l u. held_of-nil sizes f page_size (omega (arith, u))) in
     rw (current_epoch-nil, pending-nil, taken-nil, ← slots, ← frames) (ap (λ (z : Six). record { sizes = sizes; epoch = 1; slots = replicate sizes.slots None; waiting = []; taken = []; six = z; frames = replicate sizes.frames None }) (six-nil sizes))
 
 make : ℕ → ℕ → ℕ → ℕ → ℕ → ℕ → Six

@@ -73,8 +73,8 @@ raised_to-le sizes A _ h = omega arith
 
 -- the read-only offset is at most the tail
 pub read_only-le-tail : (sizes : Sizes) (A : List Step) → 0 < sizes.page_size → IsAccepted sizes A → read_only A ≤ tail sizes A
-read_only-le-tail sizes A page = accepted_has sizes (λ A. read_only A ≤ tail sizes A) (omega (arith, read_only-nil))
-    (λ A s a h before. omega (arith, before, read_only-push A s, raised_to-le sizes A s h, tail-grows sizes A s page)) A
+read_only-le-tail sizes A page_size = accepted_has sizes (λ A. read_only A ≤ tail sizes A) (omega (arith, read_only-nil))
+    (λ A s a h before. omega (arith, before, read_only-push A s, raised_to-le sizes A s h, tail-grows sizes A s page_size)) A
 
 -- no record ends above the last address
 tail_past-most : (sizes : Sizes) (A : List Step) (s : Step) → fault_of sizes A s ≡ None → tail sizes A ≤ 2 ^ 48 → tail_past sizes.page_size (tail sizes A) s ≤ 2 ^ 48
@@ -96,7 +96,7 @@ head-append sizes A B a = never_falls head head-grows A B
 
 -- nor the tail
 pub tail-append : (sizes : Sizes) (A B : List Step) → 0 < sizes.page_size → IsAccepted sizes (A ++ B) → tail sizes A ≤ tail sizes (A ++ B)
-tail-append sizes A B page a = never_falls (tail sizes) (λ C s. tail-grows sizes C s page) A B
+tail-append sizes A B page_size a = never_falls (tail sizes) (λ C s. tail-grows sizes C s page_size) A B
 
 -- nor the safe read-only offset
 pub safe_read_only-append : (sizes : Sizes) (A B : List Step) → IsAccepted sizes (A ++ B) → safe_read_only A ≤ safe_read_only (A ++ B)
@@ -201,13 +201,13 @@ allocated sizes X t n Y accepted = size-none sizes.page_size (tail sizes X) n (a
 
 -- each record is on one page
 pub places_are_on_one_page : (sizes : Sizes) (X : List Step) (t n : ℕ) (Y : List Step) → 0 < sizes.page_size → IsAccepted sizes (X ++ Allocate t n ∷ Y) → placed sizes X n / sizes.page_size ≡ (placed sizes X n + n - 1) / sizes.page_size
-places_are_on_one_page sizes X t n Y page accepted =
+places_are_on_one_page sizes X t n Y page_size accepted =
     let size : (0 < n) × (n ≤ sizes.page_size) × (place_of sizes.page_size (tail sizes X) n + n ≤ 2 ^ 48) = allocated sizes X t n Y accepted in
-    place_of-one_page sizes.page_size (tail sizes X) n page size.0 size.1
+    place_of-one_page sizes.page_size (tail sizes X) n page_size size.0 size.1
 
 -- and behind those before
 pub places_are_apart : (sizes : Sizes) (X : List Step) (t n : ℕ) (Y : List Step) (u m : ℕ) (Z : List Step) → 0 < sizes.page_size → IsAccepted sizes ((X ++ Allocate t n ∷ Y) ++ Allocate u m ∷ Z) → placed sizes X n + n ≤ placed sizes (X ++ Allocate t n ∷ Y) m
-places_are_apart sizes X t n Y u m Z page accepted =
+places_are_apart sizes X t n Y u m Z page_size accepted =
     let later : tail sizes (X ++ Allocate t n ∷ []) ≤ tail sizes (X ++ Allocate t n ∷ Y)
-    = subst (λ (L : List Step). tail sizes (X ++ Allocate t n ∷ []) ≤ tail sizes L) (append_assoc X (Allocate t n ∷ []) Y) (never_falls (tail sizes) (λ C s. tail-grows sizes C s page) (X ++ Allocate t n ∷ []) Y) in
-    omega (arith, tail-push sizes X (Allocate t n), later, place_of-le sizes.page_size (tail sizes (X ++ Allocate t n ∷ Y)) m page)
+    = subst (λ (L : List Step). tail sizes (X ++ Allocate t n ∷ []) ≤ tail sizes L) (append_assoc X (Allocate t n ∷ []) Y) (never_falls (tail sizes) (λ C s. tail-grows sizes C s page_size) (X ++ Allocate t n ∷ []) Y) in
+    omega (arith, tail-push sizes X (Allocate t n), later, place_of-le sizes.page_size (tail sizes (X ++ Allocate t n ∷ Y)) m page_size)

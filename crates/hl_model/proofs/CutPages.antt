@@ -90,7 +90,7 @@ flushed_within : (sizes : Sizes) (A : List Step) (p : ℕ) → IsAccepted sizes 
 flushed_within sizes A p a h = by_sizes (paged-cases sizes)
   where
     by_sizes : (((0 < sizes.page_size) × (0 < sizes.frames)) ⊎ IsUnpaged sizes) → p < tail sizes A / sizes.page_size + 1
-    by_sizes (inl (page, frames)) = entered_within sizes p A page (flushed_entered sizes A p page a h)
+    by_sizes (inl (page_size, frames)) = entered_within sizes p A page_size (flushed_entered sizes A p page_size a h)
     by_sizes (inr none) = absurd (both_ways (is_flushed sizes p A) ((no_pages sizes A none a).unflushed p) h)
 
 -- nor is one beyond the greatest flushed since

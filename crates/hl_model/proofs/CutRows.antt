@@ -38,7 +38,7 @@ held_in-none sizes A p empty = by_order (cases_lt 0 sizes.frames)
 -- what a page's frame holds: the page; a later page, with the frame's next one entered; or, where the page isn't
 -- entered, nothing or an earlier one
 by_place : (sizes : Sizes) (A : List Step) (p : ℕ) (P : Option Held → Type 0) → 0 < sizes.page_size → 0 < sizes.frames → P (Some (marked sizes A p)) → ((q : ℕ) → is_entered sizes (p + sizes.frames) A ≡ true → p < q → P (Some (marked sizes A q))) → (is_entered sizes p A ≡ false → P None) → ((q : ℕ) → is_entered sizes p A ≡ false → q < p → P (Some (marked sizes A q))) → P (held_in (base_of sizes A) p)
-by_place sizes A p P page frames lies left empty ahead = subst P (sym (held_in-is sizes A p frames)) (by_case (last_entered-cases sizes (p % sizes.frames) A page (mod-lt p frames)))
+by_place sizes A p P page_size frames lies left empty ahead = subst P (sym (held_in-is sizes A p frames)) (by_case (last_entered-cases sizes (p % sizes.frames) A page_size (mod-lt p frames)))
   where
     by_order : (q : ℕ) → IsLastOf sizes (p % sizes.frames) q A → ((p ≡ q) ⊎ ((p < q) ⊎ (q < p))) → P (Some (marked sizes A q))
     by_order q last (inl same) = subst (λ (r : ℕ). P (Some (marked sizes A r))) same lies
@@ -47,10 +47,10 @@ by_place sizes A p P page frames lies left empty ahead = subst P (sym (held_in-i
 
     by_case : ((is_entered sizes (p % sizes.frames) A ≡ false) ⊎ ((q : ℕ) × IsLastOf sizes (p % sizes.frames) q A)) → P (held_of sizes A (p % sizes.frames))
     by_case (inl e) =
-        subst (λ (o : Option ℕ). P (option_map (marked sizes A) o)) (sym (last_entered-none sizes (p % sizes.frames) A page (mod-lt p frames) e))
+        subst (λ (o : Option ℕ). P (option_map (marked sizes A) o)) (sym (last_entered-none sizes (p % sizes.frames) A page_size (mod-lt p frames) e))
         (empty (unentered_above sizes (p % sizes.frames) p A e (mod-le p sizes.frames)))
     by_case (inr (q, last)) =
-        let is : last_entered sizes (p % sizes.frames) A ≡ Some q = last_entered-is sizes (p % sizes.frames) q A page frames last.entered last.of_frame last.next_not in
+        let is : last_entered sizes (p % sizes.frames) A ≡ Some q = last_entered-is sizes (p % sizes.frames) q A page_size frames last.entered last.of_frame last.next_not in
         subst (λ (o : Option ℕ). P (option_map (marked sizes A) o)) (sym is) (by_order q last (cases_order p q))
 
 -- a page's own mark counts
@@ -63,8 +63,8 @@ own_core p m b h = rw (eq-eqb p p refl) h
 
 -- a mark that each page has that left its frame, and none that isn't entered
 completed_in-is : (sizes : Sizes) (A : List Step) (p : ℕ) (mark : Held → Bool) (b : Bool) → 0 < sizes.page_size → 0 < sizes.frames → mark (marked sizes A p) ≡ b → (is_entered sizes (p + sizes.frames) A ≡ true → b ≡ true) → (is_entered sizes p A ≡ false → b ≡ false) → completed_in mark p (held_in (base_of sizes A) p) ≡ b
-completed_in-is sizes A p mark b page frames here gone ahead =
-    by_place sizes A p (λ o. completed_in mark p o ≡ b) page frames
+completed_in-is sizes A p mark b page_size frames here gone ahead =
+    by_place sizes A p (λ o. completed_in mark p o ≡ b) page_size frames
     (here_core p (mark (marked sizes A p)) b here)
     (λ q e lt. or_left (ltb p q) (p == q && mark (marked sizes A q)) (lt-ltb p q lt) ∙ sym (gone e))
     (λ e. sym (ahead e))
@@ -72,8 +72,8 @@ completed_in-is sizes A p mark b page frames here gone ahead =
 
 -- a mark that no page has but one that its frame holds
 marked_in-is : (sizes : Sizes) (A : List Step) (p : ℕ) (mark : Held → Bool) (b : Bool) → 0 < sizes.page_size → 0 < sizes.frames → mark (marked sizes A p) ≡ b → (is_entered sizes (p + sizes.frames) A ≡ true → b ≡ false) → (is_entered sizes p A ≡ false → b ≡ false) → marked_in mark p (held_in (base_of sizes A) p) ≡ b
-marked_in-is sizes A p mark b page frames here gone ahead =
-    by_place sizes A p (λ o. marked_in mark p o ≡ b) page frames
+marked_in-is sizes A p mark b page_size frames here gone ahead =
+    by_place sizes A p (λ o. marked_in mark p o ≡ b) page_size frames
     (own_core p (mark (marked sizes A p)) b here)
     (λ q e lt. and_left (p == q) (mark (marked sizes A q)) (ne_eqb p q (λ same. omega (arith, lt, same))) ∙ sym (gone e))
     (λ e. sym (ahead e))
@@ -81,19 +81,19 @@ marked_in-is sizes A p mark b page frames here gone ahead =
 
 -- a page that left its frame was freed
 left_freed : (sizes : Sizes) (A : List Step) (p : ℕ) → 0 < sizes.page_size → IsAccepted sizes A → is_entered sizes (p + sizes.frames) A ≡ true → is_freed sizes p A ≡ true
-left_freed sizes A p page a e =
+left_freed sizes A p page_size a e =
     let back : (p + sizes.frames) - sizes.frames ≡ p = omega arith in
-    ap (λ q. is_freed sizes q A) (sym back) ∙ round_freed sizes (p + sizes.frames) page (omega arith) A a e
+    ap (λ q. is_freed sizes q A) (sym back) ∙ round_freed sizes (p + sizes.frames) page_size (omega arith) A a e
 
 -- the flushed pages
 pub flushed_in-is : (sizes : Sizes) (A : List Step) (p : ℕ) → IsAccepted sizes A → flushed_in (base_of sizes A) p ≡ is_flushed sizes p A
 flushed_in-is sizes A p a = by_sizes (paged-cases sizes)
   where
     by_sizes : (((0 < sizes.page_size) × (0 < sizes.frames)) ⊎ IsUnpaged sizes) → flushed_in (base_of sizes A) p ≡ is_flushed sizes p A
-    by_sizes (inl (page, frames)) =
-        completed_in-is sizes A p (λ held. held.flushed) (is_flushed sizes p A) page frames refl
-        (λ e. freed_flushed sizes A p page a (left_freed sizes A p page a e))
-        (λ e. false_from_ne_true (is_flushed sizes p A) (λ h. both_ways (is_entered sizes p A) e (flushed_entered sizes A p page a h)))
+    by_sizes (inl (page_size, frames)) =
+        completed_in-is sizes A p (λ held. held.flushed) (is_flushed sizes p A) page_size frames refl
+        (λ e. freed_flushed sizes A p page_size a (left_freed sizes A p page_size a e))
+        (λ e. false_from_ne_true (is_flushed sizes p A) (λ h. both_ways (is_entered sizes p A) e (flushed_entered sizes A p page_size a h)))
     by_sizes (inr none) =
         let empty : NoPages sizes A = no_pages sizes A none a in
         ap (completed_in (λ held. held.flushed) p) (held_in-none sizes A p empty) ∙ sym (empty.unflushed p)
@@ -103,10 +103,10 @@ pub freed_in-is : (sizes : Sizes) (A : List Step) (p : ℕ) → IsAccepted sizes
 freed_in-is sizes A p a = by_sizes (paged-cases sizes)
   where
     by_sizes : (((0 < sizes.page_size) × (0 < sizes.frames)) ⊎ IsUnpaged sizes) → freed_in (base_of sizes A) p ≡ is_freed sizes p A
-    by_sizes (inl (page, frames)) =
-        completed_in-is sizes A p (λ held. held.freed) (is_freed sizes p A) page frames refl
-        (λ e. left_freed sizes A p page a e)
-        (λ e. false_from_ne_true (is_freed sizes p A) (λ h. both_ways (is_entered sizes p A) e (flushed_entered sizes A p page a (freed_flushed sizes A p page a h))))
+    by_sizes (inl (page_size, frames)) =
+        completed_in-is sizes A p (λ held. held.freed) (is_freed sizes p A) page_size frames refl
+        (λ e. left_freed sizes A p page_size a e)
+        (λ e. false_from_ne_true (is_freed sizes p A) (λ h. both_ways (is_entered sizes p A) e (flushed_entered sizes A p page_size a (freed_flushed sizes A p page_size a h))))
     by_sizes (inr none) =
         let empty : NoPages sizes A = no_pages sizes A none a in
         ap (completed_in (λ held. held.freed) p) (held_in-none sizes A p empty) ∙ sym (empty.unfreed p)
@@ -116,10 +116,10 @@ pub in_flight_in-is : (sizes : Sizes) (A : List Step) (p : ℕ) → IsAccepted s
 in_flight_in-is sizes A p a = by_sizes (paged-cases sizes)
   where
     by_sizes : (((0 < sizes.page_size) × (0 < sizes.frames)) ⊎ IsUnpaged sizes) → in_flight_in (base_of sizes A) p ≡ is_in_flight sizes p A
-    by_sizes (inl (page, frames)) =
-        marked_in-is sizes A p (λ held. held.in_flight) (is_in_flight sizes p A) page frames refl
-        (λ e. false_from_ne_true (is_in_flight sizes p A) (λ h. both_ways (is_freed sizes p A) (in_flight_unfreed sizes A p page a h) (left_freed sizes A p page a e)))
-        (λ e. false_from_ne_true (is_in_flight sizes p A) (λ h. both_ways (is_entered sizes p A) e (sealed_entered sizes A p page a (in_flight_sealed sizes A p page a h))))
+    by_sizes (inl (page_size, frames)) =
+        marked_in-is sizes A p (λ held. held.in_flight) (is_in_flight sizes p A) page_size frames refl
+        (λ e. false_from_ne_true (is_in_flight sizes p A) (λ h. both_ways (is_freed sizes p A) (in_flight_unfreed sizes A p page_size a h) (left_freed sizes A p page_size a e)))
+        (λ e. false_from_ne_true (is_in_flight sizes p A) (λ h. both_ways (is_entered sizes p A) e (sealed_entered sizes A p page_size a (in_flight_sealed sizes A p page_size a h))))
     by_sizes (inr none) =
         let empty : NoPages sizes A = no_pages sizes A none a in
         ap (marked_in (λ held. held.in_flight) p) (held_in-none sizes A p empty) ∙ sym (empty.not_in_flight p)
@@ -129,10 +129,10 @@ pub cleaning_in-is : (sizes : Sizes) (A : List Step) (p : ℕ) → IsAccepted si
 cleaning_in-is sizes A p a = by_sizes (paged-cases sizes)
   where
     by_sizes : (((0 < sizes.page_size) × (0 < sizes.frames)) ⊎ IsUnpaged sizes) → cleaning_in (base_of sizes A) p ≡ is_cleaning sizes p A
-    by_sizes (inl (page, frames)) =
-        marked_in-is sizes A p (λ held. held.cleaning) (is_cleaning sizes p A) page frames refl
-        (λ e. false_from_ne_true (is_cleaning sizes p A) (λ h. both_ways (is_freed sizes p A) (cleaning_unfreed sizes A p page a h) (left_freed sizes A p page a e)))
-        (λ e. false_from_ne_true (is_cleaning sizes p A) (λ h. both_ways (is_entered sizes p A) e (flushed_entered sizes A p page a (cleaning_flushed sizes A p page a h))))
+    by_sizes (inl (page_size, frames)) =
+        marked_in-is sizes A p (λ held. held.cleaning) (is_cleaning sizes p A) page_size frames refl
+        (λ e. false_from_ne_true (is_cleaning sizes p A) (λ h. both_ways (is_freed sizes p A) (cleaning_unfreed sizes A p page_size a h) (left_freed sizes A p page_size a e)))
+        (λ e. false_from_ne_true (is_cleaning sizes p A) (λ h. both_ways (is_entered sizes p A) e (flushed_entered sizes A p page_size a (cleaning_flushed sizes A p page_size a h))))
     by_sizes (inr none) =
         let empty : NoPages sizes A = no_pages sizes A none a in
         ap (marked_in (λ held. held.cleaning) p) (held_in-none sizes A p empty) ∙ sym (empty.not_cleaning p)

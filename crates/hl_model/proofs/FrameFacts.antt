@@ -47,14 +47,14 @@ unfreed_next sizes A p some a h = false_from_ne_true (is_entered sizes (p + size
 
 -- an entered page that isn't freed is the last of its frame
 pub unfreed_last : (sizes : Sizes) (A : List Step) (p : ℕ) → 0 < sizes.page_size → 0 < sizes.frames → IsAccepted sizes A → is_entered sizes p A ≡ true → is_freed sizes p A ≡ false → last_entered sizes (p % sizes.frames) A ≡ Some p
-unfreed_last sizes A p page frames a e h = last_entered-is sizes (p % sizes.frames) p A page frames e refl (unfreed_next sizes A p page a h)
+unfreed_last sizes A p page_size frames a e h = last_entered-is sizes (p % sizes.frames) p A page_size frames e refl (unfreed_next sizes A p page_size a h)
 
 -- a page in flight is the last of its frame
 pub in_flight_last : (sizes : Sizes) (A : List Step) (p : ℕ) → 0 < sizes.page_size → 0 < sizes.frames → IsAccepted sizes A → is_in_flight sizes p A ≡ true → last_entered sizes (p % sizes.frames) A ≡ Some p
-in_flight_last sizes A p page frames a h =
-    unfreed_last sizes A p page frames a (sealed_entered sizes A p page a (in_flight_sealed sizes A p page a h)) (in_flight_unfreed sizes A p page a h)
+in_flight_last sizes A p page_size frames a h =
+    unfreed_last sizes A p page_size frames a (sealed_entered sizes A p page_size a (in_flight_sealed sizes A p page_size a h)) (in_flight_unfreed sizes A p page_size a h)
 
 -- so is a page that is being cleaned
 pub cleaning_last : (sizes : Sizes) (A : List Step) (p : ℕ) → 0 < sizes.page_size → 0 < sizes.frames → IsAccepted sizes A → is_cleaning sizes p A ≡ true → last_entered sizes (p % sizes.frames) A ≡ Some p
-cleaning_last sizes A p page frames a h =
-    unfreed_last sizes A p page frames a (flushed_entered sizes A p page a (cleaning_flushed sizes A p page a h)) (cleaning_unfreed sizes A p page a h)
+cleaning_last sizes A p page_size frames a h =
+    unfreed_last sizes A p page_size frames a (flushed_entered sizes A p page_size a (cleaning_flushed sizes A p page_size a h)) (cleaning_unfreed sizes A p page_size a h)

@@ -53,8 +53,8 @@ entered_within sizes p A some e = page_below p (tail sizes A) sizes.page_size so
 -- an entered page whose frame's next one isn't entered is the frame's last
 pub last_entered-is : (sizes : Sizes) (f p : ℕ) (A : List Step) → 0 < sizes.page_size → 0 < sizes.frames → is_entered sizes p A ≡ true → p % sizes.frames ≡ f → is_entered sizes (p + sizes.frames) A ≡ false → last_entered sizes f A ≡ Some p
 unfolding last_entered
-last_entered-is sizes f p A page frames e same next =
-    greatest_below-is (is_entered_in sizes f A) (tail sizes A / sizes.page_size + 1) p (entered_within sizes p A page e)
+last_entered-is sizes f p A page_size frames e same next =
+    greatest_below-is (is_entered_in sizes f A) (tail sizes A / sizes.page_size + 1) p (entered_within sizes p A page_size e)
     (and_from (is_entered sizes p A) (p % sizes.frames == f) e (eq-eqb (p % sizes.frames) f same))
     (λ m lt within. later m lt (cases_eq (m % sizes.frames) f))
   where
@@ -67,7 +67,7 @@ last_entered-is sizes f p A page frames e same next =
 -- a frame whose first page isn't entered has none
 pub last_entered-none : (sizes : Sizes) (f : ℕ) (A : List Step) → 0 < sizes.page_size → f < sizes.frames → is_entered sizes f A ≡ false → last_entered sizes f A ≡ None
 unfolding last_entered
-last_entered-none sizes f A page within e =
+last_entered-none sizes f A page_size within e =
     greatest_below-nothing (is_entered_in sizes f A) (tail sizes A / sizes.page_size + 1) (λ m lt. nothing m (cases_eq (m % sizes.frames) f))
   where
     nothing : (m : ℕ) → ((m % sizes.frames ≡ f) ⊎ (m % sizes.frames ≡ f → ⊥)) → (is_entered sizes m A && m % sizes.frames == f) ≡ false
@@ -83,7 +83,7 @@ pub record IsLastOf (sizes : Sizes) (f p : ℕ) (A : List Step) : Type 0 where
 -- what the last entered page of a frame is
 pub last_entered-some : (sizes : Sizes) (f p : ℕ) (A : List Step) → 0 < sizes.page_size → 0 < sizes.frames → last_entered sizes f A ≡ Some p → IsLastOf sizes f p A
 unfolding last_entered
-last_entered-some sizes f p A page frames h = record { of_frame = there; entered = parts.0; next_not = false_from_ne_true (is_entered sizes (p + sizes.frames) A) no_later }
+last_entered-some sizes f p A page_size frames h = record { of_frame = there; entered = parts.0; next_not = false_from_ne_true (is_entered sizes (p + sizes.frames) A) no_later }
   where
     parts : (is_entered sizes p A ≡ true) × ((p % sizes.frames == f) ≡ true)
     parts = and_parts (is_entered sizes p A) (p % sizes.frames == f) (greatest_below-passes (is_entered_in sizes f A) (tail sizes A / sizes.page_size + 1) p h).0
@@ -94,27 +94,27 @@ last_entered-some sizes f p A page frames h = record { of_frame = there; entered
     no_later : is_entered sizes (p + sizes.frames) A ≡ true → ⊥
     no_later t =
         let same : (p + sizes.frames) % sizes.frames ≡ f = add-mod_right p sizes.frames ∙ there in
-        let most : p + sizes.frames ≤ p = greatest_below-most (is_entered_in sizes f A) (tail sizes A / sizes.page_size + 1) p (p + sizes.frames) h (entered_within sizes (p + sizes.frames) A page t) (and_from (is_entered sizes (p + sizes.frames) A) ((p + sizes.frames) % sizes.frames == f) t (eq-eqb ((p + sizes.frames) % sizes.frames) f same)) in
+        let most : p + sizes.frames ≤ p = greatest_below-most (is_entered_in sizes f A) (tail sizes A / sizes.page_size + 1) p (p + sizes.frames) h (entered_within sizes (p + sizes.frames) A page_size t) (and_from (is_entered sizes (p + sizes.frames) A) ((p + sizes.frames) % sizes.frames == f) t (eq-eqb ((p + sizes.frames) % sizes.frames) f same)) in
         omega arith
 
 unentered_none : (sizes : Sizes) (f : ℕ) (A : List Step) → 0 < sizes.page_size → f < sizes.frames → last_entered sizes f A ≡ None → is_entered sizes f A ≡ false
 unfolding last_entered
-unentered_none sizes f A page within h = false_from_ne_true (is_entered sizes f A) no_first
+unentered_none sizes f A page_size within h = false_from_ne_true (is_entered sizes f A) no_first
   where
     no_first : is_entered sizes f A ≡ true → ⊥
     no_first t =
         both_ways (is_entered sizes f A && f % sizes.frames == f)
-        (greatest_below-none (is_entered_in sizes f A) (tail sizes A / sizes.page_size + 1) f h (entered_within sizes f A page t))
+        (greatest_below-none (is_entered_in sizes f A) (tail sizes A / sizes.page_size + 1) f h (entered_within sizes f A page_size t))
         (and_from (is_entered sizes f A) (f % sizes.frames == f) t (eq-eqb (f % sizes.frames) f (mod-eq_of_lt within)))
 
 -- a frame has no entered page, or a last one
 pub last_entered-cases : (sizes : Sizes) (f : ℕ) (A : List Step) → 0 < sizes.page_size → f < sizes.frames → (is_entered sizes f A ≡ false) ⊎ ((p : ℕ) × IsLastOf sizes f p A)
-last_entered-cases sizes f A page within = by_result (last_entered sizes f A) refl (cases_Bool (is_entered sizes f A))
+last_entered-cases sizes f A page_size within = by_result (last_entered sizes f A) refl (cases_Bool (is_entered sizes f A))
   where
     by_result : (o : Option ℕ) → last_entered sizes f A ≡ o → ((is_entered sizes f A ≡ true) ⊎ (is_entered sizes f A ≡ false)) → (is_entered sizes f A ≡ false) ⊎ ((p : ℕ) × IsLastOf sizes f p A)
-    by_result (Some p) h e = inr (p, last_entered-some sizes f p A page (omega arith) h)
+    by_result (Some p) h e = inr (p, last_entered-some sizes f p A page_size (omega arith) h)
     by_result None h (inr e) = inl e
-    by_result None h (inl e) = absurd (both_ways (is_entered sizes f A) (unentered_none sizes f A page within h) e)
+    by_result None h (inl e) = absurd (both_ways (is_entered sizes f A) (unentered_none sizes f A page_size within h) e)
 
 before_core : (page_size end n p : ℕ) → 0 < page_size → n ≤ page_size → (b : Bool) → leb (end % page_size + n) page_size ≡ b → p < cond b end ((end / page_size + 1) * page_size) / page_size → p * page_size < end
 before_core page_size end n p some most true e lt =
@@ -204,36 +204,36 @@ entered_before sizes p A n some most lt = lt-ltb (p * sizes.page_size) (tail siz
 
 -- an allocation that enters a page makes it the last of its frame
 pub last_entered-enter : (sizes : Sizes) (A : List Step) (t n : ℕ) → 0 < sizes.page_size → 0 < sizes.frames → HasRoom sizes A n → is_entered sizes (place_of sizes.page_size (tail sizes A) n / sizes.page_size) A ≡ false → last_entered sizes (place_of sizes.page_size (tail sizes A) n / sizes.page_size % sizes.frames) (A ++ Allocate t n ∷ []) ≡ Some (place_of sizes.page_size (tail sizes A) n / sizes.page_size)
-last_entered-enter sizes A t n page frames room fresh = last_entered-is sizes (q % sizes.frames) q (A ++ Allocate t n ∷ []) page frames here refl later
+last_entered-enter sizes A t n page_size frames room fresh = last_entered-is sizes (q % sizes.frames) q (A ++ Allocate t n ∷ []) page_size frames here refl later
   where
     q : ℕ
     q = place_of sizes.page_size (tail sizes A) n / sizes.page_size
 
     here : is_entered sizes q (A ++ Allocate t n ∷ []) ≡ true
-    here = is_entered-allocate sizes q A t n page room.least room.most ∙ or_right (is_entered sizes q A) (q == q) (eq-eqb q q refl)
+    here = is_entered-allocate sizes q A t n page_size room.least room.most ∙ or_right (is_entered sizes q A) (q == q) (eq-eqb q q refl)
 
     later : is_entered sizes (q + sizes.frames) (A ++ Allocate t n ∷ []) ≡ false
     later =
-        is_entered-allocate sizes (q + sizes.frames) A t n page room.least room.most
+        is_entered-allocate sizes (q + sizes.frames) A t n page_size room.least room.most
         ∙ or_from (is_entered sizes (q + sizes.frames) A) (q + sizes.frames == q) (unentered_above sizes q (q + sizes.frames) A fresh (omega arith)) (ne_eqb (q + sizes.frames) q (λ e. omega arith))
 
 -- and leaves the last pages of other frames
 pub last_entered-other : (sizes : Sizes) (f : ℕ) (A : List Step) (t n : ℕ) → 0 < sizes.page_size → f < sizes.frames → HasRoom sizes A n → (place_of sizes.page_size (tail sizes A) n / sizes.page_size % sizes.frames ≡ f → ⊥) → last_entered sizes f (A ++ Allocate t n ∷ []) ≡ last_entered sizes f A
-last_entered-other sizes f A t n page within room ne = by_case (last_entered-cases sizes f A page within)
+last_entered-other sizes f A t n page_size within room ne = by_case (last_entered-cases sizes f A page_size within)
   where
     q : ℕ
     q = place_of sizes.page_size (tail sizes A) n / sizes.page_size
 
     same : (p : ℕ) → p % sizes.frames ≡ f → is_entered sizes p (A ++ Allocate t n ∷ []) ≡ is_entered sizes p A
     same p there =
-        is_entered-allocate sizes p A t n page room.least room.most
+        is_entered-allocate sizes p A t n page_size room.least room.most
         ∙ ap (λ b. is_entered sizes p A || b) (ne_eqb p q (λ e. ne (ap (λ x. x % sizes.frames) (sym e) ∙ there)))
         ∙ or-false (is_entered sizes p A)
 
     by_case : ((is_entered sizes f A ≡ false) ⊎ ((p : ℕ) × IsLastOf sizes f p A)) → last_entered sizes f (A ++ Allocate t n ∷ []) ≡ last_entered sizes f A
     by_case (inl unused) =
-        last_entered-none sizes f (A ++ Allocate t n ∷ []) page within (same f (mod-eq_of_lt within) ∙ unused)
-        ∙ sym (last_entered-none sizes f A page within unused)
+        last_entered-none sizes f (A ++ Allocate t n ∷ []) page_size within (same f (mod-eq_of_lt within) ∙ unused)
+        ∙ sym (last_entered-none sizes f A page_size within unused)
     by_case (inr last) =
-        last_entered-is sizes f last.0 (A ++ Allocate t n ∷ []) page (omega arith) (same last.0 last.1.of_frame ∙ last.1.entered) last.1.of_frame (same (last.0 + sizes.frames) (add-mod_right last.0 sizes.frames ∙ last.1.of_frame) ∙ last.1.next_not)
-        ∙ sym (last_entered-is sizes f last.0 A page (omega arith) last.1.entered last.1.of_frame last.1.next_not)
+        last_entered-is sizes f last.0 (A ++ Allocate t n ∷ []) page_size (omega arith) (same last.0 last.1.of_frame ∙ last.1.entered) last.1.of_frame (same (last.0 + sizes.frames) (add-mod_right last.0 sizes.frames ∙ last.1.of_frame) ∙ last.1.next_not)
+        ∙ sym (last_entered-is sizes f last.0 A page_size (omega arith) last.1.entered last.1.of_frame last.1.next_not)

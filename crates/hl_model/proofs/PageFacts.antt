@@ -244,13 +244,13 @@ pub record PagesKept (sizes : Sizes) (A : List Step) : Type 0 where
 
 -- all of it
 pub pages_kept : (sizes : Sizes) (A : List Step) → 0 < sizes.page_size → 0 < sizes.frames → IsAccepted sizes A → PagesKept sizes A
-pages_kept sizes A page frames a = record {
-  flushed_sealed = λ p. flushed_sealed sizes A p page a;
-  in_flight_sealed = λ p. in_flight_sealed sizes A p page a;
-  in_flight_unflushed = λ p. in_flight_unflushed sizes A p page a;
-  freed_closed = λ p. freed_closed sizes A p page a;
-  cleaning_closed = λ p. cleaning_closed sizes A p page a;
-  cleaning_unfreed = λ p. cleaning_unfreed sizes A p page a;
-  closed_flushed = λ p. closed_flushed sizes A p page a;
-  round_freed = λ q le. round_freed sizes q page le A a;
+pages_kept sizes A page_size frames a = record {
+  flushed_sealed = λ p. flushed_sealed sizes A p page_size a;
+  in_flight_sealed = λ p. in_flight_sealed sizes A p page_size a;
+  in_flight_unflushed = λ p. in_flight_unflushed sizes A p page_size a;
+  freed_closed = λ p. freed_closed sizes A p page_size a;
+  cleaning_closed = λ p. cleaning_closed sizes A p page_size a;
+  cleaning_unfreed = λ p. cleaning_unfreed sizes A p page_size a;
+  closed_flushed = λ p. closed_flushed sizes A p page_size a;
+  round_freed = λ q le. round_freed sizes q page_size le A a;
 }

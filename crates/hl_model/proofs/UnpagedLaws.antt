@@ -27,9 +27,9 @@ pub paged-cases : (sizes : Sizes) → ((0 < sizes.page_size) × (0 < sizes.frame
 paged-cases sizes = by_order (cases_lt 0 sizes.page_size) (cases_lt 0 sizes.frames)
   where
     by_order : ((0 < sizes.page_size) ⊎ (sizes.page_size ≤ 0)) → ((0 < sizes.frames) ⊎ (sizes.frames ≤ 0)) → ((0 < sizes.page_size) × (0 < sizes.frames)) ⊎ IsUnpaged sizes
-    by_order (inl page) (inl frames) = inl (page, frames)
+    by_order (inl page_size) (inl frames) = inl (page_size, frames)
     by_order (inr none) frames = inr (inl (omega (arith, none)))
-    by_order page (inr none) = inr (inr (omega (arith, none)))
+    by_order page_size (inr none) = inr (inr (omega (arith, none)))
 
 -- nothing is entered, flushed, in flight, freed or being cleaned
 pub record NoPages (sizes : Sizes) (A : List Step) : Type 0 where
@@ -76,7 +76,7 @@ without_words sizes h A t n a none f = let room : HasRoom sizes A n = allocate-r
 
 -- without frames no page may be entered
 without_frames : (sizes : Sizes) → 0 < sizes.page_size → sizes.frames ≡ 0 → (A : List Step) (t n : ℕ) → IsAccepted sizes A → tail sizes A ≡ 0 → fault_of sizes A (Allocate t n) ≡ None → ⊥
-without_frames sizes page h A t n a none f = by_part (or_cases (is_entered sizes q A) (may_enter sizes q A) (allocate-room sizes A t n f).enters)
+without_frames sizes page_size h A t n a none f = by_part (or_cases (is_entered sizes q A) (may_enter sizes q A) (allocate-room sizes A t n f).enters)
   where
     q : ℕ
     q = place_of sizes.page_size (tail sizes A) n / sizes.page_size
@@ -85,16 +85,16 @@ without_frames sizes page h A t n a none f = by_part (or_cases (is_entered sizes
     by_part (inl e) = both_ways (is_entered sizes q A) (unentered sizes A q none) e
     by_part (inr m) =
         let freed : is_freed sizes (q - sizes.frames) A ≡ true = may_enter-freed sizes q A (omega (arith, h)) m in
-        both_ways (is_entered sizes (q - sizes.frames) A) (unentered sizes A (q - sizes.frames) none) (flushed_entered sizes A (q - sizes.frames) page a (freed_flushed sizes A (q - sizes.frames) page a freed))
+        both_ways (is_entered sizes (q - sizes.frames) A) (unentered sizes A (q - sizes.frames) none) (flushed_entered sizes A (q - sizes.frames) page_size a (freed_flushed sizes A (q - sizes.frames) page_size a freed))
 
 -- where no page is entered there are none
 unentered_none : (sizes : Sizes) (A : List Step) → 0 < sizes.page_size → IsAccepted sizes A → tail sizes A ≡ 0 → NoPages sizes A
-unentered_none sizes A page a none = record {
+unentered_none sizes A page_size a none = record {
   tail_none = none;
-  unflushed = λ p. false_from_ne_true (is_flushed sizes p A) (λ h. both_ways (is_entered sizes p A) (unentered sizes A p none) (flushed_entered sizes A p page a h));
-  not_in_flight = λ p. false_from_ne_true (is_in_flight sizes p A) (λ h. both_ways (is_entered sizes p A) (unentered sizes A p none) (sealed_entered sizes A p page a (in_flight_sealed sizes A p page a h)));
-  unfreed = λ p. false_from_ne_true (is_freed sizes p A) (λ h. both_ways (is_entered sizes p A) (unentered sizes A p none) (flushed_entered sizes A p page a (freed_flushed sizes A p page a h)));
-  not_cleaning = λ p. false_from_ne_true (is_cleaning sizes p A) (λ h. both_ways (is_entered sizes p A) (unentered sizes A p none) (flushed_entered sizes A p page a (cleaning_flushed sizes A p page a h)));
+  unflushed = λ p. false_from_ne_true (is_flushed sizes p A) (λ h. both_ways (is_entered sizes p A) (unentered sizes A p none) (flushed_entered sizes A p page_size a h));
+  not_in_flight = λ p. false_from_ne_true (is_in_flight sizes p A) (λ h. both_ways (is_entered sizes p A) (unentered sizes A p none) (sealed_entered sizes A p page_size a (in_flight_sealed sizes A p page_size a h)));
+  unfreed = λ p. false_from_ne_true (is_freed sizes p A) (λ h. both_ways (is_entered sizes p A) (unentered sizes A p none) (flushed_entered sizes A p page_size a (freed_flushed sizes A p page_size a h)));
+  not_cleaning = λ p. false_from_ne_true (is_cleaning sizes p A) (λ h. both_ways (is_entered sizes p A) (unentered sizes A p none) (flushed_entered sizes A p page_size a (cleaning_flushed sizes A p page_size a h)));
 }
 
 -- nor where there are no words
@@ -113,7 +113,7 @@ no_pages sizes A (inl h) a = wordless_none sizes A h a
 no_pages sizes A (inr h) a = by_order (cases_lt 0 sizes.page_size)
   where
     by_order : ((0 < sizes.page_size) ⊎ (sizes.page_size ≤ 0)) → NoPages sizes A
-    by_order (inl page) = unentered_none sizes A page a (tail-stays sizes (without_frames sizes page h) A a)
+    by_order (inl page_size) = unentered_none sizes A page_size a (tail-stays sizes (without_frames sizes page_size h) A a)
     by_order (inr none) = wordless_none sizes A (omega (arith, none)) a
 
 -- and no frame has a last one

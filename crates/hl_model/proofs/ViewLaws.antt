@@ -74,9 +74,9 @@ enters-shifted_to : (t : ℕ) (s : Step) → enters t s ≡ true → shifted_to 
 enters-shifted_to t (Shift x) h = cc
 enters-shifted_to t _ h = refl
 
-enters-tail_past : (page tail t : ℕ) (s : Step) → enters t s ≡ true → tail_past page tail s ≡ tail
-enters-tail_past page tail t (Allocate u n) h = cc
-enters-tail_past page tail t _ h = refl
+enters-tail_past : (page_size tail t : ℕ) (s : Step) → enters t s ≡ true → tail_past page_size tail s ≡ tail
+enters-tail_past page_size tail t (Allocate u n) h = cc
+enters-tail_past page_size tail t _ h = refl
 
 -- the read-only offset that a slot saw, with one step more
 pub seen_read_only-enters : (t : ℕ) (A : List Step) (s : Step) → enters t s ≡ true → seen_read_only t (A ++ s ∷ []) ≡ read_only A

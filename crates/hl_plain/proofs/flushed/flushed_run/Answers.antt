@@ -11,8 +11,8 @@ loop-p-preserved c = below_more _ _ c.loop-p.invariant (sym c.runs_at.ensures �
 
 pub returns : goal.returns
 returns c =
-    let page : c.page_size-pages.result ≡ c.args.base.now.sizes.page_size = c.page_size-pages.ensures.value ∙ ap (λ s. s.page_size) c.params.ensures in
-    let some : 0 < c.args.base.now.sizes.page_size = omega (arith, c.page_size-pages.ensures.valid.page_size_least, page, c.page_size-pages.ensures.value) in
-    let same : 281474976710656 / c.page_size-pages.result ≡ 281474976710656 / c.args.base.now.sizes.page_size = ap (λ n. 281474976710656 / n) page in
+    let page_size : c.page_size-pages.result ≡ c.args.base.now.sizes.page_size = c.page_size-pages.ensures.value ∙ ap (λ s. s.page_size) c.params.ensures in
+    let some : 0 < c.args.base.now.sizes.page_size = omega (arith, c.page_size-pages.ensures.valid.page_size_least, page_size, c.page_size-pages.ensures.value) in
+    let same : 281474976710656 / c.page_size-pages.result ≡ 281474976710656 / c.args.base.now.sizes.page_size = ap (λ n. 281474976710656 / n) page_size in
     let all : c.loop-p.p ≡ 281474976710656 / c.page_size-pages.result = omega (arith, c.loop-p-test.false, c.loop-p.auto.p-end) in
     sym all ∙ run-all c.args.base.now c.args.steps.now c.loop-p.p some (all ∙ same) c.requires c.loop-p.invariant

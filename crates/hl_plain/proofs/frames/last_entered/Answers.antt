@@ -12,7 +12,7 @@ loop-p-init c = record { page = sym (greatest_below-zero (is_entered_in c.args.b
 
 pub loop-p-preserved : goal.loop-p-preserved
 loop-p-preserved c =
-    let page : c.page_size-page_size.result ≡ c.args.base.now.sizes.page_size = c.page_size-page_size.ensures.value ∙ ap (λ s. s.page_size) c.params.ensures in
+    let page_size : c.page_size-page_size.result ≡ c.args.base.now.sizes.page_size = c.page_size-page_size.ensures.value ∙ ap (λ s. s.page_size) c.params.ensures in
     let e = greatest_below-next (is_entered_in c.args.base.now c.args.f c.args.steps.now) c.loop-p.p in
     grind (arith, nat_tests)
 
@@ -20,6 +20,6 @@ pub returns-clause-page : goal.returns-clause-page
 unfolding last_entered_after
 returns-clause-page c =
     let b = c.args.base.now in
-    let page : c.page_size-page_size.result ≡ b.sizes.page_size = c.page_size-page_size.ensures.value ∙ ap (λ s. s.page_size) c.params.ensures in
-    let all : c.loop-p.p ≡ tail_after b c.args.steps.now / b.sizes.page_size + 1 = omega (arith, ap₂ (λ a b. a / b) c.tail-end.ensures page) in
+    let page_size : c.page_size-page_size.result ≡ b.sizes.page_size = c.page_size-page_size.ensures.value ∙ ap (λ s. s.page_size) c.params.ensures in
+    let all : c.loop-p.p ≡ tail_after b c.args.steps.now / b.sizes.page_size + 1 = omega (arith, ap₂ (λ a b. a / b) c.tail-end.ensures page_size) in
     c.loop-p.invariant.page ∙ ap (greatest_below (is_entered_in b c.args.f c.args.steps.now)) all
