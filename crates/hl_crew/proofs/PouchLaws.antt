@@ -53,7 +53,7 @@ put_back places at job held =
 -- what an answer says of the place that was found
 pub answered : (F : Type 0) (domain : DomainState) (page : ℕ) (ok : Bool) (at other : ℕ) (job : PageJob) (old new : List (Option PageJob)) (result : Result ℕ Fault)
     → position (is_of page) old ≡ Some at → slice_get old at ≡ Some (Some job)
-    → MakesUnderLock F domain (λ before after. Ends before job.stamp (FlushDone job.page ok) (λ A. flushed before.core.sizes (A ++ FlushDone job.page ok ∷ [])) after result)
+    → MakesUnderLock F domain result (λ before. Ends before job.stamp (FlushDone job.page ok) (λ A. flushed before.core.sizes (A ++ FlushDone job.page ok ∷ [])))
     → MatchResult result (λ _. new ≡ set old at None) (λ _. new ≡ old)
     → position (is_of page) old ≡ Some other → Answers F domain page ok other old new result
 answered F domain page ok at other job old new result is held met left found =
@@ -64,7 +64,7 @@ answered F domain page ok at other job old new result is held met left found =
       job = job;
       held = held;
       page_is = page_is;
-      met = subst (λ page. MakesUnderLock F domain (λ before after. Ends before job.stamp (FlushDone page ok) (λ A. flushed before.core.sizes (A ++ FlushDone page ok ∷ [])) after result)) page_is met;
+      met = subst (λ page. MakesUnderLock F domain result (λ before. Ends before job.stamp (FlushDone page ok) (λ A. flushed before.core.sizes (A ++ FlushDone page ok ∷ [])))) page_is met;
       left = left;
     })
 

@@ -27,6 +27,6 @@ pub record Answers
   pub job : PageJob
   pub held : slice_get old at ≡ Some (Some job)
   pub page_is : job.page ≡ page
-  pub met : MakesUnderLock F domain (λ before after. Ends before job.stamp (FlushDone page ok)
-      (λ A. flushed before.core.sizes (A ++ FlushDone page ok ∷ [])) after result)
+  pub met : MakesUnderLock F domain result (λ before. Ends before job.stamp (FlushDone page ok)
+      (λ A. flushed before.core.sizes (A ++ FlushDone page ok ∷ [])))
   pub left : MatchResult result (λ _. new ≡ slice_set old at None) (λ _. new ≡ old)

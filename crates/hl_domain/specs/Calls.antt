@@ -145,10 +145,10 @@ module _ {F : Type 0} where
       (A : List Step) → KeeperStands old A
       → Replied (fault A) (answer A) (entered (fault A) A p.touches s) new result
 
--- the answer of a call that hands back what was handed in
-abbrev pub told : {X Y : Type 0} → Result X (Fault × Y) → Result X Fault
-told (Ok x) = Ok x
-told (Err back) = Err back.0
+-- the answer of a call, without what a refusal hands back
+abbrev pub without_back : {X Y : Type 0} → Result X (Fault × Y) → Result X Fault
+without_back (Ok x) = Ok x
+without_back (Err back) = Err back.0
 
 -- the list after a pass's step: the touches and the step behind A
 abbrev pub touched_list : List Step → PassRecord → Step → List Step

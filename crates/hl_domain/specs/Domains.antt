@@ -1,5 +1,6 @@
 -- What contracts see of a domain, what a call met under its lock, and what is left of it at its end.
-use Rattle.std.specs.Prelude.{◌≡◌, ℕ, ◌+◌, List, ◌++◌, length, map}
+use Rattle.std.specs.Prelude.{◌≡◌, ℕ, ◌+◌, Result, OnErr, List, ◌++◌, length, map}
+use Rattle.hl_model.specs.declared.fault.Fault.{Fault}
 use Rattle.hl_model.specs.declared.snapshot.Snapshot.{Snapshot}
 use Rattle.hl_model.specs.declared.step.Step.{Step}
 use Rattle.hl_model.specs.Sizes.{Sizes}
@@ -41,11 +42,13 @@ pub record LeavesUnderLock
   pub left : IsOf domain.sizes domain.stamp after
   pub holds : Holds before after
 
--- likewise of a call that cuts nothing, and by which no job goes in or comes out
-abbrev pub MakesUnderLock : (F : Type 0) → DomainState → (KeeperState F → KeeperState F → Type 0) → Type 0
-MakesUnderLock F domain Holds =
-    LeavesUnderLock F domain (λ old new.
-    Holds old new × Stays old new × (new.core.drain.pending ≡ old.core.drain.pending))
+-- likewise of a call that cuts nothing, and by which no job goes in or comes out; where it is refused the
+-- keeper is as it was
+abbrev pub MakesUnderLock : {X : Type 0} (F : Type 0) → DomainState → Result X Fault
+    → (KeeperState F → KeeperState F → Result X Fault → Type 0) → Type 0
+MakesUnderLock F domain result Holds =
+    LeavesUnderLock F domain (λ old new. Holds old new result × Stays old new
+    × (new.core.drain.pending ≡ old.core.drain.pending) × OnErr result (new ≡ old))
 
 -- what is left of a domain at its end: the base of the steps that were cut, and how many these are; the steps
 -- since; the actions that were never taken, and those taken and not done; all quantities

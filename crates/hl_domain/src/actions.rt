@@ -5,7 +5,7 @@ ghost use Rattle.hl_model.specs.Actions.{bumps};
 ghost use Rattle.hl_core.specs.Steps.{asking, stored, CameOut};
 ghost use Rattle.hl_domain.specs.Passes.{Shares};
 ghost use Rattle.hl_domain.specs.Keepers.{job_tag};
-ghost use Rattle.hl_domain.specs.Calls.{told, Makes, Stays};
+ghost use Rattle.hl_domain.specs.Calls.{without_back, Makes, Stays};
 ghost use Rattle.hl_domain.specs.Taking.{taken_from, ready_told};
 
 use crate::call::note;
@@ -28,7 +28,7 @@ impl<E: Epochs + Drop, F: Task, P: Promise, L: Realm> Keeper<E, F, P, L> {
         ask: Ask<Kept<F, P>>,
     ) -> Result<u64, (Fault, Ask<Kept<F, P>>)>
         ensures made { Makes self.old (asking job_tag ask)
-            (λ A. bumps (A ++ asking job_tag ask ∷ [])) self.new (told result) }
+            (λ A. bumps (A ++ asking job_tag ask ∷ [])) self.new (without_back result) }
         ensures refused { IfErr result (λ back. (back.1 ≡ ask) × (self.new ≡ self.old)) }
         ensures stays { Stays self.old self.new }
         ensures stamps { (self.new.stamps ≡ self.old.stamps) × (self.new.acquired ≡ self.old.acquired) }

@@ -20,6 +20,8 @@ const STEPS_MOST: u64 = 1 << 62;
 
 impl<E: Epochs + Drop, F: Task, P: Promise, L: Realm> Keeper<E, F, P, L> {
     /// Whether the pass is the one to which its slot belongs.
+    ///
+    /// `Stranger`, with the slot's stamp, where it isn't.
     pub(crate) fn known(&self, pass: &Pass<L>) -> Result<(), Fault>
         ensures { (A : List STEP) → KeeperStands self.now A
             → result ≡ unless_fault (stranger_fault self.now A pass.now) tt }
@@ -34,6 +36,8 @@ impl<E: Epochs + Drop, F: Task, P: Promise, L: Realm> Keeper<E, F, P, L> {
     }
 
     /// Whether it is, and saw no offset above the present one.
+    ///
+    /// `Stranger`, with the slot's stamp, where not both.
     pub(crate) fn known_behind(&self, pass: &Pass<L>) -> Result<(), Fault>
         ensures { (A : List STEP) → KeeperStands self.now A
             → result ≡ unless_fault (ahead_fault self.now A pass.now) tt }
@@ -101,6 +105,8 @@ impl<E: Epochs + Drop, F: Task, P: Promise, L: Realm> Keeper<E, F, P, L> {
     }
 
     /// Whether something is of this keeper's domain, told its origin.
+    ///
+    /// `Stranger`, with the domain's stamp, where it isn't.
     pub(crate) fn own(&self, origin: u64) -> Result<(), Fault>
         ensures { result ≡ unless_fault (origin_fault self.now origin) tt }
     {
@@ -112,6 +118,8 @@ impl<E: Epochs + Drop, F: Task, P: Promise, L: Realm> Keeper<E, F, P, L> {
     }
 
     /// Whether there is room for so many steps more.
+    ///
+    /// `JournalFull` where there isn't.
     pub(crate) fn room(&self, count: u64) -> Result<(), Fault>
         requires { count ≤ 33 }
         ensures { result ≡ unless_fault (room_fault self.now count) tt }

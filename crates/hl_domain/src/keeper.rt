@@ -128,6 +128,7 @@ impl<E: Epochs + Drop, F: Task, P: Promise, L: Realm> Keeper<E, F, P, L> {
         };
         Ok((keeper, words, riders))
     }
+
     /// Ends it, where all riders are there: what is left of it. All are handed back where one is missing.
     pub fn close(
         self,

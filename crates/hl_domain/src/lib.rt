@@ -19,8 +19,9 @@
 //!
 //! A locked call of a domain is its keeper's. No clause can name what lies under a lock, so each says that there is
 //! a keeper, of the domain's sizes and stamp, and one after the call, and that between the two the keeper's own
-//! clause holds: `LeavesUnderLock` in `specs/Domains.antt`. `look`, `store`, `load`, `copy_page` and `sweep` take no
-//! lock, and their clauses are exact in the pass, the broom and the rider. `close` says what the whole adds up to.
+//! clause holds: `LeavesUnderLock` in `specs/Domains.antt`. After a refusal the keeper is equal to the one before.
+//! `look`, `store`, `load`, `copy_page` and `sweep` take no lock, and their clauses are exact in the pass, the broom
+//! and the rider. `close` says what the whole adds up to.
 //!
 //! A thread that ends with a pass in its hands leaves the slot protected for good, and its rider missing.
 //!

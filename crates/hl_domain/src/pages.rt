@@ -4,7 +4,7 @@ ghost use Rattle.hl_model.specs.declared.step.Step.TheVariants.{Done as DONE, Fl
 ghost use Rattle.hl_model.specs.Pages.{flushed};
 ghost use Rattle.hl_model.specs.Replies.{answer_of};
 ghost use Rattle.hl_domain.specs.Passes.{Shares};
-ghost use Rattle.hl_domain.specs.Calls.{told, Makes, Ends, Stays};
+ghost use Rattle.hl_domain.specs.Calls.{without_back, Makes, Ends, Stays};
 ghost use Rattle.hl_domain.specs.Pages.{to_flush, to_clean};
 
 use crate::keeper::Keeper;
@@ -48,7 +48,8 @@ impl<E: Epochs + Drop, F: Task, P: Promise, L: Realm> Keeper<E, F, P, L> {
         ok: bool,
     ) -> Result<u64, (Fault, Load)>
         ensures made { Ends self.old load.stamp (FLUSH_DONE load.page ok)
-            (λ A. flushed self.old.core.sizes (A ++ FLUSH_DONE load.page ok ∷ [])) self.new (told result) }
+            (λ A. flushed self.old.core.sizes (A ++ FLUSH_DONE load.page ok ∷ []))
+            self.new (without_back result) }
         ensures refused { IfErr result (λ back. (back.1 ≡ load) × (self.new ≡ self.old)) }
         ensures stays { Stays self.old self.new }
         ensures stamps { (self.new.stamps ≡ self.old.stamps) × (self.new.acquired ≡ self.old.acquired) }
@@ -104,7 +105,7 @@ impl<E: Epochs + Drop, F: Task, P: Promise, L: Realm> Keeper<E, F, P, L> {
     ) -> Result<u64, (Fault, Broom)>
         requires { broom.swept ≡ self.old.core.sizes.page_size }
         ensures made { Ends self.old broom.stamp (CLEAN_DONE broom.page)
-            (λ A. broom.page) self.new (told result) }
+            (λ A. broom.page) self.new (without_back result) }
         ensures refused { IfErr result (λ back. (back.1 ≡ broom) × (self.new ≡ self.old)) }
         ensures stays { Stays self.old self.new }
         ensures stamps { (self.new.stamps ≡ self.old.stamps) × (self.new.acquired ≡ self.old.acquired) }
@@ -136,7 +137,7 @@ impl<E: Epochs + Drop, F: Task, P: Promise, L: Realm> Keeper<E, F, P, L> {
     ) -> Result<Reply, (Fault, Ran)>
         ensures made { let step = DONE ran.ticket
             in Ends self.old ran.origin step
-            (λ A. answer_of self.old.core.sizes A (A ++ step ∷ []) step) self.new (told result) }
+            (λ A. answer_of self.old.core.sizes A (A ++ step ∷ []) step) self.new (without_back result) }
         ensures refused { IfErr result (λ back. (back.1 ≡ ran) × (self.new ≡ self.old)) }
         ensures stays { Stays self.old self.new }
         ensures stamps { (self.new.stamps ≡ self.old.stamps) × (self.new.acquired ≡ self.old.acquired) }

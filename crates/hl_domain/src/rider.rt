@@ -1,4 +1,4 @@
-//! The locked calls of a rider that touch no page and no slot.
+//! One step of a rider, as the calls about pages and the done of an action make it, and the bare bump.
 ghost use Rattle.std.specs.Prelude.{◌≡◌, true, false, List, [], ◌∷◌, ◌++◌, OnErr, MatchResult};
 ghost use Rattle.hl_model.specs.declared.step.Step.TheVariants.{Bare as BARE};
 ghost use Rattle.hl_model.specs.Actions.{bumps};

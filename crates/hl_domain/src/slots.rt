@@ -5,7 +5,7 @@ ghost use Rattle.hl_model.specs.Offsets.{place_of, tail};
 ghost use Rattle.hl_model.specs.Views.{view_of};
 ghost use Rattle.hl_domain.specs.Passes.{seen, rested, with_share, new_pass, with_tail};
 ghost use Rattle.hl_domain.specs.Stamps.{acquires_in};
-ghost use Rattle.hl_domain.specs.Calls.{call_fault, refresh_fault, touched_list, told, Makes, MakesTouched, Stays, IsUpTo};
+ghost use Rattle.hl_domain.specs.Calls.{call_fault, refresh_fault, touched_list, without_back, Makes, MakesTouched, Stays, IsUpTo};
 
 use crate::call::note;
 use crate::keeper::Keeper;
@@ -55,7 +55,7 @@ impl<E: Epochs + Drop, F: Task, P: Promise, L: Realm> Keeper<E, F, P, L> {
     ) -> Result<Rider<L>, (Fault, Pass<L>)>
         ensures made { let step = RELEASE pass.slot
             in MakesTouched self.old pass step (λ A. call_fault self.old A pass step)
-            (λ A. with_share (length pass.touches + 1) pass.rider) self.new (told result) }
+            (λ A. with_share (length pass.touches + 1) pass.rider) self.new (without_back result) }
         ensures refused { IfErr result (λ back. (back.1 ≡ pass) × (self.new ≡ self.old)) }
         ensures stays { Stays self.old self.new }
         ensures stamps { (self.new.stamps ≡ self.old.stamps) × (self.new.acquired ≡ self.old.acquired) }
@@ -124,7 +124,7 @@ impl<E: Epochs + Drop, F: Task, P: Promise, L: Realm> Keeper<E, F, P, L> {
             in Makes old (ACQUIRE t)
             (λ A. new_pass t (old.stamp + acquires_in (A ++ ACQUIRE t ∷ []))
             (view_of old.core.sizes t (A ++ ACQUIRE t ∷ [])) (with_share 1 rider))
-            self.new (told result) }
+            self.new (without_back result) }
         ensures refused { IfErr result (λ back. (back.1 ≡ rider) × (self.new ≡ self.old)) }
         ensures stays { Stays self.old self.new }
         ensures jobs { self.new.core.drain.pending ≡ self.old.core.drain.pending }

@@ -3,7 +3,7 @@ ghost use Rattle.std.specs.Prelude.{◌≡◌, List, [], ◌∷◌, ◌++◌, If
 ghost use Rattle.hl_model.specs.declared.step.Step.TheVariants.{FlushTake as FLUSH_TAKE, FlushDone as FLUSH_DONE, CleanTake as CLEAN_TAKE, CleanDone as CLEAN_DONE};
 ghost use Rattle.hl_model.specs.Pages.{flushed};
 ghost use Rattle.hl_domain.specs.Passes.{Shares};
-ghost use Rattle.hl_domain.specs.Calls.{told, Makes, Ends};
+ghost use Rattle.hl_domain.specs.Calls.{without_back, Makes, Ends};
 ghost use Rattle.hl_domain.specs.Pages.{to_flush, to_clean};
 ghost use Rattle.hl_domain.specs.Domains.{MakesUnderLock};
 
@@ -20,8 +20,8 @@ impl<E: Epochs + Drop, F: Task, P: Promise, L: Realm> Domain<E, F, P, L> {
     ///
     /// Faults: `JournalFull`, `NoneSealed`.
     pub fn flush_take(&self, rt: &impl Wait, rider: &mut Rider<L>) -> Result<Load, Fault>
-        ensures met { MakesUnderLock F self.now (λ old new. Makes old FLUSH_TAKE
-            (λ A. to_flush old.core.sizes old.stamp A) new result) }
+        ensures met { MakesUnderLock F self.now result (λ old. Makes old FLUSH_TAKE
+            (λ A. to_flush old.core.sizes old.stamp A)) }
         ensures rider { Shares 1 result rider.old rider.new }
     {
         self.lock(rt).flush_take(&self.words, rider)
@@ -39,8 +39,8 @@ impl<E: Epochs + Drop, F: Task, P: Promise, L: Realm> Domain<E, F, P, L> {
         ok: bool,
     ) -> Result<u64, (Fault, Load)>
         ensures met { let step = FLUSH_DONE load.page ok
-            in MakesUnderLock F self.now (λ old new. Ends old load.stamp step
-            (λ A. flushed old.core.sizes (A ++ step ∷ [])) new (told result)) }
+            in MakesUnderLock F self.now (without_back result) (λ old. Ends old load.stamp step
+            (λ A. flushed old.core.sizes (A ++ step ∷ []))) }
         ensures refused { IfErr result (λ back. back.1 ≡ load) }
         ensures rider { Shares 1 result rider.old rider.new }
     {
@@ -51,8 +51,8 @@ impl<E: Epochs + Drop, F: Task, P: Promise, L: Realm> Domain<E, F, P, L> {
     ///
     /// Faults: `JournalFull`, `NoneClosed`.
     pub fn clean_take(&self, rt: &impl Wait, rider: &mut Rider<L>) -> Result<Broom, Fault>
-        ensures met { MakesUnderLock F self.now (λ old new. Makes old CLEAN_TAKE
-            (λ A. to_clean old.core.sizes old.stamp A) new result) }
+        ensures met { MakesUnderLock F self.now result (λ old. Makes old CLEAN_TAKE
+            (λ A. to_clean old.core.sizes old.stamp A)) }
         ensures rider { Shares 1 result rider.old rider.new }
     {
         self.lock(rt).clean_take(&self.words, rider)
@@ -70,8 +70,8 @@ impl<E: Epochs + Drop, F: Task, P: Promise, L: Realm> Domain<E, F, P, L> {
         broom: Broom,
     ) -> Result<u64, (Fault, Broom)>
         requires { broom.swept ≡ self.now.sizes.page_size }
-        ensures met { MakesUnderLock F self.now (λ old new. Ends old broom.stamp (CLEAN_DONE broom.page)
-            (λ A. broom.page) new (told result)) }
+        ensures met { MakesUnderLock F self.now (without_back result) (λ old.
+            Ends old broom.stamp (CLEAN_DONE broom.page) (λ A. broom.page)) }
         ensures refused { IfErr result (λ back. back.1 ≡ broom) }
         ensures rider { Shares 1 result rider.old rider.new }
     {

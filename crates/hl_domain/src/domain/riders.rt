@@ -1,5 +1,5 @@
 //! The locked calls of a rider: bumps, takes and dones, the two offsets, the cut, and the snapshot.
-ghost use Rattle.std.specs.Prelude.{◌≡◌, ◌+◌, List, [], ◌∷◌, ◌++◌, length, IfOk, IfErr};
+ghost use Rattle.std.specs.Prelude.{◌≡◌, ◌+◌, List, [], ◌∷◌, ◌++◌, length, OnErr, IfOk, IfErr};
 ghost use Rattle.hl_model.specs.declared.step.Step.{Step as STEP};
 ghost use Rattle.hl_model.specs.declared.step.Step.TheVariants.{Bare as BARE, Take as TAKE, Done as DONE, Raise as RAISE, Shift as SHIFT};
 ghost use Rattle.hl_model.specs.Actions.{bumps};
@@ -9,7 +9,7 @@ ghost use Rattle.hl_model.specs.Snapshots.{snapshot_of};
 ghost use Rattle.hl_core.specs.Steps.{asking, stored, CameOut};
 ghost use Rattle.hl_domain.specs.Passes.{Shares};
 ghost use Rattle.hl_domain.specs.Keepers.{job_tag, KeeperStands};
-ghost use Rattle.hl_domain.specs.Calls.{told, Makes, Ends, Stays};
+ghost use Rattle.hl_domain.specs.Calls.{without_back, Makes, Ends, Stays};
 ghost use Rattle.hl_domain.specs.Taking.{taken_from, ready_told};
 ghost use Rattle.hl_domain.specs.Domains.{UnderLock, LeavesUnderLock, MakesUnderLock};
 
@@ -34,9 +34,10 @@ impl<E: Epochs + Drop, F: Task, P: Promise, L: Realm> Domain<E, F, P, L> {
     ) -> Result<u64, (Fault, Ask<Kept<F, P>>)>
         ensures met { let step = asking job_tag ask
             in LeavesUnderLock F self.now (λ old new.
-            Makes old step (λ A. bumps (A ++ step ∷ [])) new (told result) × Stays old new
+            Makes old step (λ A. bumps (A ++ step ∷ [])) new (without_back result) × Stays old new
             × IfOk result (λ ticket. new.core.drain.pending
-            ≡ old.core.drain.pending ++ (ticket, stored old.core.offsets ask) ∷ [])) }
+            ≡ old.core.drain.pending ++ (ticket, stored old.core.offsets ask) ∷ [])
+            × OnErr result (new ≡ old)) }
         ensures refused { IfErr result (λ back. back.1 ≡ ask) }
         ensures rider { Shares 1 result rider.old rider.new }
     {
@@ -47,8 +48,7 @@ impl<E: Epochs + Drop, F: Task, P: Promise, L: Realm> Domain<E, F, P, L> {
     ///
     /// Faults: `JournalFull`, `EpochsSpent`, `WindowFull`.
     pub fn bare(&self, rt: &impl Wait, rider: &mut Rider<L>) -> Result<u64, Fault>
-        ensures met { MakesUnderLock F self.now (λ old new.
-            Makes old BARE (λ A. bumps (A ++ BARE ∷ [])) new result) }
+        ensures met { MakesUnderLock F self.now result (λ old. Makes old BARE (λ A. bumps (A ++ BARE ∷ []))) }
         ensures rider { Shares 1 result rider.old rider.new }
     {
         self.lock(rt).bare(&self.words, rider)
@@ -61,7 +61,8 @@ impl<E: Epochs + Drop, F: Task, P: Promise, L: Realm> Domain<E, F, P, L> {
     pub fn take(&self, rt: &impl Wait, rider: &mut Rider<L>) -> Result<Ready<F, P>, Fault>
         ensures met { LeavesUnderLock F self.now (λ old new.
             Makes old TAKE (taken_from old) new (ready_told result) × Stays old new
-            × IfOk result (λ ready. CameOut job_tag old.core new.core ready.firing.ticket ready.kept)) }
+            × IfOk result (λ ready. CameOut job_tag old.core new.core ready.firing.ticket ready.kept)
+            × OnErr result (new ≡ old)) }
         ensures rider { Shares 1 result rider.old rider.new }
     {
         self.lock(rt).take(&self.words, rider)
@@ -78,8 +79,8 @@ impl<E: Epochs + Drop, F: Task, P: Promise, L: Realm> Domain<E, F, P, L> {
         ran: Ran,
     ) -> Result<Reply, (Fault, Ran)>
         ensures met { let step = DONE ran.ticket
-            in MakesUnderLock F self.now (λ old new. Ends old ran.origin step
-            (λ A. answer_of old.core.sizes A (A ++ step ∷ []) step) new (told result)) }
+            in MakesUnderLock F self.now (without_back result) (λ old. Ends old ran.origin step
+            (λ A. answer_of old.core.sizes A (A ++ step ∷ []) step)) }
         ensures refused { IfErr result (λ back. back.1 ≡ ran) }
         ensures rider { Shares 1 result rider.old rider.new }
     {
@@ -90,8 +91,8 @@ impl<E: Epochs + Drop, F: Task, P: Promise, L: Realm> Domain<E, F, P, L> {
     ///
     /// Faults: `JournalFull`, `NotAbove`, `AboveTail`.
     pub fn raise(&self, rt: &impl Wait, rider: &mut Rider<L>, x: u64) -> Result<u64, Fault>
-        ensures met { MakesUnderLock F self.now (λ old new.
-            Makes old (RAISE x) (λ A. read_only (A ++ RAISE x ∷ [])) new result) }
+        ensures met { MakesUnderLock F self.now result (λ old.
+            Makes old (RAISE x) (λ A. read_only (A ++ RAISE x ∷ []))) }
         ensures same { IfOk result (λ raised. raised ≡ x) }
         ensures rider { Shares 1 result rider.old rider.new }
     {
@@ -102,8 +103,8 @@ impl<E: Epochs + Drop, F: Task, P: Promise, L: Realm> Domain<E, F, P, L> {
     ///
     /// Faults: `JournalFull`, `NotAbove`, `NotPage`, `AboveFlushed`.
     pub fn shift(&self, rt: &impl Wait, rider: &mut Rider<L>, x: u64) -> Result<u64, Fault>
-        ensures met { MakesUnderLock F self.now (λ old new.
-            Makes old (SHIFT x) (λ A. head (A ++ SHIFT x ∷ [])) new result) }
+        ensures met { MakesUnderLock F self.now result (λ old.
+            Makes old (SHIFT x) (λ A. head (A ++ SHIFT x ∷ []))) }
         ensures same { IfOk result (λ shifted. shifted ≡ x) }
         ensures rider { Shares 1 result rider.old rider.new }
     {

@@ -4,7 +4,7 @@ ghost use Rattle.hl_model.specs.declared.step.Step.TheVariants.{Acquire as ACQUI
 ghost use Rattle.hl_model.specs.Offsets.{place_of, tail};
 ghost use Rattle.hl_model.specs.Views.{view_of};
 ghost use Rattle.hl_domain.specs.Passes.{seen, rested, with_share, new_pass, with_tail};
-ghost use Rattle.hl_domain.specs.Calls.{call_fault, refresh_fault, touched_list, told, Makes, MakesTouched, IsUpTo};
+ghost use Rattle.hl_domain.specs.Calls.{call_fault, refresh_fault, touched_list, without_back, Makes, MakesTouched, IsUpTo};
 ghost use Rattle.hl_domain.specs.Stamps.{acquires_in};
 ghost use Rattle.hl_domain.specs.Domains.{MakesUnderLock};
 
@@ -27,10 +27,9 @@ impl<E: Epochs + Drop, F: Task, P: Promise, L: Realm> Domain<E, F, P, L> {
         t: u64,
         rider: Rider<L>,
     ) -> Result<Pass<L>, (Fault, Rider<L>)>
-        ensures met { MakesUnderLock F self.now (λ old new. Makes old (ACQUIRE t)
+        ensures met { MakesUnderLock F self.now (without_back result) (λ old. Makes old (ACQUIRE t)
             (λ A. new_pass t (old.stamp + acquires_in (A ++ ACQUIRE t ∷ []))
-            (view_of old.core.sizes t (A ++ ACQUIRE t ∷ [])) (with_share 1 rider))
-            new (told result)) }
+            (view_of old.core.sizes t (A ++ ACQUIRE t ∷ [])) (with_share 1 rider))) }
         ensures refused { IfErr result (λ back. back.1 ≡ rider) }
     {
         self.lock(rt).acquire(&self.words, t, rider)
@@ -43,9 +42,9 @@ impl<E: Epochs + Drop, F: Task, P: Promise, L: Realm> Domain<E, F, P, L> {
     /// `JournalFull`.
     pub fn refresh(&self, rt: &impl Wait, pass: &mut Pass<L>) -> Result<View, Fault>
         ensures met { let p = pass.old
-            in MakesUnderLock F self.now (λ old new. MakesTouched old p (REFRESH p.slot)
+            in MakesUnderLock F self.now result (λ old. MakesTouched old p (REFRESH p.slot)
             (λ A. refresh_fault old A p)
-            (λ A. view_of old.core.sizes p.slot (touched_list A p (REFRESH p.slot))) new result) }
+            (λ A. view_of old.core.sizes p.slot (touched_list A p (REFRESH p.slot)))) }
         ensures pass { let old = pass.old
             in MatchResult result (λ view. pass.new ≡ rested view old) (λ _. pass.new ≡ old) }
         ensures fresh { IfOk result (IsUpTo (seen pass.old)) }
@@ -58,9 +57,9 @@ impl<E: Epochs + Drop, F: Task, P: Promise, L: Realm> Domain<E, F, P, L> {
     /// Faults, with the pass handed back: `Stranger` where the slot isn't the pass's, `JournalFull`.
     pub fn release(&self, rt: &impl Wait, pass: Pass<L>) -> Result<Rider<L>, (Fault, Pass<L>)>
         ensures met { let step = RELEASE pass.slot
-            in MakesUnderLock F self.now (λ old new. MakesTouched old pass step
+            in MakesUnderLock F self.now (without_back result) (λ old. MakesTouched old pass step
             (λ A. call_fault old A pass step)
-            (λ A. with_share (length pass.touches + 1) pass.rider) new (told result)) }
+            (λ A. with_share (length pass.touches + 1) pass.rider)) }
         ensures refused { IfErr result (λ back. back.1 ≡ pass) }
     {
         self.lock(rt).release(&self.words, pass)
@@ -72,9 +71,9 @@ impl<E: Epochs + Drop, F: Task, P: Promise, L: Realm> Domain<E, F, P, L> {
     /// Faults: `Stranger` where the slot isn't the pass's, `JournalFull`, `Size`, `SpaceSpent`, `Busy`.
     pub fn allocate(&self, rt: &impl Wait, pass: &mut Pass<L>, n: u64) -> Result<u64, Fault>
         ensures met { let p = pass.old
-            in MakesUnderLock F self.now (λ old new. MakesTouched old p (ALLOCATE p.slot n)
+            in MakesUnderLock F self.now result (λ old. MakesTouched old p (ALLOCATE p.slot n)
             (λ A. call_fault old A p (ALLOCATE p.slot n))
-            (λ A. place_of old.core.sizes.page_size (tail old.core.sizes (A ++ p.touches)) n) new result) }
+            (λ A. place_of old.core.sizes.page_size (tail old.core.sizes (A ++ p.touches)) n)) }
         ensures pass { let old = pass.old
             in MatchResult result
             (λ a. pass.new ≡ rested (with_tail (a + n) (seen old)) old)
