@@ -265,7 +265,7 @@ fn crew_cuts(rt: HostRuntime) -> Result<(), Fail> {
 fn a_crew_frees_what_it_closed(rt: HostRuntime) -> Result<(), Fail> {
     let run = Run {
         resident: 1,
-        turns: 200_000,
+        turns: 50_000,
         cut: true,
         ..ONE_TURN
     };
