@@ -3,8 +3,8 @@ use Rattle.std.specs.Prelude.{ℕ, ◌*◌, ◌/◌, ◌%◌, ◌-◌, ◌==◌,
 use Rattle.std.specs.List.{range_with_len, prefix_len}
 use Rattle.hl_model.specs.declared.frame.Held.{Held}
 
--- how many words a page has; what each frame holds, None where nothing was entered; how many pages were entered, 0
--- and on
+-- how many words a page has; what each frame holds, None where nothing was entered; how many pages were
+-- entered, 0 and on
 pub record Pages : Type 0 where
   pub page_size : ℕ
   pub frames : List (Option Held)
