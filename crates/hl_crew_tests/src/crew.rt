@@ -39,7 +39,7 @@ impl Task for Ticket {
 
 pub(crate) type Pages<L> = Domain<CountTable, Ticket, Anything, L>;
 
-/// What a run of the crew left: what it counted, its writers, and the quantities then.
+/// What a run of the crew left: what it counted, its writers, the quantities then, all steps, and how many were cut.
 #[derive(Drop)]
 struct Left {
     written: u64,
@@ -48,6 +48,7 @@ struct Left {
     writers: [MemoryWriter; 2],
     now: Snapshot,
     steps: u64,
+    cut: u64,
     shares: u64,
 }
 
@@ -159,6 +160,7 @@ where
         writers,
         now,
         steps: since.saturating_add(cut),
+        cut,
         shares,
     })
 }
@@ -228,7 +230,7 @@ fn crew_writers_always_fail(rt: HostRuntime) -> Result<(), Fail> {
     let left = crew_left::<_, Brand, _>(&rt, rt.alloc(), seed(rt.alloc())?, &OpenGate, run)?;
     assert!(rt; left.written == 0 && left.failed == 6 && left.strangers == 0);
     assert!(rt; images(&left.writers) == 0 && left.now.six.flushed == 0);
-    assert!(rt; left.steps == left.shares);
+    assert!(rt; left.steps == left.shares && left.cut == 0);
     Ok(())
 }
 
@@ -255,7 +257,7 @@ fn crew_cuts(rt: HostRuntime) -> Result<(), Fail> {
     let [open, sealed, flushed, closed, free] = left.now.frames;
     assert!(rt; left.now.six == six && closed.saturating_add(free) == 3);
     assert!(rt; open == 1 && sealed == 0 && flushed == 0);
-    assert!(rt; left.steps == left.shares);
+    assert!(rt; left.steps == left.shares && left.cut > 0);
     Ok(())
 }
 
