@@ -53,18 +53,27 @@ where
             let Ok(Message::Write(job)) = self.channels.jobs_sent.recv(self.rt) else {
                 return;
             };
-            let page = job.page;
-            let ok = self.may_write(page) && self.write(own, job);
-            let acknowledgement = Acknowledgement { page, ok };
-            if self
-                .channels
-                .acknowledgements
-                .send(self.rt, acknowledgement)
-                .is_err()
-            {
+            let told = self.acknowledge(own, job);
+            if self.channels.acknowledgements.send(self.rt, told).is_err() {
                 return;
             }
         }
+    }
+
+    // Writes a page once the gate lets it; what the flusher is to be told of it.
+    fn acknowledge<W: PageWriter>(
+        &self,
+        own: &mut WriterState<L, W>,
+        job: PageJob,
+    ) -> Acknowledgement
+        ensures page { result.page ≡ job.page }
+        ensures written { let sizes = self.now.domain.now.sizes
+            in result.ok ≡ true
+            → IsWritten W.wrote sizes job own.old.rider own.new.rider own.old.pages own.new.pages }
+    {
+        let page = job.page;
+        let ok = self.may_write(page) && self.write(own, job);
+        Acknowledgement { page, ok }
     }
 
     // Whether the gate lets the page be written. Between two asks other threads go on.

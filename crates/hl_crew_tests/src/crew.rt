@@ -39,7 +39,8 @@ impl Task for Ticket {
 
 pub(crate) type Pages<L> = Domain<CountTable, Ticket, Anything, L>;
 
-/// What a run of the crew left: what it counted, its writers, the quantities then, all steps, and how many were cut.
+/// What a run of the crew left: what it counted, its writers, the quantities then, all steps, how many were cut, and how
+/// many each rider entered.
 #[derive(Drop)]
 struct Left {
     written: u64,
@@ -49,7 +50,15 @@ struct Left {
     now: Snapshot,
     steps: u64,
     cut: u64,
-    shares: u64,
+    shares: [u64; 4],
+}
+
+impl Left {
+    /// Whether the riders entered as many steps as there are.
+    fn is_whole(&self) -> bool {
+        let shares = self.shares.iter();
+        self.steps == shares.fold(0u64, |sum, share| sum.wrapping_add(*share))
+    }
 }
 
 /// How a crew is run: the write of each writer that fails (0: none), the bytes of the pages that writers take (of other
@@ -149,10 +158,7 @@ where
         failed,
         strangers,
     } = end;
-    let mut shares = 0u64;
-    for rider in &riders {
-        shares = shares.saturating_add(rider.share());
-    }
+    let [flushing, first, second, cleaning] = &riders;
     Ok(Left {
         written,
         failed,
@@ -161,7 +167,12 @@ where
         now,
         steps: since.saturating_add(cut),
         cut,
-        shares,
+        shares: [
+            flushing.share(),
+            first.share(),
+            second.share(),
+            cleaning.share(),
+        ],
     })
 }
 
@@ -230,7 +241,7 @@ fn crew_writers_always_fail(rt: HostRuntime) -> Result<(), Fail> {
     let left = crew_left::<_, Brand, _>(&rt, rt.alloc(), seed(rt.alloc())?, &OpenGate, run)?;
     assert!(rt; left.written == 0 && left.failed == 6 && left.strangers == 0);
     assert!(rt; images(&left.writers) == 0 && left.now.six.flushed == 0);
-    assert!(rt; left.steps == left.shares && left.cut == 0);
+    assert!(rt; left.is_whole() && left.cut == 0);
     Ok(())
 }
 
@@ -257,12 +268,12 @@ fn crew_cuts(rt: HostRuntime) -> Result<(), Fail> {
     let [open, sealed, flushed, closed, free] = left.now.frames;
     assert!(rt; left.now.six == six && closed.saturating_add(free) == 3);
     assert!(rt; open == 1 && sealed == 0 && flushed == 0);
-    assert!(rt; left.steps == left.shares && left.cut > 0);
+    assert!(rt; left.is_whole() && left.cut > 0);
     Ok(())
 }
 
 /// A cleaner that has found no closed page goes on: of the turns that the flusher makes here nearly all come after the
-/// close, and in one of them the cleaner runs.
+/// close, and in one of them the cleaner runs. Its rider, which took two pages and was done with them, comes back last.
 #[test]
 fn a_crew_frees_what_it_closed(rt: HostRuntime) -> Result<(), Fail> {
     let run = Run {
@@ -273,6 +284,8 @@ fn a_crew_frees_what_it_closed(rt: HostRuntime) -> Result<(), Fail> {
     };
     let left = crew_left::<_, Brand, _>(&rt, rt.alloc(), seed(rt.alloc())?, &OpenGate, run)?;
     assert_eq!(rt; left.now.frames, [1, 0, 0, 0, 3]);
-    assert!(rt; left.written == 2 && left.now.six.closed == 8 && left.steps == left.shares);
+    assert!(rt; left.written == 2 && left.now.six.closed == 8 && left.is_whole());
+    let [_, first, second, cleaning] = left.shares;
+    assert_eq!(rt; [first, second, cleaning], [0, 0, 4]);
     Ok(())
 }

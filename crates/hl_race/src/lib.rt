@@ -11,7 +11,4 @@ mod audit;
 mod race;
 mod riders;
 
-pub use race::{Race, run_race};
-
-#[cfg(test)]
-mod tests;
+pub use race::{Race, run_race, run_race_within};

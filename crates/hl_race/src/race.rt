@@ -98,11 +98,11 @@ pub fn run_race<R: Threads + Wait + Sync>(
     alloc: Global,
     race: Race,
 ) -> Result<bool, Fault> {
-    race_with(rt, alloc, race, JOURNAL)
+    run_race_within(rt, alloc, race, JOURNAL)
 }
 
-// A race with a journal of so many steps.
-pub(crate) fn race_with<R: Threads + Wait + Sync>(
+/// The same with a journal of so many steps, at most 2^62. Where it is full, its riders and its crew stop.
+pub fn run_race_within<R: Threads + Wait + Sync>(
     rt: &R,
     alloc: Global,
     race: Race,

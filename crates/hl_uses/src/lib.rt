@@ -15,5 +15,3 @@ pub mod one_lock;
 pub mod one_thread;
 pub mod retired_row;
 mod say;
-#[cfg(test)]
-mod tests;

@@ -1,3 +1,4 @@
+ghost use Rattle.std.specs.Prelude.{◌≡◌, ◌==◌, ◌&&◌};
 ghost use Rattle.hl_crew.specs.Lags.{IsLag};
 
 use crate::flusher::Flusher;
@@ -6,7 +7,7 @@ use hl_action::{Kept, Promise, Task};
 use hl_drain::Ask;
 use hl_epoch::Epochs;
 use hl_flush::lag_steps;
-use hl_model::{Fault, Step};
+use hl_model::{Fault, Snapshot, Step};
 use hl_words::{Realm, Rider};
 use std::sync::Wait;
 
@@ -21,7 +22,7 @@ impl<R: Wait, E: Epochs + Drop, F: Task, P: Promise, L: Realm> Flusher<'_, R, E,
         requires { IsLag self.now.domain.now.sizes.frames mutable resident }
     {
         let (now, _, _) = self.domain.snapshot(self.rt);
-        if now.pending > 0 || now.taken > 0 {
+        if !is_idle(&now) {
             return Ok(());
         }
         for step in &lag_steps(self.domain.params(), now.six, mutable, resident) {
@@ -53,4 +54,11 @@ impl<R: Wait, E: Epochs + Drop, F: Task, P: Promise, L: Realm> Flusher<'_, R, E,
             Err((fault, _)) => Err(fault),
         }
     }
+}
+
+// Whether no action waits, and none is taken.
+fn is_idle(now: &Snapshot) -> bool
+    ensures { result ≡ (now.now.pending == 0 && now.now.taken == 0) }
+{
+    now.pending == 0 && now.taken == 0
 }

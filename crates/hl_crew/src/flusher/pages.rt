@@ -1,4 +1,4 @@
-ghost use Rattle.std.specs.Prelude.{◌≡◌};
+ghost use Rattle.std.specs.Prelude.{◌≡◌, OnOk};
 ghost use Rattle.hl_crew.specs.Pouches.{load_count};
 
 use crate::flusher::Flusher;
@@ -15,13 +15,16 @@ const PAGES: u64 = 4;
 
 impl<R: Wait, E: Epochs + Drop, F: Task, P: Promise, L: Realm> Flusher<'_, R, E, F, P, L> {
     /// Takes at most four pages to flush, puts each into the pouch, and sends it to the writers; counts those sent.
+    /// Where all is well, these are the pages of the pouch.
     pub(crate) fn send_pages(
         &self,
         rider: &mut Rider<L>,
         pouch: &mut Pouch,
         sent: &mut u64,
     ) -> Result<(), Over>
-        requires { load_count pouch.old ≡ 0 }
+        requires empty { load_count pouch.old ≡ 0 }
+        requires none { sent.old ≡ 0 }
+        ensures { OnOk result (sent.new ≡ load_count pouch.new) }
     {
         for _ in 0..PAGES {
             let load = match self.domain.flush_take(self.rt, rider) {
@@ -39,7 +42,7 @@ impl<R: Wait, E: Epochs + Drop, F: Task, P: Promise, L: Realm> Flusher<'_, R, E,
             {
                 return Err(Over);
             }
-            *sent = sent.saturating_add(1);
+            *sent += 1;
         }
         Ok(())
     }

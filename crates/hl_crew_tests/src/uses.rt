@@ -1,5 +1,4 @@
-use crate::{four_threads, one_lock, one_thread, retired_row};
-use hl_model::Fault;
+use hl_uses::{four_threads, one_lock, one_thread, retired_row};
 use std::test::Fail;
 
 #[test]

@@ -1,4 +1,4 @@
-use Rattle.hl_race.proofs.race.race_with.Given as goal
+use Rattle.hl_race.proofs.race.run_race_within.Given as goal
 
 -- the words, the ledger and the sizes of the seed that was just made, and the domain's stamp
 abbrev pub ghosts-race_over-L-Realm : goal.ghosts-race_over-L-Realm
