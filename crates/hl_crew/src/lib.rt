@@ -26,9 +26,15 @@
 //!
 //! The flusher and the cleaner end after so many turns, or before where the journal is full or a channel fails; the
 //! flusher then stops the writers. What was taken and can't be answered then is forsaken: such a page stays in flight
-//! or in cleaning, such an action taken. Riders and page writers come back by value, also where a thread couldn't be made: each lies under a
-//! lock that its thread takes once. That is what the types say, and a clause that no refusal is other than
-//! `OutOfMemory`. That a thread gets on, what is done in a turn, and what [`CrewEnd`] counts, no clause says.
+//! or in cleaning, such an action taken. Riders and page writers come back by value, also where a thread couldn't be
+//! made: each lies under a lock that its thread takes once.
+//!
+//! # What is proved of it
+//!
+//! Of a crew as a whole: that riders and page writers come back is in its types, that no refusal is other than
+//! `OutOfMemory` a clause. Inside: a page told as written was copied, and its image written; the flusher
+//! answers an acknowledgement as it was told, and counts that answer; a turn that ended well left no page unanswered.
+//! That a thread gets on, what is done in a turn, and what [`CrewEnd`] counts in all, no clause says.
 //!
 //! | Module | What it has |
 //! |---|---|
