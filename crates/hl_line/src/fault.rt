@@ -2,7 +2,7 @@ ghost use Rattle.std.specs.Prelude.{◌≡◌, ◌++◌, ◌+◌, ◌≤◌, len
 ghost use Rattle.arrayvec.specs.ArrayString.{array_string_len};
 ghost use Rattle.hl_line.specs.Replies.{fault_text, name_of, fields_of};
 
-use crate::text::{append, spelled};
+use crate::text::append;
 use arrayvec::ArrayString;
 use hl_model::Fault;
 
@@ -51,7 +51,8 @@ fn name(fault: Fault) -> &'static str
 #[tactic(auto, using(crate::proofs::Texts::number_length))]
 fn append_fields(text: &mut ArrayString<160>, fault: Fault)
     requires { array_string_len text.old + 60 ≤ 160 }
-    ensures { text.new.bytes ≡ text.old.bytes ++ fields_of fault }
+    ensures bytes { text.new.bytes ≡ text.old.bytes ++ fields_of fault }
+    ensures short { array_string_len text.new ≤ array_string_len text.old + 60 }
 {
     match fault {
         Fault::NotReady { front, safe } => {
@@ -69,13 +70,23 @@ fn append_fields(text: &mut ArrayString<160>, fault: Fault)
 }
 
 /// The line that answers a refused one, without an LF: its number, its name and its fields.
-#[tactic(auto, using(crate::proofs::Texts::number_length))]
 pub fn print_fault(fault: &Fault) -> ArrayString<160>
     ensures { result.bytes ≡ fault_text fault.now }
 {
-    let mut text = spelled("fault", &[u64::from(fault.number())]);
+    let mut text = ArrayString::new();
+    append_fault(&mut text, fault);
+    text
+}
+
+/// Appends the line that answers a refused one, without an LF: at most 100 bytes.
+#[tactic(auto, using(crate::proofs::Texts::number_length))]
+pub fn append_fault(text: &mut ArrayString<160>, fault: &Fault)
+    requires { array_string_len text.old + 100 ≤ 160 }
+    ensures bytes { text.new.bytes ≡ text.old.bytes ++ fault_text fault.now }
+    ensures short { array_string_len text.new ≤ array_string_len text.old + 100 }
+{
+    append(text, "fault", &[u64::from(fault.number())]);
     text.push_str(" ");
     text.push_str(name(*fault));
-    append_fields(&mut text, *fault);
-    text
+    append_fields(text, *fault);
 }

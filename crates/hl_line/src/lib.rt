@@ -32,7 +32,8 @@
 //! One space stands between two words, and none at either end. A number is decimal ASCII: `0`, or a digit 1 to 9
 //! and digits, at most 18446744073709551615. Anything else is no line.
 //!
-//! [`print_reply`] and [`print_fault`] give the line that answers an accepted step and a refused one.
+//! [`print_reply`] and [`print_fault`] give the line that answers an accepted step and a refused one;
+//! [`append_reply`] and [`append_fault`] put it on a row of the caller's.
 #![tactic(auto)]
 
 mod fault;
@@ -45,8 +46,8 @@ mod steps;
 mod text;
 mod word;
 
-pub use fault::print_fault;
+pub use fault::{append_fault, print_fault};
 pub use line::Line;
 pub use print::print_line;
 pub use read::read_line;
-pub use reply::print_reply;
+pub use reply::{append_reply, print_reply};

@@ -4,9 +4,10 @@ ghost use Rattle.hl_line.specs.Lines.{Fits, spelling};
 ghost use Rattle.hl_line.specs.Reading.{config_of, line_with, guess_of, line_of};
 
 use crate::line::Line;
-use crate::print::print_line;
+use crate::print::write_line;
 use crate::steps::step_with;
 use crate::word::{cut, number};
+use arrayvec::ArrayString;
 use hl_model::Params;
 
 /// The line that is spelled so, if there is one: the bytes are read loosely, and the line that comes of it is
@@ -17,7 +18,9 @@ pub fn read_line(bytes: &[u8]) -> Option<Line>
     ensures only { (l : Line) → Fits l → spelling l ≡ bytes.now → result ≡ Some l }
 {
     let line = guess(bytes)?;
-    if print_line(&line).as_bytes() == bytes {
+    let mut text = ArrayString::new();
+    write_line(&mut text, &line);
+    if text.as_bytes() == bytes {
         Some(line)
     } else {
         None

@@ -1,50 +1,51 @@
 //! The lines of steps: how each is printed, and the step that the words of a line look like.
-ghost use Rattle.std.specs.Prelude.{◌≡◌};
+ghost use Rattle.std.specs.Prelude.{◌≡◌, []};
 ghost use Rattle.hl_model.specs.declared.step.Step.TheVariants.{FlushDone};
 ghost use Rattle.hl_line.specs.Lines.{step_spelling};
 ghost use Rattle.hl_line.specs.Reading.{beside, epoch_steps, word_steps, flush_steps, clean_steps, step_with};
 
-use crate::text::{append, spelled};
+use crate::text::append;
 use crate::word::number;
 use arrayvec::ArrayString;
 use hl_model::Step;
 
-/// The one spelling of a step's line, without an LF.
+/// Writes the spelling of a step's line on an empty row.
 #[tactic(auto, using(crate::proofs::Texts::word_length, crate::proofs::Texts::number_length, crate::proofs::Texts::pair_length, crate::proofs::Texts::triple_length))]
-pub(crate) fn print_step(step: Step) -> ArrayString<80>
-    ensures { result.bytes ≡ step_spelling step }
+pub(crate) fn write_step(text: &mut ArrayString<80>, step: Step)
+    requires { text.old.bytes ≡ [] }
+    ensures { text.new.bytes ≡ step_spelling step }
 {
     match step {
-        Step::Acquire { t } => spelled("acquire", &[t]),
-        Step::Refresh { t } => spelled("refresh", &[t]),
-        Step::Release { t } => spelled("release", &[t]),
-        Step::Bump { tag } => spelled("bump", &[tag]),
-        Step::Settle => spelled("settle", &[]),
-        Step::Close => spelled("close", &[]),
-        Step::Bare => spelled("bare", &[]),
-        Step::Take => spelled("take", &[]),
-        Step::Done { ticket } => spelled("done", &[ticket]),
-        Step::Raise { x } => spelled("raise", &[x]),
-        Step::Shift { x } => spelled("shift", &[x]),
-        Step::Allocate { t, n } => spelled("alloc", &[t, n]),
-        Step::Look { t, read_only, head } => spelled("look", &[t, read_only, head]),
-        Step::Write { t, a, v } => spelled("write", &[t, a, v]),
-        Step::Read { t, a } => spelled("read", &[t, a]),
-        Step::FlushTake => spelled("flush take", &[]),
-        Step::FlushDone { page, ok } => print_flush_done(page, ok),
-        Step::CleanTake => spelled("clean take", &[]),
-        Step::CleanDone { page } => spelled("clean done", &[page]),
+        Step::Acquire { t } => append(text, "acquire", &[t]),
+        Step::Refresh { t } => append(text, "refresh", &[t]),
+        Step::Release { t } => append(text, "release", &[t]),
+        Step::Bump { tag } => append(text, "bump", &[tag]),
+        Step::Settle => append(text, "settle", &[]),
+        Step::Close => append(text, "close", &[]),
+        Step::Bare => append(text, "bare", &[]),
+        Step::Take => append(text, "take", &[]),
+        Step::Done { ticket } => append(text, "done", &[ticket]),
+        Step::Raise { x } => append(text, "raise", &[x]),
+        Step::Shift { x } => append(text, "shift", &[x]),
+        Step::Allocate { t, n } => append(text, "alloc", &[t, n]),
+        Step::Look { t, read_only, head } => append(text, "look", &[t, read_only, head]),
+        Step::Write { t, a, v } => append(text, "write", &[t, a, v]),
+        Step::Read { t, a } => append(text, "read", &[t, a]),
+        Step::FlushTake => append(text, "flush take", &[]),
+        Step::FlushDone { page, ok } => write_flush_done(text, page, ok),
+        Step::CleanTake => append(text, "clean take", &[]),
+        Step::CleanDone { page } => append(text, "clean done", &[page]),
     }
 }
 
-/// The line of a flush that ended: its page, and whether it went well.
+/// Writes the line of a flush that ended on an empty row: its page, and whether it went well.
 #[tactic(auto, using(crate::proofs::Texts::number_length))]
-fn print_flush_done(page: u64, ok: bool) -> ArrayString<80>
-    ensures { result.bytes ≡ step_spelling (FlushDone page ok) }
+fn write_flush_done(text: &mut ArrayString<80>, page: u64, ok: bool)
+    requires { text.old.bytes ≡ [] }
+    ensures { text.new.bytes ≡ step_spelling (FlushDone page ok) }
 {
-    let mut text = spelled("flush done", &[page]);
+    append(text, "flush done", &[page]);
     text.push_str(if ok { " ok" } else { " failed" });
-    text
 }
 
 /// The step of a keyword with these words after it, if it is one.

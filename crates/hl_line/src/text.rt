@@ -1,5 +1,5 @@
 //! A word and numbers, written one after the other.
-ghost use Rattle.std.specs.Prelude.{◌≡◌, ◌+◌, ◌≤◌, ◌++◌, length};
+ghost use Rattle.std.specs.Prelude.{◌≡◌, ◌+◌, ◌<◌, ◌≤◌, ◌++◌, length, decimal};
 ghost use Rattle.arrayvec.specs.ArrayString.{array_string_len};
 ghost use Rattle.hl_line.specs.Lines.{spaced, worded};
 
@@ -28,16 +28,30 @@ fn append_number<const CAP: usize>(text: &mut ArrayString<CAP>, number: u64)
     ensures { text.new.bytes ≡ text.old.bytes ++ spaced number }
 {
     text.push_str(" ");
-    text.push_str(Buffer::new().format(number));
+    if number < 10 {
+        text.push_str(digit(number));
+    } else {
+        text.push_str(Buffer::new().format(number));
+    }
 }
 
-/// A word and then each number, in decimal, after a space.
+/// A number of one digit, in decimal.
 #[inline(always)]
-pub(crate) fn spelled<const CAP: usize>(word: &str, numbers: &[u64]) -> ArrayString<CAP>
-    requires { length (worded word.now numbers.now) ≤ CAP }
-    ensures { result.bytes ≡ worded word.now numbers.now }
+#[tactic(auto, using(std::proofs::lemmas::Fmt::decimal_digit))]
+fn digit(number: u64) -> &'static str
+    requires { number < 10 }
+    ensures { result.now ≡ decimal number }
 {
-    let mut text = ArrayString::new();
-    append(&mut text, word, numbers);
-    text
+    match number {
+        0 => "0",
+        1 => "1",
+        2 => "2",
+        3 => "3",
+        4 => "4",
+        5 => "5",
+        6 => "6",
+        7 => "7",
+        8 => "8",
+        _ => "9",
+    }
 }
