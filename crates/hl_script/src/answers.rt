@@ -7,7 +7,7 @@ ghost use Rattle.hl_script.specs.Text.{bad_text};
 
 use arrayvec::ArrayString;
 use hl_image::put;
-use hl_line::{print_fault, print_reply};
+use hl_line::{append_fault, append_reply};
 use hl_model::{Fault, FrameState, Kind, Reply, Snapshot, Waiting};
 use itoa::Buffer;
 use std::io::Write;
@@ -69,15 +69,22 @@ pub fn print_bad_line(n: u64) -> ArrayString<64>
     text
 }
 
-/// An answer to a step, or the fault.
-#[inline(always)]
-pub(crate) fn print_result(given: &Result<Reply, Fault>) -> ArrayString<160>
-    ensures { result.bytes ≡ result_text given.now }
+/// Writes an answer to a step, or the fault, with an LF.
+///
+/// Fault: `Stream` as for a text.
+pub(crate) fn put_result<W: Write>(out: &mut W, given: &Result<Reply, Fault>) -> Result<(), Fault>
+    ensures ok { OnOk result (Appends (W.contents out.old) (W.contents out.new) (result_text given.now ++ 10 ∷ [])) }
+    ensures err { IfErr result (λ fault. fault ≡ Fault.Stream) }
+    ensures left { OnErr result (BreaksOff (W.contents out.old) (W.contents out.new)
+        (result_text given.now ++ 10 ∷ [])) }
 {
+    let mut text = ArrayString::new();
     match given {
-        Ok(reply) => print_reply(reply),
-        Err(fault) => print_fault(fault),
+        Ok(reply) => append_reply(&mut text, reply),
+        Err(fault) => append_fault(&mut text, fault),
     }
+    text.push_str("\n");
+    put(out, text.as_str().as_bytes())
 }
 
 /// Appends a space, an action's ticket, and what it does.

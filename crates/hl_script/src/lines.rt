@@ -5,7 +5,7 @@ ghost use Rattle.hl_model.specs.Actions.{pending};
 ghost use Rattle.hl_script.specs.Answers.{status_text, pending_text, frames_text};
 ghost use Rattle.hl_script.specs.Stepping.{IsStanding, StepAnswers, QueryAnswers};
 
-use crate::answers::{add_frame, print_pending, print_quantities, print_result, put_line};
+use crate::answers::{add_frame, print_pending, print_quantities, put_line, put_result};
 use crate::stepping::Stepping;
 use arrayvec::ArrayString;
 use hl_model::{Fault, Step};
@@ -28,7 +28,7 @@ pub(crate) fn answer_step<S: Stepping, W: Write>(
     let Some(result) = stepping.step(step) else {
         return Err(Fault::OutOfMemory);
     };
-    put_line(out, print_result(&result).as_str())?;
+    put_result(out, &result)?;
     Ok(result.is_ok())
 }
 
