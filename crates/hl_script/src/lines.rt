@@ -35,6 +35,7 @@ pub(crate) fn answer_step<S: Stepping, W: Write>(
 /// Writes the answer to a query of the quantities, with an LF. It is no step: the answer is false.
 ///
 /// `Stream` as for a step.
+#[inline(never)]
 pub(crate) fn answer_status<S: Stepping, W: Write>(stepping: &S, out: &mut W) -> Result<bool, Fault>
     requires { IsStanding (S.stands stepping.now) }
     ensures { (has : ℕ → Bool) (sizes : Sizes) (A : List Step) → S.stands stepping.now has sizes A
@@ -45,6 +46,7 @@ pub(crate) fn answer_status<S: Stepping, W: Write>(stepping: &S, out: &mut W) ->
 }
 
 /// The same for a query of the pending actions.
+#[inline(never)]
 pub(crate) fn answer_pending<S: Stepping, W: Write>(
     stepping: &S,
     out: &mut W,
@@ -58,6 +60,7 @@ pub(crate) fn answer_pending<S: Stepping, W: Write>(
 }
 
 /// The same for a query of the frames.
+#[inline(never)]
 pub(crate) fn answer_frames<S: Stepping, W: Write>(stepping: &S, out: &mut W) -> Result<bool, Fault>
     requires { IsStanding (S.stands stepping.now) }
     ensures { (has : ℕ → Bool) (sizes : Sizes) (A : List Step) → S.stands stepping.now has sizes A

@@ -1,5 +1,8 @@
-ghost use Rattle.std.specs.Prelude.{ℕ, Bool};
-ghost use Rattle.hl_script.specs.Lines.{takes_memory};
+ghost use Rattle.std.specs.Prelude.{◌≡◌, ℕ, Bool, true, List};
+ghost use Rattle.hl_line.specs.declared.line.Line.{Line};
+ghost use Rattle.hl_line.specs.declared.line.Line.TheVariants.{Config};
+ghost use Rattle.hl_script.specs.Lines.{may_stand, takes_memory};
+ghost use Rattle.hl_script.specs.Interpreter.{Answers};
 ghost use Rattle.hl_script.specs.Machine.{Stands, ScriptRan};
 
 use crate::answers::put_line;
@@ -9,7 +12,7 @@ use crate::machine::Machine;
 use crate::reads::Reads;
 use crate::stepping::{Opening, Stepping};
 use hl_line::Line;
-use hl_model::Fault;
+use hl_model::{Fault, Params};
 use std::io::{Read, Write};
 
 /// Answers a script by what its config opens.
@@ -28,18 +31,7 @@ impl<O: Opening<S> + Drop, S: Stepping + Drop> Machine for Script<O, S> {
 
     fn answer<W: Write>(&mut self, line: &Line, out: &mut W) -> Result<bool, Fault> {
         match *line {
-            Line::Config(sizes) => {
-                let Some(opening) = self.opening.take() else {
-                    // A config stands first.
-                    unreachable!()
-                };
-                let Some(opened) = opening.open(sizes) else {
-                    return Err(Fault::OutOfMemory);
-                };
-                self.opened = Some(opened);
-                put_line(out, "opened")?;
-                Ok(false)
-            }
+            Line::Config(sizes) => self.answer_config(sizes, out),
             Line::Step(step) => match &mut self.opened {
                 Some(opened) => answer_step(opened, &step, out),
                 None => unreachable!(),
@@ -57,6 +49,33 @@ impl<O: Opening<S> + Drop, S: Stepping + Drop> Machine for Script<O, S> {
                 None => unreachable!(),
             },
         }
+    }
+}
+
+impl<O: Opening<S> + Drop, S: Stepping + Drop> Script<O, S> {
+    /// Opens with the sizes of a config, and writes its answer. What it opens is large: inlined, each line would clear
+    /// the room for it.
+    #[inline(never)]
+    fn answer_config<W: Write>(&mut self, sizes: Params, out: &mut W) -> Result<bool, Fault>
+        requires { (has : ℕ → Bool) × (before : List Line)
+            × Stands O.begins S.stands self.old.opening self.old.opened has before
+            × (may_stand before (Config sizes) ≡ true) }
+        ensures { (has : ℕ → Bool) (before : List Line)
+            → Stands O.begins S.stands self.old.opening self.old.opened has before
+            → may_stand before (Config sizes) ≡ true
+            → Answers (Stands O.begins S.stands self.new.opening self.new.opened) (takes_memory S.may_lack) has
+            before (Config sizes) (W.contents out.old) (W.contents out.new) result }
+    {
+        let Some(opening) = self.opening.take() else {
+            // A config stands first.
+            unreachable!()
+        };
+        let Some(opened) = opening.open(sizes) else {
+            return Err(Fault::OutOfMemory);
+        };
+        self.opened = Some(opened);
+        put_line(out, "opened")?;
+        Ok(false)
     }
 }
 
