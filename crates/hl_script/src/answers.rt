@@ -73,7 +73,8 @@ pub fn print_bad_line(n: u64) -> ArrayString<64>
 ///
 /// Fault: `Stream` as for a text.
 pub(crate) fn put_result<W: Write>(out: &mut W, given: &Result<Reply, Fault>) -> Result<(), Fault>
-    ensures ok { OnOk result (Appends (W.contents out.old) (W.contents out.new) (result_text given.now ++ 10 ∷ [])) }
+    ensures ok { OnOk result (Appends (W.contents out.old) (W.contents out.new)
+        (result_text given.now ++ 10 ∷ [])) }
     ensures err { IfErr result (λ fault. fault ≡ Fault.Stream) }
     ensures left { OnErr result (BreaksOff (W.contents out.old) (W.contents out.new)
         (result_text given.now ++ 10 ∷ [])) }

@@ -53,8 +53,8 @@ impl<O: Opening<S> + Drop, S: Stepping + Drop> Machine for Script<O, S> {
 }
 
 impl<O: Opening<S> + Drop, S: Stepping + Drop> Script<O, S> {
-    /// Opens with the sizes of a config, and writes its answer. What it opens is large: inlined, each line would clear
-    /// the room for it.
+    /// Opens with the sizes of a config, and writes its answer. What it opens is large: inlined, each line would
+    /// clear the room for it.
     #[inline(never)]
     fn answer_config<W: Write>(&mut self, sizes: Params, out: &mut W) -> Result<bool, Fault>
         requires { (has : ℕ → Bool) × (before : List Line)
@@ -63,8 +63,8 @@ impl<O: Opening<S> + Drop, S: Stepping + Drop> Script<O, S> {
         ensures { (has : ℕ → Bool) (before : List Line)
             → Stands O.begins S.stands self.old.opening self.old.opened has before
             → may_stand before (Config sizes) ≡ true
-            → Answers (Stands O.begins S.stands self.new.opening self.new.opened) (takes_memory S.may_lack) has
-            before (Config sizes) (W.contents out.old) (W.contents out.new) result }
+            → Answers (Stands O.begins S.stands self.new.opening self.new.opened) (takes_memory S.may_lack)
+            has before (Config sizes) (W.contents out.old) (W.contents out.new) result }
     {
         let Some(opening) = self.opening.take() else {
             // A config stands first.
