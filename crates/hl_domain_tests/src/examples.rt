@@ -2,16 +2,48 @@
 ghost use Rattle.std.specs.Prelude.{◌≡◌};
 ghost use Rattle.hl_words.specs.States.{IsSeedOf};
 
-use crate::jobs::{Pages, job, passed, released, small_seed, ticket_of, view};
+use crate::jobs::{
+    Anything, Pages, Tells, ended, job, passed, released, small_seed, ticket_of, view,
+};
 use hl_counts::CountTable;
+use hl_domain::{Ending, Pass};
 use hl_epoch::{Epochs, ScanTable};
 use hl_model::{Fault, Held, Kind, Six, Slot, Step};
-use hl_words::{Realm, Seed};
+use hl_words::{Realm, Rider, Seed};
 use std::alloc::Global;
 use std::marker::Brand;
 use std::process::Abort;
 use std::sync::Wait;
 use std::test::Fail;
+
+// A pass stores until it has no room for another touch.
+fn touch<E: Epochs + Drop, L: Realm>(
+    rt: &(impl Wait + Abort),
+    domain: &Pages<E, L>,
+    pass: &mut Pass<L>,
+) {
+    assert_eq!(rt; domain.allocate(rt, pass, 4), Ok(0));
+    assert_eq!(rt; domain.store(pass, 1, 5), Ok(()));
+    assert_eq!(rt; domain.load(pass, 1), Ok(5));
+    assert_eq!(rt; domain.refresh(rt, pass), Ok(view(0, 0, 4)));
+    for v in 0..32 {
+        assert_eq!(rt; domain.store(pass, 2, v), Ok(()));
+    }
+    assert_eq!(rt; domain.store(pass, 2, 32), Err(Fault::TouchesFull));
+}
+
+// Another sees a raise by a look alone, and stores below it no longer.
+fn see_a_raise<E: Epochs + Drop, L: Realm>(
+    rt: &(impl Wait + Abort),
+    domain: &Pages<E, L>,
+    rider: &mut Rider<L>,
+    pass: &mut Pass<L>,
+) {
+    assert_eq!(rt; domain.raise(rt, rider, 4), Ok(4));
+    assert_eq!(rt; domain.look(pass), Ok(view(4, 0, 4)));
+    let below = Err(Fault::Below { read_only: 4 });
+    assert_eq!(rt; domain.store(pass, 1, 6), below);
+}
 
 fn domain_touches<E: Epochs + Drop, L: Realm>(
     rt: &(impl Wait + Abort),
@@ -26,27 +58,13 @@ fn domain_touches<E: Epochs + Drop, L: Realm>(
     let second = riders.pop().ok_or("three riders")?;
     let first = riders.pop().ok_or("three riders")?;
     let mut pass = passed(domain.acquire(rt, 0, first))?;
-    assert_eq!(rt; domain.allocate(rt, &mut pass, 4), Ok(0));
-    assert_eq!(rt; domain.store(&mut pass, 1, 5), Ok(()));
-    assert_eq!(rt; domain.load(&mut pass, 1), Ok(5));
-    assert_eq!(rt; domain.refresh(rt, &mut pass), Ok(view(0, 0, 4)));
-    for v in 0..32 {
-        assert_eq!(rt; domain.store(&mut pass, 2, v), Ok(()));
-    }
-    assert_eq!(rt; domain.store(&mut pass, 2, 32), Err(Fault::TouchesFull));
+    touch(rt, &domain, &mut pass);
     let mut other = passed(domain.acquire(rt, 1, second))?;
-    assert_eq!(rt; domain.raise(rt, &mut third, 4), Ok(4));
-    assert_eq!(rt; domain.look(&mut other), Ok(view(4, 0, 4)));
-    assert_eq!(rt;
-        domain.store(&mut other, 1, 6),
-        Err(Fault::Below { read_only: 4 })
-    );
+    see_a_raise(rt, &domain, &mut third, &mut other);
     riders.push(released(domain.release(rt, pass))?)?;
     riders.push(released(domain.release(rt, other))?)?;
     riders.push(third)?;
-    let Ok(ending) = domain.close(riders) else {
-        panic!(rt; "a rider is missing")
-    };
+    let ending = ended(rt, domain, riders);
     let begin = [
         Step::Acquire { t: 0 },
         Step::Allocate { t: 0, n: 4 },
@@ -63,34 +81,23 @@ fn touches(rt: HostRuntime) -> Result<(), Fail> {
     domain_touches::<CountTable, Brand>(&rt, rt.alloc(), small_seed(rt.alloc(), 3)?)
 }
 
-fn left_action<E: Epochs + Drop, L: Realm>(
+// A word that one pass stores another loads; then an action is stored.
+fn share_a_word<E: Epochs + Drop, L: Realm>(
     rt: &(impl Wait + Abort),
-    alloc: Global,
-    seed: Seed,
-) -> Result<(), Fail>
-    requires seed { IsSeedOf L.name L.parts L.table seed }
-    requires named { (seed.sizes ≡ L.sizes) × (1000 ≡ L.stamp) }
-{
-    let (domain, mut riders) = Pages::<E, L>::open(alloc, seed, 100, 1000)?;
-    let mut third = riders.pop().ok_or("three riders")?;
-    let second = riders.pop().ok_or("three riders")?;
-    let first = riders.pop().ok_or("three riders")?;
-    let mut pass = passed(domain.acquire(rt, 0, first))?;
-    let mut other = passed(domain.acquire(rt, 1, second))?;
-    assert_eq!(rt; domain.allocate(rt, &mut pass, 4), Ok(0));
-    assert_eq!(rt; domain.store(&mut pass, 1, 5), Ok(()));
-    assert_eq!(rt; domain.refresh(rt, &mut other), Ok(view(0, 0, 4)));
-    assert_eq!(rt; domain.load(&mut other, 1), Ok(5));
-    assert_eq!(rt; ticket_of(domain.bump(rt, &mut third, job(9, 90))), Ok(1));
-    let first = released(domain.release(rt, pass))?;
-    let second = released(domain.release(rt, other))?;
-    assert_eq!(rt; [first.share(), second.share(), third.share()], [4, 3, 1]);
-    riders.push(first)?;
-    riders.push(second)?;
-    riders.push(third)?;
-    let Ok(mut ending) = domain.close(riders) else {
-        panic!(rt; "a rider is missing")
-    };
+    domain: &Pages<E, L>,
+    pass: &mut Pass<L>,
+    other: &mut Pass<L>,
+    rider: &mut Rider<L>,
+) {
+    assert_eq!(rt; domain.allocate(rt, pass, 4), Ok(0));
+    assert_eq!(rt; domain.store(pass, 1, 5), Ok(()));
+    assert_eq!(rt; domain.refresh(rt, other), Ok(view(0, 0, 4)));
+    assert_eq!(rt; domain.load(other, 1), Ok(5));
+    assert_eq!(rt; ticket_of(domain.bump(rt, rider, job(9, 90))), Ok(1));
+}
+
+// The steps, and the action that nobody took.
+fn check_left(rt: &impl Abort, ending: &mut Ending<Tells, Anything>) {
     let steps = [
         Step::Acquire { t: 0 },
         Step::Acquire { t: 1 },
@@ -106,6 +113,31 @@ fn left_action<E: Epochs + Drop, L: Realm>(
     assert_eq!(rt; waiting.len(), 1);
     assert!(rt; waiting[0].ticket == 1 && waiting[0].kind == Kind::User(9));
     assert!(rt; ending.left.give_up().is_some() && ending.left.give_up().is_none());
+}
+
+fn left_action<E: Epochs + Drop, L: Realm>(
+    rt: &(impl Wait + Abort),
+    alloc: Global,
+    seed: Seed,
+) -> Result<(), Fail>
+    requires seed { IsSeedOf L.name L.parts L.table seed }
+    requires named { (seed.sizes ≡ L.sizes) × (1000 ≡ L.stamp) }
+{
+    let (domain, mut riders) = Pages::<E, L>::open(alloc, seed, 100, 1000)?;
+    let mut third = riders.pop().ok_or("three riders")?;
+    let second = riders.pop().ok_or("three riders")?;
+    let first = riders.pop().ok_or("three riders")?;
+    let mut pass = passed(domain.acquire(rt, 0, first))?;
+    let mut other = passed(domain.acquire(rt, 1, second))?;
+    share_a_word(rt, &domain, &mut pass, &mut other, &mut third);
+    let first = released(domain.release(rt, pass))?;
+    let second = released(domain.release(rt, other))?;
+    assert_eq!(rt; [first.share(), second.share(), third.share()], [4, 3, 1]);
+    riders.push(first)?;
+    riders.push(second)?;
+    riders.push(third)?;
+    let mut ending = ended(rt, domain, riders);
+    check_left(rt, &mut ending);
     Ok(())
 }
 
@@ -142,6 +174,23 @@ fn a_journal_is_full(rt: HostRuntime) -> Result<(), Fail> {
     full_journal::<CountTable, Brand>(&rt, rt.alloc(), small_seed(rt.alloc(), 1)?)
 }
 
+// Four steps fill the journal; once they are cut, the next are kept.
+fn fill_and_cut<E: Epochs + Drop, L: Realm>(
+    rt: &(impl Wait + Abort),
+    domain: &Pages<E, L>,
+    pass: &mut Pass<L>,
+    rider: &mut Rider<L>,
+) {
+    assert_eq!(rt; domain.allocate(rt, pass, 4), Ok(0));
+    assert_eq!(rt; domain.refresh(rt, pass), Ok(view(0, 0, 4)));
+    assert_eq!(rt; domain.store(pass, 1, 5), Ok(()));
+    assert_eq!(rt; domain.raise(rt, rider, 4), Ok(4));
+    assert_eq!(rt; domain.refresh(rt, pass), Err(Fault::JournalFull));
+    assert_eq!(rt; domain.cut(rt, rider), 4);
+    assert_eq!(rt; domain.cut(rt, rider), 0);
+    assert_eq!(rt; domain.refresh(rt, pass), Ok(view(4, 0, 4)));
+}
+
 fn cut_journal<E: Epochs + Drop, L: Realm>(
     rt: &(impl Wait + Abort),
     alloc: Global,
@@ -154,21 +203,12 @@ fn cut_journal<E: Epochs + Drop, L: Realm>(
     let mut second = riders.pop().ok_or("two riders")?;
     let first = riders.pop().ok_or("two riders")?;
     let mut pass = passed(domain.acquire(rt, 0, first))?;
-    assert_eq!(rt; domain.allocate(rt, &mut pass, 4), Ok(0));
-    assert_eq!(rt; domain.refresh(rt, &mut pass), Ok(view(0, 0, 4)));
-    assert_eq!(rt; domain.store(&mut pass, 1, 5), Ok(()));
-    assert_eq!(rt; domain.raise(rt, &mut second, 4), Ok(4));
-    assert_eq!(rt; domain.refresh(rt, &mut pass), Err(Fault::JournalFull));
-    assert_eq!(rt; domain.cut(rt, &mut second), 4);
-    assert_eq!(rt; domain.cut(rt, &mut second), 0);
-    assert_eq!(rt; domain.refresh(rt, &mut pass), Ok(view(4, 0, 4)));
+    fill_and_cut(rt, &domain, &mut pass, &mut second);
     let first = released(domain.release(rt, pass))?;
     assert_eq!(rt; [first.share(), second.share()], [6, 1]);
     riders.push(first)?;
     riders.push(second)?;
-    let Ok(ending) = domain.close(riders) else {
-        panic!(rt; "a rider is missing")
-    };
+    let ending = ended(rt, domain, riders);
     let steps = [
         Step::Write { t: 0, a: 1, v: 5 },
         Step::Refresh { t: 0 },

@@ -2,11 +2,13 @@
 ghost use Rattle.std.specs.Prelude.{◌≡◌, ◌<◌, ◌≤◌, ◌^◌, IfOk};
 
 use hl_action::{Firing, Kept, Promise, Task};
-use hl_domain::{Domain, Pass};
+use hl_domain::{Domain, Ending, Pass};
 use hl_drain::Ask;
+use hl_epoch::Epochs;
 use hl_model::{Fault, Params, View};
 use hl_words::{Realm, Rider, Seed};
 use std::alloc::Global;
+use std::process::Abort;
 
 /// Any answer will do.
 pub(crate) struct Anything;
@@ -76,4 +78,16 @@ pub(crate) fn released<L: Realm>(
 /// The ticket of a bump, or the fault.
 pub(crate) fn ticket_of(answer: Result<u64, (Fault, Asked)>) -> Result<u64, Fault> {
     answer.map_err(|(fault, _)| fault)
+}
+
+/// What is left of a domain whose riders are all there.
+pub(crate) fn ended<E: Epochs + Drop, L: Realm>(
+    rt: &impl Abort,
+    domain: Pages<E, L>,
+    riders: Vec<Rider<L>>,
+) -> Ending<Tells, Anything> {
+    match domain.close(riders) {
+        Ok(ending) => ending,
+        Err(_) => panic!(rt; "a rider is missing"),
+    }
 }

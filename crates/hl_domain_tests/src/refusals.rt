@@ -2,7 +2,7 @@
 ghost use Rattle.std.specs.Prelude.{◌≡◌};
 ghost use Rattle.hl_words.specs.States.{IsSeedOf};
 
-use crate::jobs::{Pages, job, passed, released, small_seed, ticket_of, view};
+use crate::jobs::{Pages, ended, job, passed, released, small_seed, ticket_of, view};
 use hl_counts::CountTable;
 use hl_domain::Pass;
 use hl_drain::Ask;
@@ -43,6 +43,23 @@ fn close_with_a_rider_missing(rt: HostRuntime) -> Result<(), Fail> {
     held_pass::<Brand>(&rt, rt.alloc(), small_seed(rt.alloc(), 2)?)
 }
 
+// A settle waits for a slot that nobody will release.
+fn settle_in_vain<E: Epochs + Drop, L: Realm>(
+    rt: &(impl Wait + Abort),
+    domain: &Pages<E, L>,
+    rider: &mut Rider<L>,
+) {
+    assert_eq!(rt; domain.raise(rt, rider, 4), Ok(4));
+    assert_eq!(rt; ticket_of(domain.bump(rt, rider, Ask::Settle)), Ok(1));
+    match domain.take(rt, rider) {
+        Ok(ready) => {
+            ready.forsake();
+            panic!(rt; "the slot stays protected")
+        }
+        Err(fault) => assert_eq!(rt; fault, Fault::NotReady { front: 1, safe: 0 }),
+    }
+}
+
 fn abandoned_pass<E: Epochs + Drop, L: Realm>(
     rt: &(impl Wait + Abort),
     alloc: Global,
@@ -58,15 +75,7 @@ fn abandoned_pass<E: Epochs + Drop, L: Realm>(
     assert_eq!(rt; domain.allocate(rt, &mut pass, 4), Ok(0));
     assert_eq!(rt; domain.store(&mut pass, 0, 7), Ok(()));
     let first = pass.abandon();
-    assert_eq!(rt; domain.raise(rt, &mut second, 4), Ok(4));
-    assert_eq!(rt; ticket_of(domain.bump(rt, &mut second, Ask::Settle)), Ok(1));
-    match domain.take(rt, &mut second) {
-        Ok(ready) => {
-            ready.forsake();
-            panic!(rt; "the slot stays protected")
-        }
-        Err(fault) => assert_eq!(rt; fault, Fault::NotReady { front: 1, safe: 0 }),
-    }
+    settle_in_vain(rt, &domain, &mut second);
     let Err((fault, second)) = domain.acquire(rt, 0, second) else {
         panic!(rt; "the slot stays protected")
     };
@@ -74,9 +83,7 @@ fn abandoned_pass<E: Epochs + Drop, L: Realm>(
     assert_eq!(rt; [first.share(), second.share()], [2, 2]);
     riders.push(first)?;
     riders.push(second)?;
-    let Ok(ending) = domain.close(riders) else {
-        panic!(rt; "a rider is missing")
-    };
+    let ending = ended(rt, domain, riders);
     let steps = [
         Step::Acquire { t: 0 },
         Step::Allocate { t: 0, n: 4 },

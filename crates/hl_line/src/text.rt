@@ -28,6 +28,7 @@ fn append_number<const CAP: usize>(text: &mut ArrayString<CAP>, number: u64)
     ensures { text.new.bytes ≡ text.old.bytes ++ spaced number }
 {
     text.push_str(" ");
+    // Most numbers of a script have one digit, and want no buffer.
     if number < 10 {
         text.push_str(digit(number));
     } else {
