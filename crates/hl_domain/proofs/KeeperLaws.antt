@@ -1,5 +1,5 @@
 -- Where a keeper stands: when it was opened, and after steps that its core accepted.
-use Rattle.std.proofs.Common.{◌≡◌, ℕ, ◌+◌, ◌≤◌, Bool, true, false, cond, ltb, List, [], ◌∷◌, ◌++◌, length, replicate, refl, sym, ap, ◌∙◌, arith, append_assoc, append-nil, length-append}
+use Rattle.std.proofs.Common.{◌≡◌, ℕ, ◌+◌, ◌≤◌, Bool, true, false, cond, ltb, List, [], ◌∷◌, ◌++◌, length, replicate, refl, sym, ap, ◌∙◌, arith, append_assoc, length-append}
 use Rattle.std.specs.Prelude.{◌||◌, Some, None, Ok, Err}
 use Rattle.std.proofs.lemmas.Bool.{ltb-false, or_parts}
 use Rattle.hl_model.specs.declared.fault.Fault.TheVariants.{JournalFull}

@@ -1,6 +1,6 @@
 -- What each step is answered after a base and the steps since, by the quantities alone, and which steps are
 -- accepted.
-use Rattle.std.specs.Prelude.{ℕ, ◌≡◌, ◌+◌, ◌-◌, ◌*◌, ◌/◌, ◌==◌, nat_le, nat_lt, ◌||◌, if◌then◌else◌, Option, Some, None, is_none, is_some, unwrap_or, Result, List, [], ◌∷◌, ◌++◌, length, map, find}
+use Rattle.std.specs.Prelude.{ℕ, ◌+◌, ◌-◌, ◌*◌, ◌/◌, ◌==◌, nat_le, nat_lt, ◌||◌, if◌then◌else◌, Option, Some, None, is_none, is_some, unwrap_or, Result, List, [], ◌∷◌, ◌++◌, length, map, find}
 use Rattle.std.specs.List.{list_any, range_with_len}
 use Rattle.hl_model.specs.declared.action.Kind.{Kind}
 use Rattle.hl_model.specs.declared.action.Kind.TheVariants.{User, Settle as Settling, Close as Closing}
