@@ -4,7 +4,6 @@ ghost use Rattle.hl_model.specs.declared.fault.Fault.TheVariants.{OutOfMemory};
 
 use crate::flusher::Duty;
 use crate::gate::Gate;
-use crate::messages::Channels;
 use crate::shared::Shared;
 use crate::threads::run_threads;
 use hl_action::{Promise, Task};
@@ -63,16 +62,13 @@ where
     requires { IsLag domain.now.sizes.frames mutable resident }
     ensures { IfErr result (λ back. back.0 ≡ OutOfMemory) }
 {
-    let Ok(channels) = Channels::open(alloc) else {
-        return Err((Fault::OutOfMemory, riders, first, second));
-    };
+    let shared = Shared::open(alloc, riders, first, second)?;
     let duty = Duty {
         mutable,
         resident,
         turns,
         cut,
     };
-    let shared = Shared::of(channels, riders, first, second);
     let is_whole = run_threads(rt, domain, gate, &shared, duty);
     let (riders, [first, second], counts) = shared.end();
     if !is_whole {

@@ -1,8 +1,13 @@
+ghost use Rattle.std.specs.Prelude.{◌≡◌, IfErr};
+ghost use Rattle.hl_model.specs.declared.fault.Fault.TheVariants.{OutOfMemory};
+
 use crate::counts::Counts;
 use crate::flusher::FlusherState;
 use crate::messages::Channels;
 use crate::writer::WriterState;
+use hl_model::Fault;
 use hl_words::{Realm, Rider};
+use std::alloc::Global;
 use std::sync::Mutex;
 use std::sync::atomic::AtomicBool;
 
@@ -17,15 +22,23 @@ pub(crate) struct Shared<L: Realm, W> {
 }
 
 impl<L: Realm, W> Shared<L, W> {
-    /// Each rider and each page writer at its place.
-    pub(crate) fn of(
-        channels: Channels,
+    /// Each rider and each page writer at its place, with channels between them.
+    ///
+    /// `OutOfMemory` where memory for the channels was refused; then all is handed back.
+    pub(crate) fn open(
+        alloc: Global,
         riders: [Rider<L>; 4],
         first: W,
         second: W,
-    ) -> Shared<L, W> {
+    ) -> Result<Shared<L, W>, (Fault, [Rider<L>; 4], W, W)>
+        ensures { IfErr result (λ back. (back.0 ≡ OutOfMemory)
+            × (back.1 ≡ riders) × (back.2 ≡ first) × (back.3 ≡ second)) }
+    {
+        let Ok(channels) = Channels::open(alloc) else {
+            return Err((Fault::OutOfMemory, riders, first, second));
+        };
         let [flushing, writing, also_writing, cleaning] = riders;
-        Shared {
+        Ok(Shared {
             channels,
             flusher: Mutex::new(FlusherState {
                 rider: flushing,
@@ -41,7 +54,7 @@ impl<L: Realm, W> Shared<L, W> {
             }),
             cleaner: Mutex::new(cleaning),
             is_stopped: AtomicBool::new(false),
-        }
+        })
     }
 
     /// The riders and the page writers, and what the flusher counted.

@@ -1,13 +1,14 @@
-ghost use Rattle.std.specs.Prelude.{◌≡◌, ◌==◌, ◌&&◌};
-ghost use Rattle.hl_crew.specs.Lags.{IsLag};
+ghost use Rattle.std.specs.Prelude.{◌≡◌};
+ghost use Rattle.hl_crew.specs.Lags.{IsLag, steps_wanted};
 
 use crate::flusher::Flusher;
 use crate::messages::Over;
+use arrayvec::ArrayVec;
 use hl_action::{Kept, Promise, Task};
 use hl_drain::Ask;
 use hl_epoch::Epochs;
 use hl_flush::lag_steps;
-use hl_model::{Fault, Snapshot, Step};
+use hl_model::{Fault, Params, Snapshot, Step};
 use hl_words::{Realm, Rider};
 use std::sync::Wait;
 
@@ -22,17 +23,12 @@ impl<R: Wait, E: Epochs + Drop, F: Task, P: Promise, L: Realm> Flusher<'_, R, E,
         requires { IsLag self.now.domain.now.sizes.frames mutable resident }
     {
         let (now, _, _) = self.domain.snapshot(self.rt);
-        if !is_idle(&now) {
-            return Ok(());
+        let wanted = steps_wanted(self.domain.params(), &now, mutable, resident);
+        let made = wanted.iter().try_for_each(|step| self.make(rider, *step));
+        match made {
+            Err(Fault::JournalFull) => Err(Over),
+            _ => Ok(()),
         }
-        for step in &lag_steps(self.domain.params(), now.six, mutable, resident) {
-            match self.make(rider, *step) {
-                Ok(()) => {}
-                Err(Fault::JournalFull) => return Err(Over),
-                Err(_) => return Ok(()),
-            }
-        }
-        Ok(())
     }
 
     // Makes a step of the lag.
@@ -56,9 +52,14 @@ impl<R: Wait, E: Epochs + Drop, F: Task, P: Promise, L: Realm> Flusher<'_, R, E,
     }
 }
 
-// Whether no action waits, and none is taken.
-fn is_idle(now: &Snapshot) -> bool
-    ensures { result ≡ (now.now.pending == 0 && now.now.taken == 0) }
+// The lag's steps, where no action waits and none is taken; else none.
+fn steps_wanted(params: Params, now: &Snapshot, mutable: u64, resident: u64) -> ArrayVec<Step, 4>
+    requires { IsLag params.frames mutable resident }
+    ensures { result.items ≡ steps_wanted params.page_size now.now mutable resident }
 {
-    now.pending == 0 && now.taken == 0
+    if now.pending == 0 && now.taken == 0 {
+        lag_steps(params, now.six, mutable, resident)
+    } else {
+        ArrayVec::new()
+    }
 }
