@@ -1,4 +1,4 @@
-ghost use Rattle.std.specs.Prelude.{◌≡◌, ℕ, Some, None, position, OnOk};
+ghost use Rattle.std.specs.Prelude.{◌≡◌, ℕ, Some, None, Ok, position, OnOk};
 ghost use Rattle.hl_crew.specs.Pouches.{is_of, load_count};
 ghost use Rattle.hl_crew.specs.Counting.{one_stranger, AnswersAndCounts};
 
@@ -37,9 +37,10 @@ impl<R: Wait, E: Epochs + Drop, F: Task, P: Promise, L: Realm> Flusher<'_, R, E,
         told: Acknowledgement,
     ) -> Result<(), Over>
         ensures stranger { position (is_of told.page) pouch.old ≡ None
-            → (pouch.new ≡ pouch.old) × (own.new.counts ≡ one_stranger own.old.counts) }
+            → (result ≡ Ok tt) × (pouch.new ≡ pouch.old) × (own.new.counts ≡ one_stranger own.old.counts) }
         ensures held { (at : ℕ) → position (is_of told.page) pouch.old ≡ Some at
-            → AnswersAndCounts F self.now.domain.now told at pouch.old pouch.new own.old.counts own.new.counts }
+            → AnswersAndCounts F self.now.domain.now told at pouch.old pouch.new
+            own.old.counts own.new.counts }
     {
         match pouch.answer(self.rt, self.domain, &mut own.rider, told.page, told.ok) {
             Ok(_) => own.counts.count(told.ok),
