@@ -65,40 +65,68 @@ fn work<L: Realm + Send + Sync, R: Threads + Wait + Sync>(
 ) -> Result<Vec<Rider<L>>, Fault>
     requires { log.now.sizes.frames ≡ 64 }
 {
-    let (Some(fourth), Some(third), Some(second), Some(first)) = (
-        riders.pop(),
-        riders.pop(),
-        riders.pop(),
-        riders.pop(),
-    ) else {
-        return Err(Fault::Size);
-    };
-    let one = MemoryWriter::open(alloc, 64, 520)?;
-    let other = MemoryWriter::open(alloc, 64, 520)?;
+    let crew = crew_of(&mut riders).ok_or(Fault::Size)?;
+    let mut seats = seats_of(alloc, riders)?;
+    let ended = place_and_flush(rt, alloc, log, &mut seats, crew)?;
+    match ended {
+        Ok(end) => gather(alloc, seats, end.riders),
+        Err((fault, ..)) => Err(fault),
+    }
+}
+
+// Four of the riders, for the crew.
+fn crew_of<L: Realm>(riders: &mut Vec<Rider<L>>) -> Option<Crew<L>> {
+    Some([riders.pop()?, riders.pop()?, riders.pop()?, riders.pop()?])
+}
+
+// A seat for each of the riders.
+fn seats_of<L: Realm>(
+    alloc: Global,
+    riders: Vec<Rider<L>>,
+) -> Result<Vec<Option<Rider<L>>>, Fault> {
     let mut seats = with_room(alloc, 8)?;
     for rider in riders {
         seats.push(Some(rider)).map_err(|_| Fault::OutOfMemory)?;
     }
-    let (_, crew) = thread::join(
-        rt,
-        || place_all(rt, log, seats.as_mut_slice()),
-        || -> Ended<L>
-            requires { log.now.sizes.frames ≡ 64 }
-        {
-            // About 2 pages may be written and 4 read; 100 turns, with a cut at the end of each.
-            let crew = [first, second, third, fourth];
-            run_crew(rt, alloc, log, crew, one, other, &OpenGate, 2, 4, 100, true)
-        },
-    );
-    let crew = match crew {
-        Ok(end) => end.riders,
-        Err((fault, ..)) => return Err(fault),
-    };
+    Ok(seats)
+}
+
+// All riders, those of the seats first.
+fn gather<L: Realm>(
+    alloc: Global,
+    seats: Vec<Option<Rider<L>>>,
+    crew: Crew<L>,
+) -> Result<Vec<Rider<L>>, Fault> {
     let mut riders = with_room(alloc, 8)?;
     for rider in seats.into_iter().flatten().chain(crew) {
         riders.push(rider).map_err(|_| Fault::OutOfMemory)?;
     }
     Ok(riders)
+}
+
+// The riders of the seats place their records while the crew makes its turns.
+fn place_and_flush<L: Realm + Send + Sync, R: Threads + Wait + Sync>(
+    rt: &R,
+    alloc: Global,
+    log: &Log<L>,
+    seats: &mut [Option<Rider<L>>],
+    crew: Crew<L>,
+) -> Result<Ended<L>, Fault>
+    requires { log.now.sizes.frames ≡ 64 }
+{
+    let one = MemoryWriter::open(alloc, 64, 520)?;
+    let other = MemoryWriter::open(alloc, 64, 520)?;
+    let (_, ended) = thread::join(
+        rt,
+        || place_all(rt, log, seats),
+        || -> Ended<L>
+            requires { log.now.sizes.frames ≡ 64 }
+        {
+            // About 2 pages may be written and 4 read; 100 turns, with a cut at the end of each.
+            run_crew(rt, alloc, log, crew, one, other, &OpenGate, 2, 4, 100, true)
+        },
+    );
+    Ok(ended)
 }
 
 // Each rider places its records in a thread and on a slot of its own.

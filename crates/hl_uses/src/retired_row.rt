@@ -19,32 +19,47 @@ impl Tagged for Retired {
     }
 }
 
+/// A core whose actions free rows.
+type RowCore = Core<CountTable, Retired>;
+
 /// Frees an old row once the reader that may have seen it has moved on: the deferred free for which epochs are mostly
 /// used. The row itself is what the bump stores.
 ///
 /// Faults: `OutOfMemory`; `Stream` where the writer fails.
 pub fn run<W: Write>(alloc: Global, out: &mut W) -> Result<(), Fault> {
     let params = Params::checked(4, 2, 2, 4).ok_or(Fault::Size)?;
-    let mut core = Core::<CountTable, Retired>::open(alloc, params)?;
-    let row = vec![in alloc; 7; 100].map_err(|_| Fault::OutOfMemory)?;
+    let mut core = RowCore::open(alloc, params)?;
+    run_on(alloc, &mut core, out)
+}
 
+fn run_on<W: Write>(alloc: Global, core: &mut RowCore, out: &mut W) -> Result<(), Fault> {
     // A reader enters, and may hold a reference to the row.
     core.acquire(0)?;
     // The writer puts another row in its place, and retires this one.
-    let retired = Ask::User(Retired { number: 1, row });
-    let ticket = core.bump(retired).map_err(|(fault, _)| fault)?;
+    let ticket = retire(alloc, core)?;
     say(out, "retired under ticket", ticket)?;
 
     // Not yet: the reader has not moved on.
-    if let Err(Fault::NotReady { front, safe }) = core.take() {
+    if let Some(Fault::NotReady { front, safe }) = core.take().err() {
         say(out, "waits for ticket", front)?;
         say(out, "safe epoch", safe)?;
     }
     core.refresh(0)?;
-    let (firing, job) = core.take()?;
-    if let Some(retired) = job {
-        say(out, "freed row of words", retired.row.len() as u64)?;
-    }
-    core.done(firing.ticket())?;
+    let words = free(core)?;
+    say(out, "freed row of words", words)?;
     core.release(0)
+}
+
+// Stores the row until it may be freed: the ticket.
+fn retire(alloc: Global, core: &mut RowCore) -> Result<u64, Fault> {
+    let row = vec![in alloc; 7; 100].map_err(|_| Fault::OutOfMemory)?;
+    let retired = Ask::User(Retired { number: 1, row });
+    core.bump(retired).map_err(|(fault, _)| fault)
+}
+
+// Takes the oldest action, and lets go of its row: how many words it had.
+fn free(core: &mut RowCore) -> Result<u64, Fault> {
+    let (firing, job) = core.take()?;
+    core.done(firing.ticket())?;
+    Ok(job.map_or(0, |retired| retired.row.len() as u64))
 }
