@@ -83,7 +83,7 @@ const PAGES: u64 = 8192;
 /// What a crew hands back.
 type Ended<L> = Result<
     CrewEnd<L, MemoryWriter>,
-    (Fault, [Rider<L>; 4], MemoryWriter, MemoryWriter),
+    (Fault, [Rider<L>; CREW], MemoryWriter, MemoryWriter),
 >;
 
 /// The domain of a race.
@@ -151,46 +151,72 @@ fn run_on<L: Realm + Send + Sync, R: Threads + Wait + Sync>(
 ) -> Result<Vec<Rider<L>>, Fault>
     requires { domain.now.sizes.frames ≡ 8 }
 {
-    let (Some(fourth), Some(third), Some(second), Some(first)) = (
-        riders.pop(),
-        riders.pop(),
-        riders.pop(),
-        riders.pop(),
-    ) else {
-        return Err(Fault::Size);
-    };
-    let crew = [first, second, third, fourth];
-    let one = MemoryWriter::open(alloc, PAGES, 136)?;
-    let other = MemoryWriter::open(alloc, PAGES, 136)?;
+    let crew = crew_of(&mut riders).ok_or(Fault::Size)?;
+    let mut seats = seats_of(alloc, riders)?;
+    let ended = ride_and_flush(rt, alloc, domain, &mut seats, crew, race)?;
+    match ended {
+        Ok(end) => gather(alloc, seats, end.riders),
+        Err((fault, ..)) => Err(fault),
+    }
+}
+
+// The last four riders, for the crew.
+fn crew_of<L: Realm>(riders: &mut Vec<Rider<L>>) -> Option<[Rider<L>; CREW]> {
+    Some([riders.pop()?, riders.pop()?, riders.pop()?, riders.pop()?])
+}
+
+// A seat for each of the riders.
+fn seats_of<L: Realm>(
+    alloc: Global,
+    riders: Vec<Rider<L>>,
+) -> Result<Vec<Option<Rider<L>>>, Fault> {
     let mut seats = with_room(alloc, riders.len() as u64)?;
     for rider in riders {
         seats.push(Some(rider)).map_err(|_| Fault::OutOfMemory)?;
     }
-    let (_, end) = thread::join(
+    Ok(seats)
+}
+
+// All riders, those of the seats first.
+fn gather<L: Realm>(
+    alloc: Global,
+    seats: Vec<Option<Rider<L>>>,
+    crew: [Rider<L>; CREW],
+) -> Result<Vec<Rider<L>>, Fault> {
+    let mut riders = with_room(alloc, (seats.len() + CREW) as u64)?;
+    for rider in seats.into_iter().flatten().chain(crew) {
+        riders.push(rider).map_err(|_| Fault::OutOfMemory)?;
+    }
+    Ok(riders)
+}
+
+// The riders of the seats make their rounds while the crew makes its turns.
+fn ride_and_flush<L: Realm + Send + Sync, R: Threads + Wait + Sync>(
+    rt: &R,
+    alloc: Global,
+    domain: &Track<L>,
+    seats: &mut [Option<Rider<L>>],
+    crew: [Rider<L>; CREW],
+    race: Race,
+) -> Result<Ended<L>, Fault>
+    requires { domain.now.sizes.frames ≡ 8 }
+{
+    let one = MemoryWriter::open(alloc, PAGES, 136)?;
+    let other = MemoryWriter::open(alloc, PAGES, 136)?;
+    let Race { rounds, cut, .. } = race;
+    let (_, ended) = thread::join(
         rt,
-        || ride_all(rt, domain, seats.as_mut_slice(), race.rounds),
+        || ride_all(rt, domain, seats, rounds),
         || -> Ended<L>
             requires { domain.now.sizes.frames ≡ 8 }
         {
             let gate = OpenGate;
-            let Race { rounds, cut, .. } = race;
             run_crew(
                 rt, alloc, domain, crew, one, other, &gate, MUTABLE, RESIDENT, rounds, cut,
             )
         },
     );
-    let crew = match end {
-        Ok(end) => end.riders,
-        Err((fault, ..)) => return Err(fault),
-    };
-    let mut back = with_room(alloc, (seats.len() + CREW) as u64)?;
-    for rider in seats.into_iter().flatten() {
-        back.push(rider).map_err(|_| Fault::OutOfMemory)?;
-    }
-    for rider in crew {
-        back.push(rider).map_err(|_| Fault::OutOfMemory)?;
-    }
-    Ok(back)
+    Ok(ended)
 }
 
 // Riders make their rounds, each in a thread and on a slot of its own.
