@@ -85,79 +85,54 @@ fn read_words<'a, S: AsStr>(alloc: Global, words: &'a [S]) -> Result<Wanted, Err
 
 /// The program's command line.
 fn program<'a>(alloc: Global) -> Result<Command<'a>, AllocError> {
+    let flush = Arg::new(alloc, "flush")
+        .long("flush")
+        .action(ArgAction::SetTrue)
+        .help("Then writes the image of each page that can be flushed");
+    let run = Command::new(alloc, "run")
+        .about("Answers the script on standard input, line by line")
+        .override_usage("hl_tool run [--flush] < SCRIPT")
+        .arg(flush)?;
+    let slow = Command::new(alloc, "slow")
+        .about(
+            "The same text, computed from the list of steps: 1000 lines are quick, 10000 are not",
+        )
+        .override_usage("hl_tool slow < SCRIPT");
+    let report = Command::new(alloc, "report")
+        .about("Runs the script without its answers, and reports what it left, in eighteen lines")
+        .override_usage("hl_tool report < SCRIPT");
     Command::new(alloc, "hl_tool")
         .about("Epoch protection and page frames after FASTER, on scripts of steps")
         .after_help("docs/FORMATS.md tells the lines of a script, and of its answers")
         .subcommand_required(true)
-        .subcommand(run_words(alloc)?)?
-        .subcommand(slow_words(alloc))?
-        .subcommand(report_words(alloc))?
+        .subcommand(run)?
+        .subcommand(slow)?
+        .subcommand(report)?
         .subcommand(race_words(alloc)?)
-}
-
-/// The words of a run.
-fn run_words<'a>(alloc: Global) -> Result<Command<'a>, AllocError> {
-    Command::new(alloc, "run")
-        .about("Answers the script on standard input, line by line")
-        .override_usage("hl_tool run [--flush] < SCRIPT")
-        .arg(flag(
-            alloc,
-            "flush",
-            "Then writes the image of each page that can be flushed",
-        ))
-}
-
-/// The words of a run in the slow form.
-fn slow_words<'a>(alloc: Global) -> Command<'a> {
-    Command::new(alloc, "slow")
-        .about(
-            "The same text, computed from the list of steps: 1000 lines are quick, 10000 are not",
-        )
-        .override_usage("hl_tool slow < SCRIPT")
-}
-
-/// The words of a report.
-fn report_words<'a>(alloc: Global) -> Command<'a> {
-    Command::new(alloc, "report")
-        .about("Runs the script without its answers, and reports what it left, in eighteen lines")
-        .override_usage("hl_tool report < SCRIPT")
 }
 
 /// The words of a race.
 fn race_words<'a>(alloc: Global) -> Result<Command<'a>, AllocError> {
-    let cut = "Cuts the journal at the end of each of the crew's turns";
-    Command::new(alloc, "race")
-        .about("Runs threads against each other, and checks what they left against their journal")
-        .override_usage("hl_tool race RIDERS ROUNDS [--cut]")
-        .arg(riders(alloc))?
-        .arg(rounds(alloc))?
-        .arg(flag(alloc, "cut", cut))
-}
-
-/// The number of a race's riders.
-fn riders<'a>(alloc: Global) -> Arg<'a> {
-    Arg::new(alloc, "riders")
+    let riders = Arg::new(alloc, "riders")
         .required(true)
         .value_name("RIDERS")
         .value_parser(value_parser!(u64).range(1..=8))
-        .help("How many threads race")
-}
-
-/// The number of a race's rounds.
-fn rounds<'a>(alloc: Global) -> Arg<'a> {
-    Arg::new(alloc, "rounds")
+        .help("How many threads race");
+    let rounds = Arg::new(alloc, "rounds")
         .required(true)
         .value_name("ROUNDS")
         .value_parser(value_parser!(u64).range(1..=1000))
-        .help("How many rounds each makes, and how many turns the crew behind them")
-}
-
-/// A word that is there or isn't.
-fn flag<'a>(alloc: Global, name: &'a str, help: &'a str) -> Arg<'a> {
-    Arg::new(alloc, name)
-        .long(name)
+        .help("How many rounds each makes, and how many turns the crew behind them");
+    let cut = Arg::new(alloc, "cut")
+        .long("cut")
         .action(ArgAction::SetTrue)
-        .help(help)
+        .help("Cuts the journal at the end of each of the crew's turns");
+    Command::new(alloc, "race")
+        .about("Runs threads against each other, and checks what they left against their journal")
+        .override_usage("hl_tool race RIDERS ROUNDS [--cut]")
+        .arg(riders)?
+        .arg(rounds)?
+        .arg(cut)
 }
 
 /// Tells the user why the words gave no command: help was wanted, or they were refused.
