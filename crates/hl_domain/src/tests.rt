@@ -14,7 +14,7 @@ use hl_action::{Firing, Promise, Task};
 use hl_counts::CountTable;
 use hl_epoch::{Epochs, ScanTable};
 use hl_model::{Base, Fault, Held, Params, Six, Slot, Step, View};
-use hl_words::{Realm, Rider, Seed};
+use hl_words::{Realm, Rider, Seed, Words};
 use std::alloc::Global;
 use std::marker::Brand;
 use std::process::Abort;
@@ -107,18 +107,47 @@ fn cut_journal<E: Epochs + Drop, L: Realm>(
     let mut second = riders.pop().ok_or("two riders")?;
     let first = riders.pop().ok_or("two riders")?;
     let mut pass = passed(keeper.acquire(&words, 0, first))?;
-    assert_eq!(rt; keeper.allocate(&words, &mut pass, 4), Ok(0));
-    assert_eq!(rt; keeper.refresh(&words, &mut pass), Ok(view(0, 0, 4)));
+    fill_journal(rt, &mut keeper, &words, &mut pass, &mut second);
     assert_eq!(rt; store(&words, params, &mut pass, 1, 5), Ok(()));
-    assert_eq!(rt; keeper.raise(&words, &mut second, 4), Ok(4));
-    assert_eq!(rt; keeper.refresh(&words, &mut pass), Err(Fault::JournalFull));
-    assert!(rt; keeper.cut(&words, &mut second) == 4);
-    assert!(rt; keeper.cut(&words, &mut second) == 0);
-    check_base(rt, &keeper.base);
-    assert_eq!(rt; keeper.refresh(&words, &mut pass), Ok(view(4, 0, 4)));
+    cut_full_journal(rt, &mut keeper, &words, &mut pass, &mut second);
     let Ok(first) = keeper.release(&words, pass) else {
         panic!(rt; "there is room")
     };
+    check_kept(rt, &keeper);
+    assert!(rt; first.share() == 6 && second.share() == 1);
+    Ok(())
+}
+
+// With the acquire, the four steps that the journal may keep.
+fn fill_journal<E: Epochs + Drop, L: Realm>(
+    rt: &impl Abort,
+    keeper: &mut Kept<E, L>,
+    words: &Words<L>,
+    pass: &mut Pass<L>,
+    rider: &mut Rider<L>,
+) {
+    assert_eq!(rt; keeper.allocate(words, pass, 4), Ok(0));
+    assert_eq!(rt; keeper.refresh(words, pass), Ok(view(0, 0, 4)));
+    assert_eq!(rt; keeper.raise(words, rider, 4), Ok(4));
+}
+
+// A step is refused until the journal is cut, which it is once.
+fn cut_full_journal<E: Epochs + Drop, L: Realm>(
+    rt: &impl Abort,
+    keeper: &mut Kept<E, L>,
+    words: &Words<L>,
+    pass: &mut Pass<L>,
+    rider: &mut Rider<L>,
+) {
+    assert_eq!(rt; keeper.refresh(words, pass), Err(Fault::JournalFull));
+    assert!(rt; keeper.cut(words, rider) == 4);
+    assert!(rt; keeper.cut(words, rider) == 0);
+    check_base(rt, &keeper.base);
+    assert_eq!(rt; keeper.refresh(words, pass), Ok(view(4, 0, 4)));
+}
+
+// The journal has the steps since the cut, the store before the refresh that entered it.
+fn check_kept<E: Epochs + Drop, L: Realm>(rt: &impl Abort, keeper: &Kept<E, L>) {
     let steps = [
         Step::Write { t: 0, a: 1, v: 5 },
         Step::Refresh { t: 0 },
@@ -126,8 +155,7 @@ fn cut_journal<E: Epochs + Drop, L: Realm>(
     ];
     assert_eq!(rt; keeper.journal(), &steps[..]);
     let (_, kept, cut) = keeper.snapshot();
-    assert!(rt; kept == 3 && cut == 4 && first.share() == 6 && second.share() == 1);
-    Ok(())
+    assert!(rt; kept == 3 && cut == 4);
 }
 
 // The base of an acquire and an allocation of a page by slot 0, and a raise to its end.

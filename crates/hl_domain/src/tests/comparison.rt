@@ -64,13 +64,12 @@ fn close_and_reuse<R: Wait, E: Epochs + Drop, F: Task, P: Promise, L: Realm>(
 
 fn stale_reader<R: Wait, E: Epochs + Drop, F: Task, P: Promise, L: Realm>(
     rt: &R,
-    mut play: Play<E, F, P, L>,
-) -> Result<Play<E, F, P, L>, Fail> {
+    play: &mut Play<E, F, P, L>,
+) -> Result<(), Fail> {
     let (mut rider, second, first) = (play.rider()?, play.rider()?, play.rider()?);
     let mut first = play.acquire(rt, 0, first)?;
-    let mut second = fill_and_flush(rt, &mut play, &mut first, second, &mut rider)?;
-    close_and_reuse(rt, &mut play, &mut first, &mut second, &mut rider)?;
-    Ok(play)
+    let mut second = fill_and_flush(rt, play, &mut first, second, &mut rider)?;
+    close_and_reuse(rt, play, &mut first, &mut second, &mut rider)
 }
 
 // What the lines of the example are answered.
@@ -108,21 +107,31 @@ fn of_stale_reader() -> [Answer; 27] {
 
 fn keeper_settles<R: Wait, E: Epochs + Drop, F: Task, P: Promise, L: Realm>(
     rt: &R,
-    mut play: Play<E, F, P, L>,
-) -> Result<Play<E, F, P, L>, Fail> {
+    play: &mut Play<E, F, P, L>,
+) -> Result<(), Fail> {
     let (mut rider, first) = (play.rider()?, play.rider()?);
     let mut pass = play.acquire(rt, 0, first)?;
-    play.allocate(rt, &mut pass, 4)?;
-    play.raise(rt, &mut rider, 4)?;
-    play.settle(rt, &mut rider)?;
-    play.act(rt, &mut rider)?;
-    play.refresh(rt, &mut pass)?;
-    play.act(rt, &mut rider)?;
-    play.flush(rt, &mut rider)?;
-    play.flush(rt, &mut rider)?;
+    settle_and_flush(rt, play, &mut pass, &mut rider)
+}
+
+// A page is filled, settled and flushed; then the shares of both riders are noted.
+fn settle_and_flush<R: Wait, E: Epochs + Drop, F: Task, P: Promise, L: Realm>(
+    rt: &R,
+    play: &mut Play<E, F, P, L>,
+    pass: &mut Pass<L>,
+    rider: &mut Rider<L>,
+) -> Result<(), Fail> {
+    play.allocate(rt, pass, 4)?;
+    play.raise(rt, rider, 4)?;
+    play.settle(rt, rider)?;
+    play.act(rt, rider)?;
+    play.refresh(rt, pass)?;
+    play.act(rt, rider)?;
+    play.flush(rt, rider)?;
+    play.flush(rt, rider)?;
     play.note(rt, Answer::Told(pass.rider().share()))?;
     play.note(rt, Answer::Told(rider.share()))?;
-    Ok(play)
+    Ok(())
 }
 
 fn of_keeper_settles() -> [Answer; 13] {
@@ -164,8 +173,10 @@ fn stale_readers<E: Epochs + Drop, F: Task, P: Promise, L: Realm, M: Realm>(
     requires other { IsSeedOf M.name M.parts M.table other }
     requires other_named { (other.sizes ≡ M.sizes) × (STAMP ≡ M.stamp) }
 {
-    let keeper = stale_reader(rt, Play::<E, F, P, L>::of_keeper(alloc, one)?)?;
-    let domain = stale_reader(rt, Play::<E, F, P, M>::of_domain(alloc, other)?)?;
+    let mut keeper = Play::<E, F, P, L>::of_keeper(alloc, one)?;
+    stale_reader(rt, &mut keeper)?;
+    let mut domain = Play::<E, F, P, M>::of_domain(alloc, other)?;
+    stale_reader(rt, &mut domain)?;
     compare(rt, &keeper.notes, &domain.notes, &of_stale_reader());
     Ok(())
 }
@@ -189,9 +200,20 @@ fn settled<E: Epochs + Drop, F: Task, P: Promise, L: Realm, M: Realm>(
     requires other { IsSeedOf M.name M.parts M.table other }
     requires other_named { (other.sizes ≡ M.sizes) × (STAMP ≡ M.stamp) }
 {
-    let keeper = keeper_settles(rt, Play::<E, F, P, L>::of_keeper(alloc, one)?)?;
-    let domain = keeper_settles(rt, Play::<E, F, P, M>::of_domain(alloc, other)?)?;
+    let mut keeper = Play::<E, F, P, L>::of_keeper(alloc, one)?;
+    keeper_settles(rt, &mut keeper)?;
+    let mut domain = Play::<E, F, P, M>::of_domain(alloc, other)?;
+    keeper_settles(rt, &mut domain)?;
     compare(rt, &keeper.notes, &domain.notes, &of_keeper_settles());
+    check_journal(rt, &keeper.asked);
+    Ok(())
+}
+
+// The journal has the accepted steps.
+fn check_journal<E: Epochs + Drop, F: Task, P: Promise, L: Realm>(
+    rt: &impl Abort,
+    asked: &Asked<E, F, P, L>,
+) {
     let steps = [
         Step::Acquire { t: 0 },
         Step::Allocate { t: 0, n: 4 },
@@ -203,11 +225,10 @@ fn settled<E: Epochs + Drop, F: Task, P: Promise, L: Realm, M: Realm>(
         Step::FlushTake,
         Step::FlushDone { page: 0, ok: true },
     ];
-    match &keeper.asked {
+    match asked {
         Asked::Alone(alone) => assert_eq!(rt; alone.keeper.journal(), &steps[..]),
         Asked::Shared(_) => panic!(rt; "it is a keeper"),
     }
-    Ok(())
 }
 
 #[test]
@@ -221,18 +242,26 @@ fn a_page_is_settled(rt: HostRuntime) -> Result<(), Fail> {
 // A pass whose stamp is another than its slot's is refused, with the slot's stamp, and stays as it was.
 fn another_stamp<R: Wait + Abort, E: Epochs + Drop, F: Task, P: Promise, L: Realm>(
     rt: &R,
-    mut play: Play<E, F, P, L>,
+    play: &mut Play<E, F, P, L>,
 ) -> Result<(), Fail> {
     let rider = play.rider()?;
     let mut pass = play.acquire(rt, 0, rider)?;
     assert!(rt; pass.stamp == STAMP + 1);
     pass.stamp = STAMP + 2;
+    refused_as_a_stranger(rt, play, &mut pass);
+    Ok(())
+}
+
+fn refused_as_a_stranger<R: Wait + Abort, E: Epochs + Drop, F: Task, P: Promise, L: Realm>(
+    rt: &R,
+    play: &mut Play<E, F, P, L>,
+    pass: &mut Pass<L>,
+) {
     let before = play.asked.snapshot(rt);
     let refused = Err(Fault::Stranger { stamp: STAMP + 1 });
-    assert_eq!(rt; play.asked.refresh(rt, &mut pass), refused);
+    assert_eq!(rt; play.asked.refresh(rt, pass), refused);
     assert!(rt; play.asked.snapshot(rt) == before && pass.stamp == STAMP + 2);
     assert!(rt; pass.view() == view(0, 0, 0) && pass.rider().share() == 1);
-    Ok(())
 }
 
 fn foreign_stamp<E: Epochs + Drop, F: Task, P: Promise, L: Realm, M: Realm>(
@@ -246,8 +275,8 @@ fn foreign_stamp<E: Epochs + Drop, F: Task, P: Promise, L: Realm, M: Realm>(
     requires other { IsSeedOf M.name M.parts M.table other }
     requires other_named { (other.sizes ≡ M.sizes) × (STAMP ≡ M.stamp) }
 {
-    another_stamp(rt, Play::<E, F, P, L>::of_keeper(alloc, one)?)?;
-    another_stamp(rt, Play::<E, F, P, M>::of_domain(alloc, other)?)
+    another_stamp(rt, &mut Play::<E, F, P, L>::of_keeper(alloc, one)?)?;
+    another_stamp(rt, &mut Play::<E, F, P, M>::of_domain(alloc, other)?)
 }
 
 #[test]
