@@ -20,10 +20,9 @@ fn sizes() -> Result<Params, Fault> {
     Params::checked(4, 2, 2, 2).ok_or(Fault::Size)
 }
 
-// A page that a slow reader reaches is closed, and its frame is used again only when it is cleaned.
-fn stale_reader<E: Epochs + Drop>(rt: &impl Abort, alloc: Global) -> Result<(), Fault> {
-    let mut core = Core::<E, Tag>::open(alloc, sizes()?)?;
-    let rows = [
+/// The steps of a slow reader, and what each is answered.
+fn slow_reader() -> [(Step, Result<Reply, Fault>); 26] {
+    [
         (Step::Acquire { t: 0 }, entered(1, 0, 0, 0)),
         (Step::Allocate { t: 0, n: 4 }, Ok(Reply::At(0))),
         (Step::Allocate { t: 0, n: 4 }, Ok(Reply::At(4))),
@@ -50,16 +49,37 @@ fn stale_reader<E: Epochs + Drop>(rt: &impl Abort, alloc: Global) -> Result<(), 
         (Step::CleanDone { page: 0 }, Ok(Reply::Freed(0))),
         (Step::Allocate { t: 0, n: 1 }, Ok(Reply::At(8))),
         (Step::Bump { tag: 9 }, Ok(Reply::Ticket(3))),
-    ];
-    for (step, expected) in rows {
-        let mut results = [Err(Fault::Empty)];
-        core.run(&[step], &mut results);
-        assert_eq!(rt; results[0], expected);
+    ]
+}
+
+// Runs a step of a list of its own.
+fn runs<E: Epochs + Drop>(
+    rt: &impl Abort,
+    core: &mut Core<E, Tag>,
+    step: Step,
+    expected: Result<Reply, Fault>,
+) {
+    let mut results = [Err(Fault::Empty)];
+    core.run(&[step], &mut results);
+    assert_eq!(rt; results, [expected]);
+}
+
+// What is seen after the steps of a slow reader.
+fn after_slow_reader<E: Epochs + Drop>(rt: &impl Abort, core: &Core<E, Tag>) {
+    let refused = core.check(&Step::Acquire { t: 2 });
+    let tail = core.view(0).map(|view| view.tail);
+    assert_eq!(rt; (refused, tail), (Err(Fault::NoSlot), Some(9)));
+    let frames = core.snapshot().frames;
+    assert_eq!(rt; (frames, core.pending().len()), ([1, 1, 0, 0, 0], 1));
+}
+
+// A page that a slow reader reaches is closed, and its frame is used again only when it is cleaned.
+fn stale_reader<E: Epochs + Drop>(rt: &impl Abort, alloc: Global) -> Result<(), Fault> {
+    let mut core = Core::<E, Tag>::open(alloc, sizes()?)?;
+    for (step, expected) in slow_reader() {
+        runs(rt, &mut core, step, expected);
     }
-    assert_eq!(rt; core.check(&Step::Acquire { t: 2 }), Err(Fault::NoSlot));
-    assert_eq!(rt; core.view(0).map(|view| view.tail), Some(9));
-    assert_eq!(rt; core.snapshot().frames, [1, 1, 0, 0, 0]);
-    assert_eq!(rt; core.pending().len(), 1);
+    after_slow_reader(rt, &core);
     Ok(())
 }
 
@@ -69,19 +89,38 @@ fn stale_reader_over_both_tables(rt: HostRuntime) -> Result<(), Fault> {
     stale_reader::<CountTable>(&rt, rt.alloc())
 }
 
+// A bump of a job is answered so.
+fn bumps(
+    rt: &impl Abort,
+    core: &mut Core<ScanTable, Job>,
+    tag: u64,
+    expected: Result<u64, (Fault, Ask<Job>)>,
+) {
+    assert_eq!(rt; core.bump(Ask::User(Job { tag })), expected);
+}
+
+// Two jobs are stored, and a third one comes back.
+fn stores_two(rt: &impl Abort, core: &mut Core<ScanTable, Job>) {
+    bumps(rt, core, 7, Ok(1));
+    bumps(rt, core, 8, Ok(2));
+    let refused = Err((Fault::DrainFull, Ask::User(Job { tag: 9 })));
+    bumps(rt, core, 9, refused);
+}
+
+// The first job comes out by its take, and is done.
+fn takes_the_first(rt: &impl Abort, core: &mut Core<ScanTable, Job>) -> Result<(), Fault> {
+    let (firing, job) = core.take()?;
+    assert_eq!(rt; (firing.ticket(), job), (1, Some(Job { tag: 7 })));
+    assert_eq!(rt; core.act(&Step::Done { ticket: 1 }), Ok(Reply::Ran(7)));
+    Ok(())
+}
+
 #[test]
 fn jobs_come_back(rt: HostRuntime) -> Result<(), Fault> {
     let mut core = Core::<ScanTable, Job>::open(rt.alloc(), sizes()?)?;
-    assert_eq!(rt; core.bump(Ask::User(Job { tag: 7 })), Ok(1));
-    assert_eq!(rt; core.bump(Ask::User(Job { tag: 8 })), Ok(2));
-    let refused = Err((Fault::DrainFull, Ask::User(Job { tag: 9 })));
-    assert_eq!(rt; core.bump(Ask::User(Job { tag: 9 })), refused);
-    let (firing, job) = core.take()?;
-    assert_eq!(rt; firing.ticket(), 1);
-    assert_eq!(rt; job, Some(Job { tag: 7 }));
-    assert_eq!(rt; core.act(&Step::Done { ticket: 1 }), Ok(Reply::Ran(7)));
-    let mut drain = core.into_drain();
+    stores_two(&rt, &mut core);
+    takes_the_first(&rt, &mut core)?;
     let left = Some((2, Action::User(Job { tag: 8 })));
-    assert_eq!(rt; drain.give_up(), left);
+    assert_eq!(rt; core.into_drain().give_up(), left);
     Ok(())
 }

@@ -83,33 +83,72 @@ fn some_steps(alloc: Global, params: Params, count: u64, seed: u64) -> Result<Ve
     Ok(steps)
 }
 
-// Every query is answered alike.
-fn compare(rt: &impl Abort, core: &Core<CountTable, Tag>, plain: &Plain, at: usize) {
-    assert_eq!(rt; plain.snapshot(), core.snapshot(), "after step {at}");
-    assert_eq!(rt; plain.pending(), core.pending(), "after step {at}");
+// The view of each slot, and of one that there isn't, is answered alike.
+fn compare_views(rt: &impl Abort, core: &Core<CountTable, Tag>, plain: &Plain, at: usize) {
     for t in 0..3 {
         assert_eq!(rt; plain.view(t), core.view(t), "slot {t} after step {at}");
     }
-    assert_eq!(rt; plain.params(), core.params(), "after step {at}");
+}
+
+// The state of each frame is answered alike.
+fn compare_frames(rt: &impl Abort, core: &Core<CountTable, Tag>, plain: &Plain, at: usize) {
     for f in 0..core.params().frames().min(plain.params().frames()) {
         assert_eq!(rt; plain.frame(f), core.frame(f), "frame {f} after step {at}");
     }
 }
 
-// A core behind these steps, and the slow form that goes on from its base.
+// Every query is answered alike.
+fn compare(rt: &impl Abort, core: &Core<CountTable, Tag>, plain: &Plain, at: usize) {
+    let slow = (plain.snapshot(), plain.params());
+    assert_eq!(rt; slow, (core.snapshot(), core.params()), "after step {at}");
+    assert_eq!(rt; plain.pending(), core.pending(), "after step {at}");
+    compare_views(rt, core, plain, at);
+    compare_frames(rt, core, plain, at);
+}
+
+// A core behind these steps.
+fn core_behind(
+    alloc: Global,
+    before: &[Step],
+    params: Params,
+) -> Result<Core<CountTable, Tag>, Fail> {
+    let mut core = Core::<CountTable, Tag>::open(alloc, params)?;
+    let mut replies = vec![in alloc; Err(Fault::Empty); before.len()]?;
+    core.run(before, &mut replies);
+    Ok(core)
+}
+
+// The slow form that goes on from the base of a core.
 #[tactic(auto, unfolding(hl_model::specs::Bases::base_of))]
+fn plain_behind(alloc: Global, core: &Core<CountTable, Tag>) -> Result<Plain, Fault> {
+    let mut base = Base::opening(alloc, core.params())?;
+    core.base_into(&mut base);
+    Plain::from_base(alloc, &base)
+}
+
+// A core behind these steps, and the slow form that goes on from its base.
 fn cut_behind(
     alloc: Global,
     before: &[Step],
     params: Params,
 ) -> Result<(Core<CountTable, Tag>, Plain), Fail> {
-    let mut core = Core::<CountTable, Tag>::open(alloc, params)?;
-    let mut replies = vec![in alloc; Err(Fault::Empty); before.len()]?;
-    core.run(before, &mut replies);
-    let mut base = Base::opening(alloc, params)?;
-    core.base_into(&mut base);
-    let plain = Plain::from_base(alloc, &base)?;
+    let core = core_behind(alloc, before, params)?;
+    let plain = plain_behind(alloc, &core)?;
     Ok((core, plain))
+}
+
+// Both answer each of these steps alike, which are behind so many.
+fn go_on(
+    rt: &impl Abort,
+    core: &mut Core<CountTable, Tag>,
+    plain: &mut Plain,
+    behind: &[Step],
+    cut: usize,
+) {
+    for (at, step) in behind.iter().enumerate() {
+        assert_eq!(rt; plain.step(step), core.step(step), "step {at} behind {cut}");
+        compare(rt, core, plain, at);
+    }
 }
 
 fn cut_anywhere(
@@ -121,10 +160,7 @@ fn cut_anywhere(
     for cut in 0..steps.len() {
         let (before, behind) = steps.split_at(cut);
         let (mut core, mut plain) = cut_behind(alloc, before, params)?;
-        for (at, step) in behind.iter().enumerate() {
-            assert_eq!(rt; plain.step(step), core.step(step), "step {at} behind {cut}");
-            compare(rt, &core, &plain, at);
-        }
+        go_on(rt, &mut core, &mut plain, behind, cut);
     }
     Ok(())
 }

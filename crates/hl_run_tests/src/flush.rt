@@ -5,6 +5,7 @@ use hl_flush::{flush_one, lag_steps};
 use hl_image::{MemoryWriter, PageWriter};
 use hl_model::{Fault, Params, Six, Step};
 use std::alloc::Global;
+use std::process::Abort;
 use std::test::Fail;
 
 // An engine after an allocation of one page, which has the words 1, 0, 0 and 258. It is sealed, and nobody is
@@ -48,27 +49,77 @@ fn flush<W: PageWriter>(
     flush_one(engine, writer, &mut image)
 }
 
+// The first write fails, the second one doesn't, and then there is nothing left to flush.
+fn flushes_again(
+    rt: &impl Abort,
+    alloc: Global,
+    engine: &mut TestEngine,
+    writer: &mut MemoryWriter,
+) {
+    for wanted in [Err(Fault::Device), Ok(0), Err(Fault::NoneSealed)] {
+        let answer = flush(alloc, engine, writer);
+        assert_eq!(rt; (answer, writer.failures()), (wanted, 1));
+    }
+}
+
+// The image of the page that is sealed.
+fn sealed_image() -> [u8; 40] {
+    let mut image = [0; 40];
+    image[15] = 1;
+    image[38] = 1;
+    image[39] = 2;
+    image
+}
+
 #[test]
 fn a_failed_flush_is_made_again(rt: HostRuntime) -> Result<(), Fail> {
     let mut engine = sealed(rt.alloc())?;
     let mut writer = MemoryWriter::open(rt.alloc(), 2, 40)?;
     writer.fail_at(1);
-    for wanted in [Err(Fault::Device), Ok(0), Err(Fault::NoneSealed)] {
-        assert_eq!(rt; flush(rt.alloc(), &mut engine, &mut writer), wanted);
-        assert_eq!(rt; writer.failures(), 1);
-    }
-    let mut image = [0; 40];
-    image[15] = 1;
-    image[38] = 1;
-    image[39] = 2;
-    assert_eq!(rt; writer.image(0), Some(image.as_slice()));
+    flushes_again(&rt, rt.alloc(), &mut engine, &mut writer);
+    assert_eq!(rt; writer.image(0), Some(sealed_image().as_slice()));
     assert_eq!(rt; engine.six().flushed, 4);
+    Ok(())
+}
+
+// Both pages were written, each with its number and no words.
+fn has_both_pages(rt: &impl Abort, writer: &MemoryWriter, k: u64) {
+    assert!(rt;
+        writer
+            .image(0)
+            .is_some_and(|image| image == [0; 40].as_slice()),
+        "write {k}"
+    );
+    assert!(rt;
+        writer
+            .image(1)
+            .is_some_and(|image| image.starts_with(&[0, 0, 0, 0, 0, 0, 0, 1]))
+    );
+}
+
+// The k-th write fails: the flushes are answered so, and so many fail.
+fn flushes_both(
+    rt: &impl Abort,
+    alloc: Global,
+    k: u64,
+    answers: [Result<u64, Fault>; 4],
+    failures: u64,
+) -> Result<(), Fault> {
+    let mut engine = two_sealed(alloc)?;
+    let mut writer = MemoryWriter::open(alloc, 2, 40)?;
+    writer.fail_at(k);
+    for wanted in answers {
+        assert_eq!(rt; flush(alloc, &mut engine, &mut writer), wanted, "write {k}");
+    }
+    has_both_pages(rt, &writer, k);
+    let ended = (writer.failures(), engine.six().flushed);
+    assert_eq!(rt; ended, (failures, 8), "write {k}");
     Ok(())
 }
 
 // The page whose write failed is written by the next flush, before the one behind it.
 #[test]
-fn each_page_write_fails_in_turn(rt: HostRuntime) -> Result<(), Fail> {
+fn each_page_write_fails_in_turn(rt: HostRuntime) -> Result<(), Fault> {
     let none = Err(Fault::NoneSealed);
     let cases = [
         (1, [Err(Fault::Device), Ok(0), Ok(1), none], 1),
@@ -76,29 +127,7 @@ fn each_page_write_fails_in_turn(rt: HostRuntime) -> Result<(), Fail> {
         (3, [Ok(0), Ok(1), none, none], 0),
     ];
     for (k, answers, failures) in cases {
-        let mut engine = two_sealed(rt.alloc())?;
-        let mut writer = MemoryWriter::open(rt.alloc(), 2, 40)?;
-        writer.fail_at(k);
-        for wanted in answers {
-            assert_eq!(rt;
-                flush(rt.alloc(), &mut engine, &mut writer),
-                wanted,
-                "write {k}"
-            );
-        }
-        assert_eq!(rt; writer.failures(), failures, "write {k}");
-        assert!(rt;
-            writer
-                .image(0)
-                .is_some_and(|image| image == [0; 40].as_slice()),
-            "write {k}"
-        );
-        assert!(rt;
-            writer
-                .image(1)
-                .is_some_and(|image| image.starts_with(&[0, 0, 0, 0, 0, 0, 0, 1]))
-        );
-        assert_eq!(rt; engine.six().flushed, 8, "write {k}");
+        flushes_both(&rt, rt.alloc(), k, answers, failures)?;
     }
     Ok(())
 }

@@ -74,6 +74,13 @@ fn spend(alloc: Global, end: End, calls: &AtomicU64) -> Result<(), Fault> {
     Ok(())
 }
 
+// How often a job is called until its end.
+fn calls_until(alloc: Global, end: End) -> Result<u64, Fault> {
+    let calls = AtomicU64::new(0);
+    spend(alloc, end, &calls)?;
+    Ok(calls.load(Ordering::SeqCst))
+}
+
 #[test]
 fn a_job_is_called_by_its_run_alone(rt: HostRuntime) -> Result<(), Fault> {
     let rows = [
@@ -82,9 +89,7 @@ fn a_job_is_called_by_its_run_alone(rt: HostRuntime) -> Result<(), Fault> {
         ("taken and run", End::TakenAndRun, 1),
     ];
     for (name, end, expected) in rows {
-        let calls = AtomicU64::new(0);
-        spend(rt.alloc(), end, &calls)?;
-        assert_eq!(rt; calls.load(Ordering::SeqCst), expected, "{name}");
+        assert_eq!(rt; calls_until(rt.alloc(), end)?, expected, "{name}");
     }
     Ok(())
 }

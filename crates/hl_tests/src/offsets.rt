@@ -17,13 +17,18 @@ fn small_pages(rt: &impl Abort) -> Params
 // No script reaches it.
 #[test]
 fn last_address(rt: HostRuntime) {
+    const LAST: u64 = (1 << 48) - 1;
     let six = Six {
-        tail: 281474976710655,
+        tail: LAST,
         ..Six::default()
     };
     let mut offsets = Offsets::resume(small_pages(&rt), six);
-    assert_eq!(rt; offsets.allocate(2), Err(Fault::SpaceSpent));
-    assert_eq!(rt; offsets.place(1), Ok(281474976710655));
-    assert_eq!(rt; offsets.allocate(1), Ok(281474976710655));
-    assert_eq!(rt; offsets.allocate(1), Err(Fault::SpaceSpent));
+    let spent = Err(Fault::SpaceSpent);
+    let answers = [
+        offsets.allocate(2),
+        offsets.place(1),
+        offsets.allocate(1),
+        offsets.allocate(1),
+    ];
+    assert_eq!(rt; answers, [spent, Ok(LAST), Ok(LAST), spent]);
 }

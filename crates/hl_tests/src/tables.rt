@@ -16,41 +16,61 @@ fn bump_with_room<E: Epochs>(rt: &impl Abort, table: &mut E) -> Result<u64, Faul
     table.bump()
 }
 
+// Two threads see the first epoch, and two bumps fill the window.
+fn fill_window<E: Epochs>(rt: &impl Abort, table: &mut E)
+    requires { (E.table table.old).window ≡ 2 }
+    ensures { (E.table table.new).window ≡ 2 }
+{
+    assert_eq!(rt; [table.acquire(0), table.acquire(1)], [Ok(()), Ok(())]);
+    let bumps = [bump_with_room(rt, table), bump_with_room(rt, table)];
+    assert_eq!(rt; bumps, [Ok(1), Ok(2)]);
+}
+
+// The window is full until both threads have moved on.
+fn move_on<E: Epochs>(rt: &impl Abort, table: &mut E)
+    requires { (E.table table.old).window ≡ 2 }
+    ensures { (E.table table.new).window ≡ 2 }
+{
+    assert_eq!(rt; table.refresh(0), Ok(()));
+    assert_eq!(rt; table.current() - 1 - table.safe(), 2);
+    assert_eq!(rt; (table.release(1), table.epoch_of(0)), (Ok(()), Some(3)));
+}
+
 // Two bumps fill the window; once both threads have moved on there is room for a third.
-fn full_window<E: Epochs>(rt: &impl Abort, table: &mut E) -> Result<(), Fault>
+fn full_window<E: Epochs>(rt: &impl Abort, table: &mut E)
     requires { (E.table table.old).window ≡ 2 }
 {
-    table.acquire(0)?;
-    table.acquire(1)?;
-    assert_eq!(rt; bump_with_room(rt, table)?, 1);
-    assert_eq!(rt; bump_with_room(rt, table)?, 2);
-    table.refresh(0)?;
-    assert_eq!(rt; table.current() - 1 - table.safe(), 2);
-    table.release(1)?;
-    assert_eq!(rt; table.epoch_of(0), Some(3));
-    assert_eq!(rt; bump_with_room(rt, table)?, 3);
-    assert_eq!(rt; table.safe(), 2);
-    Ok(())
+    fill_window(rt, table);
+    move_on(rt, table);
+    assert_eq!(rt; (bump_with_room(rt, table), table.safe()), (Ok(3), 2));
+}
+
+// After that a refresh visits the two places of the slot, and the one that the safe epoch passes.
+fn turns_of_counts(rt: &impl Abort, table: &mut CountTable) {
+    assert_eq!(rt; table.turns(), 1);
+    assert_eq!(rt; (table.refresh(0), table.turns()), (Ok(()), 3));
 }
 
 #[test]
 fn window_of_each_table(rt: HostRuntime) -> Result<(), Fail> {
-    full_window(&rt, &mut ScanTable::make(rt.alloc(), 2, 2)?)?;
-    let mut table = CountTable::make(rt.alloc(), 2, 2)?;
-    full_window(&rt, &mut table)?;
-    assert_eq!(rt; table.turns(), 1);
-    // The two places of the slot, and the one that the safe epoch passes.
-    table.refresh(0)?;
-    assert_eq!(rt; table.turns(), 3);
+    full_window(&rt, &mut ScanTable::make(rt.alloc(), 2, 2)?);
+    let mut counts = CountTable::make(rt.alloc(), 2, 2)?;
+    full_window(&rt, &mut counts);
+    turns_of_counts(&rt, &mut counts);
     Ok(())
+}
+
+// The epoch of this table is the last.
+fn is_spent<E: Epochs>(rt: &impl Abort, table: &mut E)
+    requires { (E.table table.old).window ≡ 2 }
+{
+    assert_eq!(rt; bump_with_room(rt, table), Err(Fault::EpochsSpent));
 }
 
 // No script reaches it.
 #[test]
 fn last_epoch_of_each_table(rt: HostRuntime) -> Result<(), Fail> {
-    let mut scans = ScanTable::resume(rt.alloc(), 1, 2, 1 << 62)?;
-    assert_eq!(rt; bump_with_room(&rt, &mut scans), Err(Fault::EpochsSpent));
-    let mut counts = CountTable::resume(rt.alloc(), 1, 2, 1 << 62)?;
-    assert_eq!(rt; bump_with_room(&rt, &mut counts), Err(Fault::EpochsSpent));
+    is_spent(&rt, &mut ScanTable::resume(rt.alloc(), 1, 2, 1 << 62)?);
+    is_spent(&rt, &mut CountTable::resume(rt.alloc(), 1, 2, 1 << 62)?);
     Ok(())
 }
