@@ -8,7 +8,7 @@ use crate::riders::ride;
 use hl_action::{AnyAnswer, NoJob};
 use hl_counts::CountTable;
 use hl_crew::{CrewEnd, OpenGate, run_crew};
-use hl_domain::{Domain, Ending};
+use hl_domain::Domain;
 use hl_image::MemoryWriter;
 use hl_model::{Fault, Params, with_room};
 use hl_words::{Realm, Rider, Seed};
