@@ -21,7 +21,8 @@
 //! a keeper, of the domain's sizes and stamp, and one after the call, and that between the two the keeper's own
 //! clause holds: `LeavesUnderLock` in `specs/Domains.antt`. After a refusal the keeper is equal to the one before.
 //! `look`, `store`, `load`, `copy_page` and `sweep` take no lock, and their clauses are exact in the pass, the broom
-//! and the rider. `close` says what the whole adds up to.
+//! and the rider; who has a keeper alone, under a lock of his own, finds them in [`unlocked`]. `close` says what the
+//! whole adds up to.
 //!
 //! A thread that ends with a pass in its hands leaves the slot protected for good, and its rider missing.
 //!
@@ -67,6 +68,7 @@ mod queries;
 mod rider;
 mod slots;
 mod sweep;
+pub mod unlocked;
 
 pub use domain::Domain;
 pub use ending::Ending;
