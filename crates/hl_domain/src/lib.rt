@@ -40,7 +40,7 @@
 //!
 //! First `Stranger`: a pass whose stamp or held view isn't the slot's, or, in a refresh, that saw an offset
 //! above the present one; a page or an action of another domain. Then `JournalFull`. Then the core's, in
-//! their order.
+//! their order. [`worked`] has the refusal of a pass of another stamp than its slot's, which no call makes.
 //!
 //! # Touches
 //!
@@ -69,6 +69,7 @@ mod rider;
 mod slots;
 mod sweep;
 pub mod unlocked;
+pub mod worked;
 
 pub use domain::Domain;
 pub use ending::Ending;
