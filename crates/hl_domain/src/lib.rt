@@ -82,6 +82,3 @@ pub use hl_words::{Master, Realm, Rider, Seed, Words};
 pub use keeper::Keeper;
 pub use load::{Broom, Load, PageJob};
 pub use pass::Pass;
-
-#[cfg(test)]
-mod tests;
