@@ -11,3 +11,4 @@ pub mod StepLaws
 pub mod AcquireLaws
 pub mod ActionLaws
 pub mod SweepLaws
+pub mod WorkedProofs

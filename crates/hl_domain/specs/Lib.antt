@@ -7,6 +7,7 @@ pub mod Passes
 pub mod Stamps
 pub mod Taking
 pub mod Touches
+pub mod Worked
 pub use Rattle.hl_model.specs.Actions
 pub use Rattle.hl_model.specs.Bases
 pub use Rattle.hl_model.specs.Offsets

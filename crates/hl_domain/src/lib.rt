@@ -21,7 +21,8 @@
 //! a keeper, of the domain's sizes and stamp, and one after the call, and that between the two the keeper's own
 //! clause holds: `LeavesUnderLock` in `specs/Domains.antt`. After a refusal the keeper is equal to the one before.
 //! `look`, `store`, `load`, `copy_page` and `sweep` take no lock, and their clauses are exact in the pass, the broom
-//! and the rider. `close` says what the whole adds up to.
+//! and the rider; who has a keeper alone, under a lock of his own, finds them in [`unlocked`]. `close` says what the
+//! whole adds up to.
 //!
 //! A thread that ends with a pass in its hands leaves the slot protected for good, and its rider missing.
 //!
@@ -39,7 +40,7 @@
 //!
 //! First `Stranger`: a pass whose stamp or held view isn't the slot's, or, in a refresh, that saw an offset
 //! above the present one; a page or an action of another domain. Then `JournalFull`. Then the core's, in
-//! their order.
+//! their order. [`worked`] has the refusal of a pass of another stamp than its slot's, which no call makes.
 //!
 //! # Touches
 //!
@@ -67,6 +68,8 @@ mod queries;
 mod rider;
 mod slots;
 mod sweep;
+pub mod unlocked;
+pub mod worked;
 
 pub use domain::Domain;
 pub use ending::Ending;
@@ -79,6 +82,3 @@ pub use hl_words::{Master, Realm, Rider, Seed, Words};
 pub use keeper::Keeper;
 pub use load::{Broom, Load, PageJob};
 pub use pass::Pass;
-
-#[cfg(test)]
-mod tests;

@@ -8,11 +8,11 @@ use hl_model::{Fault, Params, Step, View, cell_of};
 use hl_words::{Realm, Which, Words};
 
 /// Looks at both offset words: each of the pass's two offsets becomes the greater of the loaded and its own.
-/// A look that raises neither is no touch. Neither load is below any that the rider loaded of that word
-/// before.
+/// A look that raises neither is no touch. The answer is what the pass sees then. Neither load is below any
+/// that the rider loaded of that word before.
 ///
 /// `TouchesFull` where the pass has 32 touches; then nothing is loaded.
-pub(crate) fn look<L: Realm>(words: &Words<L>, pass: &mut Pass<L>) -> Result<View, Fault>
+pub fn look<L: Realm>(words: &Words<L>, pass: &mut Pass<L>) -> Result<View, Fault>
     ensures answer { result ≡ unless_fault (touch_fault pass.old) (seen pass.new) }
     ensures pass { let new = pass.new
         in let old = pass.old
@@ -47,11 +47,12 @@ pub(crate) fn look<L: Realm>(words: &Words<L>, pass: &mut Pass<L>) -> Result<Vie
     Ok(view)
 }
 
-/// Stores a word at an address of the log.
+/// Stores a word of 64 bits at an address of the log, which counts words. It is a touch. The sizes are those
+/// of the words, which give each address its cell.
 ///
 /// Faults: `Below` where the address is below the read-only offset that the pass saw, `Beyond` where it isn't
 /// below the tail that it saw, `TouchesFull` where it has 32 touches.
-pub(crate) fn store<L: Realm>(
+pub fn store<L: Realm>(
     words: &Words<L>,
     params: Params,
     pass: &mut Pass<L>,
@@ -70,11 +71,12 @@ pub(crate) fn store<L: Realm>(
     Ok(())
 }
 
-/// Loads the word at an address of the log. It is no touch: no step of the journal tells it.
+/// Loads the word at an address of the log. It is no touch: no step of the journal tells it. The sizes are
+/// those of the words, as for a store.
 ///
 /// Faults: `Evicted` where the address is below the head that the pass saw, `Beyond` where it isn't below the
 /// tail that it saw.
-pub(crate) fn load<L: Realm>(
+pub fn load<L: Realm>(
     words: &Words<L>,
     params: Params,
     pass: &mut Pass<L>,

@@ -8,10 +8,12 @@ use crate::load::{Broom, PageJob};
 use hl_model::{Fault, Params};
 use hl_words::{Realm, Rider, Words};
 
-/// Loads the words of a page into P places. Their order among other riders' stores isn't known.
+/// Loads the cells of a page into P places, as many as a page has words: a page in flight, for whoever has
+/// the job of its load. Their order among other riders' stores isn't known. Sizes and stamp are those of the
+/// keeper whose words they are.
 ///
 /// `Stranger` where the page is of another domain than the one of this stamp.
-pub(crate) fn copy_page<L: Realm>(
+pub fn copy_page<L: Realm>(
     words: &Words<L>,
     params: Params,
     stamp: u64,
@@ -34,10 +36,11 @@ pub(crate) fn copy_page<L: Realm>(
     Ok(())
 }
 
-/// Stores 0 into all cells of a page: its broom is swept then.
+/// Stores 0 into all cells of the page of a broom, which is swept then. Sizes and stamp are those of the
+/// keeper whose words they are.
 ///
 /// `Stranger` where the page is of another domain than the one of this stamp.
-pub(crate) fn sweep<L: Realm>(
+pub fn sweep<L: Realm>(
     words: &Words<L>,
     params: Params,
     stamp: u64,

@@ -8,7 +8,7 @@ use crate::jobs::{
 use hl_counts::CountTable;
 use hl_domain::{Ending, Pass};
 use hl_epoch::{Epochs, ScanTable};
-use hl_model::{Fault, Held, Kind, Six, Slot, Step};
+use hl_model::{Base, Fault, Held, Kind, Six, Slot, Step};
 use hl_words::{Realm, Rider, Seed};
 use std::alloc::Global;
 use std::marker::Brand;
@@ -220,8 +220,8 @@ fn cut_journal<E: Epochs + Drop, L: Realm>(
     Ok(())
 }
 
-// The base of an acquire and an allocation of a page by slot 0, and a raise to its end.
-fn check_base(rt: &impl Abort, base: &hl_model::Base) {
+/// The base of an acquire and an allocation of a page by slot 0, and a raise to its end.
+pub(crate) fn check_base(rt: &impl Abort, base: &Base) {
     let slot = Slot {
         epoch: 1,
         view: view(0, 0, 4),

@@ -10,6 +10,9 @@ use hl_words::{Realm, Rider, Seed};
 use std::alloc::Global;
 use std::process::Abort;
 
+/// The stamp of each keeper that stands alone, and of each domain that is compared with one.
+pub(crate) const STAMP: u64 = 1000;
+
 /// Any answer will do.
 pub(crate) struct Anything;
 

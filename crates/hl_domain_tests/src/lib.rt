@@ -1,13 +1,27 @@
-//! The tests of the domain by its public calls, of what no clause says: that calls which may be refused aren't,
-//! which tickets, places, views and snapshots it answers, and that threads get on beside one another.
+//! The tests of the domain and of its keeper by their public calls, of what no clause says: that calls which may be
+//! refused aren't, which tickets, places, views and snapshots they answer, and that threads get on beside one another.
 //!
-//! `examples` has the worked examples; `crowd` many threads on one domain and on two, which do what `work` says;
-//! `strangers` what is of another domain; `refusals` passes and pages that are given up, and riders that are
-//! missing; `journals` how many steps a journal holds; `limits` the greatest sizes; `jobs` what they store.
+//! | Module | What is tested there, or what it is for |
+//! |---|---|
+//! | `examples` | a domain's worked examples, with what each call answers |
+//! | `keepers` | those of a keeper that stands alone |
+//! | `comparison` | one function asks a keeper and a domain the same, and both answer alike |
+//! | `crowd` | many threads on one domain, and on two |
+//! | `strangers` | what is of another domain |
+//! | `refusals` | passes and pages that are given up, riders that are missing |
+//! | `journals` | how many steps a journal holds, and what a full one refuses |
+//! | `limits` | the greatest sizes, stamps and journals, and a chain of jobs |
+//! | `asks`, `play` | for `comparison`: one that is asked, keeper or domain, and notes of what it answers |
+//! | `work` | for `crowd`: what one of its threads does |
+//! | `jobs` | for all: what they store, and small helpers |
 //!
 //! This crate has no code beside its tests: a crate with tests is proved twice.
 #![tactic(auto)]
 
+#[cfg(test)]
+mod asks;
+#[cfg(test)]
+mod comparison;
 #[cfg(test)]
 mod crowd;
 #[cfg(test)]
@@ -17,7 +31,11 @@ mod jobs;
 #[cfg(test)]
 mod journals;
 #[cfg(test)]
+mod keepers;
+#[cfg(test)]
 mod limits;
+#[cfg(test)]
+mod play;
 #[cfg(test)]
 mod refusals;
 #[cfg(test)]

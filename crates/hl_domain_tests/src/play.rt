@@ -2,10 +2,10 @@
 ghost use Rattle.std.specs.Prelude.{◌≡◌};
 ghost use Rattle.hl_words.specs.States.{IsSeedOf};
 
-use super::STAMP;
-use super::asks::{Alone, Asked};
-use crate::{Domain, Keeper, Pass};
+use crate::asks::{Alone, Asked};
+use crate::jobs::STAMP;
 use hl_action::{Promise, Task};
+use hl_domain::{Domain, Keeper, Pass};
 use hl_drain::Ask;
 use hl_epoch::Epochs;
 use hl_model::{Fault, Reply, Snapshot, View};
@@ -16,7 +16,7 @@ use std::test::Fail;
 
 /// What a call answered.
 #[derive(Clone, Copy, Debug, PartialEq, Eq)]
-pub(super) enum Answer {
+pub(crate) enum Answer {
     Saw(View),
     Told(u64),
     Replied(Reply),
@@ -24,14 +24,14 @@ pub(super) enum Answer {
 }
 
 /// What was answered, and the quantities, the steps since the last cut and those cut in all then.
-pub(super) type Note = (Answer, Snapshot, u64, u64);
+pub(crate) type Note = (Answer, Snapshot, u64, u64);
 
 /// One that is asked, with its riders, and what it answered.
 #[derive(Drop)]
-pub(super) struct Play<E: Epochs, F: Task, P: Promise, L: Realm> {
-    pub(super) asked: Asked<E, F, P, L>,
-    pub(super) riders: Vec<Rider<L>>,
-    pub(super) notes: Vec<Note>,
+pub(crate) struct Play<E: Epochs, F: Task, P: Promise, L: Realm> {
+    pub(crate) asked: Asked<E, F, P, L>,
+    pub(crate) riders: Vec<Rider<L>>,
+    pub(crate) notes: Vec<Note>,
 }
 
 impl Answer {
@@ -45,7 +45,7 @@ impl Answer {
 
 impl<E: Epochs + Drop, F: Task, P: Promise, L: Realm> Play<E, F, P, L> {
     /// A keeper where nothing was done yet.
-    pub(super) fn of_keeper(alloc: Global, seed: Seed) -> Result<Play<E, F, P, L>, Fault>
+    pub(crate) fn of_keeper(alloc: Global, seed: Seed) -> Result<Play<E, F, P, L>, Fault>
         requires seed { IsSeedOf L.name L.parts L.table seed }
         requires named { (seed.sizes ≡ L.sizes) × (STAMP ≡ L.stamp) }
     {
@@ -63,7 +63,7 @@ impl<E: Epochs + Drop, F: Task, P: Promise, L: Realm> Play<E, F, P, L> {
     }
 
     /// A domain where nothing was done yet.
-    pub(super) fn of_domain(alloc: Global, seed: Seed) -> Result<Play<E, F, P, L>, Fault>
+    pub(crate) fn of_domain(alloc: Global, seed: Seed) -> Result<Play<E, F, P, L>, Fault>
         requires seed { IsSeedOf L.name L.parts L.table seed }
         requires named { (seed.sizes ≡ L.sizes) × (STAMP ≡ L.stamp) }
     {
@@ -76,17 +76,17 @@ impl<E: Epochs + Drop, F: Task, P: Promise, L: Realm> Play<E, F, P, L> {
     }
 
     /// A rider that does nothing yet.
-    pub(super) fn rider(&mut self) -> Result<Rider<L>, Fail> {
+    pub(crate) fn rider(&mut self) -> Result<Rider<L>, Fail> {
         Ok(self.riders.pop().ok_or("three riders")?)
     }
 
     /// Notes an answer, and the quantities of now.
-    pub(super) fn note(&mut self, rt: &impl Wait, answer: Answer) -> Result<(), AllocError> {
+    pub(crate) fn note(&mut self, rt: &impl Wait, answer: Answer) -> Result<(), AllocError> {
         let (now, kept, cut) = self.asked.snapshot(rt);
         Ok(self.notes.push((answer, now, kept, cut))?)
     }
 
-    pub(super) fn acquire(
+    pub(crate) fn acquire(
         &mut self,
         rt: &impl Wait,
         t: u64,
@@ -101,7 +101,7 @@ impl<E: Epochs + Drop, F: Task, P: Promise, L: Realm> Play<E, F, P, L> {
         }
     }
 
-    pub(super) fn refresh(&mut self, rt: &impl Wait, pass: &mut Pass<L>) -> Result<(), AllocError> {
+    pub(crate) fn refresh(&mut self, rt: &impl Wait, pass: &mut Pass<L>) -> Result<(), AllocError> {
         let answer = match self.asked.refresh(rt, pass) {
             Ok(view) => Answer::Saw(view),
             Err(fault) => Answer::Met(fault),
@@ -109,7 +109,7 @@ impl<E: Epochs + Drop, F: Task, P: Promise, L: Realm> Play<E, F, P, L> {
         self.note(rt, answer)
     }
 
-    pub(super) fn allocate(
+    pub(crate) fn allocate(
         &mut self,
         rt: &impl Wait,
         pass: &mut Pass<L>,
@@ -119,7 +119,7 @@ impl<E: Epochs + Drop, F: Task, P: Promise, L: Realm> Play<E, F, P, L> {
         self.note(rt, answer)
     }
 
-    pub(super) fn load(
+    pub(crate) fn load(
         &mut self,
         rt: &impl Wait,
         pass: &mut Pass<L>,
@@ -129,7 +129,7 @@ impl<E: Epochs + Drop, F: Task, P: Promise, L: Realm> Play<E, F, P, L> {
         self.note(rt, answer)
     }
 
-    pub(super) fn settle(
+    pub(crate) fn settle(
         &mut self,
         rt: &impl Wait,
         rider: &mut Rider<L>,
@@ -138,12 +138,12 @@ impl<E: Epochs + Drop, F: Task, P: Promise, L: Realm> Play<E, F, P, L> {
         self.note(rt, answer)
     }
 
-    pub(super) fn close(&mut self, rt: &impl Wait, rider: &mut Rider<L>) -> Result<(), AllocError> {
+    pub(crate) fn close(&mut self, rt: &impl Wait, rider: &mut Rider<L>) -> Result<(), AllocError> {
         let answer = Answer::told(self.asked.bump(rt, rider, Ask::Close));
         self.note(rt, answer)
     }
 
-    pub(super) fn raise(
+    pub(crate) fn raise(
         &mut self,
         rt: &impl Wait,
         rider: &mut Rider<L>,
@@ -153,7 +153,7 @@ impl<E: Epochs + Drop, F: Task, P: Promise, L: Realm> Play<E, F, P, L> {
         self.note(rt, answer)
     }
 
-    pub(super) fn shift(
+    pub(crate) fn shift(
         &mut self,
         rt: &impl Wait,
         rider: &mut Rider<L>,
@@ -164,7 +164,7 @@ impl<E: Epochs + Drop, F: Task, P: Promise, L: Realm> Play<E, F, P, L> {
     }
 
     /// Takes the oldest action and runs it, and is done with it: its ticket and the reply, or the fault of the take.
-    pub(super) fn act(&mut self, rt: &impl Wait, rider: &mut Rider<L>) -> Result<(), AllocError> {
+    pub(crate) fn act(&mut self, rt: &impl Wait, rider: &mut Rider<L>) -> Result<(), AllocError> {
         let ran = match self.asked.take_and_run(rt, rider) {
             Ok(ran) => ran,
             Err(fault) => return self.note(rt, Answer::Met(fault)),
@@ -182,7 +182,7 @@ impl<E: Epochs + Drop, F: Task, P: Promise, L: Realm> Play<E, F, P, L> {
     }
 
     /// Takes a page and flushes it: the page and the flushed offset, or the fault of the take.
-    pub(super) fn flush(&mut self, rt: &impl Wait, rider: &mut Rider<L>) -> Result<(), AllocError> {
+    pub(crate) fn flush(&mut self, rt: &impl Wait, rider: &mut Rider<L>) -> Result<(), AllocError> {
         let load = match self.asked.flush_take(rt, rider) {
             Ok(load) => load,
             Err(fault) => return self.note(rt, Answer::Met(fault)),
@@ -200,7 +200,7 @@ impl<E: Epochs + Drop, F: Task, P: Promise, L: Realm> Play<E, F, P, L> {
     }
 
     /// Takes a page and cleans it: the page twice, or the fault of the take.
-    pub(super) fn clean(&mut self, rt: &impl Wait, rider: &mut Rider<L>) -> Result<(), AllocError> {
+    pub(crate) fn clean(&mut self, rt: &impl Wait, rider: &mut Rider<L>) -> Result<(), AllocError> {
         let broom = match self.asked.clean_take(rt, rider) {
             Ok(broom) => broom,
             Err(fault) => return self.note(rt, Answer::Met(fault)),

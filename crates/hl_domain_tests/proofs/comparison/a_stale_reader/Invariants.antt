@@ -1,4 +1,4 @@
-use Rattle.hl_domain.proofs.tests.comparison.a_stale_reader.Given as goal
+use Rattle.hl_domain_tests.proofs.comparison.a_stale_reader.Given as goal
 
 -- the words, sizes and ledger of the seed that was just made, and the stamp of its domain
 abbrev pub ghosts-stale_readers-L-Realm : goal.ghosts-stale_readers-L-Realm

@@ -1,4 +1,4 @@
-use Rattle.hl_domain.proofs.tests.comparison.a_page_is_settled.Given as goal
+use Rattle.hl_domain_tests.proofs.comparison.a_page_is_settled.Given as goal
 
 -- the words, sizes and ledger of the seed that was just made, and the stamp of its domain
 abbrev pub ghosts-settled-L-Realm : goal.ghosts-settled-L-Realm

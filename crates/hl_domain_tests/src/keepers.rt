@@ -1,71 +1,22 @@
-//! Examples of a keeper's calls, with what each answers, over both tables of epochs. What a call answers is a theorem;
-//! here each is seen to succeed where there is memory. `comparison` asks a keeper and a domain the same.
-
+//! Examples of a keeper's calls, with what each answers, over both tables of epochs: a full journal, and one that
+//! is cut.
 ghost use Rattle.std.specs.Prelude.{◌≡◌};
 ghost use Rattle.hl_words.specs.States.{IsSeedOf};
 
-mod asks;
-mod comparison;
-mod play;
-
-use crate::look::store;
-use crate::{Keeper, Pass};
-use hl_action::{Firing, Promise, Task};
+use crate::examples::check_base;
+use crate::jobs::{Anything, STAMP, Tells, passed, small_seed, view};
 use hl_counts::CountTable;
+use hl_domain::unlocked::store;
+use hl_domain::{Keeper, Pass};
 use hl_epoch::{Epochs, ScanTable};
-use hl_model::{Base, Fault, Held, Params, Six, Slot, Step, View};
+use hl_model::{Fault, Step};
 use hl_words::{Realm, Rider, Seed, Words};
 use std::alloc::Global;
 use std::marker::Brand;
 use std::process::Abort;
 use std::test::Fail;
 
-/// Any answer will do.
-struct Anything;
-
-impl Promise for Anything {
-    ghost keeps = { λ tag firing answer. answer ≡ answer };
-}
-
-/// Answers its ticket.
-#[derive(Drop)]
-struct Ticket;
-
-impl Task for Ticket {
-    ghost can = { λ job firing. firing ≡ firing };
-
-    ghost gives = { λ job firing answer. answer ≡ firing.ticket };
-
-    fn call(self, firing: Firing) -> u64 {
-        firing.ticket()
-    }
-}
-
-/// The stamp of each keeper and each domain here.
-const STAMP: u64 = 1000;
-
-type Kept<E, L> = Keeper<E, Ticket, Anything, L>;
-
-fn seed(alloc: Global) -> Result<Seed, Fault> {
-    let params = Params::checked(4, 2, 2, 4).ok_or(Fault::Size)?;
-    Seed::make(alloc, params, 3)
-}
-
-fn view(read_only: u64, head: u64, tail: u64) -> View {
-    View {
-        read_only,
-        head,
-        tail,
-    }
-}
-
-/// The rider, back where the pass was refused.
-fn passed<L: Realm>(answer: Result<Pass<L>, (Fault, Rider<L>)>) -> Result<Pass<L>, Fault> {
-    match answer {
-        Ok(pass) => Ok(pass),
-        Err((fault, _)) => Err(fault),
-    }
-}
+type Kept<E, L> = Keeper<E, Tells, Anything, L>;
 
 fn full_journal<E: Epochs + Drop, L: Realm>(
     rt: &impl Abort,
@@ -90,8 +41,8 @@ fn full_journal<E: Epochs + Drop, L: Realm>(
 
 #[test]
 fn a_journal_is_full(rt: HostRuntime) -> Result<(), Fail> {
-    full_journal::<ScanTable, Brand>(&rt, rt.alloc(), seed(rt.alloc())?)?;
-    full_journal::<CountTable, Brand>(&rt, rt.alloc(), seed(rt.alloc())?)
+    full_journal::<ScanTable, Brand>(&rt, rt.alloc(), small_seed(rt.alloc(), 3)?)?;
+    full_journal::<CountTable, Brand>(&rt, rt.alloc(), small_seed(rt.alloc(), 3)?)
 }
 
 fn cut_journal<E: Epochs + Drop, L: Realm>(
@@ -113,8 +64,10 @@ fn cut_journal<E: Epochs + Drop, L: Realm>(
     let Ok(first) = keeper.release(&words, pass) else {
         panic!(rt; "there is room")
     };
-    check_kept(rt, &keeper);
     assert!(rt; first.share() == 6 && second.share() == 1);
+    riders.push(first)?;
+    riders.push(second)?;
+    end_cut_journal(rt, keeper, words, riders);
     Ok(())
 }
 
@@ -142,12 +95,17 @@ fn cut_full_journal<E: Epochs + Drop, L: Realm>(
     assert_eq!(rt; keeper.refresh(words, pass), Err(Fault::JournalFull));
     assert!(rt; keeper.cut(words, rider) == 4);
     assert!(rt; keeper.cut(words, rider) == 0);
-    check_base(rt, &keeper.base);
     assert_eq!(rt; keeper.refresh(words, pass), Ok(view(4, 0, 4)));
 }
 
-// The journal has the steps since the cut, the store before the refresh that entered it.
-fn check_kept<E: Epochs + Drop, L: Realm>(rt: &impl Abort, keeper: &Kept<E, L>) {
+// The journal has the steps since the cut, the store before the refresh that entered it; the base that is left
+// is that of the steps before.
+fn end_cut_journal<E: Epochs + Drop, L: Realm>(
+    rt: &impl Abort,
+    keeper: Kept<E, L>,
+    words: Words<L>,
+    riders: Vec<Rider<L>>,
+) {
     let steps = [
         Step::Write { t: 0, a: 1, v: 5 },
         Step::Refresh { t: 0 },
@@ -156,37 +114,16 @@ fn check_kept<E: Epochs + Drop, L: Realm>(rt: &impl Abort, keeper: &Kept<E, L>) 
     assert_eq!(rt; keeper.journal(), &steps[..]);
     let (_, kept, cut) = keeper.snapshot();
     assert!(rt; kept == 3 && cut == 4);
-}
-
-// The base of an acquire and an allocation of a page by slot 0, and a raise to its end.
-fn check_base(rt: &impl Abort, base: &Base) {
-    let slot = Slot {
-        epoch: 1,
-        view: view(0, 0, 4),
+    let Ok(ending) = keeper.close(words, riders) else {
+        panic!(rt; "all riders are there")
     };
-    let six = Six {
-        closed: 0,
-        head: 0,
-        flushed: 0,
-        safe_read_only: 0,
-        read_only: 4,
-        tail: 4,
-    };
-    let held = Held {
-        page: 0,
-        flushed: false,
-        in_flight: false,
-        freed: false,
-        cleaning: false,
-    };
-    assert!(rt; base.epoch() == 1 && base.waiting().is_empty() && base.taken().is_empty());
-    assert_eq!(rt; base.slots(), &[Some(slot), None][..]);
-    assert_eq!(rt; base.six(), six);
-    assert_eq!(rt; base.frames(), &[Some(held), None][..]);
+    assert_eq!(rt; ending.journal.as_slice(), &steps[..]);
+    assert_eq!(rt; ending.cut, 4);
+    check_base(rt, &ending.base);
 }
 
 #[test]
 fn a_journal_is_cut(rt: HostRuntime) -> Result<(), Fail> {
-    cut_journal::<ScanTable, Brand>(&rt, rt.alloc(), seed(rt.alloc())?)?;
-    cut_journal::<CountTable, Brand>(&rt, rt.alloc(), seed(rt.alloc())?)
+    cut_journal::<ScanTable, Brand>(&rt, rt.alloc(), small_seed(rt.alloc(), 3)?)?;
+    cut_journal::<CountTable, Brand>(&rt, rt.alloc(), small_seed(rt.alloc(), 3)?)
 }

@@ -1,11 +1,10 @@
 //! A keeper with its words, or a domain, so that one function can ask either.
 ghost use Rattle.std.specs.Prelude.{◌≡◌, ◌*◌};
 
-use super::STAMP;
-use crate::look::load;
-use crate::sweep::sweep;
-use crate::{Broom, Domain, Keeper, Load, Pass};
+use crate::jobs::STAMP;
 use hl_action::{Kept, Promise, Ran, Task};
+use hl_domain::unlocked::{load, sweep};
+use hl_domain::{Broom, Domain, Keeper, Load, Pass};
 use hl_drain::Ask;
 use hl_epoch::Epochs;
 use hl_model::{Fault, Params, Reply, Snapshot, View};
@@ -14,22 +13,22 @@ use std::sync::Wait;
 
 /// A keeper of the stamp of the tests, with its words.
 #[derive(Drop)]
-pub(super) struct Alone<E: Epochs, F: Task, P: Promise, L: Realm> {
-    pub(super) keeper: Keeper<E, F, P, L>,
-    pub(super) words: Words<L>,
-    pub(super) params: Params,
+pub(crate) struct Alone<E: Epochs, F: Task, P: Promise, L: Realm> {
+    pub(crate) keeper: Keeper<E, F, P, L>,
+    pub(crate) words: Words<L>,
+    pub(crate) params: Params,
     ghost cells: { words.cells ≡ params.frames * params.page_size },
 }
 
 /// The one that is asked.
 #[derive(Drop)]
-pub(super) enum Asked<E: Epochs, F: Task, P: Promise, L: Realm> {
+pub(crate) enum Asked<E: Epochs, F: Task, P: Promise, L: Realm> {
     Alone(Alone<E, F, P, L>),
     Shared(Domain<E, F, P, L>),
 }
 
 impl<E: Epochs + Drop, F: Task, P: Promise, L: Realm> Asked<E, F, P, L> {
-    pub(super) fn acquire(
+    pub(crate) fn acquire(
         &mut self,
         rt: &impl Wait,
         t: u64,
@@ -41,14 +40,14 @@ impl<E: Epochs + Drop, F: Task, P: Promise, L: Realm> Asked<E, F, P, L> {
         }
     }
 
-    pub(super) fn refresh(&mut self, rt: &impl Wait, pass: &mut Pass<L>) -> Result<View, Fault> {
+    pub(crate) fn refresh(&mut self, rt: &impl Wait, pass: &mut Pass<L>) -> Result<View, Fault> {
         match self {
             Asked::Alone(alone) => alone.keeper.refresh(&alone.words, pass),
             Asked::Shared(domain) => domain.refresh(rt, pass),
         }
     }
 
-    pub(super) fn allocate(
+    pub(crate) fn allocate(
         &mut self,
         rt: &impl Wait,
         pass: &mut Pass<L>,
@@ -60,14 +59,14 @@ impl<E: Epochs + Drop, F: Task, P: Promise, L: Realm> Asked<E, F, P, L> {
         }
     }
 
-    pub(super) fn load(&mut self, pass: &mut Pass<L>, a: u64) -> Result<u64, Fault> {
+    pub(crate) fn load(&mut self, pass: &mut Pass<L>, a: u64) -> Result<u64, Fault> {
         match self {
             Asked::Alone(alone) => load(&alone.words, alone.params, pass, a),
             Asked::Shared(domain) => domain.load(pass, a),
         }
     }
 
-    pub(super) fn bump(
+    pub(crate) fn bump(
         &mut self,
         rt: &impl Wait,
         rider: &mut Rider<L>,
@@ -84,7 +83,7 @@ impl<E: Epochs + Drop, F: Task, P: Promise, L: Realm> Asked<E, F, P, L> {
     }
 
     /// Takes the oldest action, and runs it.
-    pub(super) fn take_and_run(
+    pub(crate) fn take_and_run(
         &mut self,
         rt: &impl Wait,
         rider: &mut Rider<L>,
@@ -96,7 +95,7 @@ impl<E: Epochs + Drop, F: Task, P: Promise, L: Realm> Asked<E, F, P, L> {
         Ok(ready.run())
     }
 
-    pub(super) fn done(
+    pub(crate) fn done(
         &mut self,
         rt: &impl Wait,
         rider: &mut Rider<L>,
@@ -108,7 +107,7 @@ impl<E: Epochs + Drop, F: Task, P: Promise, L: Realm> Asked<E, F, P, L> {
         }
     }
 
-    pub(super) fn raise(
+    pub(crate) fn raise(
         &mut self,
         rt: &impl Wait,
         rider: &mut Rider<L>,
@@ -120,7 +119,7 @@ impl<E: Epochs + Drop, F: Task, P: Promise, L: Realm> Asked<E, F, P, L> {
         }
     }
 
-    pub(super) fn shift(
+    pub(crate) fn shift(
         &mut self,
         rt: &impl Wait,
         rider: &mut Rider<L>,
@@ -132,7 +131,7 @@ impl<E: Epochs + Drop, F: Task, P: Promise, L: Realm> Asked<E, F, P, L> {
         }
     }
 
-    pub(super) fn flush_take(
+    pub(crate) fn flush_take(
         &mut self,
         rt: &impl Wait,
         rider: &mut Rider<L>,
@@ -143,7 +142,7 @@ impl<E: Epochs + Drop, F: Task, P: Promise, L: Realm> Asked<E, F, P, L> {
         }
     }
 
-    pub(super) fn flush_done(
+    pub(crate) fn flush_done(
         &mut self,
         rt: &impl Wait,
         rider: &mut Rider<L>,
@@ -155,7 +154,7 @@ impl<E: Epochs + Drop, F: Task, P: Promise, L: Realm> Asked<E, F, P, L> {
         }
     }
 
-    pub(super) fn clean_take(
+    pub(crate) fn clean_take(
         &mut self,
         rt: &impl Wait,
         rider: &mut Rider<L>,
@@ -167,7 +166,7 @@ impl<E: Epochs + Drop, F: Task, P: Promise, L: Realm> Asked<E, F, P, L> {
     }
 
     /// Sweeps a page, and is done with it.
-    pub(super) fn clean(
+    pub(crate) fn clean(
         &mut self,
         rt: &impl Wait,
         rider: &mut Rider<L>,
@@ -194,7 +193,7 @@ impl<E: Epochs + Drop, F: Task, P: Promise, L: Realm> Asked<E, F, P, L> {
         }
     }
 
-    pub(super) fn snapshot(&self, rt: &impl Wait) -> (Snapshot, u64, u64) {
+    pub(crate) fn snapshot(&self, rt: &impl Wait) -> (Snapshot, u64, u64) {
         match self {
             Asked::Alone(alone) => alone.keeper.snapshot(),
             Asked::Shared(domain) => domain.snapshot(rt),

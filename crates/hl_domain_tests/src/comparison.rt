@@ -3,12 +3,12 @@
 ghost use Rattle.std.specs.Prelude.{◌≡◌};
 ghost use Rattle.hl_words.specs.States.{IsSeedOf};
 
-use super::asks::Asked;
-use super::play::{Answer, Note, Play};
-use super::{Anything, STAMP, Ticket, seed, view};
-use crate::Pass;
+use crate::asks::Asked;
+use crate::jobs::{Anything, STAMP, Tells, small_seed, view};
+use crate::play::{Answer, Note, Play};
 use hl_action::{Promise, Task};
 use hl_counts::CountTable;
+use hl_domain::Pass;
 use hl_epoch::{Epochs, ScanTable};
 use hl_model::{Fault, Reply, Step};
 use hl_words::{Realm, Rider, Seed};
@@ -183,10 +183,10 @@ fn stale_readers<E: Epochs + Drop, F: Task, P: Promise, L: Realm, M: Realm>(
 
 #[test]
 fn a_stale_reader(rt: HostRuntime) -> Result<(), Fail> {
-    let (one, other) = (seed(rt.alloc())?, seed(rt.alloc())?);
-    stale_readers::<ScanTable, Ticket, Anything, Brand, Brand>(&rt, rt.alloc(), one, other)?;
-    let (one, other) = (seed(rt.alloc())?, seed(rt.alloc())?);
-    stale_readers::<CountTable, Ticket, Anything, Brand, Brand>(&rt, rt.alloc(), one, other)
+    let (one, other) = (small_seed(rt.alloc(), 3)?, small_seed(rt.alloc(), 3)?);
+    stale_readers::<ScanTable, Tells, Anything, Brand, Brand>(&rt, rt.alloc(), one, other)?;
+    let (one, other) = (small_seed(rt.alloc(), 3)?, small_seed(rt.alloc(), 3)?);
+    stale_readers::<CountTable, Tells, Anything, Brand, Brand>(&rt, rt.alloc(), one, other)
 }
 
 fn settled<E: Epochs + Drop, F: Task, P: Promise, L: Realm, M: Realm>(
@@ -233,54 +233,8 @@ fn check_journal<E: Epochs + Drop, F: Task, P: Promise, L: Realm>(
 
 #[test]
 fn a_page_is_settled(rt: HostRuntime) -> Result<(), Fail> {
-    let (one, other) = (seed(rt.alloc())?, seed(rt.alloc())?);
-    settled::<ScanTable, Ticket, Anything, Brand, Brand>(&rt, rt.alloc(), one, other)?;
-    let (one, other) = (seed(rt.alloc())?, seed(rt.alloc())?);
-    settled::<CountTable, Ticket, Anything, Brand, Brand>(&rt, rt.alloc(), one, other)
-}
-
-// A pass whose stamp is another than its slot's is refused, with the slot's stamp, and stays as it was.
-fn another_stamp<R: Wait + Abort, E: Epochs + Drop, F: Task, P: Promise, L: Realm>(
-    rt: &R,
-    play: &mut Play<E, F, P, L>,
-) -> Result<(), Fail> {
-    let rider = play.rider()?;
-    let mut pass = play.acquire(rt, 0, rider)?;
-    assert!(rt; pass.stamp == STAMP + 1);
-    pass.stamp = STAMP + 2;
-    refused_as_a_stranger(rt, play, &mut pass);
-    Ok(())
-}
-
-fn refused_as_a_stranger<R: Wait + Abort, E: Epochs + Drop, F: Task, P: Promise, L: Realm>(
-    rt: &R,
-    play: &mut Play<E, F, P, L>,
-    pass: &mut Pass<L>,
-) {
-    let before = play.asked.snapshot(rt);
-    let refused = Err(Fault::Stranger { stamp: STAMP + 1 });
-    assert_eq!(rt; play.asked.refresh(rt, pass), refused);
-    assert!(rt; play.asked.snapshot(rt) == before && pass.stamp == STAMP + 2);
-    assert!(rt; pass.view() == view(0, 0, 0) && pass.rider().share() == 1);
-}
-
-fn foreign_stamp<E: Epochs + Drop, F: Task, P: Promise, L: Realm, M: Realm>(
-    rt: &(impl Wait + Abort),
-    alloc: Global,
-    one: Seed,
-    other: Seed,
-) -> Result<(), Fail>
-    requires one { IsSeedOf L.name L.parts L.table one }
-    requires one_named { (one.sizes ≡ L.sizes) × (STAMP ≡ L.stamp) }
-    requires other { IsSeedOf M.name M.parts M.table other }
-    requires other_named { (other.sizes ≡ M.sizes) × (STAMP ≡ M.stamp) }
-{
-    another_stamp(rt, &mut Play::<E, F, P, L>::of_keeper(alloc, one)?)?;
-    another_stamp(rt, &mut Play::<E, F, P, M>::of_domain(alloc, other)?)
-}
-
-#[test]
-fn a_pass_of_another_stamp_is_a_stranger(rt: HostRuntime) -> Result<(), Fail> {
-    let (one, other) = (seed(rt.alloc())?, seed(rt.alloc())?);
-    foreign_stamp::<CountTable, Ticket, Anything, Brand, Brand>(&rt, rt.alloc(), one, other)
+    let (one, other) = (small_seed(rt.alloc(), 3)?, small_seed(rt.alloc(), 3)?);
+    settled::<ScanTable, Tells, Anything, Brand, Brand>(&rt, rt.alloc(), one, other)?;
+    let (one, other) = (small_seed(rt.alloc(), 3)?, small_seed(rt.alloc(), 3)?);
+    settled::<CountTable, Tells, Anything, Brand, Brand>(&rt, rt.alloc(), one, other)
 }

@@ -1,4 +1,4 @@
-use Rattle.hl_domain.proofs.tests.a_journal_is_cut.Given as goal
+use Rattle.hl_domain_tests.proofs.keepers.a_journal_is_cut.Given as goal
 
 -- the words, sizes and ledger of the seed that was just made, and the stamp of the keeper
 abbrev pub ghosts-cut_journal-L-Realm : goal.ghosts-cut_journal-L-Realm
