@@ -322,6 +322,10 @@ module _ {F : Type 0} where
       let h = (unless_ok {X = Unit {0}} (fault_of engine.core.sizes A (Read t a)) tt tt free).0 in
       ap (λ z. Ok z) (is ∙ read_word engine A t a cell d st h at within) ∙ sym (ap (λ (o : Option Fault). unless_fault o (word a A)) h)
 
+  -- a read that is refused
+  pub found_fault : (engine : Whole F) (A : List Step) (t a : ℕ) (f : Fault) → Err f ≡ unless_fault (fault_of engine.core.sizes A (Read t a)) (tt {0}) → Err f ≡ unless_fault (fault_of engine.core.sizes A (Read t a)) (word a A)
+  found_fault engine A t a f refused = sym (ap (λ (o : Option Fault). unless_fault o (word a A)) (unless_err (fault_of engine.core.sizes A (Read t a)) f (tt {0}) refused))
+
   -- a write as a step
   pub moved_by_write : (keeps : ℕ → FiringRecord → ℕ → Type 0) (engine new : Whole F) (A : List Step) (t a v : ℕ) (result : Result (Unit {0}) Fault) → result ≡ unless_fault (fault_of engine.core.sizes A (Write t a v)) tt → new.core.sizes ≡ engine.core.sizes → EngineStands new (extended engine.core.sizes A (Write t a v)) → Moved keeps engine A (Write t a v) new (told (λ _. Written) result)
   moved_by_write keeps engine new A t a v result h same st = record {

@@ -6,7 +6,6 @@ ghost use Rattle.hl_cells.specs.Jobs.{JobsKept, RunsItsJob};
 
 use crate::engine::Engine;
 use hl_action::{Promise, Task};
-use hl_core::entered;
 use hl_epoch::Epochs;
 use hl_model::{Fault, Reply, Step};
 
@@ -30,26 +29,16 @@ impl<E: Epochs + Drop, F: Task, P: Promise> Engine<E, F, P> {
         ensures valid { IsEngine self.old }
     {
         match *step {
-            // A function of another crate can't be handed over by its name.
-            Step::Acquire { t } => self.acquire(t).map(|slot| entered(slot)),
-            Step::Refresh { t } => self.refresh(t).map(|slot| entered(slot)),
-            Step::Release { t } => self.release(t).map(|()| Reply::Left),
             Step::Bump { .. } => unreachable!(),
             Step::Settle => self.settle().map(Reply::Ticket),
             Step::Close => self.close().map(Reply::Ticket),
-            Step::Bare => self.bare().map(Reply::Bumped),
             Step::Take => self.take().map(Reply::Taken),
             Step::Done { ticket } => self.done(ticket),
-            Step::Raise { x } => self.raise(x).map(Reply::Raised),
-            Step::Shift { x } => self.shift(x).map(Reply::Shifted),
-            Step::Allocate { t, n } => self.allocate(t, n).map(Reply::At),
-            Step::Look { t, read_only, head } => self.look(t, read_only, head).map(Reply::Looked),
             Step::Write { t, a, v } => self.write(t, a, v).map(|()| Reply::Written),
             Step::Read { t, a } => self.read(t, a).map(Reply::Value),
-            Step::FlushTake => self.flush_take().map(Reply::Page),
-            Step::FlushDone { page, ok } => self.flush_done(page, ok).map(Reply::Flushed),
-            Step::CleanTake => self.clean_take().map(Reply::Page),
             Step::CleanDone { page } => self.clean_done(page).map(Reply::Freed),
+            // To the others an engine adds nothing.
+            _ => self.core.act(step),
         }
     }
 }

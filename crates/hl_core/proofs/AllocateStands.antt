@@ -89,6 +89,11 @@ module _ {J : Type 0} (tag : J → ℕ) (core : State J) where
       ∙ sym (fault_is A t n None (seen_none A t view st seen).0 told.0))
       told.1
 
+  -- an allocation of a slot that isn't protected
+  pub slot_refused : (t n : ℕ) (f : Fault) → SeenAs t (Err f) → Made tag core (Allocate t n) core (Err f)
+  slot_refused t n f seen A st =
+      refused_step tag core A (Allocate t n) f st (ap (λ o. or_fault o (allocate_fault core.sizes A n)) (unless_err (protected_fault core.sizes A t) f (view_of core.sizes t A) (seen A st)))
+
   -- an allocation of a bad size
   pub size_refused : (t n : ℕ) (view : View) (f : Fault) → SeenAs t (Ok view) → PlacedAs n (Err f) → Made tag core (Allocate t n) core (Err f)
   size_refused t n view f seen placed A st =

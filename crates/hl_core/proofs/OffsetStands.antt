@@ -40,6 +40,13 @@ shift_above : (page_size head flushed x : ℕ) → head < x → x % page_size �
 shift_above page_size head flushed x h w f = rw (lt-leb x head h, eq-eqb (x % page_size) 0 w, lt-ltb flushed x f) refl
 
 module _ {J : Type 0} (tag : J → ℕ) where
+  -- a refused raise
+  pub raise_err : (core : State J) (x : ℕ) (f : Fault) (offsets : Log) → Err f ≡ unless_fault (raise_fault core.offsets.read_only core.offsets.tail x) (tt {0}) → offsets ≡ unless_refused (raise_fault core.offsets.read_only core.offsets.tail x) core.offsets (raised x core.offsets) → Made tag core (Raise x) (record { sizes = core.sizes; table = core.table; views = core.views; drain = core.drain; offsets = offsets; pages = core.pages }) (Err f)
+  raise_err core x f offsets a e A st =
+      let both = call_refuses (raise_fault core.offsets.read_only core.offsets.tail x) f (tt {0}) core.offsets (raised x core.offsets) offsets a e in
+      subst (λ (z : Log). Stepped tag core A (Raise x) (record { sizes = core.sizes; table = core.table; views = core.views; drain = core.drain; offsets = z; pages = core.pages }) (Err f)) (sym both.1)
+      (refused_step tag core A (Raise x) f st (sym (ap (λ (z : Log). raise_fault z.read_only z.tail x) st.offsets_is) ∙ both.0))
+
   -- an accepted raise
   pub raise_ok : (core : State J) (x : ℕ) (offsets : Log) → Ok (tt {0}) ≡ unless_fault (raise_fault core.offsets.read_only core.offsets.tail x) (tt {0}) → offsets ≡ unless_refused (raise_fault core.offsets.read_only core.offsets.tail x) core.offsets (raised x core.offsets) → Made tag core (Raise x) (record { sizes = core.sizes; table = core.table; views = core.views; drain = core.drain; offsets = offsets; pages = core.pages }) (Ok (Raised x))
   raise_ok core x offsets a e A st =

@@ -2,6 +2,7 @@
 use Rattle.std.proofs.Common.{◌≡◌, ℕ, ◌+◌, ◌≤◌, Bool, true, false, cond, ltb, List, [], ◌∷◌, ◌++◌, length, replicate, refl, sym, ap, ◌∙◌, arith, append_assoc, length-append}
 use Rattle.std.specs.Prelude.{◌||◌, Some, None, Ok, Err}
 use Rattle.std.proofs.lemmas.Bool.{ltb-false, or_parts}
+use Rattle.std.proofs.lemmas.List.{append-nil}
 use Rattle.hl_model.specs.declared.fault.Fault.TheVariants.{JournalFull}
 use Rattle.hl_model.specs.declared.step.Step.{Step}
 use Rattle.hl_model.specs.Bases.{Base, base_of}
@@ -43,6 +44,25 @@ module _ {F : Type 0} where
   -- the steps that a keeper counts in all
   pub counted : (keeper : KeeperState F) (A : List Step) → KeeperStands keeper A → keeper.cut + length keeper.journal ≡ keeper.total
   counted keeper A st = omega (arith, st.cut_is, st.total_is, ap length st.history, length-append st.steps_cut keeper.journal)
+
+  -- a keeper that was cut: its base is that of the whole list, and its journal is empty
+  pub was_cut : (k : KeeperState F) (A : List Step) (base : Base) (n : ℕ) (journal : List Step) → KeeperStands k A → base ≡ base_of k.core.sizes A → n ≡ length k.journal → journal ≡ []
+      → KeeperStands {F = F} (record { core = k.core; base = base; cut = k.cut + n; journal = journal; limit = k.limit; stamps = k.stamps; stamp = k.stamp; acquired = k.acquired; offsets = k.offsets; total = k.total }) A
+  was_cut k A base n journal st b m j = record {
+    core_stands = st.core_stands;
+    steps_cut = A;
+    history = sym (append-nil A) ∙ ap (λ z. A ++ z) (sym j);
+    base_is = b;
+    cut_is = omega (arith, counted k A st, st.total_is, m);
+    read_only_is = st.read_only_is;
+    head_is = st.head_is;
+    total_is = st.total_is;
+    total_most = st.total_most;
+    journal_most = omega (arith, ap length j);
+    acquired_is = st.acquired_is;
+    stamps_are = st.stamps_are;
+    stamp_most = st.stamp_most;
+  }
 
   -- what it is that n more steps have room
   pub room-none : (keeper : KeeperState F) (n : ℕ) → room_fault keeper n ≡ None → (length keeper.journal + n ≤ keeper.limit) × (keeper.cut + length keeper.journal + n ≤ steps_most)

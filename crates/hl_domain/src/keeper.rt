@@ -2,6 +2,7 @@ ghost use Rattle.std.specs.Prelude.{◌≡◌, ◌≢◌, ◌*◌, ◌≤◌, Li
 ghost use Rattle.std.specs.List.{sum_by};
 ghost use Rattle.hl_model.specs.declared.fault.Fault.TheVariants.{OutOfMemory};
 ghost use Rattle.hl_model.specs.declared.step.Step.{Step as STEP};
+ghost use Rattle.hl_model.specs.Bases.{base_of};
 ghost use Rattle.hl_model.specs.Snapshots.{snapshot_of};
 ghost use Rattle.hl_words.specs.States.{IsSeedOf, new_rider};
 ghost use Rattle.hl_domain.specs.Keepers.{KeeperStands, steps_most};
@@ -111,10 +112,8 @@ impl<E: Epochs + Drop, F: Task, P: Promise, L: Realm> Keeper<E, F, P, L> {
         let params = seed.params();
         let (words, master, riders) = Words::open(alloc, seed)?;
         let core = Core::open(alloc, params)?;
-        let base = Base::opening(alloc, params)?;
-        let stamps = filled(alloc, params.slots(), 0)?;
         let limit = journal;
-        let journal = with_room(alloc, limit)?;
+        let (base, stamps, journal) = rows(alloc, params, limit)?;
         let keeper = Keeper {
             core,
             base,
@@ -179,4 +178,18 @@ impl<E: Epochs + Drop, F: Task, P: Promise, L: Realm> Keeper<E, F, P, L> {
             }
         }
     }
+}
+
+/// A keeper's rows at the empty list: its base, its slots' stamps, and room for so many steps of a journal.
+fn rows(alloc: Global, params: Params, journal: u64) -> Result<(Base, Vec<u64>, Vec<Step>), Fault>
+    ensures base { IfOk result (λ rows. rows.0 ≡ base_of params []) }
+    ensures stamps { IfOk result (λ rows. rows.1.items ≡ replicate params.slots 0) }
+    ensures exact { IfOk result (λ rows. vec_capacity rows.1 ≡ params.slots) }
+    ensures journal { IfOk result (λ rows. (rows.2.items ≡ []) × (vec_capacity rows.2 ≡ journal)) }
+    ensures memory { IfErr result (λ fault. fault ≡ OutOfMemory) }
+{
+    let base = Base::opening(alloc, params)?;
+    let stamps = filled(alloc, params.slots(), 0)?;
+    let journal = with_room(alloc, journal)?;
+    Ok((base, stamps, journal))
 }

@@ -1,9 +1,14 @@
 use Rattle.std.proofs.Common.{rules, sym, arith}
 use Rattle.std.proofs.lemmas.Result.{err_from_is_err_and}
 use Rattle.hl_core.proofs.SlotStands.{still_stands}
-use Rattle.hl_core.proofs.AllocateStands.{entered_at, size_refused, enter_next, enter_fits, enter_refused, seen_fits, entered_as, entered_before, entered_now, allocate_ok}
+use Rattle.hl_core.proofs.AllocateStands.{entered_at, slot_refused, size_refused, enter_next, enter_fits, enter_refused, seen_fits, entered_as, entered_before, entered_now, allocate_ok}
 use Rattle.hl_core.proofs.state.Core.allocate.Goals as goal
 use Rattle.hl_core.proofs.state.Core.allocate.Goals.{then-not-is_entered_at+in_ok-enter, else-not-is_entered_at}
+
+pub returns-in_err-seen-clause-made : goal.returns-in_err-seen-clause-made
+returns-in_err-seen-clause-made g c =
+    let p = err_from_is_err_and c.from_residual.result c.from_residual.ensures.1 in
+    rw (p.1, p.2) (slot_refused g.J.Tagged.tag c.args.self.now c.args.t c.args.n c.in_err-seen.field-0.0 c.in_err-seen.ensures)
 
 pub returns-in_err-address-clause-made : goal.returns-in_err-address-clause-made
 returns-in_err-address-clause-made g c =
