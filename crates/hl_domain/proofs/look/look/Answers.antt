@@ -1,4 +1,4 @@
-use Rattle.std.proofs.Common.{◌≡◌, ◌++◌, refl, sym, ap, ◌∙◌}
+use Rattle.std.proofs.Common.{rules, ◌≡◌, ◌++◌, refl, sym, ap, ◌∙◌}
 use Rattle.std.specs.Prelude.{None, Ok}
 use Rattle.hl_model.specs.Replies.{unless_refused}
 use Rattle.hl_model.proofs.NoFaultLaws.{unless_ok}
@@ -55,3 +55,6 @@ returns-clause-rises g c =
     let i = c.pass.inside in
     let p : PassRecord = record { slot = i.slot; stamp = i.stamp; held = i.held; touches = i.touches.items; rider = i.rider } in
     rw (sym c.pass.view_is) (looks_on c.load_offset-read_only.result c.load_offset-head.result p (record { slot = i.slot; stamp = i.stamp; held = i.held; touches = c.push.new.self.items; rider = c.load_offset-head.new.rider }) c.load_offset-read_only.new.rider c.load_offset-head.new.rider c.load_offset-read_only.ensures.view c.load_offset-head.ensures.view refl c.load_offset-read_only.ensures.rises c.load_offset-head.ensures.rises)
+
+pub returns-clause-raised : goal.returns-clause-raised
+returns-clause-raised g c = search rules

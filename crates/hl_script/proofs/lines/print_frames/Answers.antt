@@ -1,4 +1,4 @@
-use Rattle.std.proofs.Common.{◌++◌, sym, ap, ap₂, ◌∙◌, arith}
+use Rattle.std.proofs.Common.{rules, ◌++◌, sym, ap, ap₂, ◌∙◌, arith}
 use Rattle.hl_script.specs.Answers.{frame_text, frames_text}
 use Rattle.hl_script.proofs.AnswerLaws.{frames_so_far, frames-more}
 use Rattle.hl_script.proofs.lines.print_frames.Goals as goal
@@ -19,3 +19,6 @@ unfolding frames_text
 returns g c = λ has sizes A standing.
     c.loop-f.invariant.so_far has sizes A standing
     ∙ ap (frames_so_far sizes A) (omega (arith, c.loop-f-test.false, c.loop-f.invariant.end has sizes A standing))
+
+pub loop-f-init : goal.loop-f-init
+loop-f-init g c = search rules

@@ -1,7 +1,8 @@
-use Rattle.std.proofs.Common.{◌≡◌, ◌∙◌, ℕ, ◌<◌, List, length, get_or, sym}
+use Rattle.std.proofs.Common.{arith, rules, ◌≡◌, ◌∙◌, ℕ, ◌<◌, List, length, get_or, sym}
 use Rattle.std.proofs.lemmas.Bool.{ltb-true}
 use Rattle.std.proofs.lemmas.List.{get_or_default}
 use Rattle.std.specs.Prelude.{Option, Some, None, IfSome}
+use Rattle.std.proofs.lemmas.Grind.{common_steps}
 use Rattle.hl_action.specs.Jobs.{KeptRecord}
 use Rattle.hl_action.specs.Shelves.{AreAtTheirTags}
 use Rattle.hl_action.proofs.shelf.Shelf.take.Goals as goal
@@ -15,3 +16,15 @@ pub returns-clause-own_tag : goal.returns-clause-own_tag
 returns-clause-own_tag g c =
     own_tag c.self.inside.places.items c.args.tag c.take.result c.self.invariant.0 (ltb-true _ _ (sym c.in_ok-get_mut.ensures.item.0))
     (cc (c.take.ensures.value, c.in_ok-get_mut.ensures.value))
+
+pub returns-in_err-get_mut-clause-value : goal.returns-in_err-get_mut-clause-value
+returns-in_err-get_mut-clause-value g c = search rules
+
+pub returns-in_err-get_mut-clause-after : goal.returns-in_err-get_mut-clause-after
+returns-in_err-get_mut-clause-after g c = grind (arith, common_steps)
+
+pub returns-clause-value : goal.returns-clause-value
+returns-clause-value g c = search rules
+
+pub returns-clause-after : goal.returns-clause-after
+returns-clause-after g c = search rules

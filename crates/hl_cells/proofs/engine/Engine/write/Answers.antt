@@ -1,4 +1,4 @@
-use Rattle.std.proofs.Common.{refl, sym, arith}
+use Rattle.std.proofs.Common.{rules, refl, sym, arith}
 use Rattle.std.specs.Prelude.{Ok}
 use Rattle.hl_model.specs.declared.step.Reply.TheVariants.{Written}
 use Rattle.hl_model.specs.declared.step.Step.TheVariants.{Write as WRITE}
@@ -34,3 +34,9 @@ returns-clause-standing g c =
 
 pub returns-clause-jobs : goal.returns-clause-jobs
 returns-clause-jobs g c = rw (sym c.self.view_is) (rows_stay (record { core = c.self.inside.core; words = c.self.inside.words; held = c.self.inside.held }) _ refl refl)
+
+pub returns-in_err-may_write-clause-jobs : goal.returns-in_err-may_write-clause-jobs
+returns-in_err-may_write-clause-jobs g c = search rules
+
+pub returns-in_err-may_write-clause-refused : goal.returns-in_err-may_write-clause-refused
+returns-in_err-may_write-clause-refused g c = search rules

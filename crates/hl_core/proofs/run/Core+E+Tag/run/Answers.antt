@@ -1,4 +1,5 @@
-use Rattle.std.proofs.Common.{rules}
+use Rattle.std.proofs.Common.{arith, rules}
+use Rattle.std.proofs.lemmas.Grind.{common_steps}
 use Rattle.hl_core.proofs.RunStands.{ran_none, ran_next, ran_headline}
 use Rattle.hl_core.proofs.run.Core+E+Tag.run.Goals as goal
 
@@ -10,3 +11,9 @@ loop-i-preserved g c = ran_next (λ t. t.0) c.args.self.now c.args.steps.now c.l
 
 pub returns-clause-headline : goal.returns-clause-headline
 returns-clause-headline g c A st = ran_headline (λ t. t.0) c.args.self.now A c.args.steps.now st
+
+pub returns-clause-replies : goal.returns-clause-replies
+returns-clause-replies g c = grind (arith, common_steps)
+
+pub returns-clause-standing : goal.returns-clause-standing
+returns-clause-standing g c = grind (arith, common_steps)

@@ -1,5 +1,6 @@
-use Rattle.std.proofs.Common.{◌≡◌, ◌%◌, ◌<◌, Some, length, ap, sym, ◌∙◌, arith}
+use Rattle.std.proofs.Common.{rules, ◌≡◌, ◌%◌, ◌<◌, Some, length, ap, sym, ◌∙◌, arith}
 use Rattle.std.proofs.lemmas.Bool.{ne_eqb}
+use Rattle.std.proofs.lemmas.Grind.{common_steps}
 use Rattle.hl_epoch.specs.Table.{epoch_at, entered}
 use Rattle.hl_epoch.proofs.Tables.{IsTable-entered, safe_of-entered}
 use Rattle.hl_counts.specs.Tallies.{added, removed, IsTally}
@@ -45,3 +46,15 @@ returns-clause-turns c =
     let accepted = rw (← c.self.view_is) at c.in_ok-epoch.ensures.accepted in
     let at : epoch_at c.args.t T ≡ Some c.in_ok-epoch.epoch = ap (λ v. epoch_at c.args.t v.table) c.self.view_is ∙ c.in_ok-epoch.ensures.ok in
     rw (← c.self.view_is, accepted, at, ne_eqb c.in_ok-epoch.epoch T.current c.if-epoch-self.false, ← c.self.invariant.next, ← (invariant_of-self-2 c).next) (omega (arith, c.climb-self-inside.ensures.turns, c.add.ensures.turns, c.remove.ensures.turns, c.restart.ensures.turns))
+
+pub returns-clause-few : goal.returns-clause-few
+returns-clause-few c = search rules
+
+pub returns-then-epoch-self-clause-effect : goal.returns-then-epoch-self-clause-effect
+returns-then-epoch-self-clause-effect c = grind (arith, common_steps)
+
+pub returns-then-epoch-self-clause-turns : goal.returns-then-epoch-self-clause-turns
+returns-then-epoch-self-clause-turns c = search rules
+
+pub add-requires-clause-room : goal.add-requires-clause-room
+add-requires-clause-room c = grind (arith, common_steps)

@@ -1,4 +1,4 @@
-use Rattle.std.proofs.Common.{◌≡◌, ◌%◌, ◌<◌, Some, length, ap, sym, ◌∙◌, arith}
+use Rattle.std.proofs.Common.{rules, ◌≡◌, ◌%◌, ◌<◌, Some, length, ap, sym, ◌∙◌, arith}
 use Rattle.hl_epoch.specs.Table.{epoch_at, left}
 use Rattle.hl_epoch.proofs.Tables.{IsTable-left, safe_of-left}
 use Rattle.hl_counts.specs.Tallies.{removed, IsTally}
@@ -41,3 +41,6 @@ pub returns-clause-turns : goal.returns-clause-turns
 returns-clause-turns c =
     let accepted = rw (← c.self.view_is) at c.in_ok-epoch.ensures.accepted in
     rw (← c.self.view_is, accepted, ← c.self.invariant.next, ← (invariant_of-self c).next) (omega (arith, c.climb-self-inside.ensures.turns, c.remove.ensures.turns, c.restart.ensures.turns))
+
+pub returns-clause-few : goal.returns-clause-few
+returns-clause-few c = search rules

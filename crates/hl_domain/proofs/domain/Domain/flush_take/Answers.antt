@@ -1,4 +1,4 @@
-use Rattle.std.proofs.Common.{sym}
+use Rattle.std.proofs.Common.{rules, sym}
 use Rattle.hl_domain.proofs.DomainLaws.{leaves}
 use Rattle.hl_domain.proofs.domain.Domain.flush_take.Goals as goal
 
@@ -7,3 +7,6 @@ returns-clause-met g c =
     let of = rw (sym c.deref_mut.ensures.value) at c.lock.ensures in
     let e = c.flush_take.ensures in
     leaves c.args.self.now c.deref_mut.result.now c.flush_take.new.self _ of e.stays.sizes e.stays.stamp (_, (e.made of.standing.0 of.standing.1).standing) (e.made, e.stays, e.jobs, e.refused)
+
+pub returns-clause-rider : goal.returns-clause-rider
+returns-clause-rider g c = search rules

@@ -1,4 +1,4 @@
-use Rattle.std.proofs.Common.{refl, sym, ap, ◌∙◌, arith, ◌+◌, ◌<◌, length}
+use Rattle.std.proofs.Common.{rules, refl, sym, ap, ◌∙◌, arith, ◌+◌, ◌<◌, length}
 use Rattle.std.specs.Prelude.{slice_set}
 use Rattle.hl_model.specs.declared.step.Step.TheVariants.{Acquire as ACQUIRE}
 use Rattle.hl_words.specs.States.{MasterState}
@@ -80,3 +80,6 @@ returns-in-Ok-clause-made g c =
     let room = rw (sym c.self.view_is) at c.in_default.ensures in
     rw (sym c.self.view_is) (λ A st. acquire_made k A c.args.t st c.in_default.field-0 c.acquire.new.self c.in-Ok.slot c.note.new.journal.items (slice_set c.self.inside.stamps.items c.args.t (c.self.inside.stamp + (c.self.inside.acquired + 1))) (c.self.inside.acquired + 1) c.note.new.master.offsets c.note.new.master.total c.args.rider c.note.new.rider c.new.result room (c.in-Ok.ensures.made A st.core_stands)
     c.note.ensures.journal refl refl (ap (λ (m : MasterState). m.offsets) c.note.ensures.master) (ap (λ (m : MasterState). m.total) c.note.ensures.master) c.note.ensures.rider c.new.ensures)
+
+pub returns-in-Ok-clause-acquired : goal.returns-in-Ok-clause-acquired
+returns-in-Ok-clause-acquired g c = search rules

@@ -1,4 +1,4 @@
-use Rattle.std.proofs.Common.{sym, ap, ◌∙◌, arith, length, length-append, ◌++◌}
+use Rattle.std.proofs.Common.{rules, sym, ap, ◌∙◌, arith, length, length-append, ◌++◌}
 use Rattle.std.proofs.lemmas.Result.{err_from_is_err_and}
 use Rattle.hl_model.specs.Replies.{fault_of}
 use Rattle.hl_model.proofs.NoFaultLaws.{unless_ok}
@@ -95,3 +95,6 @@ returns-clause-made g c =
     let may : MayCall k p c.args.step.now = may_call k p c.args.step.now c.len.result c.in_ok-room.field-0 c.self.invariant.of.standing known c.requires.kind c.pass.invariant.1 c.len.ensures.value room in
     let at : HasEntered k p c.args.step.now c.enter_steps.new.core = record { may = may; fine = λ A st. (unless_ok (fault_of k.core.sizes A c.args.step.now) c.in_ok-check.field-0 (tt {0}) (c.in_ok-check.ensures A st)).0; sizes = c.enter_steps.ensures.sizes; jobs = c.enter_steps.ensures.jobs; core = rw c.deref.ensures.0 at c.enter_steps.ensures.core } in
     rw (sym c.self.view_is, sym c.pass.view_is) (called_made k p c.args.step.now c.enter_steps.new.core c.act.new.self c.in-Ok.reply c.len.result c.enter_steps.new.journal.items c.push_reserved.new.self.items c.enter.new.self at c.in-Ok.ensures.made c.in-Ok.ensures.sizes c.len.ensures.value (c.enter_steps.ensures.journal ∙ ap (λ z. c.self.inside.journal.items ++ z) c.deref.ensures.0) c.push_reserved.ensures.items c.enter.ensures.total)
+
+pub returns-clause-pass : goal.returns-clause-pass
+returns-clause-pass g c = search rules

@@ -1,4 +1,4 @@
-use Rattle.std.proofs.Common.{refl, sym, ap, ◌∙◌, arith, ◌+◌}
+use Rattle.std.proofs.Common.{rules, refl, sym, ap, ◌∙◌, arith, ◌+◌}
 use Rattle.std.proofs.lemmas.Result.{err_from_is_err_and}
 use Rattle.hl_words.specs.States.{MasterState}
 use Rattle.hl_domain.specs.Keepers.{KeeperState}
@@ -71,3 +71,6 @@ returns-clause-made g c =
     c.note.ensures.journal (unstamped k A s st refl)
     (shift_follows k A c.args.x c.note.new.master.offsets st (core_told k A s c.act.new.self c.in_ok-act.field-0 (c.in_ok-act.ensures.made A st.core_stands)).0 (ap (λ (m : MasterState). m.offsets) c.note.ensures.master ∙ ap (λ (m : MasterState). m.offsets) c.store_offset.ensures))
     (ap (λ (m : MasterState). m.total) c.note.ensures.master ∙ ap (λ (m : MasterState). m.total + 1) c.store_offset.ensures))
+
+pub store_offset-requires : goal.store_offset-requires
+store_offset-requires g c = search rules

@@ -1,4 +1,4 @@
-use Rattle.std.proofs.Common.{refl}
+use Rattle.std.proofs.Common.{rules, refl}
 use Rattle.hl_drain.specs.Rows.{lists_of}
 use Rattle.hl_drain.proofs.DrainLaws.{IsDrain-give_up}
 use Rattle.hl_drain.proofs.drain.Drain.give_up.Goals as goal
@@ -14,3 +14,9 @@ invariant_of-self g c =
 
 pub returns-clause-valid : goal.returns-clause-valid
 returns-clause-valid g c = (invariant_of-self g c).lists
+
+pub returns-clause-answer : goal.returns-clause-answer
+returns-clause-answer g c = search rules
+
+pub returns-clause-lists : goal.returns-clause-lists
+returns-clause-lists g c = search rules

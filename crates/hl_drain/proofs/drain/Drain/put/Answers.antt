@@ -21,3 +21,9 @@ invariant_of-self g c =
 
 pub returns-clause-valid : goal.returns-clause-valid
 returns-clause-valid g c = (invariant_of-self g c).lists
+
+pub returns-clause-answer : goal.returns-clause-answer
+returns-clause-answer g c = search rules
+
+pub returns-clause-lists : goal.returns-clause-lists
+returns-clause-lists g c = search rules

@@ -1,4 +1,4 @@
-use Rattle.std.proofs.Common.{ℕ, ◌∙◌, sym, arith, drop}
+use Rattle.std.proofs.Common.{rules, ℕ, ◌∙◌, sym, arith, drop}
 use Rattle.hl_drain.specs.declared.action.Action.{Action}
 use Rattle.hl_drain.specs.Rows.{lists_of}
 use Rattle.hl_drain.proofs.DrainLaws.{IsDrain-take}
@@ -19,3 +19,9 @@ invariant_of-self-2 g c =
 
 pub returns-clause-valid : goal.returns-clause-valid
 returns-clause-valid g c = (invariant_of-self-2 g c).lists
+
+pub returns-clause-answer : goal.returns-clause-answer
+returns-clause-answer g c = search rules
+
+pub invariant_of-self : goal.invariant_of-self
+invariant_of-self g c = search rules

@@ -1,4 +1,4 @@
-use Rattle.std.proofs.Common.{sym, ◌∙◌}
+use Rattle.std.proofs.Common.{rules, sym, ◌∙◌}
 use Rattle.hl_epoch.proofs.Tables.{IsTable-opened}
 use Rattle.hl_epoch.proofs.scan.ScanTable.resume.Goals as goal
 
@@ -10,3 +10,6 @@ invariant_of-result c =
 
 pub returns-clause-valid : goal.returns-clause-valid
 returns-clause-valid c = (invariant_of-result c).0
+
+pub returns-clause-ok : goal.returns-clause-ok
+returns-clause-ok c = search rules

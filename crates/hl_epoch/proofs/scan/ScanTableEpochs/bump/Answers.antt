@@ -10,3 +10,6 @@ returns-clause-valid c = (invariant_of-self c).0
 
 pub returns-clause-rising : goal.returns-clause-rising
 returns-clause-rising c = rw (← c.self.view_is) (safe_of-bumped _ c.self.invariant.0)
+
+pub returns-clause-answer : goal.returns-clause-answer
+returns-clause-answer c = search rules

@@ -1,3 +1,4 @@
+use Rattle.std.proofs.Common.{rules}
 use Rattle.hl_epoch.proofs.Tables.{IsTable-entered, safe_of-entered}
 use Rattle.hl_epoch.proofs.scan.ScanTableEpochs.refresh.Goals as goal
 
@@ -9,3 +10,6 @@ returns-clause-valid c = (invariant_of-self c).0
 
 pub returns-clause-rising : goal.returns-clause-rising
 returns-clause-rising c = rw (← c.self.view_is) (safe_of-entered _ _ c.self.invariant.0)
+
+pub returns-clause-effect : goal.returns-clause-effect
+returns-clause-effect c = search rules

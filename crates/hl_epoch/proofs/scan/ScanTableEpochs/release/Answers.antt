@@ -1,3 +1,4 @@
+use Rattle.std.proofs.Common.{rules}
 use Rattle.hl_epoch.proofs.Tables.{IsTable-left, safe_of-left}
 use Rattle.hl_epoch.proofs.scan.ScanTableEpochs.release.Goals as goal
 
@@ -9,3 +10,6 @@ returns-clause-valid c = (invariant_of-self c).0
 
 pub returns-clause-rising : goal.returns-clause-rising
 returns-clause-rising c = rw (← c.self.view_is) (safe_of-left _ _ c.self.invariant.0)
+
+pub returns-clause-effect : goal.returns-clause-effect
+returns-clause-effect c = search rules

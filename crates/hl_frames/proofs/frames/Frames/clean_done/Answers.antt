@@ -1,5 +1,6 @@
 use Rattle.std.proofs.Common.{◌≡◌, ◌∙◌, arith, true, false, sym, length-set}
 use Rattle.std.specs.Prelude.{slice_set}
+use Rattle.std.proofs.lemmas.Grind.{common_steps}
 use Rattle.hl_model.specs.declared.frame.Held.{Held}
 use Rattle.hl_frames.specs.Pages.{is_cleaning}
 use Rattle.hl_frames.specs.IsFrames.{IsFrames}
@@ -45,3 +46,9 @@ invariant_of-self c =
 
 pub returns-clause-valid : goal.returns-clause-valid
 returns-clause-valid c = rw (row c) (known c)
+
+pub returns-clause-answer : goal.returns-clause-answer
+returns-clause-answer c = grind (arith, common_steps)
+
+pub returns-clause-pages : goal.returns-clause-pages
+returns-clause-pages c = grind (arith, common_steps)

@@ -1,10 +1,11 @@
-use Rattle.std.proofs.Common.{◌≡◌, ◌∙◌, ◌+◌, subst, length, ◌*◌, ℕ, Ok, arith, true, false, sym, ap, length-set}
+use Rattle.std.proofs.Common.{rules, ◌≡◌, ◌∙◌, ◌+◌, subst, length, ◌*◌, ℕ, Ok, arith, true, false, sym, ap, length-set}
 use Rattle.std.specs.Prelude.{slice_set}
 use Rattle.hl_model.specs.declared.frame.Held.{Held}
 use Rattle.hl_frames.specs.Pages.{is_in_flight, flushed_run, flushed_offset}
 use Rattle.hl_frames.specs.IsFrames.{IsFrames}
 use Rattle.hl_frames.specs.Answers.{flush_ended}
 use Rattle.std.specs.Vec.{with_item}
+use Rattle.std.proofs.lemmas.Grind.{common_steps}
 use Rattle.hl_frames.specs.declared.placed.Placed.{Placed}
 use Rattle.hl_frames.specs.Row.{HasFrame}
 use Rattle.hl_frames.specs.Kept.{pages_of, AreStored, IsKept}
@@ -105,3 +106,9 @@ returns-clause-valid c =
       | then-not-ok w ↦ rw w.self-inside-is (rw (row here) (known here))
       | else-not-ok w ↦ rw w.self-inside-is (rw (row here) (known here))
     ]
+
+pub returns-clause-pages : goal.returns-clause-pages
+returns-clause-pages c = grind (arith, common_steps)
+
+pub overflow_mul-result : goal.overflow_mul-result
+overflow_mul-result c = search rules

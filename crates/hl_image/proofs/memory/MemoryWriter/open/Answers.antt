@@ -9,3 +9,6 @@ images-replicate (suc n) size = ap (λ images. None ∷ images) (images-replicat
 
 pub returns-clause-ok : goal.returns-clause-ok
 returns-clause-ok c = search (rules, images-replicate c.args.pages c.args.bytes)
+
+pub loop-init : goal.loop-init
+loop-init c = search rules

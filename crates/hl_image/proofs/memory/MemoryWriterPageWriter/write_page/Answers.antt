@@ -8,3 +8,9 @@ returns-clause-ok c = record {
   accepted = sym c.if-is_refused.ensures;
   changed = search (rules, map-set (λ (place : Place). place.image) c.self.inside.rows.items c.args.page c.store.new.self);
 }
+
+pub invariant_of-self : goal.invariant_of-self
+invariant_of-self c = search rules
+
+pub invariant_of-self-2 : goal.invariant_of-self-2
+invariant_of-self-2 c = search rules

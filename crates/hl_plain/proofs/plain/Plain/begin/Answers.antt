@@ -1,4 +1,4 @@
-use Rattle.std.proofs.Common.{arith}
+use Rattle.std.proofs.Common.{rules, arith}
 use Rattle.hl_plain.proofs.HistoryLaws.{AreKept-begun}
 use Rattle.hl_plain.proofs.plain.Plain.begin.Goals as goal
 
@@ -9,3 +9,6 @@ invariant_of-result c = record {
   flushes_room = omega (arith, c.in_ok-flushes.ensures.room, c.requires.room);
   cleans_room = omega (arith, c.in_ok-cleans.ensures.room, c.requires.room);
 }
+
+pub returns-clause-ok : goal.returns-clause-ok
+returns-clause-ok c = search rules

@@ -20,3 +20,9 @@ returns-clause-rule g c =
     let cells : key.cells ≡ c.args.self.cells = ap (λ k. k.cells) t.key_is ∙ ap (λ w. w.cells) c.self.view_is in
     let told = subst (λ (n : ℕ). IsRuled n words c.args.master.offsets riders) cells (subst (λ o. IsRuled key.cells words o riders) (ap (λ m. m.offsets) c.master.view_is) ruled) in
     subst (λ ws. IsRuled c.args.self.cells ws c.args.master.offsets riders) (sym (ap (λ l. l.words) c.of.ensures)) told
+
+pub returns-clause-all : goal.returns-clause-all
+returns-clause-all g c = search rules
+
+pub returns-clause-total : goal.returns-clause-total
+returns-clause-total g c = search rules

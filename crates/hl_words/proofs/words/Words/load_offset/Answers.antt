@@ -1,4 +1,4 @@
-use Rattle.std.proofs.Common.{◌≡◌, ◌+◌, Some, slice_get, sym, ap, ◌∙◌, arith}
+use Rattle.std.proofs.Common.{rules, ◌≡◌, ◌+◌, Some, slice_get, sym, ap, ◌∙◌, arith}
 use Rattle.hl_words.specs.declared.which.Which.TheVariants.{ReadOnly, Head}
 use Rattle.hl_words.specs.States.{first_rider}
 use Rattle.hl_words.proofs.Steps.{looks_allowed}
@@ -29,3 +29,6 @@ returns-clause-rises g c =
       | in-ReadOnly w ↦ rw (w.result-is, w.in-ReadOnly.is, ← c.rider.view_is) (w.load.ensures.2.1 0 (first_rider c.rider.inside.seat.me.0) at)
       | in-Head w ↦ rw (w.result-is, w.in-Head.is, ← c.rider.view_is) (w.load-in-Head.ensures.2.1 0 (first_rider c.rider.inside.seat.me.0) at)
     ]
+
+pub returns-clause-view : goal.returns-clause-view
+returns-clause-view g c = search rules

@@ -1,4 +1,5 @@
-use Rattle.std.proofs.Common.{sym, ap, ◌∙◌, arith}
+use Rattle.std.proofs.Common.{rules, sym, ap, ◌∙◌, arith}
+use Rattle.std.proofs.lemmas.Grind.{common_steps}
 use Rattle.hl_words.proofs.Steps.{deals}
 use Rattle.hl_words.proofs.Dealing.{next_seat, more_riders}
 use Rattle.hl_words.proofs.words.Words.open.Goals as goal
@@ -24,3 +25,9 @@ loop-dealt-preserved g c =
       more_riders n k c.loop-dealt-test.true me i.2 c.split_seat-seat.result.me e.4 c.loop-dealt.riders.items c.push_reserved.new.self.items i.5 c.push_reserved.ensures.items,
       rw c.push_reserved.ensures.capacity i.6,
     )
+
+pub loop-dealt-init : goal.loop-dealt-init
+loop-dealt-init g c = search rules
+
+pub invariant_of-push_reserved : goal.invariant_of-push_reserved
+invariant_of-push_reserved g c = grind (arith, common_steps)

@@ -1,0 +1,5 @@
+use Rattle.std.proofs.Common.{rules}
+use Rattle.hl_offsets.proofs.offsets.Offsets.allocate_at.Goals as goal
+
+pub returns-clause-effect : goal.returns-clause-effect
+returns-clause-effect c = search rules
