@@ -38,9 +38,9 @@ impl<E: Epochs, J: Tagged + Drop> Core<E, J> {
     }
 }
 
-/// What a slot has, as the reply to the step by which it entered.
+// What a slot has, as the reply to the step by which it entered.
 #[inline(always)]
-pub fn entered(slot: Slot) -> Reply
+fn entered(slot: Slot) -> Reply
     ensures { result ≡ entered_reply slot }
 {
     let Slot { epoch, view } = slot;

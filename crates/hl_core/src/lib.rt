@@ -57,7 +57,6 @@ mod run;
 mod slots;
 mod state;
 
-pub use act::entered;
 pub use hl_action::Firing;
 pub use hl_drain::{Action, Ask, Drain};
 pub use hl_epoch::{Epochs, ScanTable};
