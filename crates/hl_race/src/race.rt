@@ -7,16 +7,16 @@ use crate::audit::{agrees_from_the_base, agrees_from_the_start};
 use crate::riders::ride;
 use hl_action::{AnyAnswer, NoJob};
 use hl_counts::CountTable;
-use hl_crew::{CrewEnd, OpenGate, run_crew};
+use hl_crew::{OpenGate, run_crew};
 use hl_domain::Domain;
 use hl_image::MemoryWriter;
-use hl_model::{Fault, Params, with_room};
+use hl_model::{Fault, Params};
 use hl_words::{Realm, Rider, Seed};
-use std::alloc::Global;
+use std::alloc::{AllocError, Global};
 use std::marker::Brand;
 use std::sync::Wait;
-use std::thread;
 use std::thread::Threads;
+use std::{array, thread};
 
 /// How a race is run. Each number is in range: that is in its type.
 #[derive(Clone, Copy, Debug, PartialEq, Eq)]
@@ -79,12 +79,6 @@ const RESIDENT: u64 = 4;
 
 /// How many pages a writer of the crew keeps.
 const PAGES: u64 = 8192;
-
-/// What a crew hands back.
-type Ended<L> = Result<
-    CrewEnd<L, MemoryWriter>,
-    (Fault, [Rider<L>; CREW], MemoryWriter, MemoryWriter),
->;
 
 /// The domain of a race.
 type Track<L> = Domain<CountTable, NoJob, AnyAnswer, L>;
@@ -151,88 +145,70 @@ fn run_on<L: Realm + Send + Sync, R: Threads + Wait + Sync>(
 ) -> Result<Vec<Rider<L>>, Fault>
     requires { domain.now.sizes.frames ≡ 8 }
 {
-    let crew = crew_of(&mut riders).ok_or(Fault::Size)?;
-    let mut seats = seats_of(alloc, riders)?;
-    let ended = ride_and_flush(rt, alloc, domain, &mut seats, crew, race)?;
-    match ended {
-        Ok(end) => gather(alloc, seats, end.riders),
-        Err((fault, ..)) => Err(fault),
-    }
+    let crew = crew_of(&mut riders)?;
+    let (riders, crew) = thread::join(
+        rt,
+        || ride_all(rt, alloc, domain, riders, race.rounds),
+        || -> Result<[Rider<L>; CREW], Fault>
+            requires { domain.now.sizes.frames ≡ 8 }
+        { flush_all(rt, alloc, domain, crew, race) },
+    );
+    all_of(riders, crew)
 }
 
 // The last four riders, for the crew.
-fn crew_of<L: Realm>(riders: &mut Vec<Rider<L>>) -> Option<[Rider<L>; CREW]> {
-    Some([riders.pop()?, riders.pop()?, riders.pop()?, riders.pop()?])
-}
-
-// A seat for each of the riders.
-fn seats_of<L: Realm>(
-    alloc: Global,
-    riders: Vec<Rider<L>>,
-) -> Result<Vec<Option<Rider<L>>>, Fault> {
-    let mut seats = with_room(alloc, riders.len() as u64)?;
-    for rider in riders {
-        seats.push(Some(rider)).map_err(|_| Fault::OutOfMemory)?;
-    }
-    Ok(seats)
-}
-
-// All riders, those of the seats first.
-fn gather<L: Realm>(
-    alloc: Global,
-    seats: Vec<Option<Rider<L>>>,
-    crew: [Rider<L>; CREW],
-) -> Result<Vec<Rider<L>>, Fault> {
-    let mut riders = with_room(alloc, (seats.len() + CREW) as u64)?;
-    for rider in seats.into_iter().flatten().chain(crew) {
-        riders.push(rider).map_err(|_| Fault::OutOfMemory)?;
-    }
-    Ok(riders)
-}
-
-// The riders of the seats make their rounds while the crew makes its turns.
-fn ride_and_flush<L: Realm + Send + Sync, R: Threads + Wait + Sync>(
-    rt: &R,
-    alloc: Global,
-    domain: &Track<L>,
-    seats: &mut [Option<Rider<L>>],
-    crew: [Rider<L>; CREW],
-    race: Race,
-) -> Result<Ended<L>, Fault>
-    requires { domain.now.sizes.frames ≡ 8 }
-{
-    let one = MemoryWriter::open(alloc, PAGES, 136)?;
-    let other = MemoryWriter::open(alloc, PAGES, 136)?;
-    let Race { rounds, cut, .. } = race;
-    let (_, ended) = thread::join(
-        rt,
-        || ride_all(rt, domain, seats, rounds),
-        || -> Ended<L>
-            requires { domain.now.sizes.frames ≡ 8 }
-        {
-            let gate = OpenGate;
-            run_crew(
-                rt, alloc, domain, crew, one, other, &gate, MUTABLE, RESIDENT, rounds, cut,
-            )
-        },
-    );
-    Ok(ended)
+fn crew_of<L: Realm>(riders: &mut Vec<Rider<L>>) -> Result<[Rider<L>; CREW], Fault> {
+    array::try_from_fn(|_| riders.pop().ok_or(Fault::Size))
 }
 
 // Riders make their rounds, each in a thread and on a slot of its own.
 fn ride_all<L: Realm + Send + Sync, R: Threads + Wait + Sync>(
     rt: &R,
+    alloc: Global,
     domain: &Track<L>,
-    seats: &mut [Option<Rider<L>>],
+    riders: Vec<Rider<L>>,
     rounds: u64,
-) {
-    let threads = seats.len().max(1);
-    let mount = |slot: usize, seat: &mut Option<Rider<L>>| ride(
+) -> Result<Vec<Rider<L>>, AllocError> {
+    let jobs = riders.into_iter().enumerate().collect::<Vec<_>>(alloc)?;
+    thread::map_vec(
         rt,
-        domain,
-        seat,
-        slot as u64,
-        rounds,
-    );
-    thread::for_each_mut(rt, seats, threads, &mount);
+        jobs,
+        &|(slot, rider)| ride(rt, domain, rider, slot as u64, rounds),
+    )
+}
+
+// The crew makes its turns.
+fn flush_all<L: Realm + Send + Sync, R: Threads + Wait + Sync>(
+    rt: &R,
+    alloc: Global,
+    domain: &Track<L>,
+    crew: [Rider<L>; CREW],
+    race: Race,
+) -> Result<[Rider<L>; CREW], Fault>
+    requires { domain.now.sizes.frames ≡ 8 }
+{
+    let one = MemoryWriter::open(alloc, PAGES, 136)?;
+    let other = MemoryWriter::open(alloc, PAGES, 136)?;
+    let Race { rounds, cut, .. } = race;
+    match run_crew(
+        rt, alloc, domain, crew, one, other, &OpenGate, MUTABLE, RESIDENT, rounds, cut,
+    ) {
+        Ok(end) => Ok(end.riders),
+        Err((fault, ..)) => Err(fault),
+    }
+}
+
+// All riders, the crew's last.
+fn all_of<L: Realm>(
+    riders: Result<Vec<Rider<L>>, AllocError>,
+    crew: Result<[Rider<L>; CREW], Fault>,
+) -> Result<Vec<Rider<L>>, Fault> {
+    match (riders, crew) {
+        (Ok(mut riders), Ok(crew)) => match riders.extend(crew) {
+            Ok(()) => Ok(riders),
+            Err(_) => Err(Fault::OutOfMemory),
+        },
+        (Err(_), _) => Err(Fault::OutOfMemory),
+        (_, Err(fault)) => Err(fault),
+    }
 }

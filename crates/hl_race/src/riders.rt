@@ -6,21 +6,8 @@ use hl_model::Fault;
 use hl_words::{Realm, Rider};
 use std::sync::Wait;
 
-/// Takes the rider from its seat through so many rounds on a slot, and puts it back.
+/// Acquires the slot, makes the rounds, and releases it. A pass that met a fault that ends it is abandoned.
 pub(crate) fn ride<E: Epochs + Drop, F: Task, P: Promise, L: Realm>(
-    rt: &impl Wait,
-    domain: &Domain<E, F, P, L>,
-    seat: &mut Option<Rider<L>>,
-    slot: u64,
-    rounds: u64,
-) {
-    if let Some(rider) = seat.take() {
-        *seat = Some(rounds_of(rt, domain, rider, slot, rounds));
-    }
-}
-
-// Acquires the slot, makes the rounds, and releases it. A pass that met a fault that ends it is abandoned.
-fn rounds_of<E: Epochs + Drop, F: Task, P: Promise, L: Realm>(
     rt: &impl Wait,
     domain: &Domain<E, F, P, L>,
     rider: Rider<L>,
