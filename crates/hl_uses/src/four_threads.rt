@@ -2,25 +2,21 @@ ghost use Rattle.std.specs.Prelude.{◌≡◌};
 ghost use Rattle.hl_words.specs.States.{IsSeedOf};
 
 use crate::say::say;
-use hl_crew::{CrewEnd, OpenGate, run_crew};
+use hl_crew::{OpenGate, run_crew};
 use hl_domain::{AnyAnswer, CountTable, Domain, Fault, NoJob, Params, Pass, Realm, Rider, Seed};
 use hl_image::MemoryWriter;
-use hl_model::with_room;
-use std::alloc::Global;
+use std::alloc::{AllocError, Global};
 use std::io::Write;
 use std::marker::Brand;
 use std::sync::Wait;
-use std::thread;
 use std::thread::Threads;
+use std::{array, thread};
 
 /// A domain whose actions are settles and closes alone.
 type Log<L> = Domain<CountTable, NoJob, AnyAnswer, L>;
 
 /// A crew's four riders.
 type Crew<L> = [Rider<L>; 4];
-
-/// What a crew hands back.
-type Ended<L> = Result<CrewEnd<L, MemoryWriter>, (Fault, Crew<L>, MemoryWriter, MemoryWriter)>;
 
 /// Four threads place a hundred records each in a domain, and a crew flushes and frees pages behind them.
 ///
@@ -65,82 +61,68 @@ fn work<L: Realm + Send + Sync, R: Threads + Wait + Sync>(
 ) -> Result<Vec<Rider<L>>, Fault>
     requires { log.now.sizes.frames ≡ 64 }
 {
-    let crew = crew_of(&mut riders).ok_or(Fault::Size)?;
-    let mut seats = seats_of(alloc, riders)?;
-    let ended = place_and_flush(rt, alloc, log, &mut seats, crew)?;
-    match ended {
-        Ok(end) => gather(alloc, seats, end.riders),
-        Err((fault, ..)) => Err(fault),
-    }
+    let crew = crew_of(&mut riders)?;
+    let (riders, crew) = thread::join(
+        rt,
+        || place_all(rt, alloc, log, riders),
+        || -> Result<Crew<L>, Fault>
+            requires { log.now.sizes.frames ≡ 64 }
+        { flush_all(rt, alloc, log, crew) },
+    );
+    all_of(riders, crew)
 }
 
 // Four of the riders, for the crew.
-fn crew_of<L: Realm>(riders: &mut Vec<Rider<L>>) -> Option<Crew<L>> {
-    Some([riders.pop()?, riders.pop()?, riders.pop()?, riders.pop()?])
+fn crew_of<L: Realm>(riders: &mut Vec<Rider<L>>) -> Result<Crew<L>, Fault> {
+    array::try_from_fn(|_| riders.pop().ok_or(Fault::Size))
 }
 
-// A seat for each of the riders.
-fn seats_of<L: Realm>(
-    alloc: Global,
-    riders: Vec<Rider<L>>,
-) -> Result<Vec<Option<Rider<L>>>, Fault> {
-    let mut seats = with_room(alloc, 8)?;
-    for rider in riders {
-        seats.push(Some(rider)).map_err(|_| Fault::OutOfMemory)?;
-    }
-    Ok(seats)
-}
-
-// All riders, those of the seats first.
-fn gather<L: Realm>(
-    alloc: Global,
-    seats: Vec<Option<Rider<L>>>,
-    crew: Crew<L>,
-) -> Result<Vec<Rider<L>>, Fault> {
-    let mut riders = with_room(alloc, 8)?;
-    for rider in seats.into_iter().flatten().chain(crew) {
-        riders.push(rider).map_err(|_| Fault::OutOfMemory)?;
-    }
-    Ok(riders)
-}
-
-// The riders of the seats place their records while the crew makes its turns.
-fn place_and_flush<L: Realm + Send + Sync, R: Threads + Wait + Sync>(
+// The crew makes its turns.
+fn flush_all<L: Realm + Send + Sync, R: Threads + Wait + Sync>(
     rt: &R,
     alloc: Global,
     log: &Log<L>,
-    seats: &mut [Option<Rider<L>>],
     crew: Crew<L>,
-) -> Result<Ended<L>, Fault>
+) -> Result<Crew<L>, Fault>
     requires { log.now.sizes.frames ≡ 64 }
 {
     let one = MemoryWriter::open(alloc, 64, 520)?;
     let other = MemoryWriter::open(alloc, 64, 520)?;
-    let (_, ended) = thread::join(
-        rt,
-        || place_all(rt, log, seats),
-        || -> Ended<L>
-            requires { log.now.sizes.frames ≡ 64 }
-        {
-            // About 2 pages may be written and 4 read; 100 turns, with a cut at the end of each.
-            run_crew(rt, alloc, log, crew, one, other, &OpenGate, 2, 4, 100, true)
-        },
-    );
-    Ok(ended)
+    // About 2 pages may be written and 4 read; 100 turns, with a cut at the end of each.
+    match run_crew(rt, alloc, log, crew, one, other, &OpenGate, 2, 4, 100, true) {
+        Ok(end) => Ok(end.riders),
+        Err((fault, ..)) => Err(fault),
+    }
 }
 
 // Each rider places its records in a thread and on a slot of its own.
 fn place_all<L: Realm + Send + Sync, R: Threads + Wait + Sync>(
     rt: &R,
+    alloc: Global,
     log: &Log<L>,
-    seats: &mut [Option<Rider<L>>],
-) {
-    let start = |slot: usize, seat: &mut Option<Rider<L>>| {
-        if let Some(rider) = seat.take() {
-            *seat = Some(place(rt, log, rider, slot as u64));
-        }
-    };
-    thread::for_each_mut(rt, seats, 4, &start);
+    riders: Vec<Rider<L>>,
+) -> Result<Vec<Rider<L>>, AllocError> {
+    let jobs = riders.into_iter().enumerate().collect::<Vec<_>>(alloc)?;
+    thread::map_vec(
+        rt,
+        jobs,
+        &|(slot, rider)| place(rt, log, rider, slot as u64),
+    )
+}
+
+// All riders, the crew's last.
+fn all_of<L: Realm>(
+    riders: Result<Vec<Rider<L>>, AllocError>,
+    crew: Result<Crew<L>, Fault>,
+) -> Result<Vec<Rider<L>>, Fault> {
+    match (riders, crew) {
+        (Ok(mut riders), Ok(crew)) => match riders.extend(crew) {
+            Ok(()) => Ok(riders),
+            Err(_) => Err(Fault::OutOfMemory),
+        },
+        (Err(_), _) => Err(Fault::OutOfMemory),
+        (_, Err(fault)) => Err(fault),
+    }
 }
 
 // Acquires the slot, places the records, and releases it. A pass that is refused is abandoned.
