@@ -85,30 +85,41 @@ fn read_words<'a, S: AsStr>(alloc: Global, words: &'a [S]) -> Result<Wanted, Err
 
 /// The program's command line.
 fn program<'a>(alloc: Global) -> Result<Command<'a>, AllocError> {
-    let flush = Arg::new(alloc, "flush")
-        .long("flush")
-        .action(ArgAction::SetTrue)
-        .help("Then writes the image of each page that can be flushed");
-    let run = Command::new(alloc, "run")
-        .about("Answers the script on standard input, line by line")
-        .override_usage("hl_tool run [--flush] < SCRIPT")
-        .arg(flush)?;
-    let slow = Command::new(alloc, "slow")
-        .about(
-            "The same text, computed from the list of steps: 1000 lines are quick, 10000 are not",
-        )
-        .override_usage("hl_tool slow < SCRIPT");
-    let report = Command::new(alloc, "report")
-        .about("Runs the script without its answers, and reports what it left, in eighteen lines")
-        .override_usage("hl_tool report < SCRIPT");
+    let (run, race) = (run_words(alloc)?, race_words(alloc)?);
+    let words = vec![in alloc; run, slow_words(alloc), report_words(alloc), race]?;
     Command::new(alloc, "hl_tool")
         .about("Epoch protection and page frames after FASTER, on scripts of steps")
         .after_help("docs/FORMATS.md tells the lines of a script, and of its answers")
         .subcommand_required(true)
-        .subcommand(run)?
-        .subcommand(slow)?
-        .subcommand(report)?
-        .subcommand(race_words(alloc)?)
+        .subcommands(words)
+}
+
+/// The words of a run.
+fn run_words<'a>(alloc: Global) -> Result<Command<'a>, AllocError> {
+    let flush = Arg::new(alloc, "flush")
+        .long("flush")
+        .action(ArgAction::SetTrue)
+        .help("Then writes the image of each page that can be flushed");
+    Command::new(alloc, "run")
+        .about("Answers the script on standard input, line by line")
+        .override_usage("hl_tool run [--flush] < SCRIPT")
+        .arg(flush)
+}
+
+/// The words of the slow form.
+fn slow_words<'a>(alloc: Global) -> Command<'a> {
+    Command::new(alloc, "slow")
+        .about(
+            "The same text, computed from the list of steps: 1000 lines are quick, 10000 are not",
+        )
+        .override_usage("hl_tool slow < SCRIPT")
+}
+
+/// The words of a report.
+fn report_words<'a>(alloc: Global) -> Command<'a> {
+    Command::new(alloc, "report")
+        .about("Runs the script without its answers, and reports what it left, in eighteen lines")
+        .override_usage("hl_tool report < SCRIPT")
 }
 
 /// The words of a race.
@@ -130,9 +141,7 @@ fn race_words<'a>(alloc: Global) -> Result<Command<'a>, AllocError> {
     Command::new(alloc, "race")
         .about("Runs threads against each other, and checks what they left against their journal")
         .override_usage("hl_tool race RIDERS ROUNDS [--cut]")
-        .arg(riders)?
-        .arg(rounds)?
-        .arg(cut)
+        .args(vec![in alloc; riders, rounds, cut]?)
 }
 
 /// Tells the user why the words gave no command: help was wanted, or they were refused.
