@@ -5,6 +5,7 @@ use Rattle.std.specs.Prelude.{Option, Some, None, IfSome}
 use Rattle.std.proofs.lemmas.Grind.{common_steps}
 use Rattle.hl_action.specs.Jobs.{KeptRecord}
 use Rattle.hl_action.specs.Shelves.{AreAtTheirTags}
+use Rattle.hl_action.proofs.Tags.{tags_set}
 use Rattle.hl_action.proofs.shelf.Shelf.take.Goals as goal
 
 -- what is found at a tag's place has that tag
@@ -28,3 +29,8 @@ returns-clause-value g c = search rules
 
 pub returns-clause-after : goal.returns-clause-after
 returns-clause-after g c = search rules
+
+pub invariant_of-self-2 : goal.invariant_of-self-2
+invariant_of-self-2 g c =
+    let tags = tags_set c.self.inside.places.items c.args.tag c.take.new.self c.self.invariant.0 (search rules) in
+    search rules
