@@ -4,3 +4,6 @@ use Rattle.hl_drain.proofs.drain.Drain.pending.Goals as goal
 
 pub loop-ticket-preserved : goal.loop-ticket-preserved
 loop-ticket-preserved g c = grind (arith, common_steps)
+
+pub push-requires : goal.push-requires
+push-requires g c = grind (arith, common_steps)
