@@ -1,4 +1,5 @@
 use Rattle.std.proofs.Common.{◌≡◌, ◌∙◌, [], ◌∷◌, ◌++◌, ap, arith, inl, length, true, false}
+use Rattle.std.proofs.lemmas.Grind.{common_steps}
 use Rattle.std.proofs.lemmas.Result.{err_from_is_err_and}
 use Rattle.std.specs.Result.{is_ok}
 use Rattle.hl_model.specs.declared.fault.Fault.TheVariants.{NoneSealed, Device}
@@ -57,3 +58,6 @@ returns-clause-flushes g c A before =
     ends-flush A old new c.in_ok-page.page before t true c.is_ok.result g.W.PageWriter.wrote c.args.writer.now c.write_page-written.new.self c.page_words.result.now c.image_of.new.out c.flush_done.new.self
     (c.is_ok.ensures.value ∙ ap is_ok c.in_ok-written.was) c.page_words.ensures c.image_of.ensures (rw c.in_ok-written.was at c.write_page-written.ensures.ok)
     (λ B stands. done-ended g.P.Promise.keeps new c.flush_done.new.self B c.in_ok-page.page c.is_ok.result _ (c.flush_done.ensures.moved B stands))
+
+pub returns-in_err-page-clause-one_counted : goal.returns-in_err-page-clause-one_counted
+returns-in_err-page-clause-one_counted g c = grind (arith, common_steps)
