@@ -89,6 +89,18 @@ module _ {J : Type 0} (tag : J → ℕ) (core : State J) where
       ∙ sym (fault_is A t n None (seen_none A t view st seen).0 told.0))
       told.1
 
+  -- what an allocation would be answered, where its slot has no view
+  pub may_allocate_slot : (t n : ℕ) (f : Fault) → SeenAs t (Err f) → (A : List Step) → Stands tag core A → Err f ≡ unless_fault (fault_of core.sizes A (Allocate t n)) (place_of core.sizes.page_size (tail core.sizes A) n)
+  may_allocate_slot t n f seen A st =
+      let protected : protected_fault core.sizes A t ≡ Some f = unless_err (protected_fault core.sizes A t) f (view_of core.sizes t A) (seen A st) in
+      sym (ap (λ o. unless_fault (or_fault o (allocate_fault core.sizes A n)) (place_of core.sizes.page_size (tail core.sizes A) n)) protected)
+
+  -- what one of a bad size would be answered
+  pub may_allocate_size : (t n : ℕ) (view : View) (f : Fault) → SeenAs t (Ok view) → PlacedAs n (Err f) → (A : List Step) → Stands tag core A → Err f ≡ unless_fault (fault_of core.sizes A (Allocate t n)) (place_of core.sizes.page_size (tail core.sizes A) n)
+  may_allocate_size t n view f seen placed A st =
+      let size : size_fault core.sizes.page_size (tail core.sizes A) n ≡ Some f = sym (size_same A n st) ∙ unless_err (size_fault core.offsets.page_size core.offsets.tail n) f (place_of core.offsets.page_size core.offsets.tail n) placed in
+      sym (ap (λ o. unless_fault o (place_of core.sizes.page_size (tail core.sizes A) n)) (fault_is A t n (Some f) (seen_none A t view st seen).0 size))
+
   -- an allocation of a slot that isn't protected
   pub slot_refused : (t n : ℕ) (f : Fault) → SeenAs t (Err f) → Made tag core (Allocate t n) core (Err f)
   slot_refused t n f seen A st =

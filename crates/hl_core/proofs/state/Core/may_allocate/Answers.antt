@@ -1,7 +1,18 @@
 use Rattle.std.proofs.Common.{true, false, sym, ◌∙◌}
-use Rattle.hl_core.proofs.AllocateStands.{entered_at, may_allocate_told, enters_old, enters_new}
+use Rattle.std.proofs.lemmas.Result.{err_from_is_err_and}
+use Rattle.hl_core.proofs.AllocateStands.{entered_at, may_allocate_slot, may_allocate_size, may_allocate_told, enters_old, enters_new}
 use Rattle.hl_core.proofs.state.Core.may_allocate.Goals as goal
 use Rattle.hl_core.proofs.state.Core.may_allocate.Goals.{then-is_entered_at, else-is_entered_at}
+
+pub returns-in_err-seen : goal.returns-in_err-seen
+returns-in_err-seen g c =
+    let p = err_from_is_err_and c.from_residual.result c.from_residual.ensures.1 in
+    rw (p.1, p.2) (may_allocate_slot g.J.Tagged.tag c.args.self.now c.args.t c.args.n c.in_err-seen.field-0.0 c.in_err-seen.ensures)
+
+pub returns-in_err-address : goal.returns-in_err-address
+returns-in_err-address g c =
+    let p = err_from_is_err_and c.from_residual-in_err-address.result c.from_residual-in_err-address.ensures.1 in
+    rw (p.1, p.2, sym c.self.view_is) (may_allocate_size g.J.Tagged.tag _ c.args.t c.args.n c.in_ok-seen.field-0 c.in_err-address.field-0.0 (rw (sym c.self.view_is) at c.in_ok-seen.ensures) c.in_err-address.ensures.answer)
 
 pub returns-then-may_enter : goal.returns-then-may_enter
 returns-then-may_enter g c =
