@@ -1,8 +1,9 @@
 ghost use Rattle.std.specs.Prelude.{◌≡◌, ◌+◌, ◌<◌, ◌≤◌, ◌^◌};
 ghost use Rattle.hl_words.specs.States.{IsSeedOf};
+ghost use Rattle.hl_words.specs.Views.{no_offsets};
 
 use hl_model::Params;
-use hl_words::{Realm, Rider, Seed, Which, Words};
+use hl_words::{Master, Realm, Rider, Seed, Which, Words};
 use std::alloc::Global;
 use std::marker::Brand;
 use std::process::Abort;
@@ -29,23 +30,37 @@ fn two_riders<L: Realm + Send + Sync, R: Threads + Abort + Sync>(
     requires sizes { seed.cells ≡ 2 ^ 20 }
 {
     let (words, mut master, mut riders) = Words::<L>::open(alloc, seed)?;
-    let mut other = riders.pop().ok_or("a rider")?;
-    let mut rider = riders.pop().ok_or("a rider")?;
-    store_last(rt, &words, &mut rider, &mut other);
-    words.store_offset(&mut master, Which::ReadOnly, 4);
-    words.store_offset(&mut master, Which::ReadOnly, 1 << 48);
-    see_offsets(rt, &words, &mut other);
-    master.enter(&mut rider, 3);
-    assert!(rt; rider.share() == 3 && master.total() == 3);
-    let (first, second) = both(rt, &words, rider, other);
-    assert!(rt; first.1 && second.1);
-    riders.push(first.0)?;
-    riders.push(second.0)?;
+    use_words(rt, &words, &mut master, &mut riders)?;
     let Ok(last) = words.close(master, riders) else {
         panic!(rt; "a rider is missing")
     };
     assert!(rt; last.cell(0) == 0 && last.cell(LAST) == 6);
     assert!(rt; last.offset(Which::ReadOnly) == 1 << 48 && last.offset(Which::Head) == 0);
+    Ok(())
+}
+
+// Two of the riders store and load, offsets are raised, and steps are entered.
+fn use_words<L: Realm + Send + Sync, R: Threads + Abort + Sync>(
+    rt: &R,
+    words: &Words<L>,
+    master: &mut Master<L>,
+    riders: &mut Vec<Rider<L>>,
+) -> Result<(), Fail>
+    requires cells { words.now.cells ≡ 2 ^ 20 }
+    requires master { master.old ≡ record { offsets = no_offsets; total = 0 } }
+{
+    let mut other = riders.pop().ok_or("a rider")?;
+    let mut rider = riders.pop().ok_or("a rider")?;
+    store_last(rt, words, &mut rider, &mut other);
+    words.store_offset(master, Which::ReadOnly, 4);
+    words.store_offset(master, Which::ReadOnly, 1 << 48);
+    see_offsets(rt, words, &mut other);
+    master.enter(&mut rider, 3);
+    assert!(rt; rider.share() == 3 && master.total() == 3);
+    let (first, second) = both(rt, words, rider, other);
+    assert!(rt; first.1 && second.1);
+    riders.push(first.0)?;
+    riders.push(second.0)?;
     Ok(())
 }
 
