@@ -10,6 +10,7 @@ use hl_image::{MemoryWriter, PageWriter};
 use hl_model::{Fault, Params, Six, Snapshot};
 use hl_words::{Realm, Rider, Seed};
 use std::alloc::Global;
+use std::array;
 use std::marker::Brand;
 use std::process::Abort;
 use std::sync::Wait;
@@ -61,21 +62,21 @@ impl Left {
     }
 }
 
-/// How a crew is run: the write of each writer that fails (0: none), the bytes of the pages that writers take (of other
-/// pages each write fails), the pages that stay resident, the turns, and whether the journal is cut.
+/// How a crew is run: the write of each writer that fails (0: none), the bytes of the pages that each writer takes (of
+/// other pages each write fails), the pages that stay resident, the turns, and whether the journal is cut.
 #[derive(Clone, Copy)]
-struct Run {
-    fails_at: u64,
-    bytes: u64,
-    resident: u64,
-    turns: u64,
-    cut: bool,
+pub(crate) struct Run {
+    pub(crate) fails_at: u64,
+    pub(crate) bytes: [u64; 2],
+    pub(crate) resident: u64,
+    pub(crate) turns: u64,
+    pub(crate) cut: bool,
 }
 
 /// One turn, in which no write fails.
-const ONE_TURN: Run = Run {
+pub(crate) const ONE_TURN: Run = Run {
     fails_at: 0,
-    bytes: 40,
+    bytes: [40, 40],
     resident: 4,
     turns: 1,
     cut: false,
@@ -117,7 +118,56 @@ pub(crate) fn allocate_pages<R: Wait, L: Realm>(
     }
 }
 
-/// Runs the crew on a domain of three whole pages, one of them mutable, with two writers in memory.
+/// Four of these riders, for a crew.
+pub(crate) fn four<L: Realm>(riders: &mut Vec<Rider<L>>) -> Result<[Rider<L>; 4], Fault> {
+    array::try_from_fn(|_| riders.pop().ok_or(Fault::Size))
+}
+
+/// This rider and three others, for a crew.
+fn crew_of<L: Realm>(rider: Rider<L>, riders: &mut Vec<Rider<L>>) -> Result<[Rider<L>; 4], Fault> {
+    let (Some(first), Some(second), Some(cleaning)) = (riders.pop(), riders.pop(), riders.pop())
+    else {
+        return Err(Fault::Size);
+    };
+    Ok([rider, first, second, cleaning])
+}
+
+/// Runs the crew with two writers in memory, with one page mutable.
+pub(crate) fn run_both<R, L, G>(
+    rt: &R,
+    alloc: Global,
+    domain: &Pages<L>,
+    crew: [Rider<L>; 4],
+    gate: &G,
+    run: Run,
+) -> Result<CrewEnd<L, MemoryWriter>, Fault>
+where
+    R: Threads + Wait + Sync,
+    L: Realm + Send + Sync,
+    G: Gate + Sync,
+    requires frames { domain.now.sizes.frames ≡ 4 }
+    requires resident { (1 ≤ run.resident) × (run.resident ≤ 4) }
+{
+    let Run {
+        fails_at,
+        bytes: [first, second],
+        resident,
+        turns,
+        cut,
+    } = run;
+    let mut one = MemoryWriter::open(alloc, 3, first)?;
+    let mut two = MemoryWriter::open(alloc, 3, second)?;
+    one.fail_at(fails_at);
+    two.fail_at(fails_at);
+    match run_crew(
+        rt, alloc, domain, crew, one, two, gate, 1, resident, turns, cut,
+    ) {
+        Ok(end) => Ok(end),
+        Err((fault, ..)) => Err(fault),
+    }
+}
+
+/// Runs the crew on a domain of three whole pages.
 fn crew_left<R, L, G>(rt: &R, alloc: Global, seed: Seed, gate: &G, run: Run) -> Result<Left, Fail>
 where
     R: Threads + Wait + Abort + Sync,
@@ -129,27 +179,13 @@ where
     requires resident { (1 ≤ run.resident) × (run.resident ≤ 4) }
 {
     let (domain, mut riders) = Pages::<L>::open(alloc, seed, 100, STAMP)?;
-    let cleaning = riders.pop().ok_or("a rider")?;
-    let second = riders.pop().ok_or("a rider")?;
-    let first = riders.pop().ok_or("a rider")?;
     let flushing = allocate_pages(rt, &domain, riders.pop().ok_or("a rider")?)?;
-    let mut one = MemoryWriter::open(alloc, 3, run.bytes)?;
-    let mut two = MemoryWriter::open(alloc, 3, run.bytes)?;
-    one.fail_at(run.fails_at);
-    two.fail_at(run.fails_at);
-    let Run {
-        resident,
-        turns,
-        cut,
-        ..
-    } = run;
-    let riders = [flushing, first, second, cleaning];
-    let end = match run_crew(
-        rt, alloc, &domain, riders, one, two, gate, 1, resident, turns, cut,
-    ) {
-        Ok(end) => end,
-        Err((fault, _, _, _)) => return Err(fault)?,
-    };
+    let crew = crew_of(flushing, &mut riders)?;
+    let end = run_both(rt, alloc, &domain, crew, gate, run)?;
+    Ok(left_of(rt, &domain, end))
+}
+
+fn left_of<R: Wait, L: Realm>(rt: &R, domain: &Pages<L>, end: CrewEnd<L, MemoryWriter>) -> Left {
     let (now, since, cut) = domain.snapshot(rt);
     let CrewEnd {
         riders,
@@ -159,7 +195,7 @@ where
         strangers,
     } = end;
     let [flushing, first, second, cleaning] = &riders;
-    Ok(Left {
+    Left {
         written,
         failed,
         strangers,
@@ -173,7 +209,7 @@ where
             second.share(),
             cleaning.share(),
         ],
-    })
+    }
 }
 
 #[test]
@@ -234,7 +270,7 @@ fn failing_crew_writers(rt: HostRuntime) -> Result<(), Fail> {
 #[test]
 fn crew_writers_always_fail(rt: HostRuntime) -> Result<(), Fail> {
     let run = Run {
-        bytes: 39,
+        bytes: [39, 39],
         turns: 3,
         ..ONE_TURN
     };

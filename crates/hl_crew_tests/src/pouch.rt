@@ -1,4 +1,5 @@
-ghost use Rattle.std.specs.Prelude.{◌≡◌};
+ghost use Rattle.std.specs.Prelude.{◌≡◌, ◌+◌, ◌<◌, ◌≤◌};
+ghost use Rattle.hl_crew.specs.Pouches.{load_count};
 ghost use Rattle.hl_words.specs.States.{IsSeedOf};
 
 use crate::crew::{Pages, STAMP, allocate_pages, seed};
@@ -35,15 +36,32 @@ fn pouch_answers<R: Wait + Abort, L: Realm>(rt: &R, alloc: Global, seed: Seed) -
     let (domain, mut riders) = Pages::<L>::open(alloc, seed, 100, STAMP)?;
     let mut rider = allocate_pages(rt, &domain, riders.pop().ok_or("a rider")?)?;
     seal(rt, &domain, &mut rider)?;
-    let first = domain.flush_take(rt, &mut rider);
-    let second = domain.flush_take(rt, &mut rider);
     let mut pouch = Pouch::new();
-    if let Ok(load) = first {
+    take_one(rt, &domain, &mut rider, &mut pouch);
+    take_one(rt, &domain, &mut rider, &mut pouch);
+    let all = answers_all(rt, &domain, &mut rider, &mut pouch);
+    pouch.forsake();
+    assert!(rt; all);
+    Ok(())
+}
+
+// Takes a page, where there is one, and puts it into the pouch.
+fn take_one<R: Wait, L: Realm>(rt: &R, domain: &Pages<L>, rider: &mut Rider<L>, pouch: &mut Pouch)
+    requires { load_count pouch.old < 4 }
+    ensures { load_count pouch.new ≤ load_count pouch.old + 1 }
+{
+    if let Ok(load) = domain.flush_take(rt, rider) {
         pouch.put(load);
     }
-    if let Ok(load) = second {
-        pouch.put(load);
-    }
+}
+
+// Whether each page is answered as it must be.
+fn answers_all<R: Wait, L: Realm>(
+    rt: &R,
+    domain: &Pages<L>,
+    rider: &mut Rider<L>,
+    pouch: &mut Pouch,
+) -> bool {
     let wanted = [
         (1, Ok(0)),
         (1, Err(Fault::NotInFlight)),
@@ -53,11 +71,9 @@ fn pouch_answers<R: Wait + Abort, L: Realm>(rt: &R, alloc: Global, seed: Seed) -
     ];
     let mut all = true;
     for (page, answer) in wanted {
-        all &= pouch.answer(rt, &domain, &mut rider, page, true) == answer;
+        all &= pouch.answer(rt, domain, rider, page, true) == answer;
     }
-    pouch.forsake();
-    assert!(rt; all);
-    Ok(())
+    all
 }
 
 /// Two pages are answered once each, in the order of the answers.

@@ -1,10 +1,10 @@
 //! A crew beside what it must wait for, and what it hands back in which order.
-ghost use Rattle.std.specs.Prelude.{◌≡◌};
+ghost use Rattle.std.specs.Prelude.{◌≡◌, ◌≤◌};
 ghost use Rattle.hl_words.specs.States.{IsSeedOf};
 
-use crate::crew::{Pages, STAMP, allocate_pages, seed_of};
+use crate::crew::{ONE_TURN, Pages, Run, STAMP, allocate_pages, four, run_both, seed_of};
 use crate::gates::HoldsFirst;
-use hl_crew::{CrewEnd, OpenGate, run_crew};
+use hl_crew::{CrewEnd, OpenGate};
 use hl_drain::Ask;
 use hl_image::{MemoryWriter, PageWriter};
 use hl_model::Fault;
@@ -16,14 +16,22 @@ use std::sync::Wait;
 use std::test::Fail;
 use std::thread::Threads;
 
-/// The last four of these riders.
-fn four<L: Realm>(riders: &mut Vec<Rider<L>>) -> Result<[Rider<L>; 4], Fail> {
-    Ok([
-        riders.pop().ok_or("five riders")?,
-        riders.pop().ok_or("five riders")?,
-        riders.pop().ok_or("five riders")?,
-        riders.pop().ok_or("five riders")?,
-    ])
+/// How many pages a crew wrote, how many writes failed, and how many answers were of no page.
+fn counts<R, L>(
+    rt: &R,
+    alloc: Global,
+    domain: &Pages<L>,
+    crew: [Rider<L>; 4],
+    run: Run,
+) -> Result<[u64; 3], Fault>
+where
+    R: Threads + Wait + Sync,
+    L: Realm + Send + Sync,
+    requires frames { domain.now.sizes.frames ≡ 4 }
+    requires resident { (1 ≤ run.resident) × (run.resident ≤ 4) }
+{
+    let end = run_both(rt, alloc, domain, crew, &OpenGate, run)?;
+    Ok([end.written, end.failed, end.strangers])
 }
 
 fn protected_slot<R, L>(rt: &R, alloc: Global, seed: Seed) -> Result<(), Fail>
@@ -42,12 +50,12 @@ where
     for _ in 0..3 {
         domain.allocate(rt, &mut pass, 4)?;
     }
-    let (one, two) = (
-        MemoryWriter::open(alloc, 3, 40)?,
-        MemoryWriter::open(alloc, 3, 40)?,
-    );
-    let end = run_crew(rt, alloc, &domain, crew, one, two, &OpenGate, 1, 4, 3, true);
-    assert!(rt; end.is_ok_and(|end| end.written == 0 && end.failed == 0 && end.strangers == 0));
+    let run = Run {
+        turns: 3,
+        cut: true,
+        ..ONE_TURN
+    };
+    assert_eq!(rt; counts(rt, alloc, &domain, crew, run)?, [0, 0, 0]);
     // An acquire, three records, a raise and a settle, which waits for the slot.
     let (now, kept, cut) = domain.snapshot(rt);
     assert!(rt; kept == 0 && cut == 6 && now.pending == 1 && now.taken == 0);
@@ -75,14 +83,12 @@ where
     if let Err((fault, _)) = domain.bump(rt, &mut rider, Ask::Settle) {
         return Err(fault)?;
     }
-    let (one, two) = (
-        MemoryWriter::open(alloc, 3, 40)?,
-        MemoryWriter::open(alloc, 3, 40)?,
-    );
+    let run = Run {
+        turns: 3,
+        ..ONE_TURN
+    };
     let ready = domain.take(rt, &mut rider)?;
-    let end = run_crew(
-        rt, alloc, &domain, crew, one, two, &OpenGate, 1, 4, 3, false,
-    );
+    let end = counts(rt, alloc, &domain, crew, run);
     let (now, _, _) = domain.snapshot(rt);
     let done = match domain.done(rt, &mut rider, ready.run()) {
         Ok(_) => true,
@@ -113,14 +119,18 @@ where
     let (domain, mut riders) = Pages::<L>::open(alloc, seed, 100, STAMP)?;
     let crew = four(&mut riders)?;
     let rider = allocate_pages(rt, &domain, riders.pop().ok_or("five riders")?)?;
-    let (one, two) = (
-        MemoryWriter::open(alloc, 3, 40)?,
-        MemoryWriter::open(alloc, 3, 39)?,
-    );
-    let gate = HoldsFirst::new();
-    let Ok(end) = run_crew(rt, alloc, &domain, crew, one, two, &gate, 1, 4, 1, false) else {
-        panic!(rt; "there is memory")
+    let run = Run {
+        bytes: [40, 39],
+        ..ONE_TURN
     };
+    let end = run_both(rt, alloc, &domain, crew, &HoldsFirst::new(), run)?;
+    check_order(rt, end);
+    assert_eq!(rt; rider.share(), 5);
+    Ok(())
+}
+
+// The second writer alone failed, and the first rider alone entered steps.
+fn check_order<L: Realm>(rt: &impl Abort, end: CrewEnd<L, MemoryWriter>) {
     let CrewEnd {
         riders,
         writers,
@@ -136,8 +146,6 @@ where
     for (rider, share) in riders.iter().zip([8, 0, 0, 0]) {
         assert_eq!(rt; rider.share(), share);
     }
-    assert_eq!(rt; rider.share(), 5);
-    Ok(())
 }
 
 /// Each writer has a page, and one of them fails: riders and writers come back in the order in which they went in.

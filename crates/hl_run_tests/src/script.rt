@@ -10,6 +10,7 @@ use hl_script::{Finished, Sum, run_text, slow_text};
 use std::alloc::Global;
 use std::io;
 use std::io::{Read, Write};
+use std::process::Abort;
 
 /// A job that answers its tag + its ticket.
 #[derive(Drop)]
@@ -170,6 +171,36 @@ impl<'a> Write for ComparingWriter<'a> {
     }
 }
 
+/// A script, its text, and how many steps it accepts.
+#[derive(Clone, Copy)]
+struct Whole<'a> {
+    name: &'a str,
+    script: &'a str,
+    text: &'a str,
+    accepted: u64,
+}
+
+// Whole lines are written where memory is refused, and all of them where it isn't.
+fn writes_whole_lines(rt: &impl Abort, alloc: Global, form: Form, case: Whole<'_>) {
+    let text = case.text.as_bytes();
+    let mut reader = case.script.as_bytes();
+    let mut writer = ComparingWriter {
+        left: text,
+        differs: false,
+    };
+    let answer = run_form(form, alloc, &mut reader, &mut writer);
+    let written = &text[..text.len().saturating_sub(writer.left.len())];
+    let wanted = match answer {
+        Err(Fault::OutOfMemory) => match form {
+            Form::Slow => written.is_empty() || written.ends_with(b"\n"),
+            _ => written.is_empty(),
+        },
+        answer => answer == Ok(Some(case.accepted)) && writer.left.is_empty(),
+    };
+    let name = case.name;
+    assert!(rt; wanted && !writer.differs, "{name}");
+}
+
 // With `rt try --test --fail-alloc N` memory is refused at the N-th allocation: all runs before it are whole.
 #[test]
 fn writes_whole_lines_where_memory_is_refused(rt: HostRuntime) {
@@ -180,57 +211,65 @@ fn writes_whole_lines_where_memory_is_refused(rt: HostRuntime) {
     ];
     for (name, script, text, accepted) in cases {
         for form in FORMS {
-            let text = text.as_bytes();
-            let mut reader = script.as_bytes();
-            let mut writer = ComparingWriter {
-                left: text,
-                differs: false,
+            let case = Whole {
+                name,
+                script,
+                text,
+                accepted,
             };
-            let answer = run_form(form, rt.alloc(), &mut reader, &mut writer);
-            let written = &text[..text.len().saturating_sub(writer.left.len())];
-            let wanted = match answer {
-                Err(Fault::OutOfMemory) => match form {
-                    Form::Slow => written.is_empty() || written.ends_with(b"\n"),
-                    _ => written.is_empty(),
-                },
-                answer => answer == Ok(Some(accepted)) && writer.left.is_empty(),
-            };
-            assert!(rt; wanted && !writer.differs, "{name}");
+            writes_whole_lines(&rt, rt.alloc(), form, case);
         }
     }
 }
 
-// What a writer takes before its first failure, after which it is called no more.
+/// How a writer fails, and what it takes before.
+#[derive(Clone, Copy)]
+struct Failing<'a> {
+    name: &'a str,
+    left: usize,
+    flushes: usize,
+    fails: bool,
+    taken: &'a str,
+}
+
+// After its first failure the writer is called no more.
+fn stops_at(rt: &impl Abort, alloc: Global, form: Form, case: Failing<'_>) {
+    let mut reader = SlowReader {
+        bytes: FIRST_ACTION.as_bytes(),
+        left: 1000,
+    };
+    let mut writer = SmallWriter {
+        taken: Vec::new(alloc),
+        left: case.left,
+        flushes: case.flushes,
+        fails: case.fails,
+        calls_after: 0,
+    };
+    let answer = run_form(form, alloc, &mut reader, &mut writer);
+    let name = case.name;
+    assert_eq!(rt; answer, Err(Fault::Stream), "{name}");
+    assert!(rt; writer.taken.as_slice() == case.taken.as_bytes(), "{name}");
+    assert_eq!(rt; writer.calls_after, 1, "{name}");
+}
+
 #[test]
 fn stops_at_a_writer_that_fails(rt: HostRuntime) {
+    let text = "opened\nepoch 1 view 0 0 0\n";
     let cases = [
         ("a write fails", 12, 1000, true, "opened\nepoch"),
         ("a write takes nothing", 12, 1000, false, "opened\nepoch"),
-        (
-            "a flush fails",
-            1000,
-            26,
-            true,
-            "opened\nepoch 1 view 0 0 0\n",
-        ),
+        ("a flush fails", 1000, 26, true, text),
     ];
     for (name, left, flushes, fails, taken) in cases {
         for form in FORMS {
-            let mut reader = SlowReader {
-                bytes: FIRST_ACTION.as_bytes(),
-                left: 1000,
-            };
-            let mut writer = SmallWriter {
-                taken: Vec::new(rt.alloc()),
+            let case = Failing {
+                name,
                 left,
                 flushes,
                 fails,
-                calls_after: 0,
+                taken,
             };
-            let answer = run_form(form, rt.alloc(), &mut reader, &mut writer);
-            assert_eq!(rt; answer, Err(Fault::Stream), "{name}");
-            assert!(rt; writer.taken.as_slice() == taken.as_bytes(), "{name}");
-            assert_eq!(rt; writer.calls_after, 1, "{name}");
+            stops_at(&rt, rt.alloc(), form, case);
         }
     }
 }

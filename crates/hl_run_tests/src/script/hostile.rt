@@ -147,6 +147,31 @@ impl Read for Endless {
     }
 }
 
+/// A script, its reads of one byte of which the one after `left` fails, and what is answered, written and not read.
+#[derive(Clone, Copy)]
+struct Stop<'a> {
+    name: &'a str,
+    script: &'a str,
+    left: usize,
+    reads: u64,
+    text: &'a str,
+    answer: Result<Option<u64>, Fault>,
+    unread: usize,
+}
+
+fn stops(rt: &impl Abort, alloc: Global, is_slow: bool, case: Stop<'_>) {
+    let mut reader = SlowReader {
+        bytes: case.script.as_bytes(),
+        left: case.left,
+    };
+    let mut writer = Vec::new(alloc);
+    let answer = run_within(is_slow, alloc, &mut reader, &mut writer, case.reads);
+    let name = case.name;
+    assert_eq!(rt; answer, case.answer, "{name}");
+    assert!(rt; writer.as_slice() == case.text.as_bytes(), "{name}");
+    assert_eq!(rt; reader.bytes.len(), case.unread, "{name}");
+}
+
 // Reads give one byte; the read after `left` of them fails. What isn't read is left to the reader.
 #[test]
 fn stops_where_it_must(rt: HostRuntime) {
@@ -166,17 +191,24 @@ fn stops_where_it_must(rt: HostRuntime) {
         ("80 bytes", AT_81_BYTES, 95, MANY, "opened\n", stream, 2),
         ("81 bytes", AT_81_BYTES, 96, MANY, of_81, long, 1),
     ];
-    for (name, script, left, reads, text, wanted, unread) in cases {
-        for is_slow in [false, true] {
-            let bytes = script.as_bytes();
-            let mut reader = SlowReader { bytes, left };
-            let mut writer = Vec::new(rt.alloc());
-            let answer = run_within(is_slow, rt.alloc(), &mut reader, &mut writer, reads);
-            assert_eq!(rt; answer, wanted, "{name}");
-            assert!(rt; writer.as_slice() == text.as_bytes(), "{name}");
-            assert_eq!(rt; reader.bytes.len(), unread, "{name}");
-        }
+    for (name, script, left, reads, text, answer, unread) in cases {
+        let case = Stop {
+            name,
+            script,
+            left,
+            reads,
+            text,
+            answer,
+            unread,
+        };
+        stops(&rt, rt.alloc(), false, case);
+        stops(&rt, rt.alloc(), true, case);
     }
+}
+
+// A line without an end is told as a bad one.
+#[test]
+fn stops_at_an_endless_line(rt: HostRuntime) {
     for is_slow in [false, true] {
         let mut writer = Vec::new(rt.alloc());
         let answer = run_within(is_slow, rt.alloc(), &mut Endless, &mut writer, MANY);
