@@ -1,33 +1,55 @@
 //! A keeper with its words, or a domain, so that one function can ask either.
 ghost use Rattle.std.specs.Prelude.{◌≡◌, ◌*◌};
+ghost use Rattle.hl_words.specs.States.{IsSeedOf};
 
-use crate::jobs::STAMP;
-use hl_action::{Kept, Promise, Ran, Task};
-use hl_domain::unlocked::{load, sweep};
-use hl_domain::{Broom, Domain, Keeper, Load, Pass};
-use hl_drain::Ask;
+use crate::jobs::{Anything, Asked, Pages, STAMP, Tells};
+use hl_action::Ran;
+use hl_domain::unlocked::{load, look, store, sweep};
+use hl_domain::{Broom, Ending, Keeper, Load, Pass};
 use hl_epoch::Epochs;
 use hl_model::{Fault, Params, Reply, Snapshot, View};
-use hl_words::{Realm, Rider, Words};
+use hl_words::{Realm, Rider, Seed, Words};
+use std::alloc::Global;
 use std::sync::Wait;
 
 /// A keeper of the stamp of the tests, with its words.
 #[derive(Drop)]
-pub(crate) struct Alone<E: Epochs, F: Task, P: Promise, L: Realm> {
-    pub(crate) keeper: Keeper<E, F, P, L>,
-    pub(crate) words: Words<L>,
-    pub(crate) params: Params,
+pub(crate) struct Alone<E: Epochs, L: Realm> {
+    keeper: Keeper<E, Tells, Anything, L>,
+    words: Words<L>,
+    params: Params,
     ghost cells: { words.cells ≡ params.frames * params.page_size },
+}
+
+impl<E: Epochs + Drop, L: Realm> Alone<E, L> {
+    /// With its riders, and room for so many steps.
+    pub(crate) fn open(
+        alloc: Global,
+        seed: Seed,
+        journal: u32,
+    ) -> Result<(Alone<E, L>, Vec<Rider<L>>), Fault>
+        requires seed { IsSeedOf L.name L.parts L.table seed }
+        requires named { (seed.sizes ≡ L.sizes) × (STAMP ≡ L.stamp) }
+    {
+        let params = seed.params();
+        let (keeper, words, riders) = Keeper::open(alloc, seed, journal as u64, STAMP)?;
+        let alone = Alone {
+            keeper,
+            words,
+            params,
+        };
+        Ok((alone, riders))
+    }
 }
 
 /// The one that is asked.
 #[derive(Drop)]
-pub(crate) enum Asked<E: Epochs, F: Task, P: Promise, L: Realm> {
-    Alone(Alone<E, F, P, L>),
-    Shared(Domain<E, F, P, L>),
+pub(crate) enum Either<E: Epochs, L: Realm> {
+    Alone(Alone<E, L>),
+    Shared(Pages<E, L>),
 }
 
-impl<E: Epochs + Drop, F: Task, P: Promise, L: Realm> Asked<E, F, P, L> {
+impl<E: Epochs + Drop, L: Realm> Either<E, L> {
     pub(crate) fn acquire(
         &mut self,
         rt: &impl Wait,
@@ -35,15 +57,26 @@ impl<E: Epochs + Drop, F: Task, P: Promise, L: Realm> Asked<E, F, P, L> {
         rider: Rider<L>,
     ) -> Result<Pass<L>, (Fault, Rider<L>)> {
         match self {
-            Asked::Alone(alone) => alone.keeper.acquire(&alone.words, t, rider),
-            Asked::Shared(domain) => domain.acquire(rt, t, rider),
+            Either::Alone(alone) => alone.keeper.acquire(&alone.words, t, rider),
+            Either::Shared(domain) => domain.acquire(rt, t, rider),
+        }
+    }
+
+    pub(crate) fn release(
+        &mut self,
+        rt: &impl Wait,
+        pass: Pass<L>,
+    ) -> Result<Rider<L>, (Fault, Pass<L>)> {
+        match self {
+            Either::Alone(alone) => alone.keeper.release(&alone.words, pass),
+            Either::Shared(domain) => domain.release(rt, pass),
         }
     }
 
     pub(crate) fn refresh(&mut self, rt: &impl Wait, pass: &mut Pass<L>) -> Result<View, Fault> {
         match self {
-            Asked::Alone(alone) => alone.keeper.refresh(&alone.words, pass),
-            Asked::Shared(domain) => domain.refresh(rt, pass),
+            Either::Alone(alone) => alone.keeper.refresh(&alone.words, pass),
+            Either::Shared(domain) => domain.refresh(rt, pass),
         }
     }
 
@@ -54,15 +87,29 @@ impl<E: Epochs + Drop, F: Task, P: Promise, L: Realm> Asked<E, F, P, L> {
         n: u64,
     ) -> Result<u64, Fault> {
         match self {
-            Asked::Alone(alone) => alone.keeper.allocate(&alone.words, pass, n),
-            Asked::Shared(domain) => domain.allocate(rt, pass, n),
+            Either::Alone(alone) => alone.keeper.allocate(&alone.words, pass, n),
+            Either::Shared(domain) => domain.allocate(rt, pass, n),
+        }
+    }
+
+    pub(crate) fn look(&mut self, pass: &mut Pass<L>) -> Result<View, Fault> {
+        match self {
+            Either::Alone(alone) => look(&alone.words, pass),
+            Either::Shared(domain) => domain.look(pass),
+        }
+    }
+
+    pub(crate) fn store(&mut self, pass: &mut Pass<L>, a: u64, v: u64) -> Result<(), Fault> {
+        match self {
+            Either::Alone(alone) => store(&alone.words, alone.params, pass, a, v),
+            Either::Shared(domain) => domain.store(pass, a, v),
         }
     }
 
     pub(crate) fn load(&mut self, pass: &mut Pass<L>, a: u64) -> Result<u64, Fault> {
         match self {
-            Asked::Alone(alone) => load(&alone.words, alone.params, pass, a),
-            Asked::Shared(domain) => domain.load(pass, a),
+            Either::Alone(alone) => load(&alone.words, alone.params, pass, a),
+            Either::Shared(domain) => domain.load(pass, a),
         }
     }
 
@@ -70,15 +117,18 @@ impl<E: Epochs + Drop, F: Task, P: Promise, L: Realm> Asked<E, F, P, L> {
         &mut self,
         rt: &impl Wait,
         rider: &mut Rider<L>,
-        ask: Ask<Kept<F, P>>,
-    ) -> Result<u64, Fault> {
-        let answer = match self {
-            Asked::Alone(alone) => alone.keeper.bump(&alone.words, rider, ask),
-            Asked::Shared(domain) => domain.bump(rt, rider, ask),
-        };
-        match answer {
-            Ok(ticket) => Ok(ticket),
-            Err((fault, _)) => Err(fault),
+        ask: Asked,
+    ) -> Result<u64, (Fault, Asked)> {
+        match self {
+            Either::Alone(alone) => alone.keeper.bump(&alone.words, rider, ask),
+            Either::Shared(domain) => domain.bump(rt, rider, ask),
+        }
+    }
+
+    pub(crate) fn bare(&mut self, rt: &impl Wait, rider: &mut Rider<L>) -> Result<u64, Fault> {
+        match self {
+            Either::Alone(alone) => alone.keeper.bare(&alone.words, rider),
+            Either::Shared(domain) => domain.bare(rt, rider),
         }
     }
 
@@ -89,8 +139,8 @@ impl<E: Epochs + Drop, F: Task, P: Promise, L: Realm> Asked<E, F, P, L> {
         rider: &mut Rider<L>,
     ) -> Result<Ran, Fault> {
         let ready = match self {
-            Asked::Alone(alone) => alone.keeper.take(&alone.words, rider)?,
-            Asked::Shared(domain) => domain.take(rt, rider)?,
+            Either::Alone(alone) => alone.keeper.take(&alone.words, rider)?,
+            Either::Shared(domain) => domain.take(rt, rider)?,
         };
         Ok(ready.run())
     }
@@ -102,8 +152,8 @@ impl<E: Epochs + Drop, F: Task, P: Promise, L: Realm> Asked<E, F, P, L> {
         ran: Ran,
     ) -> Result<Reply, (Fault, Ran)> {
         match self {
-            Asked::Alone(alone) => alone.keeper.done(&alone.words, rider, ran),
-            Asked::Shared(domain) => domain.done(rt, rider, ran),
+            Either::Alone(alone) => alone.keeper.done(&alone.words, rider, ran),
+            Either::Shared(domain) => domain.done(rt, rider, ran),
         }
     }
 
@@ -114,8 +164,8 @@ impl<E: Epochs + Drop, F: Task, P: Promise, L: Realm> Asked<E, F, P, L> {
         x: u64,
     ) -> Result<u64, Fault> {
         match self {
-            Asked::Alone(alone) => alone.keeper.raise(&alone.words, rider, x),
-            Asked::Shared(domain) => domain.raise(rt, rider, x),
+            Either::Alone(alone) => alone.keeper.raise(&alone.words, rider, x),
+            Either::Shared(domain) => domain.raise(rt, rider, x),
         }
     }
 
@@ -126,8 +176,8 @@ impl<E: Epochs + Drop, F: Task, P: Promise, L: Realm> Asked<E, F, P, L> {
         x: u64,
     ) -> Result<u64, Fault> {
         match self {
-            Asked::Alone(alone) => alone.keeper.shift(&alone.words, rider, x),
-            Asked::Shared(domain) => domain.shift(rt, rider, x),
+            Either::Alone(alone) => alone.keeper.shift(&alone.words, rider, x),
+            Either::Shared(domain) => domain.shift(rt, rider, x),
         }
     }
 
@@ -137,8 +187,8 @@ impl<E: Epochs + Drop, F: Task, P: Promise, L: Realm> Asked<E, F, P, L> {
         rider: &mut Rider<L>,
     ) -> Result<Load, Fault> {
         match self {
-            Asked::Alone(alone) => alone.keeper.flush_take(&alone.words, rider),
-            Asked::Shared(domain) => domain.flush_take(rt, rider),
+            Either::Alone(alone) => alone.keeper.flush_take(&alone.words, rider),
+            Either::Shared(domain) => domain.flush_take(rt, rider),
         }
     }
 
@@ -149,8 +199,8 @@ impl<E: Epochs + Drop, F: Task, P: Promise, L: Realm> Asked<E, F, P, L> {
         load: Load,
     ) -> Result<u64, (Fault, Load)> {
         match self {
-            Asked::Alone(alone) => alone.keeper.flush_done(&alone.words, rider, load, true),
-            Asked::Shared(domain) => domain.flush_done(rt, rider, load, true),
+            Either::Alone(alone) => alone.keeper.flush_done(&alone.words, rider, load, true),
+            Either::Shared(domain) => domain.flush_done(rt, rider, load, true),
         }
     }
 
@@ -160,8 +210,8 @@ impl<E: Epochs + Drop, F: Task, P: Promise, L: Realm> Asked<E, F, P, L> {
         rider: &mut Rider<L>,
     ) -> Result<Broom, Fault> {
         match self {
-            Asked::Alone(alone) => alone.keeper.clean_take(&alone.words, rider),
-            Asked::Shared(domain) => domain.clean_take(rt, rider),
+            Either::Alone(alone) => alone.keeper.clean_take(&alone.words, rider),
+            Either::Shared(domain) => domain.clean_take(rt, rider),
         }
     }
 
@@ -174,7 +224,7 @@ impl<E: Epochs + Drop, F: Task, P: Promise, L: Realm> Asked<E, F, P, L> {
     ) -> Result<u64, (Fault, Broom)> {
         let mut broom = broom;
         match self {
-            Asked::Alone(alone) => {
+            Either::Alone(alone) => {
                 let params = alone.params;
                 if alone.keeper.params().page_size() != params.page_size() {
                     return Err((Fault::Size, broom));
@@ -184,7 +234,7 @@ impl<E: Epochs + Drop, F: Task, P: Promise, L: Realm> Asked<E, F, P, L> {
                 }
                 alone.keeper.clean_done(&alone.words, rider, broom)
             }
-            Asked::Shared(domain) => {
+            Either::Shared(domain) => {
                 if let Err(fault) = domain.sweep(&mut broom, rider) {
                     return Err((fault, broom));
                 }
@@ -193,10 +243,25 @@ impl<E: Epochs + Drop, F: Task, P: Promise, L: Realm> Asked<E, F, P, L> {
         }
     }
 
+    pub(crate) fn cut(&mut self, rt: &impl Wait, rider: &mut Rider<L>) -> u64 {
+        match self {
+            Either::Alone(alone) => alone.keeper.cut(&alone.words, rider),
+            Either::Shared(domain) => domain.cut(rt, rider),
+        }
+    }
+
+    /// What is left, where all riders are there.
+    pub(crate) fn close(self, riders: Vec<Rider<L>>) -> Option<Ending<Tells, Anything>> {
+        match self {
+            Either::Alone(Alone { keeper, words, .. }) => keeper.close(words, riders).ok(),
+            Either::Shared(domain) => domain.close(riders).ok(),
+        }
+    }
+
     pub(crate) fn snapshot(&self, rt: &impl Wait) -> (Snapshot, u64, u64) {
         match self {
-            Asked::Alone(alone) => alone.keeper.snapshot(),
-            Asked::Shared(domain) => domain.snapshot(rt),
+            Either::Alone(alone) => alone.keeper.snapshot(),
+            Either::Shared(domain) => domain.snapshot(rt),
         }
     }
 }

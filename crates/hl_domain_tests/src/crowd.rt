@@ -108,8 +108,8 @@ fn close_and_compare<R: Abort, L: Realm>(
     let cut = workers
         .iter()
         .fold(0u64, |sum, worker| sum.wrapping_add(worker.cut));
-    let (riders, shares) = added(rt, alloc, workers)?;
-    let Ok(ending) = domain.close(riders) else {
+    let shares = shares_of(rt, workers.as_slice());
+    let Ok(ending) = domain.close(riders_of(alloc, workers)?) else {
         panic!(rt; "a rider is missing")
     };
     let steps = ending.journal.len() as u64;
@@ -125,13 +125,8 @@ fn close_and_compare<R: Abort, L: Realm>(
     )
 }
 
-// The riders, and the sum of their shares. Each job that was stored was run once.
-fn added<L: Realm>(
-    rt: &impl Abort,
-    alloc: Global,
-    workers: Vec<Worker<L>>,
-) -> Result<(Vec<Rider<L>>, u64), Fail> {
-    let mut riders = Vec::new(alloc);
+// The sum of the shares of all riders. No worker met a fault, and each job that was stored was run once.
+fn shares_of<L: Realm>(rt: &impl Abort, workers: &[Worker<L>]) -> u64 {
     let mut shares = 0u64;
     let (mut stored, mut answered) = (Sums::NONE, Sums::NONE);
     for worker in workers {
@@ -139,19 +134,23 @@ fn added<L: Realm>(
         assert!(rt; !worker.lost, "a load told another number than was stored");
         stored = stored.with(worker.stored);
         answered = answered.with(worker.answered);
-        let Worker {
-            acquires,
-            rider,
-            ..
-        } = worker;
-        let acquires = acquires.ok_or("the slot was released")?;
-        shares = shares.wrapping_add(acquires.share());
-        shares = shares.wrapping_add(rider.share());
-        riders.push(acquires)?;
-        riders.push(rider)?;
+        shares = shares.wrapping_add(worker.rider.share());
+        if let Some(rider) = &worker.acquires {
+            shares = shares.wrapping_add(rider.share());
+        }
     }
     assert_eq!(rt; answered, stored);
-    Ok((riders, shares))
+    shares
+}
+
+// All riders: each slot was released.
+fn riders_of<L: Realm>(alloc: Global, workers: Vec<Worker<L>>) -> Result<Vec<Rider<L>>, Fail> {
+    let mut riders = Vec::new(alloc);
+    for worker in workers {
+        riders.push(worker.acquires.ok_or("the slot was released")?)?;
+        riders.push(worker.rider)?;
+    }
+    Ok(riders)
 }
 
 fn compare(
@@ -188,18 +187,35 @@ where
 {
     let (one, riders) = Pages::<CountTable, L>::open(alloc, first, 10_000, 1000)?;
     let (other, others) = Pages::<CountTable, M>::open(alloc, second, 10_000, 2000)?;
+    let (workers, others) = work_in_both(rt, alloc, &one, &other, riders, others)?;
+    close_and_compare(rt, alloc, one, workers)?;
+    close_and_compare(rt, alloc, other, others)
+}
+
+// Eight threads work in both, and what they left there is run.
+fn work_in_both<R, L, M>(
+    rt: &R,
+    alloc: Global,
+    one: &Pages<CountTable, L>,
+    other: &Pages<CountTable, M>,
+    riders: Vec<Rider<L>>,
+    others: Vec<Rider<M>>,
+) -> Result<(Vec<Worker<L>>, Vec<Worker<M>>), Fail>
+where
+    R: Threads + Wait + Sync,
+    L: Realm + Send + Sync,
+    M: Realm + Send + Sync,
+{
     let both = paired(
         alloc,
         workers_of(alloc, riders)?,
         workers_of(alloc, others)?,
     )?;
-    let (one_at, other_at) = (&one, &other);
-    let both = thread::map_vec(rt, both, &|pair| work_both(rt, one_at, other_at, pair))?;
+    let both = thread::map_vec(rt, both, &|pair| work_both(rt, one, other, pair))?;
     let (mut workers, mut others) = parted(alloc, both)?;
-    run_rest(rt, &one, &mut workers)?;
-    run_rest(rt, &other, &mut others)?;
-    close_and_compare(rt, alloc, one, workers)?;
-    close_and_compare(rt, alloc, other, others)
+    run_rest(rt, one, &mut workers)?;
+    run_rest(rt, other, &mut others)?;
+    Ok((workers, others))
 }
 
 type Pair<L, M> = (Worker<L>, Worker<M>);

@@ -1,238 +1,199 @@
-//! The worked examples of a domain, with what each call answers, over both tables of epochs.
-ghost use Rattle.std.specs.Prelude.{◌≡◌};
-ghost use Rattle.hl_words.specs.States.{IsSeedOf};
-
-use crate::jobs::{
-    Anything, Pages, Tells, ended, job, passed, released, small_seed, ticket_of, view,
-};
-use hl_counts::CountTable;
-use hl_domain::{Ending, Pass};
-use hl_epoch::{Epochs, ScanTable};
-use hl_model::{Base, Fault, Held, Kind, Six, Slot, Step};
-use hl_words::{Realm, Rider, Seed};
-use std::alloc::Global;
-use std::marker::Brand;
-use std::process::Abort;
-use std::sync::Wait;
+//! Worked examples: each is asked of a keeper that stands alone and of a domain, over both tables of epochs.
+use crate::follow::{At, End, Example, follow};
+use crate::jobs::view;
+use crate::play::{Answer, Call, OfPass, OfRider};
+use hl_model::{Fault, Held, Kind, Reply, Six, Slot, Step};
 use std::test::Fail;
 
-// A pass stores until it has no room for another touch.
-fn touch<E: Epochs + Drop, L: Realm>(
-    rt: &(impl Wait + Abort),
-    domain: &Pages<E, L>,
-    pass: &mut Pass<L>,
-) {
-    assert_eq!(rt; domain.allocate(rt, pass, 4), Ok(0));
-    assert_eq!(rt; domain.store(pass, 1, 5), Ok(()));
-    assert_eq!(rt; domain.load(pass, 1), Ok(5));
-    assert_eq!(rt; domain.refresh(rt, pass), Ok(view(0, 0, 4)));
-    for v in 0..32 {
-        assert_eq!(rt; domain.store(pass, 2, v), Ok(()));
-    }
-    assert_eq!(rt; domain.store(pass, 2, 32), Err(Fault::TouchesFull));
-}
-
-// Another sees a raise by a look alone, and stores below it no longer.
-fn see_a_raise<E: Epochs + Drop, L: Realm>(
-    rt: &(impl Wait + Abort),
-    domain: &Pages<E, L>,
-    rider: &mut Rider<L>,
-    pass: &mut Pass<L>,
-) {
-    assert_eq!(rt; domain.raise(rt, rider, 4), Ok(4));
-    assert_eq!(rt; domain.look(pass), Ok(view(4, 0, 4)));
-    let below = Err(Fault::Below { read_only: 4 });
-    assert_eq!(rt; domain.store(pass, 1, 6), below);
-}
-
-fn domain_touches<E: Epochs + Drop, L: Realm>(
-    rt: &(impl Wait + Abort),
-    alloc: Global,
-    seed: Seed,
-) -> Result<(), Fail>
-    requires seed { IsSeedOf L.name L.parts L.table seed }
-    requires named { (seed.sizes ≡ L.sizes) × (1000 ≡ L.stamp) }
-{
-    let (domain, mut riders) = Pages::<E, L>::open(alloc, seed, 100, 1000)?;
-    let mut third = riders.pop().ok_or("three riders")?;
-    let second = riders.pop().ok_or("three riders")?;
-    let first = riders.pop().ok_or("three riders")?;
-    let mut pass = passed(domain.acquire(rt, 0, first))?;
-    touch(rt, &domain, &mut pass);
-    let mut other = passed(domain.acquire(rt, 1, second))?;
-    see_a_raise(rt, &domain, &mut third, &mut other);
-    riders.push(released(domain.release(rt, pass))?)?;
-    riders.push(released(domain.release(rt, other))?)?;
-    riders.push(third)?;
-    let ending = ended(rt, domain, riders);
-    let begin = [
-        Step::Acquire { t: 0 },
-        Step::Allocate { t: 0, n: 4 },
-        Step::Write { t: 0, a: 1, v: 5 },
-        Step::Refresh { t: 0 },
-    ];
-    assert!(rt; ending.journal.starts_with(&begin) && ending.journal.len() == 41);
-    Ok(())
-}
-
+// A pass stores until it has no room for another touch. Another sees a raise by a look alone, and stores below it no
+// longer.
 #[test]
 fn touches(rt: HostRuntime) -> Result<(), Fail> {
-    domain_touches::<ScanTable, Brand>(&rt, rt.alloc(), small_seed(rt.alloc(), 3)?)?;
-    domain_touches::<CountTable, Brand>(&rt, rt.alloc(), small_seed(rt.alloc(), 3)?)
-}
-
-// A word that one pass stores another loads; then an action is stored.
-fn share_a_word<E: Epochs + Drop, L: Realm>(
-    rt: &(impl Wait + Abort),
-    domain: &Pages<E, L>,
-    pass: &mut Pass<L>,
-    other: &mut Pass<L>,
-    rider: &mut Rider<L>,
-) {
-    assert_eq!(rt; domain.allocate(rt, pass, 4), Ok(0));
-    assert_eq!(rt; domain.store(pass, 1, 5), Ok(()));
-    assert_eq!(rt; domain.refresh(rt, other), Ok(view(0, 0, 4)));
-    assert_eq!(rt; domain.load(other, 1), Ok(5));
-    assert_eq!(rt; ticket_of(domain.bump(rt, rider, job(9, 90))), Ok(1));
-}
-
-// The steps, and the action that nobody took.
-fn check_left(rt: &impl Abort, ending: &mut Ending<Tells, Anything>) {
-    let steps = [
-        Step::Acquire { t: 0 },
-        Step::Acquire { t: 1 },
-        Step::Allocate { t: 0, n: 4 },
-        Step::Refresh { t: 1 },
-        Step::Bump { tag: 9 },
-        Step::Write { t: 0, a: 1, v: 5 },
-        Step::Release { t: 0 },
-        Step::Release { t: 1 },
+    let calls = [
+        (Call::Acquire(0), Answer::Saw(view(0, 0, 0))),
+        (Call::Pass(0, OfPass::Allocate(4)), Answer::Told(0)),
+        (Call::Pass(0, OfPass::Store(1, 5)), Answer::Done),
+        (Call::Pass(0, OfPass::Load(1)), Answer::Told(5)),
+        (Call::Pass(0, OfPass::Refresh), Answer::Saw(view(0, 0, 4))),
+        (Call::Pass(0, OfPass::Fill(2, 32)), Answer::Done),
+        (
+            Call::Pass(0, OfPass::Store(2, 32)),
+            Answer::Met(Fault::TouchesFull),
+        ),
+        (Call::Acquire(1), Answer::Saw(view(0, 0, 4))),
+        (Call::Rider(OfRider::Raise(4)), Answer::Told(4)),
+        (Call::Pass(1, OfPass::Look), Answer::Saw(view(4, 0, 4))),
+        (
+            Call::Pass(1, OfPass::Store(1, 6)),
+            Answer::Met(Fault::Below { read_only: 4 }),
+        ),
+        (Call::Release(0), Answer::Done),
+        (Call::Release(1), Answer::Done),
     ];
-    assert_eq!(rt; ending.journal.as_slice(), &steps[..]);
-    let waiting = ending.left.pending();
-    assert_eq!(rt; waiting.len(), 1);
-    assert!(rt; waiting[0].ticket == 1 && waiting[0].kind == Kind::User(9));
-    assert!(rt; ending.left.give_up().is_some() && ending.left.give_up().is_none());
+    let end = End {
+        shares: &[37, 3, 1],
+        steps: &[
+            Step::Acquire { t: 0 },
+            Step::Allocate { t: 0, n: 4 },
+            Step::Write { t: 0, a: 1, v: 5 },
+            Step::Refresh { t: 0 },
+        ],
+        kept: 41,
+        cut: 0,
+        base: At::FIRST,
+        waiting: &[],
+    };
+    let example = Example {
+        journal: 100,
+        calls: &calls,
+        end: Some(end),
+    };
+    follow(&rt, rt.alloc(), &example)
 }
 
-fn left_action<E: Epochs + Drop, L: Realm>(
-    rt: &(impl Wait + Abort),
-    alloc: Global,
-    seed: Seed,
-) -> Result<(), Fail>
-    requires seed { IsSeedOf L.name L.parts L.table seed }
-    requires named { (seed.sizes ≡ L.sizes) × (1000 ≡ L.stamp) }
-{
-    let (domain, mut riders) = Pages::<E, L>::open(alloc, seed, 100, 1000)?;
-    let mut third = riders.pop().ok_or("three riders")?;
-    let second = riders.pop().ok_or("three riders")?;
-    let first = riders.pop().ok_or("three riders")?;
-    let mut pass = passed(domain.acquire(rt, 0, first))?;
-    let mut other = passed(domain.acquire(rt, 1, second))?;
-    share_a_word(rt, &domain, &mut pass, &mut other, &mut third);
-    let first = released(domain.release(rt, pass))?;
-    let second = released(domain.release(rt, other))?;
-    assert_eq!(rt; [first.share(), second.share(), third.share()], [4, 3, 1]);
-    riders.push(first)?;
-    riders.push(second)?;
-    riders.push(third)?;
-    let mut ending = ended(rt, domain, riders);
-    check_left(rt, &mut ending);
-    Ok(())
-}
-
+// A word that one pass stores another loads; then an action is stored, and left.
 #[test]
 fn an_action_is_left(rt: HostRuntime) -> Result<(), Fail> {
-    left_action::<ScanTable, Brand>(&rt, rt.alloc(), small_seed(rt.alloc(), 3)?)?;
-    left_action::<CountTable, Brand>(&rt, rt.alloc(), small_seed(rt.alloc(), 3)?)
-}
-
-fn full_journal<E: Epochs + Drop, L: Realm>(
-    rt: &(impl Wait + Abort),
-    alloc: Global,
-    seed: Seed,
-) -> Result<(), Fail>
-    requires seed { IsSeedOf L.name L.parts L.table seed }
-    requires named { (seed.sizes ≡ L.sizes) × (1000 ≡ L.stamp) }
-{
-    let (domain, mut riders) = Pages::<E, L>::open(alloc, seed, 2, 1000)?;
-    let rider = riders.pop().ok_or("a rider")?;
-    let mut pass = passed(domain.acquire(rt, 0, rider))?;
-    assert_eq!(rt; domain.allocate(rt, &mut pass, 1), Ok(0));
-    assert_eq!(rt; domain.refresh(rt, &mut pass), Err(Fault::JournalFull));
-    let Err((fault, pass)) = domain.release(rt, pass) else {
-        panic!(rt; "the journal is full")
+    let calls = [
+        (Call::Acquire(0), Answer::Saw(view(0, 0, 0))),
+        (Call::Acquire(1), Answer::Saw(view(0, 0, 0))),
+        (Call::Pass(0, OfPass::Allocate(4)), Answer::Told(0)),
+        (Call::Pass(0, OfPass::Store(1, 5)), Answer::Done),
+        (Call::Pass(1, OfPass::Refresh), Answer::Saw(view(0, 0, 4))),
+        (Call::Pass(1, OfPass::Load(1)), Answer::Told(5)),
+        (Call::Rider(OfRider::Job(9)), Answer::Told(1)),
+        (Call::Release(0), Answer::Done),
+        (Call::Release(1), Answer::Done),
+    ];
+    let end = End {
+        shares: &[4, 3, 1],
+        steps: &[
+            Step::Acquire { t: 0 },
+            Step::Acquire { t: 1 },
+            Step::Allocate { t: 0, n: 4 },
+            Step::Refresh { t: 1 },
+            Step::Bump { tag: 9 },
+            Step::Write { t: 0, a: 1, v: 5 },
+            Step::Release { t: 0 },
+            Step::Release { t: 1 },
+        ],
+        kept: 8,
+        cut: 0,
+        base: At::FIRST,
+        waiting: &[(1, Kind::User(9))],
     };
-    assert_eq!(rt; fault, Fault::JournalFull);
-    assert!(rt; pass.abandon().share() == 2);
-    Ok(())
+    let example = Example {
+        journal: 100,
+        calls: &calls,
+        end: Some(end),
+    };
+    follow(&rt, rt.alloc(), &example)
 }
 
+// The journal has no room for a third step.
 #[test]
 fn a_journal_is_full(rt: HostRuntime) -> Result<(), Fail> {
-    full_journal::<ScanTable, Brand>(&rt, rt.alloc(), small_seed(rt.alloc(), 1)?)?;
-    full_journal::<CountTable, Brand>(&rt, rt.alloc(), small_seed(rt.alloc(), 1)?)
+    let calls = [
+        (Call::Acquire(0), Answer::Saw(view(0, 0, 0))),
+        (Call::Pass(0, OfPass::Allocate(1)), Answer::Told(0)),
+        (
+            Call::Pass(0, OfPass::Refresh),
+            Answer::Met(Fault::JournalFull),
+        ),
+        (Call::Release(0), Answer::Met(Fault::JournalFull)),
+        (Call::Abandon(0), Answer::Done),
+    ];
+    let end = End {
+        shares: &[0, 2, 0],
+        steps: &[Step::Acquire { t: 0 }, Step::Allocate { t: 0, n: 1 }],
+        kept: 2,
+        cut: 0,
+        base: At::FIRST,
+        waiting: &[],
+    };
+    let example = Example {
+        journal: 2,
+        calls: &calls,
+        end: Some(end),
+    };
+    follow(&rt, rt.alloc(), &example)
+}
+
+// There is no room for a step.
+#[test]
+fn a_journal_of_no_steps(rt: HostRuntime) -> Result<(), Fail> {
+    let calls = [
+        (
+            Call::Rider(OfRider::Job(7)),
+            Answer::Met(Fault::JournalFull),
+        ),
+        (Call::Rider(OfRider::Bare), Answer::Met(Fault::JournalFull)),
+        (
+            Call::Rider(OfRider::Settle),
+            Answer::Met(Fault::JournalFull),
+        ),
+        (Call::Rider(OfRider::Cut), Answer::Told(0)),
+        (Call::Acquire(0), Answer::Met(Fault::JournalFull)),
+    ];
+    let end = End {
+        shares: &[0, 0, 0],
+        steps: &[],
+        kept: 0,
+        cut: 0,
+        base: At::FIRST,
+        waiting: &[],
+    };
+    let example = Example {
+        journal: 0,
+        calls: &calls,
+        end: Some(end),
+    };
+    follow(&rt, rt.alloc(), &example)
 }
 
 // Four steps fill the journal; once they are cut, the next are kept.
-fn fill_and_cut<E: Epochs + Drop, L: Realm>(
-    rt: &(impl Wait + Abort),
-    domain: &Pages<E, L>,
-    pass: &mut Pass<L>,
-    rider: &mut Rider<L>,
-) {
-    assert_eq!(rt; domain.allocate(rt, pass, 4), Ok(0));
-    assert_eq!(rt; domain.refresh(rt, pass), Ok(view(0, 0, 4)));
-    assert_eq!(rt; domain.store(pass, 1, 5), Ok(()));
-    assert_eq!(rt; domain.raise(rt, rider, 4), Ok(4));
-    assert_eq!(rt; domain.refresh(rt, pass), Err(Fault::JournalFull));
-    assert_eq!(rt; domain.cut(rt, rider), 4);
-    assert_eq!(rt; domain.cut(rt, rider), 0);
-    assert_eq!(rt; domain.refresh(rt, pass), Ok(view(4, 0, 4)));
-}
-
-fn cut_journal<E: Epochs + Drop, L: Realm>(
-    rt: &(impl Wait + Abort),
-    alloc: Global,
-    seed: Seed,
-) -> Result<(), Fail>
-    requires seed { IsSeedOf L.name L.parts L.table seed }
-    requires named { (seed.sizes ≡ L.sizes) × (1000 ≡ L.stamp) }
-{
-    let (domain, mut riders) = Pages::<E, L>::open(alloc, seed, 4, 1000)?;
-    let mut second = riders.pop().ok_or("two riders")?;
-    let first = riders.pop().ok_or("two riders")?;
-    let mut pass = passed(domain.acquire(rt, 0, first))?;
-    fill_and_cut(rt, &domain, &mut pass, &mut second);
-    let first = released(domain.release(rt, pass))?;
-    assert_eq!(rt; [first.share(), second.share()], [6, 1]);
-    riders.push(first)?;
-    riders.push(second)?;
-    let ending = ended(rt, domain, riders);
-    let steps = [
-        Step::Write { t: 0, a: 1, v: 5 },
-        Step::Refresh { t: 0 },
-        Step::Release { t: 0 },
+#[test]
+fn a_journal_is_cut(rt: HostRuntime) -> Result<(), Fail> {
+    let calls = [
+        (Call::Acquire(0), Answer::Saw(view(0, 0, 0))),
+        (Call::Pass(0, OfPass::Allocate(4)), Answer::Told(0)),
+        (Call::Pass(0, OfPass::Refresh), Answer::Saw(view(0, 0, 4))),
+        (Call::Pass(0, OfPass::Store(1, 5)), Answer::Done),
+        (Call::Rider(OfRider::Raise(4)), Answer::Told(4)),
+        (
+            Call::Pass(0, OfPass::Refresh),
+            Answer::Met(Fault::JournalFull),
+        ),
+        (Call::Rider(OfRider::Cut), Answer::Told(4)),
+        (Call::Rider(OfRider::Cut), Answer::Told(0)),
+        (Call::Pass(0, OfPass::Refresh), Answer::Saw(view(4, 0, 4))),
+        (Call::Release(0), Answer::Done),
     ];
-    assert_eq!(rt; ending.journal.as_slice(), &steps[..]);
-    assert_eq!(rt; ending.cut, 4);
-    check_base(rt, &ending.base);
-    Ok(())
+    let end = End {
+        shares: &[0, 6, 1],
+        steps: &[
+            Step::Write { t: 0, a: 1, v: 5 },
+            Step::Refresh { t: 0 },
+            Step::Release { t: 0 },
+        ],
+        kept: 3,
+        cut: 4,
+        base: after_the_cut(),
+        waiting: &[],
+    };
+    let example = Example {
+        journal: 4,
+        calls: &calls,
+        end: Some(end),
+    };
+    follow(&rt, rt.alloc(), &example)
 }
 
-/// The base of an acquire and an allocation of a page by slot 0, and a raise to its end.
-pub(crate) fn check_base(rt: &impl Abort, base: &Base) {
+// After an acquire and an allocation of a page by slot 0, and a raise to its end.
+fn after_the_cut() -> At {
     let slot = Slot {
         epoch: 1,
         view: view(0, 0, 4),
-    };
-    let six = Six {
-        closed: 0,
-        head: 0,
-        flushed: 0,
-        safe_read_only: 0,
-        read_only: 4,
-        tail: 4,
     };
     let held = Held {
         page: 0,
@@ -241,14 +202,204 @@ pub(crate) fn check_base(rt: &impl Abort, base: &Base) {
         freed: false,
         cleaning: false,
     };
-    assert!(rt; base.epoch() == 1 && base.waiting().is_empty() && base.taken().is_empty());
-    assert_eq!(rt; base.slots(), &[Some(slot), None][..]);
-    assert_eq!(rt; base.six(), six);
-    assert_eq!(rt; base.frames(), &[Some(held), None][..]);
+    At {
+        slots: [Some(slot), None],
+        six: Six {
+            closed: 0,
+            head: 0,
+            flushed: 0,
+            safe_read_only: 0,
+            read_only: 4,
+            tail: 4,
+        },
+        frames: [Some(held), None],
+    }
 }
 
+// The pages are settled, the first is flushed, and the head is shifted over it. The second slot reads the page until
+// it has seen the close; once the page is clean, its frame is used again.
 #[test]
-fn a_journal_is_cut(rt: HostRuntime) -> Result<(), Fail> {
-    cut_journal::<ScanTable, Brand>(&rt, rt.alloc(), small_seed(rt.alloc(), 2)?)?;
-    cut_journal::<CountTable, Brand>(&rt, rt.alloc(), small_seed(rt.alloc(), 2)?)
+fn a_stale_reader(rt: HostRuntime) -> Result<(), Fail> {
+    let calls = [
+        (Call::Acquire(0), Answer::Saw(view(0, 0, 0))),
+        (Call::Pass(0, OfPass::Allocate(4)), Answer::Told(0)),
+        (Call::Pass(0, OfPass::Allocate(4)), Answer::Told(4)),
+        (Call::Acquire(1), Answer::Saw(view(0, 0, 8))),
+        (
+            Call::Pass(0, OfPass::Allocate(1)),
+            Answer::Met(Fault::Busy { page: 2 }),
+        ),
+        (Call::Rider(OfRider::Raise(8)), Answer::Told(8)),
+        (Call::Rider(OfRider::Settle), Answer::Told(1)),
+        (Call::Pass(0, OfPass::Refresh), Answer::Saw(view(8, 0, 8))),
+        (Call::Pass(1, OfPass::Refresh), Answer::Saw(view(8, 0, 8))),
+        (
+            Call::Rider(OfRider::Act),
+            Answer::Acted(1, Reply::Settled(8)),
+        ),
+        (Call::Rider(OfRider::Flush), Answer::Flushed(0, 4)),
+        (Call::Rider(OfRider::Shift(4)), Answer::Told(4)),
+        (Call::Rider(OfRider::Close), Answer::Told(2)),
+        (Call::Pass(1, OfPass::Load(0)), Answer::Told(0)),
+        (Call::Pass(0, OfPass::Refresh), Answer::Saw(view(8, 4, 8))),
+        (
+            Call::Rider(OfRider::Act),
+            Answer::Met(Fault::NotReady { front: 2, safe: 1 }),
+        ),
+        (
+            Call::Pass(0, OfPass::Allocate(1)),
+            Answer::Met(Fault::Busy { page: 2 }),
+        ),
+        (Call::Pass(1, OfPass::Refresh), Answer::Saw(view(8, 4, 8))),
+        (
+            Call::Rider(OfRider::Act),
+            Answer::Acted(2, Reply::Closed(4)),
+        ),
+        (
+            Call::Pass(1, OfPass::Load(0)),
+            Answer::Met(Fault::Evicted { head: 4 }),
+        ),
+        (
+            Call::Pass(0, OfPass::Allocate(1)),
+            Answer::Met(Fault::Busy { page: 2 }),
+        ),
+        (Call::Rider(OfRider::Clean), Answer::Cleaned(0)),
+        (Call::Pass(0, OfPass::Allocate(1)), Answer::Told(8)),
+    ];
+    let example = Example {
+        journal: 100,
+        calls: &calls,
+        end: None,
+    };
+    follow(&rt, rt.alloc(), &example)
+}
+
+// A page is filled, settled and flushed.
+#[test]
+fn a_page_is_settled(rt: HostRuntime) -> Result<(), Fail> {
+    let calls = [
+        (Call::Acquire(0), Answer::Saw(view(0, 0, 0))),
+        (Call::Pass(0, OfPass::Allocate(4)), Answer::Told(0)),
+        (Call::Rider(OfRider::Raise(4)), Answer::Told(4)),
+        (Call::Rider(OfRider::Settle), Answer::Told(1)),
+        (
+            Call::Rider(OfRider::Act),
+            Answer::Met(Fault::NotReady { front: 1, safe: 0 }),
+        ),
+        (Call::Pass(0, OfPass::Refresh), Answer::Saw(view(4, 0, 4))),
+        (
+            Call::Rider(OfRider::Act),
+            Answer::Acted(1, Reply::Settled(4)),
+        ),
+        (Call::Rider(OfRider::Flush), Answer::Flushed(0, 4)),
+        (Call::Rider(OfRider::Flush), Answer::Met(Fault::NoneSealed)),
+        (Call::Release(0), Answer::Done),
+    ];
+    let end = End {
+        shares: &[0, 4, 6],
+        steps: &[
+            Step::Acquire { t: 0 },
+            Step::Allocate { t: 0, n: 4 },
+            Step::Raise { x: 4 },
+            Step::Settle,
+            Step::Refresh { t: 0 },
+            Step::Take,
+            Step::Done { ticket: 1 },
+            Step::FlushTake,
+            Step::FlushDone { page: 0, ok: true },
+            Step::Release { t: 0 },
+        ],
+        kept: 10,
+        cut: 0,
+        base: At::FIRST,
+        waiting: &[],
+    };
+    let example = Example {
+        journal: 100,
+        calls: &calls,
+        end: Some(end),
+    };
+    follow(&rt, rt.alloc(), &example)
+}
+
+// A settle waits for a slot that nobody will release.
+#[test]
+fn a_pass_is_abandoned(rt: HostRuntime) -> Result<(), Fail> {
+    let calls = [
+        (Call::Acquire(0), Answer::Saw(view(0, 0, 0))),
+        (Call::Pass(0, OfPass::Allocate(4)), Answer::Told(0)),
+        (Call::Pass(0, OfPass::Store(0, 7)), Answer::Done),
+        (Call::Abandon(0), Answer::Done),
+        (Call::Rider(OfRider::Raise(4)), Answer::Told(4)),
+        (Call::Rider(OfRider::Settle), Answer::Told(1)),
+        (
+            Call::Rider(OfRider::Act),
+            Answer::Met(Fault::NotReady { front: 1, safe: 0 }),
+        ),
+        (Call::Acquire(0), Answer::Met(Fault::Occupied)),
+    ];
+    let end = End {
+        shares: &[0, 2, 2],
+        steps: &[
+            Step::Acquire { t: 0 },
+            Step::Allocate { t: 0, n: 4 },
+            Step::Raise { x: 4 },
+            Step::Settle,
+        ],
+        kept: 4,
+        cut: 0,
+        base: At::FIRST,
+        waiting: &[(1, Kind::Settle(4))],
+    };
+    let example = Example {
+        journal: 100,
+        calls: &calls,
+        end: Some(end),
+    };
+    follow(&rt, rt.alloc(), &example)
+}
+
+// A page that is given up stays in flight.
+#[test]
+fn a_load_is_forsaken(rt: HostRuntime) -> Result<(), Fail> {
+    let calls = [
+        (Call::Acquire(0), Answer::Saw(view(0, 0, 0))),
+        (Call::Pass(0, OfPass::Allocate(4)), Answer::Told(0)),
+        (Call::Rider(OfRider::Raise(4)), Answer::Told(4)),
+        (Call::Rider(OfRider::Settle), Answer::Told(1)),
+        (Call::Release(0), Answer::Done),
+        (
+            Call::Rider(OfRider::Act),
+            Answer::Acted(1, Reply::Settled(4)),
+        ),
+        (Call::Rider(OfRider::Forsake), Answer::Told(0)),
+        (
+            Call::Rider(OfRider::Shift(4)),
+            Answer::Met(Fault::AboveFlushed),
+        ),
+        (Call::Rider(OfRider::Flush), Answer::Met(Fault::NoneSealed)),
+    ];
+    let end = End {
+        shares: &[0, 3, 5],
+        steps: &[
+            Step::Acquire { t: 0 },
+            Step::Allocate { t: 0, n: 4 },
+            Step::Raise { x: 4 },
+            Step::Settle,
+            Step::Release { t: 0 },
+            Step::Take,
+            Step::Done { ticket: 1 },
+            Step::FlushTake,
+        ],
+        kept: 8,
+        cut: 0,
+        base: At::FIRST,
+        waiting: &[],
+    };
+    let example = Example {
+        journal: 100,
+        calls: &calls,
+        end: Some(end),
+    };
+    follow(&rt, rt.alloc(), &example)
 }

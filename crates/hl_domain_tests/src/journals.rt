@@ -155,11 +155,20 @@ fn refuse_all<L: Realm>(rt: &(impl Wait + Abort), alloc: Global, seed: Seed) -> 
     requires named { (seed.sizes ≡ L.sizes) × (2000 ≡ L.stamp) }
 {
     let (domain, mut riders) = Pages::<CountTable, L>::open(alloc, seed, 40, 2000)?;
-    let mut rider = riders.pop().ok_or("four riders")?;
-    let last = riders.pop().ok_or("four riders")?;
-    let other = riders.pop().ok_or("four riders")?;
+    refuse_each(rt, &domain, &mut riders)
+}
+
+// An action and two pages are taken, a pass is acquired, and the journal filled; then each call is refused.
+fn refuse_each<L: Realm>(
+    rt: &(impl Wait + Abort),
+    domain: &Pages<CountTable, L>,
+    riders: &mut Vec<Rider<L>>,
+) -> Result<(), Fail> {
     let first = riders.pop().ok_or("four riders")?;
-    let out = take_out(rt, &domain, first, &mut rider)?;
+    let other = riders.pop().ok_or("four riders")?;
+    let last = riders.pop().ok_or("four riders")?;
+    let mut rider = riders.pop().ok_or("four riders")?;
+    let out = take_out(rt, domain, first, &mut rider)?;
     let pass = match passed(domain.acquire(rt, 0, other)) {
         Ok(pass) => pass,
         Err(fault) => {
@@ -171,9 +180,9 @@ fn refuse_all<L: Realm>(rt: &(impl Wait + Abort), alloc: Global, seed: Seed) -> 
         let _ = domain.bare(rt, &mut rider);
     }
     let before = domain.snapshot(rt);
-    let dones = done_faults(rt, &domain, &mut rider, out);
-    let others = rider_faults(rt, &domain, &mut rider);
-    let passes = pass_faults(rt, &domain, pass, last);
+    let dones = done_faults(rt, domain, &mut rider, out);
+    let others = rider_faults(rt, domain, &mut rider);
+    let passes = pass_faults(rt, domain, pass, last);
     assert_eq!(rt; dones, [FULL; 3]);
     assert_eq!(rt; others, [FULL; 7]);
     assert_eq!(rt; passes, [FULL; 4]);

@@ -3,15 +3,13 @@
 //!
 //! | Module | What is tested there, or what it is for |
 //! |---|---|
-//! | `examples` | a domain's worked examples, with what each call answers |
-//! | `keepers` | those of a keeper that stands alone |
-//! | `comparison` | one function asks a keeper and a domain the same, and both answer alike |
+//! | `examples` | worked examples as tables of calls and answers, for a keeper that stands alone and for a domain |
 //! | `crowd` | many threads on one domain, and on two |
 //! | `strangers` | what is of another domain |
-//! | `refusals` | passes and pages that are given up, riders that are missing |
+//! | `refusals` | riders that are missing |
 //! | `journals` | how many steps a journal holds, and what a full one refuses |
 //! | `limits` | the greatest sizes, stamps and journals, and a chain of jobs |
-//! | `asks`, `play` | for `comparison`: one that is asked, keeper or domain, and notes of what it answers |
+//! | `follow`, `play`, `asks` | for `examples`: plays one; a call and its answer; keeper or domain |
 //! | `work` | for `crowd`: what one of its threads does |
 //! | `jobs` | for all: what they store, and small helpers |
 //!
@@ -21,17 +19,15 @@
 #[cfg(test)]
 mod asks;
 #[cfg(test)]
-mod comparison;
-#[cfg(test)]
 mod crowd;
 #[cfg(test)]
 mod examples;
 #[cfg(test)]
+mod follow;
+#[cfg(test)]
 mod jobs;
 #[cfg(test)]
 mod journals;
-#[cfg(test)]
-mod keepers;
 #[cfg(test)]
 mod limits;
 #[cfg(test)]

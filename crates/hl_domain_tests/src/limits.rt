@@ -20,30 +20,59 @@ fn greatest_sizes<L: Realm>(rt: &(impl Wait + Abort), alloc: Global, seed: Seed)
     requires named { (seed.sizes ≡ L.sizes) × (1000 ≡ L.stamp) }
 {
     let (domain, mut riders) = Pages::<CountTable, L>::open(alloc, seed, 1000, 1000)?;
-    let mut passes: Vec<Pass<L>> = Vec::new(alloc);
-    for t in 0..64 {
-        let rider = riders.pop().ok_or("128 riders")?;
-        passes.push(passed(domain.acquire(rt, t, rider))?)?;
-    }
-    let mut pass = passes.pop().ok_or("64 passes")?;
-    for page in 0..256 {
-        assert_eq!(rt; domain.allocate(rt, &mut pass, 4096), Ok(page * 4096));
-    }
-    assert_eq!(rt;
-        domain.allocate(rt, &mut pass, 1),
-        Err(Fault::Busy { page: 256 })
-    );
-    assert_eq!(rt; domain.store(&mut pass, (1 << 20) - 1, 7), Ok(()));
-    assert_eq!(rt; domain.load(&mut pass, (1 << 20) - 1), Ok(7));
-    passes.push(pass)?;
-    for pass in passes {
-        riders.push(released(domain.release(rt, pass))?)?;
-    }
+    let mut passes = acquire_all(rt, alloc, &domain, &mut riders)?;
+    fill_all(rt, &domain, &mut passes)?;
+    release_all(rt, &domain, passes, &mut riders)?;
     let Ok(ending) = domain.close(riders) else {
         panic!(rt; "all riders are there")
     };
     assert!(rt; ending.journal.len() == 64 + 256 + 1 + 64);
     assert_eq!(rt; ending.snapshot.frames, [256, 0, 0, 0, 0]);
+    Ok(())
+}
+
+fn acquire_all<L: Realm>(
+    rt: &impl Wait,
+    alloc: Global,
+    domain: &Pages<CountTable, L>,
+    riders: &mut Vec<Rider<L>>,
+) -> Result<Vec<Pass<L>>, Fail> {
+    let mut passes = Vec::new(alloc);
+    for t in 0..64 {
+        let rider = riders.pop().ok_or("128 riders")?;
+        passes.push(passed(domain.acquire(rt, t, rider))?)?;
+    }
+    Ok(passes)
+}
+
+// The last pass fills each page, and uses the last word of all.
+fn fill_all<L: Realm>(
+    rt: &(impl Wait + Abort),
+    domain: &Pages<CountTable, L>,
+    passes: &mut Vec<Pass<L>>,
+) -> Result<(), Fail> {
+    let pass = passes.last_mut().ok_or("64 passes")?;
+    for page in 0..256 {
+        assert_eq!(rt; domain.allocate(rt, pass, 4096), Ok(page * 4096));
+    }
+    assert_eq!(rt;
+        domain.allocate(rt, pass, 1),
+        Err(Fault::Busy { page: 256 })
+    );
+    assert_eq!(rt; domain.store(pass, (1 << 20) - 1, 7), Ok(()));
+    assert_eq!(rt; domain.load(pass, (1 << 20) - 1), Ok(7));
+    Ok(())
+}
+
+fn release_all<L: Realm>(
+    rt: &impl Wait,
+    domain: &Pages<CountTable, L>,
+    passes: Vec<Pass<L>>,
+    riders: &mut Vec<Rider<L>>,
+) -> Result<(), Fail> {
+    for pass in passes {
+        riders.push(released(domain.release(rt, pass))?)?;
+    }
     Ok(())
 }
 
@@ -63,12 +92,24 @@ fn last_stamp<L: Realm>(rt: &(impl Wait + Abort), alloc: Global, seed: Seed) -> 
     let mut second = riders.pop().ok_or("two riders")?;
     let rider = riders.pop().ok_or("two riders")?;
     let mut pass = passed(domain.acquire(rt, 0, rider))?;
-    assert_eq!(rt; domain.allocate(rt, &mut pass, 1), Ok(0));
-    assert_eq!(rt; ticket_of(domain.bump(rt, &mut second, job(9, 90))), Ok(1));
-    assert!(rt; domain.refresh(rt, &mut pass).is_ok());
-    let ran = domain.take(rt, &mut second)?.run();
+    bump_and_run(rt, &domain, &mut pass, &mut second)?;
+    assert!(rt; domain.release(rt, pass).is_ok());
+    Ok(())
+}
+
+// An action is stored, taken once the pass has refreshed, and done; it names its domain.
+fn bump_and_run<L: Realm>(
+    rt: &(impl Wait + Abort),
+    domain: &Pages<CountTable, L>,
+    pass: &mut Pass<L>,
+    rider: &mut Rider<L>,
+) -> Result<(), Fail> {
+    assert_eq!(rt; domain.allocate(rt, pass, 1), Ok(0));
+    assert_eq!(rt; ticket_of(domain.bump(rt, rider, job(9, 90))), Ok(1));
+    assert!(rt; domain.refresh(rt, pass).is_ok());
+    let ran = domain.take(rt, rider)?.run();
     let origin = ran.origin();
-    let done = match domain.done(rt, &mut second, ran) {
+    let done = match domain.done(rt, rider, ran) {
         Ok(reply) => Some(reply),
         Err((_, ran)) => {
             ran.forsake();
@@ -76,7 +117,6 @@ fn last_stamp<L: Realm>(rt: &(impl Wait + Abort), alloc: Global, seed: Seed) -> 
         }
     };
     assert!(rt; origin == 1 << 62 && done == Some(Reply::Ran(9)));
-    assert!(rt; domain.release(rt, pass).is_ok());
     Ok(())
 }
 
@@ -109,20 +149,30 @@ fn chain<L: Realm>(rt: &(impl Wait + Abort), alloc: Global, seed: Seed) -> Resul
 {
     let (domain, mut riders) = Pages::<CountTable, L>::open(alloc, seed, 100, 1000)?;
     let mut rider = riders.pop().ok_or("two riders")?;
+    run_ten(rt, alloc, &domain, &mut rider)?;
+    let (now, kept, _) = domain.snapshot(rt);
+    assert!(rt; now.epoch == 11 && now.safe == 10 && kept == 30);
+    Ok(())
+}
+
+fn run_ten<L: Realm>(
+    rt: &(impl Wait + Abort),
+    alloc: Global,
+    domain: &Pages<CountTable, L>,
+    rider: &mut Rider<L>,
+) -> Result<(), Fail> {
     let (to, from) = unbounded(alloc)?;
     assert!(rt; to.send(rt, 0u64).is_ok());
     for round in 0..10u64 {
         let tag = from.recv(rt)?;
         assert_eq!(rt; tag, round);
         assert_eq!(rt;
-            ticket_of(domain.bump(rt, &mut rider, job(tag, round + 1))),
+            ticket_of(domain.bump(rt, rider, job(tag, round + 1))),
             Ok(round + 1)
         );
-        let answer = run_one(rt, &domain, &mut rider, tag)?;
+        let answer = run_one(rt, domain, rider, tag)?;
         assert!(rt; to.send(rt, answer).is_ok());
     }
-    let (now, kept, _) = domain.snapshot(rt);
-    assert!(rt; now.epoch == 11 && now.safe == 10 && kept == 30);
     Ok(())
 }
 

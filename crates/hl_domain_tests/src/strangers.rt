@@ -202,17 +202,28 @@ fn strangers<L: Realm, M: Realm>(
 {
     let (one, mut riders) = Pages::<CountTable, L>::open(alloc, first, 100, 1000)?;
     let (other, mut others) = Pages::<CountTable, M>::open(alloc, second, 100, 2000)?;
+    bring_back(rt, &one, &mut riders, &other, &mut others)
+}
+
+// Both have the same out, and what is of the one comes back from the other.
+fn bring_back<L: Realm, M: Realm>(
+    rt: &(impl Wait + Abort),
+    one: &Pages<CountTable, L>,
+    riders: &mut Vec<Rider<L>>,
+    other: &Pages<CountTable, M>,
+    others: &mut Vec<Rider<M>>,
+) -> Result<(), Fail>
+    requires { (one.now.sizes.page_size ≡ 4) × (other.now.sizes.page_size ≡ 4) }
+{
     let mut rider = riders.pop().ok_or("two riders")?;
+    let first = riders.pop().ok_or("two riders")?;
     let mut theirs = others.pop().ok_or("two riders")?;
-    let (their_first, first) = (
-        others.pop().ok_or("two riders")?,
-        riders.pop().ok_or("two riders")?,
-    );
-    take_out(rt, &other, their_first, &mut theirs)?.forsake();
-    let Out { ready, load, broom } = take_out(rt, &one, first, &mut rider)?;
-    strange_action(rt, &one, &mut rider, &other, &mut theirs, ready);
-    strange_load(rt, &one, &mut rider, &other, &mut theirs, load);
-    strange_broom(rt, &one, &mut rider, &other, &mut theirs, broom);
+    let their_first = others.pop().ok_or("two riders")?;
+    take_out(rt, other, their_first, &mut theirs)?.forsake();
+    let Out { ready, load, broom } = take_out(rt, one, first, &mut rider)?;
+    strange_action(rt, one, &mut rider, other, &mut theirs, ready);
+    strange_load(rt, one, &mut rider, other, &mut theirs, load);
+    strange_broom(rt, one, &mut rider, other, &mut theirs, broom);
     // Each has taken the same out; what came back was ended in its own domain alone.
     assert_eq!(rt; [rider.share(), theirs.share()], [17, 14]);
     Ok(())
