@@ -2,7 +2,7 @@
 use crate::follow::{At, End, Example, follow};
 use crate::jobs::view;
 use crate::play::{Answer, Call, OfPass, OfRider};
-use hl_model::{Fault, Held, Kind, Reply, Six, Slot, Step};
+use hl_model::{Fault, Kind, Reply, Step};
 use std::test::Fail;
 
 // A pass stores until it has no room for another touch. Another sees a raise by a look alone, and stores below it no
@@ -88,132 +88,6 @@ fn an_action_is_left(rt: HostRuntime) -> Result<(), Fail> {
         end: Some(end),
     };
     follow(&rt, rt.alloc(), &example)
-}
-
-// The journal has no room for a third step.
-#[test]
-fn a_journal_is_full(rt: HostRuntime) -> Result<(), Fail> {
-    let calls = [
-        (Call::Acquire(0), Answer::Saw(view(0, 0, 0))),
-        (Call::Pass(0, OfPass::Allocate(1)), Answer::Told(0)),
-        (
-            Call::Pass(0, OfPass::Refresh),
-            Answer::Met(Fault::JournalFull),
-        ),
-        (Call::Release(0), Answer::Met(Fault::JournalFull)),
-        (Call::Abandon(0), Answer::Done),
-    ];
-    let end = End {
-        shares: &[0, 2, 0],
-        steps: &[Step::Acquire { t: 0 }, Step::Allocate { t: 0, n: 1 }],
-        kept: 2,
-        cut: 0,
-        base: At::FIRST,
-        waiting: &[],
-    };
-    let example = Example {
-        journal: 2,
-        calls: &calls,
-        end: Some(end),
-    };
-    follow(&rt, rt.alloc(), &example)
-}
-
-// There is no room for a step.
-#[test]
-fn a_journal_of_no_steps(rt: HostRuntime) -> Result<(), Fail> {
-    let calls = [
-        (
-            Call::Rider(OfRider::Job(7)),
-            Answer::Met(Fault::JournalFull),
-        ),
-        (Call::Rider(OfRider::Bare), Answer::Met(Fault::JournalFull)),
-        (
-            Call::Rider(OfRider::Settle),
-            Answer::Met(Fault::JournalFull),
-        ),
-        (Call::Rider(OfRider::Cut), Answer::Told(0)),
-        (Call::Acquire(0), Answer::Met(Fault::JournalFull)),
-    ];
-    let end = End {
-        shares: &[0, 0, 0],
-        steps: &[],
-        kept: 0,
-        cut: 0,
-        base: At::FIRST,
-        waiting: &[],
-    };
-    let example = Example {
-        journal: 0,
-        calls: &calls,
-        end: Some(end),
-    };
-    follow(&rt, rt.alloc(), &example)
-}
-
-// Four steps fill the journal; once they are cut, the next are kept.
-#[test]
-fn a_journal_is_cut(rt: HostRuntime) -> Result<(), Fail> {
-    let calls = [
-        (Call::Acquire(0), Answer::Saw(view(0, 0, 0))),
-        (Call::Pass(0, OfPass::Allocate(4)), Answer::Told(0)),
-        (Call::Pass(0, OfPass::Refresh), Answer::Saw(view(0, 0, 4))),
-        (Call::Pass(0, OfPass::Store(1, 5)), Answer::Done),
-        (Call::Rider(OfRider::Raise(4)), Answer::Told(4)),
-        (
-            Call::Pass(0, OfPass::Refresh),
-            Answer::Met(Fault::JournalFull),
-        ),
-        (Call::Rider(OfRider::Cut), Answer::Told(4)),
-        (Call::Rider(OfRider::Cut), Answer::Told(0)),
-        (Call::Pass(0, OfPass::Refresh), Answer::Saw(view(4, 0, 4))),
-        (Call::Release(0), Answer::Done),
-    ];
-    let end = End {
-        shares: &[0, 6, 1],
-        steps: &[
-            Step::Write { t: 0, a: 1, v: 5 },
-            Step::Refresh { t: 0 },
-            Step::Release { t: 0 },
-        ],
-        kept: 3,
-        cut: 4,
-        base: after_the_cut(),
-        waiting: &[],
-    };
-    let example = Example {
-        journal: 4,
-        calls: &calls,
-        end: Some(end),
-    };
-    follow(&rt, rt.alloc(), &example)
-}
-
-// After an acquire and an allocation of a page by slot 0, and a raise to its end.
-fn after_the_cut() -> At {
-    let slot = Slot {
-        epoch: 1,
-        view: view(0, 0, 4),
-    };
-    let held = Held {
-        page: 0,
-        flushed: false,
-        in_flight: false,
-        freed: false,
-        cleaning: false,
-    };
-    At {
-        slots: [Some(slot), None],
-        six: Six {
-            closed: 0,
-            head: 0,
-            flushed: 0,
-            safe_read_only: 0,
-            read_only: 4,
-            tail: 4,
-        },
-        frames: [Some(held), None],
-    }
 }
 
 // The pages are settled, the first is flushed, and the head is shifted over it. The second slot reads the page until

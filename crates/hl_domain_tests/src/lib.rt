@@ -7,9 +7,9 @@
 //! | `crowd` | many threads on one domain, and on two |
 //! | `strangers` | what is of another domain |
 //! | `refusals` | riders that are missing |
-//! | `journals` | how many steps a journal holds, and what a full one refuses |
+//! | `journals` | how many steps a journal holds, what a full one refuses, and what a cut leaves of it |
 //! | `limits` | the greatest sizes, stamps and journals, and a chain of jobs |
-//! | `follow`, `play`, `asks` | for `examples`: plays one; a call and its answer; keeper or domain |
+//! | `follow`, `play`, `asks` | plays an example; a call and its answer; keeper or domain |
 //! | `work` | for `crowd`: what one of its threads does |
 //! | `jobs` | for all: what they store, and small helpers |
 //!
