@@ -3,7 +3,7 @@ ghost use Rattle.hl_frames.specs.Pages.{held_for, is_in_flight, is_cleaning, may
 ghost use Rattle.hl_frames.specs.Answers.{opened, page_or, after_take, enter_answer, after_enter, flush_begun, flush_done_answer, after_flush_done, clean_begun, clean_done_answer, after_clean_done, state_of};
 ghost use Rattle.hl_frames.specs.IsFrames.{IsFrames};
 
-use crate::marks::{begin_cleaning, begin_flush, end_cleaning, end_flush};
+use crate::marks::{begin_cleaning, begin_flush, begin_page, end_cleaning, end_flush};
 use crate::placed::Placed;
 use crate::row::{is_cleaning, is_freed, is_in_flight, skip_flushed, skip_taken};
 use crate::turns::Turns;
@@ -79,15 +79,10 @@ impl Frames {
         if !self.is_free(frame, page) {
             return Err(Fault::Busy { page });
         }
-        self.held[frame] = Some(Held {
-            page,
-            flushed: false,
-            in_flight: false,
-            freed: false,
-            cleaning: false,
-        });
+        let mut turns = 0;
+        begin_page(&mut self.held[frame], page, &mut turns);
         self.entered = page + 1;
-        self.turns.enter = 1;
+        self.turns.enter = turns;
         Ok(())
     }
 
@@ -182,8 +177,9 @@ impl Frames {
         if !is_cleaning(self.held[frame], page) {
             return Err(Fault::NotCleaning);
         }
-        end_cleaning(&mut self.held[frame]);
-        self.turns.clean_done = 1;
+        let mut turns = 0;
+        end_cleaning(&mut self.held[frame], &mut turns);
+        self.turns.clean_done = turns;
         Ok(())
     }
 

@@ -1,10 +1,29 @@
-ghost use Rattle.std.specs.Prelude.{◌≡◌, true, false};
+ghost use Rattle.std.specs.Prelude.{◌≡◌, ◌+◌, ◌^◌, ◌<◌, Some, true, false};
+ghost use Rattle.hl_frames.specs.Answers.{unmarked};
 ghost use Rattle.std.specs.Option.{option_map};
 ghost use Rattle.hl_model.specs.declared.frame.Held.{Held as HELD};
 
 use hl_model::Held;
 
-// Each changes the marks of the page that a frame holds, where it holds one: the marks alone are written.
+// Each changes what a frame holds, or the marks of the page in it, where it holds one: then the marks alone are written.
+// Where a call's turns are told, the visit of its frame ticks here.
+
+/// The frame holds another page from now on, with no mark. One turn.
+#[inline(always)]
+pub(crate) fn begin_page(held: &mut Option<Held>, page: u64, turns: &mut u64)
+    requires { turns.old < 2 ^ 32 }
+    ensures held { held.new ≡ Some (unmarked page) }
+    ensures turns { turns.new ≡ turns.old + 1 }
+{
+    *turns += 1;
+    *held = Some(Held {
+        page,
+        flushed: false,
+        in_flight: false,
+        freed: false,
+        cleaning: false,
+    });
+}
 
 /// The page's flush begins.
 #[inline(always)]
@@ -37,11 +56,15 @@ pub(crate) fn begin_cleaning(held: &mut Option<Held>)
     }
 }
 
-/// The page's cleaning ended: it is freed.
+/// The page's cleaning ended: it is freed. One turn.
 #[inline(always)]
-pub(crate) fn end_cleaning(held: &mut Option<Held>)
-    ensures { held.new ≡ option_map (λ (h : HELD). record h { cleaning = false; freed = true }) held.old }
+pub(crate) fn end_cleaning(held: &mut Option<Held>, turns: &mut u64)
+    requires { turns.old < 2 ^ 32 }
+    ensures held { held.new
+        ≡ option_map (λ (h : HELD). record h { cleaning = false; freed = true }) held.old }
+    ensures turns { turns.new ≡ turns.old + 1 }
 {
+    *turns += 1;
     if let Some(held) = held {
         held.cleaning = false;
         held.freed = true;

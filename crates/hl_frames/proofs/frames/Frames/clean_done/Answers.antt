@@ -24,7 +24,7 @@ row c =
     let place = rw (← c.self.view_is) at c.frame_of-frame.ensures.frame in
     let within = rw (← c.self.view_is) at c.frame_of-frame.ensures.within in
     row-changed (pages_of c.self.inside) c.args.page c.frame_of-frame.result c.index_mut.result.now c.end_cleaning.new.held change place within c.index_mut.ensures.value
-    c.end_cleaning.ensures
+    c.end_cleaning.ensures.held
 
 -- they are pages of frames
 known : (c : goal.After-self-2-1) → IsFrames (clean_ended c.args.page (pages_of c.self.inside))

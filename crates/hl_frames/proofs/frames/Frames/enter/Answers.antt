@@ -1,8 +1,8 @@
-use Rattle.std.proofs.Common.{◌≡◌, ◌∙◌, arith, true, Some, refl, sym, length-set}
+use Rattle.std.proofs.Common.{◌≡◌, ◌∙◌, arith, true, refl, sym, length-set}
 use Rattle.std.specs.Prelude.{slice_set}
 use Rattle.hl_frames.specs.Pages.{may_enter}
 use Rattle.hl_frames.specs.IsFrames.{IsFrames}
-use Rattle.hl_frames.specs.Answers.{entered, unmarked}
+use Rattle.hl_frames.specs.Answers.{entered}
 use Rattle.hl_frames.specs.Kept.{pages_of}
 use Rattle.hl_frames.proofs.PageLaws.{IsFrames-entered}
 use Rattle.hl_frames.proofs.KeptLaws.{still-placed, stored-entered}
@@ -13,10 +13,10 @@ free : (c : goal.After-self-3-1) → may_enter c.args.page (pages_of c.self.insi
 free c = rw (← c.self.view_is) at (sym c.is_free.ensures.free ∙ c.if-not-is_free.false)
 
 -- the row after the page is entered
-row : (c : goal.After-self-3-1) → slice_set c.self.inside.held.items c.frame_of-frame.result (Some (unmarked c.args.page)) ≡ (entered c.args.page (pages_of c.self.inside)).frames
+row : (c : goal.After-self-3-1) → slice_set c.self.inside.held.items c.frame_of-frame.result c.begin_page.new.held ≡ (entered c.args.page (pages_of c.self.inside)).frames
 row c =
     let place = rw (← c.self.view_is) at c.frame_of-frame.ensures.frame in
-    rw place refl
+    rw (c.begin_page.ensures.held, place) refl
 
 -- the pages are those of frames
 known : (c : goal.After-self-3-1) → IsFrames (entered c.args.page (pages_of c.self.inside))
@@ -37,7 +37,7 @@ invariant_of-self c =
       to_flush_placed = still-placed a.to_flush a.held.items _ kept.to_flush_placed (length-set _ _ _);
       to_clean_placed = still-placed a.to_clean a.held.items _ kept.to_clean_placed (length-set _ _ _);
       room = kept.room ∙ sym (length-set _ _ _);
-      turns = rw length-set (record { enter = omega arith; flush_done = kept.turns.flush_done; clean_done = kept.turns.clean_done });
+      turns = rw length-set (record { enter = omega (arith, c.begin_page.ensures.turns); flush_done = kept.turns.flush_done; clean_done = kept.turns.clean_done });
     }
 
 pub returns-clause-valid : goal.returns-clause-valid
