@@ -13,9 +13,9 @@ use Rattle.hl_model.specs.Offsets.{tail, tail_past, is_entered}
 use Rattle.hl_model.specs.Pages.{is_freed, frees}
 use Rattle.hl_model.specs.Words.{written_at, word, page_words}
 use Rattle.hl_model.specs.Replies.{fault_of, IsAccepted}
-use Rattle.hl_model.proofs.FrameLaws.{last_entered-stay}
-use Rattle.hl_model.proofs.RowLaws.{row_at, rows_set}
-use Rattle.hl_model.proofs.WordLaws.{word-nil, word-stay, word-write, word-elsewhere, word-fresh, page_words-is}
+use Rattle.hl_laws.proofs.FrameLaws.{last_entered-stay}
+use Rattle.hl_laws.proofs.RowLaws.{row_at, rows_set}
+use Rattle.hl_laws.proofs.WordLaws.{word-nil, word-stay, word-write, word-elsewhere, word-fresh, page_words-is}
 use Rattle.hl_cells.specs.CellWords.{shown_page, word_of_page, cell_word, cell_words, cell_at}
 use Rattle.hl_cells.proofs.ShownPages.{Enters, unless_freed, shown-is, shown-same, shown-frame, shown-allocate, shown-written, shown-read, shown-cleaned, shown-elsewhere}
 

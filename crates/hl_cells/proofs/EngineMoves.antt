@@ -17,12 +17,12 @@ use Rattle.hl_model.specs.Words.{word, page_words}
 use Rattle.hl_model.specs.declared.frame.FrameState.{FrameState}
 use Rattle.hl_model.specs.Frames.{last_entered, frame_of}
 use Rattle.hl_model.specs.Replies.{fault_of, answer_of, word_reply_of, done_answer, kind_or_job_0, unless_fault, extended, IsAccepted}
-use Rattle.hl_model.proofs.AcceptedLaws.{extended-none, extended-some}
-use Rattle.hl_model.proofs.ActionLaws.{ticket-front}
-use Rattle.hl_model.proofs.DrainLaws.{done_fault-none}
-use Rattle.hl_model.proofs.RowLaws.{row_at}
-use Rattle.hl_model.proofs.SettledLaws.{action_at-done}
-use Rattle.hl_model.proofs.NoFaultLaws.{unless_ok, unless_err}
+use Rattle.hl_laws.proofs.AcceptedLaws.{extended-none, extended-some}
+use Rattle.hl_laws.proofs.ActionLaws.{ticket-front}
+use Rattle.hl_laws.proofs.DrainLaws.{done_fault-none}
+use Rattle.hl_laws.proofs.RowLaws.{row_at}
+use Rattle.hl_laws.proofs.SettledLaws.{action_at-done}
+use Rattle.hl_laws.proofs.NoFaultLaws.{unless_ok, unless_err}
 use Rattle.hl_epoch.specs.Table.{safe_of}
 use Rattle.hl_action.specs.Firings.{FiringRecord}
 use Rattle.hl_action.specs.Jobs.{KeptRecord, ReadyRecord}

@@ -13,9 +13,9 @@ use Rattle.hl_model.specs.Epochs.{safe_epoch}
 use Rattle.hl_model.specs.Actions.{front, pending, taken, is_take, is_finished, finishes}
 use Rattle.hl_model.specs.Replies.{fault_of, IsAccepted}
 use Rattle.hl_model.proofs.ListLaws.{gather-push}
-use Rattle.hl_model.proofs.ActionLaws.{is_finished-push, is_finished-stay, taken-done, taken-stores, ticket-front, not_or, filter_twice, taken-nil}
-use Rattle.hl_model.proofs.AcceptedLaws.{accepted_has}
-use Rattle.hl_model.proofs.DrainLaws.{taken-next, front-unfinished, take_fault-none, takes-le-actions, first_pending}
+use Rattle.hl_laws.proofs.ActionLaws.{is_finished-push, is_finished-stay, taken-done, taken-stores, ticket-front, not_or, filter_twice, taken-nil}
+use Rattle.hl_laws.proofs.AcceptedLaws.{accepted_has}
+use Rattle.hl_laws.proofs.DrainLaws.{taken-next, front-unfinished, take_fault-none, takes-le-actions, first_pending}
 use Rattle.hl_action.specs.Firings.{FiringRecord}
 use Rattle.hl_cells.specs.TakenActions.{firings, firing_of, undone_firings}
 

@@ -11,10 +11,10 @@ use Rattle.hl_model.specs.Sizes.{Sizes}
 use Rattle.hl_model.specs.Epochs.{safe_epoch}
 use Rattle.hl_model.specs.Actions.{front, taken, pending, is_take, is_taken, is_finished, finishes, action_at}
 use Rattle.hl_model.specs.Replies.{IsAccepted}
-use Rattle.hl_model.proofs.ActionLaws.{taken-done, taken-stores, taken-nil}
-use Rattle.hl_model.proofs.DrainLaws.{taken-next, takes-le-actions, is_taken-parts, Rising-taken, length-both, actions-dones}
-use Rattle.hl_model.proofs.SettledLaws.{action_at-taken}
-use Rattle.hl_model.proofs.TicketLaws.{Rising}
+use Rattle.hl_laws.proofs.ActionLaws.{taken-done, taken-stores, taken-nil}
+use Rattle.hl_laws.proofs.DrainLaws.{taken-next, takes-le-actions, is_taken-parts, Rising-taken, length-both, actions-dones}
+use Rattle.hl_laws.proofs.SettledLaws.{action_at-taken}
+use Rattle.hl_laws.proofs.TicketLaws.{Rising}
 use Rattle.hl_action.specs.Firings.{FiringRecord}
 use Rattle.hl_action.specs.Jobs.{ReadyRecord}
 use Rattle.hl_cells.specs.TakenActions.{Row, Holds, firings, undone_firings, firing_at, is_of, fires, tag_held, tag_of}

@@ -13,8 +13,8 @@ use Rattle.hl_model.specs.declared.step.Reply.{Reply}
 use Rattle.hl_model.specs.declared.step.Reply.TheVariants.{Answer}
 use Rattle.hl_model.specs.declared.step.Step.{Step}
 use Rattle.hl_model.specs.declared.step.Step.TheVariants.{Done}
-use Rattle.hl_model.proofs.DrainLaws.{done_fault-none}
-use Rattle.hl_model.proofs.ActionLaws.{pending-nil}
+use Rattle.hl_laws.proofs.DrainLaws.{done_fault-none}
+use Rattle.hl_laws.proofs.ActionLaws.{pending-nil}
 use Rattle.hl_action.specs.Firings.{FiringRecord}
 use Rattle.hl_action.specs.Jobs.{KeptRecord, ReadyRecord}
 use Rattle.hl_drain.specs.declared.action.Action.{Action}

@@ -16,13 +16,13 @@ use Rattle.hl_model.specs.Views.{seen_read_only, seen_head, seen_tail}
 use Rattle.hl_model.specs.Pages.{is_flushed, is_freed, frees}
 use Rattle.hl_model.specs.Frames.{last_entered, may_enter, state_of_page}
 use Rattle.hl_model.specs.Replies.{fault_of, protected_fault, IsAccepted}
-use Rattle.hl_model.proofs.BoundLaws.{closed-le-head, views_are_bounded}
-use Rattle.hl_model.proofs.FrameFacts.{unfreed_last, cleaning_last}
-use Rattle.hl_model.proofs.FrameLaws.{IsLastOf, HasRoom, allocate-room, entered_before, last_entered-is, last_entered-none, last_entered-some, last_entered-cases, last_entered-stay, last_entered-enter, last_entered-other, is_entered-allocate}
-use Rattle.hl_model.proofs.NoFaultLaws.{protected-none, write-none, read-none}
-use Rattle.hl_model.proofs.PageFacts.{may_enter-freed, freed_closed, head-le-flushed, flushed-le-safe_read_only}
-use Rattle.hl_model.proofs.WordLaws.{seen_tail-le}
-use Rattle.hl_model.proofs.WorkLaws.{is_freed-push, clean_done-none, is_freed-stay}
+use Rattle.hl_laws.proofs.BoundLaws.{closed-le-head, views_are_bounded}
+use Rattle.hl_laws.proofs.FrameFacts.{unfreed_last, cleaning_last}
+use Rattle.hl_laws.proofs.FrameLaws.{IsLastOf, HasRoom, allocate-room, entered_before, last_entered-is, last_entered-none, last_entered-some, last_entered-cases, last_entered-stay, last_entered-enter, last_entered-other, is_entered-allocate}
+use Rattle.hl_laws.proofs.NoFaultLaws.{protected-none, write-none, read-none}
+use Rattle.hl_laws.proofs.PageFacts.{may_enter-freed, freed_closed, head-le-flushed, flushed-le-safe_read_only}
+use Rattle.hl_laws.proofs.WordLaws.{seen_tail-le}
+use Rattle.hl_laws.proofs.WorkLaws.{is_freed-push, clean_done-none, is_freed-stay}
 use Rattle.hl_cells.specs.CellWords.{shown_page}
 
 -- a page, unless it is freed

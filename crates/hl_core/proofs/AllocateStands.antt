@@ -13,9 +13,9 @@ use Rattle.hl_model.specs.Offsets.{tail, place_of, is_entered}
 use Rattle.hl_model.specs.Views.{view_of, slot_views}
 use Rattle.hl_model.specs.Frames.{may_enter}
 use Rattle.hl_model.specs.Replies.{fault_of, protected_fault, size_fault, page_fault, allocate_fault, or_fault, unless_fault, IsAccepted}
-use Rattle.hl_model.proofs.OffsetLaws.{read_only-stay, head-stay, tail-push}
-use Rattle.hl_model.proofs.NoFaultLaws.{protected-none, unless_err, unless_ok}
-use Rattle.hl_model.proofs.ViewLaws.{slot_views-allocate, length-slot_views}
+use Rattle.hl_laws.proofs.OffsetLaws.{read_only-stay, head-stay, tail-push}
+use Rattle.hl_laws.proofs.NoFaultLaws.{protected-none, unless_err, unless_ok}
+use Rattle.hl_laws.proofs.ViewLaws.{slot_views-allocate, length-slot_views}
 use Rattle.hl_offsets.specs.Log.{Log, allocated}
 use Rattle.hl_frames.specs.Pages.{Pages, may_enter as MAY_ENTER}
 use Rattle.hl_frames.specs.Answers.{entered, enter_answer, after_enter}

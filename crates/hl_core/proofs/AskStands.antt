@@ -16,11 +16,11 @@ use Rattle.hl_model.specs.Epochs.{epoch_window, Table, table_of, is_bump, enters
 use Rattle.hl_model.specs.Actions.{is_take, finishes, action_of, actions, pending, ever_taken, taken, takes, bumps, is_finished, is_full}
 use Rattle.hl_model.specs.Views.{allocates, looked_read_only, looked_head}
 use Rattle.hl_model.specs.Replies.{fault_of, answer_of, bare_fault, bump_fault, unless_fault, unless_refused}
-use Rattle.hl_model.proofs.AcceptedLaws.{IsAccepted-push}
-use Rattle.hl_model.proofs.ActionLaws.{bumps-push, current_epoch-bumps, actions-numbers, pending-stores, taken-stores}
-use Rattle.hl_model.proofs.DrainLaws.{takes-le-actions, length-both, actions-dones, is_full-both}
-use Rattle.hl_model.proofs.EpochLaws.{current_epoch-push, slot_epochs-stay}
-use Rattle.hl_model.proofs.ViewLaws.{slot_views-stay}
+use Rattle.hl_laws.proofs.AcceptedLaws.{IsAccepted-push}
+use Rattle.hl_laws.proofs.ActionLaws.{bumps-push, current_epoch-bumps, actions-numbers, pending-stores, taken-stores}
+use Rattle.hl_laws.proofs.DrainLaws.{takes-le-actions, length-both, actions-dones, is_full-both}
+use Rattle.hl_laws.proofs.EpochLaws.{current_epoch-push, slot_epochs-stay}
+use Rattle.hl_laws.proofs.ViewLaws.{slot_views-stay}
 use Rattle.hl_epoch.specs.Table.{bumped}
 use Rattle.hl_drain.specs.declared.action.Ask.{Ask}
 use Rattle.hl_drain.specs.declared.action.Ask.TheVariants.{User as AskUser, Settle as AskSettle, Close as AskClose}
@@ -34,7 +34,7 @@ use Rattle.hl_core.proofs.TableLaws.{make}
 use Rattle.hl_core.proofs.QuietLaws.{OffsetsStay, PagesStay, log-stays, pages-stay}
 use Rattle.hl_core.proofs.Refusals.{call_accepts}
 use Rattle.hl_core.proofs.StandLaws.{refused_step, table_refused, accepted_step, quiet_drain}
-use Rattle.hl_model.proofs.NoFaultLaws.{unless_ok}
+use Rattle.hl_laws.proofs.NoFaultLaws.{unless_ok}
 use Rattle.hl_model.proofs.ListLaws.{all-append, all-drop, all-follows, all-take}
 
 -- a step that stores an action

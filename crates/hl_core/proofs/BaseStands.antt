@@ -14,9 +14,9 @@ use Rattle.hl_model.specs.Epochs.{is_protected, slot_epoch}
 use Rattle.hl_model.specs.Views.{slot_view}
 use Rattle.hl_model.specs.Snapshots.{six}
 use Rattle.hl_model.specs.Bases.{Base, IsBase, slot_of, held_of, base_of}
-use Rattle.hl_model.proofs.CutReplies.{slot_of-protected}
-use Rattle.hl_model.proofs.EpochLaws.{slot_epochs-at, is_protected-slot_epoch, epoch_of-slot_epoch}
-use Rattle.hl_model.proofs.ViewLaws.{is_protected-slot_view, view_of-slot_view}
+use Rattle.hl_laws.proofs.CutReplies.{slot_of-protected}
+use Rattle.hl_laws.proofs.EpochLaws.{slot_epochs-at, is_protected-slot_epoch, epoch_of-slot_epoch}
+use Rattle.hl_laws.proofs.ViewLaws.{is_protected-slot_view, view_of-slot_view}
 use Rattle.hl_epoch.specs.Table.{epoch_at}
 use Rattle.hl_drain.specs.Actions.{waiting_of}
 use Rattle.hl_frames.specs.Pages.{Pages}

@@ -19,14 +19,14 @@ use Rattle.hl_model.specs.Actions.{actions, taken, is_taken, action_at}
 use Rattle.hl_model.specs.Offsets.{read_only, head, tail}
 use Rattle.hl_model.specs.Settled.{safe_read_only, closed, settles, closes}
 use Rattle.hl_model.specs.Replies.{unless_fault, fault_of, done_answer, kind_or_job_0, IsAccepted}
-use Rattle.hl_model.proofs.AcceptedLaws.{IsAccepted-push}
-use Rattle.hl_model.proofs.ActionLaws.{pending-done, taken-done}
-use Rattle.hl_model.proofs.BoundLaws.{closes-whole}
-use Rattle.hl_model.proofs.DrainLaws.{of_ticket-taken, is_taken-found}
-use Rattle.hl_model.proofs.LawProofs.{taken_are_those_listed}
-use Rattle.hl_model.proofs.OffsetLaws.{read_only-stay, head-stay}
-use Rattle.hl_model.proofs.SettledLaws.{done_greatest-done, action_at-done, action_at-has, settles-le, closes-le}
-use Rattle.hl_model.proofs.ViewLaws.{slot_views-stay}
+use Rattle.hl_laws.proofs.AcceptedLaws.{IsAccepted-push}
+use Rattle.hl_laws.proofs.ActionLaws.{pending-done, taken-done}
+use Rattle.hl_laws.proofs.BoundLaws.{closes-whole}
+use Rattle.hl_laws.proofs.DrainLaws.{of_ticket-taken, is_taken-found}
+use Rattle.hl_laws.proofs.LawProofs.{taken_are_those_listed}
+use Rattle.hl_laws.proofs.OffsetLaws.{read_only-stay, head-stay}
+use Rattle.hl_laws.proofs.SettledLaws.{done_greatest-done, action_at-done, action_at-has, settles-le, closes-le}
+use Rattle.hl_laws.proofs.ViewLaws.{slot_views-stay}
 use Rattle.hl_drain.specs.Actions.{waiting_of}
 use Rattle.hl_drain.specs.Lists.{Lists, IsDrain, has_ticket, kind_or_fault, after_done}
 use Rattle.hl_offsets.specs.Log.{Log, settled, closed_up_to}

@@ -7,7 +7,7 @@ use Rattle.hl_model.specs.declared.step.Step.{Step}
 use Rattle.hl_model.specs.Sizes.{Sizes}
 use Rattle.hl_model.specs.Frames.{frame_of}
 use Rattle.hl_model.specs.Snapshots.{state_counts, frame_states, snapshot_of}
-use Rattle.hl_model.proofs.StateCounts.{states_below, states_below-next, place_in, counts-push, counts_fit}
+use Rattle.hl_laws.proofs.StateCounts.{states_below, states_below-next, place_in, counts-push, counts_fit}
 use Rattle.hl_core.specs.Standing.{State, Stands, IsStanding}
 
 -- the counts of one frame more

@@ -11,8 +11,8 @@ use Rattle.hl_model.specs.Sizes.{Sizes}
 use Rattle.hl_model.specs.Epochs.{is_bump, enters, leaves, is_protected}
 use Rattle.hl_model.specs.Views.{view_of, slot_views, seen_read_only, seen_head, seen_tail, allocates, looked_read_only, looked_head}
 use Rattle.hl_model.specs.Replies.{fault_of, answer_of, unless_fault}
-use Rattle.hl_model.proofs.NoFaultLaws.{look-none, protected-none, unless_err, unless_ok}
-use Rattle.hl_model.proofs.ViewLaws.{slot_views-look, slot_views-stay, length-slot_views, seen_read_only-push, seen_head-push, seen_tail-stay}
+use Rattle.hl_laws.proofs.NoFaultLaws.{look-none, protected-none, unless_err, unless_ok}
+use Rattle.hl_laws.proofs.ViewLaws.{slot_views-look, slot_views-stay, length-slot_views, seen_read_only-push, seen_head-push, seen_tail-stay}
 use Rattle.hl_core.specs.Standing.{State, Stands, IsStanding}
 use Rattle.hl_core.specs.Steps.{Stepped, Made, told}
 use Rattle.hl_core.proofs.TableLaws.{table_stays}

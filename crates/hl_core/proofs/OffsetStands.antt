@@ -13,10 +13,10 @@ use Rattle.hl_model.specs.Offsets.{head}
 use Rattle.hl_model.specs.Pages.{flushed}
 use Rattle.hl_model.specs.Snapshots.{six, AreInOrder}
 use Rattle.hl_model.specs.Replies.{fault_of, raise_fault, shift_fault, unless_fault, unless_refused, IsAccepted}
-use Rattle.hl_model.proofs.OffsetLaws.{read_only-stay, head-stay, read_only-raise, head-shift}
-use Rattle.hl_model.proofs.OrderLaws.{offsets_are_in_order}
-use Rattle.hl_model.proofs.PageFacts.{flushed-le-safe_read_only}
-use Rattle.hl_model.proofs.ViewLaws.{slot_views-stay}
+use Rattle.hl_laws.proofs.OffsetLaws.{read_only-stay, head-stay, read_only-raise, head-shift}
+use Rattle.hl_laws.proofs.OrderLaws.{offsets_are_in_order}
+use Rattle.hl_laws.proofs.PageFacts.{flushed-le-safe_read_only}
+use Rattle.hl_laws.proofs.ViewLaws.{slot_views-stay}
 use Rattle.hl_frames.specs.Pages.{flushed_offset}
 use Rattle.hl_offsets.specs.Log.{Log, raised, shifted, six_of}
 use Rattle.hl_core.specs.Standing.{State, Stands, IsStanding, log_of}
@@ -26,7 +26,7 @@ use Rattle.hl_core.proofs.TableLaws.{table_stays}
 use Rattle.hl_core.proofs.Refusals.{call_refuses, call_accepts}
 use Rattle.hl_core.proofs.QuietLaws.{safe_read_only-quiet, closed-quiet, tail-stays, pages-stay}
 use Rattle.hl_core.proofs.StandLaws.{refused_step, accepted_step, quiet_drain}
-use Rattle.hl_model.proofs.NoFaultLaws.{shift_lawful}
+use Rattle.hl_laws.proofs.NoFaultLaws.{shift_lawful}
 
 -- the offsets after a raise and a shift
 log-raise : (sizes : Sizes) (A : List Step) (x : ℕ) → IsAccepted sizes A → fault_of sizes A (Raise x) ≡ None → log_of sizes (A ++ Raise x ∷ []) ≡ raised x (log_of sizes A)

@@ -9,9 +9,9 @@ use Rattle.hl_model.specs.Sizes.{Sizes, AreInRange}
 use Rattle.hl_model.specs.Offsets.{tail, place_of, is_entered}
 use Rattle.hl_model.specs.Frames.{last_entered}
 use Rattle.hl_model.specs.Replies.{size_fault, IsAccepted}
-use Rattle.hl_model.proofs.RowLaws.{rows_same, rows_set}
-use Rattle.hl_model.proofs.NoFaultLaws.{size-none}
-use Rattle.hl_model.proofs.FrameLaws.{IsLastOf, last_entered-is, last_entered-some, is_entered-allocate, entered_below, unentered_above}
+use Rattle.hl_laws.proofs.RowLaws.{rows_same, rows_set}
+use Rattle.hl_laws.proofs.NoFaultLaws.{size-none}
+use Rattle.hl_laws.proofs.FrameLaws.{IsLastOf, last_entered-is, last_entered-some, is_entered-allocate, entered_below, unentered_above}
 use Rattle.hl_frames.specs.Answers.{unmarked, entered}
 use Rattle.hl_model.specs.Bases.{marked, held_of}
 use Rattle.hl_core.specs.Standing.{pages_entered, pages_of}

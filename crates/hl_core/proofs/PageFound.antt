@@ -11,7 +11,7 @@ use Rattle.hl_model.specs.Settled.{safe_read_only, closed}
 use Rattle.hl_model.specs.Pages.{is_in_flight, is_cleaning, next_to_flush, next_to_clean}
 use Rattle.hl_model.specs.Frames.{may_enter, frame_of}
 use Rattle.hl_model.specs.Replies.{fault_of, unless_fault, unless_page}
-use Rattle.hl_model.proofs.OrderLaws.{offsets_are_in_order}
+use Rattle.hl_laws.proofs.OrderLaws.{offsets_are_in_order}
 use Rattle.hl_frames.specs.Pages.{Pages, pages_below, flushed_offset, is_in_flight as IN_FLIGHT, is_cleaning as CLEANING, may_enter as MAY_ENTER, next_to_flush as NEXT_TO_FLUSH, next_to_clean as NEXT_TO_CLEAN}
 use Rattle.hl_frames.specs.Answers.{state_of}
 use Rattle.hl_core.specs.Standing.{State, Stands, IsStanding, pages_entered}

@@ -10,11 +10,11 @@ use Rattle.hl_model.specs.Pages.{is_flushed, is_in_flight, is_freed, is_cleaning
 use Rattle.hl_model.specs.Frames.{may_enter}
 use Rattle.hl_model.specs.Snapshots.{six, AreInOrder}
 use Rattle.hl_model.specs.Replies.{IsAccepted}
-use Rattle.hl_model.proofs.AppendLaws.{find-same}
-use Rattle.hl_model.proofs.CutRows.{flushed_in-is, freed_in-is, in_flight_in-is, cleaning_in-is}
-use Rattle.hl_model.proofs.PageFacts.{PagesKept, pages_kept}
-use Rattle.hl_model.proofs.OrderLaws.{offsets_are_in_order}
-use Rattle.hl_model.proofs.FrameFacts.{sealed_entered}
+use Rattle.hl_laws.proofs.AppendLaws.{find-same}
+use Rattle.hl_laws.proofs.CutRows.{flushed_in-is, freed_in-is, in_flight_in-is, cleaning_in-is}
+use Rattle.hl_laws.proofs.PageFacts.{PagesKept, pages_kept}
+use Rattle.hl_laws.proofs.OrderLaws.{offsets_are_in_order}
+use Rattle.hl_laws.proofs.FrameFacts.{sealed_entered}
 use Rattle.hl_frames.specs.Pages.{is_unflushed, is_uncleaned, is_flushed as FLUSHED, is_in_flight as IN_FLIGHT, is_freed as FREED, is_cleaning as CLEANING, may_enter as MAY_ENTER, next_to_flush as NEXT_TO_FLUSH, next_to_clean as NEXT_TO_CLEAN}
 use Rattle.hl_core.specs.Standing.{pages_of}
 use Rattle.hl_core.proofs.PageRows.{length-frames, left_or_marked-is, is_marked-is}

@@ -11,13 +11,13 @@ use Rattle.hl_model.specs.Settled.{safe_read_only, closed}
 use Rattle.hl_model.specs.Pages.{flushing, cleaning, marks, takes_to_flush, flush_of, flushes, takes_to_clean, clean_of, frees, is_flushed, is_in_flight, is_freed, is_cleaning, next_to_flush, next_to_clean}
 use Rattle.hl_model.specs.Frames.{last_entered}
 use Rattle.hl_model.specs.Replies.{IsAccepted}
-use Rattle.hl_model.proofs.RowLaws.{rows_same, rows_set}
-use Rattle.hl_model.proofs.OffsetLaws.{tail-push}
-use Rattle.hl_model.proofs.WorkLaws.{is_flushed-push, is_freed-push, is_in_flight-take, is_in_flight-done, is_in_flight-stay, is_cleaning-take, is_cleaning-done, is_cleaning-stay, next_page-parts, is_flushed-stay, is_freed-stay}
-use Rattle.hl_model.proofs.FrameLaws.{last_entered-some}
-use Rattle.hl_model.proofs.FrameFacts.{sealed_entered, unfreed_last}
-use Rattle.hl_model.proofs.PageFacts.{ends_below}
-use Rattle.hl_model.proofs.ViewLaws.{eqb-other}
+use Rattle.hl_laws.proofs.RowLaws.{rows_same, rows_set}
+use Rattle.hl_laws.proofs.OffsetLaws.{tail-push}
+use Rattle.hl_laws.proofs.WorkLaws.{is_flushed-push, is_freed-push, is_in_flight-take, is_in_flight-done, is_in_flight-stay, is_cleaning-take, is_cleaning-done, is_cleaning-stay, next_page-parts, is_flushed-stay, is_freed-stay}
+use Rattle.hl_laws.proofs.FrameLaws.{last_entered-some}
+use Rattle.hl_laws.proofs.FrameFacts.{sealed_entered, unfreed_last}
+use Rattle.hl_laws.proofs.PageFacts.{ends_below}
+use Rattle.hl_laws.proofs.ViewLaws.{eqb-other}
 use Rattle.hl_model.specs.declared.frame.Held.{Held}
 use Rattle.hl_frames.specs.Pages.{Pages, held_for}
 use Rattle.hl_frames.specs.Answers.{changed, entered, flush_begun, flush_ended, clean_begun, clean_ended}

@@ -13,7 +13,7 @@ use Rattle.hl_model.specs.Pages.{is_flushed, is_freed, flushed_run, flushed}
 use Rattle.hl_model.specs.Frames.{last_entered, state_of_page, frame_of}
 use Rattle.hl_model.specs.Snapshots.{six, AreInOrder}
 use Rattle.hl_model.specs.Replies.{IsAccepted}
-use Rattle.hl_model.proofs.RunLaws.{flushed_run-passes, flushed_run-fails}
+use Rattle.hl_laws.proofs.RunLaws.{flushed_run-passes, flushed_run-fails}
 use Rattle.hl_frames.specs.Pages.{flushed_offset, is_flushed as FLUSHED, flushed_run as FLUSHED_RUN}
 use Rattle.hl_frames.specs.Answers.{state_in, state_of}
 use Rattle.hl_model.proofs.SearchLaws.{prefix_len-first}

@@ -7,7 +7,7 @@ use Rattle.hl_model.specs.declared.frame.Held.{Held}
 use Rattle.hl_model.specs.declared.step.Step.{Step}
 use Rattle.hl_model.specs.Sizes.{Sizes}
 use Rattle.hl_model.specs.Bases.{base_of, held_of, completed_in, marked_in, held_in}
-use Rattle.hl_model.proofs.RowLaws.{row_at}
+use Rattle.hl_laws.proofs.RowLaws.{row_at}
 use Rattle.hl_frames.specs.Pages.{held_for, left_or_marked, is_marked}
 use Rattle.hl_core.specs.Standing.{pages_of}
 

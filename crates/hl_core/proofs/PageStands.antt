@@ -11,8 +11,8 @@ use Rattle.hl_model.specs.Actions.{is_take, finishes, action_of}
 use Rattle.hl_model.specs.Views.{allocates, looked_read_only, looked_head}
 use Rattle.hl_model.specs.Pages.{is_in_flight, is_cleaning, next_to_flush, next_to_clean, flushed}
 use Rattle.hl_model.specs.Replies.{fault_of, unless_page}
-use Rattle.hl_model.proofs.AcceptedLaws.{IsAccepted-push}
-use Rattle.hl_model.proofs.ViewLaws.{slot_views-stay}
+use Rattle.hl_laws.proofs.AcceptedLaws.{IsAccepted-push}
+use Rattle.hl_laws.proofs.ViewLaws.{slot_views-stay}
 use Rattle.hl_frames.specs.Pages.{Pages, flushed_offset, is_in_flight as IN_FLIGHT, is_cleaning as CLEANING, next_to_flush as NEXT_TO_FLUSH, next_to_clean as NEXT_TO_CLEAN}
 use Rattle.hl_frames.specs.Answers.{page_or, after_take, flush_begun, flush_ended, flush_done_answer, after_flush_done, clean_begun, clean_ended, clean_done_answer, after_clean_done}
 use Rattle.hl_core.specs.Standing.{State, Stands, pages_of}

@@ -8,8 +8,8 @@ use Rattle.hl_model.specs.Offsets.{raised_to, shifted_to, tail_past, tail}
 use Rattle.hl_model.specs.Settled.{safe_read_only, closed, settles, closes}
 use Rattle.hl_model.specs.Pages.{takes_to_flush, flush_of, flushes, takes_to_clean, clean_of, frees}
 use Rattle.hl_model.specs.Replies.{IsAccepted}
-use Rattle.hl_model.proofs.OffsetLaws.{read_only-stay, head-stay, tail-push}
-use Rattle.hl_model.proofs.SettledLaws.{done_greatest-quiet}
+use Rattle.hl_laws.proofs.OffsetLaws.{read_only-stay, head-stay, tail-push}
+use Rattle.hl_laws.proofs.SettledLaws.{done_greatest-quiet}
 use Rattle.hl_core.specs.Standing.{log_of, pages_of}
 use Rattle.hl_core.proofs.PageMoves.{pages_of-quiet}
 

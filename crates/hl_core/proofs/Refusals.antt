@@ -3,7 +3,7 @@ use Rattle.std.proofs.Common.{◌≡◌, Bool, true, false, cond, refl, ap, ◌�
 use Rattle.std.specs.Prelude.{Option, Some, None, Ok, Err}
 use Rattle.hl_model.specs.declared.fault.Fault.{Fault}
 use Rattle.hl_model.specs.Replies.{unless_fault, unless_refused}
-use Rattle.hl_model.proofs.NoFaultLaws.{unless_err, unless_ok}
+use Rattle.hl_laws.proofs.NoFaultLaws.{unless_err, unless_ok}
 
 -- a call with a fault leaves the old value
 pub call_refuses : {X Y : Type 0} (o : Option Fault) (f : Fault) (x : X) (old good new : Y) → Err f ≡ unless_fault o x → new ≡ unless_refused o old good → (o ≡ Some f) × (new ≡ old)

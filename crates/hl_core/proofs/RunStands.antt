@@ -9,8 +9,8 @@ use Rattle.hl_model.specs.Sizes.{Sizes}
 use Rattle.hl_model.specs.Lists.{gather, gather_after}
 use Rattle.hl_model.specs.Headline.{Headline}
 use Rattle.hl_model.specs.Replies.{good, extended, reply_of, replies_after}
-use Rattle.hl_model.proofs.AcceptedLaws.{good-push, IsAccepted-good}
-use Rattle.hl_model.proofs.HeadlineLaws.{headline}
+use Rattle.hl_laws.proofs.AcceptedLaws.{good-push, IsAccepted-good}
+use Rattle.hl_laws.proofs.HeadlineLaws.{headline}
 use Rattle.hl_model.proofs.ListLaws.{gather-push}
 use Rattle.hl_core.specs.Standing.{State, Stands}
 use Rattle.hl_core.specs.Steps.{Stepped, Made}

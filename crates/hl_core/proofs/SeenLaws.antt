@@ -9,10 +9,10 @@ use Rattle.hl_model.specs.Epochs.{is_protected, slot_epoch}
 use Rattle.hl_model.specs.Settled.{safe_read_only, closed}
 use Rattle.hl_model.specs.Views.{seen_read_only, seen_head, view_of, slot_view, slot_views}
 use Rattle.hl_model.specs.Replies.{acquire_fault, protected_fault, unless_fault}
-use Rattle.hl_model.proofs.BoundLaws.{views_are_bounded}
-use Rattle.hl_model.proofs.DrainLaws.{protected-slot}
-use Rattle.hl_model.proofs.EpochLaws.{is_protected-slot_epoch}
-use Rattle.hl_model.proofs.ViewLaws.{slot_view-unprotected, slot_views-at, length-slot_views, is_protected-slot_view, view_of-slot_view}
+use Rattle.hl_laws.proofs.BoundLaws.{views_are_bounded}
+use Rattle.hl_laws.proofs.DrainLaws.{protected-slot}
+use Rattle.hl_laws.proofs.EpochLaws.{is_protected-slot_epoch}
+use Rattle.hl_laws.proofs.ViewLaws.{slot_view-unprotected, slot_views-at, length-slot_views, is_protected-slot_view, view_of-slot_view}
 use Rattle.hl_offsets.specs.Log.{Log}
 use Rattle.hl_core.specs.Standing.{State, Stands, IsStanding}
 

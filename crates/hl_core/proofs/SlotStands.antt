@@ -2,7 +2,7 @@
 use Rattle.std.proofs.Common.{◌≡◌, ℕ, ◌<◌, true, false, leb, List, [], ◌∷◌, ◌++◌, length, set, refl, sym, ap, ap₂, ◌∙◌, arith, eq-eqb}
 use Rattle.std.specs.Prelude.{Option, Some, None, Result, Ok, Err}
 use Rattle.std.proofs.lemmas.Bool.{leb-false}
-use Rattle.hl_model.proofs.DrainLaws.{two_faults}
+use Rattle.hl_laws.proofs.DrainLaws.{two_faults}
 use Rattle.hl_model.specs.declared.fault.Fault.{Fault}
 use Rattle.hl_model.specs.declared.fault.Fault.TheVariants.{NoSlot, Occupied}
 use Rattle.hl_model.specs.declared.step.Reply.{Reply}
@@ -14,9 +14,9 @@ use Rattle.hl_model.specs.Sizes.{Sizes}
 use Rattle.hl_model.specs.Epochs.{Table, table_of, is_bump, enters, current_epoch, slot_epochs, is_protected, epoch_of}
 use Rattle.hl_model.specs.Views.{view_of, slot_views}
 use Rattle.hl_model.specs.Replies.{fault_of, acquire_fault, protected_fault, answer_of, unless_fault, unless_refused}
-use Rattle.hl_model.proofs.EpochLaws.{slot_epoch-enters, slot_epochs-acquire, slot_epochs-refresh, slot_epochs-release, epoch_of-slot_epoch}
-use Rattle.hl_model.proofs.NoFaultLaws.{protected-none, unless_ok}
-use Rattle.hl_model.proofs.ViewLaws.{slot_view-enters, slot_views-acquire, slot_views-refresh, slot_views-release, length-slot_views, view_of-slot_view}
+use Rattle.hl_laws.proofs.EpochLaws.{slot_epoch-enters, slot_epochs-acquire, slot_epochs-refresh, slot_epochs-release, epoch_of-slot_epoch}
+use Rattle.hl_laws.proofs.NoFaultLaws.{protected-none, unless_ok}
+use Rattle.hl_laws.proofs.ViewLaws.{slot_view-enters, slot_views-acquire, slot_views-refresh, slot_views-release, length-slot_views, view_of-slot_view}
 use Rattle.hl_epoch.specs.Faults.{acquire_fault as free_row_fault, protected_fault as row_fault}
 use Rattle.hl_epoch.specs.Table.{entered, left}
 use Rattle.hl_offsets.specs.Log.{Log}
@@ -26,7 +26,7 @@ use Rattle.hl_core.proofs.TableLaws.{table_set, acquire_fault-table, protected_f
 use Rattle.hl_core.proofs.QuietLaws.{OffsetsStay, PagesStay, log-stays, pages-stay}
 use Rattle.hl_core.proofs.Refusals.{call_accepts}
 use Rattle.hl_core.proofs.StandLaws.{DrainStays, table_refused, accepted_step, quiet_drain}
-use Rattle.hl_model.proofs.LawProofs.{current-stay}
+use Rattle.hl_laws.proofs.LawProofs.{current-stay}
 
 -- the view of whoever enters now
 abbrev pub seen_now : Log → View

@@ -10,8 +10,8 @@ use Rattle.hl_model.specs.Sizes.{Sizes}
 use Rattle.hl_model.specs.Epochs.{current_epoch, slot_epoch, slot_epochs, safe_among, safe_epoch}
 use Rattle.hl_model.specs.Views.{slot_view, slot_views}
 use Rattle.hl_model.specs.Snapshots.{six, snapshot_of}
-use Rattle.hl_model.proofs.EpochLaws.{is_protected-slot_epoch}
-use Rattle.hl_model.proofs.ViewLaws.{is_protected-slot_view}
+use Rattle.hl_laws.proofs.EpochLaws.{is_protected-slot_epoch}
+use Rattle.hl_laws.proofs.ViewLaws.{is_protected-slot_view}
 use Rattle.hl_epoch.specs.Table.{safe_of}
 use Rattle.hl_drain.specs.Actions.{waiting_of}
 use Rattle.hl_core.specs.Standing.{State, Stands}

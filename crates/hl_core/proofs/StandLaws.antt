@@ -9,9 +9,9 @@ use Rattle.hl_model.specs.Epochs.{Table, table_of}
 use Rattle.hl_model.specs.Actions.{is_take, finishes, action_of, pending}
 use Rattle.hl_model.specs.Views.{slot_views}
 use Rattle.hl_model.specs.Replies.{fault_of, answer_of, unless_fault, unless_refused}
-use Rattle.hl_model.proofs.AcceptedLaws.{IsAccepted-push}
-use Rattle.hl_model.proofs.ActionLaws.{pending-stores, taken-stores}
-use Rattle.hl_model.proofs.DrainLaws.{takes-le-actions}
+use Rattle.hl_laws.proofs.AcceptedLaws.{IsAccepted-push}
+use Rattle.hl_laws.proofs.ActionLaws.{pending-stores, taken-stores}
+use Rattle.hl_laws.proofs.DrainLaws.{takes-le-actions}
 use Rattle.hl_offsets.specs.Log.{Log}
 use Rattle.hl_frames.specs.Pages.{Pages}
 use Rattle.hl_core.specs.Standing.{State, Stands, log_of, pages_of}

@@ -7,13 +7,13 @@ use Rattle.hl_model.specs.Sizes.{Sizes, AreInRange}
 use Rattle.hl_model.specs.Epochs.{epoch_window, Table, slot_epochs, slot_epoch}
 use Rattle.hl_model.specs.Settled.{safe_read_only, closed, settles, closes}
 use Rattle.hl_model.specs.Views.{slot_view, slot_views}
-use Rattle.hl_model.proofs.AcceptedLaws.{good-nil}
-use Rattle.hl_model.proofs.BaseStart.{row_same, held_of-nil}
-use Rattle.hl_model.proofs.EpochLaws.{current_epoch-nil, slot_epoch-nil, is_protected-slot_epoch}
-use Rattle.hl_model.proofs.OffsetLaws.{read_only-nil, head-nil, tail-nil}
-use Rattle.hl_model.proofs.SettledLaws.{done_greatest-nil}
-use Rattle.hl_model.proofs.ViewLaws.{slot_view-unprotected}
-use Rattle.hl_model.proofs.ActionLaws.{pending-nil, taken-nil}
+use Rattle.hl_laws.proofs.AcceptedLaws.{good-nil}
+use Rattle.hl_laws.proofs.BaseStart.{row_same, held_of-nil}
+use Rattle.hl_laws.proofs.EpochLaws.{current_epoch-nil, slot_epoch-nil, is_protected-slot_epoch}
+use Rattle.hl_laws.proofs.OffsetLaws.{read_only-nil, head-nil, tail-nil}
+use Rattle.hl_laws.proofs.SettledLaws.{done_greatest-nil}
+use Rattle.hl_laws.proofs.ViewLaws.{slot_view-unprotected}
+use Rattle.hl_laws.proofs.ActionLaws.{pending-nil, taken-nil}
 use Rattle.hl_epoch.specs.Table.{opened}
 use Rattle.hl_drain.specs.Actions.{waiting_of}
 use Rattle.hl_drain.specs.Lists.{Lists, IsDrain}

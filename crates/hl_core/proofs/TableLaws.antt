@@ -7,9 +7,9 @@ use Rattle.hl_model.specs.declared.step.Step.{Step}
 use Rattle.hl_model.specs.Sizes.{Sizes}
 use Rattle.hl_model.specs.Epochs.{epoch_window, Table, table_of, is_bump, enters, leaves, current_epoch, slot_epochs, is_protected}
 use Rattle.hl_model.specs.Replies.{acquire_fault, protected_fault}
-use Rattle.hl_model.proofs.EpochLaws.{slot_epochs-stay, length-slot_epochs, slot_epochs-at, is_protected-slot_epoch}
+use Rattle.hl_laws.proofs.EpochLaws.{slot_epochs-stay, length-slot_epochs, slot_epochs-at, is_protected-slot_epoch}
 use Rattle.hl_epoch.specs.Faults.{acquire_fault as free_row_fault, protected_fault as row_fault}
-use Rattle.hl_model.proofs.LawProofs.{current-stay}
+use Rattle.hl_laws.proofs.LawProofs.{current-stay}
 
 abbrev pub make : ℕ → List (Option ℕ) → Table
 make current epochs = record { current = current; epochs = epochs; window = epoch_window }

@@ -11,10 +11,10 @@ use Rattle.hl_model.specs.declared.step.Step.TheVariants.{Take}
 use Rattle.hl_model.specs.Epochs.{safe_epoch}
 use Rattle.hl_model.specs.Actions.{pending, front}
 use Rattle.hl_model.specs.Replies.{take_fault, unless_fault}
-use Rattle.hl_model.proofs.AcceptedLaws.{IsAccepted-push}
-use Rattle.hl_model.proofs.ActionLaws.{pending-take, ticket-front}
-use Rattle.hl_model.proofs.DrainLaws.{taken-next}
-use Rattle.hl_model.proofs.ViewLaws.{slot_views-stay}
+use Rattle.hl_laws.proofs.AcceptedLaws.{IsAccepted-push}
+use Rattle.hl_laws.proofs.ActionLaws.{pending-take, ticket-front}
+use Rattle.hl_laws.proofs.DrainLaws.{taken-next}
+use Rattle.hl_laws.proofs.ViewLaws.{slot_views-stay}
 use Rattle.hl_epoch.specs.Table.{safe_of}
 use Rattle.hl_drain.specs.declared.action.Action.{Action}
 use Rattle.hl_drain.specs.Actions.{waiting_of}

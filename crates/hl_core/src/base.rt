@@ -7,7 +7,8 @@ ghost use Rattle.hl_core.specs.Standing.{Stands};
 use crate::state::Core;
 use arrayvec::ArrayVec;
 use hl_epoch::Epochs;
-use hl_model::{Base, Held, Quantities, Slot, Tagged};
+use hl_laws::{Base, Quantities};
+use hl_model::{Held, Slot, Tagged};
 
 impl<E: Epochs, J: Tagged> Core<E, J> {
     /// Puts the quantities in place of those of a base of the same sizes. It takes no memory.

@@ -28,7 +28,7 @@
 //!
 //! # A core's base
 //!
-//! [`Core::base_into`] writes the quantities into a [`Base`](hl_model::Base): what is left of a list of steps when it
+//! [`Core::base_into`] writes the quantities into a [`Base`](hl_laws::Base): what is left of a list of steps when it
 //! is cut, without jobs. What a slot saw, a ticket that waits or is taken, a page's marks: each has its row there, and
 //! the base is the one that hl_model defines for the list at which the core stands. So later steps may be judged from
 //! the base, and the steps up to it need not be kept. The rows are built on the stack, and the base keeps its own.
@@ -60,8 +60,6 @@ mod state;
 pub use hl_action::Firing;
 pub use hl_drain::{Action, Ask, Drain};
 pub use hl_epoch::{Epochs, ScanTable};
-pub use hl_model::{
-    Base, Fault, FrameState, Kind, Params, Reply, Six, Slot, Snapshot, Step, Tag, Tagged, View,
-    Waiting,
-};
+pub use hl_laws::Base;
+pub use hl_model::{Fault, FrameState, Kind, Params, Reply, Six, Slot, Snapshot, Step, Tag, Tagged, View, Waiting};
 pub use state::Core;

@@ -11,7 +11,7 @@ use Rattle.hl_model.specs.declared.view.View.{View}
 use Rattle.hl_model.specs.Epochs.{is_protected, epoch_of}
 use Rattle.hl_model.specs.Views.{view_of}
 use Rattle.hl_model.specs.Replies.{fault_of, unless_fault}
-use Rattle.hl_model.proofs.DrainLaws.{two_faults}
+use Rattle.hl_laws.proofs.DrainLaws.{two_faults}
 use Rattle.hl_action.specs.Jobs.{KeptRecord}
 use Rattle.hl_words.specs.declared.view.OffsetWords.{OffsetWords}
 use Rattle.hl_words.specs.States.{RiderState}

@@ -8,8 +8,8 @@ use Rattle.hl_model.specs.declared.step.Reply.{Reply}
 use Rattle.hl_model.specs.declared.step.Step.{Step}
 use Rattle.hl_model.specs.Sizes.{Sizes}
 use Rattle.hl_model.specs.Replies.{fault_of, answer_of, IsAccepted}
-use Rattle.hl_model.proofs.AcceptedLaws.{IsAccepted-parts, IsAccepted-front, extended-none}
-use Rattle.hl_model.proofs.NoFaultLaws.{unless_err, unless_ok}
+use Rattle.hl_laws.proofs.AcceptedLaws.{IsAccepted-parts, IsAccepted-front, extended-none}
+use Rattle.hl_laws.proofs.NoFaultLaws.{unless_err, unless_ok}
 use Rattle.hl_core.specs.Standing.{State, Stands}
 use Rattle.hl_core.specs.Steps.{Stepped, Made}
 use Rattle.hl_domain.specs.Entering.{MayEnter}

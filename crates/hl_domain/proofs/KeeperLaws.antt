@@ -9,8 +9,8 @@ use Rattle.hl_model.specs.Bases.{Base, base_of}
 use Rattle.hl_model.specs.Sizes.{Sizes}
 use Rattle.hl_model.specs.Offsets.{read_only, head}
 use Rattle.hl_model.specs.Replies.{unless_fault}
-use Rattle.hl_model.proofs.NoFaultLaws.{later_fault}
-use Rattle.hl_model.proofs.OffsetLaws.{read_only-nil, head-nil}
+use Rattle.hl_laws.proofs.NoFaultLaws.{later_fault}
+use Rattle.hl_laws.proofs.OffsetLaws.{read_only-nil, head-nil}
 use Rattle.hl_action.specs.Jobs.{KeptRecord}
 use Rattle.hl_words.specs.declared.view.OffsetWords.{OffsetWords}
 use Rattle.hl_words.specs.States.{MasterState}

@@ -8,7 +8,7 @@ use Rattle.hl_model.specs.declared.step.Step.TheVariants.{Look, Write}
 use Rattle.hl_model.specs.declared.view.View.{View}
 use Rattle.hl_model.specs.Sizes.{Sizes}
 use Rattle.hl_model.specs.Replies.{or_fault, unless_fault, unless_refused}
-use Rattle.hl_model.proofs.NoFaultLaws.{or_fault-none, later_fault}
+use Rattle.hl_laws.proofs.NoFaultLaws.{or_fault-none, later_fault}
 use Rattle.hl_words.specs.declared.which.Which.TheVariants.{ReadOnly, Head}
 use Rattle.hl_words.specs.declared.view.RiderView.{RiderView}
 use Rattle.hl_words.specs.States.{RiderState}

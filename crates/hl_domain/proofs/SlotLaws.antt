@@ -13,9 +13,9 @@ use Rattle.hl_model.specs.Sizes.{Sizes}
 use Rattle.hl_model.specs.Offsets.{read_only, head, tail, place_of}
 use Rattle.hl_model.specs.Views.{slot_view, view_of}
 use Rattle.hl_model.specs.Replies.{or_fault, fault_of, answer_of, unless_fault}
-use Rattle.hl_model.proofs.NoFaultLaws.{unless_err, unless_ok, or_fault-none, allocate-none, size-none}
-use Rattle.hl_model.proofs.OffsetLaws.{place_of-le, place_of-one_page}
-use Rattle.hl_model.proofs.ViewLaws.{slot_view-enters, view_of-slot_view}
+use Rattle.hl_laws.proofs.NoFaultLaws.{unless_err, unless_ok, or_fault-none, allocate-none, size-none}
+use Rattle.hl_laws.proofs.OffsetLaws.{place_of-le, place_of-one_page}
+use Rattle.hl_laws.proofs.ViewLaws.{slot_view-enters, view_of-slot_view}
 use Rattle.hl_domain.specs.Touches.{AreTouches}
 use Rattle.hl_domain.specs.Passes.{PassRecord, seen, entered_by, rested}
 use Rattle.hl_domain.specs.Keepers.{KeeperState, KeeperStands}

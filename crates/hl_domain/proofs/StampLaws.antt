@@ -10,7 +10,7 @@ use Rattle.hl_model.specs.declared.step.Step.TheVariants.{Acquire, Refresh, Rele
 use Rattle.hl_model.specs.declared.view.View.{View}
 use Rattle.hl_model.specs.Lists.{until_last}
 use Rattle.hl_model.proofs.ListLaws.{until_last-push, until_last-le, count_by-push, list_any-push}
-use Rattle.hl_model.proofs.RowLaws.{rows_same, rows_set}
+use Rattle.hl_laws.proofs.RowLaws.{rows_same, rows_set}
 use Rattle.hl_domain.specs.Touches.{IsTouch, AreTouches, view_past, is_call}
 use Rattle.hl_domain.specs.Stamps.{is_acquire, acquires, acquires_in, acquires_until, slot_stamp, slot_stamps}
 

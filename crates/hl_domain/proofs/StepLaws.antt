@@ -7,8 +7,8 @@ use Rattle.hl_model.specs.declared.step.Step.{Step}
 use Rattle.hl_model.specs.declared.step.Step.TheVariants.{Raise, Shift}
 use Rattle.hl_model.specs.Offsets.{raised_to, shifted_to, read_only, head}
 use Rattle.hl_model.specs.Replies.{or_fault, fault_of, answer_of, unless_fault}
-use Rattle.hl_model.proofs.NoFaultLaws.{unless_err, unless_ok}
-use Rattle.hl_model.proofs.OffsetLaws.{read_only-stay, head-stay, read_only-raise, head-shift}
+use Rattle.hl_laws.proofs.NoFaultLaws.{unless_err, unless_ok}
+use Rattle.hl_laws.proofs.OffsetLaws.{read_only-stay, head-stay, read_only-raise, head-shift}
 use Rattle.hl_action.specs.Jobs.{KeptRecord}
 use Rattle.hl_words.specs.declared.view.OffsetWords.{OffsetWords}
 use Rattle.hl_words.specs.declared.which.Which.TheVariants.{ReadOnly, Head}

@@ -15,13 +15,13 @@ use Rattle.hl_model.specs.Offsets.{raised_to, shifted_to, read_only, head, place
 use Rattle.hl_model.specs.Pages.{is_freed, frees}
 use Rattle.hl_model.specs.Views.{allocates, seen_read_only, seen_head, seen_tail, view_of, slot_view}
 use Rattle.hl_model.specs.Replies.{protected_fault, size_fault, allocate_fault, or_fault, look_fault, write_fault, beyond_fault, fault_of, IsAccepted}
-use Rattle.hl_model.proofs.AcceptedLaws.{IsAccepted-push}
-use Rattle.hl_model.proofs.BoundLaws.{tail-append}
-use Rattle.hl_model.proofs.DrainLaws.{protected-slot}
-use Rattle.hl_model.proofs.LawProofs.{slot_epoch-protected}
-use Rattle.hl_model.proofs.OffsetLaws.{read_only-stay, head-stay, tail-push}
-use Rattle.hl_model.proofs.ViewLaws.{is_protected-push, seen_read_only-push, seen_head-push, seen_tail-stay, slot_view-moves, slot_view-stay, is_protected-slot_view, view_of-slot_view}
-use Rattle.hl_model.proofs.WorkLaws.{is_freed-stay}
+use Rattle.hl_laws.proofs.AcceptedLaws.{IsAccepted-push}
+use Rattle.hl_laws.proofs.BoundLaws.{tail-append}
+use Rattle.hl_laws.proofs.DrainLaws.{protected-slot}
+use Rattle.hl_laws.proofs.LawProofs.{slot_epoch-protected}
+use Rattle.hl_laws.proofs.OffsetLaws.{read_only-stay, head-stay, tail-push}
+use Rattle.hl_laws.proofs.ViewLaws.{is_protected-push, seen_read_only-push, seen_head-push, seen_tail-stay, slot_view-moves, slot_view-stay, is_protected-slot_view, view_of-slot_view}
+use Rattle.hl_laws.proofs.WorkLaws.{is_freed-stay}
 use Rattle.hl_core.specs.Steps.{is_acted}
 use Rattle.hl_domain.specs.Touches.{view_past, view_after, IsTouch, AreTouches, is_call}
 

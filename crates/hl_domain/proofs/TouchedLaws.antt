@@ -10,9 +10,9 @@ use Rattle.hl_model.specs.declared.view.View.{View}
 use Rattle.hl_model.specs.Offsets.{raised_to, shifted_to, read_only, head}
 use Rattle.hl_model.specs.Views.{slot_view, slot_views}
 use Rattle.hl_model.specs.Replies.{or_fault, fault_of, answer_of, unless_fault}
-use Rattle.hl_model.proofs.NoFaultLaws.{unless_err, unless_ok}
-use Rattle.hl_model.proofs.OffsetLaws.{read_only-stay, head-stay}
-use Rattle.hl_model.proofs.ViewLaws.{slot_views-at}
+use Rattle.hl_laws.proofs.NoFaultLaws.{unless_err, unless_ok}
+use Rattle.hl_laws.proofs.OffsetLaws.{read_only-stay, head-stay}
+use Rattle.hl_laws.proofs.ViewLaws.{slot_views-at}
 use Rattle.hl_action.specs.Jobs.{KeptRecord}
 use Rattle.hl_words.specs.States.{MasterState}
 use Rattle.hl_words.specs.Views.{newest}

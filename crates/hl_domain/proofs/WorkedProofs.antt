@@ -1,9 +1,9 @@
 -- The worked example, computed.
 use Rattle.std.proofs.Common.{◌≡◌, ℕ, ◌≤◌, Bool, true, false, refl, ap, ◌∙◌}
 use Rattle.std.specs.Prelude.{◌==◌, ◌&&◌, slice_index_or}
-use Rattle.hl_model.proofs.OnLiterals.{on_literals}
+use Rattle.hl_laws.proofs.OnLiterals.{on_literals}
 use Rattle.hl_model.specs.Views.{slot_view}
-use Rattle.hl_model.proofs.RowLaws.{row_at}
+use Rattle.hl_laws.proofs.RowLaws.{row_at}
 use Rattle.hl_domain.specs.Stamps.{acquires_in, acquires_until, slot_stamp, slot_stamps}
 use Rattle.hl_domain.specs.Passes.{PassRecord}
 use Rattle.hl_domain.specs.Keepers.{KeeperState, KeeperStands}

@@ -1,6 +1,7 @@
 use hl_action::{Kept, Promise, Task};
 use hl_drain::Drain;
-use hl_model::{Base, Snapshot, Step};
+use hl_laws::Base;
+use hl_model::{Snapshot, Step};
 use std::marker::Model;
 
 /// What is left of a domain at its end.

@@ -11,8 +11,8 @@ use Rattle.hl_model.specs.Sizes.{AreInRange}
 use Rattle.hl_model.specs.Pages.{is_in_flight, next_to_flush}
 use Rattle.hl_model.specs.Words.{page_words}
 use Rattle.hl_model.specs.Replies.{unless_page, unless_fault, fault_of, reply_of, IsAccepted}
-use Rattle.hl_model.proofs.AcceptedLaws.{extended-none}
-use Rattle.hl_model.proofs.FrameFacts.{in_flight_last, in_flight_unfreed}
+use Rattle.hl_laws.proofs.AcceptedLaws.{extended-none}
+use Rattle.hl_laws.proofs.FrameFacts.{in_flight_last, in_flight_unfreed}
 use Rattle.hl_action.specs.Firings.{FiringRecord}
 use Rattle.hl_image.specs.Image.{image}
 use Rattle.hl_cells.specs.Engines.{Whole, EngineStands, Shows}

@@ -11,10 +11,10 @@ use Rattle.hl_model.specs.Settled.{safe_read_only, settles, pages_below}
 use Rattle.hl_model.specs.Pages.{flushing, marks, is_flushed, is_in_flight, next_to_flush, flushes}
 use Rattle.hl_model.specs.Words.{page_words}
 use Rattle.hl_model.specs.Replies.{unless_page, unless_fault, fault_of, reply_of, IsAccepted}
-use Rattle.hl_model.proofs.AcceptedLaws.{IsAccepted-push}
-use Rattle.hl_model.proofs.SettledLaws.{done_greatest-quiet}
-use Rattle.hl_model.proofs.WordLaws.{page_words-stay}
-use Rattle.hl_model.proofs.WorkLaws.{is_in_flight-take, is_in_flight-done, next_page-parts, next_page-least, next_page-is, is_flushed-stay}
+use Rattle.hl_laws.proofs.AcceptedLaws.{IsAccepted-push}
+use Rattle.hl_laws.proofs.SettledLaws.{done_greatest-quiet}
+use Rattle.hl_laws.proofs.WordLaws.{page_words-stay}
+use Rattle.hl_laws.proofs.WorkLaws.{is_in_flight-take, is_in_flight-done, next_page-parts, next_page-least, next_page-is, is_flushed-stay}
 
 -- a take that is answered with some page names it
 named : (n : Option ℕ) (page : ℕ) → unless_fault (unless_page NoneSealed n) (Page (unwrap_or n 0)) ≡ Ok (Page page) → n ≡ Some page

@@ -10,7 +10,7 @@ use Rattle.hl_model.specs.declared.step.Step.TheVariants.{Raise, Settle, Shift, 
 use Rattle.hl_model.specs.declared.view.Six.{Six}
 use Rattle.hl_model.specs.Replies.{raise_fault}
 use Rattle.hl_model.proofs.ListLaws.{max-has}
-use Rattle.hl_model.proofs.NoFaultLaws.{shift_lawful}
+use Rattle.hl_laws.proofs.NoFaultLaws.{shift_lawful}
 use Rattle.hl_model.specs.Snapshots.{AreInOrder}
 use Rattle.hl_flush.specs.Lag.{pages_up_to, read_only_at, head_at, step_if, lag_of, fault_at}
 

@@ -5,16 +5,11 @@ pub mod AfterOffsets
 pub mod AfterPages
 pub mod AfterReplies
 pub mod AfterViews
-pub mod BaseLaws
-pub mod BaseRows
 pub mod Bases
 pub mod Epochs
 pub mod Faults
-pub mod Follows
 pub mod Frames
 pub mod Headline
-pub mod Laws
-pub mod Lent
 pub mod Lists
 pub mod Offsets
 pub mod Pages
@@ -25,7 +20,3 @@ pub mod Sizes
 pub mod Snapshots
 pub mod Views
 pub mod Words
-pub mod Worked
-pub mod WorkedBases
-pub mod WorkedBorders
-pub mod WorkedPages

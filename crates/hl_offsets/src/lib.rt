@@ -27,7 +27,7 @@
 //!   that one. A multiple of P.
 //!
 //! Who has seen what, and so that nobody writes or reads below one of these, this crate doesn't know: it is what its
-//! callers settle and close, and of a core the law `hl_model::laws::headline`.
+//! callers settle and close, and of a core the law `hl_laws::laws::headline`.
 //!
 //! These are FASTER's offsets (Chandramouli, Prasaad, Kossmann, Levandoski, Hunter, Barnett, SIGMOD 2018, the
 //! section on the HybridLog), but for the closed one.

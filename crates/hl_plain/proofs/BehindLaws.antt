@@ -7,7 +7,7 @@ use Rattle.hl_model.specs.declared.step.Step.{Step}
 use Rattle.hl_model.specs.Replies.{fault_of, answer_of, reply_of, unless_fault}
 use Rattle.hl_model.specs.Bases.{Base, base_of}
 use Rattle.hl_model.specs.AfterReplies.{base_after, fault_after, answer_at, reply_after}
-use Rattle.hl_model.proofs.CutLaws.{cuts_anywhere}
+use Rattle.hl_laws.proofs.CutLaws.{cuts_anywhere}
 use Rattle.hl_plain.specs.Histories.{History, Follows, worded, answer_told, unless_met, answer_behind, Answers, AnswersBehind}
 use Rattle.std.specs.Prelude.{option_map, is_some}
 use Rattle.std.specs.List.{count_by, range_with_len}
@@ -20,7 +20,7 @@ use Rattle.hl_model.specs.Views.{view_of, slot_view}
 use Rattle.hl_model.specs.Frames.{last_entered, state_of_page, frame_of}
 use Rattle.hl_model.specs.Snapshots.{frame_states, snapshot_of}
 use Rattle.hl_model.specs.Bases.{slot_of, slot_in, marked, held_of, safe_in}
-use Rattle.hl_model.proofs.RowLaws.{row_at, rows_same}
+use Rattle.hl_laws.proofs.RowLaws.{row_at, rows_same}
 use Rattle.hl_plain.specs.Shown.{state_at, frame_at, snapshot_at}
 use Rattle.hl_plain.proofs.HistoryLaws.{present_is, fault_is, Follows-push}
 

@@ -13,10 +13,10 @@ use Rattle.hl_model.specs.Bases.{Base, IsBase, base_of}
 use Rattle.hl_model.specs.AfterPages.{Begun, next_page_after, marks_after_step, marks_after, flushing_after, cleaning_after}
 use Rattle.hl_model.specs.AfterReplies.{base_after, fault_after}
 use Rattle.hl_model.proofs.ListLaws.{by_pushing, unroll-push}
-use Rattle.hl_model.proofs.OrderLaws.{offsets_are_in_order}
-use Rattle.hl_model.proofs.AcceptedLaws.{good-nil, IsAccepted-push}
-use Rattle.hl_model.proofs.LawProofs.{beginnings_are_accepted, current_is_at_most_last, drain_list_holds_them}
-use Rattle.hl_model.proofs.CutLaws.{cuts_anywhere}
+use Rattle.hl_laws.proofs.OrderLaws.{offsets_are_in_order}
+use Rattle.hl_laws.proofs.AcceptedLaws.{good-nil, IsAccepted-push}
+use Rattle.hl_laws.proofs.LawProofs.{beginnings_are_accepted, current_is_at_most_last, drain_list_holds_them}
+use Rattle.hl_laws.proofs.CutLaws.{cuts_anywhere}
 use Rattle.hl_plain.specs.Bounds.{AreBounded}
 use Rattle.hl_plain.specs.Histories.{History, begun, Follows, IsHistory}
 use Rattle.hl_plain.specs.Kept.{AreKept}

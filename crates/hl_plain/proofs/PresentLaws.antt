@@ -9,7 +9,7 @@ use Rattle.hl_model.specs.Bases.{Base, slot_in}
 use Rattle.hl_model.specs.AfterViews.{slot_after}
 use Rattle.hl_model.specs.AfterPages.{held_after}
 use Rattle.hl_model.specs.AfterReplies.{base_after}
-use Rattle.hl_model.proofs.RowLaws.{row_at}
+use Rattle.hl_laws.proofs.RowLaws.{row_at}
 
 row_past : {X : Type 0} (f : ℕ → Option X) (n t : ℕ) → n ≤ t → get_or (map f (range_with_len 0 n)) t None ≡ None
 row_past f n t h = get_or_past (map f (range_with_len 0 n)) t None (omega (arith, h, length-map-range_with_len f 0 n))

@@ -7,7 +7,7 @@ use Rattle.hl_model.specs.Offsets.{tail_past}
 use Rattle.hl_model.specs.Bases.{Base}
 use Rattle.hl_model.specs.AfterOffsets.{tail_after}
 use Rattle.hl_model.proofs.ListLaws.{never_falls}
-use Rattle.hl_model.proofs.OffsetLaws.{place_of-le}
+use Rattle.hl_laws.proofs.OffsetLaws.{place_of-le}
 use Rattle.hl_plain.specs.Bounds.{TailFits}
 use Rattle.hl_plain.proofs.TurnLaws.{tail-next, tail-push}
 

@@ -9,7 +9,8 @@ ghost use Rattle.hl_model.specs.AfterActions.{stored_by, stored_after, waiting_a
 use crate::epochs::epoch;
 use crate::offsets::{head, read_only};
 use arrayvec::ArrayVec;
-use hl_model::{Base, Kind, Step, Waiting};
+use hl_laws::Base;
+use hl_model::{Kind, Step, Waiting};
 
 // Whether a step stores an action.
 fn stores(step: &Step) -> bool

@@ -5,7 +5,8 @@ ghost use Rattle.hl_model.specs.Epochs.{is_bump, enters, leaves, mark, is_protec
 ghost use Rattle.hl_model.specs.AfterEpochs.{epoch_after, has_moved};
 
 use crate::lists::until_last;
-use hl_model::{Base, Step};
+use hl_laws::Base;
+use hl_model::Step;
 
 // Whether a step raises the current epoch.
 fn is_bump(step: &Step) -> bool

@@ -7,7 +7,8 @@ ghost use Rattle.hl_model.specs.AfterPages.{flushed_run_after, flushed_after};
 ghost use Rattle.hl_plain.specs.Works.{run_end, runs_at};
 
 use crate::pages::Work;
-use hl_model::{Base, Step, TAIL_MOST};
+use hl_laws::Base;
+use hl_model::{Step, TAIL_MOST};
 
 // Whether a step flushes page p or one above it.
 fn flushes_from(p: u64, step: &Step) -> bool

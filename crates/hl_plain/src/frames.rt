@@ -7,7 +7,8 @@ ghost use Rattle.hl_plain.specs.Works.{as_mark};
 
 use crate::offsets::tail;
 use crate::pages::{Mark, Work};
-use hl_model::{Base, Held, Step};
+use hl_laws::Base;
+use hl_model::{Held, Step};
 
 // The greatest entered page of frame f, if there is one.
 fn last_entered(base: &Base, f: u64, steps: &[Step]) -> Option<u64>

@@ -5,7 +5,8 @@ ghost use Rattle.hl_plain.specs.Bounds.{TailFits};
 ghost use Rattle.hl_model.specs.Offsets.{raised_to, shifted_to, place_of, tail_past};
 ghost use Rattle.hl_model.specs.AfterOffsets.{read_only_after, head_after, tail_after};
 
-use hl_model::{Base, Params, Step};
+use hl_laws::Base;
+use hl_model::{Params, Step};
 
 // The address to which a step raises the read-only offset, or 0.
 fn raised_to(step: &Step) -> u64

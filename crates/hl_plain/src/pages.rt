@@ -9,7 +9,8 @@ ghost use Rattle.hl_plain.specs.Works.{takes_of, ends_of, completes_of, due_of, 
 
 use crate::lists::until_last;
 use crate::settled::{closed, safe_read_only};
-use hl_model::{Base, Held, Step};
+use hl_laws::Base;
+use hl_model::{Held, Step};
 
 /// A kind of work on pages.
 #[derive(Clone, Copy, Debug, PartialEq, Eq)]

@@ -17,7 +17,8 @@ use crate::present::Present;
 use crate::words::word;
 use crate::{faults, replies, snapshots};
 use arrayvec::ArrayVec;
-use hl_model::{Base, Fault, FrameState, Params, Reply, Snapshot, Step, View, Waiting, with_room};
+use hl_laws::Base;
+use hl_model::{Fault, FrameState, Params, Reply, Snapshot, Step, View, Waiting, with_room};
 use std::alloc::Global;
 use std::marker::Model;
 

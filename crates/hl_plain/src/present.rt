@@ -8,7 +8,8 @@ ghost use Rattle.hl_plain.specs.Presents.{ArePresent};
 use crate::pages::Mark;
 use crate::{actions, epochs, flushed, frames, offsets, settled, views};
 use arrayvec::ArrayVec;
-use hl_model::{Base, Held, Params, Slot, Step, Waiting};
+use hl_laws::Base;
+use hl_model::{Held, Params, Slot, Step, Waiting};
 use std::marker::Model;
 
 /// A base and the steps since, with the marks of pages that these made.

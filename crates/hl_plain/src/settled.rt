@@ -6,7 +6,8 @@ ghost use Rattle.hl_model.specs.AfterActions.{done_greatest_after, safe_read_onl
 ghost use Rattle.hl_model.specs.declared.action.Kind.{Kind};
 
 use crate::actions::{ever_taken, ever_taken_at, is_finished};
-use hl_model::{Base, Kind, Step};
+use hl_laws::Base;
+use hl_model::{Kind, Step};
 
 // The read-only offset that a settle stored, or 0.
 fn settles(kind: Kind) -> u64

@@ -11,7 +11,8 @@ ghost use Rattle.hl_model.specs.AfterViews.{present_after, own_tail, seen_since,
 use crate::epochs::{epoch, has_moved, is_protected, mark};
 use crate::lists::until_last;
 use crate::offsets::{head, read_only, tail};
-use hl_model::{Base, Slot, Step, View};
+use hl_laws::Base;
+use hl_model::{Slot, Step, View};
 
 // Whether a step is an allocation of slot t.
 fn allocates(t: u64, step: &Step) -> bool

@@ -4,7 +4,8 @@ ghost use Rattle.std.specs.Prelude.{◌<◌};
 
 use hl_core::Core;
 use hl_counts::CountTable;
-use hl_model::{Base, Fault, Params, Snapshot, Step, Tag};
+use hl_laws::Base;
+use hl_model::{Fault, Params, Snapshot, Step, Tag};
 use hl_plain::Plain;
 use std::alloc::Global;
 use std::process::Abort;

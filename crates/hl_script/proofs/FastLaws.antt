@@ -22,7 +22,7 @@ use Rattle.hl_script.specs.Text.{tags_on}
 use Rattle.hl_script.specs.Fast.{adds, AreLeft, IsFast}
 use Rattle.hl_script.proofs.AnswerLaws.{fault_kept}
 use Rattle.hl_script.proofs.ShelfLaws.{left_stays, left_bumped, left_missed, left_back}
-use Rattle.hl_model.proofs.NoFaultLaws.{unless_err, unless_ok}
+use Rattle.hl_laws.proofs.NoFaultLaws.{unless_err, unless_ok}
 
 -- what is found passes the test
 found_passes : {X : Type 0} (test : X → Bool) (xs : List X) (x : X) → find test xs ≡ Some x → test x ≡ true

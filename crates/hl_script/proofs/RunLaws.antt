@@ -7,7 +7,7 @@ use Rattle.hl_model.specs.declared.fault.Fault.TheVariants.{BadLine, OutOfMemory
 use Rattle.hl_model.specs.declared.step.Step.{Step}
 use Rattle.hl_model.specs.Sizes.{Sizes}
 use Rattle.hl_model.specs.Headline.{Headline}
-use Rattle.hl_model.proofs.HeadlineLaws.{headline}
+use Rattle.hl_laws.proofs.HeadlineLaws.{headline}
 use Rattle.hl_cells.specs.Engines.{Whole, EngineStands}
 use Rattle.hl_line.specs.declared.line.Line.{Line}
 use Rattle.hl_line.specs.declared.line.Line.TheVariants.{Config, Step as Makes, Status, Pending, Frames}

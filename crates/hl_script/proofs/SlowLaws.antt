@@ -17,12 +17,12 @@ use Rattle.hl_model.specs.Sizes.{Sizes}
 use Rattle.hl_model.specs.Epochs.{current_epoch, safe_epoch}
 use Rattle.hl_model.specs.Actions.{action_of, actions, action_at}
 use Rattle.hl_model.specs.Replies.{fault_of, answer_of, done_answer, kind_or_job_0, unless_fault, with_word, word_reply_of, IsAccepted}
-use Rattle.hl_model.proofs.AcceptedLaws.{IsAccepted-parts}
-use Rattle.hl_model.proofs.ActionLaws.{actions-nil, actions-push}
-use Rattle.hl_model.proofs.DrainLaws.{done_fault-none, is_taken-parts, was_taken-safe}
-use Rattle.hl_model.proofs.EpochLaws.{safe_epoch-current}
-use Rattle.hl_model.proofs.LawProofs.{current_is_at_most_last}
-use Rattle.hl_model.proofs.NoFaultLaws.{unless_err, unless_ok}
+use Rattle.hl_laws.proofs.AcceptedLaws.{IsAccepted-parts}
+use Rattle.hl_laws.proofs.ActionLaws.{actions-nil, actions-push}
+use Rattle.hl_laws.proofs.DrainLaws.{done_fault-none, is_taken-parts, was_taken-safe}
+use Rattle.hl_laws.proofs.EpochLaws.{safe_epoch-current}
+use Rattle.hl_laws.proofs.LawProofs.{current_is_at_most_last}
+use Rattle.hl_laws.proofs.NoFaultLaws.{unless_err, unless_ok}
 use Rattle.hl_line.specs.declared.line.Line.TheVariants.{Step as Makes}
 use Rattle.hl_model.specs.Bases.{base_of}
 use Rattle.hl_plain.specs.Histories.{History, Follows, IsHistory, begun, worded, unless_met, answer_behind, AnswersBehind}

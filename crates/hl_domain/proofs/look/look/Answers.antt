@@ -1,7 +1,7 @@
 use Rattle.std.proofs.Common.{rules, ◌≡◌, ◌++◌, refl, sym, ap, ◌∙◌}
 use Rattle.std.specs.Prelude.{None, Ok}
 use Rattle.hl_model.specs.Replies.{unless_refused}
-use Rattle.hl_model.proofs.NoFaultLaws.{unless_ok}
+use Rattle.hl_laws.proofs.NoFaultLaws.{unless_ok}
 use Rattle.hl_domain.specs.Passes.{PassRecord, touch_fault, with_look}
 use Rattle.hl_words.specs.Views.{newest}
 use Rattle.hl_domain.proofs.PassLaws.{look_is, look_touches, look_made-some, look_made-none, loaded_both, looks_on}

@@ -1,7 +1,7 @@
 use Rattle.std.proofs.Common.{◌≡◌, ap, ◌∙◌}
 use Rattle.std.specs.Prelude.{None}
 use Rattle.hl_model.specs.Replies.{unless_refused}
-use Rattle.hl_model.proofs.NoFaultLaws.{unless_ok}
+use Rattle.hl_laws.proofs.NoFaultLaws.{unless_ok}
 use Rattle.hl_domain.specs.Passes.{PassRecord, store_fault, with_store}
 use Rattle.hl_domain.proofs.PassLaws.{store_is, store_touches}
 use Rattle.hl_domain.proofs.look.store.Goals.{After-push}

@@ -5,7 +5,7 @@ use Rattle.std.specs.Result.{is_ok}
 use Rattle.hl_model.specs.declared.fault.Fault.TheVariants.{NoneSealed, Device}
 use Rattle.hl_model.specs.declared.step.Step.TheVariants.{FlushTake}
 use Rattle.hl_model.specs.Sizes.{Sizes}
-use Rattle.hl_model.proofs.WordLaws.{length-page_words}
+use Rattle.hl_laws.proofs.WordLaws.{length-page_words}
 use Rattle.hl_flush.proofs.EngineLaws.{TakesPage, take-refused, take-none, take-taken, taken-shown, done-ended, ends-flush, next_again}
 use Rattle.hl_flush.proofs.flush.flush_one.Goals as goal
 

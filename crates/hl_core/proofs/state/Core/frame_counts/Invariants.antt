@@ -1,7 +1,7 @@
 use Rattle.std.proofs.Common.{◌≡◌, List}
 use Rattle.hl_model.specs.declared.step.Step.{Step}
 use Rattle.hl_model.specs.Snapshots.{state_counts}
-use Rattle.hl_model.proofs.StateCounts.{states_below}
+use Rattle.hl_laws.proofs.StateCounts.{states_below}
 use Rattle.hl_core.specs.Standing.{Stands}
 use Rattle.hl_core.proofs.state.Core.frame_counts.Given as goal
 

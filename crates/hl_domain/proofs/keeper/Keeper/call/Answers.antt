@@ -1,7 +1,7 @@
 use Rattle.std.proofs.Common.{rules, sym, ap, ◌∙◌, arith, length, length-append, ◌++◌}
 use Rattle.std.proofs.lemmas.Result.{err_from_is_err_and}
 use Rattle.hl_model.specs.Replies.{fault_of}
-use Rattle.hl_model.proofs.NoFaultLaws.{unless_ok}
+use Rattle.hl_laws.proofs.NoFaultLaws.{unless_ok}
 use Rattle.hl_domain.specs.Passes.{PassRecord}
 use Rattle.hl_domain.specs.Keepers.{KeeperState}
 use Rattle.hl_domain.proofs.TouchedLaws.{MayCall, HasEntered, may_call, may_enter, called_full, called_faulty, called_made, fits, counts, never_refused}

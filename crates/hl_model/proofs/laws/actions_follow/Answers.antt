@@ -1,6 +1,0 @@
--- the law
-use Rattle.hl_model.proofs.FollowLaws.{actions_follow}
-use Rattle.hl_model.proofs.laws.actions_follow.Goals as goal
-
-pub returns : goal.returns
-returns c = actions_follow

@@ -1,6 +1,0 @@
--- the law
-use Rattle.hl_model.proofs.LawProofs.{epochs_are_in_order}
-use Rattle.hl_model.proofs.laws.epochs_are_in_order.Goals as goal
-
-pub returns : goal.returns
-returns c = epochs_are_in_order

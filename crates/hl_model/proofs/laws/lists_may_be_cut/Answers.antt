@@ -1,6 +1,0 @@
--- the law
-use Rattle.hl_model.proofs.CutLaws.{lists_may_be_cut}
-use Rattle.hl_model.proofs.laws.lists_may_be_cut.Goals as goal
-
-pub returns : goal.returns
-returns c = lists_may_be_cut

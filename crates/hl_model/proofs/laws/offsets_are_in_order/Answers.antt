@@ -1,6 +1,0 @@
--- the law
-use Rattle.hl_model.proofs.OrderLaws.{offsets_are_in_order}
-use Rattle.hl_model.proofs.laws.offsets_are_in_order.Goals as goal
-
-pub returns : goal.returns
-returns c = offsets_are_in_order

@@ -1,6 +1,0 @@
--- the law
-use Rattle.hl_model.proofs.FollowLaws.{offsets_follow}
-use Rattle.hl_model.proofs.laws.offsets_follow.Goals as goal
-
-pub returns : goal.returns
-returns c = offsets_follow

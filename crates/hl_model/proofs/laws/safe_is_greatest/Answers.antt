@@ -1,6 +1,0 @@
--- the law
-use Rattle.hl_model.proofs.LawProofs.{safe_is_greatest}
-use Rattle.hl_model.proofs.laws.safe_is_greatest.Goals as goal
-
-pub returns : goal.returns
-returns c = safe_is_greatest

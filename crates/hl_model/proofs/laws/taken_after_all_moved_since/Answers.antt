@@ -1,6 +1,0 @@
--- the law
-use Rattle.hl_model.proofs.CutHeadline.{taken_after_all_moved_since}
-use Rattle.hl_model.proofs.laws.taken_after_all_moved_since.Goals as goal
-
-pub returns : goal.returns
-returns c = taken_after_all_moved_since
