@@ -1,10 +1,9 @@
 ghost use Rattle.std.specs.Prelude.{◌≡◌, ◌≤◌};
 
 use crate::race::race;
-use crate::run::{report, run, slow};
-use crate::status::{DONE, REFUSED, failed};
 use clap::error::ErrorKind;
 use clap::{Arg, ArgAction, Command, Error, value_parser};
+use hl_commands::{DONE, REFUSED, failed, report, run, slow};
 use hl_model::Fault;
 use hl_race::Race;
 use std::alloc::{AllocError, Global};

@@ -4,12 +4,9 @@
 #![tactic(auto)]
 
 mod command;
-mod jobs;
 mod race;
-mod report;
-mod run;
-mod status;
 
+use hl_commands::REFUSED;
 use std::io::{BufWriter, ErrorKind, Write};
 use std::process::ExitCode;
 use std::{env, io};
@@ -18,7 +15,7 @@ fn main(rt: HostRuntime) -> io::Result<ExitCode> {
     let words = match env::args(&rt) {
         Err(error) if error.kind() == ErrorKind::InvalidData => {
             let _ = rt.stderr().write_all(b"error: a word isn't UTF-8\n");
-            return Ok(ExitCode::from(status::REFUSED));
+            return Ok(ExitCode::from(REFUSED));
         }
         words => words?.collect::<Vec<String>>(rt.alloc())?,
     };

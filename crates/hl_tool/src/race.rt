@@ -1,6 +1,6 @@
 ghost use Rattle.std.specs.Prelude.{◌≤◌};
 
-use crate::status::{DONE, FAILED, failed};
+use hl_commands::{DONE, FAILED, failed};
 use hl_model::Fault;
 use hl_race::{Race, run_race};
 use std::alloc::Global;

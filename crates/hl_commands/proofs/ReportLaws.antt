@@ -10,7 +10,7 @@ use Rattle.hl_script.specs.Lines.{script}
 use Rattle.hl_script.specs.Outcomes.{ReadToEnd}
 use Rattle.hl_script.specs.Text.{count_of}
 use Rattle.hl_monitor.specs.Reports.{report_text}
-use Rattle.hl_tool.specs.Reported.{reported, Reports}
+use Rattle.hl_commands.specs.Reported.{reported, Reports}
 
 -- the quantities after the accepted steps of some lines, and how many these are
 pub report_told : (has : ℕ → Bool) (lines : List Line) (count : ℕ) (now : Snapshot) → Some count ≡ count_of has lines

@@ -2,7 +2,7 @@ ghost use Rattle.std.specs.Prelude.{◌≡◌, ℕ, ◌+◌, ◌<◌, ◌≤◌,
 ghost use Rattle.hl_model.specs.declared.fault.Fault.TheVariants.{BadLine, OutOfMemory};
 
 use crate::jobs::{AddTicket, TAGS, all_jobs};
-use crate::report::report_script;
+use crate::reports::report_script;
 use crate::status::{DONE, REFUSED, failed};
 use hl_action::Task;
 use hl_cells::Engine;
@@ -15,8 +15,9 @@ use hl_script::{Finished, Sum, run_text, slow_text};
 use std::alloc::Global;
 use std::io::{Read, Write};
 
-/// Answers the script that the reader gives; then, where that is wanted, flushes each page that can be.
-pub(crate) fn run<R: Read, W: Write, E: Write>(
+/// Answers the script that the reader gives; then, where that is wanted, writes the image of each page that can be
+/// flushed, one a line. Gives the exit status.
+pub fn run<R: Read, W: Write, E: Write>(
     alloc: Global,
     flush: bool,
     reader: &mut R,
@@ -29,8 +30,8 @@ pub(crate) fn run<R: Read, W: Write, E: Write>(
     status_of(ended, writer, errors)
 }
 
-/// Answers the script that the reader gives in the slow form.
-pub(crate) fn slow<R: Read, W: Write, E: Write>(
+/// Answers the script that the reader gives in the slow form. Gives the exit status.
+pub fn slow<R: Read, W: Write, E: Write>(
     alloc: Global,
     reader: &mut R,
     writer: &mut W,
@@ -42,8 +43,9 @@ pub(crate) fn slow<R: Read, W: Write, E: Write>(
     status_of(ended, writer, errors)
 }
 
-/// Runs the script that the reader gives, without its answers, and then writes its report.
-pub(crate) fn report<R: Read, W: Write, E: Write>(
+/// Runs the script that the reader gives, without its answers, and then writes the report of what it left and of its
+/// accepted steps: nothing where there is no line, and the text of a bad line alone. Gives the exit status.
+pub fn report<R: Read, W: Write, E: Write>(
     alloc: Global,
     reader: &mut R,
     writer: &mut W,

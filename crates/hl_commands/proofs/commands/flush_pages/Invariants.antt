@@ -1,5 +1,5 @@
 use Rattle.std.proofs.Common.{◌≡◌, ◌+◌, ◌*◌, length}
-use Rattle.hl_tool.proofs.run.flush_pages.Given as goal
+use Rattle.hl_commands.proofs.commands.flush_pages.Given as goal
 
 -- the buffer has the size of an image
 abbrev pub invariant-loop : goal.invariant-loop

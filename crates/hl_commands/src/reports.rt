@@ -3,7 +3,7 @@ ghost use Rattle.std.specs.Io.KnownBytes.{Appends};
 ghost use Rattle.hl_model.specs.declared.fault.Fault.TheVariants.{BadLine};
 ghost use Rattle.hl_script.specs.Text.{tags_on, bad_text};
 ghost use Rattle.hl_script.specs.Outcomes.{ReadToEnd, StoppedAtBadLine};
-ghost use Rattle.hl_tool.specs.Reported.{Reports};
+ghost use Rattle.hl_commands.specs.Reported.{Reports};
 
 use hl_action::{Shelf, Task};
 use hl_epoch::Epochs;

@@ -5,16 +5,16 @@ use hl_model::Fault;
 use std::io::Write;
 
 /// The status of a command that was done.
-pub(crate) const DONE: u8 = 0;
+pub const DONE: u8 = 0;
 
 /// Memory was refused, a stream or a device failed, or a race left what its steps don't say.
-pub(crate) const FAILED: u8 = 1;
+pub const FAILED: u8 = 1;
 
 /// A line that is no step, or words that are no command.
-pub(crate) const REFUSED: u8 = 2;
+pub const REFUSED: u8 = 2;
 
 /// Writes the fault's line. Where that fails too there is nobody left to tell.
-pub(crate) fn failed<E: Write>(fault: Fault, errors: &mut E) -> u8
+pub fn failed<E: Write>(fault: Fault, errors: &mut E) -> u8
     ensures { result ≡ FAILED }
 {
     let _ = errors.write_all(print_fault(&fault).as_bytes());

@@ -3,8 +3,8 @@ use Rattle.hl_model.specs.Snapshots.{snapshot_of}
 use Rattle.hl_script.specs.Answers.{accepted}
 use Rattle.hl_script.specs.Lines.{script}
 use Rattle.hl_script.specs.Text.{tags_on}
-use Rattle.hl_tool.proofs.ReportLaws.{report_told, report_written}
-use Rattle.hl_tool.proofs.report.report_script.Goals as goal
+use Rattle.hl_commands.proofs.ReportLaws.{report_told, report_written}
+use Rattle.hl_commands.proofs.reports.report_script.Goals as goal
 
 pub returns-in-Ok-Some-clause-ok : goal.returns-in-Ok-Some-clause-ok
 returns-in-Ok-Some-clause-ok g c =

@@ -1,0 +1,27 @@
+//! The commands on scripts, as programs run them: from a reader, a writer and a writer of errors to an exit status.
+//!
+//! | Command | What it does |
+//! |---|---|
+//! | [`run`] | answers a script, and flushes its sealed pages where that is wanted |
+//! | [`slow`] | answers it in the slow form |
+//! | [`report`] | runs it without its answers, and reports what it left |
+//!
+//! The jobs of each have the tags 0 to 999, and each answers its tag + its ticket. The statuses are 0 where the
+//! command was [`DONE`], 1 where it [`FAILED`], with the fault's line on the errors ([`failed`] writes it), and 2
+//! where a line of the script is no step, which is the last line of the output ([`REFUSED`]).
+//!
+//! | Module | What it does |
+//! |---|---|
+//! | `commands` | the three commands |
+//! | `reports` | a script and its report |
+//! | `jobs` | the jobs of a script |
+//! | `status` | the statuses, and the line of a fault |
+#![tactic(auto)]
+
+mod commands;
+mod jobs;
+mod reports;
+mod status;
+
+pub use commands::{report, run, slow};
+pub use status::{DONE, FAILED, REFUSED, failed};

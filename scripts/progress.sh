@@ -1,0 +1,72 @@
+# How far a proof of many crates is, and at most how many minutes are left: scripts/prove sources this. Each crate has a
+# weight, the seconds that its proof took one core of one machine. What was proved so far tells how long this machine
+# takes for such a second; what is left takes as long as its work by all jobs, or as its longest chain of crates.
+
+declare -A weights=(
+    [hl_model]=110 [hl_laws]=65 [hl_plain]=232 [hl_epoch]=53 [hl_counts]=58 [hl_drain]=66 [hl_action]=51 [hl_offsets]=28
+    [hl_frames]=53 [hl_words]=80 [hl_image]=65 [hl_line]=115 [hl_core]=331 [hl_cells]=145 [hl_domain]=350
+    [hl_flush]=35 [hl_monitor]=26 [hl_crew]=230 [hl_race]=130 [hl_script]=175 [hl_commands]=65 [hl_tool]=150
+)
+declare -A uses=() proved=() left=()
+order=()
+all=0
+
+# Begins with nothing proved: progress_begins JOBS CRATE.., each crate behind those that it stands on.
+progress_begins() {
+    local name rest
+    at_once="$1"
+    shift
+    order=("$@")
+    while IFS=: read -r name rest; do
+        uses["${name%% *}"]="$rest"
+    done < "$top/crates.txt"
+    for name in "${order[@]}"; do
+        left["$name"]="${weights[$name]:-$(weight_by_lines "$name")}"
+        all="$((all + left[$name]))"
+    done
+}
+
+# The weight of a crate that has none yet, by the lines of its sources.
+weight_by_lines() {
+    find "$top/crates/$1/"{src,specs,proofs} -type f -exec cat {} + 2> /dev/null |
+        awk 'END { print 20 + int(NR / 30) }'
+}
+
+# Takes it that a crate is proved, of which this share in percent was proved now and not kept from before.
+progress_proved() {
+    proved["$1"]="$((left[$1] * $2 / 100))"
+    left["$1"]=0
+}
+
+# The share of the whole that is proved, in percent.
+progress_percent() {
+    local name sum=0
+    for name in "${order[@]}"; do
+        sum="$((sum + left[$name]))"
+    done
+    echo "$((100 * (all - sum) / all))"
+}
+
+# The seconds of one core until crates of these weights are proved: seconds_of left, or seconds_of proved.
+seconds_of() {
+    local -n of="$1"
+    local -A ends=()
+    local name below end sum=0 longest=0
+    for name in "${order[@]}"; do
+        end=0
+        for below in ${uses[$name]}; do
+            end="$((${ends[$below]:-0} > end ? ends[$below] : end))"
+        done
+        ends["$name"]="$((end + ${of[$name]:-0}))"
+        longest="$((ends[$name] > longest ? ends[$name] : longest))"
+        sum="$((sum + ${of[$name]:-0}))"
+    done
+    echo "$((sum / at_once > longest ? sum / at_once : longest))"
+}
+
+# At most how many minutes are left after so many seconds, at the pace of what was proved; nothing where that was little.
+progress_minutes() {
+    local taken
+    taken="$(seconds_of proved)"
+    ((taken < 200)) || echo "$((($(seconds_of left) * $1 / taken + 59) / 60))"
+}
