@@ -1,4 +1,4 @@
--- What a worker's calls come to.
+-- What an export's calls come to.
 use Rattle.std.proofs.Common.{◌≡◌, ℕ, List, ◌∷◌, map, refl, sym, ap, ◌∙◌, subst}
 use Rattle.std.specs.Prelude.{Option, Some, Result, Ok, Err, IfOk}
 use Rattle.hl_model.specs.declared.action.Tag.{Tag}
@@ -13,9 +13,9 @@ use Rattle.hl_drain.specs.Actions.{waiting_of}
 use Rattle.hl_model.specs.declared.fault.Fault.{Fault}
 use Rattle.hl_model.specs.declared.step.Reply.{Reply}
 use Rattle.hl_model.specs.declared.step.Step.{Step}
-use Rattle.hl_core.specs.Steps.{Made, job_in, told, take_told as core_told, CameOut}
+use Rattle.hl_core.specs.Steps.{Made, job_in, take_told as core_told, CameOut}
 use Rattle.hl_c.specs.declared.outcome.Outcome.{Outcome}
-use Rattle.hl_c.specs.Outcomes.{told_of, reply_told, accepted, number_told, take_told, taken_told}
+use Rattle.hl_c.specs.Outcomes.{told_of, take_told, taken_told}
 use Rattle.hl_c.specs.Doors.{Answers, Takes, StandsAt}
 use Rattle.hl_c.specs.Slots.{DoorRow}
 
@@ -24,16 +24,6 @@ pub step_answers : (v w : Option DoorRow.Denot) (old new : DoorRow.Denot) (step 
     → v ≡ Some old → Made (λ t. t.0) old step new result → w ≡ Some new → outcome ≡ told_of result → Answers v step w outcome
 step_answers v w old new step outcome result was made is told = subst (λ (u : Option DoorRow.Denot). Answers u step w outcome) (sym was)
     (new, is, λ A stands. let m = made A stands in record { told = told ∙ ap told_of m.reply; sizes = m.sizes; standing = m.standing })
-
--- so for a step of which one number is told
-pub number_answers : {X : Type 0} (v w : Option DoorRow.Denot) (old new : DoorRow.Denot) (step : Step) (outcome : Outcome) (reply : X → Reply) (number : X → ℕ) (answer : Result X Fault)
-    → ((x : X) → reply_told (reply x) ≡ accepted (number x) 0 0 0) → v ≡ Some old → Made (λ t. t.0) old step new (told reply answer) → w ≡ Some new → outcome ≡ number_told number answer → Answers v step w outcome
-number_answers {X} v w old new step outcome reply number answer same was made is tells =
-    step_answers v w old new step outcome (told reply answer) was made is (tells ∙ alike answer)
-  where
-    alike : (r : Result X Fault) → number_told number r ≡ told_of (told reply r)
-    alike (Ok x) = sym (same x)
-    alike (Err fault) = refl
 
 -- an action that came out is told as the first of the pending ones
 came : (ticket safe : ℕ) (action : Action Tag) (ws : List Waiting)

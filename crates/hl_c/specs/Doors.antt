@@ -1,11 +1,14 @@
 -- What a call makes of a handle.
-use Rattle.std.specs.Prelude.{◌≡◌, ℕ, Option, Some, None, List, [], ◌⊎◌}
+use Rattle.std.specs.Prelude.{◌≡◌, ℕ, Option, Some, None, Result, List, [], ◌⊎◌}
+use Rattle.hl_model.specs.declared.fault.Fault.{Fault}
+use Rattle.hl_model.specs.declared.step.Reply.{Reply}
 use Rattle.hl_model.specs.declared.step.Step.{Step}
 use Rattle.hl_model.specs.declared.step.Step.TheVariants.{Take}
 use Rattle.hl_model.specs.Actions.{pending}
 use Rattle.hl_model.specs.Sizes.{Sizes, AreInRange}
 use Rattle.hl_model.specs.Replies.{reply_of, extended}
 use Rattle.hl_core.specs.Standing.{Stands}
+use Rattle.hl_core.specs.Steps.{Made}
 use Rattle.hl_c.specs.declared.outcome.Brief.{Brief}
 use Rattle.hl_c.specs.declared.outcome.Outcome.{Outcome}
 use Rattle.hl_c.specs.Outcomes.{told_of, take_told, brief_of, no_core}
@@ -29,6 +32,11 @@ abbrev pub Answers : Option DoorRow.Denot → Step → Option DoorRow.Denot → 
 Answers None step new outcome = (outcome ≡ no_core) × (new ≡ None)
 Answers (Some old) step new outcome = (core : DoorRow.Denot) × (new ≡ Some core)
     × ((A : List Step) → StandsAt old A → Moved old A step core (told_of (reply_of old.sizes A step)) outcome)
+
+-- a call, as what it answers and leaves of a core, makes this step
+abbrev pub MakesStep : (DoorRow.Denot → Result Reply Fault → DoorRow.Denot → Type 0) → Step → Type 0
+MakesStep call step = (old new : DoorRow.Denot) (reply : Result Reply Fault) → call old reply new
+    → Made (λ t. t.0) old step new reply
 
 -- so for a step of which one number is told
 abbrev pub AnswersBriefly : Option DoorRow.Denot → Step → Option DoorRow.Denot → Brief → Type 0

@@ -82,11 +82,6 @@ abbrev pub told_of : Result Reply Fault → Outcome
 told_of (Ok reply) = reply_told reply
 told_of (Err fault) = fault_told fault
 
--- an answer of which one number is told
-abbrev pub number_told : {X : Type 0} → (X → ℕ) → Result X Fault → Outcome
-number_told number (Ok answer) = accepted (number answer) 0 0 0
-number_told number (Err fault) = fault_told fault
-
 -- an action's kind as a number (1 a job, 2 a settle, 3 a close), and its tag or the offset that it stores
 abbrev pub kind_number : Kind → ℕ
 kind_number (User tag) = 1

@@ -3,16 +3,21 @@ ghost use Rattle.hl_c.specs.Doors.{Answers, AnswersBriefly, Takes};
 
 use crate::handle::Handle;
 use crate::outcome::{Brief, Outcome};
-use core::mem::replace_with;
 use hl_drain::Ask;
-use hl_model::Tag;
+use hl_model::{Reply, Step, Tag};
 
 /// Ends the current epoch, and stores a job of this tag: its ticket.
 #[unsafe(no_mangle)]
 pub extern "C" fn hl_bump(handle: &mut Handle, tag: u64) -> Brief
     ensures { AnswersBriefly handle.old.slot.value (BUMP tag) handle.new.slot.value result }
 {
-    replace_with(handle, tag, bumped).brief()
+    handle.step_briefly(
+        Step::Bump { tag },
+        |core| match core.bump(Ask::User(Tag(tag))) {
+            Ok(ticket) => Ok(Reply::Ticket(ticket)),
+            Err((fault, _)) => Err(fault),
+        },
+    )
 }
 
 /// Ends the current epoch, and stores a settle: its ticket.
@@ -20,7 +25,7 @@ pub extern "C" fn hl_bump(handle: &mut Handle, tag: u64) -> Brief
 pub extern "C" fn hl_settle(handle: &mut Handle) -> Brief
     ensures { AnswersBriefly handle.old.slot.value SETTLE handle.new.slot.value result }
 {
-    replace_with(handle, (), settled).brief()
+    handle.step_briefly(Step::Settle, |core| core.settle().map(Reply::Ticket))
 }
 
 /// Ends the current epoch, and stores a close: its ticket.
@@ -28,7 +33,7 @@ pub extern "C" fn hl_settle(handle: &mut Handle) -> Brief
 pub extern "C" fn hl_close(handle: &mut Handle) -> Brief
     ensures { AnswersBriefly handle.old.slot.value CLOSE handle.new.slot.value result }
 {
-    replace_with(handle, (), closed).brief()
+    handle.step_briefly(Step::Close, |core| core.close().map(Reply::Ticket))
 }
 
 /// Ends the current epoch, and stores nothing: the epoch that ended.
@@ -36,7 +41,7 @@ pub extern "C" fn hl_close(handle: &mut Handle) -> Brief
 pub extern "C" fn hl_bare(handle: &mut Handle) -> Brief
     ensures { AnswersBriefly handle.old.slot.value BARE handle.new.slot.value result }
 {
-    replace_with(handle, (), ended).brief()
+    handle.step_briefly(Step::Bare, |core| core.bare().map(Reply::Bumped))
 }
 
 /// A taken action was carried out: its job's tag, or the offset after it, and which.
@@ -44,7 +49,7 @@ pub extern "C" fn hl_bare(handle: &mut Handle) -> Brief
 pub extern "C" fn hl_done(handle: &mut Handle, ticket: u64) -> Outcome
     ensures { Answers handle.old.slot.value (DONE ticket) handle.new.slot.value result }
 {
-    replace_with(handle, ticket, done)
+    handle.step(Step::Done { ticket }, |core| core.done(ticket))
 }
 
 /// Takes the oldest pending action: its ticket, and 1 with its tag where it is a job's.
@@ -52,85 +57,12 @@ pub extern "C" fn hl_done(handle: &mut Handle, ticket: u64) -> Outcome
 pub extern "C" fn hl_take(handle: &mut Handle) -> Outcome
     ensures { Takes handle.old.slot.value handle.new.slot.value result }
 {
-    replace_with(handle, (), took)
-}
-
-#[inline(always)]
-fn bumped(handle: Handle, tag: u64) -> (Handle, Outcome)
-    ensures { Answers handle.slot.value (BUMP tag) result.0.slot.value result.1 }
-{
-    match handle.into_core() {
-        Ok(mut core) => {
-            let outcome = Outcome::of_number(
-                core.bump(Ask::User(Tag(tag))).map_err(|(fault, _)| fault),
-            );
-            (Handle::of(core), outcome)
-        }
-        Err(handle) => (handle, Outcome::no_core()),
-    }
-}
-
-#[inline(always)]
-fn settled(handle: Handle, _nothing: ()) -> (Handle, Outcome)
-    ensures { Answers handle.slot.value SETTLE result.0.slot.value result.1 }
-{
-    match handle.into_core() {
-        Ok(mut core) => {
-            let outcome = Outcome::of_number(core.settle());
-            (Handle::of(core), outcome)
-        }
-        Err(handle) => (handle, Outcome::no_core()),
-    }
-}
-
-#[inline(always)]
-fn closed(handle: Handle, _nothing: ()) -> (Handle, Outcome)
-    ensures { Answers handle.slot.value CLOSE result.0.slot.value result.1 }
-{
-    match handle.into_core() {
-        Ok(mut core) => {
-            let outcome = Outcome::of_number(core.close());
-            (Handle::of(core), outcome)
-        }
-        Err(handle) => (handle, Outcome::no_core()),
-    }
-}
-
-#[inline(always)]
-fn ended(handle: Handle, _nothing: ()) -> (Handle, Outcome)
-    ensures { Answers handle.slot.value BARE result.0.slot.value result.1 }
-{
-    match handle.into_core() {
-        Ok(mut core) => {
-            let outcome = Outcome::of_number(core.bare());
-            (Handle::of(core), outcome)
-        }
-        Err(handle) => (handle, Outcome::no_core()),
-    }
-}
-
-#[inline(always)]
-fn done(handle: Handle, ticket: u64) -> (Handle, Outcome)
-    ensures { Answers handle.slot.value (DONE ticket) result.0.slot.value result.1 }
-{
-    match handle.into_core() {
-        Ok(mut core) => {
-            let outcome = Outcome::of(core.done(ticket));
-            (Handle::of(core), outcome)
-        }
-        Err(handle) => (handle, Outcome::no_core()),
-    }
-}
-
-#[inline(always)]
-fn took(handle: Handle, _nothing: ()) -> (Handle, Outcome)
-    ensures { Takes handle.slot.value result.0.slot.value result.1 }
-{
-    match handle.into_core() {
-        Ok(mut core) => {
+    match handle.take_core() {
+        Some(mut core) => {
             let outcome = Outcome::of_taken(core.take());
-            (Handle::of(core), outcome)
+            handle.put_core(core);
+            outcome
         }
-        Err(handle) => (handle, Outcome::no_core()),
+        None => Outcome::no_core(),
     }
 }

@@ -1,10 +1,11 @@
-ghost use Rattle.std.specs.Prelude.{◌≡◌, MatchResult};
+ghost use Rattle.std.specs.Prelude.{◌≡◌, IsSome, MatchOption};
 ghost use Rattle.std.specs.declared.option.Option.TheVariants.{None, Some};
 ghost use Rattle.hl_c.specs.Slots.{is_live};
 
 use crate::door::Door;
 use crate::loose::Loose;
 use crate::slot::Slot;
+use core::mem::{replace, replace_with};
 use std::alloc::Global;
 
 /// What C keeps: a slot, and 1 where a core is open there. All bytes zero is a handle with none.
@@ -36,23 +37,39 @@ impl Handle {
         }
     }
 
-    /// Its core, or the handle itself where it has none.
-    pub(crate) fn into_core(self) -> Result<Box<Door>, Handle>
-        ensures { MatchResult result (λ core. self.slot.value ≡ Some core.value)
-            (λ back. (back ≡ self) × (self.slot.value ≡ None)) }
+    /// Takes its core out, if it has one; it then has none.
+    #[inline(always)]
+    pub(crate) fn take_core(&mut self) -> Option<Box<Door>>
+        ensures core { MatchOption result (self.old.slot.value ≡ None)
+            (λ core. self.old.slot.value ≡ Some core.value) }
+        ensures none { self.new.slot.value ≡ None }
     {
         if self.live == 0 {
-            return Err(self);
+            return None;
         }
-        let Handle { slot, live: _ } = self;
-        Ok(slot.into_loose().into_box())
+        Some(replace_with(self, (), emptied))
     }
 
-    /// A handle with no core is let go.
-    pub(crate) fn give_up(self)
-        requires { self.slot.value ≡ None }
+    /// Puts a core in where it has none.
+    #[inline(always)]
+    pub(crate) fn put_core(&mut self, core: Box<Door>)
+        requires { self.old.slot.value ≡ None }
+        ensures { self.new.slot.value ≡ Some core.value }
     {
-        let Handle { slot, live: _ } = self;
+        let Handle { slot, live: _ } = replace(self, Handle::of(core));
         slot.give_up();
     }
+}
+
+/// A handle with no core, and the core that was there.
+#[inline(always)]
+fn emptied(handle: Handle, _nothing: ()) -> (Handle, Box<Door>)
+    requires { IsSome handle.slot.value }
+    ensures core { handle.slot.value ≡ Some result.1.value }
+    ensures none { result.0.slot.value ≡ None }
+{
+    let Handle { slot, live: _ } = handle;
+    let core = slot.into_loose().into_box();
+    let alloc = *Box::allocator(&core);
+    (Handle::empty(alloc), core)
 }

@@ -23,9 +23,9 @@
 //! # How a call goes
 //!
 //! A C signature may name no box, so the slot keeps its core's block as a pointer to bytes, and its proofs by
-//! hand say which core lies there. A call takes the handle out of its place, has the box of it, makes the
-//! step on the box, and puts back a handle of the box. Each call has a function of its own for that, which
-//! calls the core by the step's own call.
+//! hand say which core lies there. A call takes the core's box out of its handle, makes the step on the box or
+//! asks it, and puts it back. `Handle::step` is the one way for each step but the take, whose job no reply
+//! tells: an export hands it the core's own call of its step.
 #![tactic(auto)]
 
 mod bumps;
@@ -40,6 +40,7 @@ mod quantities;
 mod queries;
 mod slot;
 mod slots;
+mod step;
 mod threads;
 
 pub use bumps::{hl_bare, hl_bump, hl_close, hl_done, hl_settle, hl_take};

@@ -1,16 +1,19 @@
 ghost use Rattle.hl_model.specs.declared.step.Step.TheVariants.{Raise as RAISE, Shift as SHIFT, Allocate as ALLOCATE, Look as LOOK, Write as WRITE, Read as READ};
+ghost use Rattle.hl_core.specs.Steps.{Made};
 ghost use Rattle.hl_c.specs.Doors.{Answers, AnswersBriefly};
 
+use crate::door::Door;
 use crate::handle::Handle;
 use crate::outcome::{Brief, Outcome};
-use core::mem::replace_with;
+use hl_model::{Fault, Reply, Step};
 
 /// Moves the read-only offset up to an address.
 #[unsafe(no_mangle)]
 pub extern "C" fn hl_raise(handle: &mut Handle, address: u64) -> Brief
     ensures { AnswersBriefly handle.old.slot.value (RAISE address) handle.new.slot.value result }
 {
-    replace_with(handle, address, raised).brief()
+    let step = Step::Raise { x: address };
+    handle.step_briefly(step, |core| core.raise(address).map(Reply::Raised))
 }
 
 /// Moves the head up to an address.
@@ -18,7 +21,8 @@ pub extern "C" fn hl_raise(handle: &mut Handle, address: u64) -> Brief
 pub extern "C" fn hl_shift(handle: &mut Handle, address: u64) -> Brief
     ensures { AnswersBriefly handle.old.slot.value (SHIFT address) handle.new.slot.value result }
 {
-    replace_with(handle, address, shifted).brief()
+    let step = Step::Shift { x: address };
+    handle.step_briefly(step, |core| core.shift(address).map(Reply::Shifted))
 }
 
 /// Places a record of so many words for a slot: its address.
@@ -26,12 +30,8 @@ pub extern "C" fn hl_shift(handle: &mut Handle, address: u64) -> Brief
 pub extern "C" fn hl_allocate(handle: &mut Handle, slot: u64, words: u64) -> Brief
     ensures { AnswersBriefly handle.old.slot.value (ALLOCATE slot words) handle.new.slot.value result }
 {
-    replace_with(
-        handle,
-        (),
-        |handle, _nothing| allocated(handle, slot, words),
-    )
-    .brief()
+    let step = Step::Allocate { t: slot, n: words };
+    handle.step_briefly(step, |core| core.allocate(slot, words).map(Reply::At))
 }
 
 /// A slot sees these two offsets: its view.
@@ -39,10 +39,14 @@ pub extern "C" fn hl_allocate(handle: &mut Handle, slot: u64, words: u64) -> Bri
 pub extern "C" fn hl_look(handle: &mut Handle, slot: u64, read_only: u64, head: u64) -> Outcome
     ensures { Answers handle.old.slot.value (LOOK slot read_only head) handle.new.slot.value result }
 {
-    replace_with(
-        handle,
-        (),
-        |handle, _nothing| looked(handle, slot, read_only, head),
+    let step = Step::Look {
+        t: slot,
+        read_only,
+        head,
+    };
+    handle.step(
+        step,
+        |core| core.look(slot, read_only, head).map(Reply::Looked),
     )
 }
 
@@ -51,12 +55,12 @@ pub extern "C" fn hl_look(handle: &mut Handle, slot: u64, read_only: u64, head: 
 pub extern "C" fn hl_write(handle: &mut Handle, slot: u64, address: u64, value: u64) -> Brief
     ensures { AnswersBriefly handle.old.slot.value (WRITE slot address value) handle.new.slot.value result }
 {
-    replace_with(
-        handle,
-        (),
-        |handle, _nothing| written(handle, slot, address, value),
-    )
-    .brief()
+    let step = Step::Write {
+        t: slot,
+        a: address,
+        v: value,
+    };
+    handle.step_briefly(step, |core| written(core, slot, address, value))
 }
 
 /// Whether a slot may read a word.
@@ -64,83 +68,20 @@ pub extern "C" fn hl_write(handle: &mut Handle, slot: u64, address: u64, value: 
 pub extern "C" fn hl_read(handle: &mut Handle, slot: u64, address: u64) -> Brief
     ensures { AnswersBriefly handle.old.slot.value (READ slot address) handle.new.slot.value result }
 {
-    replace_with(handle, (), |handle, _nothing| read(handle, slot, address)).brief()
+    let step = Step::Read {
+        t: slot,
+        a: address,
+    };
+    handle.step_briefly(step, |core| {
+        core.may_read(slot, address)?;
+        Ok(Reply::Readable)
+    })
 }
 
+/// A write, of whatever value: it changes nothing of a core.
 #[inline(always)]
-fn raised(handle: Handle, address: u64) -> (Handle, Outcome)
-    ensures { Answers handle.slot.value (RAISE address) result.0.slot.value result.1 }
+fn written(core: &mut Door, slot: u64, address: u64, _value: u64) -> Result<Reply, Fault>
+    ensures { Made (λ t. t.0) core.old (WRITE slot address _value) core.new result }
 {
-    match handle.into_core() {
-        Ok(mut core) => {
-            let outcome = Outcome::of_number(core.raise(address));
-            (Handle::of(core), outcome)
-        }
-        Err(handle) => (handle, Outcome::no_core()),
-    }
-}
-
-#[inline(always)]
-fn shifted(handle: Handle, address: u64) -> (Handle, Outcome)
-    ensures { Answers handle.slot.value (SHIFT address) result.0.slot.value result.1 }
-{
-    match handle.into_core() {
-        Ok(mut core) => {
-            let outcome = Outcome::of_number(core.shift(address));
-            (Handle::of(core), outcome)
-        }
-        Err(handle) => (handle, Outcome::no_core()),
-    }
-}
-
-#[inline(always)]
-fn allocated(handle: Handle, slot: u64, words: u64) -> (Handle, Outcome)
-    ensures { Answers handle.slot.value (ALLOCATE slot words) result.0.slot.value result.1 }
-{
-    match handle.into_core() {
-        Ok(mut core) => {
-            let outcome = Outcome::of_number(core.allocate(slot, words));
-            (Handle::of(core), outcome)
-        }
-        Err(handle) => (handle, Outcome::no_core()),
-    }
-}
-
-#[inline(always)]
-fn looked(handle: Handle, slot: u64, read_only: u64, head: u64) -> (Handle, Outcome)
-    ensures { Answers handle.slot.value (LOOK slot read_only head) result.0.slot.value result.1 }
-{
-    match handle.into_core() {
-        Ok(mut core) => {
-            let outcome = Outcome::of_look(core.look(slot, read_only, head));
-            (Handle::of(core), outcome)
-        }
-        Err(handle) => (handle, Outcome::no_core()),
-    }
-}
-
-#[inline(always)]
-fn written(handle: Handle, slot: u64, address: u64, value: u64) -> (Handle, Outcome)
-    ensures { Answers handle.slot.value (WRITE slot address value) result.0.slot.value result.1 }
-{
-    match handle.into_core() {
-        Ok(mut core) => {
-            let outcome = Outcome::of_nothing(core.may_write(slot, address));
-            (Handle::of(core), outcome)
-        }
-        Err(handle) => (handle, Outcome::no_core()),
-    }
-}
-
-#[inline(always)]
-fn read(handle: Handle, slot: u64, address: u64) -> (Handle, Outcome)
-    ensures { Answers handle.slot.value (READ slot address) result.0.slot.value result.1 }
-{
-    match handle.into_core() {
-        Ok(mut core) => {
-            let outcome = Outcome::of_nothing(core.may_read(slot, address));
-            (Handle::of(core), outcome)
-        }
-        Err(handle) => (handle, Outcome::no_core()),
-    }
+    core.may_write(slot, address).map(|()| Reply::Written)
 }

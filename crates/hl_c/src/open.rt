@@ -3,19 +3,8 @@ ghost use Rattle.hl_c.specs.Doors.{Opens, StandsAt, free_number};
 
 use crate::door::Door;
 use crate::handle::Handle;
-use core::mem::replace_with;
 use hl_model::Params;
 use std::alloc::Global;
-
-/// What an open was asked for.
-#[derive(Drop)]
-struct Asked {
-    alloc: Global,
-    page_size: u64,
-    frames: u64,
-    slots: u64,
-    drain: u64,
-}
 
 /// Opens a core: so many words a page, frames, slots, places in the drain list. 0 where it did; 29 where
 /// memory was refused, 254 where a size is out of range, 255 where a core is open already, which stays as it
@@ -33,48 +22,33 @@ pub extern "C" fn hl_open(
         (record { page_size = page_size; frames = frames; slots = slots; drain = drain })
         handle.new.slot.value result }
 {
-    let asked = Asked {
-        alloc,
-        page_size,
-        frames,
-        slots,
-        drain,
+    if handle.live != 0 {
+        return 255;
+    }
+    let Some(params) = Params::checked(page_size, frames, slots, drain) else {
+        return 254;
     };
-    replace_with(handle, asked, opened)
+    match boxed(alloc, params) {
+        Some(core) => {
+            handle.put_core(core);
+            0
+        }
+        None => 29,
+    }
 }
 
 /// Gives the core back with its memory; the handle then has none. 0, or 255 where none was open.
 #[unsafe(no_mangle)]
-pub extern "C" fn hl_free(alloc: Global, handle: &mut Handle) -> u64
+pub extern "C" fn hl_free(handle: &mut Handle) -> u64
     ensures number { result ≡ free_number handle.old.slot.value }
     ensures none { handle.new.slot.value ≡ None }
 {
-    replace_with(handle, alloc, freed)
-}
-
-fn opened(handle: Handle, asked: Asked) -> (Handle, u64)
-    ensures { Opens handle.slot.value
-        (record {
-          page_size = asked.page_size;
-          frames = asked.frames;
-          slots = asked.slots;
-          drain = asked.drain;
-        })
-        result.0.slot.value result.1 }
-{
-    if handle.live != 0 {
-        return (handle, 255);
-    }
-    let Some(params) = Params::checked(asked.page_size, asked.frames, asked.slots, asked.drain)
-    else {
-        return (handle, 254);
-    };
-    match boxed(asked.alloc, params) {
+    match handle.take_core() {
         Some(core) => {
-            handle.give_up();
-            (Handle::of(core), 0)
+            drop(core);
+            0
         }
-        None => (handle, 29),
+        None => 255,
     }
 }
 
@@ -84,17 +58,4 @@ fn boxed(alloc: Global, params: Params) -> Option<Box<Door>>
 {
     let core = Door::open(alloc, params).ok()?;
     Box::new(alloc, core).ok()
-}
-
-fn freed(handle: Handle, alloc: Global) -> (Handle, u64)
-    ensures number { result.1 ≡ free_number handle.slot.value }
-    ensures none { result.0.slot.value ≡ None }
-{
-    match handle.into_core() {
-        Ok(core) => {
-            drop(core);
-            (Handle::empty(alloc), 0)
-        }
-        Err(handle) => (handle, 255),
-    }
 }

@@ -1,10 +1,8 @@
 ghost use Rattle.std.specs.Prelude.{◌≡◌, Ok};
-ghost use Rattle.hl_model.specs.declared.step.Reply.TheVariants.{Looked as LOOKED};
-ghost use Rattle.hl_core.specs.Steps.{told, entered_reply};
-ghost use Rattle.hl_c.specs.Outcomes.{told_of, number_told, fault_told, taken_told, frame_told, view_told, pending_told, action_told, accepted, brief_of, no_core, out_of_range};
+ghost use Rattle.hl_c.specs.Outcomes.{told_of, fault_told, taken_told, frame_told, view_told, pending_told, action_told, accepted, brief_of, no_core, out_of_range};
 
 use hl_action::Firing;
-use hl_model::{Fault, FrameState, Kind, Reply, Slot, Tag, View, Waiting};
+use hl_model::{Fault, FrameState, Kind, Reply, Tag, View, Waiting};
 
 /// The number of a call on a handle at which no core is open, and of an open on one at which one is.
 const NO_CORE: u64 = 255;
@@ -78,52 +76,6 @@ impl Outcome {
             b,
             c,
             d,
-        }
-    }
-
-    /// What a step by which a slot enters answers.
-    #[inline(always)]
-    pub(crate) fn of_slot(entered: Result<Slot, Fault>) -> Outcome
-        ensures { result ≡ told_of (told entered_reply entered) }
-    {
-        match entered {
-            Ok(Slot { epoch, view }) => {
-                Outcome::accepted(epoch, view.read_only, view.head, view.tail)
-            }
-            Err(fault) => Outcome::of_fault(fault),
-        }
-    }
-
-    /// What a look answers.
-    #[inline(always)]
-    pub(crate) fn of_look(looked: Result<View, Fault>) -> Outcome
-        ensures { result ≡ told_of (told LOOKED looked) }
-    {
-        match looked {
-            Ok(view) => Outcome::accepted(0, view.read_only, view.head, view.tail),
-            Err(fault) => Outcome::of_fault(fault),
-        }
-    }
-
-    /// An answer of one number.
-    #[inline(always)]
-    pub(crate) fn of_number(answer: Result<u64, Fault>) -> Outcome
-        ensures { result ≡ number_told (λ x. x) answer }
-    {
-        match answer {
-            Ok(x) => Outcome::accepted(x, 0, 0, 0),
-            Err(fault) => Outcome::of_fault(fault),
-        }
-    }
-
-    /// An answer that tells nothing.
-    #[inline(always)]
-    pub(crate) fn of_nothing(answer: Result<(), Fault>) -> Outcome
-        ensures { result ≡ number_told (λ _. 0) answer }
-    {
-        match answer {
-            Ok(()) => Outcome::accepted(0, 0, 0, 0),
-            Err(fault) => Outcome::of_fault(fault),
         }
     }
 

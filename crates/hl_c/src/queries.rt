@@ -9,7 +9,6 @@ ghost use Rattle.hl_c.specs.Outcomes.{six_told, no_six, snapshot_told, no_snapsh
 use crate::handle::Handle;
 use crate::outcome::Outcome;
 use crate::quantities::{SixOutcome, SnapshotOutcome};
-use core::mem::replace_with;
 
 /// The six offsets.
 #[unsafe(no_mangle)]
@@ -17,7 +16,14 @@ pub extern "C" fn hl_six(handle: &mut Handle) -> SixOutcome
     ensures { Tells handle.old.slot.value (λ sizes A. six_told (six sizes A))
         no_six handle.new.slot.value result }
 {
-    replace_with(handle, (), told_six)
+    match handle.take_core() {
+        Some(core) => {
+            let outcome = SixOutcome::of(core.six());
+            handle.put_core(core);
+            outcome
+        }
+        None => SixOutcome::no_core(),
+    }
 }
 
 /// All quantities.
@@ -26,7 +32,14 @@ pub extern "C" fn hl_snapshot(handle: &mut Handle) -> SnapshotOutcome
     ensures { Tells handle.old.slot.value (λ sizes A. snapshot_told (snapshot_of sizes A))
         no_snapshot handle.new.slot.value result }
 {
-    replace_with(handle, (), told_snapshot)
+    match handle.take_core() {
+        Some(core) => {
+            let outcome = SnapshotOutcome::of(core.snapshot());
+            handle.put_core(core);
+            outcome
+        }
+        None => SnapshotOutcome::no_core(),
+    }
 }
 
 /// The pending action at a place, 0 being the oldest, and how many are pending. Out of range where there is
@@ -36,7 +49,14 @@ pub extern "C" fn hl_pending(handle: &mut Handle, place: u64) -> Outcome
     ensures { Tells handle.old.slot.value (λ sizes A. pending_told place (pending A))
         no_core handle.new.slot.value result }
 {
-    replace_with(handle, place, told_pending)
+    match handle.take_core() {
+        Some(core) => {
+            let outcome = Outcome::of_pending(&core.pending(), place);
+            handle.put_core(core);
+            outcome
+        }
+        None => Outcome::no_core(),
+    }
 }
 
 /// A frame's state, and its page, if it has one. Out of range where there is no such frame.
@@ -46,7 +66,19 @@ pub extern "C" fn hl_frame(handle: &mut Handle, frame: u64) -> Outcome
         (λ sizes A. if nat_lt frame sizes.frames then frame_told (frame_of sizes frame A) else out_of_range)
         no_core handle.new.slot.value result }
 {
-    replace_with(handle, frame, told_frame)
+    match handle.take_core() {
+        Some(core) => {
+            let outcome = if frame < core.params().frames() {
+                let (state, page) = core.frame(frame);
+                Outcome::of_frame(state, page)
+            } else {
+                Outcome::out_of_range()
+            };
+            handle.put_core(core);
+            outcome
+        }
+        None => Outcome::no_core(),
+    }
 }
 
 /// A slot's view, if it is protected.
@@ -55,76 +87,12 @@ pub extern "C" fn hl_view(handle: &mut Handle, slot: u64) -> Outcome
     ensures { Tells handle.old.slot.value (λ sizes A. view_told (slot_view sizes slot A))
         no_core handle.new.slot.value result }
 {
-    replace_with(handle, slot, told_view)
-}
-
-fn told_six(handle: Handle, _nothing: ()) -> (Handle, SixOutcome)
-    ensures { Tells handle.slot.value (λ sizes A. six_told (six sizes A))
-        no_six result.0.slot.value result.1 }
-{
-    match handle.into_core() {
-        Ok(core) => {
-            let outcome = SixOutcome::of(core.six());
-            (Handle::of(core), outcome)
-        }
-        Err(handle) => (handle, SixOutcome::no_core()),
-    }
-}
-
-fn told_snapshot(handle: Handle, _nothing: ()) -> (Handle, SnapshotOutcome)
-    ensures { Tells handle.slot.value (λ sizes A. snapshot_told (snapshot_of sizes A))
-        no_snapshot result.0.slot.value result.1 }
-{
-    match handle.into_core() {
-        Ok(core) => {
-            let outcome = SnapshotOutcome::of(core.snapshot());
-            (Handle::of(core), outcome)
-        }
-        Err(handle) => (handle, SnapshotOutcome::no_core()),
-    }
-}
-
-fn told_pending(handle: Handle, place: u64) -> (Handle, Outcome)
-    ensures { Tells handle.slot.value (λ sizes A. pending_told place (pending A))
-        no_core result.0.slot.value result.1 }
-{
-    match handle.into_core() {
-        Ok(core) => {
-            let outcome = Outcome::of_pending(&core.pending(), place);
-            (Handle::of(core), outcome)
-        }
-        Err(handle) => (handle, Outcome::no_core()),
-    }
-}
-
-fn told_frame(handle: Handle, frame: u64) -> (Handle, Outcome)
-    ensures { Tells handle.slot.value
-        (λ sizes A. if nat_lt frame sizes.frames then frame_told (frame_of sizes frame A) else out_of_range)
-        no_core result.0.slot.value result.1 }
-{
-    match handle.into_core() {
-        Ok(core) => {
-            let outcome = if frame < core.params().frames() {
-                let (state, page) = core.frame(frame);
-                Outcome::of_frame(state, page)
-            } else {
-                Outcome::out_of_range()
-            };
-            (Handle::of(core), outcome)
-        }
-        Err(handle) => (handle, Outcome::no_core()),
-    }
-}
-
-fn told_view(handle: Handle, slot: u64) -> (Handle, Outcome)
-    ensures { Tells handle.slot.value (λ sizes A. view_told (slot_view sizes slot A))
-        no_core result.0.slot.value result.1 }
-{
-    match handle.into_core() {
-        Ok(core) => {
+    match handle.take_core() {
+        Some(core) => {
             let outcome = Outcome::of_view(core.view(slot));
-            (Handle::of(core), outcome)
+            handle.put_core(core);
+            outcome
         }
-        Err(handle) => (handle, Outcome::no_core()),
+        None => Outcome::no_core(),
     }
 }

@@ -1,8 +1,0 @@
-use Rattle.std.proofs.Common.{refl, rules}
-use Rattle.hl_model.specs.declared.step.Reply.TheVariants.{Ticket}
-use Rattle.hl_model.specs.declared.step.Step.TheVariants.{Close}
-use Rattle.hl_c.proofs.Calls.{number_answers}
-use Rattle.hl_c.proofs.bumps.closed.Goals as goal
-
-pub returns-in-Ok : goal.returns-in-Ok
-returns-in-Ok c = number_answers _ c.of.result.slot.value c.in-Ok.core.value c.close.new.self Close c.of_number-outcome.result Ticket (λ x. x) c.close.result (λ x. refl) c.in-Ok.ensures (search rules) (search rules) (search rules)
