@@ -57,11 +57,20 @@ fn follow_both<E: Epochs + Drop, L: Realm, M: Realm>(
     let journal = u64::from(example.journal);
     let mut alone = open_alone::<E, L>(alloc, one, journal, STAMP)?;
     let mut shared = open_shared::<E, M>(alloc, other, journal, STAMP)?;
-    for line in example.calls.lines() {
-        ask_both(rt, &mut alone, &mut shared, line);
-    }
+    ask_lines(rt, &mut alone, &mut shared, example.calls);
     check_end(rt, alloc, alone, example.end)?;
     check_end(rt, alloc, shared, example.end)
+}
+
+fn ask_lines<E: Epochs + Drop, L: Realm, M: Realm>(
+    rt: &(impl Wait + Abort),
+    alone: &mut Play<E, L>,
+    shared: &mut Play<E, M>,
+    lines: &str,
+) {
+    for line in lines.lines() {
+        ask_both(rt, alone, shared, line);
+    }
 }
 
 // Both answer as the line tells, and have the same quantities then.
