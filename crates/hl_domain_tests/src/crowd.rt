@@ -2,11 +2,11 @@
 ghost use Rattle.std.specs.Prelude.{◌≡◌};
 ghost use Rattle.hl_words.specs.States.{IsSeedOf};
 
-use crate::jobs::Pages;
+use crate::jobs::{Anything, Pages, Tells};
 use crate::work::{Sums, Worker, take_and_run, work};
 use hl_counts::CountTable;
-use hl_laws::Base;
-use hl_model::{Fault, Params, Snapshot, Step};
+use hl_domain::Ending;
+use hl_model::{Fault, Params};
 use hl_plain::Plain;
 use hl_words::{Realm, Rider, Seed};
 use std::alloc::Global;
@@ -62,14 +62,25 @@ fn crowd<R: Threads + Wait + Abort + Sync, L: Realm + Send + Sync>(
     requires named { (seed.sizes ≡ L.sizes) × (1000 ≡ L.stamp) }
 {
     let (domain, riders) = Pages::<CountTable, L>::open(alloc, seed, 1 << 21, 1000)?;
-    let workers = work_all(rt, &domain, workers_of(alloc, riders)?, 20_000)?;
+    let workers = work_long(rt, alloc, &domain, riders)?;
+    close_and_compare(rt, alloc, domain, workers)
+}
+
+// Many rounds, a last cut, some more rounds, and what they left.
+fn work_long<R: Threads + Wait + Abort + Sync, L: Realm + Send + Sync>(
+    rt: &R,
+    alloc: Global,
+    domain: &Pages<CountTable, L>,
+    riders: Vec<Rider<L>>,
+) -> Result<Vec<Worker<L>>, Fail> {
+    let workers = work_all(rt, domain, workers_of(alloc, riders)?, 20_000)?;
     // What follows is short, and nobody cuts it: the slow form looks at each step many times.
-    let workers = cut_last(rt, &domain, workers)?;
-    let mut workers = work_all(rt, &domain, workers, 10)?;
-    run_rest(rt, &domain, &mut workers)?;
+    let workers = cut_last(rt, domain, workers)?;
+    let mut workers = work_all(rt, domain, workers, 10)?;
+    run_rest(rt, domain, &mut workers)?;
     let (now, _, _) = domain.snapshot(rt);
     assert!(rt; now.six.head > 32, "no frame was used again");
-    close_and_compare(rt, alloc, domain, workers)
+    Ok(workers)
 }
 
 // The first worker cuts once more, and then no more.
@@ -113,17 +124,16 @@ fn close_and_compare<R: Abort, L: Realm>(
     let Ok(ending) = domain.close(riders_of(alloc, workers)?) else {
         panic!(rt; "a rider is missing")
     };
+    check_counts(rt, &ending, cut, shares);
+    compare(rt, alloc, &ending)
+}
+
+// So many steps were cut, and with those that are kept they are as many as the shares. Nothing is pending.
+fn check_counts(rt: &impl Abort, ending: &Ending<Tells, Anything>, cut: u64, shares: u64) {
     let steps = ending.journal.len() as u64;
     assert_eq!(rt; ending.cut, cut);
     assert_eq!(rt; ending.cut.wrapping_add(steps), shares);
     assert_eq!(rt; ending.left.pending().len(), 0);
-    compare(
-        rt,
-        alloc,
-        &ending.base,
-        ending.journal.as_slice(),
-        ending.snapshot,
-    )
 }
 
 // The sum of the shares of all riders. No worker met a fault, and each job that was stored was run once.
@@ -154,19 +164,13 @@ fn riders_of<L: Realm>(alloc: Global, workers: Vec<Worker<L>>) -> Result<Vec<Rid
     Ok(riders)
 }
 
-fn compare(
-    rt: &impl Abort,
-    alloc: Global,
-    base: &Base,
-    journal: &[Step],
-    snapshot: Snapshot,
-) -> Result<(), Fail> {
-    let mut plain = Plain::from_base(alloc, base)?;
-    for step in journal {
+fn compare(rt: &impl Abort, alloc: Global, ending: &Ending<Tells, Anything>) -> Result<(), Fail> {
+    let mut plain = Plain::from_base(alloc, &ending.base)?;
+    for step in ending.journal.iter() {
         let reply = plain.step(step);
         assert!(rt; reply.is_ok(), "{step:?} is accepted");
     }
-    assert_eq!(rt; plain.snapshot(), snapshot);
+    assert_eq!(rt; plain.snapshot(), ending.snapshot);
     Ok(())
 }
 

@@ -1,279 +1,337 @@
 //! Worked examples: each is asked of a keeper that stands alone and of a domain, over both tables of epochs.
-use crate::follow::{At, End, Example, follow};
-use crate::jobs::view;
-use crate::play::{Answer, Call, OfPass, OfRider};
-use hl_model::{Fault, Kind, Reply, Step};
+use crate::follow::{Example, follow};
 use std::test::Fail;
 
-// A pass stores until it has no room for another touch. Another sees a raise by a look alone, and stores below it no
-// longer.
-#[test]
-fn touches(rt: HostRuntime) -> Result<(), Fail> {
-    let calls = [
-        (Call::Acquire(0), Answer::Saw(view(0, 0, 0))),
-        (Call::Pass(0, OfPass::Allocate(4)), Answer::Told(0)),
-        (Call::Pass(0, OfPass::Store(1, 5)), Answer::Done),
-        (Call::Pass(0, OfPass::Load(1)), Answer::Told(5)),
-        (Call::Pass(0, OfPass::Refresh), Answer::Saw(view(0, 0, 4))),
-        (Call::Pass(0, OfPass::Fill(2, 32)), Answer::Done),
-        (
-            Call::Pass(0, OfPass::Store(2, 32)),
-            Answer::Met(Fault::TouchesFull),
-        ),
-        (Call::Acquire(1), Answer::Saw(view(0, 0, 4))),
-        (Call::Rider(OfRider::Raise(4)), Answer::Told(4)),
-        (Call::Pass(1, OfPass::Look), Answer::Saw(view(4, 0, 4))),
-        (
-            Call::Pass(1, OfPass::Store(1, 6)),
-            Answer::Met(Fault::Below { read_only: 4 }),
-        ),
-        (Call::Release(0), Answer::Done),
-        (Call::Release(1), Answer::Done),
-    ];
-    let end = End {
-        shares: &[37, 3, 1],
-        steps: &[
-            Step::Acquire { t: 0 },
-            Step::Allocate { t: 0, n: 4 },
-            Step::Write { t: 0, a: 1, v: 5 },
-            Step::Refresh { t: 0 },
-        ],
-        kept: 41,
-        cut: 0,
-        base: At::FIRST,
-        waiting: &[],
-    };
-    let example = Example {
-        journal: 100,
-        calls: &calls,
-        end: Some(end),
-    };
-    follow(&rt, rt.alloc(), &example)
-}
+// A pass stores until it has no room for another touch. Another sees a raise, and stores below it no longer.
+const TOUCHES: Example = Example {
+    journal: 100,
+    calls: "acquire 0 -> view 0 0 0
+alloc 0 4 -> at 0
+write 0 1 5 -> written
+read 0 1 -> value 5
+refresh 0 -> view 0 0 4
+32 times write 0 2 7 -> written
+write 0 2 7 -> fault 25 TouchesFull
+acquire 1 -> view 0 0 4
+raise 4 -> read_only 4
+refresh 1 -> view 4 0 4
+write 1 1 6 -> fault 17 Below read_only 4
+release 0 -> left
+release 1 -> left",
+    end: "shares 37 3 1
+cut 0
+base 1 0 0 0 0 0 0 0 0, slot, slot, frame, frame
+journal 41
+acquire 0
+alloc 0 4
+write 0 1 5
+refresh 0
+acquire 1
+raise 4
+refresh 1
+write 0 2 7
+",
+};
+
+// The same by a look.
+const LOOK: Example = Example {
+    journal: 100,
+    calls: "acquire 0 -> view 0 0 0
+alloc 0 4 -> at 0
+acquire 1 -> view 0 0 4
+raise 4 -> read_only 4
+look 1 -> view 4 0 4
+write 1 1 6 -> fault 17 Below read_only 4
+release 0 -> left
+release 1 -> left",
+    end: "shares 3 3 1
+cut 0
+base 1 0 0 0 0 0 0 0 0, slot, slot, frame, frame
+journal 7
+acquire 0
+alloc 0 4
+acquire 1
+raise 4
+release 0
+look 1 4 0
+release 1
+",
+};
 
 // A word that one pass stores another loads; then an action is stored, and left.
-#[test]
-fn an_action_is_left(rt: HostRuntime) -> Result<(), Fail> {
-    let calls = [
-        (Call::Acquire(0), Answer::Saw(view(0, 0, 0))),
-        (Call::Acquire(1), Answer::Saw(view(0, 0, 0))),
-        (Call::Pass(0, OfPass::Allocate(4)), Answer::Told(0)),
-        (Call::Pass(0, OfPass::Store(1, 5)), Answer::Done),
-        (Call::Pass(1, OfPass::Refresh), Answer::Saw(view(0, 0, 4))),
-        (Call::Pass(1, OfPass::Load(1)), Answer::Told(5)),
-        (Call::Rider(OfRider::Job(9)), Answer::Told(1)),
-        (Call::Release(0), Answer::Done),
-        (Call::Release(1), Answer::Done),
-    ];
-    let end = End {
-        shares: &[4, 3, 1],
-        steps: &[
-            Step::Acquire { t: 0 },
-            Step::Acquire { t: 1 },
-            Step::Allocate { t: 0, n: 4 },
-            Step::Refresh { t: 1 },
-            Step::Bump { tag: 9 },
-            Step::Write { t: 0, a: 1, v: 5 },
-            Step::Release { t: 0 },
-            Step::Release { t: 1 },
-        ],
-        kept: 8,
-        cut: 0,
-        base: At::FIRST,
-        waiting: &[(1, Kind::User(9))],
-    };
-    let example = Example {
-        journal: 100,
-        calls: &calls,
-        end: Some(end),
-    };
-    follow(&rt, rt.alloc(), &example)
-}
+const LEFT_ACTION: Example = Example {
+    journal: 100,
+    calls: "acquire 0 -> view 0 0 0
+acquire 1 -> view 0 0 0
+alloc 0 4 -> at 0
+write 0 1 5 -> written
+refresh 1 -> view 0 0 4
+read 1 1 -> value 5
+bump 9 -> ticket 1
+release 0 -> left
+release 1 -> left",
+    end: "shares 4 3 1
+cut 0
+base 1 0 0 0 0 0 0 0 0, slot, slot, frame, frame
+left user 1 9
+journal 8
+acquire 0
+acquire 1
+alloc 0 4
+refresh 1
+bump 9
+write 0 1 5
+release 0
+release 1
+",
+};
 
 // The pages are settled, the first is flushed, and the head is shifted over it. The second slot reads the page until
 // it has seen the close; once the page is clean, its frame is used again.
-#[test]
-fn a_stale_reader(rt: HostRuntime) -> Result<(), Fail> {
-    let calls = [
-        (Call::Acquire(0), Answer::Saw(view(0, 0, 0))),
-        (Call::Pass(0, OfPass::Allocate(4)), Answer::Told(0)),
-        (Call::Pass(0, OfPass::Allocate(4)), Answer::Told(4)),
-        (Call::Acquire(1), Answer::Saw(view(0, 0, 8))),
-        (
-            Call::Pass(0, OfPass::Allocate(1)),
-            Answer::Met(Fault::Busy { page: 2 }),
-        ),
-        (Call::Rider(OfRider::Raise(8)), Answer::Told(8)),
-        (Call::Rider(OfRider::Settle), Answer::Told(1)),
-        (Call::Pass(0, OfPass::Refresh), Answer::Saw(view(8, 0, 8))),
-        (Call::Pass(1, OfPass::Refresh), Answer::Saw(view(8, 0, 8))),
-        (
-            Call::Rider(OfRider::Act),
-            Answer::Acted(1, Reply::Settled(8)),
-        ),
-        (Call::Rider(OfRider::Flush), Answer::Flushed(0, 4)),
-        (Call::Rider(OfRider::Shift(4)), Answer::Told(4)),
-        (Call::Rider(OfRider::Close), Answer::Told(2)),
-        (Call::Pass(1, OfPass::Load(0)), Answer::Told(0)),
-        (Call::Pass(0, OfPass::Refresh), Answer::Saw(view(8, 4, 8))),
-        (
-            Call::Rider(OfRider::Act),
-            Answer::Met(Fault::NotReady { front: 2, safe: 1 }),
-        ),
-        (
-            Call::Pass(0, OfPass::Allocate(1)),
-            Answer::Met(Fault::Busy { page: 2 }),
-        ),
-        (Call::Pass(1, OfPass::Refresh), Answer::Saw(view(8, 4, 8))),
-        (
-            Call::Rider(OfRider::Act),
-            Answer::Acted(2, Reply::Closed(4)),
-        ),
-        (
-            Call::Pass(1, OfPass::Load(0)),
-            Answer::Met(Fault::Evicted { head: 4 }),
-        ),
-        (
-            Call::Pass(0, OfPass::Allocate(1)),
-            Answer::Met(Fault::Busy { page: 2 }),
-        ),
-        (Call::Rider(OfRider::Clean), Answer::Cleaned(0)),
-        (Call::Pass(0, OfPass::Allocate(1)), Answer::Told(8)),
-    ];
-    let example = Example {
-        journal: 100,
-        calls: &calls,
-        end: None,
-    };
-    follow(&rt, rt.alloc(), &example)
-}
+const STALE_READER: Example = Example {
+    journal: 100,
+    calls: "acquire 0 -> view 0 0 0
+alloc 0 4 -> at 0
+alloc 0 4 -> at 4
+acquire 1 -> view 0 0 8
+alloc 0 1 -> fault 15 Busy page 2
+raise 8 -> read_only 8
+settle -> ticket 1
+refresh 0 -> view 8 0 8
+refresh 1 -> view 8 0 8
+take -> taken 1
+done 1 -> safe_read_only 8
+flush take -> page 0
+flush done 0 ok -> flushed 4
+shift 4 -> head 4
+close -> ticket 2
+read 1 0 -> value 0
+refresh 0 -> view 8 4 8
+take -> fault 8 NotReady front 2 safe 1
+alloc 0 1 -> fault 15 Busy page 2
+refresh 1 -> view 8 4 8
+take -> taken 2
+done 2 -> closed 4
+read 1 0 -> fault 19 Evicted head 4
+alloc 0 1 -> fault 15 Busy page 2
+clean take -> page 0
+clean done 0 -> freed 0
+alloc 0 1 -> at 8
+release 0 -> left
+release 1 -> left",
+    end: "shares 7 4 12
+cut 0
+base 1 0 0 0 0 0 0 0 0, slot, slot, frame, frame
+journal 23
+acquire 0
+",
+};
 
 // A page is filled, settled and flushed.
-#[test]
-fn a_page_is_settled(rt: HostRuntime) -> Result<(), Fail> {
-    let calls = [
-        (Call::Acquire(0), Answer::Saw(view(0, 0, 0))),
-        (Call::Pass(0, OfPass::Allocate(4)), Answer::Told(0)),
-        (Call::Rider(OfRider::Raise(4)), Answer::Told(4)),
-        (Call::Rider(OfRider::Settle), Answer::Told(1)),
-        (
-            Call::Rider(OfRider::Act),
-            Answer::Met(Fault::NotReady { front: 1, safe: 0 }),
-        ),
-        (Call::Pass(0, OfPass::Refresh), Answer::Saw(view(4, 0, 4))),
-        (
-            Call::Rider(OfRider::Act),
-            Answer::Acted(1, Reply::Settled(4)),
-        ),
-        (Call::Rider(OfRider::Flush), Answer::Flushed(0, 4)),
-        (Call::Rider(OfRider::Flush), Answer::Met(Fault::NoneSealed)),
-        (Call::Release(0), Answer::Done),
-    ];
-    let end = End {
-        shares: &[0, 4, 6],
-        steps: &[
-            Step::Acquire { t: 0 },
-            Step::Allocate { t: 0, n: 4 },
-            Step::Raise { x: 4 },
-            Step::Settle,
-            Step::Refresh { t: 0 },
-            Step::Take,
-            Step::Done { ticket: 1 },
-            Step::FlushTake,
-            Step::FlushDone { page: 0, ok: true },
-            Step::Release { t: 0 },
-        ],
-        kept: 10,
-        cut: 0,
-        base: At::FIRST,
-        waiting: &[],
-    };
-    let example = Example {
-        journal: 100,
-        calls: &calls,
-        end: Some(end),
-    };
-    follow(&rt, rt.alloc(), &example)
-}
+const SETTLED_PAGE: Example = Example {
+    journal: 100,
+    calls: "acquire 0 -> view 0 0 0
+alloc 0 4 -> at 0
+raise 4 -> read_only 4
+settle -> ticket 1
+take -> fault 8 NotReady front 1 safe 0
+refresh 0 -> view 4 0 4
+take -> taken 1
+done 1 -> safe_read_only 4
+flush take -> page 0
+flush done 0 ok -> flushed 4
+flush take -> fault 20 NoneSealed
+release 0 -> left",
+    end: "shares 0 4 6
+cut 0
+base 1 0 0 0 0 0 0 0 0, slot, slot, frame, frame
+journal 10
+acquire 0
+alloc 0 4
+raise 4
+settle
+refresh 0
+take
+done 1
+flush take
+flush done 0 ok
+release 0
+",
+};
 
 // A settle waits for a slot that nobody will release.
-#[test]
-fn a_pass_is_abandoned(rt: HostRuntime) -> Result<(), Fail> {
-    let calls = [
-        (Call::Acquire(0), Answer::Saw(view(0, 0, 0))),
-        (Call::Pass(0, OfPass::Allocate(4)), Answer::Told(0)),
-        (Call::Pass(0, OfPass::Store(0, 7)), Answer::Done),
-        (Call::Abandon(0), Answer::Done),
-        (Call::Rider(OfRider::Raise(4)), Answer::Told(4)),
-        (Call::Rider(OfRider::Settle), Answer::Told(1)),
-        (
-            Call::Rider(OfRider::Act),
-            Answer::Met(Fault::NotReady { front: 1, safe: 0 }),
-        ),
-        (Call::Acquire(0), Answer::Met(Fault::Occupied)),
-    ];
-    let end = End {
-        shares: &[0, 2, 2],
-        steps: &[
-            Step::Acquire { t: 0 },
-            Step::Allocate { t: 0, n: 4 },
-            Step::Raise { x: 4 },
-            Step::Settle,
-        ],
-        kept: 4,
-        cut: 0,
-        base: At::FIRST,
-        waiting: &[(1, Kind::Settle(4))],
-    };
-    let example = Example {
-        journal: 100,
-        calls: &calls,
-        end: Some(end),
-    };
-    follow(&rt, rt.alloc(), &example)
-}
+const ABANDONED_PASS: Example = Example {
+    journal: 100,
+    calls: "acquire 0 -> view 0 0 0
+alloc 0 4 -> at 0
+write 0 0 7 -> written
+abandon 0 -> left
+raise 4 -> read_only 4
+settle -> ticket 1
+take -> fault 8 NotReady front 1 safe 0
+acquire 0 -> fault 2 Occupied",
+    end: "shares 0 2 2
+cut 0
+base 1 0 0 0 0 0 0 0 0, slot, slot, frame, frame
+left settle 1 4
+journal 4
+acquire 0
+alloc 0 4
+raise 4
+settle
+",
+};
 
 // A page that is given up stays in flight.
+const FORSAKEN_LOAD: Example = Example {
+    journal: 100,
+    calls: "acquire 0 -> view 0 0 0
+alloc 0 4 -> at 0
+raise 4 -> read_only 4
+settle -> ticket 1
+release 0 -> left
+take -> taken 1
+done 1 -> safe_read_only 4
+flush take -> page 0
+forsake 0 -> page 0
+shift 4 -> fault 13 AboveFlushed
+flush take -> fault 20 NoneSealed",
+    end: "shares 0 3 5
+cut 0
+base 1 0 0 0 0 0 0 0 0, slot, slot, frame, frame
+journal 8
+acquire 0
+alloc 0 4
+raise 4
+settle
+release 0
+take
+done 1
+flush take
+",
+};
+
+// The journal has no room for a third step.
+const FULL_JOURNAL: Example = Example {
+    journal: 2,
+    calls: "acquire 0 -> view 0 0 0
+alloc 0 1 -> at 0
+refresh 0 -> fault 27 JournalFull
+release 0 -> fault 27 JournalFull
+abandon 0 -> left",
+    end: "shares 0 2 0
+cut 0
+base 1 0 0 0 0 0 0 0 0, slot, slot, frame, frame
+journal 2
+acquire 0
+alloc 0 1
+",
+};
+
+// There is no room for a step.
+const NO_JOURNAL: Example = Example {
+    journal: 0,
+    calls: "bump 7 -> fault 27 JournalFull
+bare -> fault 27 JournalFull
+settle -> fault 27 JournalFull
+cut -> answer 0
+acquire 0 -> fault 27 JournalFull",
+    end: "shares 0 0 0
+cut 0
+base 1 0 0 0 0 0 0 0 0, slot, slot, frame, frame
+journal 0
+",
+};
+
+// Four steps fill the journal; once they are cut, the next are kept.
+const CUT_JOURNAL: Example = Example {
+    journal: 4,
+    calls: "acquire 0 -> view 0 0 0
+alloc 0 4 -> at 0
+refresh 0 -> view 0 0 4
+write 0 1 5 -> written
+raise 4 -> read_only 4
+refresh 0 -> fault 27 JournalFull
+cut -> answer 4
+cut -> answer 0
+refresh 0 -> view 4 0 4
+release 0 -> left",
+    end: "shares 0 6 1
+cut 4
+base 1 0 0 0 0 0 0 4 4, slot 1 0 0 4, slot, frame 0 0 0 0 0, frame
+journal 3
+write 0 1 5
+refresh 0
+release 0
+",
+};
+
+// An action and two pages are taken, and a pass is acquired, which fills the journal: each locked call that makes a
+// step is refused.
+const FULL_AT_WORK: Example = Example {
+    journal: 21,
+    calls: "acquire 0 -> view 0 0 0
+alloc 0 4 -> at 0
+alloc 0 4 -> at 4
+raise 8 -> read_only 8
+settle -> ticket 1
+refresh 0 -> view 8 0 8
+take -> taken 1
+done 1 -> safe_read_only 8
+flush take -> page 0
+flush done 0 ok -> flushed 4
+shift 4 -> head 4
+close -> ticket 2
+refresh 0 -> view 8 4 8
+take -> taken 2
+done 2 -> closed 4
+bump 9 -> ticket 3
+release 0 -> left
+take -> taken 3
+flush take -> page 1
+clean take -> page 0
+acquire 0 -> view 8 4 8
+settle -> fault 27 JournalFull
+close -> fault 27 JournalFull
+bump 9 -> fault 27 JournalFull
+bare -> fault 27 JournalFull
+raise 1 -> fault 27 JournalFull
+shift 8 -> fault 27 JournalFull
+take -> fault 27 JournalFull
+flush take -> fault 27 JournalFull
+clean take -> fault 27 JournalFull
+done 3 -> fault 27 JournalFull
+flush done 1 ok -> fault 27 JournalFull
+clean done 0 -> fault 27 JournalFull
+acquire 1 -> fault 27 JournalFull
+refresh 0 -> fault 27 JournalFull
+alloc 0 1 -> fault 27 JournalFull
+release 0 -> fault 27 JournalFull
+abandon 0 -> left",
+    end: "shares 0 7 14
+cut 0
+base 1 0 0 0 0 0 0 0 0, slot, slot, frame, frame
+journal 21
+acquire 0
+",
+};
+
 #[test]
-fn a_load_is_forsaken(rt: HostRuntime) -> Result<(), Fail> {
-    let calls = [
-        (Call::Acquire(0), Answer::Saw(view(0, 0, 0))),
-        (Call::Pass(0, OfPass::Allocate(4)), Answer::Told(0)),
-        (Call::Rider(OfRider::Raise(4)), Answer::Told(4)),
-        (Call::Rider(OfRider::Settle), Answer::Told(1)),
-        (Call::Release(0), Answer::Done),
-        (
-            Call::Rider(OfRider::Act),
-            Answer::Acted(1, Reply::Settled(4)),
-        ),
-        (Call::Rider(OfRider::Forsake), Answer::Told(0)),
-        (
-            Call::Rider(OfRider::Shift(4)),
-            Answer::Met(Fault::AboveFlushed),
-        ),
-        (Call::Rider(OfRider::Flush), Answer::Met(Fault::NoneSealed)),
-    ];
-    let end = End {
-        shares: &[0, 3, 5],
-        steps: &[
-            Step::Acquire { t: 0 },
-            Step::Allocate { t: 0, n: 4 },
-            Step::Raise { x: 4 },
-            Step::Settle,
-            Step::Release { t: 0 },
-            Step::Take,
-            Step::Done { ticket: 1 },
-            Step::FlushTake,
-        ],
-        kept: 8,
-        cut: 0,
-        base: At::FIRST,
-        waiting: &[],
-    };
-    let example = Example {
-        journal: 100,
-        calls: &calls,
-        end: Some(end),
-    };
-    follow(&rt, rt.alloc(), &example)
+fn worked_examples(rt: HostRuntime) -> Result<(), Fail> {
+    for example in [
+        &TOUCHES,
+        &LOOK,
+        &LEFT_ACTION,
+        &STALE_READER,
+        &SETTLED_PAGE,
+        &ABANDONED_PASS,
+        &FORSAKEN_LOAD,
+        &FULL_JOURNAL,
+        &NO_JOURNAL,
+        &CUT_JOURNAL,
+        &FULL_AT_WORK,
+    ] {
+        follow(&rt, rt.alloc(), example)?;
+    }
+    Ok(())
 }

@@ -3,13 +3,15 @@
 //!
 //! | Module | What is tested there, or what it is for |
 //! |---|---|
-//! | `examples` | worked examples as tables of calls and answers, for a keeper that stands alone and for a domain |
+//! | `examples` | worked examples as journals in text, for a keeper that stands alone and for a domain |
 //! | `crowd` | many threads on one domain, and on two |
 //! | `strangers` | what is of another domain |
 //! | `refusals` | riders that are missing |
-//! | `journals` | how many steps a journal holds, what a full one refuses, and what a cut leaves of it |
+//! | `journals` | how many steps a journal holds |
 //! | `limits` | the greatest sizes, stamps and journals, and a chain of jobs |
-//! | `follow`, `play`, `asks` | plays an example; a call and its answer; keeper or domain |
+//! | `follow`, `play` | plays an example; what is asked, with the values that the calls use |
+//! | `call`, `ending` | reads a call, and prints what is left at the end |
+//! | `asked`, `alone`, `shared` | what is asked; a keeper, and a domain |
 //! | `work` | for `crowd`: what one of its threads does |
 //! | `jobs` | for all: what they store, and small helpers |
 //!
@@ -17,9 +19,15 @@
 #![tactic(auto)]
 
 #[cfg(test)]
-mod asks;
+mod alone;
+#[cfg(test)]
+mod asked;
+#[cfg(test)]
+mod call;
 #[cfg(test)]
 mod crowd;
+#[cfg(test)]
+mod ending;
 #[cfg(test)]
 mod examples;
 #[cfg(test)]
@@ -34,6 +42,8 @@ mod limits;
 mod play;
 #[cfg(test)]
 mod refusals;
+#[cfg(test)]
+mod shared;
 #[cfg(test)]
 mod strangers;
 #[cfg(test)]

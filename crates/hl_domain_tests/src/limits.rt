@@ -2,7 +2,11 @@
 ghost use Rattle.std.specs.Prelude.{◌≡◌};
 ghost use Rattle.hl_words.specs.States.{IsSeedOf};
 
+use crate::asked::Either;
+use crate::follow::ask_all;
 use crate::jobs::{Pages, job, passed, released, small_seed, ticket_of};
+use crate::play::Play;
+use crate::shared::open_shared;
 use crossbeam_channel::unbounded;
 use hl_counts::CountTable;
 use hl_domain::Pass;
@@ -82,42 +86,32 @@ fn the_greatest_sizes(rt: HostRuntime) -> Result<(), Fail> {
     greatest_sizes::<Brand>(&rt, rt.alloc(), Seed::make(rt.alloc(), params, 128)?)
 }
 
-// The stamps of its passes are above that of the domain.
+// A pass and an action of the domain with the last stamp. The stamps of its passes are above that of the domain.
+const LAST: &str = "acquire 0 -> view 0 0 0
+alloc 0 1 -> at 0
+bump 9 -> ticket 1
+refresh 0 -> view 0 0 1
+take -> taken 1";
+
 fn last_stamp<L: Realm>(rt: &(impl Wait + Abort), alloc: Global, seed: Seed) -> Result<(), Fail>
     requires seed { IsSeedOf L.name L.parts L.table seed }
     requires named { (seed.sizes ≡ L.sizes) × (4_611_686_018_427_387_904 ≡ L.stamp) }
 {
-    let (domain, mut riders) = Pages::<CountTable, L>::open(alloc, seed, 100, 1 << 62)?;
-    assert_eq!(rt; domain.stamp(), 1 << 62);
-    let mut second = riders.pop().ok_or("two riders")?;
-    let rider = riders.pop().ok_or("two riders")?;
-    let mut pass = passed(domain.acquire(rt, 0, rider))?;
-    bump_and_run(rt, &domain, &mut pass, &mut second)?;
-    assert!(rt; domain.release(rt, pass).is_ok());
+    let mut play = open_shared::<CountTable, L>(alloc, seed, 100, 1 << 62)?;
+    use_last(rt, &mut play);
     Ok(())
 }
 
-// An action is stored, taken once the pass has refreshed, and done; it names its domain.
-fn bump_and_run<L: Realm>(
-    rt: &(impl Wait + Abort),
-    domain: &Pages<CountTable, L>,
-    pass: &mut Pass<L>,
-    rider: &mut Rider<L>,
-) -> Result<(), Fail> {
-    assert_eq!(rt; domain.allocate(rt, pass, 1), Ok(0));
-    assert_eq!(rt; ticket_of(domain.bump(rt, rider, job(9, 90))), Ok(1));
-    assert!(rt; domain.refresh(rt, pass).is_ok());
-    let ran = domain.take(rt, rider)?.run();
-    let origin = ran.origin();
-    let done = match domain.done(rt, rider, ran) {
-        Ok(reply) => Some(reply),
-        Err((_, ran)) => {
-            ran.forsake();
-            None
-        }
-    };
-    assert!(rt; origin == 1 << 62 && done == Some(Reply::Ran(9)));
-    Ok(())
+fn use_last<L: Realm>(rt: &(impl Wait + Abort), play: &mut Play<CountTable, L>) {
+    if let Either::Shared(domain) = &play.asked {
+        assert_eq!(rt; domain.stamp(), 1 << 62);
+    }
+    ask_all(rt, play, LAST);
+    assert_eq!(rt;
+        play.taken.first().map(|taken| taken.out.origin()),
+        Some(1 << 62)
+    );
+    ask_all(rt, play, "done 1 -> ran 9\nrelease 0 -> left");
 }
 
 #[test]

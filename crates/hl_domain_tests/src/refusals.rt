@@ -19,16 +19,36 @@ fn held_pass<L: Realm>(rt: &(impl Wait + Abort), alloc: Global, seed: Seed) -> R
 {
     let (domain, mut riders) = Pages::<CountTable, L>::open(alloc, seed, 100, 2000)?;
     let rider = riders.pop().ok_or("a rider")?;
+    let pass = start(rt, &domain, rider)?;
+    refuse_and_close(rt, domain, riders, pass)
+}
+
+fn start<L: Realm>(
+    rt: &(impl Wait + Abort),
+    domain: &Pages<CountTable, L>,
+    rider: Rider<L>,
+) -> Result<Pass<L>, Fault> {
     let mut pass = passed(domain.acquire(rt, 0, rider))?;
-    assert_eq!(rt; domain.allocate(rt, &mut pass, 4), Ok(0));
+    let place = domain.allocate(rt, &mut pass, 4);
+    assert_eq!(rt; place, Ok(0));
+    Ok(pass)
+}
+
+// The close is refused and all comes back; once the pass is released, the domain is closed.
+fn refuse_and_close<L: Realm>(
+    rt: &(impl Wait + Abort),
+    domain: Pages<CountTable, L>,
+    riders: Vec<Rider<L>>,
+    pass: Pass<L>,
+) -> Result<(), Fail> {
     let before = domain.snapshot(rt);
     let Err((fault, domain, mut riders)) = domain.close(riders) else {
         panic!(rt; "a rider is missing")
     };
-    assert_eq!(rt; fault, Fault::Stranger { stamp: 2000 });
-    assert!(rt; riders.len() == 1 && domain.snapshot(rt) == before);
+    let as_before = riders.len() == 1 && domain.snapshot(rt) == before;
     riders.push(go_on(rt, &domain, pass)?)?;
-    assert!(rt; domain.close(riders).is_ok());
+    let closed = domain.close(riders).is_ok();
+    assert!(rt; fault == Fault::Stranger { stamp: 2000 } && as_before && closed);
     Ok(())
 }
 
