@@ -61,5 +61,7 @@ pub use hl_action::Firing;
 pub use hl_drain::{Action, Ask, Drain};
 pub use hl_epoch::{Epochs, ScanTable};
 pub use hl_laws::Base;
-pub use hl_model::{Fault, FrameState, Kind, Params, Reply, Six, Slot, Snapshot, Step, Tag, Tagged, View, Waiting};
+pub use hl_model::{
+    Fault, FrameState, Kind, Params, Reply, Six, Slot, Snapshot, Step, Tag, Tagged, View, Waiting,
+};
 pub use state::Core;
