@@ -5,15 +5,15 @@
 declare -A weights=(
     [hl_model]=110 [hl_laws]=65 [hl_plain]=232 [hl_epoch]=53 [hl_counts]=58 [hl_drain]=66 [hl_action]=51 [hl_offsets]=28
     [hl_frames]=53 [hl_words]=80 [hl_image]=65 [hl_line]=115 [hl_core]=331 [hl_cells]=145 [hl_domain]=350
-    [hl_flush]=35 [hl_monitor]=26 [hl_crew]=230 [hl_race]=130 [hl_script]=175 [hl_commands]=65 [hl_tool]=150
+    [hl_flush]=35 [hl_monitor]=26 [hl_crew]=230 [hl_race]=130 [hl_script]=175 [hl_commands]=65 [hl_first]=30 [hl_tool]=150
 )
-declare -A uses=() proved=() left=()
+declare -A uses=() proved=() left=() behind=() is_begun=()
 order=()
 all=0
 
 # Begins with nothing proved: progress_begins JOBS CRATE.., each crate behind those that it stands on.
 progress_begins() {
-    local name rest
+    local name rest below i
     at_once="$1"
     shift
     order=("$@")
@@ -24,11 +24,36 @@ progress_begins() {
         left["$name"]="${weights[$name]:-$(weight_by_lines "$name")}"
         all="$((all + left[$name]))"
     done
+    # The longest chain of crates from each one up.
+    for ((i = ${#order[@]} - 1; i >= 0; i--)); do
+        name="${order[$i]}"
+        behind["$name"]="$((${behind[$name]:-0} + left[$name]))"
+        for below in ${uses[$name]}; do
+            [ "${behind[$below]:-0}" -ge "${behind[$name]}" ] || behind["$below"]="${behind[$name]}"
+        done
+    done
+}
+
+# The crates that aren't begun and stand on proved ones alone, those with the longest chain above them first.
+progress_ready() {
+    local name below
+    for name in "${order[@]}"; do
+        [ -z "${is_begun[$name]:-}" ] || continue
+        for below in ${uses[$name]}; do
+            [ "${left[$below]:-0}" = 0 ] || continue 2
+        done
+        echo "${behind[$name]} $name"
+    done | sort -rn | cut -d ' ' -f 2
+}
+
+# Takes it that a crate's proof has begun.
+progress_begun() {
+    is_begun["$1"]=1
 }
 
 # The weight of a crate that has none yet, by the lines of its sources.
 weight_by_lines() {
-    find "$top/crates/$1/"{src,specs,proofs} -type f -exec cat {} + 2> /dev/null |
+    find "$top/crates/$1" -name out -prune -o -name '*.rt' -exec cat {} + -o -name '*.antt' -exec cat {} + |
         awk 'END { print 20 + int(NR / 30) }'
 }
 
