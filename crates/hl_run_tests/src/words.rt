@@ -1,4 +1,4 @@
-ghost use Rattle.std.specs.Prelude.{◌≡◌, ◌+◌, ◌<◌, ◌≤◌, ◌^◌};
+ghost use Rattle.std.specs.Prelude.{◌≡◌, ◌+◌, ◌<◌, ◌≤◌};
 ghost use Rattle.hl_words.specs.States.{IsSeedOf};
 ghost use Rattle.hl_words.specs.Views.{no_offsets};
 
@@ -10,14 +10,11 @@ use std::process::Abort;
 use std::test::*;
 use std::thread::{Threads, join};
 
-/// The last of all cells.
-const LAST: u64 = (1 << 20) - 1;
-
-/// The greatest sizes, 256 frames of 4,096 words for 128 riders, of whom two store and load.
+/// Two frames of four words, and two riders.
 #[test]
 fn shared_words(rt: HostRuntime) -> Result<(), Fail> {
-    let params = Params::checked(4096, 256, 64, 64).ok_or("sizes in range")?;
-    let seed = Seed::make(rt.alloc(), params, 128)?;
+    let params = Params::checked(4, 2, 2, 4).ok_or("sizes in range")?;
+    let seed = Seed::make(rt.alloc(), params, 2)?;
     two_riders::<Brand, _>(&rt, rt.alloc(), seed)
 }
 
@@ -27,60 +24,66 @@ fn two_riders<L: Realm + Send + Sync, R: Threads + Abort + Sync>(
     seed: Seed,
 ) -> Result<(), Fail>
     requires seed { IsSeedOf L.name L.parts L.table seed }
-    requires sizes { seed.cells ≡ 2 ^ 20 }
+    requires sizes { seed.cells ≡ 8 }
 {
     let (words, mut master, mut riders) = Words::<L>::open(alloc, seed)?;
-    use_words(rt, &words, &mut master, &mut riders)?;
+    let other = use_words(rt, &words, &mut master, &mut riders)?;
+    let Err((words, master, mut riders)) = words.close(master, riders) else {
+        panic!(rt; "closed without a rider")
+    };
+    riders.push(other)?;
     let Ok(last) = words.close(master, riders) else {
         panic!(rt; "a rider is missing")
     };
-    assert!(rt; last.cell(0) == 0 && last.cell(LAST) == 6);
-    assert!(rt; last.offset(Which::ReadOnly) == 1 << 48 && last.offset(Which::Head) == 0);
+    assert!(rt; last.cell(0) == 0 && last.cell(1) == 6);
+    assert!(rt; last.offset(Which::ReadOnly) == 8 && last.offset(Which::Head) == 0);
     Ok(())
 }
 
-// Two of the riders store and load, offsets are raised, and steps are entered.
+// Both riders store and load, offsets are raised, and steps are entered. Leaves the first rider among them, and gives
+// the second one.
 fn use_words<L: Realm + Send + Sync, R: Threads + Abort + Sync>(
     rt: &R,
     words: &Words<L>,
     master: &mut Master<L>,
     riders: &mut Vec<Rider<L>>,
-) -> Result<(), Fail>
-    requires cells { words.now.cells ≡ 2 ^ 20 }
+) -> Result<Rider<L>, Fail>
+    requires cells { words.now.cells ≡ 8 }
     requires master { master.old ≡ record { offsets = no_offsets; total = 0 } }
 {
     let mut other = riders.pop().ok_or("a rider")?;
     let mut rider = riders.pop().ok_or("a rider")?;
-    store_last(rt, words, &mut rider, &mut other);
+    store_and_see(rt, words, &mut rider, &mut other);
     words.store_offset(master, Which::ReadOnly, 4);
-    words.store_offset(master, Which::ReadOnly, 1 << 48);
+    words.store_offset(master, Which::ReadOnly, 4);
+    words.store_offset(master, Which::ReadOnly, 8);
     see_offsets(rt, words, &mut other);
     master.enter(&mut rider, 3);
     assert!(rt; rider.share() == 3 && master.total() == 3);
     let (first, second) = both(rt, words, rider, other);
     assert!(rt; first.1 && second.1);
     riders.push(first.0)?;
-    riders.push(second.0)?;
-    Ok(())
+    Ok(second.0)
 }
 
-// What one stores the other loads.
-fn store_last<L: Realm>(
+// What one stores both load.
+fn store_and_see<L: Realm>(
     rt: &impl Abort,
     words: &Words<L>,
     rider: &mut Rider<L>,
     other: &mut Rider<L>,
 )
-    requires { words.now.cells ≡ 2 ^ 20 }
+    requires { words.now.cells ≡ 8 }
 {
-    words.store_cell(rider, LAST, 5);
-    words.store_cell(rider, LAST, 6);
-    assert_eq!(rt; words.load_cell(other, LAST), 6);
+    words.store_cell(rider, 1, 5);
+    words.store_cell(rider, 1, 6);
+    assert_eq!(rt; words.load_cell(other, 1), 6);
+    assert_eq!(rt; words.load_cell(rider, 1), 6);
 }
 
 // An offset that was raised is told, and another that wasn't.
 fn see_offsets<L: Realm>(rt: &impl Abort, words: &Words<L>, rider: &mut Rider<L>) {
-    assert_eq!(rt; words.load_offset(rider, Which::ReadOnly), 1 << 48);
+    assert_eq!(rt; words.load_offset(rider, Which::ReadOnly), 8);
     assert_eq!(rt; words.load_offset(rider, Which::Head), 0);
 }
 

@@ -94,6 +94,20 @@ fn a_job_is_called_by_its_run_alone(rt: HostRuntime) -> Result<(), Fault> {
     Ok(())
 }
 
+// A shelf with three places takes a job where its tag has a free one, and gives it once.
+#[test]
+fn shelf(rt: HostRuntime) -> Result<(), Fault> {
+    let calls = AtomicU64::new(0);
+    let mut shelf = Shelf::<_, Anything>::open(rt.alloc(), 3)?;
+    for (tag, is_back) in [(3, true), (1, false), (1, true)] {
+        let back = shelf.put(Kept::new(tag, Counted { calls: &calls }));
+        assert_eq!(rt; back.is_some(), is_back, "a job of tag {tag}");
+    }
+    let taken = [shelf.take(1).is_some(), shelf.take(1).is_some()];
+    assert_eq!(rt; (taken, shelf.has(1)), ([true, false], false));
+    Ok(())
+}
+
 #[test]
 fn refused_memory(rt: HostRuntime) {
     let shelf = Shelf::<Counted<'static>, Anything>::open(rt.alloc(), 1 << 62);

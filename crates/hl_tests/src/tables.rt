@@ -60,6 +60,34 @@ fn window_of_each_table(rt: HostRuntime) -> Result<(), Fail> {
     Ok(())
 }
 
+// A thread of each slot comes in, and all but the last see the epoch that two bumps end at.
+fn enter_and_leave_one_behind(rt: &impl Abort, table: &mut CountTable)
+    requires { table.old.table.window ≡ 2 }
+    ensures { table.new.table.window ≡ 2 }
+{
+    for t in 0..64 {
+        assert_eq!(rt; table.acquire(t), Ok(()));
+    }
+    let bumps = [bump_with_room(rt, table), bump_with_room(rt, table)];
+    assert_eq!(rt; bumps, [Ok(1), Ok(2)]);
+    for t in 0..63 {
+        assert_eq!(rt; table.refresh(t), Ok(()));
+    }
+}
+
+// However many slots there are, the last one's refresh visits no more places than the window has, and two.
+#[test]
+fn many_slots(rt: HostRuntime) -> Result<(), Fail> {
+    let mut table = CountTable::make(rt.alloc(), 64, 2)?;
+    enter_and_leave_one_behind(&rt, &mut table);
+    assert_eq!(rt;
+        (table.safe(), table.refresh(63), table.safe()),
+        (0, Ok(()), 2)
+    );
+    assert!(rt; table.turns() <= 4);
+    Ok(())
+}
+
 // The epoch of this table is the last.
 fn is_spent<E: Epochs>(rt: &impl Abort, table: &mut E)
     requires { (E.table table.old).window ≡ 2 }
