@@ -12,6 +12,7 @@ use hl_model::{Fault, Step, Tagged, Waiting};
 
 impl<E: Epochs, J: Tagged> Core<E, J> {
     /// The fault that the step would meet, or `Ok` where it would be accepted. Changes nothing.
+    #[inline(always)]
     pub fn check(&self, step: &Step) -> Result<(), Fault>
         ensures { (A : List STEP) → Stands J.tag self.now A
             → result ≡ unless_fault (fault_of self.now.sizes A step.now) tt }

@@ -149,6 +149,7 @@ impl<E: Epochs, J: Tagged> Core<E, J> {
     }
 
     /// Where a record of n words for slot t would be placed, where it may be.
+    #[inline(always)]
     pub(crate) fn may_allocate(&self, t: u64, n: u64) -> Result<u64, Fault>
         ensures { (A : List Step) → Stands J.tag self.now A
             → result ≡ unless_fault (fault_of self.now.sizes A (ALLOCATE t n))

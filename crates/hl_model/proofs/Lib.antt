@@ -1,3 +1,4 @@
 pub mod ListLaws
+pub mod Masks
 pub mod Remainders
 pub mod SearchLaws

@@ -15,6 +15,11 @@ pub fn cell_of(params: Params, address: u64) -> u64
         + address % params.page_size }
     ensures in_range { result < params.frames * params.page_size }
 {
-    let page_size = params.page_size();
-    page_of(params, address) % params.frames() * page_size + address % page_size
+    // These are the remainder by F * P; where F is a power of two too, the low bits tell it.
+    let cells = params.frames() * params.page_size();
+    if cells.is_power_of_two() {
+        address & (cells - 1)
+    } else {
+        address % cells
+    }
 }

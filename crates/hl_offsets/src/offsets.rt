@@ -198,6 +198,7 @@ impl Offsets {
     }
 
     /// Where `allocate` would place a record of n words, or the fault that it would meet. Changes nothing.
+    #[inline(always)]
     pub fn place(&self, n: u64) -> Result<u64, Fault>
         ensures answer { let now = self.now
             in result ≡ unless_fault (size_fault now.page_size now.tail n)
@@ -220,6 +221,7 @@ impl Offsets {
 
     // Where n words, at most P, lie on one page at or above the tail. P is a power of two, so the low bits of the tail
     // count the words before it on its page.
+    #[inline(always)]
     fn place_for(&self, n: u64) -> u64
         requires { n ≤ self.now.page_size }
         ensures place { result ≡ place_of self.now.page_size self.now.tail n }

@@ -1,6 +1,6 @@
 use Rattle.std.proofs.Common.{◌-◌}
 use Rattle.std.specs.Prelude.{bit_and}
-use Rattle.hl_offsets.proofs.Masks.{remainder_is}
+use Rattle.hl_model.proofs.Masks.{remainder_is}
 use Rattle.hl_offsets.proofs.Places.{place-here, place-next}
 use Rattle.hl_offsets.proofs.offsets.Offsets.place_for.Goals as goal
 

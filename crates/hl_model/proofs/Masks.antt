@@ -1,11 +1,12 @@
 -- A remainder by a power of two, read off the low bits.
-use Rattle.std.proofs.Common.{◌≡◌, ℕ, zero, suc, ◌-◌, ◌/◌, ◌%◌, ◌^◌, ◌≤◌, arith, inl, inr}
+use Rattle.std.proofs.Common.{◌≡◌, ℕ, zero, suc, ◌+◌, ◌-◌, ◌*◌, ◌/◌, ◌%◌, ◌^◌, ◌≤◌, arith, inl, inr}
 use Rattle.std.specs.Prelude.{bit_and, count_ones, IsTrue}
 use Rattle.std.specs.Int.{is_power_of_two}
 use Rattle.std.proofs.lemmas.Bool.Decides.{eqb_tells}
 use Rattle.std.proofs.lemmas.Bool.{cases_eq}
 use Rattle.std.proofs.lemmas.Nat.{and_mask, ones_le_self, zero_from_ones}
 use Rattle.std.proofs.Math.Nat.{pow-suc}
+use Rattle.std.proofs.Math.Arith.{mod-mul}
 use lib.Count.{ones_step}
 
 -- a number with one digit set, at most d, is a power of two
@@ -31,3 +32,7 @@ remainder_is page_size x power =
           rw found.1 (and_mask x found.0)
       | inr other ↦ let never = rw other.0 at power in absurd cc
     ]
+
+-- the place of an address among the words of all frames is its remainder by their number
+pub place_is : (page_size frames a : ℕ) → 1 ≤ page_size → 1 ≤ frames → a % (frames * page_size) ≡ a / page_size % frames * page_size + a % page_size
+place_is page_size frames a p f = mod-mul a f p
