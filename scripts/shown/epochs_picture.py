@@ -58,7 +58,7 @@ def svg(sizes: Sizes, lines: list[Line]) -> str:
     left, wide, top = 84, 120, 24
     last = state["epoch"]
     starts = {action.ticket: left + wide * (action.ticket - 1) + wide // 2 for action in state.pending}
-    ends = [starts[action.ticket] + 18 + 7 * len(said(state, action)) for action in state.pending]
+    ends = [starts[action.ticket] + 18 + 13 * len(said(state, action)) // 2 for action in state.pending]
     it = Drawing(max(left + wide * last, *ends) + 24, top + 176 + 28 * len(state.pending), TITLE)
     it.words(16, top + 22, "epoch", "soft strong")
     it.words(16, top + 76, "slots", "soft strong")
