@@ -6,7 +6,7 @@ from told import Action, Line, Sizes, State
 def reason(sizes: Sizes | None, line: Line) -> str | None:
     """The sentence for a refused line, or for one that is no step."""
     if line.state is None:
-        return "No line of a script is spelled so here, and nothing after it was run: docs/FORMATS.md tells the lines."
+        return "No script may have this line here, and nothing after it was run: docs/FORMATS.md tells the lines."
     if line.fault is None:
         return None
     return REASONS[line.fault](sizes, line.state, line)
