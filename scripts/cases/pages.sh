@@ -7,7 +7,8 @@ answers_stay() {
 }
 
 for script in "$scripts"/../examples/*.script; do
-    [ -e "${script%.script}.args" ] || check "the answers of $(basename "$script") among questions" answers_stay "$script"
+    name="$(basename "$script" .script)"
+    [ -e "${script%.script}.args" ] || check "the answers of $name among questions" answers_stay "$script"
 done
 
 # With this status an explained text is that of a file: explains SCRIPT TEXT STATUS
@@ -113,7 +114,8 @@ page_of_bad_line() {
     local status=0
     "$scripts/view" "$program" "$scripts/../examples/bad_line.script" > "$room/page.html" 2> "$room/errors" || status=$?
     [ "$status" = 2 ] || { echo "status $status, not 2"; return 1; }
-    grep -q 'line 3: not a step$' "$room/errors" && grep -q '"answer":"line 3: not a step",.*"bad":true' "$room/page.html"
+    grep -q 'line 3: not a step$' "$room/errors" || return
+    grep -q '"answer":"line 3: not a step",.*"bad":true' "$room/page.html"
 }
 
 # A page of no script, of an empty one, and of too many words is none: no_page STATUS WORDS..

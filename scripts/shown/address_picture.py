@@ -54,9 +54,10 @@ def text(sizes: Sizes, lines: list[Line]) -> str:
     for it in reversed(OFFSETS):
         rows.append(row(it.words, {0: "-" * (wide * state[it.label]) + f" {state[it.label]}"}))
     lowers = [0, *(state[it.label] for it in OFFSETS)]
-    rows.append(row("region", {lower: f"|{letter}" for lower, letter in zip(lowers, ["A", "B", "C", "D", "E", "F", ""])}))
+    letters = [*"ABCDEF", ""]
+    rows.append(row("region", {lower: f"|{letter}" for lower, letter in zip(lowers, letters)}))
     rows.append("")
-    for letter, lower, it in zip("ABCDEF", ["0", *(it.words for it in OFFSETS)], OFFSETS):
+    for letter, lower, it in zip(letters, ["0", *(it.words for it in OFFSETS)], OFFSETS):
         rows.append(f"{letter}  {f'{lower} to {it.words}':<29}{it.who}; {it.step}")
     return "\n".join([*rows, "", seen(lines)]) + "\n"
 

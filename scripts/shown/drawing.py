@@ -26,8 +26,9 @@ class Drawing:
     """An SVG with a title, in which all lengths are pixels."""
 
     def __init__(self, width: int, height: int, title: str):
-        self.head = f'<svg xmlns="http://www.w3.org/2000/svg" viewBox="0 0 {width} {height}" width="{width}" ' \
-            f'height="{height}" role="img" aria-labelledby="title">\n<title id="title">{escape(title)}</title>'  # fmt: skip
+        size = f'viewBox="0 0 {width} {height}" width="{width}" height="{height}"'
+        self.head = f'<svg xmlns="http://www.w3.org/2000/svg" {size} role="img" aria-labelledby="title">'
+        self.head += f'\n<title id="title">{escape(title)}</title>'
         self.parts = [f'<rect class="ground" width="{width}" height="{height}" rx="10"/>']
 
     def box(self, x, y, width, height, kind: str, rounded=0):
@@ -39,8 +40,9 @@ class Drawing:
     def arrow(self, path: str, x, y, towards: str):
         """A line that ends as an arrow there: down or right."""
         self.line(path, "rule")
-        tip = {"down": f"M{x - 5} {y - 9}L{x + 5} {y - 9}L{x} {y}Z", "right": f"M{x - 9} {y - 5}L{x - 9} {y + 5}L{x} {y}Z"}
-        self.parts.append(f'<path class="arrow" d="{tip[towards]}"/>')
+        one, other = {"down": ((-5, -9), (5, -9)), "right": ((-9, -5), (-9, 5))}[towards]
+        corners = " ".join(f"{x + across},{y + down}" for across, down in (one, other, (0, 0)))
+        self.parts.append(f'<polygon class="arrow" points="{corners}"/>')
 
     def words(self, x, y, text: str, kind="", anchor="start"):
         attributes = (f' class="{kind}"' if kind else "") + (f' text-anchor="{anchor}"' if anchor != "start" else "")

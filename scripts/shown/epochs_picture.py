@@ -44,8 +44,9 @@ def text(sizes: Sizes, lines: list[Line]) -> str:
         row("tickets", {action.ticket: str(action.ticket) for action in state.pending}),
     ]
     for place, action in reversed(list(enumerate(state.pending))):
-        rows.append(row("", {it.ticket: "|" for it in state.pending[: place + 1]}))
-        rows.append(row("", {it.ticket: "|" for it in state.pending[:place]} | {action.ticket: f"`- {said(state, action)}"}))
+        before = {it.ticket: "|" for it in state.pending[:place]}
+        rows.append(row("", before | {action.ticket: "|"}))
+        rows.append(row("", before | {action.ticket: f"`- {said(state, action)}"}))
     return "\n".join(rows) + "\n"
 
 

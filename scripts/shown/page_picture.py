@@ -99,9 +99,9 @@ def svg(sizes: Sizes, lines: list[Line]) -> str:
         it.words(x, 28, name, "soft strong")
     kinds = {"in flight": "sealed", "being cleaned": "closed"}
     for place, state in enumerate(states):
+        edge = "line rule dashed" if state in kinds or state == "free" else "line rule"
         it.box(left, top[place], wide, tall, kinds.get(state, state), 8)
-        edge = f"M{left + 8} {top[place]}h{wide - 16}q8 0 8 8v{tall - 16}q0 8 -8 8h{16 - wide}q-8 0 -8 -8v{16 - tall}q0 -8 8 -8z"
-        it.line(edge, "rule dashed" if state in kinds or state == "free" else "rule")
+        it.box(left, top[place], wide, tall, edge, 8)
         it.words(left + wide // 2, top[place] + 20, state, "strong", "middle")
         it.words(left + wide // 2, top[place] + 37, MEANS[state], "small", "middle")
     for place, turn in enumerate(going):

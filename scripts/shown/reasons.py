@@ -204,14 +204,18 @@ def next_step(sizes: Sizes, state: State, page: int) -> tuple[int, str]:
     """Which of the steps a page wants next, and where that step stands."""
     end = (page + 1) * sizes.page
     match state.frames[page % sizes.frames].state:
+        case "open" if state["read_only"] < end:
+            return 0, f"a raise to {end}"
         case "open":
-            return (0, f"a raise to {end}") if state["read_only"] < end else (1, f"a settle{stored(state, 'settle', end)}")
+            return 1, f"a settle{stored(state, 'settle', end)}"
         case "sealed":
             return 2, f"the end of its flush (flush done {page})" if page in state.in_flight else "a flush"
         case "flushed" if state["flushed"] < end:
             return 2, f"page {state['flushed'] // sizes.page} to be flushed before it"
+        case "flushed" if state["head"] < end:
+            return 3, f"a shift to {end}"
         case "flushed":
-            return (3, f"a shift to {end}") if state["head"] < end else (4, f"a close{stored(state, 'close', end)}")
+            return 4, f"a close{stored(state, 'close', end)}"
         case "closed":
             return 5, f"the end of its cleaning (clean done {page})" if page in state.cleaning else "a clean"
     raise ValueError(page)
