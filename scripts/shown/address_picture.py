@@ -16,18 +16,18 @@ class Offset(NamedTuple):
     words: str
     faster: str  # its name in FASTER's C# code
     who: str  # reads and writes in the region
-    step: str  # that ends this
+    step: str  # that comes next
 
 
 OFFSETS = [
-    Offset("closed", "closed", "SafeHeadAddress", "nobody reads", "a clean zeroes the page and frees its frame"),
-    Offset("head", "head", "HeadAddress", "only a slot that saw an older head reads", "the done of a close ends this"),
-    Offset("flushed", "flushed", "FlushedUntilAddress", "flushed: every slot reads", "a shift of the head ends this"),
-    Offset("safe_read_only", "safe read-only", "SafeReadOnlyAddress", "every slot reads, nobody writes",
-           "a flush takes the next whole page"),
+    Offset("closed", "closed", "SafeHeadAddress", "nobody reads", "and a clean zeroes the page and frees its frame"),
+    Offset("head", "head", "HeadAddress", "only a slot that saw an older head reads", "until a close is done"),
+    Offset("flushed", "flushed", "FlushedUntilAddress", "on the device, and still read here", "until the head is shifted"),
+    Offset("safe_read_only", "safe read-only", "SafeReadOnlyAddress", "read, no longer written",
+           "and a flush takes its next whole page"),
     Offset("read_only", "read-only", "ReadOnlyAddress",
-           "fuzzy: a slot that saw an older read-only offset still writes", "the done of a settle ends this"),
-    Offset("tail", "tail", "TailAddress", "every slot reads and writes", "a raise of the read-only offset ends this"),
+           "fuzzy: only a slot that saw an older read-only offset writes", "until a settle is done"),
+    Offset("tail", "tail", "TailAddress", "read and written", "until the read-only offset is raised"),
 ]  # fmt: skip
 
 
@@ -58,7 +58,7 @@ def text(sizes: Sizes, lines: list[Line]) -> str:
     rows.append(row("region", {lower: f"|{letter}" for lower, letter in zip(lowers, letters)}))
     rows.append("")
     for letter, lower, it in zip(letters, ["0", *(it.words for it in OFFSETS)], OFFSETS):
-        rows.append(f"{letter}  {f'{lower} to {it.words}':<29}{it.who}; {it.step}")
+        rows.append(f"{letter}  {f'{lower} to {it.words}':<29}{it.who}, {it.step}")
     return "\n".join([*rows, "", seen(lines)]) + "\n"
 
 

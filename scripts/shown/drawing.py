@@ -50,7 +50,7 @@ class Drawing:
 
     def paragraph(self, x, y, text: str, columns: int, kind="", anchor="start") -> int:
         """A text in lines of so many columns at most; where the next line would be."""
-        for line in textwrap.wrap(text, columns):
+        for line in textwrap.wrap(text, columns, break_on_hyphens=False):
             self.words(x, y, line, kind, anchor)
             y += 17
         return y

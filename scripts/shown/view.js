@@ -7,13 +7,14 @@ for (const line of lines) states.push({ ...states.at(-1), ...line.changes });
 const at = (id) => document.getElementById(id);
 const OFFSETS = ["tail", "read_only", "safe_read_only", "flushed", "head", "closed"];
 const REGIONS = [
-  ["read_only", "tail", "open", "from the read-only offset to the tail: every slot may write"],
-  ["safe_read_only", "read_only", "fuzzy", "the fuzzy region, from the safe read-only to the read-only offset: a slot " +
-    "that saw an older read-only offset may still write"],
-  ["flushed", "safe_read_only", "sealed", "from the flushed to the safe read-only offset: nobody writes; whole pages " +
-    "may be flushed"],
-  ["head", "flushed", "flushed", "from the head to the flushed offset: in memory, and flushed"],
-  ["closed", "head", "leaving", "from the closed offset to the head: a slot that saw an older head may still read"],
+  ["read_only", "tail", "open", "from the read-only offset to the tail: slots read and write"],
+  ["safe_read_only", "read_only", "fuzzy", "the fuzzy region, from the safe read-only to the read-only offset: only " +
+    "a slot that saw an older read-only offset may still write"],
+  ["flushed", "safe_read_only", "sealed", "from the flushed to the safe read-only offset: slots read, nobody writes; " +
+    "whole pages may be flushed"],
+  ["head", "flushed", "flushed", "from the head to the flushed offset: on the device, and still read in memory"],
+  ["closed", "head", "leaving", "from the closed offset to the head: only a slot that saw an older head may " +
+    "still read"],
   [null, "closed", "closed", "below the closed offset: nobody reads; frames are cleaned and used again"],
 ];
 
