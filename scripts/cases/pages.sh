@@ -19,7 +19,7 @@ explains() {
     cmp "$2" "$room/text"
 }
 
-# Each kind of refusal with its sentence. The sentences were written by hand, by docs/RULES.md.
+# Each kind of refusal that a short script meets, with its sentence, written by hand.
 each_refusal_explained() {
     cat > "$room/script" << 'END'
 config 4 2 2 1
@@ -105,9 +105,50 @@ Page 0 is being cleaned.
 END
 }
 
+# What a page in a frame still wants, at each step of its way until the frame is free.
+each_want_explained() {
+    local step steps=('raise 4' settle 'refresh 0' take 'done 1' 'flush take' 'flush done 0 ok' 'shift 4' close
+        'refresh 0' take 'done 2' 'clean take' 'clean done 0')
+    {
+        printf '%s\n' 'config 4 2 1 4' 'acquire 0' 'alloc 0 4' 'alloc 0 4'
+        for step in "${steps[@]}"; do
+            printf '%s\n' 'alloc 0 4' "$step"
+        done
+        echo 'alloc 0 4'
+    } > "$room/script"
+    "$scripts/explain" "$program" < "$room/script" |
+        sed -n 's/^ *Page 2 wants frame 0, which has page 0: it still wants \(.*\)\.$/\1/p' > "$room/text"
+    cmp - "$room/text" << 'END'
+a raise to 4, a settle, a flush, a shift, a close and a clean
+a settle, a flush, a shift, a close and a clean
+a settle (ticket 1 waits: slot 0 is at epoch 1, and must refresh or leave), a flush, a shift, a close and a clean
+a settle (ticket 1 may be taken), a flush, a shift, a close and a clean
+a settle (ticket 1 is taken: done 1), a flush, a shift, a close and a clean
+a flush, a shift, a close and a clean
+the end of its flush (flush done 0), a shift, a close and a clean
+a shift to 4, a close and a clean
+a close and a clean
+a close (ticket 2 waits: slot 0 is at epoch 2, and must refresh or leave) and a clean
+a close (ticket 2 may be taken) and a clean
+a close (ticket 2 is taken: done 2) and a clean
+a clean
+the end of its cleaning (clean done 0)
+END
+}
+
+# Both bumps that the window refuses name the slot that doesn't follow.
+full_window_explained() {
+    "$scripts/explain" "$program" < "$scripts/../examples/full_window.script" |
+        sed -n 's/^ *\(.* epochs have ended .*\)/\1/p' > "$room/text"
+    printf '%s\n' {,}"4096 epochs have ended and are not safe: slot 0 is at epoch 1, and must refresh or leave." |
+        cmp - "$room/text"
+}
+
 of="$scripts/../examples/stale_reader"
 check "stale_reader explained" explains "$of.script" "$of.explained" 0
-check "each refusal explained" each_refusal_explained
+check "refusals explained" each_refusal_explained
+check "what a page still wants" each_want_explained
+check "a full window explained" full_window_explained
 
 # The page of a script with a bad line shows the lines up to it, and its status is 2.
 page_of_bad_line() {
