@@ -167,6 +167,20 @@ no_page() {
     [ "$status" = "$wanted" ] && [ ! -s "$room/page.html" ] && [ -s "$room/errors" ]
 }
 
+# Streams that fail end both with status 1 and a word on standard error.
+streams_fail() {
+    local of="$scripts/../examples/stale_reader.script"
+    "$scripts/explain" "$program" < "$of" > /dev/full 2> "$room/errors" && return 1
+    [ -s "$room/errors" ] || return
+    "$scripts/explain" "$program" < "$of" >&- 2> "$room/errors" && return 1
+    [ "$(cat "$room/errors")" = "hl: standard output is closed" ] || return
+    "$scripts/explain" "$program" <&- > "$room/text" 2> "$room/errors" && return 1
+    [ -s "$room/errors" ] && [ ! -s "$room/text" ] || return
+    "$scripts/view" "$program" "$of" > /dev/full 2> "$room/errors" && return 1
+    [ -s "$room/errors" ]
+}
+
+check "streams that fail, of pages and explanations" streams_fail
 check "the page of a bad line" page_of_bad_line
 check "the page of no script" no_page 1 "$room/absent"
 check "the page of no line" no_page 2 "$scripts/../examples/empty_input.script"

@@ -104,6 +104,9 @@ def run(main, usage: str, words: list[str], count: int) -> int:
     if len(words) != count:
         print(f"usage: {usage}", file=sys.stderr)
         return 2
+    if sys.stdout is None:
+        print("hl: standard output is closed", file=sys.stderr)
+        return 1
     try:
         status = main(*words)
         sys.stdout.flush()
@@ -116,8 +119,13 @@ def run(main, usage: str, words: list[str], count: int) -> int:
         os.dup2(os.open(os.devnull, os.O_WRONLY), sys.stdout.fileno())
         return 1
     except OSError as error:
-        print(f"hl: {error.filename or 'standard output'}: {error.strerror}", file=sys.stderr)
+        print(f"hl: {error.filename or 'a standard stream'}: {error.strerror}", file=sys.stderr)
         return 1
+
+
+def standard_input() -> bytes:
+    with open(0, "rb", closefd=False) as stream:
+        return stream.read()
 
 
 def sizes_of(script: bytes) -> Sizes | None:
@@ -229,7 +237,7 @@ def tailed(slot: Slot | None, answer: list[str]) -> Slot | None:
 
 def print_answers(program: str) -> int:
     """Answers a script as the program does: what it is asked between the lines changes nothing."""
-    for line in told(program, sys.stdin.buffer.read())[1]:
+    for line in told(program, standard_input())[1]:
         print(line.answer)
     return 0
 
