@@ -49,6 +49,7 @@ mod act;
 mod actions;
 mod base;
 mod check;
+mod holders;
 mod log;
 mod pages;
 mod queries;
@@ -64,4 +65,5 @@ pub use hl_laws::Base;
 pub use hl_model::{
     Fault, FrameState, Kind, Params, Reply, Six, Slot, Snapshot, Step, Tag, Tagged, View, Waiting,
 };
+pub use holders::Holder;
 pub use state::Core;
