@@ -4,13 +4,15 @@ use Rattle.hl_model.specs.declared.fault.Fault.{Fault}
 use Rattle.hl_model.specs.declared.fault.Fault.TheVariants.{Stranger, JournalFull}
 use Rattle.hl_model.specs.declared.step.Reply.{Reply}
 use Rattle.hl_model.specs.declared.step.Step.{Step}
-use Rattle.hl_model.specs.declared.step.Step.TheVariants.{Refresh}
+use Rattle.hl_model.specs.declared.step.Step.TheVariants.{Acquire, Refresh}
 use Rattle.hl_model.specs.declared.view.View.{View}
 use Rattle.hl_model.specs.Offsets.{read_only, head}
-use Rattle.hl_model.specs.Views.{slot_view}
+use Rattle.hl_model.specs.Views.{slot_view, view_of}
 use Rattle.hl_model.specs.Replies.{or_fault, fault_of, answer_of, unless_fault}
-use Rattle.hl_domain.specs.Passes.{PassRecord, seen}
+use Rattle.hl_words.specs.States.{RiderState}
+use Rattle.hl_domain.specs.Passes.{PassRecord, seen, new_pass, with_share}
 use Rattle.hl_domain.specs.Keepers.{KeeperState, KeeperStands, steps_most}
+use Rattle.hl_domain.specs.Stamps.{acquires_in}
 
 -- two views are the same
 abbrev pub same_view : View → View → Bool
@@ -129,6 +131,19 @@ module _ {F : Type 0} where
   Makes old s answer new result =
       (A : List Step) → KeeperStands old A
       → Replied (step_fault old A s) (answer A) (made (step_fault old A s) A s) new result
+
+  -- likewise where the list itself names the step
+  abbrev pub MakesAt : {X : Type 0}
+      → KeeperState F → (List Step → Step) → (List Step → X) → KeeperState F → Result X Fault → Type 0
+  MakesAt old s answer new result =
+      (A : List Step) → KeeperStands old A
+      → Replied (step_fault old A (s A)) (answer A) (made (step_fault old A (s A)) A (s A)) new result
+
+  -- the pass that a rider has once it acquired slot t
+  abbrev pub acquired_pass : KeeperState F → ℕ → RiderState → List Step → PassRecord
+  acquired_pass keeper t rider A =
+      new_pass t (keeper.stamp + acquires_in (A ++ Acquire t ∷ []))
+      (view_of keeper.core.sizes t (A ++ Acquire t ∷ [])) (with_share 1 rider)
 
   -- likewise a step that ends something of this origin
   abbrev pub Ends : {X : Type 0}

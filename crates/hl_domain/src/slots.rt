@@ -5,7 +5,8 @@ ghost use Rattle.hl_model.specs.Offsets.{place_of, tail};
 ghost use Rattle.hl_model.specs.Views.{view_of};
 ghost use Rattle.hl_domain.specs.Passes.{seen, rested, with_share, new_pass, with_tail};
 ghost use Rattle.hl_domain.specs.Stamps.{acquires_in};
-ghost use Rattle.hl_domain.specs.Calls.{call_fault, refresh_fault, touched_list, without_back, Makes, MakesTouched, Stays, IsUpTo};
+ghost use Rattle.hl_domain.specs.Calls.{call_fault, refresh_fault, acquired_pass, touched_list, without_back, Makes, MakesAt, MakesTouched, Stays, IsUpTo};
+ghost use Rattle.hl_core.specs.Holding.{least_free};
 
 use crate::call::note;
 use crate::keeper::Keeper;
@@ -148,5 +149,21 @@ impl<E: Epochs + Drop, F: Task, P: Promise, L: Realm> Keeper<E, F, P, L> {
             }
             Err(fault) => Err((fault, rider)),
         }
+    }
+
+    /// An acquire of the least slot that isn't protected; the pass tells which it is.
+    ///
+    /// Faults, with the rider handed back: `JournalFull`, `NoSlot` where each slot is protected.
+    pub fn enter(&mut self, words: &Words<L>, rider: Rider<L>) -> Result<Pass<L>, (Fault, Rider<L>)>
+        ensures made { let old = self.old
+            in MakesAt old (λ A. ACQUIRE (least_free old.core.sizes A))
+            (λ A. acquired_pass old (least_free old.core.sizes A) rider A) self.new (without_back result) }
+        ensures refused { IfErr result (λ back. (back.1 ≡ rider) × (self.new ≡ self.old)) }
+        ensures stays { Stays self.old self.new }
+        ensures jobs { self.new.core.drain.pending ≡ self.old.core.drain.pending }
+        ensures acquired { OnOk result (self.new.acquired ≡ self.old.acquired + 1) }
+    {
+        let t = self.core.least_free();
+        self.acquire(words, t, rider)
     }
 }
