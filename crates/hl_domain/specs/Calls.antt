@@ -1,7 +1,7 @@
 -- The faults of a keeper's calls, in their order, and the list at which it stands after one.
-use Rattle.std.specs.Prelude.{◌≡◌, ℕ, ◌≤◌, Ok, Err, ◌+◌, ◌==◌, nat_le, nat_lt, Bool, false, ◌&&◌, ◌||◌, if◌then◌else◌, Option, Some, None, is_some, is_none, Result, List, [], ◌∷◌, ◌++◌, length, slice_index_or}
+use Rattle.std.specs.Prelude.{◌≡◌, ℕ, ◌≤◌, Ok, Err, ◌+◌, ◌==◌, nat_le, Bool, false, ◌&&◌, if◌then◌else◌, Option, Some, None, is_some, is_none, Result, List, [], ◌∷◌, ◌++◌, length, slice_index_or}
 use Rattle.hl_model.specs.declared.fault.Fault.{Fault}
-use Rattle.hl_model.specs.declared.fault.Fault.TheVariants.{Stranger, JournalFull}
+use Rattle.hl_model.specs.declared.fault.Fault.TheVariants.{Stranger}
 use Rattle.hl_model.specs.declared.step.Reply.{Reply}
 use Rattle.hl_model.specs.declared.step.Step.{Step}
 use Rattle.hl_model.specs.declared.step.Step.TheVariants.{Acquire, Refresh}
@@ -11,7 +11,8 @@ use Rattle.hl_model.specs.Views.{slot_view, view_of}
 use Rattle.hl_model.specs.Replies.{or_fault, fault_of, answer_of, unless_fault}
 use Rattle.hl_words.specs.States.{RiderState}
 use Rattle.hl_domain.specs.Passes.{PassRecord, seen, new_pass, with_share}
-use Rattle.hl_domain.specs.Keepers.{KeeperState, KeeperStands, steps_most}
+use Rattle.hl_domain.specs.Keepers.{KeeperState, KeeperStands}
+use Rattle.hl_domain.specs.Journals.{journal_of, full_fault}
 use Rattle.hl_domain.specs.Stamps.{acquires_in}
 
 -- two views are the same
@@ -51,12 +52,8 @@ module _ {F : Type 0} where
   ahead_fault keeper A p = unless_stranger (is_known keeper A p && is_behind A p) (stamp_at keeper A p.slot)
 
   -- the fault of n steps more: they don't fit the journal, or would be more in all than a keeper counts
-  unfoldable pub room_fault : KeeperState F → ℕ → Option Fault
-  room_fault keeper n =
-      if nat_lt keeper.limit (length keeper.journal + n)
-      || nat_lt steps_most (keeper.cut + length keeper.journal + n)
-      then Some JournalFull
-      else None
+  abbrev pub room_fault : KeeperState F → ℕ → Option Fault
+  room_fault keeper n = full_fault (journal_of keeper) n
 
   -- the fault of something of this origin
   unfoldable pub origin_fault : KeeperState F → ℕ → Option Fault

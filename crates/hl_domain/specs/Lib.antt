@@ -1,6 +1,7 @@
 pub mod Calls
 pub mod Domains
 pub mod Entering
+pub mod Journals
 pub mod Keepers
 pub mod Lending
 pub mod Pages

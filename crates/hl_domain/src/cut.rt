@@ -26,10 +26,6 @@ impl<E: Epochs + Drop, F: Task, P: Promise, L: Realm> Keeper<E, F, P, L> {
         ensures stamps { (self.new.stamps ≡ self.old.stamps) × (self.new.acquired ≡ self.old.acquired) }
         ensures rider { _rider.new ≡ _rider.old }
     {
-        let count = self.journal.len() as u64;
-        self.core.base_into(&mut self.base);
-        self.journal.clear();
-        self.cut += count;
-        count
+        self.journal.cut(&self.core)
     }
 }

@@ -58,6 +58,7 @@ mod cut;
 mod domain;
 mod ending;
 mod enter;
+mod journal;
 mod keeper;
 mod load;
 mod look;

@@ -25,7 +25,7 @@ impl<E: Epochs, F: Task, P: Promise, L: Realm> Keeper<E, F, P, L> {
     pub fn journal(&self) -> &[Step]
         ensures { result.now ≡ self.now.journal }
     {
-        &self.journal
+        &self.journal.steps
     }
 
     /// All quantities, the number of steps since the last cut, and the number of steps cut in all.
@@ -35,7 +35,12 @@ impl<E: Epochs, F: Task, P: Promise, L: Realm> Keeper<E, F, P, L> {
         ensures steps { result.1 ≡ length self.now.journal }
         ensures cut { result.2 ≡ self.now.cut }
     {
-        (self.core.snapshot(), self.journal.len() as u64, self.cut)
+        let journal = &self.journal;
+        (
+            self.core.snapshot(),
+            journal.steps.len() as u64,
+            journal.cut,
+        )
     }
 
     /// The ticket of the oldest pending action, and into the row the slots that hold it up, least first, each with its
