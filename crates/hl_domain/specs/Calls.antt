@@ -1,5 +1,5 @@
 -- The faults of a keeper's calls, in their order, and the list at which it stands after one.
-use Rattle.std.specs.Prelude.{◌≡◌, ℕ, ◌≤◌, Ok, Err, ◌+◌, ◌==◌, nat_le, Bool, false, ◌&&◌, if◌then◌else◌, Option, Some, None, is_some, is_none, Result, List, [], ◌∷◌, ◌++◌, length, slice_index_or}
+use Rattle.std.specs.Prelude.{◌≡◌, ℕ, ◌≤◌, Ok, Err, ◌+◌, ◌==◌, nat_le, Bool, false, ◌&&◌, if◌then◌else◌, Option, Some, None, is_some, is_none, Result, OnErr, List, [], ◌∷◌, ◌++◌, length, slice_index_or}
 use Rattle.hl_model.specs.declared.fault.Fault.{Fault}
 use Rattle.hl_model.specs.declared.fault.Fault.TheVariants.{Stranger}
 use Rattle.hl_model.specs.declared.step.Reply.{Reply}
@@ -112,6 +112,16 @@ module _ {F : Type 0} where
     pub stamp : new.stamp ≡ old.stamp
     pub base : new.base ≡ old.base
     pub cut : new.cut ≡ old.cut
+
+  -- what a call keeps by which no job goes in or comes out: what no call changes, and the pending actions;
+  -- where it is refused, all
+  abbrev pub Keeps : {X : Type 0} → KeeperState F → KeeperState F → Result X Fault → Type 0
+  Keeps old new result = Stays old new
+      × (new.core.drain.pending ≡ old.core.drain.pending) × OnErr result (new ≡ old)
+
+  -- no slot was acquired
+  abbrev pub SameStamps : KeeperState F → KeeperState F → Type 0
+  SameStamps old new = (new.stamps ≡ old.stamps) × (new.acquired ≡ old.acquired)
 
   -- a keeper answered a call, and stands at this list
   pub record Replied

@@ -6,7 +6,7 @@ ghost use Rattle.hl_domain.specs.Touches.{is_call};
 ghost use Rattle.hl_domain.specs.Passes.{with_share, entered_by};
 ghost use Rattle.hl_domain.specs.Keepers.{KeeperStands, IsKeeper, steps_most};
 ghost use Rattle.hl_domain.specs.Journals.{full_fault, with_steps};
-ghost use Rattle.hl_domain.specs.Calls.{has_view, stamp_at, is_known, is_behind, stranger_fault, ahead_fault, room_fault, origin_fault, Knows, Called, Stays};
+ghost use Rattle.hl_domain.specs.Calls.{has_view, stamp_at, is_known, is_behind, stranger_fault, ahead_fault, room_fault, origin_fault, Knows, Called, Keeps, SameStamps};
 
 use crate::enter::enter_steps;
 use crate::journal::Journal;
@@ -58,10 +58,8 @@ impl<E: Epochs + Drop, F: Task, P: Promise, L: Realm> Keeper<E, F, P, L> {
         requires known { Knows self.old pass.old }
         ensures made { (A : List STEP) → KeeperStands self.old A
             → Called self.old A pass.old step.now self.new result }
-        ensures refused { OnErr result (self.new ≡ self.old) }
-        ensures stays { Stays self.old self.new }
-        ensures jobs { self.new.core.drain.pending ≡ self.old.core.drain.pending }
-        ensures stamps { (self.new.stamps ≡ self.old.stamps) × (self.new.acquired ≡ self.old.acquired) }
+        ensures keeps { Keeps self.old self.new result }
+        ensures stamps { SameStamps self.old self.new }
         ensures pass { MatchResult result (λ _. pass.new ≡ entered_by pass.old) (λ _. pass.new ≡ pass.old) }
         ensures valid { IsKeeper self.old }
     {
