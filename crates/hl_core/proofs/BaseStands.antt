@@ -37,7 +37,7 @@ parts_same z z' e e' s s' w w' t t' x x' f f' hz he hs hw ht hx hf = cc
 
 module _ {J : Type 0} (tag : J → ℕ) (core : State J) where
   -- the epoch of a slot
-  epoch_is : (t : ℕ) (A : List Step) → Stands tag core A → t < core.sizes.slots → epoch_at t core.table ≡ slot_epoch t A
+  pub epoch_is : (t : ℕ) (A : List Step) → Stands tag core A → t < core.sizes.slots → epoch_at t core.table ≡ slot_epoch t A
   epoch_is t A st lt = ap (epoch_at t) st.table_is ∙ slot_epochs-at core.sizes.slots A t None lt
 
   -- what the parts tell of a slot below S: it has no epoch; no view; both

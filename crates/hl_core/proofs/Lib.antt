@@ -3,6 +3,7 @@ pub mod AskStands
 pub mod BaseStands
 pub mod DoneStands
 pub mod FrameCounts
+pub mod HoldingStands
 pub mod LookStands
 pub mod OffsetStands
 pub mod PageEntered

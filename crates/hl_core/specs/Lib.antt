@@ -1,3 +1,4 @@
+pub mod Holding
 pub mod Rise
 pub mod Standing
 pub mod Steps

@@ -22,6 +22,9 @@
 //! step leaves all as it was. A job goes in by [`Core::bump`] and comes out by [`Core::take`]. A write and a read
 //! change nothing of a core: [`Core::may_write`] and [`Core::may_read`] tell whether they are lawful.
 //!
+//! [`Core::holders`] tells which slots hold the oldest action up, [`Core::least_free`] the least slot that an acquire
+//! would get, [`Core::frame`] what a frame is at.
+//!
 //! Where steps are plain values, [`Core::act`] makes each but a bump with an action and a take, and tells the answer as
 //! a reply. Over bare tags [`Core::step`] makes every step, and [`Core::run`] a row of them. [`Core::check`] tells the
 //! fault that a step would meet.
@@ -49,6 +52,7 @@ mod act;
 mod actions;
 mod base;
 mod check;
+mod holders;
 mod log;
 mod pages;
 mod queries;
@@ -64,4 +68,5 @@ pub use hl_laws::Base;
 pub use hl_model::{
     Fault, FrameState, Kind, Params, Reply, Six, Slot, Snapshot, Step, Tag, Tagged, View, Waiting,
 };
+pub use holders::Holder;
 pub use state::Core;

@@ -18,6 +18,7 @@ use Rattle.hl_words.specs.States.{RiderState}
 use Rattle.hl_core.specs.Standing.{State}
 use Rattle.hl_core.specs.Steps.{Stepped, entered_reply}
 use Rattle.hl_domain.specs.Passes.{PassRecord, new_pass, with_share}
+use Rattle.hl_domain.specs.Journals.{JournalState, journal_of, with_steps}
 use Rattle.hl_domain.specs.Keepers.{job_tag, KeeperState, KeeperStands}
 use Rattle.hl_domain.specs.Stamps.{acquires_in}
 use Rattle.hl_domain.specs.Calls.{room_fault, step_fault, made, Replied}
@@ -46,8 +47,8 @@ module _ {F : Type 0} (keeper : KeeperState F) (A : List Step) (t : ℕ) (st : K
       }
 
   -- its pass has the slot's stamp and view
-  pub acquire_made : (u : Unit {0}) (core : State (KeptRecord F)) (slot : Slot) (journal : List Step) (stamps : List ℕ) (acquired : ℕ) (offsets : OffsetWords) (total : ℕ) (rider after : RiderState) (pass : PassRecord) → Ok u ≡ unless_fault (room_fault keeper 1) (tt {0}) → Stepped job_tag keeper.core A (Acquire t) core (Ok (entered_reply slot))
-      → journal ≡ keeper.journal ++ Acquire t ∷ [] → acquired ≡ keeper.acquired + 1 → stamps ≡ set keeper.stamps t (keeper.stamp + acquired) → offsets ≡ keeper.offsets → total ≡ keeper.total + 1 → after ≡ with_share 1 rider → pass ≡ new_pass t (keeper.stamp + acquired) slot.view after
+  pub acquire_made : (u : Unit {0}) (core : State (KeptRecord F)) (slot : Slot) (journal : JournalState) (stamps : List ℕ) (acquired : ℕ) (offsets : OffsetWords) (total : ℕ) (rider after : RiderState) (pass : PassRecord) → Ok u ≡ unless_fault (room_fault keeper 1) (tt {0}) → Stepped job_tag keeper.core A (Acquire t) core (Ok (entered_reply slot))
+      → journal ≡ with_steps (Acquire t ∷ []) (journal_of keeper) → acquired ≡ keeper.acquired + 1 → stamps ≡ set keeper.stamps t (keeper.stamp + acquired) → offsets ≡ keeper.offsets → total ≡ keeper.total + 1 → after ≡ with_share 1 rider → pass ≡ new_pass t (keeper.stamp + acquired) slot.view after
       → Replied (step_fault keeper A (Acquire t)) (new_pass t (keeper.stamp + acquires_in (A ++ Acquire t ∷ [])) (view_of keeper.core.sizes t (A ++ Acquire t ∷ [])) (with_share 1 rider)) (made (step_fault keeper A (Acquire t)) A (Acquire t)) (moved keeper core journal stamps acquired offsets total) (Ok pass)
   acquire_made u core slot journal stamps acquired offsets total rider after pass room stepped j a s o n r p =
       core_made keeper A (Acquire t) u core (entered_reply slot) pass _ journal stamps acquired offsets total st room stepped (p ∙ whole) j stamped (quiet keeper A (Acquire t) offsets st refl refl o) n

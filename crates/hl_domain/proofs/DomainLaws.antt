@@ -1,7 +1,6 @@
 -- What a call met and left under the lock.
 use Rattle.std.proofs.Common.{◌≡◌, ℕ, List, ◌++◌, length, map, sym, ap, ◌∙◌, subst, arith}
 use Rattle.std.specs.Prelude.{Result, Ok, Err, IfErr, OnErr}
-use Rattle.hl_model.specs.declared.fault.Fault.{Fault}
 use Rattle.hl_model.specs.declared.step.Step.{Step}
 use Rattle.hl_model.specs.Sizes.{Sizes}
 use Rattle.hl_model.specs.Actions.{pending, taken}
@@ -13,7 +12,6 @@ use Rattle.hl_drain.specs.Lists.{Lists}
 use Rattle.hl_action.specs.Jobs.{KeptRecord}
 use Rattle.hl_domain.specs.Keepers.{job_tag, KeeperState, KeeperStands, IsKeeper, IsOf}
 use Rattle.hl_domain.proofs.KeeperLaws.{counted}
-use Rattle.hl_domain.specs.Calls.{without_back}
 use Rattle.hl_domain.specs.Domains.{DomainState, LeavesUnderLock, EndingState, IsEnding}
 
 -- a call under the lock left what it makes of a keeper of the domain
@@ -35,10 +33,6 @@ handed_back (Err back) z Kept h = h.0
 pub kept : {X Y Z : Type 0} (result : Result X (Y × Z)) (z : Z) (Kept : Type 0) → IfErr result (λ back. (back.1 ≡ z) × Kept) → OnErr result Kept
 kept (Ok x) z Kept h = h
 kept (Err back) z Kept h = h.1
-
-pub kept_without : {X Z : Type 0} (result : Result X (Fault × Z)) (z : Z) (Kept : Type 0) → IfErr result (λ back. (back.1 ≡ z) × Kept) → OnErr (without_back result) Kept
-kept_without (Ok x) z Kept h = h
-kept_without (Err back) z Kept h = h.1
 
 -- what is left of a keeper that was closed
 pub ending_of : {F : Type 0} (sizes : Sizes) (shares : ℕ) (k : KeeperState F) (e : EndingState F) → IsKeeper k → k.core.sizes ≡ sizes → e.base ≡ k.base → e.cut ≡ k.cut → e.journal ≡ k.journal → e.left ≡ k.core.drain → ((A : List Step) → KeeperStands k A → e.snapshot ≡ snapshot_of k.core.sizes A) → k.total ≡ shares → IsEnding sizes shares e

@@ -2,7 +2,7 @@
 use Rattle.std.proofs.Common.{◌≡◌, ℕ, suc, ◌+◌, ◌<◌, List, [], ◌∷◌, ◌++◌, length, take, drop, get_or, sym, ap, ◌∙◌, subst, arith, append_assoc}
 use Rattle.std.specs.Prelude.{Some, None, Ok, Err}
 use Rattle.std.proofs.Math.Seq.{take-suc}
-use Rattle.std.proofs.lemmas.List.{take-append-drop}
+use Rattle.std.proofs.lemmas.List.{take-append-drop, length-take-le}
 use Rattle.hl_model.specs.declared.fault.Fault.{Fault}
 use Rattle.hl_model.specs.declared.step.Reply.{Reply}
 use Rattle.hl_model.specs.declared.step.Step.{Step}
@@ -13,6 +13,8 @@ use Rattle.hl_laws.proofs.NoFaultLaws.{unless_err, unless_ok}
 use Rattle.hl_core.specs.Standing.{State, Stands}
 use Rattle.hl_core.specs.Steps.{Stepped, Made}
 use Rattle.hl_domain.specs.Entering.{MayEnter}
+use Rattle.hl_domain.specs.Journals.{JournalState, full_fault, with_steps}
+use Rattle.hl_domain.proofs.JournalLaws.{room_behind, steps_assoc}
 
 take_next : (n : ℕ) (xs : List Step) (s d : Step) → n < length xs → s ≡ get_or xs n d → take (n + 1) xs ≡ take n xs ++ s ∷ []
 take_next n xs s d lt e =
@@ -32,16 +34,15 @@ fine_at sizes A n xs s d lt e a =
 
 module _ {J : Type 0} (tag : J → ℕ) where
   -- the first n of the steps were taken: where the core stands then, and what the journal has
-  pub record Taken (old : State J) (before : List Step) (room : ℕ) (xs : List Step) (n : ℕ) (new : State J) (journal : List Step) (now_room : ℕ) : Type 0 where
+  pub record Taken (old : State J) (before : JournalState) (xs : List Step) (n : ℕ) (new : State J) (journal : JournalState) : Type 0 where
     pub sizes : new.sizes ≡ old.sizes
     pub jobs : new.drain.pending ≡ old.drain.pending
     pub standing : (A : List Step) → Stands tag old A → Stands tag new (A ++ take n xs)
-    pub journal_is : journal ≡ before ++ take n xs
-    pub room_is : now_room ≡ room
+    pub journal_is : journal ≡ with_steps (take n xs) before
 
   -- the next is never refused
-  pub next_taken : (old : State J) (before : List Step) (room : ℕ) (xs : List Step) (n : ℕ) (mid : State J) (journal : List Step) (now_room : ℕ) (s d : Step) (new : State J) (f : Fault) → Taken old before room xs n mid journal now_room → MayEnter tag old xs → n < length xs → s ≡ get_or xs n d → Made tag mid s new (Err f) → ⊥
-  next_taken old before room xs n mid journal now_room s d new f at may lt e made =
+  pub next_taken : (old : State J) (before : JournalState) (xs : List Step) (n : ℕ) (mid : State J) (journal : JournalState) (s d : Step) (new : State J) (f : Fault) → Taken old before xs n mid journal → MayEnter tag old xs → n < length xs → s ≡ get_or xs n d → Made tag mid s new (Err f) → ⊥
+  next_taken old before xs n mid journal s d new f at may lt e made =
       let A = may.standing.0 in
       let st : Stands tag old A = may.standing.1 in
       let stepped : Stepped tag mid (A ++ take n xs) s new (Err f) = made (A ++ take n xs) (at.standing A st) in
@@ -56,11 +57,14 @@ module _ {J : Type 0} (tag : J → ℕ) where
       (both.0, both.1, subst (λ (z : List Step). Stands tag new z) (extended-none old.sizes A s both.0) stepped.standing)
 
   -- the next was taken
-  pub taken_next : (old : State J) (before : List Step) (room : ℕ) (xs : List Step) (n : ℕ) (mid : State J) (journal : List Step) (now_room : ℕ) (s d : Step) (new : State J) (r : Reply) (longer : List Step) (after_room : ℕ) → Taken old before room xs n mid journal now_room → n < length xs → s ≡ get_or xs n d → Made tag mid s new (Ok r) → new.sizes ≡ mid.sizes → new.drain.pending ≡ mid.drain.pending → longer ≡ journal ++ s ∷ [] → after_room ≡ now_room → Taken old before room xs (n + 1) new longer after_room
-  taken_next old before room xs n mid journal now_room s d new r longer after_room at lt e made same jobs j rooms = record {
+  pub taken_next : (old : State J) (before : JournalState) (xs : List Step) (n : ℕ) (mid : State J) (journal : JournalState) (s d : Step) (new : State J) (r : Reply) (longer : JournalState) → Taken old before xs n mid journal → n < length xs → s ≡ get_or xs n d → Made tag mid s new (Ok r) → new.sizes ≡ mid.sizes → new.drain.pending ≡ mid.drain.pending → longer ≡ with_steps (s ∷ []) journal → Taken old before xs (n + 1) new longer
+  taken_next old before xs n mid journal s d new r longer at lt e made same jobs j = record {
     sizes = same ∙ at.sizes;
     jobs = jobs ∙ at.jobs;
     standing = λ A st. subst (λ (z : List Step). Stands tag new z) (next_list A n xs s d lt e) (stepped_on mid (A ++ take n xs) s new r (made (A ++ take n xs) (at.standing A st))).2;
-    journal_is = j ∙ ap (λ z. z ++ s ∷ []) at.journal_is ∙ append_assoc before (take n xs) (s ∷ []) ∙ ap (λ z. before ++ z) (sym (take_next n xs s d lt e));
-    room_is = rooms ∙ at.room_is;
+    journal_is = j ∙ ap (with_steps (s ∷ [])) at.journal_is ∙ steps_assoc before (take n xs) (s ∷ []) ∙ ap (λ z. with_steps z before) (sym (take_next n xs s d lt e));
   }
+
+  -- it has room
+  pub next_fits : (old : State J) (before : JournalState) (xs : List Step) (n : ℕ) (mid : State J) (journal : JournalState) → Taken old before xs n mid journal → full_fault before (length xs) ≡ None → n < length xs → full_fault journal 1 ≡ None
+  next_fits old before xs n mid journal at room lt = rw at.journal_is (room_behind before (take n xs) (length xs) 1 room (omega (arith, length-take-le n xs (omega (arith, lt)), lt)))

@@ -1,41 +1,39 @@
 -- Where a keeper stands: when it was opened, and after steps that its core accepted.
-use Rattle.std.proofs.Common.{◌≡◌, ℕ, ◌+◌, ◌≤◌, Bool, true, false, cond, ltb, List, [], ◌∷◌, ◌++◌, length, replicate, refl, sym, ap, ◌∙◌, arith, append_assoc, length-append}
-use Rattle.std.specs.Prelude.{◌||◌, Some, None, Ok, Err}
-use Rattle.std.proofs.lemmas.Bool.{ltb-false, or_parts}
+use Rattle.std.proofs.Common.{◌≡◌, ℕ, ◌+◌, ◌≤◌, false, List, [], ◌∷◌, ◌++◌, length, replicate, sym, ap, ◌∙◌, subst, arith, append_assoc, length-append}
+use Rattle.std.specs.Prelude.{None}
 use Rattle.std.proofs.lemmas.List.{append-nil}
-use Rattle.hl_model.specs.declared.fault.Fault.TheVariants.{JournalFull}
 use Rattle.hl_model.specs.declared.step.Step.{Step}
 use Rattle.hl_model.specs.Bases.{Base, base_of}
 use Rattle.hl_model.specs.Sizes.{Sizes}
 use Rattle.hl_model.specs.Offsets.{read_only, head}
-use Rattle.hl_model.specs.Replies.{unless_fault}
-use Rattle.hl_laws.proofs.NoFaultLaws.{later_fault}
 use Rattle.hl_laws.proofs.OffsetLaws.{read_only-nil, head-nil}
 use Rattle.hl_action.specs.Jobs.{KeptRecord}
 use Rattle.hl_words.specs.declared.view.OffsetWords.{OffsetWords}
 use Rattle.hl_words.specs.States.{MasterState}
 use Rattle.hl_words.specs.Views.{newest, no_offsets}
 use Rattle.hl_core.specs.Standing.{State, Stands}
+use Rattle.hl_domain.specs.Journals.{JournalState, journal_of, with_steps}
 use Rattle.hl_domain.specs.Keepers.{job_tag, KeeperState, KeeperStands, steps_most}
 use Rattle.hl_domain.specs.Stamps.{is_acquire, acquires_in, slot_stamps}
 use Rattle.hl_domain.specs.Calls.{room_fault}
+use Rattle.hl_domain.proofs.JournalLaws.{full-none}
 use Rattle.hl_domain.proofs.StampLaws.{acquires_in-nil, acquires_in-stay, slot_stamps-nil, slot_stamps-stay}
 
 module _ {F : Type 0} where
   -- a keeper that was just opened
-  pub opened : (core : State (KeptRecord F)) (base : Base) (journal : List Step) (limit : ℕ) (stamps : List ℕ) (stamp : ℕ) (master : MasterState) (sizes : Sizes) → Stands job_tag core [] → core.sizes ≡ sizes → base ≡ base_of sizes [] → journal ≡ [] → stamps ≡ replicate sizes.slots 0 → stamp ≤ steps_most → master ≡ record { offsets = no_offsets; total = 0 }
-      → KeeperStands {F = F} (record { core = core; base = base; cut = 0; journal = journal; limit = limit; stamps = stamps; stamp = stamp; acquired = 0; offsets = master.offsets; total = master.total }) []
-  opened core base journal limit stamps stamp master sizes st same b j s most m = record {
+  pub opened : (core : State (KeptRecord F)) (journal : JournalState) (limit : ℕ) (stamps : List ℕ) (stamp : ℕ) (master : MasterState) (sizes : Sizes) → Stands job_tag core [] → core.sizes ≡ sizes → journal ≡ record { base = base_of sizes []; cut = 0; steps = []; limit = limit } → stamps ≡ replicate sizes.slots 0 → stamp ≤ steps_most → master ≡ record { offsets = no_offsets; total = 0 }
+      → KeeperStands {F = F} (record { core = core; base = journal.base; cut = journal.cut; journal = journal.steps; limit = journal.limit; stamps = stamps; stamp = stamp; acquired = 0; offsets = master.offsets; total = master.total }) []
+  opened core journal limit stamps stamp master sizes st same j s most m = record {
     core_stands = st;
     steps_cut = [];
-    history = sym j;
-    base_is = b ∙ ap (λ z. base_of z []) (sym same);
-    cut_is = refl;
+    history = sym (ap (λ (z : JournalState). z.steps) j);
+    base_is = ap (λ (z : JournalState). z.base) j ∙ ap (λ z. base_of z []) (sym same);
+    cut_is = ap (λ (z : JournalState). z.cut) j;
     read_only_is = ap (λ (z : MasterState). newest z.offsets.read_only) m ∙ sym read_only-nil;
     head_is = ap (λ (z : MasterState). newest z.offsets.head) m ∙ sym head-nil;
     total_is = ap (λ (z : MasterState). z.total) m;
     total_most = omega (arith, ap (λ (z : MasterState). z.total) m);
-    journal_most = omega (arith, ap length j);
+    journal_most = omega (arith, ap (λ (z : JournalState). length z.steps) j);
     acquired_is = sym acquires_in-nil;
     stamps_are = s ∙ sym (slot_stamps-nil sizes.slots stamp) ∙ ap (λ (z : Sizes). slot_stamps z.slots stamp []) (sym same);
     stamp_most = most;
@@ -46,9 +44,9 @@ module _ {F : Type 0} where
   counted keeper A st = omega (arith, st.cut_is, st.total_is, ap length st.history, length-append st.steps_cut keeper.journal)
 
   -- a keeper that was cut: its base is that of the whole list, and its journal is empty
-  pub was_cut : (k : KeeperState F) (A : List Step) (base : Base) (n : ℕ) (journal : List Step) → KeeperStands k A → base ≡ base_of k.core.sizes A → n ≡ length k.journal → journal ≡ []
-      → KeeperStands {F = F} (record { core = k.core; base = base; cut = k.cut + n; journal = journal; limit = k.limit; stamps = k.stamps; stamp = k.stamp; acquired = k.acquired; offsets = k.offsets; total = k.total }) A
-  was_cut k A base n journal st b m j = record {
+  pub was_cut : (k : KeeperState F) (A : List Step) (journal : JournalState) → KeeperStands k A → journal.base ≡ base_of k.core.sizes A → journal.cut ≡ k.cut + length k.journal → journal.steps ≡ []
+      → KeeperStands {F = F} (record { core = k.core; base = journal.base; cut = journal.cut; journal = journal.steps; limit = journal.limit; stamps = k.stamps; stamp = k.stamp; acquired = k.acquired; offsets = k.offsets; total = k.total }) A
+  was_cut k A journal st b m j = record {
     core_stands = st.core_stands;
     steps_cut = A;
     history = sym (append-nil A) ∙ ap (λ z. A ++ z) (sym j);
@@ -66,15 +64,11 @@ module _ {F : Type 0} where
 
   -- what it is that n more steps have room
   pub room-none : (keeper : KeeperState F) (n : ℕ) → room_fault keeper n ≡ None → (length keeper.journal + n ≤ keeper.limit) × (keeper.cut + length keeper.journal + n ≤ steps_most)
-  unfolding room_fault
-  room-none keeper n h =
-      let tests = later_fault (ltb keeper.limit (length keeper.journal + n) || ltb steps_most (keeper.cut + length keeper.journal + n)) JournalFull None h in
-      let both = or_parts (ltb keeper.limit (length keeper.journal + n)) (ltb steps_most (keeper.cut + length keeper.journal + n)) tests.0 in
-      (ltb-false keeper.limit (length keeper.journal + n) both.0, ltb-false steps_most (keeper.cut + length keeper.journal + n) both.1)
+  room-none keeper n h = full-none (journal_of keeper) n h
 
   -- a keeper whose core has gone on, with other stamps, offset words and counts
-  abbrev pub moved : KeeperState F → State (KeptRecord F) → List Step → List ℕ → ℕ → OffsetWords → ℕ → KeeperState F
-  moved old core journal stamps acquired offsets total = record { core = core; base = old.base; cut = old.cut; journal = journal; limit = old.limit; stamps = stamps; stamp = old.stamp; acquired = acquired; offsets = offsets; total = total }
+  abbrev pub moved : KeeperState F → State (KeptRecord F) → JournalState → List ℕ → ℕ → OffsetWords → ℕ → KeeperState F
+  moved old core journal stamps acquired offsets total = record { core = core; base = journal.base; cut = journal.cut; journal = journal.steps; limit = journal.limit; stamps = stamps; stamp = old.stamp; acquired = acquired; offsets = offsets; total = total }
 
   -- the count of acquires and the stamps are those of a list
   pub record Stamped (keeper : KeeperState F) (list : List Step) (stamps : List ℕ) (acquired : ℕ) : Type 0 where
@@ -89,16 +83,17 @@ module _ {F : Type 0} where
   }
 
   -- it stands where its core does
-  pub grown : (old : KeeperState F) (A xs : List Step) (core : State (KeptRecord F)) (journal : List Step) (stamps : List ℕ) (acquired : ℕ) (offsets : OffsetWords) (total : ℕ) → KeeperStands old A → room_fault old (length xs) ≡ None
-      → Stands job_tag core (A ++ xs) → core.sizes ≡ old.core.sizes → journal ≡ old.journal ++ xs → Stamped old (A ++ xs) stamps acquired
+  pub grown : (old : KeeperState F) (A xs : List Step) (core : State (KeptRecord F)) (journal : JournalState) (stamps : List ℕ) (acquired : ℕ) (offsets : OffsetWords) (total : ℕ) → KeeperStands old A → room_fault old (length xs) ≡ None
+      → Stands job_tag core (A ++ xs) → core.sizes ≡ old.core.sizes → journal ≡ with_steps xs (journal_of old) → Stamped old (A ++ xs) stamps acquired
       → newest offsets.read_only ≡ read_only (A ++ xs) → newest offsets.head ≡ head (A ++ xs) → total ≡ old.total + length xs
       → KeeperStands (moved old core journal stamps acquired offsets total) (A ++ xs)
   grown old A xs core journal stamps acquired offsets total st room core_st same j stamped r h t =
       let most = room-none old (length xs) room in
-      let len : length journal ≡ length old.journal + length xs = ap length j ∙ length-append old.journal xs in record {
+      let len : length (old.journal ++ xs) ≡ length old.journal + length xs = length-append old.journal xs in
+      subst (λ (z : JournalState). KeeperStands (moved old core z stamps acquired offsets total) (A ++ xs)) (sym j) (record {
         core_stands = core_st;
         steps_cut = st.steps_cut;
-        history = ap (λ z. z ++ xs) st.history ∙ append_assoc st.steps_cut old.journal xs ∙ ap (λ z. st.steps_cut ++ z) (sym j);
+        history = ap (λ z. z ++ xs) st.history ∙ append_assoc st.steps_cut old.journal xs;
         base_is = st.base_is ∙ ap (λ z. base_of z st.steps_cut) (sym same);
         cut_is = st.cut_is;
         read_only_is = r;
@@ -109,16 +104,7 @@ module _ {F : Type 0} where
         acquired_is = stamped.count;
         stamps_are = stamped.row ∙ ap (λ (z : Sizes). slot_stamps z.slots old.stamp (A ++ xs)) (sym same);
         stamp_most = st.stamp_most;
-      }
-
-  -- whether there is room
-  pub no_room : (keeper : KeeperState F) (n : ℕ) → (b : Bool) → b ≡ (ltb keeper.limit (length keeper.journal + n) || ltb steps_most (keeper.cut + length keeper.journal + n)) → b ≡ true → Err JournalFull ≡ unless_fault (room_fault keeper n) (tt {0})
-  unfolding room_fault
-  no_room keeper n b e t = sym (ap (λ c. unless_fault (cond c (Some JournalFull) None) (tt {0})) (sym e ∙ t))
-
-  pub some_room : (keeper : KeeperState F) (n : ℕ) → (b : Bool) → b ≡ (ltb keeper.limit (length keeper.journal + n) || ltb steps_most (keeper.cut + length keeper.journal + n)) → b ≡ false → Ok (tt {0}) ≡ unless_fault (room_fault keeper n) (tt {0})
-  unfolding room_fault
-  some_room keeper n b e t = sym (ap (λ c. unless_fault (cond c (Some JournalFull) None) (tt {0})) (sym e ∙ t))
+      })
 
   -- the base has the keeper's sizes
   pub base_sizes : (keeper : KeeperState F) (A : List Step) → KeeperStands keeper A → keeper.base.sizes ≡ keeper.core.sizes

@@ -1,6 +1,7 @@
 pub mod TouchLaws
 pub mod PassLaws
 pub mod StampLaws
+pub mod JournalLaws
 pub mod KeeperLaws
 pub mod CallLaws
 pub mod DomainLaws

@@ -1,5 +1,5 @@
 -- What a keeper makes of one step of a rider's.
-use Rattle.std.proofs.Common.{◌≡◌, ℕ, ◌+◌, ◌<◌, ◌≤◌, cond, is_none, List, [], ◌∷◌, ◌++◌, length, refl, sym, ap, ◌∙◌, subst, arith}
+use Rattle.std.proofs.Common.{◌≡◌, ℕ, ◌+◌, ◌≤◌, cond, is_none, List, [], ◌∷◌, ◌++◌, refl, sym, ap, ◌∙◌, subst, arith}
 use Rattle.std.specs.Prelude.{Option, Some, None, Ok, Err}
 use Rattle.hl_model.specs.declared.fault.Fault.{Fault}
 use Rattle.hl_model.specs.declared.step.Reply.{Reply}
@@ -15,6 +15,7 @@ use Rattle.hl_words.specs.declared.which.Which.TheVariants.{ReadOnly, Head}
 use Rattle.hl_words.specs.Views.{newest, with_offset}
 use Rattle.hl_core.specs.Standing.{State, Stands}
 use Rattle.hl_core.specs.Steps.{Stepped}
+use Rattle.hl_domain.specs.Journals.{JournalState, journal_of, full_fault, with_steps}
 use Rattle.hl_domain.specs.Keepers.{job_tag, KeeperState, KeeperStands, IsKeeper, steps_most}
 use Rattle.hl_domain.specs.Calls.{room_fault, origin_fault, step_fault, end_fault, made, Replied}
 use Rattle.hl_domain.proofs.EnterLaws.{stepped_on}
@@ -45,8 +46,8 @@ module _ {F : Type 0} where
   end_own keeper A origin s u h = ap (λ o. or_fault o (step_fault keeper A s)) (unless_ok (origin_fault keeper origin) u (tt {0}) h).0
 
   -- room for one step more
-  pub one_fits : (keeper : KeeperState F) (room : ℕ) (u : Unit {0}) → Ok u ≡ unless_fault (room_fault keeper 1) (tt {0}) → keeper.limit ≤ room → length keeper.journal < room
-  one_fits keeper room u h le = omega (arith, (room-none keeper 1 (unless_ok (room_fault keeper 1) u (tt {0}) h).0).0, le)
+  pub one_fits : (keeper : KeeperState F) (u : Unit {0}) → Ok u ≡ unless_fault (room_fault keeper 1) (tt {0}) → full_fault (journal_of keeper) 1 ≡ None
+  one_fits keeper u h = (unless_ok (room_fault keeper 1) u (tt {0}) h).0
 
   pub one_counts : (keeper : KeeperState F) (u : Unit {0}) → IsKeeper keeper → Ok u ≡ unless_fault (room_fault keeper 1) (tt {0}) → keeper.total + 1 ≤ steps_most
   one_counts keeper u at h = omega (arith, (room-none keeper 1 (unless_ok (room_fault keeper 1) u (tt {0}) h).0).1, counted keeper at.0 at.1)
@@ -65,8 +66,8 @@ module _ {F : Type 0} where
       (step_fits keeper A s u room ∙ unless_err (fault_of keeper.core.sizes A s) f (answer_of keeper.core.sizes A (A ++ s ∷ []) s) stepped.reply)
 
   -- a keeper that accepted one step
-  pub core_made : {X : Type 0} (keeper : KeeperState F) (A : List Step) (s : Step) (u : Unit {0}) (core : State (KeptRecord F)) (r : Reply) (v x : X) (journal : List Step) (stamps : List ℕ) (acquired : ℕ) (offsets : OffsetWords) (total : ℕ)
-      → KeeperStands keeper A → Ok u ≡ unless_fault (room_fault keeper 1) (tt {0}) → Stepped job_tag keeper.core A s core (Ok r) → v ≡ x → journal ≡ keeper.journal ++ s ∷ [] → Stamped keeper (A ++ s ∷ []) stamps acquired → Follow A s offsets → total ≡ keeper.total + 1
+  pub core_made : {X : Type 0} (keeper : KeeperState F) (A : List Step) (s : Step) (u : Unit {0}) (core : State (KeptRecord F)) (r : Reply) (v x : X) (journal : JournalState) (stamps : List ℕ) (acquired : ℕ) (offsets : OffsetWords) (total : ℕ)
+      → KeeperStands keeper A → Ok u ≡ unless_fault (room_fault keeper 1) (tt {0}) → Stepped job_tag keeper.core A s core (Ok r) → v ≡ x → journal ≡ with_steps (s ∷ []) (journal_of keeper) → Stamped keeper (A ++ s ∷ []) stamps acquired → Follow A s offsets → total ≡ keeper.total + 1
       → Replied (step_fault keeper A s) x (made (step_fault keeper A s) A s) (moved keeper core journal stamps acquired offsets total) (Ok v)
   core_made keeper A s u core r v x journal stamps acquired offsets total st room stepped e j stamped follow t = record {
     reply = ap (λ z. Ok z) e ∙ sym (ap (λ z. unless_fault z x) none);

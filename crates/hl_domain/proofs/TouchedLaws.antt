@@ -20,12 +20,14 @@ use Rattle.hl_core.specs.Standing.{State, Stands}
 use Rattle.hl_core.specs.Steps.{Stepped}
 use Rattle.hl_domain.specs.Touches.{AreTouches, is_call}
 use Rattle.hl_domain.specs.Passes.{PassRecord}
+use Rattle.hl_domain.specs.Journals.{JournalState, journal_of, full_fault, with_steps}
 use Rattle.hl_domain.specs.Keepers.{job_tag, KeeperState, KeeperStands, IsKeeper}
 use Rattle.hl_domain.specs.Calls.{room_fault, touched_fault, entered, Knows, Called}
 use Rattle.hl_domain.specs.Entering.{MayEnter}
 use Rattle.hl_domain.specs.Stamps.{is_acquire, acquires_in, slot_stamps}
 use Rattle.hl_domain.proofs.TouchLaws.{viewed_slot, touches_accepted, touches_leave_faults, touches_leave_offsets, touches_act}
 use Rattle.hl_domain.proofs.EnterLaws.{stepped_on}
+use Rattle.hl_domain.proofs.JournalLaws.{room_fewer, room_behind, steps_assoc}
 use Rattle.hl_domain.proofs.KeeperLaws.{moved, Stamped, grown, room-none, counted}
 use Rattle.hl_domain.proofs.StampLaws.{acquires_in-stay, slot_stamps-stay, call_acquires, touches_leave_stamps}
 
@@ -99,9 +101,12 @@ module _ {F : Type 0} where
     acted = λ n d lt. touches_act p.slot p.held p.touches n d may.lawful lt;
   }
 
-  -- the journal has room for all
-  pub fits : (keeper : KeeperState F) (p : PassRecord) (s : Step) (room : ℕ) → MayCall keeper p s → keeper.limit ≤ room → length keeper.journal + length p.touches + 1 ≤ room
-  fits keeper p s room may le = omega (arith, (room-none keeper (length p.touches + 1) may.room).0, le)
+  -- the journal has room for the touches, and behind them for the step
+  pub touches_fit : (keeper : KeeperState F) (p : PassRecord) (s : Step) → MayCall keeper p s → full_fault (journal_of keeper) (length p.touches) ≡ None
+  touches_fit keeper p s may = room_fewer (journal_of keeper) (length p.touches + 1) (length p.touches) may.room (omega arith)
+
+  pub step_fits_behind : (keeper : KeeperState F) (p : PassRecord) (s : Step) → MayCall keeper p s → full_fault (with_steps p.touches (journal_of keeper)) 1 ≡ None
+  step_fits_behind keeper p s may = room_behind (journal_of keeper) p.touches (length p.touches + 1) 1 may.room (omega arith)
 
   -- and the master can count them
   pub counts : (keeper : KeeperState F) (p : PassRecord) (s : Step) → MayCall keeper p s → keeper.total + (length p.touches + 1) ≤ 2 ^ 62
@@ -130,8 +135,8 @@ module _ {F : Type 0} where
       cc
 
   -- the keeper then stands at the list with the touches and the step
-  pub called_made : (keeper : KeeperState F) (p : PassRecord) (s : Step) (mid new : State (KeptRecord F)) (r : Reply) (count : ℕ) (before journal : List Step) (master : MasterState) → HasEntered keeper p s mid → ((A : List Step) → Stands job_tag mid A → Stepped job_tag mid A s new (Ok r)) → new.sizes ≡ mid.sizes
-      → count ≡ length p.touches → before ≡ keeper.journal ++ p.touches → journal ≡ before ++ s ∷ [] → master ≡ record { offsets = keeper.offsets; total = keeper.total + (count + 1) }
+  pub called_made : (keeper : KeeperState F) (p : PassRecord) (s : Step) (mid new : State (KeptRecord F)) (r : Reply) (count : ℕ) (before journal : JournalState) (master : MasterState) → HasEntered keeper p s mid → ((A : List Step) → Stands job_tag mid A → Stepped job_tag mid A s new (Ok r)) → new.sizes ≡ mid.sizes
+      → count ≡ length p.touches → before ≡ with_steps p.touches (journal_of keeper) → journal ≡ with_steps (s ∷ []) before → master ≡ record { offsets = keeper.offsets; total = keeper.total + (count + 1) }
       → (A : List Step) → KeeperStands keeper A → Called keeper A p s (moved keeper new journal keeper.stamps keeper.acquired master.offsets master.total) (Ok r)
   called_made keeper p s mid new r count before journal master at made same n b j m A st = record { reply = told; standing = stands }
     where
@@ -170,7 +175,7 @@ module _ {F : Type 0} where
           (ap (λ z. room_fault keeper z) len ∙ at.may.room)
           (subst (λ (z : List Step). Stands job_tag new z) whole on.2)
           (same ∙ at.sizes)
-          (j ∙ ap (λ z. z ++ s ∷ []) b ∙ append_assoc keeper.journal p.touches (s ∷ []))
+          (j ∙ ap (with_steps (s ∷ [])) b ∙ steps_assoc (journal_of keeper) p.touches (s ∷ []))
           stamped
           (ap (λ (z : MasterState). newest z.offsets.read_only) m ∙ st.read_only_is ∙ sym still.0 ∙ sym (read_only-stay (A ++ p.touches) s quiet.0) ∙ ap read_only whole)
           (ap (λ (z : MasterState). newest z.offsets.head) m ∙ st.head_is ∙ sym still.1 ∙ sym (head-stay (A ++ p.touches) s quiet.1) ∙ ap head whole)

@@ -1,16 +1,19 @@
 -- The faults of a keeper's calls, in their order, and the list at which it stands after one.
-use Rattle.std.specs.Prelude.{◌≡◌, ℕ, ◌≤◌, Ok, Err, ◌+◌, ◌==◌, nat_le, nat_lt, Bool, false, ◌&&◌, ◌||◌, if◌then◌else◌, Option, Some, None, is_some, is_none, Result, List, [], ◌∷◌, ◌++◌, length, slice_index_or}
+use Rattle.std.specs.Prelude.{◌≡◌, ℕ, ◌≤◌, Ok, Err, ◌+◌, ◌==◌, nat_le, Bool, false, ◌&&◌, if◌then◌else◌, Option, Some, None, is_some, is_none, Result, OnErr, List, [], ◌∷◌, ◌++◌, length, slice_index_or}
 use Rattle.hl_model.specs.declared.fault.Fault.{Fault}
-use Rattle.hl_model.specs.declared.fault.Fault.TheVariants.{Stranger, JournalFull}
+use Rattle.hl_model.specs.declared.fault.Fault.TheVariants.{Stranger}
 use Rattle.hl_model.specs.declared.step.Reply.{Reply}
 use Rattle.hl_model.specs.declared.step.Step.{Step}
-use Rattle.hl_model.specs.declared.step.Step.TheVariants.{Refresh}
+use Rattle.hl_model.specs.declared.step.Step.TheVariants.{Acquire, Refresh}
 use Rattle.hl_model.specs.declared.view.View.{View}
 use Rattle.hl_model.specs.Offsets.{read_only, head}
-use Rattle.hl_model.specs.Views.{slot_view}
+use Rattle.hl_model.specs.Views.{slot_view, view_of}
 use Rattle.hl_model.specs.Replies.{or_fault, fault_of, answer_of, unless_fault}
-use Rattle.hl_domain.specs.Passes.{PassRecord, seen}
-use Rattle.hl_domain.specs.Keepers.{KeeperState, KeeperStands, steps_most}
+use Rattle.hl_words.specs.States.{RiderState}
+use Rattle.hl_domain.specs.Passes.{PassRecord, seen, new_pass, with_share}
+use Rattle.hl_domain.specs.Keepers.{KeeperState, KeeperStands}
+use Rattle.hl_domain.specs.Journals.{journal_of, full_fault}
+use Rattle.hl_domain.specs.Stamps.{acquires_in}
 
 -- two views are the same
 abbrev pub same_view : View → View → Bool
@@ -49,12 +52,8 @@ module _ {F : Type 0} where
   ahead_fault keeper A p = unless_stranger (is_known keeper A p && is_behind A p) (stamp_at keeper A p.slot)
 
   -- the fault of n steps more: they don't fit the journal, or would be more in all than a keeper counts
-  unfoldable pub room_fault : KeeperState F → ℕ → Option Fault
-  room_fault keeper n =
-      if nat_lt keeper.limit (length keeper.journal + n)
-      || nat_lt steps_most (keeper.cut + length keeper.journal + n)
-      then Some JournalFull
-      else None
+  abbrev pub room_fault : KeeperState F → ℕ → Option Fault
+  room_fault keeper n = full_fault (journal_of keeper) n
 
   -- the fault of something of this origin
   unfoldable pub origin_fault : KeeperState F → ℕ → Option Fault
@@ -114,6 +113,16 @@ module _ {F : Type 0} where
     pub base : new.base ≡ old.base
     pub cut : new.cut ≡ old.cut
 
+  -- what a call keeps by which no job goes in or comes out: what no call changes, and the pending actions;
+  -- where it is refused, all
+  abbrev pub Keeps : {X : Type 0} → KeeperState F → KeeperState F → Result X Fault → Type 0
+  Keeps old new result = Stays old new
+      × (new.core.drain.pending ≡ old.core.drain.pending) × OnErr result (new ≡ old)
+
+  -- no slot was acquired
+  abbrev pub SameStamps : KeeperState F → KeeperState F → Type 0
+  SameStamps old new = (new.stamps ≡ old.stamps) × (new.acquired ≡ old.acquired)
+
   -- a keeper answered a call, and stands at this list
   pub record Replied
       {X : Type 0} (fault : Option Fault) (answer : X) (list : List Step)
@@ -129,6 +138,19 @@ module _ {F : Type 0} where
   Makes old s answer new result =
       (A : List Step) → KeeperStands old A
       → Replied (step_fault old A s) (answer A) (made (step_fault old A s) A s) new result
+
+  -- likewise where the list itself names the step
+  abbrev pub MakesAt : {X : Type 0}
+      → KeeperState F → (List Step → Step) → (List Step → X) → KeeperState F → Result X Fault → Type 0
+  MakesAt old s answer new result =
+      (A : List Step) → KeeperStands old A
+      → Replied (step_fault old A (s A)) (answer A) (made (step_fault old A (s A)) A (s A)) new result
+
+  -- the pass that a rider has once it acquired slot t
+  abbrev pub acquired_pass : KeeperState F → ℕ → RiderState → List Step → PassRecord
+  acquired_pass keeper t rider A =
+      new_pass t (keeper.stamp + acquires_in (A ++ Acquire t ∷ []))
+      (view_of keeper.core.sizes t (A ++ Acquire t ∷ [])) (with_share 1 rider)
 
   -- likewise a step that ends something of this origin
   abbrev pub Ends : {X : Type 0}

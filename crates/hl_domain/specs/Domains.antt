@@ -1,5 +1,5 @@
 -- What contracts see of a domain, what a call met under its lock, and what is left of it at its end.
-use Rattle.std.specs.Prelude.{◌≡◌, ℕ, ◌+◌, Result, OnErr, List, ◌++◌, length, map}
+use Rattle.std.specs.Prelude.{◌≡◌, ℕ, ◌+◌, Result, List, ◌++◌, length, map}
 use Rattle.hl_model.specs.declared.fault.Fault.{Fault}
 use Rattle.hl_model.specs.declared.snapshot.Snapshot.{Snapshot}
 use Rattle.hl_model.specs.declared.step.Step.{Step}
@@ -12,7 +12,7 @@ use Rattle.hl_drain.specs.Actions.{waiting_of}
 use Rattle.hl_drain.specs.Lists.{Lists}
 use Rattle.hl_action.specs.Jobs.{KeptRecord}
 use Rattle.hl_domain.specs.Keepers.{job_tag, KeeperState, KeeperStands, IsOf}
-use Rattle.hl_domain.specs.Calls.{Stays}
+use Rattle.hl_domain.specs.Calls.{Keeps}
 
 -- a domain: its sizes, its stamp, and how many riders it has
 pub record DomainState : Type 0 where
@@ -42,13 +42,11 @@ pub record LeavesUnderLock
   pub left : IsOf domain.sizes domain.stamp after
   pub holds : Holds before after
 
--- likewise of a call that cuts nothing, and by which no job goes in or comes out; where it is refused the
--- keeper is as it was
+-- likewise of a call that keeps what such a call of a keeper does
 abbrev pub MakesUnderLock : {X : Type 0} (F : Type 0) → DomainState → Result X Fault
     → (KeeperState F → KeeperState F → Result X Fault → Type 0) → Type 0
 MakesUnderLock F domain result Holds =
-    LeavesUnderLock F domain (λ old new. Holds old new result × Stays old new
-    × (new.core.drain.pending ≡ old.core.drain.pending) × OnErr result (new ≡ old))
+    LeavesUnderLock F domain (λ old new. Holds old new result × Keeps old new result)
 
 -- what is left of a domain at its end: the base of the steps that were cut, and how many these are; the steps
 -- since; the actions that were never taken, and those taken and not done; all quantities

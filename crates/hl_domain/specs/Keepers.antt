@@ -61,14 +61,8 @@ pub record IsOf {F : Type 0} (sizes : Sizes) (stamp : ℕ) (keeper : KeeperState
   pub sizes_are : keeper.core.sizes ≡ sizes
   pub stamp_is : keeper.stamp ≡ stamp
 
--- for how many steps a keeper's journal has room, and for how many slots its row of stamps
-pub record Rooms : Type 0 where
-  pub journal : ℕ
-  pub stamps : ℕ
-
--- each keeper is that, its journal has room for all steps that it may keep, and its row of stamps never grew
+-- each keeper is that, and its row of stamps, which has this room, never grew
 pub record IsKept {F : Type 0} (sizes : Sizes) (stamp : ℕ) (keeper : KeeperState F)
-    (rooms : Rooms) : Type 0 where
+    (room : ℕ) : Type 0 where
   pub of : IsOf sizes stamp keeper
-  pub room : keeper.limit ≤ rooms.journal
-  pub exact : rooms.stamps ≡ keeper.core.sizes.slots
+  pub exact : room ≡ keeper.core.sizes.slots

@@ -1,7 +1,9 @@
 pub mod Calls
 pub mod Domains
 pub mod Entering
+pub mod Journals
 pub mod Keepers
+pub mod Lending
 pub mod Pages
 pub mod Passes
 pub mod Stamps
@@ -15,3 +17,4 @@ pub use Rattle.hl_model.specs.Replies
 pub use Rattle.hl_model.specs.Snapshots
 pub use Rattle.hl_model.specs.Views
 pub use Rattle.hl_words.specs.States
+pub use Rattle.hl_core.specs.Holding

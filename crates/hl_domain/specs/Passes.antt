@@ -109,6 +109,10 @@ pub record LooksOn (old new : PassRecord) : Type 0 where
 abbrev pub with_share : ℕ → RiderState → RiderState
 with_share n r = record { view = r.view; share = r.share + n }
 
+-- a pass with this rider in the place of its own
+abbrev pub with_rider : RiderState → PassRecord → PassRecord
+with_rider r p = record { slot = p.slot; stamp = p.stamp; held = p.held; touches = p.touches; rider = r }
+
 -- the rider of an accepted call entered n steps more, and that of a refused one none
 abbrev pub Shares : {X E : Type 0} → ℕ → Result X E → RiderState → RiderState → Type 0
 Shares n result old new = MatchResult result (λ _. new ≡ with_share n old) (λ _. new ≡ old)

@@ -5,7 +5,7 @@ ghost use Rattle.hl_model.specs.Actions.{bumps};
 ghost use Rattle.hl_core.specs.Steps.{asking, stored, CameOut};
 ghost use Rattle.hl_domain.specs.Passes.{Shares};
 ghost use Rattle.hl_domain.specs.Keepers.{job_tag};
-ghost use Rattle.hl_domain.specs.Calls.{without_back, Makes, Stays};
+ghost use Rattle.hl_domain.specs.Calls.{without_back, Makes, Stays, SameStamps};
 ghost use Rattle.hl_domain.specs.Taking.{taken_from, ready_told};
 
 use crate::call::note;
@@ -31,7 +31,7 @@ impl<E: Epochs + Drop, F: Task, P: Promise, L: Realm> Keeper<E, F, P, L> {
             (λ A. bumps (A ++ asking job_tag ask ∷ [])) self.new (without_back result) }
         ensures refused { IfErr result (λ back. (back.1 ≡ ask) × (self.new ≡ self.old)) }
         ensures stays { Stays self.old self.new }
-        ensures stamps { (self.new.stamps ≡ self.old.stamps) × (self.new.acquired ≡ self.old.acquired) }
+        ensures stamps { SameStamps self.old self.new }
         ensures jobs { let old = self.old.core
             in IfOk result (λ ticket.
             self.new.core.drain.pending ≡ old.drain.pending ++ (ticket, stored old.offsets ask) ∷ []) }
@@ -58,7 +58,7 @@ impl<E: Epochs + Drop, F: Task, P: Promise, L: Realm> Keeper<E, F, P, L> {
         ensures made { Makes self.old TAKE (taken_from self.old) self.new (ready_told result) }
         ensures refused { OnErr result (self.new ≡ self.old) }
         ensures stays { Stays self.old self.new }
-        ensures stamps { (self.new.stamps ≡ self.old.stamps) × (self.new.acquired ≡ self.old.acquired) }
+        ensures stamps { SameStamps self.old self.new }
         ensures out { IfOk result (λ ready.
             CameOut job_tag self.old.core self.new.core ready.firing.ticket ready.kept) }
         ensures rider { Shares 1 result rider.old rider.new }

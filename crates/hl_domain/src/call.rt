@@ -1,22 +1,21 @@
 //! What the locked calls have in common: the tests before the core's, and the journal behind them.
-ghost use Rattle.std.specs.Prelude.{◌≡◌, ◌+◌, ◌<◌, ◌≤◌, ◌||◌, nat_lt, List, [], ◌∷◌, ◌++◌, length, vec_capacity, slice_index_or, true, OnErr, MatchResult};
+ghost use Rattle.std.specs.Prelude.{◌≡◌, ◌+◌, ◌≤◌, None, List, [], ◌∷◌, slice_index_or, true, OnErr, MatchResult};
 ghost use Rattle.hl_model.specs.declared.step.Step.{Step as STEP};
 ghost use Rattle.hl_model.specs.Replies.{unless_fault};
 ghost use Rattle.hl_domain.specs.Touches.{is_call};
 ghost use Rattle.hl_domain.specs.Passes.{with_share, entered_by};
 ghost use Rattle.hl_domain.specs.Keepers.{KeeperStands, IsKeeper, steps_most};
-ghost use Rattle.hl_domain.specs.Calls.{has_view, stamp_at, is_known, is_behind, stranger_fault, ahead_fault, room_fault, origin_fault, Knows, Called, Stays};
+ghost use Rattle.hl_domain.specs.Journals.{full_fault, with_steps};
+ghost use Rattle.hl_domain.specs.Calls.{has_view, stamp_at, is_known, is_behind, stranger_fault, ahead_fault, room_fault, origin_fault, Knows, Called, Keeps, SameStamps};
 
 use crate::enter::enter_steps;
+use crate::journal::Journal;
 use crate::keeper::Keeper;
 use crate::pass::Pass;
 use hl_action::{Promise, Task};
 use hl_epoch::Epochs;
 use hl_model::{Fault, Reply, Step, View};
 use hl_words::{Master, Realm, Rider};
-
-/// How many steps a keeper counts in all.
-const STEPS_MOST: u64 = 1 << 62;
 
 impl<E: Epochs + Drop, F: Task, P: Promise, L: Realm> Keeper<E, F, P, L> {
     /// Whether the pass is the one to which its slot belongs.
@@ -59,10 +58,8 @@ impl<E: Epochs + Drop, F: Task, P: Promise, L: Realm> Keeper<E, F, P, L> {
         requires known { Knows self.old pass.old }
         ensures made { (A : List STEP) → KeeperStands self.old A
             → Called self.old A pass.old step.now self.new result }
-        ensures refused { OnErr result (self.new ≡ self.old) }
-        ensures stays { Stays self.old self.new }
-        ensures jobs { self.new.core.drain.pending ≡ self.old.core.drain.pending }
-        ensures stamps { (self.new.stamps ≡ self.old.stamps) × (self.new.acquired ≡ self.old.acquired) }
+        ensures keeps { Keeps self.old self.new result }
+        ensures stamps { SameStamps self.old self.new }
         ensures pass { MatchResult result (λ _. pass.new ≡ entered_by pass.old) (λ _. pass.new ≡ pass.old) }
         ensures valid { IsKeeper self.old }
     {
@@ -72,7 +69,7 @@ impl<E: Epochs + Drop, F: Task, P: Promise, L: Realm> Keeper<E, F, P, L> {
         enter_steps(&mut self.core, &mut self.journal, &pass.touches);
         match self.core.act(step) {
             Ok(reply) => {
-                self.journal.push_reserved(*step);
+                self.journal.note(*step);
                 self.master.enter(&mut pass.rider, count);
                 Ok(reply)
             }
@@ -117,45 +114,31 @@ impl<E: Epochs + Drop, F: Task, P: Promise, L: Realm> Keeper<E, F, P, L> {
         }
     }
 
-    /// Whether there is room for so many steps more.
+    /// Whether the journal has room for so many steps more.
     ///
-    /// `JournalFull` where there isn't.
+    /// `JournalFull` where it hasn't.
     pub(crate) fn room(&self, count: u64) -> Result<(), Fault>
         requires { count ≤ 33 }
         ensures { result ≡ unless_fault (room_fault self.now count) tt }
     {
-        if self.is_full_at(count) {
-            return Err(Fault::JournalFull);
-        }
-        Ok(())
-    }
-
-    fn is_full_at(&self, count: u64) -> bool
-        requires { count ≤ 33 }
-        ensures { let kept = length self.now.journal
-            in let now = self.now
-            in result ≡ (nat_lt now.limit (kept + count) || nat_lt steps_most (now.cut + kept + count)) }
-    {
-        let kept = self.journal.len() as u64;
-        self.limit < kept + count || STEPS_MOST < self.cut + kept + count
+        self.journal.room(count)
     }
 }
 
 /// Puts a step behind the journal, and counts it for a rider.
 pub(crate) fn note<L: Realm>(
-    journal: &mut Vec<Step>,
+    journal: &mut Journal,
     master: &mut Master<L>,
     rider: &mut Rider<L>,
     step: Step,
 )
-    requires room { length journal.old.items < vec_capacity journal.old }
+    requires room { full_fault journal.old 1 ≡ None }
     requires count { master.old.total + 1 ≤ steps_most }
-    ensures journal { journal.new.items ≡ journal.old.items ++ step ∷ [] }
-    ensures room { vec_capacity journal.new ≡ vec_capacity journal.old }
+    ensures journal { journal.new ≡ with_steps (step ∷ []) journal.old }
     ensures master { master.new ≡ record { offsets = master.old.offsets; total = master.old.total + 1 } }
     ensures rider { rider.new ≡ with_share 1 rider.old }
 {
-    journal.push_reserved(step);
+    journal.note(step);
     master.enter(rider, 1);
 }
 

@@ -2,6 +2,7 @@ ghost use Rattle.std.specs.Prelude.{◌≡◌, ◌+◌, List, [], length};
 ghost use Rattle.hl_model.specs.declared.step.Step.{Step as STEP};
 ghost use Rattle.hl_model.specs.Bases.{base_of};
 ghost use Rattle.hl_domain.specs.Keepers.{KeeperStands};
+ghost use Rattle.hl_domain.specs.Calls.{SameStamps};
 
 use crate::keeper::Keeper;
 use hl_action::{Promise, Task};
@@ -23,13 +24,9 @@ impl<E: Epochs + Drop, F: Task, P: Promise, L: Realm> Keeper<E, F, P, L> {
         ensures limit { self.new.limit ≡ self.old.limit }
         ensures stamp { self.new.stamp ≡ self.old.stamp }
         ensures total { self.new.total ≡ self.old.total }
-        ensures stamps { (self.new.stamps ≡ self.old.stamps) × (self.new.acquired ≡ self.old.acquired) }
+        ensures stamps { SameStamps self.old self.new }
         ensures rider { _rider.new ≡ _rider.old }
     {
-        let count = self.journal.len() as u64;
-        self.core.base_into(&mut self.base);
-        self.journal.clear();
-        self.cut += count;
-        count
+        self.journal.cut(&self.core)
     }
 }

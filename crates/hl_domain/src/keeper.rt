@@ -1,33 +1,27 @@
-ghost use Rattle.std.specs.Prelude.{◌≡◌, ◌≢◌, ◌*◌, ◌≤◌, List, [], length, replicate, vec_capacity, IfOk, IfErr, OnOk};
+ghost use Rattle.std.specs.Prelude.{◌≡◌, ◌≢◌, ◌*◌, ◌≤◌, List, [], length, replicate, IfOk, IfErr, OnOk};
 ghost use Rattle.std.specs.List.{sum_by};
 ghost use Rattle.hl_model.specs.declared.fault.Fault.TheVariants.{OutOfMemory};
 ghost use Rattle.hl_model.specs.declared.step.Step.{Step as STEP};
-ghost use Rattle.hl_model.specs.Bases.{base_of};
 ghost use Rattle.hl_model.specs.Snapshots.{snapshot_of};
 ghost use Rattle.hl_words.specs.States.{IsSeedOf, new_rider};
 ghost use Rattle.hl_domain.specs.Keepers.{KeeperStands, steps_most};
 
 use crate::ending::Ending;
+use crate::journal::Journal;
 use hl_action::{Kept, Promise, Task};
 use hl_core::Core;
 use hl_epoch::Epochs;
-use hl_laws::Base;
-use hl_model::{Fault, Params, Step, filled, with_room};
+use hl_model::{Fault, filled};
 use hl_words::{Master, Realm, Rider, Seed, Words};
 use std::alloc::Global;
 use std::marker::Model;
 
 /// What lies under a domain's one lock: a core over the table of epochs E with jobs F, the journal of the
-/// accepted steps, the base of those that were cut from it, each slot's stamp, and the right to store the
+/// accepted steps with the base of those that were cut from it, each slot's stamp, and the right to store the
 /// offset words. The answers of its jobs keep the promise P.
 pub struct Keeper<E: Epochs, F: Task, P: Promise, L: Realm> {
     pub(crate) core: Core<E, Kept<F, P>>,
-    pub(crate) base: Base,
-    // How many steps were cut.
-    pub(crate) cut: u64,
-    pub(crate) journal: Vec<Step>,
-    // How many steps the journal may have.
-    pub(crate) limit: u64,
+    pub(crate) journal: Journal,
     pub(crate) stamps: Vec<u64>,
     pub(crate) stamp: u64,
     // How many acquires were accepted.
@@ -43,10 +37,10 @@ impl<E: Epochs, F: Task, P: Promise, L: Realm> Model for Keeper<E, F, P, L> {
 
     ghost view = { λ k. record {
       core = k.core;
-      base = k.base;
-      cut = k.cut;
-      journal = k.journal.items;
-      limit = k.limit;
+      base = k.journal.base;
+      cut = k.journal.cut;
+      journal = k.journal.steps;
+      limit = k.journal.limit;
       stamps = k.stamps.items;
       stamp = k.stamp;
       acquired = k.acquired;
@@ -57,27 +51,24 @@ impl<E: Epochs, F: Task, P: Promise, L: Realm> Model for Keeper<E, F, P, L> {
     ghost invariant = { λ k. IsKept L.sizes L.stamp
         (record {
           core = k.core;
-          base = k.base;
-          cut = k.cut;
-          journal = k.journal.items;
-          limit = k.limit;
+          base = k.journal.base;
+          cut = k.journal.cut;
+          journal = k.journal.steps;
+          limit = k.journal.limit;
           stamps = k.stamps.items;
           stamp = k.stamp;
           acquired = k.acquired;
           offsets = k.master.offsets;
           total = k.master.total;
         })
-        (record { journal = vec_capacity k.journal; stamps = vec_capacity k.stamps }) };
+        (vec_capacity k.stamps) };
 }
 
 impl<E: Epochs + Drop, F: Task, P: Promise, L: Realm> Drop for Keeper<E, F, P, L> {
     fn drop(self) {
         let Keeper {
             core: _,
-            base: _,
-            cut: _,
             journal: _,
-            limit: _,
             stamps: _,
             stamp: _,
             acquired: _,
@@ -113,14 +104,11 @@ impl<E: Epochs + Drop, F: Task, P: Promise, L: Realm> Keeper<E, F, P, L> {
         let params = seed.params();
         let (words, master, riders) = Words::open(alloc, seed)?;
         let core = Core::open(alloc, params)?;
-        let limit = journal;
-        let (base, stamps, journal) = rows(alloc, params, limit)?;
+        let journal = Journal::open(alloc, params, journal)?;
+        let stamps = filled(alloc, params.slots(), 0)?;
         let keeper = Keeper {
             core,
-            base,
-            cut: 0,
             journal,
-            limit,
             stamps,
             stamp,
             acquired: 0,
@@ -146,10 +134,7 @@ impl<E: Epochs + Drop, F: Task, P: Promise, L: Realm> Keeper<E, F, P, L> {
     {
         let Keeper {
             core,
-            base,
-            cut,
             journal,
-            limit,
             stamps,
             stamp,
             acquired,
@@ -158,18 +143,15 @@ impl<E: Epochs + Drop, F: Task, P: Promise, L: Realm> Keeper<E, F, P, L> {
         match words.close(master, riders) {
             Ok(_) => Ok(Ending {
                 snapshot: core.snapshot(),
-                base,
-                cut,
-                journal,
+                base: journal.base,
+                cut: journal.cut,
+                journal: journal.steps,
                 left: core.into_drain(),
             }),
             Err((words, master, riders)) => {
                 let keeper = Keeper {
                     core,
-                    base,
-                    cut,
                     journal,
-                    limit,
                     stamps,
                     stamp,
                     acquired,
@@ -179,18 +161,4 @@ impl<E: Epochs + Drop, F: Task, P: Promise, L: Realm> Keeper<E, F, P, L> {
             }
         }
     }
-}
-
-/// A keeper's rows at the empty list: its base, its slots' stamps, and room for so many steps of a journal.
-fn rows(alloc: Global, params: Params, journal: u64) -> Result<(Base, Vec<u64>, Vec<Step>), Fault>
-    ensures base { IfOk result (λ rows. rows.0 ≡ base_of params []) }
-    ensures stamps { IfOk result (λ rows. rows.1.items ≡ replicate params.slots 0) }
-    ensures exact { IfOk result (λ rows. vec_capacity rows.1 ≡ params.slots) }
-    ensures journal { IfOk result (λ rows. (rows.2.items ≡ []) × (vec_capacity rows.2 ≡ journal)) }
-    ensures memory { IfErr result (λ fault. fault ≡ OutOfMemory) }
-{
-    let base = Base::opening(alloc, params)?;
-    let stamps = filled(alloc, params.slots(), 0)?;
-    let journal = with_room(alloc, journal)?;
-    Ok((base, stamps, journal))
 }

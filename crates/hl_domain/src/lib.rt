@@ -9,7 +9,7 @@
 //! | Value | What it is |
 //! |---|---|
 //! | a [`Domain`] | a keeper under its lock, and the words: shared by a `&` |
-//! | a [`Keeper`] | the core, the journal, the base of the steps cut, the right to store offset words |
+//! | a [`Keeper`] | the core, the journal with the base of the steps cut, the right to store offset words |
 //! | a `Rider` | the right to act, and its share: how many steps it entered. `close` wants all of them |
 //! | a [`Pass`] | the right to act for a slot, with its touches: what it did since its last locked call |
 //! | a [`Load`], a [`Broom`] | a page that was taken, to be flushed or to be cleaned; each must be spent |
@@ -48,8 +48,17 @@
 //! order, before the step of the pass's next locked call: what the slot's view allows is accepted there,
 //! whatever others did since. So touches refuse a call for the room that they want in the journal, and for nothing else.
 //!
-//! No call after [`Keeper::open`] has an answer for want of memory. That the journal has room for all it may keep,
-//! and that the row of stamps never grows, is in the type; that the journal asks for no more is seen in the code.
+//! A pass lends its rider for the calls that want one ([`Pass::rider_mut`]): a protected thread bumps, takes, cuts
+//! and raises so. What the rider enters meanwhile stands before the touches, which stay in the pass, and no action
+//! that it stores is safe before they enter: the slot keeps its epoch until the pass refreshes or is released.
+//!
+//! # Who holds it up
+//!
+//! `holders` tells the oldest pending action's ticket and the slots at an epoch that isn't above it, `frame_of` what
+//! the frame of a page is at, as of the page that a `Busy` names. They are questions: no step, and no touch.
+//!
+//! No call after [`Keeper::open`] has an answer for want of memory. That the journal has exactly the room that opening
+//! made, and that the row of stamps never grows, is in their types.
 #![tactic(auto)]
 
 mod actions;
@@ -58,6 +67,7 @@ mod cut;
 mod domain;
 mod ending;
 mod enter;
+mod journal;
 mod keeper;
 mod load;
 mod look;
@@ -71,14 +81,16 @@ mod sweep;
 pub mod unlocked;
 pub mod worked;
 
+pub use arrayvec::ArrayVec;
 pub use domain::Domain;
 pub use ending::Ending;
 pub use hl_action::{AnyAnswer, Firing, Kept, NoJob, Promise, Ran, Ready, Task};
+pub use hl_core::Holder;
 pub use hl_counts::CountTable;
 pub use hl_drain::{Action, Ask, Drain};
 pub use hl_epoch::{Epochs, ScanTable};
 pub use hl_laws::Base;
-pub use hl_model::{Fault, Params, Reply, Six, Snapshot, Step, View};
+pub use hl_model::{Fault, FrameState, Params, Reply, Six, Snapshot, Step, View};
 pub use hl_words::{Master, Realm, Rider, Seed, Words};
 pub use keeper::Keeper;
 pub use load::{Broom, Load, PageJob};

@@ -3,7 +3,7 @@ ghost use Rattle.std.specs.Prelude.{◌≡◌, List, [], ◌∷◌, ◌++◌, On
 ghost use Rattle.hl_model.specs.declared.step.Step.TheVariants.{Raise as RAISE, Shift as SHIFT};
 ghost use Rattle.hl_model.specs.Offsets.{read_only, head};
 ghost use Rattle.hl_domain.specs.Passes.{Shares};
-ghost use Rattle.hl_domain.specs.Calls.{Makes, Stays};
+ghost use Rattle.hl_domain.specs.Calls.{Makes, Keeps, SameStamps};
 
 use crate::call::note;
 use crate::keeper::Keeper;
@@ -19,10 +19,8 @@ impl<E: Epochs + Drop, F: Task, P: Promise, L: Realm> Keeper<E, F, P, L> {
     pub fn raise(&mut self, words: &Words<L>, rider: &mut Rider<L>, x: u64) -> Result<u64, Fault>
         ensures made { Makes self.old (RAISE x)
             (λ A. read_only (A ++ RAISE x ∷ [])) self.new result }
-        ensures refused { OnErr result (self.new ≡ self.old) }
-        ensures stays { Stays self.old self.new }
-        ensures stamps { (self.new.stamps ≡ self.old.stamps) × (self.new.acquired ≡ self.old.acquired) }
-        ensures jobs { self.new.core.drain.pending ≡ self.old.core.drain.pending }
+        ensures keeps { Keeps self.old self.new result }
+        ensures stamps { SameStamps self.old self.new }
         ensures rider { Shares 1 result rider.old rider.new }
         ensures same { IfOk result (λ raised. raised ≡ x) }
     {
@@ -40,10 +38,8 @@ impl<E: Epochs + Drop, F: Task, P: Promise, L: Realm> Keeper<E, F, P, L> {
     pub fn shift(&mut self, words: &Words<L>, rider: &mut Rider<L>, x: u64) -> Result<u64, Fault>
         ensures made { Makes self.old (SHIFT x)
             (λ A. head (A ++ SHIFT x ∷ [])) self.new result }
-        ensures refused { OnErr result (self.new ≡ self.old) }
-        ensures stays { Stays self.old self.new }
-        ensures stamps { (self.new.stamps ≡ self.old.stamps) × (self.new.acquired ≡ self.old.acquired) }
-        ensures jobs { self.new.core.drain.pending ≡ self.old.core.drain.pending }
+        ensures keeps { Keeps self.old self.new result }
+        ensures stamps { SameStamps self.old self.new }
         ensures rider { Shares 1 result rider.old rider.new }
         ensures same { IfOk result (λ shifted. shifted ≡ x) }
     {

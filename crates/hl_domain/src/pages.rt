@@ -4,7 +4,7 @@ ghost use Rattle.hl_model.specs.declared.step.Step.TheVariants.{Done as DONE, Fl
 ghost use Rattle.hl_model.specs.Pages.{flushed};
 ghost use Rattle.hl_model.specs.Replies.{answer_of};
 ghost use Rattle.hl_domain.specs.Passes.{Shares};
-ghost use Rattle.hl_domain.specs.Calls.{without_back, Makes, Ends, Stays};
+ghost use Rattle.hl_domain.specs.Calls.{without_back, Makes, Ends, Keeps, SameStamps};
 ghost use Rattle.hl_domain.specs.Pages.{to_flush, to_clean};
 
 use crate::keeper::Keeper;
@@ -21,10 +21,8 @@ impl<E: Epochs + Drop, F: Task, P: Promise, L: Realm> Keeper<E, F, P, L> {
     pub fn flush_take(&mut self, _words: &Words<L>, rider: &mut Rider<L>) -> Result<Load, Fault>
         ensures made { Makes self.old FLUSH_TAKE
             (λ A. to_flush self.old.core.sizes self.old.stamp A) self.new result }
-        ensures refused { OnErr result (self.new ≡ self.old) }
-        ensures stays { Stays self.old self.new }
-        ensures stamps { (self.new.stamps ≡ self.old.stamps) × (self.new.acquired ≡ self.old.acquired) }
-        ensures jobs { self.new.core.drain.pending ≡ self.old.core.drain.pending }
+        ensures keeps { Keeps self.old self.new result }
+        ensures stamps { SameStamps self.old self.new }
         ensures rider { Shares 1 result rider.old rider.new }
     {
         match self.one(rider, &Step::FlushTake)? {
@@ -50,10 +48,9 @@ impl<E: Epochs + Drop, F: Task, P: Promise, L: Realm> Keeper<E, F, P, L> {
         ensures made { Ends self.old load.stamp (FLUSH_DONE load.page ok)
             (λ A. flushed self.old.core.sizes (A ++ FLUSH_DONE load.page ok ∷ []))
             self.new (without_back result) }
-        ensures refused { IfErr result (λ back. (back.1 ≡ load) × (self.new ≡ self.old)) }
-        ensures stays { Stays self.old self.new }
-        ensures stamps { (self.new.stamps ≡ self.old.stamps) × (self.new.acquired ≡ self.old.acquired) }
-        ensures jobs { self.new.core.drain.pending ≡ self.old.core.drain.pending }
+        ensures refused { IfErr result (λ back. back.1 ≡ load) }
+        ensures keeps { Keeps self.old self.new (without_back result) }
+        ensures stamps { SameStamps self.old self.new }
         ensures rider { Shares 1 result rider.old rider.new }
     {
         let PageJob { stamp, page } = load.job();
@@ -77,10 +74,8 @@ impl<E: Epochs + Drop, F: Task, P: Promise, L: Realm> Keeper<E, F, P, L> {
     pub fn clean_take(&mut self, _words: &Words<L>, rider: &mut Rider<L>) -> Result<Broom, Fault>
         ensures made { Makes self.old CLEAN_TAKE
             (λ A. to_clean self.old.core.sizes self.old.stamp A) self.new result }
-        ensures refused { OnErr result (self.new ≡ self.old) }
-        ensures stays { Stays self.old self.new }
-        ensures stamps { (self.new.stamps ≡ self.old.stamps) × (self.new.acquired ≡ self.old.acquired) }
-        ensures jobs { self.new.core.drain.pending ≡ self.old.core.drain.pending }
+        ensures keeps { Keeps self.old self.new result }
+        ensures stamps { SameStamps self.old self.new }
         ensures rider { Shares 1 result rider.old rider.new }
     {
         match self.one(rider, &Step::CleanTake)? {
@@ -106,10 +101,9 @@ impl<E: Epochs + Drop, F: Task, P: Promise, L: Realm> Keeper<E, F, P, L> {
         requires { broom.swept ≡ self.old.core.sizes.page_size }
         ensures made { Ends self.old broom.stamp (CLEAN_DONE broom.page)
             (λ A. broom.page) self.new (without_back result) }
-        ensures refused { IfErr result (λ back. (back.1 ≡ broom) × (self.new ≡ self.old)) }
-        ensures stays { Stays self.old self.new }
-        ensures stamps { (self.new.stamps ≡ self.old.stamps) × (self.new.acquired ≡ self.old.acquired) }
-        ensures jobs { self.new.core.drain.pending ≡ self.old.core.drain.pending }
+        ensures refused { IfErr result (λ back. back.1 ≡ broom) }
+        ensures keeps { Keeps self.old self.new (without_back result) }
+        ensures stamps { SameStamps self.old self.new }
         ensures rider { Shares 1 result rider.old rider.new }
     {
         let page = broom.page();
@@ -138,10 +132,9 @@ impl<E: Epochs + Drop, F: Task, P: Promise, L: Realm> Keeper<E, F, P, L> {
         ensures made { let step = DONE ran.ticket
             in Ends self.old ran.origin step
             (λ A. answer_of self.old.core.sizes A (A ++ step ∷ []) step) self.new (without_back result) }
-        ensures refused { IfErr result (λ back. (back.1 ≡ ran) × (self.new ≡ self.old)) }
-        ensures stays { Stays self.old self.new }
-        ensures stamps { (self.new.stamps ≡ self.old.stamps) × (self.new.acquired ≡ self.old.acquired) }
-        ensures jobs { self.new.core.drain.pending ≡ self.old.core.drain.pending }
+        ensures refused { IfErr result (λ back. back.1 ≡ ran) }
+        ensures keeps { Keeps self.old self.new (without_back result) }
+        ensures stamps { SameStamps self.old self.new }
         ensures rider { Shares 1 result rider.old rider.new }
     {
         let ticket = ran.ticket();

@@ -42,6 +42,9 @@ impl<L: Realm> Model for Pass<L> {
 }
 
 impl<L: Realm> Pass<L> {
+    ghost use Rattle.std.specs.Borrow.{sem};
+    ghost use Rattle.hl_domain.specs.Lending.{LendsRider};
+
     /// A pass that did nothing yet.
     pub(crate) fn new(slot: u64, stamp: u64, view: View, rider: Rider<L>) -> Pass<L>
         ensures { result ≡ new_pass slot stamp view rider }
@@ -67,6 +70,13 @@ impl<L: Realm> Pass<L> {
         self.touches.clear();
     }
 
+    /// The slot for which it acts.
+    pub fn slot(&self) -> u64
+        ensures { result ≡ self.now.slot }
+    {
+        self.slot
+    }
+
     /// What its slot has seen: the view of its last locked call, after its looks since.
     pub fn view(&self) -> View
         ensures { result ≡ seen self.now }
@@ -79,6 +89,17 @@ impl<L: Realm> Pass<L> {
         ensures { result.now ≡ self.now.rider }
     {
         &self.rider
+    }
+
+    /// Lends its rider, for the calls that want one: a slot that is protected may bump, cut, take and raise. Slot,
+    /// stamp, view and touches stay as they are: the touches enter at the pass's next locked call, behind the steps
+    /// that the rider makes meanwhile. No action that these store is safe before, since the slot's epoch stays too.
+    pub fn rider_mut(&mut self) -> &mut Rider<L>
+        ensures value { result.now ≡ self.old.rider }
+        ensures* writes_back { sem 𝓛 (LendsRider L.row
+            (record { table = L.table; sizes = L.sizes; stamp = L.stamp }) L.Ledger self.entry result) }
+    {
+        &mut self.rider
     }
 
     /// Gives the rider back and lets the pass go. Where its slot wasn't released, it stays protected for good, and the

@@ -8,7 +8,7 @@ ghost use Rattle.hl_core.specs.Steps.{is_acted};
 ghost use Rattle.hl_domain.specs.Passes.{Shares};
 ghost use Rattle.hl_domain.specs.Keepers.{IsKeeper};
 ghost use Rattle.hl_domain.specs.Stamps.{is_acquire};
-ghost use Rattle.hl_domain.specs.Calls.{Makes, Stays};
+ghost use Rattle.hl_domain.specs.Calls.{Makes, Keeps, SameStamps};
 
 use crate::call::note;
 use crate::keeper::Keeper;
@@ -25,10 +25,8 @@ impl<E: Epochs + Drop, F: Task, P: Promise, L: Realm> Keeper<E, F, P, L> {
         requires unstamped { is_acquire step.now ≡ false }
         ensures made { Makes self.old step.now
             (λ A. answer_of self.old.core.sizes A (A ++ step.now ∷ []) step.now) self.new result }
-        ensures refused { OnErr result (self.new ≡ self.old) }
-        ensures stays { Stays self.old self.new }
-        ensures jobs { self.new.core.drain.pending ≡ self.old.core.drain.pending }
-        ensures stamps { (self.new.stamps ≡ self.old.stamps) × (self.new.acquired ≡ self.old.acquired) }
+        ensures keeps { Keeps self.old self.new result }
+        ensures stamps { SameStamps self.old self.new }
         ensures rider { Shares 1 result rider.old rider.new }
         ensures valid { IsKeeper self.old }
     {
@@ -44,10 +42,8 @@ impl<E: Epochs + Drop, F: Task, P: Promise, L: Realm> Keeper<E, F, P, L> {
     pub fn bare(&mut self, _words: &Words<L>, rider: &mut Rider<L>) -> Result<u64, Fault>
         ensures made { Makes self.old BARE
             (λ A. bumps (A ++ BARE ∷ [])) self.new result }
-        ensures refused { OnErr result (self.new ≡ self.old) }
-        ensures stays { Stays self.old self.new }
-        ensures stamps { (self.new.stamps ≡ self.old.stamps) × (self.new.acquired ≡ self.old.acquired) }
-        ensures jobs { self.new.core.drain.pending ≡ self.old.core.drain.pending }
+        ensures keeps { Keeps self.old self.new result }
+        ensures stamps { SameStamps self.old self.new }
         ensures rider { Shares 1 result rider.old rider.new }
     {
         match self.one(rider, &Step::Bare)? {

@@ -5,7 +5,8 @@ ghost use Rattle.hl_model.specs.Offsets.{place_of, tail};
 ghost use Rattle.hl_model.specs.Views.{view_of};
 ghost use Rattle.hl_domain.specs.Passes.{seen, rested, with_share, new_pass, with_tail};
 ghost use Rattle.hl_domain.specs.Stamps.{acquires_in};
-ghost use Rattle.hl_domain.specs.Calls.{call_fault, refresh_fault, touched_list, without_back, Makes, MakesTouched, Stays, IsUpTo};
+ghost use Rattle.hl_domain.specs.Calls.{call_fault, refresh_fault, acquired_pass, touched_list, without_back, Makes, MakesAt, MakesTouched, IsUpTo, Keeps, SameStamps};
+ghost use Rattle.hl_core.specs.Holding.{least_free};
 
 use crate::call::note;
 use crate::keeper::Keeper;
@@ -26,10 +27,8 @@ impl<E: Epochs + Drop, F: Task, P: Promise, L: Realm> Keeper<E, F, P, L> {
             in let p = pass.old
             in MakesTouched old p (REFRESH p.slot) (λ A. refresh_fault old A p)
             (λ A. view_of old.core.sizes p.slot (touched_list A p (REFRESH p.slot))) self.new result }
-        ensures refused { OnErr result (self.new ≡ self.old) }
-        ensures stays { Stays self.old self.new }
-        ensures stamps { (self.new.stamps ≡ self.old.stamps) × (self.new.acquired ≡ self.old.acquired) }
-        ensures jobs { self.new.core.drain.pending ≡ self.old.core.drain.pending }
+        ensures keeps { Keeps self.old self.new result }
+        ensures stamps { SameStamps self.old self.new }
         ensures pass { let old = pass.old
             in MatchResult result (λ view. pass.new ≡ rested view old) (λ _. pass.new ≡ old) }
         ensures fresh { IfOk result (IsUpTo (seen pass.old)) }
@@ -56,10 +55,9 @@ impl<E: Epochs + Drop, F: Task, P: Promise, L: Realm> Keeper<E, F, P, L> {
         ensures made { let step = RELEASE pass.slot
             in MakesTouched self.old pass step (λ A. call_fault self.old A pass step)
             (λ A. with_share (length pass.touches + 1) pass.rider) self.new (without_back result) }
-        ensures refused { IfErr result (λ back. (back.1 ≡ pass) × (self.new ≡ self.old)) }
-        ensures stays { Stays self.old self.new }
-        ensures stamps { (self.new.stamps ≡ self.old.stamps) × (self.new.acquired ≡ self.old.acquired) }
-        ensures jobs { self.new.core.drain.pending ≡ self.old.core.drain.pending }
+        ensures refused { IfErr result (λ back. back.1 ≡ pass) }
+        ensures keeps { Keeps self.old self.new (without_back result) }
+        ensures stamps { SameStamps self.old self.new }
     {
         let mut pass = pass;
         if let Err(fault) = self.known(&pass) {
@@ -82,10 +80,8 @@ impl<E: Epochs + Drop, F: Task, P: Promise, L: Realm> Keeper<E, F, P, L> {
             in let p = pass.old
             in MakesTouched self.old p (ALLOCATE p.slot n) (λ A. call_fault self.old A p (ALLOCATE p.slot n))
             (λ A. place_of sizes.page_size (tail sizes (A ++ p.touches)) n) self.new result }
-        ensures refused { OnErr result (self.new ≡ self.old) }
-        ensures stays { Stays self.old self.new }
-        ensures stamps { (self.new.stamps ≡ self.old.stamps) × (self.new.acquired ≡ self.old.acquired) }
-        ensures jobs { self.new.core.drain.pending ≡ self.old.core.drain.pending }
+        ensures keeps { Keeps self.old self.new result }
+        ensures stamps { SameStamps self.old self.new }
         ensures pass { let old = pass.old
             in MatchResult result
             (λ a. pass.new ≡ rested (with_tail (a + n) (seen old)) old)
@@ -125,9 +121,8 @@ impl<E: Epochs + Drop, F: Task, P: Promise, L: Realm> Keeper<E, F, P, L> {
             (λ A. new_pass t (old.stamp + acquires_in (A ++ ACQUIRE t ∷ []))
             (view_of old.core.sizes t (A ++ ACQUIRE t ∷ [])) (with_share 1 rider))
             self.new (without_back result) }
-        ensures refused { IfErr result (λ back. (back.1 ≡ rider) × (self.new ≡ self.old)) }
-        ensures stays { Stays self.old self.new }
-        ensures jobs { self.new.core.drain.pending ≡ self.old.core.drain.pending }
+        ensures refused { IfErr result (λ back. back.1 ≡ rider) }
+        ensures keeps { Keeps self.old self.new (without_back result) }
         ensures acquired { OnOk result (self.new.acquired ≡ self.old.acquired + 1) }
         ensures stamps { let old = self.old
             in OnOk result (self.new.stamps ≡ slice_set old.stamps t (old.stamp + old.acquired + 1)) }
@@ -148,5 +143,20 @@ impl<E: Epochs + Drop, F: Task, P: Promise, L: Realm> Keeper<E, F, P, L> {
             }
             Err(fault) => Err((fault, rider)),
         }
+    }
+
+    /// An acquire of the least slot that isn't protected; the pass tells which it is.
+    ///
+    /// Faults, with the rider handed back: `JournalFull`, `NoSlot` where each slot is protected.
+    pub fn enter(&mut self, words: &Words<L>, rider: Rider<L>) -> Result<Pass<L>, (Fault, Rider<L>)>
+        ensures made { let old = self.old
+            in MakesAt old (λ A. ACQUIRE (least_free old.core.sizes A))
+            (λ A. acquired_pass old (least_free old.core.sizes A) rider A) self.new (without_back result) }
+        ensures refused { IfErr result (λ back. back.1 ≡ rider) }
+        ensures keeps { Keeps self.old self.new (without_back result) }
+        ensures acquired { OnOk result (self.new.acquired ≡ self.old.acquired + 1) }
+    {
+        let t = self.core.least_free();
+        self.acquire(words, t, rider)
     }
 }

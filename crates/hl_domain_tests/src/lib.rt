@@ -8,6 +8,7 @@
 //! | `strangers` | what is of another domain |
 //! | `refusals` | riders that are missing |
 //! | `journals` | how many steps a journal holds |
+//! | `protected` | a thread that settles and cuts with a pass in its hands, and asks who holds it up |
 //! | `limits` | the greatest sizes, stamps and journals, and a chain of jobs |
 //! | `follow`, `play` | plays an example; what is asked, with the values that the calls use |
 //! | `call`, `ending` | reads a call, and prints what is left at the end |
@@ -40,6 +41,8 @@ mod journals;
 mod limits;
 #[cfg(test)]
 mod play;
+#[cfg(test)]
+mod protected;
 #[cfg(test)]
 mod refusals;
 #[cfg(test)]

@@ -1,11 +1,13 @@
 //! The locked calls of a rider: bumps, takes and dones, the two offsets, the cut, and the snapshot.
-ghost use Rattle.std.specs.Prelude.{◌≡◌, ◌+◌, List, [], ◌∷◌, ◌++◌, length, OnErr, IfOk, IfErr};
+ghost use Rattle.std.specs.Prelude.{◌≡◌, ◌+◌, ◌%◌, List, [], ◌∷◌, ◌++◌, length, OnErr, IfOk, IfErr};
 ghost use Rattle.hl_model.specs.declared.step.Step.{Step as STEP};
 ghost use Rattle.hl_model.specs.declared.step.Step.TheVariants.{Bare as BARE, Take as TAKE, Done as DONE, Raise as RAISE, Shift as SHIFT};
 ghost use Rattle.hl_model.specs.Actions.{bumps};
 ghost use Rattle.hl_model.specs.Offsets.{read_only, head};
 ghost use Rattle.hl_model.specs.Replies.{answer_of};
 ghost use Rattle.hl_model.specs.Snapshots.{snapshot_of};
+ghost use Rattle.hl_model.specs.Frames.{frame_of};
+ghost use Rattle.hl_core.specs.Holding.{oldest, holders};
 ghost use Rattle.hl_core.specs.Steps.{asking, stored, CameOut};
 ghost use Rattle.hl_domain.specs.Passes.{Shares};
 ghost use Rattle.hl_domain.specs.Keepers.{job_tag, KeeperStands};
@@ -14,10 +16,12 @@ ghost use Rattle.hl_domain.specs.Taking.{taken_from, ready_told};
 ghost use Rattle.hl_domain.specs.Domains.{UnderLock, LeavesUnderLock, MakesUnderLock};
 
 use crate::domain::Domain;
+use arrayvec::ArrayVec;
 use hl_action::{Kept, Promise, Ran, Ready, Task};
+use hl_core::Holder;
 use hl_drain::Ask;
 use hl_epoch::Epochs;
-use hl_model::{Fault, Reply, Snapshot};
+use hl_model::{Fault, FrameState, Reply, Snapshot};
 use hl_words::{Realm, Rider};
 use std::sync::Wait;
 
@@ -129,5 +133,26 @@ impl<E: Epochs + Drop, F: Task, P: Promise, L: Realm> Domain<E, F, P, L> {
             × (result.1 ≡ length k.journal) × (result.2 ≡ k.cut)) }
     {
         self.lock(rt).snapshot()
+    }
+
+    /// The ticket of the oldest pending action, and into the row the slots that hold it up, least first, each with its
+    /// epoch: those protected at an epoch that isn't above the ticket. Each of them has to refresh or to leave before
+    /// a take gives that action; where the row is empty, the next take does.
+    ///
+    /// None, and no slot, where no action is pending.
+    pub fn holders(&self, rt: &impl Wait, row: &mut ArrayVec<Holder, 64>) -> Option<u64>
+        ensures met { UnderLock F self.now (λ k A. (result ≡ oldest A)
+            × (row.new.items ≡ holders k.core.sizes.slots A)) }
+    {
+        self.lock(rt).holders(row)
+    }
+
+    /// What the frame of a page is at, and the page that was last entered there; none where it is free. Of the page
+    /// that a `Busy` names it tells what is in its way: a page to be settled, flushed, closed or cleaned.
+    pub fn frame_of(&self, rt: &impl Wait, page: u64) -> (FrameState, Option<u64>)
+        ensures met { UnderLock F self.now (λ k A.
+            result ≡ frame_of k.core.sizes (page % k.core.sizes.frames) A) }
+    {
+        self.lock(rt).frame_of(page)
     }
 }

@@ -4,7 +4,8 @@ ghost use Rattle.hl_model.specs.declared.step.Step.TheVariants.{Acquire as ACQUI
 ghost use Rattle.hl_model.specs.Offsets.{place_of, tail};
 ghost use Rattle.hl_model.specs.Views.{view_of};
 ghost use Rattle.hl_domain.specs.Passes.{seen, rested, with_share, new_pass, with_tail};
-ghost use Rattle.hl_domain.specs.Calls.{call_fault, refresh_fault, touched_list, without_back, Makes, MakesTouched, IsUpTo};
+ghost use Rattle.hl_domain.specs.Calls.{call_fault, refresh_fault, acquired_pass, touched_list, without_back, Makes, MakesAt, MakesTouched, IsUpTo};
+ghost use Rattle.hl_core.specs.Holding.{least_free};
 ghost use Rattle.hl_domain.specs.Stamps.{acquires_in};
 ghost use Rattle.hl_domain.specs.Domains.{MakesUnderLock};
 
@@ -33,6 +34,18 @@ impl<E: Epochs + Drop, F: Task, P: Promise, L: Realm> Domain<E, F, P, L> {
         ensures refused { IfErr result (λ back. back.1 ≡ rider) }
     {
         self.lock(rt).acquire(&self.words, t, rider)
+    }
+
+    /// An acquire of the least slot that isn't protected; the pass tells which it is.
+    ///
+    /// Faults, with the rider handed back: `JournalFull`, `NoSlot` where each slot is protected.
+    pub fn enter(&self, rt: &impl Wait, rider: Rider<L>) -> Result<Pass<L>, (Fault, Rider<L>)>
+        ensures met { MakesUnderLock F self.now (without_back result) (λ old.
+            MakesAt old (λ A. ACQUIRE (least_free old.core.sizes A))
+            (λ A. acquired_pass old (least_free old.core.sizes A) rider A)) }
+        ensures refused { IfErr result (λ back. back.1 ≡ rider) }
+    {
+        self.lock(rt).enter(&self.words, rider)
     }
 
     /// The slot of a pass moves on: its epoch and its view are those of now. The answer is the view, and isn't

@@ -1,12 +1,9 @@
 use Rattle.std.proofs.Common.{sym}
-use Rattle.hl_domain.proofs.DomainLaws.{leaves, handed_back, kept_without}
+use Rattle.hl_domain.proofs.DomainLaws.{leaves}
 use Rattle.hl_domain.proofs.domain.Domain.flush_done.Goals as goal
 
 pub returns-clause-met : goal.returns-clause-met
 returns-clause-met g c =
     let of = rw (sym c.deref_mut.ensures.value) at c.lock.ensures in
     let e = c.flush_done.ensures in
-    leaves c.args.self.now c.deref_mut.result.now c.flush_done.new.self _ of e.stays.sizes e.stays.stamp (_, (e.made of.standing.0 of.standing.1).standing) (e.made, e.stays, e.jobs, kept_without c.flush_done.result c.args.load _ e.refused)
-
-pub returns-clause-refused : goal.returns-clause-refused
-returns-clause-refused g c = handed_back c.flush_done.result c.args.load _ c.flush_done.ensures.refused
+    leaves c.args.self.now c.deref_mut.result.now c.flush_done.new.self _ of e.keeps.0.sizes e.keeps.0.stamp (_, (e.made of.standing.0 of.standing.1).standing) (e.made, e.keeps)

@@ -6,4 +6,4 @@ pub returns-clause-met : goal.returns-clause-met
 returns-clause-met g c =
     let of = rw (sym c.deref_mut.ensures.value) at c.lock.ensures in
     let e = c.raise.ensures in
-    leaves c.args.self.now c.deref_mut.result.now c.raise.new.self _ of e.stays.sizes e.stays.stamp (_, (e.made of.standing.0 of.standing.1).standing) (e.made, e.stays, e.jobs, e.refused)
+    leaves c.args.self.now c.deref_mut.result.now c.raise.new.self _ of e.keeps.0.sizes e.keeps.0.stamp (_, (e.made of.standing.0 of.standing.1).standing) (e.made, e.keeps)

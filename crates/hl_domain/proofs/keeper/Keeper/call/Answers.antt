@@ -1,10 +1,11 @@
-use Rattle.std.proofs.Common.{rules, sym, ap, ◌∙◌, arith, length, length-append, ◌++◌}
+use Rattle.std.proofs.Common.{rules, sym, ap, ◌∙◌, arith, length}
 use Rattle.std.proofs.lemmas.Result.{err_from_is_err_and}
 use Rattle.hl_model.specs.Replies.{fault_of}
 use Rattle.hl_laws.proofs.NoFaultLaws.{unless_ok}
 use Rattle.hl_domain.specs.Passes.{PassRecord}
+use Rattle.hl_domain.specs.Journals.{with_steps}
 use Rattle.hl_domain.specs.Keepers.{KeeperState}
-use Rattle.hl_domain.proofs.TouchedLaws.{MayCall, HasEntered, may_call, may_enter, called_full, called_faulty, called_made, fits, counts, never_refused}
+use Rattle.hl_domain.proofs.TouchedLaws.{MayCall, HasEntered, may_call, may_enter, called_full, called_faulty, called_made, touches_fit, step_fits_behind, counts, never_refused}
 use Rattle.hl_domain.proofs.keeper.Keeper.call.Goals as goal
 
 pub returns-in_err-room-clause-made : goal.returns-in_err-room-clause-made
@@ -16,7 +17,7 @@ pub returns-in_err-check-clause-made : goal.returns-in_err-check-clause-made
 returns-in_err-check-clause-made g c =
     let known = rw (sym c.self.view_is, sym c.pass.view_is) at c.requires.known in
     let room = rw (sym c.self.view_is) at c.in_ok-room.ensures in
-    let k : KeeperState g.row.F.Denot = (record { core = c.self.inside.core; base = c.self.inside.base; cut = c.self.inside.cut; journal = c.self.inside.journal.items; limit = c.self.inside.limit; stamps = c.self.inside.stamps.items; stamp = c.self.inside.stamp; acquired = c.self.inside.acquired; offsets = c.self.inside.master.offsets; total = c.self.inside.master.total }) in
+    let k : KeeperState g.row.F.Denot = (record { core = c.self.inside.core; base = c.self.inside.journal.base; cut = c.self.inside.journal.cut; journal = c.self.inside.journal.steps; limit = c.self.inside.journal.limit; stamps = c.self.inside.stamps.items; stamp = c.self.inside.stamp; acquired = c.self.inside.acquired; offsets = c.self.inside.master.offsets; total = c.self.inside.master.total }) in
     let p : PassRecord = (record { slot = c.pass.inside.slot; stamp = c.pass.inside.stamp; held = c.pass.inside.held; touches = c.pass.inside.touches.items; rider = c.pass.inside.rider }) in
     let may : MayCall k p c.args.step.now = may_call k p c.args.step.now c.len.result c.in_ok-room.field-0 c.self.invariant.of.standing known c.requires.kind c.pass.invariant.1 c.len.ensures.value room in
     let q = err_from_is_err_and c.from_residual-in_err-check.result c.from_residual-in_err-check.ensures.1 in
@@ -26,7 +27,7 @@ pub enter_steps-requires-clause-may : goal.enter_steps-requires-clause-may
 enter_steps-requires-clause-may g c =
     let known = rw (sym c.self.view_is, sym c.pass.view_is) at c.requires.known in
     let room = rw (sym c.self.view_is) at c.in_ok-room.ensures in
-    let k : KeeperState g.row.F.Denot = (record { core = c.self.inside.core; base = c.self.inside.base; cut = c.self.inside.cut; journal = c.self.inside.journal.items; limit = c.self.inside.limit; stamps = c.self.inside.stamps.items; stamp = c.self.inside.stamp; acquired = c.self.inside.acquired; offsets = c.self.inside.master.offsets; total = c.self.inside.master.total }) in
+    let k : KeeperState g.row.F.Denot = (record { core = c.self.inside.core; base = c.self.inside.journal.base; cut = c.self.inside.journal.cut; journal = c.self.inside.journal.steps; limit = c.self.inside.journal.limit; stamps = c.self.inside.stamps.items; stamp = c.self.inside.stamp; acquired = c.self.inside.acquired; offsets = c.self.inside.master.offsets; total = c.self.inside.master.total }) in
     let p : PassRecord = (record { slot = c.pass.inside.slot; stamp = c.pass.inside.stamp; held = c.pass.inside.held; touches = c.pass.inside.touches.items; rider = c.pass.inside.rider }) in
     let may : MayCall k p c.args.step.now = may_call k p c.args.step.now c.len.result c.in_ok-room.field-0 c.self.invariant.of.standing known c.requires.kind c.pass.invariant.1 c.len.ensures.value room in
     rw c.deref.ensures.0 (may_enter k p c.args.step.now may)
@@ -35,25 +36,25 @@ pub enter_steps-requires-clause-room : goal.enter_steps-requires-clause-room
 enter_steps-requires-clause-room g c =
     let known = rw (sym c.self.view_is, sym c.pass.view_is) at c.requires.known in
     let room = rw (sym c.self.view_is) at c.in_ok-room.ensures in
-    let k : KeeperState g.row.F.Denot = (record { core = c.self.inside.core; base = c.self.inside.base; cut = c.self.inside.cut; journal = c.self.inside.journal.items; limit = c.self.inside.limit; stamps = c.self.inside.stamps.items; stamp = c.self.inside.stamp; acquired = c.self.inside.acquired; offsets = c.self.inside.master.offsets; total = c.self.inside.master.total }) in
+    let k : KeeperState g.row.F.Denot = (record { core = c.self.inside.core; base = c.self.inside.journal.base; cut = c.self.inside.journal.cut; journal = c.self.inside.journal.steps; limit = c.self.inside.journal.limit; stamps = c.self.inside.stamps.items; stamp = c.self.inside.stamp; acquired = c.self.inside.acquired; offsets = c.self.inside.master.offsets; total = c.self.inside.master.total }) in
     let p : PassRecord = (record { slot = c.pass.inside.slot; stamp = c.pass.inside.stamp; held = c.pass.inside.held; touches = c.pass.inside.touches.items; rider = c.pass.inside.rider }) in
     let may : MayCall k p c.args.step.now = may_call k p c.args.step.now c.len.result c.in_ok-room.field-0 c.self.invariant.of.standing known c.requires.kind c.pass.invariant.1 c.len.ensures.value room in
-    omega (arith, ap length c.deref.ensures.0, fits k p c.args.step.now _ may c.self.invariant.room)
+    rw c.deref.ensures.0 (touches_fit k p c.args.step.now may)
 
-pub push_reserved-requires : goal.push_reserved-requires
-push_reserved-requires g c =
+pub note-requires : goal.note-requires
+note-requires g c =
     let known = rw (sym c.self.view_is, sym c.pass.view_is) at c.requires.known in
     let room = rw (sym c.self.view_is) at c.in_ok-room.ensures in
-    let k : KeeperState g.row.F.Denot = (record { core = c.self.inside.core; base = c.self.inside.base; cut = c.self.inside.cut; journal = c.self.inside.journal.items; limit = c.self.inside.limit; stamps = c.self.inside.stamps.items; stamp = c.self.inside.stamp; acquired = c.self.inside.acquired; offsets = c.self.inside.master.offsets; total = c.self.inside.master.total }) in
+    let k : KeeperState g.row.F.Denot = (record { core = c.self.inside.core; base = c.self.inside.journal.base; cut = c.self.inside.journal.cut; journal = c.self.inside.journal.steps; limit = c.self.inside.journal.limit; stamps = c.self.inside.stamps.items; stamp = c.self.inside.stamp; acquired = c.self.inside.acquired; offsets = c.self.inside.master.offsets; total = c.self.inside.master.total }) in
     let p : PassRecord = (record { slot = c.pass.inside.slot; stamp = c.pass.inside.stamp; held = c.pass.inside.held; touches = c.pass.inside.touches.items; rider = c.pass.inside.rider }) in
     let may : MayCall k p c.args.step.now = may_call k p c.args.step.now c.len.result c.in_ok-room.field-0 c.self.invariant.of.standing known c.requires.kind c.pass.invariant.1 c.len.ensures.value room in
-    omega (arith, c.enter_steps.new.journal.ok.0, ap length c.enter_steps.ensures.journal, length-append c.self.inside.journal.items c.deref.result.now, c.enter_steps.ensures.room, ap length c.deref.ensures.0, fits k p c.args.step.now _ may c.self.invariant.room)
+    rw (c.enter_steps.ensures.journal, c.deref.ensures.0) (step_fits_behind k p c.args.step.now may)
 
 pub enter-requires : goal.enter-requires
 enter-requires g c =
     let known = rw (sym c.self.view_is, sym c.pass.view_is) at c.requires.known in
     let room = rw (sym c.self.view_is) at c.in_ok-room.ensures in
-    let k : KeeperState g.row.F.Denot = (record { core = c.self.inside.core; base = c.self.inside.base; cut = c.self.inside.cut; journal = c.self.inside.journal.items; limit = c.self.inside.limit; stamps = c.self.inside.stamps.items; stamp = c.self.inside.stamp; acquired = c.self.inside.acquired; offsets = c.self.inside.master.offsets; total = c.self.inside.master.total }) in
+    let k : KeeperState g.row.F.Denot = (record { core = c.self.inside.core; base = c.self.inside.journal.base; cut = c.self.inside.journal.cut; journal = c.self.inside.journal.steps; limit = c.self.inside.journal.limit; stamps = c.self.inside.stamps.items; stamp = c.self.inside.stamp; acquired = c.self.inside.acquired; offsets = c.self.inside.master.offsets; total = c.self.inside.master.total }) in
     let p : PassRecord = (record { slot = c.pass.inside.slot; stamp = c.pass.inside.stamp; held = c.pass.inside.held; touches = c.pass.inside.touches.items; rider = c.pass.inside.rider }) in
     let may : MayCall k p c.args.step.now = may_call k p c.args.step.now c.len.result c.in_ok-room.field-0 c.self.invariant.of.standing known c.requires.kind c.pass.invariant.1 c.len.ensures.value room in
     omega (arith, c.len.ensures.value, counts k p c.args.step.now may)
@@ -62,7 +63,7 @@ pub unreachable-requires : goal.unreachable-requires
 unreachable-requires g c =
     let known = rw (sym c.self.view_is, sym c.pass.view_is) at c.requires.known in
     let room = rw (sym c.self.view_is) at c.in_ok-room.ensures in
-    let k : KeeperState g.row.F.Denot = (record { core = c.self.inside.core; base = c.self.inside.base; cut = c.self.inside.cut; journal = c.self.inside.journal.items; limit = c.self.inside.limit; stamps = c.self.inside.stamps.items; stamp = c.self.inside.stamp; acquired = c.self.inside.acquired; offsets = c.self.inside.master.offsets; total = c.self.inside.master.total }) in
+    let k : KeeperState g.row.F.Denot = (record { core = c.self.inside.core; base = c.self.inside.journal.base; cut = c.self.inside.journal.cut; journal = c.self.inside.journal.steps; limit = c.self.inside.journal.limit; stamps = c.self.inside.stamps.items; stamp = c.self.inside.stamp; acquired = c.self.inside.acquired; offsets = c.self.inside.master.offsets; total = c.self.inside.master.total }) in
     let p : PassRecord = (record { slot = c.pass.inside.slot; stamp = c.pass.inside.stamp; held = c.pass.inside.held; touches = c.pass.inside.touches.items; rider = c.pass.inside.rider }) in
     let may : MayCall k p c.args.step.now = may_call k p c.args.step.now c.len.result c.in_ok-room.field-0 c.self.invariant.of.standing known c.requires.kind c.pass.invariant.1 c.len.ensures.value room in
     let at : HasEntered k p c.args.step.now c.enter_steps.new.core = record { may = may; fine = λ A st. (unless_ok (fault_of k.core.sizes A c.args.step.now) c.in_ok-check.field-0 (tt {0}) (c.in_ok-check.ensures A st)).0; sizes = c.enter_steps.ensures.sizes; jobs = c.enter_steps.ensures.jobs; core = rw c.deref.ensures.0 at c.enter_steps.ensures.core } in
@@ -72,17 +73,16 @@ pub invariant_of-self : goal.invariant_of-self
 invariant_of-self g c =
     let known = rw (sym c.self.view_is, sym c.pass.view_is) at c.requires.known in
     let room = rw (sym c.self.view_is) at c.in_ok-room.ensures in
-    let k : KeeperState g.row.F.Denot = (record { core = c.self.inside.core; base = c.self.inside.base; cut = c.self.inside.cut; journal = c.self.inside.journal.items; limit = c.self.inside.limit; stamps = c.self.inside.stamps.items; stamp = c.self.inside.stamp; acquired = c.self.inside.acquired; offsets = c.self.inside.master.offsets; total = c.self.inside.master.total }) in
+    let k : KeeperState g.row.F.Denot = (record { core = c.self.inside.core; base = c.self.inside.journal.base; cut = c.self.inside.journal.cut; journal = c.self.inside.journal.steps; limit = c.self.inside.journal.limit; stamps = c.self.inside.stamps.items; stamp = c.self.inside.stamp; acquired = c.self.inside.acquired; offsets = c.self.inside.master.offsets; total = c.self.inside.master.total }) in
     let p : PassRecord = (record { slot = c.pass.inside.slot; stamp = c.pass.inside.stamp; held = c.pass.inside.held; touches = c.pass.inside.touches.items; rider = c.pass.inside.rider }) in
     let may : MayCall k p c.args.step.now = may_call k p c.args.step.now c.len.result c.in_ok-room.field-0 c.self.invariant.of.standing known c.requires.kind c.pass.invariant.1 c.len.ensures.value room in
     let at : HasEntered k p c.args.step.now c.enter_steps.new.core = record { may = may; fine = λ A st. (unless_ok (fault_of k.core.sizes A c.args.step.now) c.in_ok-check.field-0 (tt {0}) (c.in_ok-check.ensures A st)).0; sizes = c.enter_steps.ensures.sizes; jobs = c.enter_steps.ensures.jobs; core = rw c.deref.ensures.0 at c.enter_steps.ensures.core } in
     record {
       of = record {
-        standing = (_, (called_made k p c.args.step.now c.enter_steps.new.core c.act.new.self c.in-Ok.reply c.len.result c.enter_steps.new.journal.items c.push_reserved.new.self.items c.enter.new.self at c.in-Ok.ensures.made c.in-Ok.ensures.sizes c.len.ensures.value (c.enter_steps.ensures.journal ∙ ap (λ z. c.self.inside.journal.items ++ z) c.deref.ensures.0) c.push_reserved.ensures.items c.enter.ensures.total c.self.invariant.of.standing.0 c.self.invariant.of.standing.1).standing);
+        standing = (_, (called_made k p c.args.step.now c.enter_steps.new.core c.act.new.self c.in-Ok.reply c.len.result c.enter_steps.new.journal c.note.new.self c.enter.new.self at c.in-Ok.ensures.made c.in-Ok.ensures.sizes c.len.ensures.value (c.enter_steps.ensures.journal ∙ ap (λ z. with_steps z c.self.inside.journal) c.deref.ensures.0) c.note.ensures c.enter.ensures.total c.self.invariant.of.standing.0 c.self.invariant.of.standing.1).standing);
         sizes_are = (c.in-Ok.ensures.sizes ∙ c.enter_steps.ensures.sizes) ∙ c.self.invariant.of.sizes_are;
         stamp_is = c.self.invariant.of.stamp_is;
       };
-      room = omega (arith, c.self.invariant.room, c.push_reserved.ensures.capacity, c.enter_steps.ensures.room);
       exact = c.self.invariant.exact ∙ sym (ap (λ z. z.slots) (c.in-Ok.ensures.sizes ∙ c.enter_steps.ensures.sizes));
     }
 
@@ -90,11 +90,11 @@ pub returns-clause-made : goal.returns-clause-made
 returns-clause-made g c =
     let known = rw (sym c.self.view_is, sym c.pass.view_is) at c.requires.known in
     let room = rw (sym c.self.view_is) at c.in_ok-room.ensures in
-    let k : KeeperState g.row.F.Denot = (record { core = c.self.inside.core; base = c.self.inside.base; cut = c.self.inside.cut; journal = c.self.inside.journal.items; limit = c.self.inside.limit; stamps = c.self.inside.stamps.items; stamp = c.self.inside.stamp; acquired = c.self.inside.acquired; offsets = c.self.inside.master.offsets; total = c.self.inside.master.total }) in
+    let k : KeeperState g.row.F.Denot = (record { core = c.self.inside.core; base = c.self.inside.journal.base; cut = c.self.inside.journal.cut; journal = c.self.inside.journal.steps; limit = c.self.inside.journal.limit; stamps = c.self.inside.stamps.items; stamp = c.self.inside.stamp; acquired = c.self.inside.acquired; offsets = c.self.inside.master.offsets; total = c.self.inside.master.total }) in
     let p : PassRecord = (record { slot = c.pass.inside.slot; stamp = c.pass.inside.stamp; held = c.pass.inside.held; touches = c.pass.inside.touches.items; rider = c.pass.inside.rider }) in
     let may : MayCall k p c.args.step.now = may_call k p c.args.step.now c.len.result c.in_ok-room.field-0 c.self.invariant.of.standing known c.requires.kind c.pass.invariant.1 c.len.ensures.value room in
     let at : HasEntered k p c.args.step.now c.enter_steps.new.core = record { may = may; fine = λ A st. (unless_ok (fault_of k.core.sizes A c.args.step.now) c.in_ok-check.field-0 (tt {0}) (c.in_ok-check.ensures A st)).0; sizes = c.enter_steps.ensures.sizes; jobs = c.enter_steps.ensures.jobs; core = rw c.deref.ensures.0 at c.enter_steps.ensures.core } in
-    rw (sym c.self.view_is, sym c.pass.view_is) (called_made k p c.args.step.now c.enter_steps.new.core c.act.new.self c.in-Ok.reply c.len.result c.enter_steps.new.journal.items c.push_reserved.new.self.items c.enter.new.self at c.in-Ok.ensures.made c.in-Ok.ensures.sizes c.len.ensures.value (c.enter_steps.ensures.journal ∙ ap (λ z. c.self.inside.journal.items ++ z) c.deref.ensures.0) c.push_reserved.ensures.items c.enter.ensures.total)
+    rw (sym c.self.view_is, sym c.pass.view_is) (called_made k p c.args.step.now c.enter_steps.new.core c.act.new.self c.in-Ok.reply c.len.result c.enter_steps.new.journal c.note.new.self c.enter.new.self at c.in-Ok.ensures.made c.in-Ok.ensures.sizes c.len.ensures.value (c.enter_steps.ensures.journal ∙ ap (λ z. with_steps z c.self.inside.journal) c.deref.ensures.0) c.note.ensures c.enter.ensures.total)
 
 pub returns-clause-pass : goal.returns-clause-pass
 returns-clause-pass g c = search rules
