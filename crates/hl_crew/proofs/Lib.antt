@@ -1,1 +1,4 @@
 pub mod PouchLaws
+pub mod Steps
+pub mod LagLaws
+pub mod GoesLaws

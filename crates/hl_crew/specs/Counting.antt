@@ -1,10 +1,11 @@
 -- What a flusher counts.
-use Rattle.std.specs.Prelude.{◌≡◌, ℕ, ◌+◌, ◌-◌, ◌^◌, min, Bool, true, false, Option, Result, OnOk, List}
+use Rattle.std.specs.Prelude.{◌≡◌, ℕ, zero, suc, ◌+◌, ◌-◌, ◌^◌, min, Bool, true, false, Option, Result, Ok, Err, MatchResult, List}
 use Rattle.hl_model.specs.declared.fault.Fault.{Fault}
 use Rattle.hl_domain.specs.declared.load.PageJob.{PageJob}
 use Rattle.hl_domain.specs.Domains.{DomainState}
 use Rattle.hl_crew.specs.declared.counts.Counts.{Counts}
-use Rattle.hl_crew.specs.declared.messages.Acknowledgement.{Acknowledgement}
+use Rattle.hl_crew.specs.declared.messages.Over.{Over}
+use Rattle.hl_crew.specs.Overs.{over_of}
 use Rattle.hl_crew.specs.Pouches.{Answers}
 
 -- one more; the count stays at the last number
@@ -24,12 +25,19 @@ counted false c = record { written = c.written; failed = one_more c.failed; stra
 abbrev pub one_stranger : Counts → Counts
 one_stranger c = record { written = c.written; failed = c.failed; strangers = one_more c.strangers }
 
--- the page that an acknowledgement told of, held in place `at`, was answered as it was told; an answer that the
--- domain accepted was counted as that
+-- so many flushes were answered as failed
+abbrev pub failed_more : ℕ → Counts → Counts
+failed_more zero c = c
+failed_more (suc n) c = counted false (failed_more n c)
+
+-- a page, held in place `at`, was answered; an answer that the domain accepted was counted as that, and one that it
+-- refused ends the turn and is counted as none
 pub record AnswersAndCounts
-    (F : Type 0) (domain : DomainState) (told : Acknowledgement) (at : ℕ)
-    (old new : List (Option PageJob)) (before after : Counts)
+    (F : Type 0) (domain : DomainState) (page : ℕ) (ok : Bool) (at : ℕ)
+    (old new : List (Option PageJob)) (before after : Counts) (result : Result (Unit {0}) Over)
     : Type 0 where
   pub answer : Result ℕ Fault
-  pub answers : Answers F domain told.page told.ok at old new answer
-  pub counts : OnOk answer (after ≡ counted told.ok before)
+  pub answers : Answers F domain page ok at old new answer
+  pub counts : MatchResult answer
+      (λ _. (result ≡ Ok tt) × (after ≡ counted ok before))
+      (λ fault. (result ≡ Err (over_of fault)) × (after ≡ before))

@@ -1,53 +1,93 @@
+ghost use Rattle.std.specs.Prelude.{◌≡◌};
+ghost use Rattle.hl_crew.specs.Turns.{Cleans, Frees};
+
 use crate::messages::Over;
+use crate::orders::{ATTEMPTS, Orders, make_room};
+use crate::term::Term;
 use hl_action::{Promise, Task};
-use hl_domain::Domain;
+use hl_domain::{Broom, Domain};
 use hl_epoch::Epochs;
 use hl_model::Fault;
 use hl_words::{Realm, Rider};
 use std::sync::atomic::{AtomicBool, Ordering};
 use std::sync::{Mutex, Wait};
-use std::thread;
+use std::thread::Parker;
 
 /// What the cleaner works on.
 #[derive(Drop)]
 pub(crate) struct Cleaner<'x, R, E: Epochs, F: Task, P: Promise, L: Realm> {
     pub(crate) rt: &'x R,
     pub(crate) domain: &'x Domain<E, F, P, L>,
-    pub(crate) is_stopped: &'x AtomicBool,
+    pub(crate) orders: Orders,
+    pub(crate) has_ended: &'x AtomicBool,
+    pub(crate) sleeper: &'x Parker,
 }
 
 impl<R: Wait, E: Epochs + Drop, F: Task, P: Promise, L: Realm> Cleaner<'_, R, E, F, P, L> {
-    /// Cleans a closed page in each of its turns, until it is stopped.
-    pub(crate) fn run(&self, rider: &Mutex<Rider<L>>, turns: u64) {
+    /// Cleans closed pages until its turns are over. Where none is closed it sleeps until the flusher has made another
+    /// turn, unless that has ended.
+    pub(crate) fn run<T: Term<R>>(&self, rider: &Mutex<Rider<L>>, term: &T) {
         let mut rider = rider.lock(self.rt);
         let rider = &mut *rider;
-        for _ in 0..turns {
-            if self.is_stopped.load(Ordering::SeqCst) || self.clean(rider).is_err() {
+        let mut looks = 0u64;
+        let mut is_last = false;
+        for _ in self.rt.forever() {
+            if !term.cleans_on(looks, is_last) {
                 return;
             }
+            let has_ended = self.has_ended.load(Ordering::SeqCst);
+            let found = match self.clean(rider) {
+                Ok(found) => found,
+                Err(Over::Full) if self.orders.makes_room() => {
+                    self.domain.cut(self.rt, rider);
+                    true
+                }
+                Err(_) => return,
+            };
+            if !found && !has_ended {
+                self.sleeper.park(self.rt);
+            }
+            is_last = has_ended && !found;
+            looks = looks.saturating_add(1);
         }
     }
 
-    // Cleans a page. Where none is closed, other threads go on.
-    fn clean(&self, rider: &mut Rider<L>) -> Result<(), Over> {
+    // Cleans a page: takes it, sweeps it, and answers it clean. False where none is closed.
+    fn clean(&self, rider: &mut Rider<L>) -> Result<bool, Over>
+        ensures { Cleans F self.now.domain.now result rider.old rider.new }
+    {
         let mut broom = match self.domain.clean_take(self.rt, rider) {
             Ok(broom) => broom,
-            Err(Fault::NoneClosed) => {
-                thread::yield_now();
-                return Ok(());
-            }
-            Err(_) => return Err(Over),
+            Err(Fault::NoneClosed) => return Ok(false),
+            Err(fault) => return Err(Over::of(&fault)),
         };
         if self.domain.sweep(&mut broom, rider).is_err() {
             broom.forsake();
-            return Err(Over);
+            return Err(Over::Lost);
         }
-        match self.domain.clean_done(self.rt, rider, broom) {
-            Ok(_) => Ok(()),
-            Err((_, broom)) => {
-                broom.forsake();
-                Err(Over)
+        self.finish(rider, broom)?;
+        Ok(true)
+    }
+
+    // Answers a page that was swept. Where the journal is full and may be cut, it is cut first.
+    fn finish(&self, rider: &mut Rider<L>, broom: Broom) -> Result<(), Over>
+        requires { broom.swept ≡ self.now.domain.now.sizes.page_size }
+        ensures { Frees F self.now.domain.now broom result rider.old rider.new }
+    {
+        let mut broom = broom;
+        for _ in 0..ATTEMPTS {
+            match self.domain.clean_done(self.rt, rider, broom) {
+                Ok(_) => return Ok(()),
+                Err((fault, back)) => {
+                    if !make_room(self.rt, self.domain, self.orders, rider, &fault) {
+                        back.forsake();
+                        return Err(Over::of(&fault));
+                    }
+                    broom = back;
+                }
             }
         }
+        broom.forsake();
+        Err(Over::Full)
     }
 }

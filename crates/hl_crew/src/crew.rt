@@ -2,9 +2,14 @@ ghost use Rattle.std.specs.Prelude.{◌≡◌, IfErr};
 ghost use Rattle.hl_crew.specs.Lags.{IsLag};
 ghost use Rattle.hl_model.specs.declared.fault.Fault.TheVariants.{OutOfMemory};
 
-use crate::flusher::Duty;
+use crate::duty::Duty;
 use crate::gate::Gate;
+use crate::hands::Hands;
+use crate::messages::Channels;
+use crate::orders::{Cuts, Orders};
 use crate::shared::Shared;
+use crate::stop::Stop;
+use crate::term::{Term, Turns};
 use crate::threads::run_threads;
 use hl_action::{Promise, Task};
 use hl_domain::Domain;
@@ -36,6 +41,9 @@ pub struct CrewEnd<L: Realm, W> {
 /// pages at the tail may be written and about `resident` may be read: `1 <= mutable <= resident <= F`. Where `cut` is
 /// true, the journal is cut at the end of each of the flusher's turns.
 ///
+/// With as many resident pages as frames the head never passes the page whose frame the page above the tail wants, and
+/// no frame comes free: [`Duty`] excludes that.
+///
 /// `OutOfMemory` where memory or a thread was refused; then riders and page writers are handed back. Steps that were
 /// made until then stay in the journal.
 pub fn run_crew<R, E, F, P, L, W, G>(
@@ -62,23 +70,76 @@ where
     requires { IsLag domain.now.sizes.frames mutable resident }
     ensures { IfErr result (λ back. back.0 ≡ OutOfMemory) }
 {
-    let shared = Shared::open(alloc, riders, first, second)?;
-    let duty = Duty {
+    let orders = Orders {
         mutable,
         resident,
-        turns,
-        cut,
+        cuts: if cut { Cuts::EachTurn } else { Cuts::Never },
     };
-    let is_whole = run_threads(rt, domain, gate, &shared, duty);
-    let (riders, [first, second], counts) = shared.end();
-    if !is_whole {
-        return Err((Fault::OutOfMemory, riders, first, second));
-    }
-    Ok(CrewEnd {
-        riders,
-        writers: [first, second],
-        written: counts.written,
-        failed: counts.failed,
-        strangers: counts.strangers,
-    })
+    let term = Turns { most: turns };
+    let hands = Hands::of(riders, first, second);
+    run_until(rt, alloc, domain, hands, gate, orders, &term)
+}
+
+/// Runs a crew on a domain, as [`run_crew`] does, until its stop is given: it sleeps while there is nothing to do, and
+/// ends once nothing is in flight. It makes room where the journal is full and the duty lets it cut; else a full journal
+/// ends it before its stop.
+///
+/// A thread that has entered a page may wake it by [`Stop::ring`]; a crew that nobody wakes looks every 20 milliseconds.
+///
+/// `OutOfMemory` where memory or a thread was refused; then riders and page writers are handed back. Steps that were
+/// made until then stay in the journal.
+pub fn serve<R, E, F, P, L, W, G>(
+    rt: &R,
+    alloc: Global,
+    domain: &Domain<E, F, P, L>,
+    riders: [Rider<L>; 4],
+    first: W,
+    second: W,
+    gate: &G,
+    duty: Duty,
+    stop: &Stop,
+) -> Result<CrewEnd<L, W>, (Fault, [Rider<L>; 4], W, W)>
+where
+    R: Threads + Wait + Sync,
+    E: Epochs + Drop + Send,
+    F: Task + Send,
+    P: Promise + Send,
+    L: Realm + Send + Sync,
+    W: PageWriter + Send,
+    G: Gate + Sync,
+    requires { duty.frames ≡ domain.now.sizes.frames }
+    ensures { IfErr result (λ back. back.0 ≡ OutOfMemory) }
+{
+    let hands = Hands::of(riders, first, second);
+    run_until(rt, alloc, domain, hands, gate, Orders::of(duty), stop)
+}
+
+// Runs a crew as long as its term says.
+fn run_until<R, E, F, P, L, W, G, T>(
+    rt: &R,
+    alloc: Global,
+    domain: &Domain<E, F, P, L>,
+    hands: Hands<L, W>,
+    gate: &G,
+    orders: Orders,
+    term: &T,
+) -> Result<CrewEnd<L, W>, (Fault, [Rider<L>; 4], W, W)>
+where
+    R: Threads + Wait + Sync,
+    E: Epochs + Drop + Send,
+    F: Task + Send,
+    P: Promise + Send,
+    L: Realm + Send + Sync,
+    W: PageWriter + Send,
+    G: Gate + Sync,
+    T: Term<R> + Sync,
+    requires { IsLag domain.now.sizes.frames orders.mutable orders.resident }
+    ensures { IfErr result (λ back. back.0 ≡ OutOfMemory) }
+{
+    let Ok(channels) = Channels::open(alloc) else {
+        return hands.hand_back(None);
+    };
+    let shared = Shared::of(channels, hands);
+    let whole = run_threads(rt, domain, gate, &shared, orders, term);
+    shared.end().hand_back(whole)
 }

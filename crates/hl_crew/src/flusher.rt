@@ -1,15 +1,19 @@
 ghost use Rattle.std.specs.Prelude.{◌≡◌, OnOk};
 ghost use Rattle.hl_crew.specs.Lags.{IsLag};
 ghost use Rattle.hl_crew.specs.Pouches.{load_count};
+ghost use Rattle.hl_crew.specs.Runs.{MakesTurn, MakesAny, MakesTurns};
 
 use crate::counts::Counts;
 use crate::messages::{Channels, Over};
+use crate::orders::{Cuts, Orders};
 use crate::pouch::Pouch;
+use crate::term::Term;
 use hl_action::{Promise, Task};
 use hl_domain::Domain;
 use hl_epoch::Epochs;
 use hl_words::{Realm, Rider};
 use std::sync::{Mutex, Wait};
+use std::thread::Parker;
 
 mod acknowledgements;
 mod actions;
@@ -22,6 +26,7 @@ pub(crate) struct Flusher<'x, R, E: Epochs, F: Task, P: Promise, L: Realm> {
     pub(crate) rt: &'x R,
     pub(crate) domain: &'x Domain<E, F, P, L>,
     pub(crate) channels: &'x Channels,
+    pub(crate) orders: Orders,
 }
 
 /// What the flusher has of its own.
@@ -30,43 +35,94 @@ pub(crate) struct FlusherState<L: Realm> {
     pub(crate) counts: Counts,
 }
 
-/// What a crew is told: how many pages at the tail may be written and how many may be read, how many turns it makes,
-/// and whether it cuts the journal at the end of each.
-#[derive(Clone, Copy)]
-pub(crate) struct Duty {
-    pub(crate) mutable: u64,
-    pub(crate) resident: u64,
-    pub(crate) turns: u64,
-    pub(crate) cut: bool,
-}
-
 impl<R: Wait, E: Epochs + Drop, F: Task, P: Promise, L: Realm> Flusher<'_, R, E, F, P, L> {
-    /// Makes its turns, up to the first after which it can't go on.
-    pub(crate) fn run(&self, own: &Mutex<FlusherState<L>>, duty: Duty)
-        requires { IsLag self.now.domain.now.sizes.frames duty.mutable duty.resident }
+    /// Makes its turns until they are over, and then those that leave nothing to do. After each it wakes the cleaner.
+    pub(crate) fn run<T: Term<R>>(&self, own: &Mutex<FlusherState<L>>, term: &T, cleaner: &Parker)
+        requires { let orders = self.now.orders
+            in IsLag self.now.domain.now.sizes.frames orders.mutable orders.resident }
     {
         let mut own = own.lock(self.rt);
         let own = &mut *own;
-        for _ in 0..duty.turns {
-            if self.turn(own, duty).is_err() {
-                break;
+        if self.make_turns(own, term, cleaner).is_ok() {
+            self.make_last_turns(own, cleaner, term.last_turns());
+        }
+    }
+
+    // Makes turns until they are over, or the first after which it can't go on. After a turn that got nowhere it rests.
+    fn make_turns<T: Term<R>>(
+        &self,
+        own: &mut FlusherState<L>,
+        term: &T,
+        cleaner: &Parker,
+    ) -> Result<(), Over>
+        requires { let orders = self.now.orders
+            in IsLag self.now.domain.now.sizes.frames orders.mutable orders.resident }
+        ensures { MakesTurns F self.now.domain.now self.now.orders (T.is_over term.now) result
+            own.old.rider own.new.rider }
+    {
+        let mut made = 0u64;
+        for _ in self.rt.forever() {
+            if !term.goes_on(made) {
+                return Ok(());
+            }
+            let moved = match self.make_turn(own, cleaner) {
+                Ok(moved) => moved,
+                Err(over) => return Err(over),
+            };
+            if !moved {
+                term.rest(self.rt);
+            }
+            made = made.saturating_add(1);
+        }
+        unreachable!()
+    }
+
+    // Makes at most so many turns, up to the first that got nowhere.
+    fn make_last_turns(&self, own: &mut FlusherState<L>, cleaner: &Parker, most: u64)
+        requires { let orders = self.now.orders
+            in IsLag self.now.domain.now.sizes.frames orders.mutable orders.resident }
+    {
+        for _ in 0..most {
+            match self.make_turn(own, cleaner) {
+                Ok(true) => {}
+                _ => return,
             }
         }
     }
 
-    // One turn: the lag, the actions, the pages, and the cut.
-    fn turn(&self, own: &mut FlusherState<L>, duty: Duty) -> Result<(), Over>
-        requires { IsLag self.now.domain.now.sizes.frames duty.mutable duty.resident }
+    // Makes a turn, and wakes the cleaner. True where the turn entered a step and no write of a page failed. A full journal
+    // that may be cut doesn't end the turns.
+    fn make_turn(&self, own: &mut FlusherState<L>, cleaner: &Parker) -> Result<bool, Over>
+        requires { let orders = self.now.orders
+            in IsLag self.now.domain.now.sizes.frames orders.mutable orders.resident }
+        ensures { MakesAny F self.now.domain.now self.now.orders 0 result own.old.rider own.new.rider }
     {
-        self.keep_lag(&mut own.rider, duty.mutable, duty.resident)?;
+        let share = own.rider.share();
+        let failed = own.counts.failed;
+        let made = self.turn(own);
+        cleaner.unpark();
+        match made {
+            Ok(()) => Ok(own.rider.share() != share && own.counts.failed == failed),
+            Err(Over::Full) if self.orders.makes_room() => {
+                Ok(self.domain.cut(self.rt, &mut own.rider) > 0)
+            }
+            Err(over) => Err(over),
+        }
+    }
+
+    // One turn: the lag, the actions, the pages, and the cut.
+    fn turn(&self, own: &mut FlusherState<L>) -> Result<(), Over>
+        requires { let orders = self.now.orders
+            in IsLag self.now.domain.now.sizes.frames orders.mutable orders.resident }
+        ensures { MakesTurn F self.now.domain.now self.now.orders result own.old.rider own.new.rider }
+    {
+        self.keep_lag(&mut own.rider)?;
         self.run_actions(&mut own.rider)?;
         let mut pouch = Pouch::new();
         let flushed = self.flush(own, &mut pouch);
         pouch.forsake();
         flushed?;
-        if duty.cut {
-            self.domain.cut(self.rt, &mut own.rider);
-        }
+        self.end_turn(&mut own.rider);
         Ok(())
     }
 
@@ -83,5 +139,19 @@ impl<R: Wait, E: Epochs + Drop, F: Task, P: Promise, L: Realm> Flusher<'_, R, E,
         all_sent?;
         received?;
         answered
+    }
+
+    // Cuts the journal, where that is wanted at a turn's end.
+    fn end_turn(&self, rider: &mut Rider<L>)
+        ensures { rider.new ≡ rider.old }
+    {
+        let is_wanted = match self.orders.cuts {
+            Cuts::Never => false,
+            Cuts::EachTurn => true,
+            Cuts::Above(steps) => self.domain.snapshot(self.rt).1 > steps,
+        };
+        if is_wanted {
+            self.domain.cut(self.rt, rider);
+        }
     }
 }

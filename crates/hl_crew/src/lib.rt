@@ -48,14 +48,21 @@
 mod cleaner;
 mod counts;
 mod crew;
+mod duty;
 mod flusher;
 mod gate;
+mod hands;
 mod messages;
+mod orders;
 mod pouch;
 mod shared;
+mod stop;
+mod term;
 mod threads;
 mod writer;
 
-pub use crew::{CrewEnd, run_crew};
+pub use crew::{CrewEnd, run_crew, serve};
+pub use duty::Duty;
 pub use gate::{Gate, OpenGate};
 pub use pouch::Pouch;
+pub use stop::Stop;

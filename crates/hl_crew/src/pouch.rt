@@ -86,25 +86,8 @@ impl Pouch {
         }
     }
 
-    /// Answers the first page that it holds as failed; none where it holds none.
-    pub(crate) fn fail_first<R: Wait, E: Epochs + Drop, F: Task, P: Promise, L: Realm>(
-        &mut self,
-        rt: &R,
-        domain: &Domain<E, F, P, L>,
-        rider: &mut Rider<L>,
-    ) -> Option<Result<u64, Fault>>
-        ensures none { IfNone result ((load_count self.old ≡ 0) × (self.new ≡ self.old)) }
-        ensures failed { IfSome result (λ answer. (page : ℕ) × (at : ℕ)
-            × Answers F domain.now page false at self.old self.new answer) }
-        ensures fewer { IfSome result
-            (λ answer. OnOk answer (load_count self.new + 1 ≡ load_count self.old)) }
-    {
-        let page = self.first()?;
-        Some(self.answer(rt, domain, rider, page, false))
-    }
-
-    // The page of the first that it holds.
-    fn first(&self) -> Option<u64>
+    /// The page of the first that it holds.
+    pub(crate) fn first(&self) -> Option<u64>
         ensures none { IfNone result (load_count self.now ≡ 0) }
         ensures held { IfSome result (λ page. (at : ℕ) × (position (is_of page) self.now ≡ Some at)) }
     {
@@ -113,6 +96,13 @@ impl Pouch {
             Some(load) => Some(load.job().page),
             None => unreachable!(),
         }
+    }
+
+    /// Whether it holds a load of this page.
+    pub(crate) fn holds(&self, page: u64) -> bool
+        ensures { result ≡ is_some (position (is_of page) self.now) }
+    {
+        self.place_of(page).is_some()
     }
 
     /// Gives up all that it holds: these pages stay in flight.

@@ -1,11 +1,14 @@
+ghost use Rattle.std.specs.Prelude.{◌≡◌, true, false, ◌&&◌, IsSome, IfNone};
 ghost use Rattle.std.specs.Thread.{IsSend, IsSync};
 ghost use Rattle.hl_crew.specs.Lags.{IsLag};
 
 use crate::cleaner::Cleaner;
-use crate::flusher::{Duty, Flusher};
+use crate::flusher::Flusher;
 use crate::gate::Gate;
 use crate::messages::{Channels, Message};
+use crate::orders::Orders;
 use crate::shared::Shared;
+use crate::term::Term;
 use crate::writer::{Writer, WriterState};
 use hl_action::{Promise, Task};
 use hl_domain::Domain;
@@ -17,14 +20,33 @@ use std::sync::{Mutex, Wait};
 use std::thread;
 use std::thread::Threads;
 
-/// Runs the threads until all have ended: whether each could be made. Where one can't be made, those made are stopped.
-pub(crate) fn run_threads<'x, R, E, F, P, L, W, G>(
+/// That each thread of a crew was made. Only the call that makes them tells so.
+#[derive(Drop)]
+pub(crate) struct Whole {
+    threads: u64,
+}
+
+// Whether the writers, the cleaner and the flusher were made.
+fn whole_of(first: bool, second: bool, cleaner: bool, flusher: bool) -> Option<Whole>
+    ensures made { IsSome result → (first ≡ true) × (second ≡ true) × (cleaner ≡ true) × (flusher ≡ true) }
+    ensures missing { IfNone result ((first && (second && (cleaner && flusher))) ≡ false) }
+{
+    if first && second && cleaner && flusher {
+        Some(Whole { threads: 4 })
+    } else {
+        None
+    }
+}
+
+/// Runs the threads until all have ended. None where one of them couldn't be made: those made are stopped.
+pub(crate) fn run_threads<'x, R, E, F, P, L, W, G, T>(
     rt: &'x R,
     domain: &'x Domain<E, F, P, L>,
     gate: &'x G,
     shared: &'x Shared<L, W>,
-    duty: Duty,
-) -> bool
+    orders: Orders,
+    term: &'x T,
+) -> Option<Whole>
 where
     R: Threads + Wait + Sync,
     E: Epochs + Drop + Send,
@@ -33,53 +55,56 @@ where
     L: Realm + Send + Sync,
     W: PageWriter + Send,
     G: Gate + Sync,
-    requires { IsLag domain.now.sizes.frames duty.mutable duty.resident }
+    T: Term<R> + Sync,
+    requires { IsLag domain.now.sizes.frames orders.mutable orders.resident }
 {
     thread::scope(
         thread::scope_env(),
         rt,
-        move |scope| -> bool
+        move |scope| -> Option<Whole>
             requires runtime { IsSync R.row }
             requires epochs { IsSend E.row }
             requires jobs { IsSend F.row }
             requires promise { IsSend P.row }
-            requires realm_sent { IsSend L.row }
-            requires realm_shared { IsSync L.row }
+            requires realm { IsSend L.row × IsSync L.row }
             requires page_writer { IsSend W.row }
             requires gate_shared { IsSync G.row }
-            requires lag { IsLag domain.now.sizes.frames duty.mutable duty.resident }
+            requires term_shared { IsSync T.row }
+            requires lag { IsLag domain.now.sizes.frames orders.mutable orders.resident }
         {
-            let is_whole = scope
-                .spawn(move || write_pages(rt, domain, gate, shared, &shared.first))
-                .is_ok()
-                && scope
-                    .spawn(move || write_pages(rt, domain, gate, shared, &shared.second))
-                    .is_ok()
-                && scope
-                    .spawn(move || clean_pages(rt, domain, shared, duty.turns))
-                    .is_ok()
+            let first = scope
+                .spawn(move || write_pages(rt, domain, gate, &shared.channels, &shared.first))
+                .is_ok();
+            let second = scope
+                .spawn(move || write_pages(rt, domain, gate, &shared.channels, &shared.second))
+                .is_ok();
+            let cleaner = scope
+                .spawn(move || clean_pages(rt, domain, shared, orders, term))
+                .is_ok();
+            let others = first && second && cleaner;
+            let flusher = others
                 && scope
                     .spawn(
                         move ||
-                            requires { IsLag domain.now.sizes.frames duty.mutable duty.resident }
-                        { flush_pages(rt, domain, shared, duty) },
+                            requires { IsLag domain.now.sizes.frames orders.mutable orders.resident }
+                        { flush_pages(rt, domain, shared, orders, term) },
                     )
                     .is_ok();
-            if !is_whole {
-                shared.is_stopped.store(true, Ordering::SeqCst);
-                stop_writers(rt, &shared.channels);
+            if !flusher {
+                end_flusher(rt, shared);
             }
-            is_whole
+            whole_of(first, second, cleaner, flusher)
         },
     )
 }
 
-// What the flusher's thread does: its turns, and then it stops the writers.
-fn flush_pages<R, E, F, P, L, W>(
+// What the flusher's thread does: its turns, and then it ends the others.
+fn flush_pages<R, E, F, P, L, W, T>(
     rt: &R,
     domain: &Domain<E, F, P, L>,
     shared: &Shared<L, W>,
-    duty: Duty,
+    orders: Orders,
+    term: &T,
 )
 where
     R: Wait,
@@ -87,15 +112,17 @@ where
     F: Task,
     P: Promise,
     L: Realm,
-    requires { IsLag domain.now.sizes.frames duty.mutable duty.resident }
+    T: Term<R>,
+    requires { IsLag domain.now.sizes.frames orders.mutable orders.resident }
 {
     let flusher = Flusher {
         rt,
         domain,
         channels: &shared.channels,
+        orders,
     };
-    flusher.run(&shared.flusher, duty);
-    stop_writers(rt, &shared.channels);
+    flusher.run(&shared.flusher, term, &shared.sleeper);
+    end_flusher(rt, shared);
 }
 
 // What a writer's thread does.
@@ -103,7 +130,7 @@ fn write_pages<R, E, F, P, L, W, G>(
     rt: &R,
     domain: &Domain<E, F, P, L>,
     gate: &G,
-    shared: &Shared<L, W>,
+    channels: &Channels,
     own: &Mutex<WriterState<L, W>>,
 )
 where
@@ -119,17 +146,18 @@ where
         rt,
         domain,
         gate,
-        channels: &shared.channels,
+        channels,
     };
     writer.run(own);
 }
 
 // What the cleaner's thread does.
-fn clean_pages<R, E, F, P, L, W>(
+fn clean_pages<R, E, F, P, L, W, T>(
     rt: &R,
     domain: &Domain<E, F, P, L>,
     shared: &Shared<L, W>,
-    turns: u64,
+    orders: Orders,
+    term: &T,
 )
 where
     R: Wait,
@@ -137,18 +165,23 @@ where
     F: Task,
     P: Promise,
     L: Realm,
+    T: Term<R>,
 {
     let cleaner = Cleaner {
         rt,
         domain,
-        is_stopped: &shared.is_stopped,
+        orders,
+        has_ended: &shared.has_ended,
+        sleeper: &shared.sleeper,
     };
-    cleaner.run(&shared.cleaner, turns);
+    cleaner.run(&shared.cleaner, term);
 }
 
-// Tells each writer to stop.
-fn stop_writers<R: Wait>(rt: &R, channels: &Channels) {
+// The flusher makes no turn any more: each writer is told to stop, and the cleaner is woken.
+fn end_flusher<R: Wait, L: Realm, W>(rt: &R, shared: &Shared<L, W>) {
     for _ in 0..2 {
-        let _ = channels.jobs.send(rt, Message::Stop);
+        let _ = shared.channels.jobs.send(rt, Message::Stop);
     }
+    shared.has_ended.store(true, Ordering::SeqCst);
+    shared.sleeper.unpark();
 }

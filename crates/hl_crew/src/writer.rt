@@ -6,20 +6,17 @@ use crate::messages::{Acknowledgement, Channels, Message};
 use hl_action::{Promise, Task};
 use hl_domain::{Domain, PageJob};
 use hl_epoch::Epochs;
-use hl_image::{PageWriter, image_of};
-use hl_model::PAGE_SIZE_MOST;
+use hl_image::PageWriter;
 use hl_words::{Realm, Rider};
 use std::sync::{Mutex, Wait};
 use std::thread;
 
+mod write;
+
+pub(crate) use write::Written;
+
 /// How often a writer asks whether it may write a page.
 const ASKS: u32 = 1_000_000;
-
-/// The most words that a page has.
-const WORDS: usize = PAGE_SIZE_MOST as usize;
-
-/// The bytes of the image of so many words.
-const BYTES: usize = 8 + 8 * WORDS;
 
 /// What a writer works on.
 #[derive(Drop)]
@@ -67,17 +64,24 @@ where
         job: PageJob,
     ) -> Acknowledgement
         ensures page { result.page ≡ job.page }
+        ensures gate { result.ok ≡ true → G.lets self.now.gate.now job.page }
         ensures written { let sizes = self.now.domain.now.sizes
             in result.ok ≡ true
             → IsWritten W.wrote sizes job own.old.rider own.new.rider own.old.pages own.new.pages }
     {
-        let page = job.page;
-        let ok = self.may_write(page) && self.write(own, job);
-        Acknowledgement { page, ok }
+        if !self.may_write(job.page) {
+            return Acknowledgement::failed(job.page);
+        }
+        match self.write(own, job) {
+            Some(written) => Acknowledgement::written(written),
+            None => Acknowledgement::failed(job.page),
+        }
     }
 
     // Whether the gate lets the page be written. Between two asks other threads go on.
-    fn may_write(&self, page: u64) -> bool {
+    fn may_write(&self, page: u64) -> bool
+        ensures { result ≡ true → G.lets self.now.gate.now page }
+    {
         self.gate.begun(page);
         for _ in 0..ASKS {
             if self.gate.may_write(page) {
@@ -86,23 +90,5 @@ where
             thread::yield_now();
         }
         false
-    }
-
-    // Copies the words of a page, and writes its image: whether it is written.
-    fn write<W: PageWriter>(&self, own: &mut WriterState<L, W>, job: PageJob) -> bool
-        ensures { let sizes = self.now.domain.now.sizes
-            in result ≡ true
-            → IsWritten W.wrote sizes job own.old.rider own.new.rider own.old.pages own.new.pages }
-    {
-        let mut words = [0; WORDS];
-        let mut image = [0; BYTES];
-        let places = self.domain.params().page_size() as usize;
-        let words = &mut words[..places];
-        let image = &mut image[..8 + 8 * places];
-        if self.domain.copy_page(job, &mut own.rider, words).is_err() {
-            return false;
-        }
-        image_of(job.page, words, image);
-        own.pages.write_page(job.page, image).is_ok()
     }
 }

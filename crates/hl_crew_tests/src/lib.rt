@@ -9,6 +9,8 @@ mod crew;
 #[cfg(test)]
 mod gates;
 #[cfg(test)]
+mod jobs;
+#[cfg(test)]
 mod pouch;
 #[cfg(test)]
 mod races;

@@ -1,14 +1,16 @@
-ghost use Rattle.std.specs.Prelude.{◌≡◌, ℕ, Some, None, Ok, position, OnOk};
-ghost use Rattle.hl_crew.specs.Pouches.{is_of, load_count};
-ghost use Rattle.hl_crew.specs.Counting.{one_stranger, AnswersAndCounts};
+ghost use Rattle.std.specs.Prelude.{◌≡◌, ◌+◌, ℕ, Some, None, Ok, position, OnOk, OnErr};
+ghost use Rattle.hl_domain.specs.Passes.{Shares};
+ghost use Rattle.hl_crew.specs.Pouches.{is_of, load_count, Answers};
+ghost use Rattle.hl_crew.specs.Counting.{counted, one_stranger, failed_more, AnswersAndCounts};
 
 use crate::flusher::{Flusher, FlusherState};
 use crate::messages::{Acknowledgement, Over};
+use crate::orders::{ATTEMPTS, make_room};
 use crate::pouch::Pouch;
 use hl_action::{Promise, Task};
 use hl_epoch::Epochs;
 use hl_model::Fault;
-use hl_words::Realm;
+use hl_words::{Realm, Rider};
 use std::sync::Wait;
 
 impl<R: Wait, E: Epochs + Drop, F: Task, P: Promise, L: Realm> Flusher<'_, R, E, F, P, L> {
@@ -21,7 +23,7 @@ impl<R: Wait, E: Epochs + Drop, F: Task, P: Promise, L: Realm> Flusher<'_, R, E,
     ) -> Result<(), Over> {
         for _ in 0..sent {
             let Ok(told) = self.channels.acknowledged.recv(self.rt) else {
-                return Err(Over);
+                return Err(Over::Lost);
             };
             self.answer(own, pouch, told)?;
         }
@@ -39,31 +41,73 @@ impl<R: Wait, E: Epochs + Drop, F: Task, P: Promise, L: Realm> Flusher<'_, R, E,
         ensures stranger { position (is_of told.page) pouch.old ≡ None
             → (result ≡ Ok tt) × (pouch.new ≡ pouch.old) × (own.new.counts ≡ one_stranger own.old.counts) }
         ensures held { (at : ℕ) → position (is_of told.page) pouch.old ≡ Some at
-            → AnswersAndCounts F self.now.domain.now told at pouch.old pouch.new
-            own.old.counts own.new.counts }
+            → AnswersAndCounts F self.now.domain.now told.page told.ok at pouch.old pouch.new
+            own.old.counts own.new.counts result }
     {
-        match pouch.answer(self.rt, self.domain, &mut own.rider, told.page, told.ok) {
-            Ok(_) => own.counts.count(told.ok),
-            Err(Fault::NotInFlight) => own.counts.count_stranger(),
-            Err(_) => return Err(Over),
+        if !pouch.holds(told.page()) {
+            own.counts.count_stranger();
+            return Ok(());
         }
-        Ok(())
+        self.answer_held(own, pouch, told.page(), told.ok())
     }
 
-    /// Answers each page that is still in the pouch as failed.
+    /// Answers each page that is still in the pouch as failed, and counts it so.
     pub(crate) fn answer_others(
         &self,
         own: &mut FlusherState<L>,
         pouch: &mut Pouch,
     ) -> Result<(), Over>
-        ensures { OnOk result (load_count pouch.new ≡ 0) }
+        ensures none { OnOk result (load_count pouch.new ≡ 0) }
+        ensures failed { OnOk result (own.new.counts ≡ failed_more (load_count pouch.old) own.old.counts) }
     {
-        while let Some(answer) = pouch.fail_first(self.rt, self.domain, &mut own.rider) {
-            if answer.is_err() {
-                return Err(Over);
-            }
-            own.counts.count(false);
+        while let Some(page) = pouch.first() {
+            self.answer_held(own, pouch, page, false)?;
         }
         Ok(())
+    }
+
+    // Answers a page of the pouch, and counts an answer that was accepted.
+    fn answer_held(
+        &self,
+        own: &mut FlusherState<L>,
+        pouch: &mut Pouch,
+        page: u64,
+        ok: bool,
+    ) -> Result<(), Over>
+        ensures held { (at : ℕ) → position (is_of page) pouch.old ≡ Some at
+            → AnswersAndCounts F self.now.domain.now page ok at pouch.old pouch.new
+            own.old.counts own.new.counts result }
+        ensures fewer { OnOk result (load_count pouch.new + 1 ≡ load_count pouch.old) }
+        ensures counts { OnOk result (own.new.counts ≡ counted ok own.old.counts) }
+    {
+        match self.answer_page(&mut own.rider, pouch, page, ok) {
+            Ok(_) => {
+                own.counts.count(ok);
+                Ok(())
+            }
+            Err(fault) => Err(Over::of(&fault)),
+        }
+    }
+
+    // As `Pouch::answer`. Where the journal is full and may be cut, it is cut first.
+    fn answer_page(
+        &self,
+        rider: &mut Rider<L>,
+        pouch: &mut Pouch,
+        page: u64,
+        ok: bool,
+    ) -> Result<u64, Fault>
+        ensures held { (at : ℕ) → position (is_of page) pouch.old ≡ Some at
+            → Answers F self.now.domain.now page ok at pouch.old pouch.new result }
+        ensures fewer { OnOk result (load_count pouch.new + 1 ≡ load_count pouch.old) }
+        ensures rider { Shares 1 result rider.old rider.new }
+    {
+        for _ in 0..ATTEMPTS {
+            match pouch.answer(self.rt, self.domain, rider, page, ok) {
+                Err(fault) if make_room(self.rt, self.domain, self.orders, rider, &fault) => {}
+                answered => return answered,
+            }
+        }
+        pouch.answer(self.rt, self.domain, rider, page, ok)
     }
 }

@@ -30,7 +30,7 @@ impl<R: Wait, E: Epochs + Drop, F: Task, P: Promise, L: Realm> Flusher<'_, R, E,
             let load = match self.domain.flush_take(self.rt, rider) {
                 Ok(load) => load,
                 Err(Fault::NoneSealed) => return Ok(()),
-                Err(_) => return Err(Over),
+                Err(fault) => return Err(Over::of(&fault)),
             };
             let job = load.job();
             pouch.put(load);
@@ -40,7 +40,7 @@ impl<R: Wait, E: Epochs + Drop, F: Task, P: Promise, L: Realm> Flusher<'_, R, E,
                 .send(self.rt, Message::Write(job))
                 .is_err()
             {
-                return Err(Over);
+                return Err(Over::Lost);
             }
             *sent += 1;
         }

@@ -1,11 +1,8 @@
-use Rattle.std.proofs.Common.{rules}
+use Rattle.std.proofs.Common.{◌∙◌, ap}
+use Rattle.std.specs.Prelude.{is_some}
+use Rattle.hl_crew.proofs.PouchLaws.{not_none}
 use Rattle.hl_crew.proofs.flusher.Flusher.answer.Goals as goal
 
-pub returns-in-Err : goal.returns-in-Err
-returns-in-Err g c = search rules
-
-pub returns-in-Ok-clause-held : goal.returns-in-Ok-clause-held
-returns-in-Ok-clause-held g c = search rules
-
-pub returns-in-Err-NotInFlight-clause-held : goal.returns-in-Err-NotInFlight-clause-held
-returns-in-Err-NotInFlight-clause-held g c = search rules
+pub returns-clause-stranger : goal.returns-clause-stranger
+returns-clause-stranger g c =
+    λ none. absurd (not_none ((rw c.page.ensures at c.if-not-holds.ensures) ∙ ap is_some none))

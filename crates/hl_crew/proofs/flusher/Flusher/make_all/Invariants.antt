@@ -1,0 +1,7 @@
+use Rattle.hl_crew.specs.Goes.{Followed}
+use Rattle.hl_crew.specs.Lags.{MakesNext}
+use Rattle.hl_crew.proofs.flusher.Flusher.make_all.Given as goal
+
+-- the steps so far were made
+abbrev pub invariant-loop-step : goal.invariant-loop-step
+invariant-loop-step g l = Followed (MakesNext g.row.F.Denot l.self.domain.now l.steps) l.step-index l.fn.rider l.rider

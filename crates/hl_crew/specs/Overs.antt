@@ -1,0 +1,10 @@
+-- Why turns are over.
+use Rattle.hl_model.specs.declared.fault.Fault.{Fault}
+use Rattle.hl_model.specs.declared.fault.Fault.TheVariants.{JournalFull}
+use Rattle.hl_crew.specs.declared.messages.Over.{Over}
+use Rattle.hl_crew.specs.declared.messages.Over.TheVariants.{Full, Lost}
+
+-- what a refused call of the domain means for the turns
+abbrev pub over_of : Fault → Over
+over_of JournalFull = Full
+over_of _ = Lost

@@ -1,0 +1,73 @@
+ghost use Rattle.std.specs.Prelude.{◌≡◌};
+ghost use Rattle.hl_crew.specs.Lags.{makes_room};
+
+use crate::duty::Duty;
+use hl_action::{Promise, Task};
+use hl_domain::Domain;
+use hl_epoch::Epochs;
+use hl_model::Fault;
+use hl_words::{Realm, Rider};
+use std::sync::Wait;
+
+/// How often a step that ends something is tried where the journal is full and is cut.
+pub(crate) const ATTEMPTS: u64 = 1_000;
+
+/// When the flusher cuts the journal.
+#[derive(Clone, Copy, Debug, PartialEq, Eq)]
+pub(crate) enum Cuts {
+    /// Never.
+    Never,
+    /// At the end of each turn. A full journal ends the turns all the same.
+    EachTurn,
+    /// At the end of a turn that leaves more than so many steps, and where it is full.
+    Above(u64),
+}
+
+/// What the flusher is told: how many pages at the tail may be written and how many may be read, and when it cuts.
+#[derive(Clone, Copy)]
+pub(crate) struct Orders {
+    pub(crate) mutable: u64,
+    pub(crate) resident: u64,
+    pub(crate) cuts: Cuts,
+}
+
+impl Orders {
+    /// Those of a duty.
+    pub(crate) fn of(duty: Duty) -> Orders
+        ensures mutable { result.mutable ≡ duty.mutable }
+        ensures resident { result.resident ≡ duty.resident }
+    {
+        Orders {
+            mutable: duty.mutable(),
+            resident: duty.resident(),
+            cuts: match duty.cut_above() {
+                Some(steps) => Cuts::Above(steps),
+                None => Cuts::Never,
+            },
+        }
+    }
+
+    /// Whether a full journal is cut, so that the turns go on.
+    pub(crate) fn makes_room(self) -> bool
+        ensures { result ≡ makes_room self.cuts }
+    {
+        matches!(self.cuts, Cuts::Above(_))
+    }
+}
+
+/// Whether what met this fault is to be tried again: the journal was full, and was cut, as these orders say.
+pub(crate) fn make_room<R: Wait, E: Epochs + Drop, F: Task, P: Promise, L: Realm>(
+    rt: &R,
+    domain: &Domain<E, F, P, L>,
+    orders: Orders,
+    rider: &mut Rider<L>,
+    fault: &Fault,
+) -> bool
+    ensures { rider.new ≡ rider.old }
+{
+    let is_cut = orders.makes_room() && matches!(fault, Fault::JournalFull);
+    if is_cut {
+        domain.cut(rt, rider);
+    }
+    is_cut
+}

@@ -1,0 +1,63 @@
+use crate::term::Term;
+use std::sync::Wait;
+use std::sync::atomic::{AtomicBool, Ordering};
+use std::thread::Parker;
+use std::time::Duration;
+
+/// How long a crew with nothing to do sleeps at most, in milliseconds.
+const NAP: u64 = 20;
+
+/// How many turns a crew makes at most once its stop was given.
+const LAST_TURNS: u64 = 1_000;
+
+/// Ends a crew that serves, and wakes it before. Any thread may use it by reference, and neither call waits.
+#[derive(Drop)]
+pub struct Stop {
+    is_given: AtomicBool,
+    sleeper: Parker,
+}
+
+impl Stop {
+    /// A stop that wasn't given yet, for one crew.
+    pub const fn new() -> Stop {
+        Stop {
+            is_given: AtomicBool::new(false),
+            sleeper: Parker::new(),
+        }
+    }
+
+    /// Gives the stop: the crew ends once it has nothing left to do, or has made 1,000 turns more.
+    pub fn give(&self) {
+        self.is_given.store(true, Ordering::SeqCst);
+        self.sleeper.unpark();
+    }
+
+    /// Wakes the crew, where it sleeps. For a thread that has entered a page, or refreshed after one: a crew that
+    /// nobody wakes looks every 20 milliseconds.
+    pub fn ring(&self) {
+        self.sleeper.unpark();
+    }
+
+    /// Whether the stop was given.
+    pub fn is_given(&self) -> bool {
+        self.is_given.load(Ordering::SeqCst)
+    }
+}
+
+impl<R: Wait> Term<R> for Stop {
+    fn goes_on(&self, _made: u64) -> bool {
+        !self.is_given()
+    }
+
+    fn cleans_on(&self, _looks: u64, is_last: bool) -> bool {
+        !is_last
+    }
+
+    fn rest(&self, rt: &R) {
+        self.sleeper.park_timeout(rt, Duration::from_millis(NAP));
+    }
+
+    fn last_turns(&self) -> u64 {
+        LAST_TURNS
+    }
+}

@@ -1,0 +1,48 @@
+ghost use Rattle.std.specs.Prelude.{◌≡◌, ℕ, ◌≤◌, false, ⊤};
+
+use std::sync::Wait;
+
+/// How long a crew runs, and how it rests.
+///
+/// `is_over` is what it takes for the flusher to make no turn more after so many.
+pub(crate) trait Term<R> {
+    ghost is_over: { Self → ℕ → Type 0 } = { λ _ _. ⊤ };
+
+    /// Whether the flusher makes another turn, after so many.
+    fn goes_on(&self, made: u64) -> bool
+        ensures { result ≡ false → is_over self.now made };
+
+    /// Whether the cleaner looks for a closed page once more, after so many looks. The last look was vain, and was
+    /// begun once the flusher had ended, where `is_last` is true.
+    fn cleans_on(&self, looks: u64, is_last: bool) -> bool;
+
+    /// Rests after a turn that entered nothing.
+    fn rest(&self, rt: &R);
+
+    /// How many turns the flusher makes at most after its last one, as long as there is something to do.
+    fn last_turns(&self) -> u64;
+}
+
+/// So many turns.
+#[derive(Clone, Copy)]
+pub(crate) struct Turns {
+    pub(crate) most: u64,
+}
+
+impl<R: Wait> Term<R> for Turns {
+    ghost is_over = { λ turns made. turns.most ≤ made };
+
+    fn goes_on(&self, made: u64) -> bool {
+        made < self.most
+    }
+
+    fn cleans_on(&self, looks: u64, is_last: bool) -> bool {
+        looks < self.most && !is_last
+    }
+
+    fn rest(&self, _rt: &R) {}
+
+    fn last_turns(&self) -> u64 {
+        0
+    }
+}

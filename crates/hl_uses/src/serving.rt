@@ -1,0 +1,199 @@
+ghost use Rattle.std.specs.Prelude.{◌≡◌};
+ghost use Rattle.hl_words.specs.States.{IsSeedOf};
+
+use crate::say::say;
+use hl_crew::{CrewEnd, Duty, OpenGate, Stop, serve};
+use hl_domain::{AnyAnswer, CountTable, Domain, Fault, NoJob, Params, Pass, Realm, Rider, Seed};
+use hl_image::MemoryWriter;
+use std::alloc::{AllocError, Global};
+use std::io::Write;
+use std::marker::Brand;
+use std::sync::Wait;
+use std::thread::Threads;
+use std::{array, thread};
+
+/// A domain whose actions are settles and closes alone.
+type Log<L> = Domain<CountTable, NoJob, AnyAnswer, L>;
+
+/// A crew's four riders.
+type Crew<L> = [Rider<L>; 4];
+
+/// Four threads place a hundred records each, more than the frames hold, and a crew serves behind them until they have
+/// ended.
+///
+/// Faults: `OutOfMemory`; `Stream` where the writer fails.
+pub fn run<R: Threads + Wait + Sync, W: Write>(
+    rt: &R,
+    alloc: Global,
+    out: &mut W,
+) -> Result<(), Fault> {
+    // Pages of 64 words, 8 frames, so 512 words for 3,200; 4 slots, 16 places for actions; four riders and a crew's.
+    let params = Params::checked(64, 8, 4, 16).ok_or(Fault::Size)?;
+    let seed = Seed::make(alloc, params, 8)?;
+    run_over::<Brand, R, W>(rt, alloc, seed, out)
+}
+
+// The same over the words of a seed.
+fn run_over<L: Realm + Send + Sync, R: Threads + Wait + Sync, W: Write>(
+    rt: &R,
+    alloc: Global,
+    seed: Seed,
+    out: &mut W,
+) -> Result<(), Fault>
+    requires seed { IsSeedOf L.name L.parts L.table seed }
+    requires named { (seed.sizes ≡ L.sizes) × (2 ≡ L.stamp) }
+{
+    let (log, riders) = Log::<L>::open(alloc, seed, 1_000, 2)?;
+    let (riders, failed) = work(rt, alloc, &log, riders)?;
+    say(out, "failed", failed)?;
+    match log.close(riders) {
+        Ok(ending) => {
+            say(out, "tail", ending.snapshot.six.tail)?;
+            say(out, "taken", ending.snapshot.taken)
+        }
+        Err((fault, _, _)) => Err(fault),
+    }
+}
+
+// The threads place their records, and then the crew's stop is given; all riders come back, and how many writes failed.
+fn work<L: Realm + Send + Sync, R: Threads + Wait + Sync>(
+    rt: &R,
+    alloc: Global,
+    log: &Log<L>,
+    mut riders: Vec<Rider<L>>,
+) -> Result<(Vec<Rider<L>>, u64), Fault> {
+    let crew = crew_of(&mut riders)?;
+    let stop = Stop::new();
+    let (riders, end) = thread::join(
+        rt,
+        || {
+            let riders = place_all(rt, alloc, log, &stop, riders);
+            stop.give();
+            riders
+        },
+        || flush_all(rt, alloc, log, &stop, crew),
+    );
+    let (Ok(mut riders), CrewEnd { riders: crew, failed, .. }) = (riders, end?) else {
+        return Err(Fault::OutOfMemory);
+    };
+    match riders.extend(crew) {
+        Ok(()) => Ok((riders, failed)),
+        Err(_) => Err(Fault::OutOfMemory),
+    }
+}
+
+// Four of the riders, for the crew.
+fn crew_of<L: Realm>(riders: &mut Vec<Rider<L>>) -> Result<Crew<L>, Fault> {
+    array::try_from_fn(|_| riders.pop().ok_or(Fault::Size))
+}
+
+// The crew serves until its stop: about 2 pages may be written and 4 read, and the journal is cut once it is half full.
+fn flush_all<L: Realm + Send + Sync, R: Threads + Wait + Sync>(
+    rt: &R,
+    alloc: Global,
+    log: &Log<L>,
+    stop: &Stop,
+    crew: Crew<L>,
+) -> Result<CrewEnd<L, MemoryWriter>, Fault> {
+    let duty = Duty::checked(log.params(), 2, 4).ok_or(Fault::Size)?;
+    let one = MemoryWriter::open(alloc, 64, 520)?;
+    let other = MemoryWriter::open(alloc, 64, 520)?;
+    match serve(
+        rt,
+        alloc,
+        log,
+        crew,
+        one,
+        other,
+        &OpenGate,
+        duty.cutting_above(500),
+        stop,
+    ) {
+        Ok(end) => Ok(end),
+        Err((fault, ..)) => Err(fault),
+    }
+}
+
+// Each rider places its records in a thread and on a slot of its own.
+fn place_all<L: Realm + Send + Sync, R: Threads + Wait + Sync>(
+    rt: &R,
+    alloc: Global,
+    log: &Log<L>,
+    stop: &Stop,
+    riders: Vec<Rider<L>>,
+) -> Result<Vec<Rider<L>>, AllocError> {
+    let jobs = riders.into_iter().enumerate().collect::<Vec<_>>(alloc)?;
+    thread::map_vec(
+        rt,
+        jobs,
+        &|(slot, rider)| place(rt, log, stop, rider, slot as u64),
+    )
+}
+
+// Acquires the slot, places the records, and releases it. A pass that is refused is abandoned.
+fn place<L: Realm>(
+    rt: &impl Wait,
+    log: &Log<L>,
+    stop: &Stop,
+    rider: Rider<L>,
+    slot: u64,
+) -> Rider<L> {
+    let mut pass = match log.acquire(rt, slot, rider) {
+        Ok(pass) => pass,
+        Err((_, rider)) => return rider,
+    };
+    for _ in 0..100 {
+        if place_one(rt, log, stop, &mut pass, slot).is_err() {
+            return pass.abandon();
+        }
+    }
+    leave(rt, log, stop, pass)
+}
+
+// Releases the slot. Where the journal is full it wakes the crew, which cuts it, and tries again.
+fn leave<L: Realm>(rt: &impl Wait, log: &Log<L>, stop: &Stop, pass: Pass<L>) -> Rider<L> {
+    let mut pass = pass;
+    for _ in rt.forever() {
+        match log.release(rt, pass) {
+            Ok(rider) => return rider,
+            Err((Fault::JournalFull, back)) => pass = back,
+            Err((_, back)) => return back.abandon(),
+        }
+        stop.ring();
+        thread::yield_now();
+    }
+    unreachable!()
+}
+
+// Places a record of 8 words, stores its first, and refreshes. Where no frame is free or the journal is full, it wakes the
+// crew, refreshes and tries again.
+fn place_one<L: Realm>(
+    rt: &impl Wait,
+    log: &Log<L>,
+    stop: &Stop,
+    pass: &mut Pass<L>,
+    slot: u64,
+) -> Result<(), Fault> {
+    for _ in rt.forever() {
+        match log.allocate(rt, pass, 8) {
+            Ok(address) => {
+                log.store(pass, address, slot)?;
+                break;
+            }
+            Err(Fault::Busy { .. } | Fault::JournalFull) => stop.ring(),
+            Err(fault) => return Err(fault),
+        }
+        refreshed(rt, log, pass)?;
+        thread::yield_now();
+    }
+    stop.ring();
+    refreshed(rt, log, pass)
+}
+
+// Refreshes, unless the journal is full: the crew cuts it.
+fn refreshed<L: Realm>(rt: &impl Wait, log: &Log<L>, pass: &mut Pass<L>) -> Result<(), Fault> {
+    match log.refresh(rt, pass) {
+        Ok(_) | Err(Fault::JournalFull) => Ok(()),
+        Err(fault) => Err(fault),
+    }
+}
