@@ -1,0 +1,4 @@
+pub mod Closings
+pub mod Crews
+pub mod Openings
+pub mod Sessions

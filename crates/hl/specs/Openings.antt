@@ -1,0 +1,25 @@
+-- When a log can be opened, what contracts see of it then, and a refusal.
+use Rattle.std.specs.Prelude.{◌≤◌, ◌^◌, nat_le, Bool, ◌&&◌}
+use Rattle.hl_model.specs.declared.fault.Fault.{Fault}
+use Rattle.hl_domain.specs.Domains.{DomainState}
+use Rattle.hl.specs.declared.opening.Opening.{Opening}
+use Rattle.hl.specs.declared.refused.Refused.{Refused}
+
+-- 1 to 128 riders, and a journal and a stamp of at most 2^62
+unfoldable pub can_open : Opening → Bool
+can_open o = nat_le 1 o.riders && (nat_le o.riders 128 && (nat_le o.journal (2 ^ 62) && nat_le o.stamp (2 ^ 62)))
+
+-- so it is
+pub record IsInRange (o : Opening) : Type 0 where
+  pub some_riders : 1 ≤ o.riders
+  pub few_riders : o.riders ≤ 128
+  pub journal_within : o.journal ≤ 2 ^ 62
+  pub stamp_within : o.stamp ≤ 2 ^ 62
+
+-- the log of an opening
+abbrev pub opened_as : Opening → DomainState
+opened_as o = record { sizes = o.params; stamp = o.stamp; riders = o.riders }
+
+-- the refusal with this fault, and what was handed in
+abbrev pub was_refused : {T : Type 0} → Fault → T → Refused T
+was_refused fault back = record { fault = fault; back = back }

@@ -1,0 +1,242 @@
+//! A crew's riders, writers and counts by their names.
+ghost use Rattle.std.specs.Prelude.{◌≡◌, ◌+◌, ◌<◌, ◌++◌, [], ◌∷◌, true, false, Err, IfErr, IfNone, IfSome, MatchResult, length};
+ghost use Rattle.hl_model.specs.declared.fault.Fault.TheVariants.{OutOfMemory, Size};
+ghost use Rattle.hl_crew.specs.Lags.{IsLag};
+ghost use Rattle.hl.specs.Openings.{was_refused};
+ghost use Rattle.hl.specs.Crews.{can_lag, riders_of};
+
+use crate::log::Log;
+use crate::refused::Refused;
+use hl_action::{Promise, Task};
+use hl_crew::{CrewEnd, Gate, run_crew};
+use hl_epoch::Epochs;
+use hl_image::PageWriter;
+use hl_model::{Fault, Params};
+use hl_words::{Realm, Rider};
+use std::alloc::Global;
+use std::sync::Wait;
+use std::thread::Threads;
+
+/// The riders of a crew.
+#[derive(Drop)]
+pub struct CrewRiders<L: Realm> {
+    pub flusher: Rider<L>,
+    pub first_writer: Rider<L>,
+    pub second_writer: Rider<L>,
+    pub cleaner: Rider<L>,
+}
+
+impl<L: Realm> CrewRiders<L> {
+    /// Takes the last four of these riders; `None` where there are fewer, and then all stay.
+    pub fn take_from(riders: &mut Vec<Rider<L>>) -> Option<CrewRiders<L>>
+        ensures taken { IfSome result (λ crew. riders.old.items ≡ riders.new.items ++ riders_of crew) }
+        ensures few { IfNone result ((length riders.old.items < 4) × (riders.new ≡ riders.old)) }
+    {
+        if riders.len() < 4 {
+            return None;
+        }
+        let cleaner = riders.pop().unwrap();
+        let second_writer = riders.pop().unwrap();
+        let first_writer = riders.pop().unwrap();
+        let flusher = riders.pop().unwrap();
+        Some(CrewRiders {
+            flusher,
+            first_writer,
+            second_writer,
+            cleaner,
+        })
+    }
+
+    /// Puts them behind these.
+    ///
+    /// `OutOfMemory` where memory was refused; then they are handed back, and the others are as before.
+    pub fn put_back(self, riders: &mut Vec<Rider<L>>) -> Result<(), Refused<CrewRiders<L>>>
+        ensures { MatchResult result
+            (λ _. riders.new.items ≡ riders.old.items ++ riders_of self)
+            (λ refused. (refused ≡ was_refused OutOfMemory self) × (riders.new.items ≡ riders.old.items)) }
+    {
+        if riders.reserve(4).is_err() {
+            return Err(Refused {
+                fault: Fault::OutOfMemory,
+                back: self,
+            });
+        }
+        let CrewRiders {
+            flusher,
+            first_writer,
+            second_writer,
+            cleaner,
+        } = self;
+        riders.push_reserved(flusher);
+        riders.push_reserved(first_writer);
+        riders.push_reserved(second_writer);
+        riders.push_reserved(cleaner);
+        Ok(())
+    }
+}
+
+/// The row that `run_crew` takes.
+impl<L: Realm> From<CrewRiders<L>> for [Rider<L>; 4] {
+    ghost from_gives = { λ crew row. row ≡ riders_of crew };
+
+    fn from(riders: CrewRiders<L>) -> [Rider<L>; 4] {
+        [
+            riders.flusher,
+            riders.first_writer,
+            riders.second_writer,
+            riders.cleaner,
+        ]
+    }
+}
+
+/// From the row that `run_crew` gives back.
+impl<L: Realm> From<[Rider<L>; 4]> for CrewRiders<L> {
+    ghost from_gives = { λ row crew. riders_of crew ≡ row };
+
+    fn from(riders: [Rider<L>; 4]) -> CrewRiders<L> {
+        let [flusher, first_writer, second_writer, cleaner] = riders;
+        CrewRiders {
+            flusher,
+            first_writer,
+            second_writer,
+            cleaner,
+        }
+    }
+}
+
+/// A crew before and after it works: its riders, and where each of its two writers writes pages.
+#[derive(Drop)]
+pub struct Crew<L: Realm, W> {
+    pub riders: CrewRiders<L>,
+    pub first: W,
+    pub second: W,
+}
+
+/// What a crew is to do.
+#[derive(Clone, Copy, Debug, PartialEq, Eq)]
+pub struct CrewPlan {
+    /// About how many pages at the tail may be written, at least 1.
+    pub mutable: u64,
+    /// About how many pages may be read: as many or more, and fewer than there are frames. (Where it is as many as the
+    /// frames, which isn't refused, no page is ever closed, and a log that has used its frames stays `Busy`.)
+    pub resident: u64,
+    /// How many turns it makes.
+    pub turns: u64,
+    /// Whether it cuts the journal at the end of each turn.
+    pub cut: bool,
+}
+
+/// A crew that has worked.
+#[derive(Drop)]
+pub struct CrewReport<L: Realm, W> {
+    pub crew: Crew<L, W>,
+    /// How many flushes were answered as ended well.
+    pub written: u64,
+    /// How many flushes were answered as failed.
+    pub failed: u64,
+    /// How many acknowledgements named a page that the flusher didn't hold.
+    pub strangers: u64,
+}
+
+impl<L: Realm, W> Crew<L, W> {
+    /// Works on a log: a flusher, two writers and a cleaner, each in a thread of its own. [`CrewReport::of`] gives the
+    /// crew back out of the answer.
+    ///
+    /// Faults, with the crew handed back: `Size` where the plan keeps no page mutable, or fewer resident than mutable, or
+    /// more resident than there are frames; `OutOfMemory` where memory or a thread was refused. What was done until then
+    /// stays done.
+    pub fn work<R, E, F, P, G>(
+        self,
+        rt: &R,
+        alloc: Global,
+        log: &Log<L, F, P, E>,
+        gate: &G,
+        plan: CrewPlan,
+    ) -> Result<CrewEnd<L, W>, Refused<Crew<L, W>>>
+    where
+        R: Threads + Wait + Sync,
+        E: Epochs + Drop + Send,
+        F: Task + Send,
+        P: Promise + Send,
+        L: Send + Sync,
+        W: PageWriter + Send,
+        G: Gate + Sync,
+        ensures size { can_lag log.now.sizes plan ≡ false → result ≡ Err (was_refused Size self) }
+        ensures memory { can_lag log.now.sizes plan ≡ true
+            → IfErr result (λ refused. refused.fault ≡ OutOfMemory) }
+    {
+        let CrewPlan {
+            mutable,
+            resident,
+            turns,
+            cut,
+        } = plan;
+        if !plan.fits(log.params()) {
+            return Err(Refused {
+                fault: Fault::Size,
+                back: self,
+            });
+        }
+        let Crew {
+            riders,
+            first,
+            second,
+        } = self;
+        let row = riders.into();
+        match run_crew(
+            rt, alloc, log, row, first, second, gate, mutable, resident, turns, cut,
+        ) {
+            Ok(end) => Ok(end),
+            Err(handed_back) => {
+                let (fault, row, first, second) = handed_back;
+                let riders = row.into();
+                let back = Crew {
+                    riders,
+                    first,
+                    second,
+                };
+                Err(Refused { fault, back })
+            }
+        }
+    }
+}
+
+impl CrewPlan {
+    /// Whether a crew can keep this lag on a log of these sizes.
+    #[tactic(auto, unfolding(crate::specs::Crews::can_lag))]
+    pub fn fits(self, params: Params) -> bool
+        ensures value { result ≡ can_lag params self }
+        ensures lag { result ≡ true → IsLag params.frames self.mutable self.resident }
+    {
+        1 <= self.mutable && self.mutable <= self.resident && self.resident <= params.frames()
+    }
+}
+
+impl<L: Realm, W> CrewReport<L, W> {
+    /// What a crew's end tells, by names.
+    pub fn of(end: CrewEnd<L, W>) -> CrewReport<L, W>
+        ensures riders { riders_of result.crew.riders ≡ end.riders }
+        ensures writers { result.crew.first ∷ result.crew.second ∷ [] ≡ end.writers }
+        ensures counts { (result.written ≡ end.written) × (result.failed ≡ end.failed)
+            × (result.strangers ≡ end.strangers) }
+    {
+        let CrewEnd {
+            riders,
+            writers,
+            written,
+            failed,
+            strangers,
+        } = end;
+        let [first, second] = writers;
+        CrewReport {
+            crew: Crew {
+                riders: riders.into(),
+                first,
+                second,
+            },
+            written,
+            failed,
+            strangers,
+        }
+    }
+}

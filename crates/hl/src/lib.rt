@@ -1,0 +1,44 @@
+//! The library by one name: all that a program on many threads names.
+//!
+//! A log is FASTER's HybridLog in memory (Chandramouli, Prasaad, Kossmann, Levandoski, Hunter, Barnett, SIGMOD 2018):
+//! records of words of 64 bits on pages that many threads share under epoch protection. docs/GUIDE.md begins with a
+//! first log.
+//!
+//! | You want | Take |
+//! |---|---|
+//! | to open a log, use it and close it | [`with_log`], with an [`Opening`] and a [`Part`] of your own |
+//! | to place, store and load words in a thread | a [`Session`], which a [`Rider`] enters |
+//! | pages written and frames freed behind the threads | a [`Crew`], by a [`CrewPlan`], with two page writers |
+//! | to know why a call was refused, and what it was handed | [`Fault`], [`Refused`] |
+//! | the log's own calls (bumps, cuts, pages by hand) | the methods of [`Log`], which is a [`Domain`] |
+//! | the forms for one thread, or under a lock of your own | `hl_cells`, `hl_core`: they aren't handed on here |
+//!
+//! What of another log is handed to a call doesn't compile where it carries the brand `L`: a log, riders, passes and
+//! sessions do. What doesn't carry it (a [`Load`], a [`Broom`], a [`Ready`]) is told by the log's stamp.
+#![tactic(auto)]
+
+mod crew;
+mod log;
+mod open;
+mod opening;
+mod part;
+mod refused;
+mod session;
+
+pub use crew::{Crew, CrewPlan, CrewReport, CrewRiders};
+pub use hl_action::{AnyAnswer, Firing, Kept, NoJob, Promise, Ran, Ready, Task};
+pub use hl_counts::CountTable;
+pub use hl_crew::{CrewEnd, Gate, OpenGate, run_crew};
+pub use hl_domain::{Broom, Domain, Ending, Keeper, Load, PageJob, Pass};
+pub use hl_drain::{Action, Ask, Drain};
+pub use hl_epoch::{Epochs, ScanTable};
+pub use hl_image::{HexWriter, MemoryWriter, PageWriter};
+pub use hl_laws::Base;
+pub use hl_model::{Fault, Params, Reply, Six, Snapshot, Step, View};
+pub use hl_words::{OffsetWords, Realm, Rider, RiderView, Seed, Touch, Words};
+pub use log::Log;
+pub use open::{Closed, with_log};
+pub use opening::Opening;
+pub use part::Part;
+pub use refused::Refused;
+pub use session::Session;

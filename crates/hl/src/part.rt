@@ -1,0 +1,31 @@
+use crate::log::Log;
+use hl_words::{Realm, Rider};
+
+/// What a program does with a log, in a closure's place: a closure can't be generic over the log's brand `L`.
+pub trait Part<R> {
+    ghost use Rattle.std.specs.Prelude.{List};
+    ghost use Rattle.hl_words.specs.States.{RiderState};
+    ghost use Rattle.hl_domain.specs.Domains.{DomainState};
+
+    /// What it hands out.
+    type Out;
+
+    ghost wants: { Self → DomainState → List RiderState → Type 0 } = { λ _ _ _. Unit {0} };
+
+    ghost leaves: { Self → Self.Out → List RiderState → Type 0 } = { λ _ _ _. Unit {0} };
+
+    /// Uses the log, and hands out its result and all riders: where one is missing, the log can't be closed.
+    ///
+    /// A part that has to know something of its log says so by its member `wants`, which whoever opens it proves: of
+    /// the log, of which contracts see its sizes, its stamp and how many riders it has, and of the riders. What is to
+    /// be known of its result and of the riders that come back it says by `leaves`. Both say nothing where they are left
+    /// out.
+    fn run<L: Realm + Send + Sync>(
+        self,
+        rt: &R,
+        log: &Log<L>,
+        riders: Vec<Rider<L>>,
+    ) -> (Self::Out, Vec<Rider<L>>)
+        requires { wants self log.now riders.items }
+        ensures { leaves self result.0 result.1.items };
+}

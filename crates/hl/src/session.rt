@@ -1,0 +1,228 @@
+//! A thread's time in a slot of a log.
+ghost use Rattle.std.specs.Prelude.{◌≡◌, ◌+◌, ◌-◌, ◌/◌, ◌^◌, ◌<◌, ◌≤◌, ◌++◌, ℕ, Ok, Err, Some, None, length, IfOk, IfErr, OnOk, MatchResult};
+ghost use Rattle.hl_model.specs.declared.step.Step.TheVariants.{Refresh as REFRESH, Release as RELEASE, Allocate as ALLOCATE};
+ghost use Rattle.hl_model.specs.Offsets.{place_of, tail};
+ghost use Rattle.hl_model.specs.Replies.{unless_fault, unless_refused};
+ghost use Rattle.hl_model.specs.Views.{view_of};
+ghost use Rattle.hl_domain.specs.Passes.{seen, rested, with_share, with_tail, touch_fault, store_fault, load_fault, with_look, with_store, with_load, last_read_only, last_head, LooksOn};
+ghost use Rattle.hl_domain.specs.Calls.{call_fault, refresh_fault, touched_list, MakesTouched, IsUpTo};
+ghost use Rattle.hl_domain.specs.Domains.{MakesUnderLock};
+ghost use Rattle.hl.specs.Sessions.{with_pass, fault_alone, pass_of, Asked, EnteredFrom};
+
+use crate::log::Log;
+use crate::refused::Refused;
+use hl_action::{AnyAnswer, NoJob, Promise, Task};
+use hl_counts::CountTable;
+use hl_domain::Pass;
+use hl_epoch::Epochs;
+use hl_model::{Fault, View};
+use hl_words::{Realm, Rider};
+use std::marker::Model;
+use std::sync::Wait;
+
+/// A thread that is protected: its pass, with the log and the runtime that the pass's calls want. What is of another
+/// log doesn't compile with it.
+///
+/// It can't be let go of: it ends by [`leave`](Session::leave), which gives the rider back, or by
+/// [`abandon`](Session::abandon).
+pub struct Session<
+    'a,
+    R: Wait,
+    L: Realm,
+    F: Task = NoJob,
+    P: Promise = AnyAnswer,
+    E: Epochs = CountTable,
+> {
+    rt: &'a R,
+    log: &'a Log<L, F, P, E>,
+    pass: Pass<L>,
+}
+
+impl<'a, R: Wait, L: Realm, F: Task, P: Promise, E: Epochs> Model for Session<'a, R, L, F, P, E> {
+    ghost use Rattle.hl.specs.Sessions.{SessionState};
+
+    ghost Value = { SessionState };
+
+    ghost view = { λ s. record { log = s.log.now; pass = s.pass } };
+}
+
+impl<'a, R: Wait, L: Realm, F: Task, P: Promise, E: Epochs + Drop> Session<'a, R, L, F, P, E> {
+    /// Protects the least slot that is free: slots are asked for in turn, from 0 on, by one locked call each.
+    ///
+    /// Faults, with the rider handed back: `Occupied` where each slot was in use when it was asked for, `JournalFull`.
+    pub fn enter(
+        rt: &'a R,
+        log: &'a Log<L, F, P, E>,
+        rider: Rider<L>,
+    ) -> Result<Session<'a, R, L, F, P, E>, Refused<Rider<L>>>
+        ensures log { IfOk result (λ session. session.log ≡ log.now) }
+        ensures slot { EnteredFrom F log.now rider 0 (pass_of result) }
+        ensures back { IfErr result (λ refused. refused.back ≡ rider) }
+    {
+        let slots = log.params().slots();
+        Session::enter_from(rt, log, rider, 0, slots)
+    }
+
+    /// Protects this slot.
+    ///
+    /// Faults, with the rider handed back: `JournalFull`, `NoSlot`, `Occupied`.
+    pub fn at(
+        rt: &'a R,
+        log: &'a Log<L, F, P, E>,
+        slot: u64,
+        rider: Rider<L>,
+    ) -> Result<Session<'a, R, L, F, P, E>, Refused<Rider<L>>>
+        ensures met { Asked F log.now rider slot (pass_of result) }
+        ensures log { IfOk result (λ session. session.log ≡ log.now) }
+        ensures back { IfErr result (λ refused. refused.back ≡ rider) }
+    {
+        match log.acquire(rt, slot, rider) {
+            Ok(pass) => Ok(Session { rt, log, pass }),
+            Err((fault, back)) => Err(Refused { fault, back }),
+        }
+    }
+
+    /// Its slot moves on: its epoch and its view are those of now. The answer is the view.
+    ///
+    /// Faults: `Stranger` where the session saw an offset above the present one; `JournalFull`.
+    pub fn refresh(&mut self) -> Result<View, Fault>
+        ensures met { let p = self.old.pass
+            in MakesUnderLock F self.old.log result (λ old. MakesTouched old p (REFRESH p.slot)
+            (λ A. refresh_fault old A p)
+            (λ A. view_of old.core.sizes p.slot (touched_list A p (REFRESH p.slot)))) }
+        ensures pass { let old = self.old
+            in MatchResult result
+            (λ view. self.new ≡ with_pass (rested view old.pass) old)
+            (λ _. self.new ≡ old) }
+        ensures fresh { IfOk result (IsUpTo (seen self.old.pass)) }
+    {
+        self.log.refresh(self.rt, &mut self.pass)
+    }
+
+    /// Places a record of n words; the answer is the address of its first word. It is on one page, and not below the
+    /// tail that the session saw. It then sees the record's end as its tail.
+    ///
+    /// Faults: `JournalFull`, `Size`, `SpaceSpent`, `Busy`.
+    pub fn allocate(&mut self, n: u64) -> Result<u64, Fault>
+        ensures met { let p = self.old.pass
+            in MakesUnderLock F self.old.log result (λ old. MakesTouched old p (ALLOCATE p.slot n)
+            (λ A. call_fault old A p (ALLOCATE p.slot n))
+            (λ A. place_of old.core.sizes.page_size (tail old.core.sizes (A ++ p.touches)) n)) }
+        ensures pass { let old = self.old
+            in MatchResult result
+            (λ a. self.new ≡ with_pass (rested (with_tail (a + n) (seen old.pass)) old.pass) old)
+            (λ _. self.new ≡ old) }
+        ensures above { IfOk result (λ a. (seen self.old.pass).tail ≤ a) }
+        ensures within { IfOk result (λ address. address + n ≤ 2 ^ 48) }
+        ensures one_page { let page_size = self.old.log.sizes.page_size
+            in IfOk result (λ a. a / page_size ≡ (a + n - 1) / page_size) }
+    {
+        self.log.allocate(self.rt, &mut self.pass, n)
+    }
+
+    /// Looks at both offset words, without the lock: what the session sees then.
+    ///
+    /// `TouchesFull` where it has 32 touches.
+    pub fn look(&mut self) -> Result<View, Fault>
+        ensures answer { result ≡ unless_fault (touch_fault self.old.pass) (seen self.new.pass) }
+        ensures pass { let new = self.new.pass
+            in let old = self.old.pass
+            in self.new ≡ with_pass (unless_refused (touch_fault old) old
+            (with_look (last_read_only new) (last_head new) old)) self.old }
+        ensures rises { OnOk result (LooksOn self.old.pass self.new.pass) }
+    {
+        self.log.look(&mut self.pass)
+    }
+
+    /// Stores a word at an address, without the lock.
+    ///
+    /// Faults: `Below` where the address is below the read-only offset that the session saw, `Beyond` where it isn't
+    /// below the tail that it saw, `TouchesFull` where it has 32 touches.
+    pub fn store(&mut self, a: u64, v: u64) -> Result<(), Fault>
+        ensures answer { result ≡ unless_fault (store_fault self.old.pass a) tt }
+        ensures pass { let old = self.old.pass
+            in self.new ≡ with_pass (unless_refused (store_fault old a) old
+            (with_store self.old.log.sizes a v old)) self.old }
+    {
+        self.log.store(&mut self.pass, a, v)
+    }
+
+    /// Loads the word at an address, without the lock.
+    ///
+    /// Faults: `Evicted` where the address is below the head that the session saw, `Beyond` where it isn't below the
+    /// tail that it saw.
+    pub fn load(&mut self, a: u64) -> Result<u64, Fault>
+        ensures answer { let met = load_fault self.old.pass a
+            in MatchResult result (λ _. met ≡ None) (λ fault. met ≡ Some fault) }
+        ensures pass { let old = self.old
+            in MatchResult result
+            (λ v. self.new ≡ with_pass (with_load old.log.sizes a v old.pass) old)
+            (λ _. self.new ≡ old) }
+    {
+        self.log.load(&mut self.pass, a)
+    }
+
+    /// Its slot is protected no longer; the answer is its rider.
+    ///
+    /// Faults, with the session handed back: `JournalFull`.
+    pub fn leave(self) -> Result<Rider<L>, Refused<Session<'a, R, L, F, P, E>>>
+        ensures met { let p = self.entry.pass
+            in MakesUnderLock F self.entry.log (fault_alone result) (λ old. MakesTouched old p (RELEASE p.slot)
+            (λ A. call_fault old A p (RELEASE p.slot))
+            (λ A. with_share (length p.touches + 1) p.rider)) }
+        ensures back { IfErr result (λ refused. refused.back ≡ self.entry) }
+    {
+        let Session { rt, log, pass } = self;
+        match log.release(rt, pass) {
+            Ok(rider) => Ok(rider),
+            Err((fault, pass)) => Err(Refused {
+                fault,
+                back: Session { rt, log, pass },
+            }),
+        }
+    }
+
+    /// Gives the rider back and lets the session go: its slot stays protected for good, and its touches never enter the
+    /// journal.
+    pub fn abandon(self) -> Rider<L>
+        ensures { result ≡ self.entry.pass.rider }
+    {
+        let Session {
+            rt: _,
+            log: _,
+            pass,
+        } = self;
+        pass.abandon()
+    }
+
+    /// What it has seen: the view of its last locked call, after its looks since.
+    pub fn view(&self) -> View
+        ensures { result ≡ seen self.now.pass }
+    {
+        self.pass.view()
+    }
+
+    // Asks for this slot and then for those above it.
+    fn enter_from(
+        rt: &'a R,
+        log: &'a Log<L, F, P, E>,
+        rider: Rider<L>,
+        slot: u64,
+        slots: u64,
+    ) -> Result<Session<'a, R, L, F, P, E>, Refused<Rider<L>>>
+        requires { (slot < slots) × (slots ≡ log.now.sizes.slots) }
+        ensures log { IfOk result (λ session. session.log ≡ log.now) }
+        ensures slot { EnteredFrom F log.now rider slot (pass_of result) }
+        ensures back { IfErr result (λ refused. refused.back ≡ rider) }
+    {
+        match log.acquire(rt, slot, rider) {
+            Ok(pass) => Ok(Session { rt, log, pass }),
+            Err((fault, back)) => {
+                if fault == Fault::Occupied && slot + 1 < slots {
+                    return Session::enter_from(rt, log, back, slot + 1, slots);
+                }
+                Err(Refused { fault, back })
+            }
+        }
+    }
+}
