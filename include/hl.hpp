@@ -161,6 +161,16 @@ inline Result<Entered> entered(const hl_outcome &told) {
     return made(told, [](const hl_outcome &it) { return Entered{it.a, view_of(it)}; });
 }
 
+inline Result<Action> action(const hl_outcome &told) {
+    return made(told, [](const hl_outcome &it) {
+        return Action{it.a, it.b == 1 ? std::optional<Word>(it.c) : std::nullopt};
+    });
+}
+
+inline Result<Done> done(const hl_outcome &told) {
+    return made(told, [](const hl_outcome &it) { return Done{static_cast<Kind>(it.b), it.a}; });
+}
+
 inline Offsets offsets_of(const hl_offsets &six) noexcept {
     return {six.closed, six.head, six.flushed, six.safe_read_only, six.read_only, six.tail};
 }
@@ -274,16 +284,8 @@ class Core {
     Result<Word> settle() { return detail::one(detail::ask(hl_settle, at_.get())); }
     Result<Word> close() { return detail::one(detail::ask(hl_close, at_.get())); }
     Result<Word> bare() { return detail::one(detail::ask(hl_bare, at_.get())); }
-    Result<Action> take() {
-        return detail::made(detail::ask(hl_take, at_.get()), [](const hl_outcome &it) {
-            return Action{it.a, it.b == 1 ? std::optional<Word>(it.c) : std::nullopt};
-        });
-    }
-    Result<Done> done(Word ticket) {
-        return detail::made(detail::ask(hl_done, at_.get(), ticket), [](const hl_outcome &it) {
-            return Done{static_cast<Kind>(it.b), it.a};
-        });
-    }
+    Result<Action> take() { return detail::action(detail::ask(hl_take, at_.get())); }
+    Result<Done> done(Word ticket) { return detail::done(detail::ask(hl_done, at_.get(), ticket)); }
 
     Result<Word> raise(Word address) { return detail::one(detail::ask(hl_raise, at_.get(), address)); }
     Result<Word> shift(Word address) { return detail::one(detail::ask(hl_shift, at_.get(), address)); }
