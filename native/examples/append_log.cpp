@@ -103,7 +103,7 @@ static bool is_as_appended(std::fstream &file) {
     while (file.read(reinterpret_cast<char *>(page.data()), sizeof page)) {
         // What no record was placed on is 0, as is a page's end.
         for (Word at = 0; at < PAGE_SIZE && page[at] != 0; at += page[at]) {
-            Word thread = page[at + 1];
+            Word thread = at + 1 < PAGE_SIZE ? page[at + 1] : THREADS;
             if (thread >= THREADS) return false;
             std::vector<Word> wanted = record(thread, next[thread]++);
             if (at + wanted.size() > PAGE_SIZE || !std::equal(wanted.begin(), wanted.end(), &page[at])) return false;

@@ -18,7 +18,8 @@ fn main() {
 
 /// The folder that `HL_DIR` names; where there is no library, nothing else is tried.
 fn named() -> Option<PathBuf> {
-    let folder = Path::new(&std::env::var_os("HL_DIR")?).join("lib");
+    let prefix = std::env::var_os("HL_DIR").filter(|prefix| !prefix.is_empty())?;
+    let folder = Path::new(&prefix).join("lib");
     assert!(
         folder.join("libhl.a").exists(),
         "HL_DIR has no lib/libhl.a: {}",
