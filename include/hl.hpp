@@ -116,15 +116,20 @@ class Sizes {
     constexpr Word drain_places() const noexcept { return drain_places_; }
     /// The place of an address in a row of page_size() * frames() words.
     constexpr Word cell_of(Word address) const noexcept {
-        return address / page_size_ % frames_ * page_size_ + address % page_size_;
+        // A page's size is a power of two, so one division is enough.
+        return (address >> page_bits_) % frames_ * page_size_ + (address & (page_size_ - 1));
     }
 
   private:
     struct Exact {};
     constexpr Sizes(Exact, Word page_size, Word frames, Word slots, Word drain_places) noexcept
-        : page_size_(page_size), frames_(frames), slots_(slots), drain_places_(drain_places) {}
+        : page_size_(page_size), frames_(frames), slots_(slots), drain_places_(drain_places) {
+        while (page_size >> page_bits_ > 1)
+            page_bits_++;
+    }
 
     Word page_size_, frames_, slots_, drain_places_;
+    unsigned page_bits_ = 0;
 };
 
 namespace detail {

@@ -172,7 +172,9 @@ class Pass {
             view_.read_only = std::max(view_.read_only, read_only);
             view_.head = std::max(view_.head, head);
             has_looked_ = true;
-            touch({Call::Look, slot_, view_.read_only, view_.head}, {0, 0, view_.read_only, view_.head, view_.tail});
+            if (is_noted())
+                touches_.push_back({{Call::Look, slot_, view_.read_only, view_.head},
+                                    {0, 0, view_.read_only, view_.head, view_.tail}});
         }
         return view_;
     }
@@ -180,14 +182,14 @@ class Pass {
     Result<void> store(Word address, Word word) {
         hl_brief judged = judge(address, view_.read_only, HL_BELOW);
         if (judged.number == 0) shared_->cell(address)->store(word, std::memory_order_release);
-        touch({Call::Store, slot_, address, word}, detail::whole(judged));
+        if (is_noted()) touches_.push_back({{Call::Store, slot_, address, word}, detail::whole(judged)});
         return detail::nothing(judged);
     }
     /// Loads a word, without the lock; one that was never stored is 0. Evicted, Beyond.
     Result<Word> load(Word address) {
         hl_brief judged = judge(address, view_.head, HL_EVICTED);
         if (judged.number == 0) judged.a = shared_->cell(address)->load(std::memory_order_acquire);
-        touch({Call::Load, slot_, address}, detail::whole(judged));
+        if (is_noted()) touches_.push_back({{Call::Load, slot_, address}, detail::whole(judged)});
         return detail::one(judged);
     }
 
@@ -202,16 +204,16 @@ class Pass {
         return {0, 0};
     }
 
-    void touch(const Step &step, const hl_outcome &told) {
-        if (shared_ && shared_->has_journal) touches_.push_back({step, told});
-    }
+    bool is_noted() const noexcept { return shared_ && shared_->has_journal; }
 
     /// Makes a step under the lock, behind what the pass did without it.
     hl_outcome make(const Step &step) {
         if (!shared_) return {HL_NO_CORE, 0, 0, 0, 0};
         std::lock_guard<std::mutex> lock(shared_->mutex);
-        shared_->journal.insert(shared_->journal.end(), touches_.begin(), touches_.end());
-        touches_.clear();
+        if (is_noted()) {
+            shared_->journal.insert(shared_->journal.end(), touches_.begin(), touches_.end());
+            touches_.clear();
+        }
         if (std::exchange(has_looked_, false)) hl_look(shared_->core.handle(), slot_, view_.read_only, view_.head);
         return shared_->make_locked(step);
     }

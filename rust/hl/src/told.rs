@@ -52,8 +52,9 @@ impl Sizes {
 
     /// The place of an address in a row of `page_size * frames` words.
     pub fn cell_of(self, address: u64) -> usize {
-        let frame = address / self.page_size % self.frames;
-        (frame * self.page_size + address % self.page_size) as usize
+        // A page's size is a power of two, so one division is enough.
+        let frame = (address >> self.page_size.trailing_zeros()) % self.frames;
+        (frame * self.page_size + (address & (self.page_size - 1))) as usize
     }
 }
 

@@ -134,7 +134,7 @@ fn one_thread_with_many_slots() {
                 0..=2 => passes.extend(log.acquire(slot).map(|pass| (pass, Vec::new()))),
                 3 if !passes.is_empty() => {
                     let place = random.below(passes.len() as u64) as usize;
-                    passes.swap_remove(place);
+                    drop(passes.swap_remove(place));
                 }
                 4..=20 => serve(&log, &mut hands, &mut random),
                 _ => {
