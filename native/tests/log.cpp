@@ -234,6 +234,42 @@ static void four_threads(hl::Log &log, Word round) {
     flusher.join();
 }
 
+/// Each pass moves on, and the oldest action is carried out.
+static void refresh_and_serve(hl::Log &log, hl::Pass &writer, hl::Pass &reader) {
+    writer.refresh().value();
+    reader.refresh().value();
+    log.done(log.take().value().ticket).value();
+}
+
+/// One page's way: what each thread sees of it, and what its copy and its next words are.
+static bool is_the_way_of_a_page() {
+    hl::Log log = hl::Log::open(hl::Sizes::checked(4, 2, 2, 4).value()).value();
+    hl::Pass writer = log.acquire(0).value(), reader = log.acquire(1).value();
+    bool well = writer.allocate(4).value() == 0 && writer.store(3, 7) && reader.load(3).error() == hl::Fault::Beyond;
+    reader.refresh().value();
+    well = well && reader.load(3).value() == 7;
+
+    // The writer hasn't seen the raise, and then has.
+    well = well && log.raise(4) && writer.store(3, 8) && writer.look().read_only == 4;
+    well = well && writer.store(3, 9).error() == hl::Fault::Below && log.settle();
+    refresh_and_serve(log, writer, reader);
+    { auto given_back = log.flush_take().value(); }
+    hl::Flush page = log.flush_take().value();
+    Word words[4] = {1, 1, 1, 1};
+    page.copy(words);
+    well = well && words[0] == 0 && words[2] == 0 && words[3] == 8 && page.done().value() == 4;
+
+    // Nor the shift.
+    well = well && log.shift(4) && writer.load(3).value() == 8 && writer.look().head == 4;
+    well = well && writer.load(3).error() == hl::Fault::Evicted && log.close();
+    refresh_and_serve(log, writer, reader);
+    well = well && writer.allocate(4).value() == 4 && writer.allocate(4).error() == hl::Fault::Busy;
+    well = well && log.clean_take().value().sweep().value() == 0;
+    well = well && writer.allocate(4).value() == 8 && writer.load(11).value() == 0;
+    if (!well) std::printf("the way of a page\n");
+    return well;
+}
+
 /// Makes so many steps in rounds, and compares each round's journal.
 static bool compares(const char *name, void (*make)(hl::Log &, Word), size_t steps, const char *folder) {
     size_t made = 0;
@@ -252,6 +288,6 @@ static bool compares(const char *name, void (*make)(hl::Log &, Word), size_t ste
 int main(int count, char **words) {
     size_t steps = count > 1 ? std::strtoull(words[1], nullptr, 10) : 100000;
     const char *folder = count > 2 ? words[2] : nullptr;
-    bool one = compares("cpp_one_", one_thread, steps, folder);
+    bool one = is_the_way_of_a_page() && compares("cpp_one_", one_thread, steps, folder);
     return one && compares("cpp_four_", four_threads, steps, folder) ? 0 : 1;
 }

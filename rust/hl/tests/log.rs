@@ -120,6 +120,61 @@ fn compare(name: &str, log: &Log) -> usize {
     journal.len()
 }
 
+/// One page's way: what each thread sees of it, and what its copy and its next words are.
+#[test]
+fn the_way_of_a_page() {
+    let log = Log::open(Sizes::checked(4, 2, 2, 4).unwrap()).unwrap();
+    let (mut writer, mut reader) = (log.acquire(0).unwrap(), log.acquire(1).unwrap());
+    assert_eq!((writer.allocate(4), writer.store(3, 7)), (Ok(0), Ok(())));
+    assert_eq!(reader.load(3), Err(Fault::Beyond { tail: 0 }));
+    reader.refresh().unwrap();
+    assert_eq!(reader.load(3), Ok(7));
+
+    assert_eq!(
+        (log.raise(4), writer.store(3, 8)),
+        (Ok(4), Ok(())),
+        "it hasn't seen the raise"
+    );
+    assert_eq!(writer.look().read_only, 4);
+    assert_eq!(writer.store(3, 9), Err(Fault::Below { read_only: 4 }));
+    log.settle().unwrap();
+    refresh_and_serve(&log, [&mut writer, &mut reader]);
+
+    drop(log.flush_take().unwrap());
+    let page = log.flush_take().unwrap();
+    let mut words = [1; 4];
+    page.copy(&mut words);
+    assert_eq!((page.page(), words, page.done()), (0, [0, 0, 0, 8], Ok(4)));
+
+    assert_eq!(
+        (log.shift(4), writer.load(3)),
+        (Ok(4), Ok(8)),
+        "it hasn't seen the shift"
+    );
+    assert_eq!(writer.look().head, 4);
+    assert_eq!(writer.load(3), Err(Fault::Evicted { head: 4 }));
+    log.close().unwrap();
+    refresh_and_serve(&log, [&mut writer, &mut reader]);
+    assert_eq!(
+        (writer.allocate(4), writer.allocate(4)),
+        (Ok(4), Err(Fault::Busy { page: 2 }))
+    );
+    assert_eq!(log.clean_take().unwrap().sweep(), Ok(0));
+    assert_eq!(
+        (writer.allocate(4), writer.load(11)),
+        (Ok(8), Ok(0)),
+        "a frame comes back empty"
+    );
+}
+
+/// Each pass moves on, and the oldest action is carried out.
+fn refresh_and_serve(log: &Log, passes: [&mut Pass<'_>; 2]) {
+    for pass in passes {
+        pass.refresh().unwrap();
+    }
+    log.done(log.take().unwrap().ticket).unwrap();
+}
+
 #[test]
 fn one_thread_with_many_slots() {
     let mut random = Random::new(47);
