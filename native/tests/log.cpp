@@ -116,10 +116,12 @@ static void serve(hl::Log &log, Hands &hands, Random &random) {
     }
 }
 
-/// A pass with the addresses of its own records.
+/// A pass with the addresses of its own records. All riders count how many words they stored and loaded, or were
+/// refused.
 struct Rider {
     hl::Pass pass;
     std::vector<Word> own;
+    std::atomic<size_t> *words;
 };
 
 /// A random step of a pass; its words go to addresses of its own records, and above its tail.
@@ -127,7 +129,9 @@ static void ride(Rider &rider, Random &random, hl::Sizes sizes) {
     hl::Pass &pass = rider.pass;
     std::vector<Word> &own = rider.own;
     Word address = own.empty() || random.below(8) == 0 ? pass.view().tail + random.below(3) : own[random.place_in(own)];
-    switch (random.below(10)) {
+    Word choice = random.below(10);
+    *rider.words += choice == 4 || choice == 5 || choice > 6;
+    switch (choice) {
     case 0:
     case 1:
     case 2: (void)pass.refresh(); break;
@@ -188,7 +192,7 @@ static void write_script(const std::string &path, hl::Sizes sizes, const std::ve
     }
 }
 
-static void one_thread(hl::Log &log, Word round) {
+static void one_thread(hl::Log &log, Word round, std::atomic<size_t> &words) {
     Random random(round + 47);
     Hands hands;
     std::vector<Rider> riders;
@@ -196,7 +200,7 @@ static void one_thread(hl::Log &log, Word round) {
         Word choice = random.below(40);
         if (choice < 3) {
             if (auto pass = log.acquire(random.below(log.sizes().slots() + 1)))
-                riders.push_back({*std::move(pass), {}});
+                riders.push_back({*std::move(pass), {}, &words});
         } else if (choice == 3 && !riders.empty()) {
             std::swap(riders[random.place_in(riders)], riders.back());
             riders.pop_back();
@@ -208,15 +212,15 @@ static void one_thread(hl::Log &log, Word round) {
     }
 }
 
-static void four_threads(hl::Log &log, Word round) {
+static void four_threads(hl::Log &log, Word round, std::atomic<size_t> &words) {
     std::atomic<bool> riding{true};
     std::vector<std::thread> threads;
     for (Word slot = 0; slot < 4; slot++)
-        threads.emplace_back([&log, round, slot] {
+        threads.emplace_back([&log, &words, round, slot] {
             Random random(round * 4 + slot + 1);
             std::vector<Word> own;
             for (int turn = 0; turn < 20; turn++) {
-                Rider rider{log.acquire(slot).value(), std::move(own)};
+                Rider rider{log.acquire(slot).value(), std::move(own), &words};
                 for (int made = 0; made < ROUND / 160; made++)
                     ride(rider, random, log.sizes());
                 own = std::move(rider.own);
@@ -271,13 +275,22 @@ static bool is_the_way_of_a_page() {
 }
 
 /// Makes so many steps in rounds, and compares each round's journal.
-static bool compares(const char *name, void (*make)(hl::Log &, Word), size_t steps, const char *folder) {
+static bool compares(const char *name, void (*make)(hl::Log &, Word, std::atomic<size_t> &), size_t steps,
+                     const char *folder) {
     size_t made = 0;
     for (Word round = 0; made < steps; round++) {
         hl::Log log = hl::Log::with_journal(sizes_of(round)).value();
-        make(log, round);
+        std::atomic<size_t> words{0};
+        make(log, round, words);
         std::vector<hl::Entry> journal = log.take_journal();
         if (!replays(log.sizes(), journal, log.snapshot())) return false;
+        auto is_of_a_word = [](const hl::Entry &entry) {
+            return entry.step.call == hl::Call::Store || entry.step.call == hl::Call::Load;
+        };
+        if (std::count_if(journal.begin(), journal.end(), is_of_a_word) != static_cast<std::ptrdiff_t>(words)) {
+            std::printf("the journal lacks stores or loads\n");
+            return false;
+        }
         if (folder) write_script(std::string(folder) + "/" + name + std::to_string(round), log.sizes(), journal);
         made += journal.size();
     }

@@ -4,7 +4,7 @@
 mod common;
 
 use common::{replay, sizes, write_script, Random};
-use hl::{Clean, Entry, Fault, Flush, Log, Pass, Sizes};
+use hl::{Clean, Entry, Fault, Flush, Log, Pass, Sizes, Step};
 use std::sync::atomic::{AtomicBool, Ordering};
 use std::thread;
 
@@ -90,32 +90,48 @@ fn serve<'a>(log: &'a Log, hands: &mut Hands<'a>, random: &mut Random) {
     };
 }
 
+/// The addresses of a rider's last records, and how many words it stored and loaded, or was refused.
+#[derive(Default)]
+struct Own {
+    addresses: Vec<u64>,
+    words: usize,
+}
+
 /// A random step of a pass; its words go to addresses of its own records, and above its tail.
-fn ride(pass: &mut Pass<'_>, own: &mut Vec<u64>, random: &mut Random, sizes: Sizes) {
-    let address = if own.is_empty() || random.below(8) == 0 {
+fn ride(pass: &mut Pass<'_>, own: &mut Own, random: &mut Random, sizes: Sizes) {
+    let Own { addresses, words } = own;
+    let address = if addresses.is_empty() || random.below(8) == 0 {
         pass.view().tail + random.below(3)
     } else {
-        random.one_of(own)
+        random.one_of(addresses)
     };
     match random.below(10) {
         0..=2 => drop(pass.refresh()),
         9 => drop(pass.look()),
         3 => {
-            let words = random.below(sizes.page_size() + 2);
-            if let Ok(first) = pass.allocate(words) {
-                own.extend(first..first + words);
-                own.drain(..own.len().saturating_sub(200));
+            let length = random.below(sizes.page_size() + 2);
+            if let Ok(first) = pass.allocate(length) {
+                addresses.extend(first..first + length);
+                addresses.drain(..addresses.len().saturating_sub(200));
             }
         }
-        4 | 5 => drop(pass.store(address, random.next())),
-        _ => drop(pass.load(address)),
+        4 | 5 => {
+            *words += 1;
+            let _ = pass.store(address, random.next());
+        }
+        _ => {
+            *words += 1;
+            let _ = pass.load(address);
+        }
     }
 }
 
-/// Whatever is in hands or protected ends, and the journal is stepped through.
-fn compare(name: &str, log: &Log) -> usize {
+/// The journal is stepped through, and has all of so many stores and loads.
+fn compare(name: &str, log: &Log, words: usize) -> usize {
     let journal: Vec<Entry> = log.take_journal();
     replay(log.sizes(), &journal, log.snapshot());
+    let is_of_a_word = |entry: &&Entry| matches!(entry.step, Step::Store { .. } | Step::Load { .. });
+    assert_eq!(journal.iter().filter(is_of_a_word).count(), words);
     write_script(name, log.sizes(), &journal);
     journal.len()
 }
@@ -181,15 +197,15 @@ fn one_thread_with_many_slots() {
     let (mut made, mut round) = (0, 0);
     while made < steps() {
         let log = Log::with_journal(sizes(round)).unwrap();
-        let mut passes: Vec<(Pass<'_>, Vec<u64>)> = Vec::new();
-        let mut hands = Hands::default();
+        let mut passes: Vec<(Pass<'_>, Own)> = Vec::new();
+        let (mut hands, mut words) = (Hands::default(), 0);
         for _ in 0..ROUND {
             let slot = random.below(log.sizes().slots() + 1);
             match random.below(40) {
-                0..=2 => passes.extend(log.acquire(slot).map(|pass| (pass, Vec::new()))),
+                0..=2 => passes.extend(log.acquire(slot).map(|pass| (pass, Own::default()))),
                 3 if !passes.is_empty() => {
                     let place = random.below(passes.len() as u64) as usize;
-                    drop(passes.swap_remove(place));
+                    words += passes.swap_remove(place).1.words;
                 }
                 4..=20 => serve(&log, &mut hands, &mut random),
                 _ => {
@@ -200,8 +216,9 @@ fn one_thread_with_many_slots() {
                 }
             }
         }
-        drop((passes, hands));
-        made += compare(&format!("rust_one_{round}"), &log);
+        words += passes.drain(..).map(|(_, own)| own.words).sum::<usize>();
+        drop(hands);
+        made += compare(&format!("rust_one_{round}"), &log, words);
         round += 1;
     }
     println!("{made} steps in {round} rounds");
@@ -213,19 +230,20 @@ fn four_threads_beside_a_flusher() {
     while made < steps() {
         let log = Log::with_journal(sizes(round)).unwrap();
         let riding = AtomicBool::new(true);
-        thread::scope(|scope| {
+        let words = thread::scope(|scope| {
             let riders: Vec<_> = (0..4)
                 .map(|slot| {
                     let log = &log;
                     scope.spawn(move || {
                         let mut random = Random::new(round * 4 + slot + 1);
-                        let mut own = Vec::new();
+                        let mut own = Own::default();
                         for _ in 0..20 {
                             let mut pass = log.acquire(slot).unwrap();
                             for _ in 0..ROUND / 160 {
                                 ride(&mut pass, &mut own, &mut random, log.sizes());
                             }
                         }
+                        own.words
                     })
                 })
                 .collect();
@@ -236,12 +254,11 @@ fn four_threads_beside_a_flusher() {
                     serve(&log, &mut hands, &mut random);
                 }
             });
-            for rider in riders {
-                rider.join().unwrap();
-            }
+            let words = riders.into_iter().map(|rider| rider.join().unwrap()).sum();
             riding.store(false, Ordering::Release);
+            words
         });
-        made += compare(&format!("rust_four_{round}"), &log);
+        made += compare(&format!("rust_four_{round}"), &log, words);
         round += 1;
     }
     println!("{made} steps in {round} rounds");
