@@ -303,7 +303,8 @@ class Clean {
 
 // ---- A log ----
 
-/// A log that threads share by a reference. It moves, and frees itself; where it was moved from, only that may be done.
+/// A log that threads share by a reference. It moves, and frees itself. Where it was moved from its calls answer
+/// NoCore; sizes(), six(), snapshot() and take_journal() then have no answer, and may not be called.
 class Log {
   public:
     /// A log where nothing was done yet. OutOfMemory: memory was refused.
@@ -375,7 +376,10 @@ class Log {
 
     Log() = default;
 
-    hl_outcome make(const Step &step) { return shared_->make(step); }
+    hl_outcome make(const Step &step) {
+        if (!shared_) return {HL_NO_CORE, 0, 0, 0, 0};
+        return shared_->make(step);
+    }
     Result<Word> one(const Step &step) { return detail::one(detail::brief(make(step))); }
 
     std::unique_ptr<detail::Shared> shared_;

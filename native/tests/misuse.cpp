@@ -98,6 +98,10 @@ static void a_log() {
         wants("a store by a pass that was moved", pass.store(0, 1), hl::Fault::NoCore);
     }
     is("a pass releases its slot", log.acquire(0).has_value());
+    hl::Log other = std::move(log);
+    wants("a step of a log that was moved", log.take(), hl::Fault::NoCore);
+    wants("an acquire of a log that was moved", log.acquire(0), hl::Fault::NoCore);
+    is("the log that it was moved to", other.snapshot().epoch == 1);
 }
 
 static void thrown() {
