@@ -1,6 +1,6 @@
-# What ./hl install lays out is all that programs in C, C++ and Rust need: they are built against it and run with nothing
-# else in the environment, and nothing of the kit on the path. What has no compiler here is left out, and named. The
-# journals that the logs of C++ and Rust write are answered by the program with the text that they have.
+# What ./hl install lays out is all that programs in C, C++ and Rust need: they are built against it and run with
+# nothing else in the environment, and nothing of the kit on the path. What has no compiler here is left out, and named.
+# The journals that the logs of C++ and Rust write are answered by the program with the text that they have.
 
 top="$(cd "$scripts/.." && pwd)"
 installed="$room/installed"
@@ -21,8 +21,9 @@ alone() {
 
 # The same for cargo, which knows its toolchains by its home.
 with_cargo() {
-    env -i PATH="$(dirname "$(command -v cargo)"):/usr/bin:/bin" HOME="$HOME" ${RUSTUP_HOME:+"RUSTUP_HOME=$RUSTUP_HOME"} \
-        ${CARGO_HOME:+"CARGO_HOME=$CARGO_HOME"} HL_DIR="$installed" CARGO_TARGET_DIR="$room/target" "$@"
+    env -i PATH="$(dirname "$(command -v cargo)"):/usr/bin:/bin" HOME="$HOME" \
+        ${RUSTUP_HOME:+"RUSTUP_HOME=$RUSTUP_HOME"} ${CARGO_HOME:+"CARGO_HOME=$CARGO_HOME"} \
+        HL_DIR="$installed" CARGO_TARGET_DIR="$room/target" "$@"
 }
 
 # Installs into a folder, and moves that.
@@ -30,25 +31,19 @@ installs() {
     "$top/hl" install "$room/made" && mv "$room/made" "$installed"
 }
 
-# Builds a program with these words before and behind its source, and runs it on words:
-# builds_and_runs COMPILER SOURCE [OPTION..] -- [WORD..]
+# Builds a program of the repository, and runs it on words: builds_and_runs COMPILER STANDARD SOURCE [WORD..]
 builds_and_runs() {
-    local compiler="$1" source="$2" options=() flags
-    shift 2
-    while [ "$1" != -- ]; do
-        options+=("$1")
-        shift
-    done
-    shift
+    local compiler="$1" standard="$2" source="$top/$3" flags
+    shift 3
     flags="$(alone pkg-config --cflags --libs hl)" || return
     # The flags of pkg-config are apart by blanks.
-    alone "$compiler" "${options[@]}" -O1 -Wall -Wextra -pedantic -Werror "$source" $flags -pthread -o "$room/app" || return
-    alone timeout 100 "$room/app" "$@" > "$room/app.text"
+    alone "$compiler" -std="$standard" -O1 -Wall -Wextra -pedantic -Werror "$source" $flags -pthread -o "$room/app" &&
+        alone timeout 100 "$room/app" "$@" > "$room/app.text"
 }
 
 # The C program that answers a script's text writes that text.
 answers_in_c() {
-    builds_and_runs cc "$top/bench/c/first_action.c" -std=c11 -- && cmp "$room/app.text" "$top/examples/first_action.expected"
+    builds_and_runs cc c11 bench/c/first_action.c && cmp "$room/app.text" "$top/examples/first_action.expected"
 }
 
 # The program answers each journal of the folder with its text.
@@ -61,7 +56,7 @@ answers_journals() {
 
 log_in_cpp() {
     mkdir -p "$room/cpp_journals"
-    builds_and_runs c++ "$top/native/tests/log.cpp" -std=c++17 -- 100000 "$room/cpp_journals" &&
+    builds_and_runs c++ c++17 native/tests/log.cpp 100000 "$room/cpp_journals" &&
         answers_journals "$room/cpp_journals"
 }
 
@@ -91,8 +86,8 @@ crate_tests() {
 # A program of one's own that names the installed crate.
 by_the_crate() {
     mkdir -p "$room/app_in_rust/src"
-    printf '[package]\nname = "app"\nedition = "2021"\n[dependencies]\nhl = { path = "%s/share/hl/rust" }\n' "$installed" \
-        > "$room/app_in_rust/Cargo.toml"
+    printf '%s\n' '[package]' 'name = "app"' 'edition = "2021"' '[dependencies]' \
+        "hl = { path = \"$installed/share/hl/rust\" }" > "$room/app_in_rust/Cargo.toml"
     cp "$top/rust/hl/examples/append_log.rs" "$room/app_in_rust/src/main.rs"
     (cd "$room/app_in_rust" && with_cargo HL_DIR= cargo run --quiet --offline -- "$room/rust.log")
 }
@@ -102,8 +97,10 @@ one_version() {
     local version place
     version="$(cat "$top/VERSION")"
     [ "$("$top/hl" --version)" = "hl $version" ] || return
-    for place in "include/hl.h:#define HL_VERSION \"$version\"" "lib/pkgconfig/hl.pc:Version: $version" \
-        "lib/cmake/hl/hl-config-version.cmake:set(PACKAGE_VERSION \"$version\")" "share/hl/rust/Cargo.toml:version = \"$version\""; do
+    for place in "include/hl.h:#define HL_VERSION \"$version\"" \
+        "lib/pkgconfig/hl.pc:Version: $version" \
+        "lib/cmake/hl/hl-config-version.cmake:set(PACKAGE_VERSION \"$version\")" \
+        "share/hl/rust/Cargo.toml:version = \"$version\""; do
         grep -qxF "${place#*:}" "$installed/${place%%:*}" || { echo "${place%%:*} tells another version"; return 1; }
     done
     grep -q "^## $version\$" "$top/CHANGELOG.md"
@@ -114,16 +111,16 @@ if has_all "what ./hl install lays out" ld objcopy nm ar rt; then
     check "one version" one_version
     if has_all "programs in C" cc pkg-config; then
         check "a script in C" answers_in_c
-        check "misuse in C" builds_and_runs cc "$top/native/tests/misuse.c" -std=c11 --
-        check "an append-only log in C" builds_and_runs cc "$top/native/examples/append_log.c" -std=c11 -- "$room/c.log"
+        check "misuse in C" builds_and_runs cc c11 native/tests/misuse.c
+        check "an append-only log in C" builds_and_runs cc c11 native/examples/append_log.c "$room/c.log"
     fi
     if has_all "programs in C++" c++ pkg-config; then
-        check "misuse in C++" builds_and_runs c++ "$top/native/tests/misuse.cpp" -std=c++17 --
+        check "misuse in C++" builds_and_runs c++ c++17 native/tests/misuse.cpp
         check "a log in C++ beside the core" log_in_cpp
         if has_all "programs by CMake" cmake; then
             check "an append-only log in C++ by CMake" by_cmake
         else
-            check "an append-only log in C++" builds_and_runs c++ "$top/native/examples/append_log.cpp" -std=c++17 -- "$room/cpp.log"
+            check "an append-only log in C++" builds_and_runs c++ c++17 native/examples/append_log.cpp "$room/cpp.log"
         fi
     fi
     if has_all "programs in Rust" cargo cc; then

@@ -40,7 +40,8 @@ fn append(pass: &mut Pass<'_>, words: &[u64]) -> Outcome {
     Ok(())
 }
 
-/// One turn of the thread that flushes: it seals what lies below an address, writes sealed pages, and frees what is old.
+/// One turn of the thread that flushes: it seals what lies below an address, writes sealed pages, and frees what is
+/// old.
 fn serve(log: &Log, file: &mut File, seal_below: u64) -> Outcome {
     let now = log.snapshot();
     if seal_below > now.offsets.read_only {

@@ -6,8 +6,8 @@ use std::cell::UnsafeCell;
 
 /// The proved core: epochs, stored actions, offsets and page frames. It is freed where it is dropped.
 ///
-/// A core may go to another thread, and is used by one at a time: it is `Send` and not `Sync`, so threads share it under
-/// a `Mutex`, and then name their slots by number. Words and jobs are yours; [`Log`](crate::Log) keeps words, too.
+/// A core may go to another thread, and is used by one at a time: it is `Send` and not `Sync`, so threads share it
+/// under a `Mutex`, and then name their slots by number. Words and jobs are yours; [`Log`](crate::Log) keeps words, too.
 ///
 /// A refused call changes nothing. `docs/RULES.md` has the faults of each.
 ///

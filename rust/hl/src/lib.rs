@@ -6,8 +6,8 @@
 //! | [`Core`] | words, jobs and threads of your own: the proved core of `hl.h`, for one thread at a time |
 //! | [`Log`] | many threads: a core under a mutex, and words that threads store and load without it |
 //!
-//! The core's answers are proved; this crate, which hands them on, and the log's words are not. The log is compared with
-//! the core step by step (`tests/`).
+//! The core's answers are proved; this crate, which hands them on, and the log's words are not. The log is compared
+//! with the core step by step (`tests/`).
 //!
 //! The crate links `libhl.a`, which `./hl install FOLDER` of hl's repository makes. It is found in the folder that
 //! `HL_DIR` names, by pkg-config, or in the installed folder that this crate lies in.

@@ -1,4 +1,5 @@
-//! Not proved: a log for many threads, a core under a mutex beside words that need none. Tests compare it with the core.
+//! Not proved: a log for many threads, a core under a mutex beside words that need none. Tests compare it with the
+//! proved core step by step.
 
 use crate::{Action, Clean, Core, Done, Entry, Fault, Flush, Offsets, Pass, Reply, Sizes, Snapshot, Step};
 use std::sync::atomic::{AtomicU64, Ordering};

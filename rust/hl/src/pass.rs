@@ -8,8 +8,8 @@ use std::sync::MutexGuard;
 /// A protected slot of a [`Log`], which is released where it is dropped.
 ///
 /// Stores, loads and looks take no lock: they are judged by what the slot has seen, its view. An allocation brings its
-/// tail up to date, a look the other two offsets, and a refresh all; refresh often, since a slot that doesn't holds back
-/// each action that was stored since. Threads may store to one word, and a load finds one of the words stored there.
+/// tail up to date, a look the other two offsets, and a refresh all; refresh often, since a slot that doesn't holds
+/// back each action that was stored since. Threads may store to one word, and a load finds one of the words stored there.
 #[derive(Debug)]
 #[must_use = "a slot is released where its pass is dropped"]
 pub struct Pass<'a> {

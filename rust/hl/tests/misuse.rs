@@ -1,4 +1,5 @@
-//! The error of each misuse that types don't exclude. Those that they do are examples of `Core`, which must not compile.
+//! The error of each misuse that types don't exclude. Those that they do exclude are examples of `Core`, which must not
+//! compile.
 
 use hl::{Core, Fault, Log, Sizes};
 
