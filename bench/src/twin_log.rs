@@ -36,7 +36,7 @@ impl TwinLog {
     }
 
     pub fn acquire(&self, slot: u64) -> TwinPass<'_> {
-        let view = self.lock().acquire(slot).ok().expect("a free slot").view;
+        let view = self.lock().acquire(slot).expect("a free slot").view;
         TwinPass {
             log: self,
             slot,
@@ -54,22 +54,11 @@ impl TwinLog {
 
 impl TwinPass<'_> {
     pub fn refresh(&mut self) {
-        self.view = self
-            .log
-            .lock()
-            .refresh(self.slot)
-            .ok()
-            .expect("a protected slot")
-            .view;
+        self.view = self.log.lock().refresh(self.slot).expect("a protected slot").view;
     }
 
     pub fn allocate(&mut self, words: u64) -> u64 {
-        let address = self
-            .log
-            .lock()
-            .allocate(self.slot, words)
-            .ok()
-            .expect("a free frame");
+        let address = self.log.lock().allocate(self.slot, words).expect("a free frame");
         self.view.tail = address + words;
         address
     }

@@ -115,6 +115,7 @@ if has_all "what ./hl install lays out" ld objcopy nm ar rt; then
         check "an append-only log in C" builds_and_runs cc c11 native/examples/append_log.c "$room/c.log"
     fi
     if has_all "programs in C++" c++ pkg-config; then
+        check "a core in C++" builds_and_runs c++ c++17 native/tests/core.cpp
         check "misuse in C++" builds_and_runs c++ c++17 native/tests/misuse.cpp
         check "a log in C++ beside the core" log_in_cpp
         if has_all "programs by CMake" cmake; then
