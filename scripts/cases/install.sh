@@ -5,12 +5,12 @@
 top="$(cd "$scripts/.." && pwd)"
 installed="$room/installed"
 
-# Whether these commands are there; says what is left out where one isn't.
+# Whether these commands are there, on the path that stands in path if one does; says what is left out where one isn't.
 has_all() {
     local purpose="$1" command
     shift
     for command in "$@"; do
-        command -v "$command" > /dev/null || { echo "left out, for want of $command: $purpose" >&2; return 1; }
+        PATH="${path:-$PATH}" command -v "$command" > /dev/null || { echo "left out, for want of $command: $purpose" >&2; return 1; }
     done
 }
 
@@ -109,16 +109,16 @@ one_version() {
 if has_all "what ./hl install lays out" ld objcopy nm ar rt; then
     check "install" installs
     check "one version" one_version
-    if has_all "programs in C" cc pkg-config; then
+    if path=/usr/bin:/bin has_all "programs in C" cc pkg-config; then
         check "a script in C" answers_in_c
         check "misuse in C" builds_and_runs cc c11 native/tests/misuse.c
         check "an append-only log in C" builds_and_runs cc c11 native/examples/append_log.c "$room/c.log"
     fi
-    if has_all "programs in C++" c++ pkg-config; then
+    if path=/usr/bin:/bin has_all "programs in C++" c++ pkg-config; then
         check "a core in C++" builds_and_runs c++ c++17 native/tests/core.cpp
         check "misuse in C++" builds_and_runs c++ c++17 native/tests/misuse.cpp
         check "a log in C++ beside the core" log_in_cpp
-        if has_all "programs by CMake" cmake; then
+        if path=/usr/bin:/bin has_all "programs by CMake" cmake make; then
             check "an append-only log in C++ by CMake" by_cmake
         else
             check "an append-only log in C++" builds_and_runs c++ c++17 native/examples/append_log.cpp "$room/cpp.log"
