@@ -3,8 +3,9 @@
  * The calls are the steps and queries of docs/RULES.md. Each is proved: at whatever list of accepted steps the core
  * stood, the answer is that of the definitions (docs/DEFINITIONS.md), and a refused step changes nothing.
  *
- * A handle that is all zero has no core: `hl_core core = {0};`. Its fields are the library's: never read, write or copy
- * them, and keep the handle where it is while a call uses it. Each handle that was opened is freed once.
+ * A handle that is all zero has no core: `hl_core core = {0};`. Its fields are the library's: never read or write them,
+ * and keep the handle where it is while a call uses it. Each handle that was opened is freed once, so never use two
+ * copies of one.
  *
  * Threads: a handle may go from thread to thread, but one call at a time may use it, so keep it under a lock of your
  * own. No call waits, and none but hl_open takes memory (by the program's malloc). No call is made from a signal
@@ -17,6 +18,8 @@
 
 #include <stdbool.h>
 #include <stdint.h>
+
+#define HL_VERSION "0.1.0"
 
 #ifdef __cplusplus
 extern "C" {

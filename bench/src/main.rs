@@ -1,17 +1,19 @@
 //! A plain Rust twin of hl's core beside the proved one: `diff STEPS [SEED]` compares what they tell, `speed` how long
-//! they take. `./hl bench` builds and runs both.
+//! they take, `logs` how long the logs for threads take. `./hl bench` builds and runs all.
 
 mod diff;
 mod door;
 mod drain;
 mod epochs;
 mod log;
+mod logs;
 mod pages;
 mod random;
 mod rules;
 mod speed;
 mod told;
 mod twin;
+mod twin_log;
 
 use std::process::ExitCode;
 
@@ -27,8 +29,13 @@ fn main() -> ExitCode {
             speed::run();
             ExitCode::SUCCESS
         }
+        Some("logs") => {
+            let of_cpp = std::io::read_to_string(std::io::stdin()).unwrap_or_default();
+            logs::run(&of_cpp);
+            ExitCode::SUCCESS
+        }
         _ => {
-            eprintln!("usage: hl_bench diff STEPS [SEED] | hl_bench speed");
+            eprintln!("usage: hl_bench diff STEPS [SEED] | hl_bench speed | hl_bench logs < ROWS");
             ExitCode::from(2)
         }
     }

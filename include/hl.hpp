@@ -1,0 +1,351 @@
+// hl for C++17: the core of hl.h as a value that frees itself, slots that are released where they go out of scope, and
+// answers that are a value or the fault that refused the call. This header is not proved: it hands the proved calls of
+// hl.h on, whose comments say what each does and what refuses it; docs/RULES.md has the rules.
+//
+// No call throws, unless you ask for it: by value() of an answer, or by HL_EXCEPTIONS, which adds constructors that do.
+// An answer is a std::expected where the library has it (hl_answers.hpp).
+//
+// One thread at a time uses a core and its slots: keep them under one lock. hl_log.hpp has a log for many threads.
+#ifndef HL_HPP
+#define HL_HPP
+
+#include "hl_answers.hpp"
+
+#include <array>
+#include <memory>
+#include <new>
+#include <optional>
+#include <utility>
+
+namespace hl {
+
+// ---- What calls tell ----
+
+/// What a slot sees of the log: it may write from read_only, and read from head, up to the tail.
+struct View {
+    Word read_only;
+    Word head;
+    Word tail;
+};
+
+/// What a slot learns by entering an epoch.
+struct Entered {
+    Word epoch;
+    View view;
+};
+
+enum class Kind : Word { Job = HL_JOB, Settles = HL_SETTLES, Closes = HL_CLOSES };
+
+/// A taken action: its ticket, and its tag where it is a job.
+struct Action {
+    Word ticket;
+    std::optional<Word> tag;
+};
+
+/// What a done did: its job's tag, or the safe read-only offset, or the closed offset after it.
+struct Done {
+    Kind kind;
+    Word value;
+};
+
+/// A pending action: its tag, or the offset that it stores; count actions are pending in all.
+struct Pending {
+    Word ticket;
+    Kind kind;
+    Word value;
+    Word count;
+};
+
+enum class FrameState : Word {
+    Open = HL_OPEN,
+    Sealed = HL_SEALED,
+    Flushed = HL_FLUSHED,
+    Closed = HL_CLOSED,
+    Free = HL_FREE,
+};
+
+/// A frame, and its page where it isn't free.
+struct Frame {
+    FrameState state;
+    std::optional<Word> page;
+};
+
+/// The offsets in their order, each at most the next.
+struct Offsets {
+    Word closed;
+    Word head;
+    Word flushed;
+    Word safe_read_only;
+    Word read_only;
+    Word tail;
+};
+
+/// All quantities; frames counts those of each state.
+struct Snapshot {
+    Word epoch;
+    Word safe;
+    Word protected_slots;
+    Word pending;
+    Word taken;
+    Offsets offsets;
+    std::array<Word, 5> frames;
+};
+
+/// Sizes in their ranges: words a page (a power of two from 4 to 4,096), frames (2 to 256), slots (1 to 64), and places
+/// in the drain list (1 to 64).
+class Sizes {
+  public:
+    /// OutOfRange: one of them is.
+    static Result<Sizes> checked(Word page_size, Word frames, Word slots, Word drain_places) {
+        bool is_power = page_size != 0 && (page_size & (page_size - 1)) == 0;
+        if (!is_power || page_size < 4 || page_size > 4096 || frames < 2 || frames > 256 || slots < 1 || slots > 64 ||
+            drain_places < 1 || drain_places > 64)
+            return Refused(Refusal{Fault::OutOfRange});
+        return Sizes(Exact{}, page_size, frames, slots, drain_places);
+    }
+
+#if defined(HL_EXCEPTIONS)
+    /// As checked(), whose fault it throws.
+    Sizes(Word page_size, Word frames, Word slots, Word drain_places)
+        : Sizes(checked(page_size, frames, slots, drain_places).value()) {}
+#endif
+
+    constexpr Word page_size() const noexcept { return page_size_; }
+    constexpr Word frames() const noexcept { return frames_; }
+    constexpr Word slots() const noexcept { return slots_; }
+    constexpr Word drain_places() const noexcept { return drain_places_; }
+    /// The place of an address in a row of page_size() * frames() words.
+    constexpr Word cell_of(Word address) const noexcept {
+        // A page's size is a power of two, so one division is enough.
+        return (address >> page_bits_) % frames_ * page_size_ + (address & (page_size_ - 1));
+    }
+
+  private:
+    struct Exact {};
+    constexpr Sizes(Exact, Word page_size, Word frames, Word slots, Word drain_places) noexcept
+        : page_size_(page_size), frames_(frames), slots_(slots), drain_places_(drain_places) {
+        while (page_size >> page_bits_ > 1)
+            page_bits_++;
+    }
+
+    Word page_size_, frames_, slots_, drain_places_;
+    unsigned page_bits_ = 0;
+};
+
+namespace detail {
+
+/// Makes a call of this core, or of one that isn't open.
+template <class Call, class... Words> auto ask(Call call, hl_core *core, Words... words) noexcept {
+    hl_core none{};
+    return call(core ? core : &none, words...);
+}
+
+inline Refused refused(Word number, Word first = 0, Word second = 0) noexcept {
+    return Refused(Refusal{static_cast<Fault>(number), first, second});
+}
+
+inline Result<void> nothing(hl_brief told) noexcept {
+    if (told.number != 0) return refused(told.number, told.a);
+    return {};
+}
+
+inline Result<Word> one(hl_brief told) noexcept {
+    if (told.number != 0) return refused(told.number, told.a);
+    return told.a;
+}
+
+inline View view_of(const hl_outcome &told) noexcept { return {told.b, told.c, told.d}; }
+
+/// The answer that some function makes of an accepted call.
+template <class Make> auto made(const hl_outcome &told, Make make) -> Result<decltype(make(told))> {
+    if (told.number != 0) return refused(told.number, told.a, told.b);
+    return make(told);
+}
+
+inline Result<Entered> entered(const hl_outcome &told) {
+    return made(told, [](const hl_outcome &it) { return Entered{it.a, view_of(it)}; });
+}
+
+inline Result<Action> action(const hl_outcome &told) {
+    return made(told, [](const hl_outcome &it) {
+        return Action{it.a, it.b == 1 ? std::optional<Word>(it.c) : std::nullopt};
+    });
+}
+
+inline Result<Done> done(const hl_outcome &told) {
+    return made(told, [](const hl_outcome &it) { return Done{static_cast<Kind>(it.b), it.a}; });
+}
+
+inline Offsets offsets_of(const hl_offsets &six) noexcept {
+    return {six.closed, six.head, six.flushed, six.safe_read_only, six.read_only, six.tail};
+}
+
+} // namespace detail
+
+// ---- A slot ----
+
+/// A protected slot of a core, which is released where it goes out of scope. The core must outlive it, and may be moved
+/// meanwhile. After release() and keep(), and where it was moved from, it is of no core: its calls answer NoCore.
+class Slot {
+  public:
+    Slot(Slot &&other) noexcept
+        : core_(std::exchange(other.core_, nullptr)), number_(other.number_), entered_(other.entered_) {}
+    Slot &operator=(Slot &&other) noexcept {
+        std::swap(core_, other.core_);
+        std::swap(number_, other.number_);
+        std::swap(entered_, other.entered_);
+        return *this;
+    }
+    ~Slot() {
+        if (core_) hl_release(core_, number_);
+    }
+
+    Word number() const noexcept { return number_; }
+    /// What it learned by its acquire, or by its last refresh.
+    const Entered &entered() const noexcept { return entered_; }
+
+    Result<Entered> refresh() {
+        auto now = detail::entered(detail::ask(hl_refresh, core_, number_));
+        if (now) entered_ = *now;
+        return now;
+    }
+    Result<Word> allocate(Word words) { return detail::one(detail::ask(hl_allocate, core_, number_, words)); }
+    Result<View> look(Word read_only, Word head) {
+        return detail::made(detail::ask(hl_look, core_, number_, read_only, head), detail::view_of);
+    }
+    /// Whether it may write the word at an address. The word is yours to write.
+    Result<void> may_write(Word address) {
+        return detail::nothing(detail::ask(hl_write, core_, number_, address, Word{0}));
+    }
+    /// Whether it may read the word at an address.
+    Result<void> may_read(Word address) { return detail::nothing(detail::ask(hl_read, core_, number_, address)); }
+
+    /// Releases it now.
+    Result<void> release() {
+        auto told = detail::nothing(detail::ask(hl_release, core_, number_));
+        core_ = nullptr;
+        return told;
+    }
+    /// Leaves the slot protected, for calls of the core by its number.
+    Word keep() noexcept {
+        core_ = nullptr;
+        return number_;
+    }
+
+  private:
+    friend class Core;
+    Slot(hl_core *core, Word number, Entered entered) noexcept : core_(core), number_(number), entered_(entered) {}
+
+    hl_core *core_;
+    Word number_;
+    Entered entered_;
+};
+
+// ---- A core ----
+
+/// A core. It moves, and frees itself; where it was moved from, its calls answer NoCore.
+class Core {
+  public:
+    /// A core at the empty list. OutOfMemory: malloc refused.
+    static Result<Core> open(Sizes sizes) {
+        Core core;
+        core.at_.reset(new (std::nothrow) hl_core{});
+        if (!core.at_) return Refused(Refusal{Fault::OutOfMemory});
+        Word number = hl_open(core.at_.get(), sizes.page_size(), sizes.frames(), sizes.slots(), sizes.drain_places());
+        if (number != 0) return detail::refused(number);
+        return core;
+    }
+
+#if defined(HL_EXCEPTIONS)
+    /// As open(), whose fault it throws.
+    explicit Core(Sizes sizes) : Core(open(sizes).value()) {}
+#endif
+
+    /// Its handle, for calls of hl.h; null where it was moved from.
+    hl_core *handle() noexcept { return at_.get(); }
+
+    /// Protects a slot until what this answers goes out of scope.
+    Result<Slot> acquire(Word slot) {
+        auto entered = detail::entered(detail::ask(hl_acquire, at_.get(), slot));
+        if (!entered) return Refused(entered.error());
+        return Slot(at_.get(), slot, *entered);
+    }
+    Result<Entered> refresh(Word slot) { return detail::entered(detail::ask(hl_refresh, at_.get(), slot)); }
+    Result<void> release(Word slot) { return detail::nothing(detail::ask(hl_release, at_.get(), slot)); }
+    Result<Word> allocate(Word slot, Word words) {
+        return detail::one(detail::ask(hl_allocate, at_.get(), slot, words));
+    }
+    Result<View> look(Word slot, Word read_only, Word head) {
+        return detail::made(detail::ask(hl_look, at_.get(), slot, read_only, head), detail::view_of);
+    }
+    Result<void> may_write(Word slot, Word address) {
+        return detail::nothing(detail::ask(hl_write, at_.get(), slot, address, Word{0}));
+    }
+    Result<void> may_read(Word slot, Word address) {
+        return detail::nothing(detail::ask(hl_read, at_.get(), slot, address));
+    }
+
+    Result<Word> bump(Word tag) { return detail::one(detail::ask(hl_bump, at_.get(), tag)); }
+    Result<Word> settle() { return detail::one(detail::ask(hl_settle, at_.get())); }
+    Result<Word> close() { return detail::one(detail::ask(hl_close, at_.get())); }
+    Result<Word> bare() { return detail::one(detail::ask(hl_bare, at_.get())); }
+    Result<Action> take() { return detail::action(detail::ask(hl_take, at_.get())); }
+    Result<Done> done(Word ticket) { return detail::done(detail::ask(hl_done, at_.get(), ticket)); }
+
+    Result<Word> raise(Word address) { return detail::one(detail::ask(hl_raise, at_.get(), address)); }
+    Result<Word> shift(Word address) { return detail::one(detail::ask(hl_shift, at_.get(), address)); }
+    Result<Word> flush_take() { return detail::one(detail::ask(hl_flush_take, at_.get())); }
+    Result<Word> flush_done(Word page, bool ok) { return detail::one(detail::ask(hl_flush_done, at_.get(), page, ok)); }
+    Result<Word> clean_take() { return detail::one(detail::ask(hl_clean_take, at_.get())); }
+    Result<Word> clean_done(Word page) { return detail::one(detail::ask(hl_clean_done, at_.get(), page)); }
+
+    Result<Offsets> six() {
+        hl_offsets six = detail::ask(hl_six, at_.get());
+        if (six.number != 0) return detail::refused(six.number);
+        return detail::offsets_of(six);
+    }
+    Result<Snapshot> snapshot() {
+        hl_quantities all = detail::ask(hl_snapshot, at_.get());
+        if (all.number != 0) return detail::refused(all.number);
+        const Word *frames = all.frames;
+        return Snapshot{all.epoch,
+                        all.safe,
+                        all.protected_slots,
+                        all.pending,
+                        all.taken,
+                        detail::offsets_of(all.six),
+                        {frames[0], frames[1], frames[2], frames[3], frames[4]}};
+    }
+    Result<Pending> pending(Word place) {
+        return detail::made(detail::ask(hl_pending, at_.get(), place), [](const hl_outcome &it) {
+            return Pending{it.a, static_cast<Kind>(it.b), it.c, it.d};
+        });
+    }
+    Result<Frame> frame(Word frame) {
+        return detail::made(detail::ask(hl_frame, at_.get(), frame), [](const hl_outcome &it) {
+            return Frame{static_cast<FrameState>(it.a), it.b == 1 ? std::optional<Word>(it.c) : std::nullopt};
+        });
+    }
+    /// None where the slot isn't protected, or there is no such slot.
+    Result<std::optional<View>> view(Word slot) {
+        return detail::made(detail::ask(hl_view, at_.get(), slot), [](const hl_outcome &it) {
+            return it.a == 1 ? std::optional<View>(detail::view_of(it)) : std::nullopt;
+        });
+    }
+
+  private:
+    struct Free {
+        void operator()(hl_core *core) const noexcept {
+            hl_free(core);
+            delete core;
+        }
+    };
+
+    Core() = default;
+
+    std::unique_ptr<hl_core, Free> at_;
+};
+
+} // namespace hl
+
+#endif

@@ -1,0 +1,192 @@
+// What calls of hl.hpp are answered: a value, or the fault that refused the call. An answer is a std::expected where
+// the library has it, and else has the calls of it that are used most.
+#ifndef HL_ANSWERS_HPP
+#define HL_ANSWERS_HPP
+
+#include "hl.h"
+
+#include <cstdint>
+#include <exception>
+#include <optional>
+#include <utility>
+#include <variant>
+#if __has_include(<version>)
+#include <version>
+#endif
+#if defined(__cpp_lib_expected) && __cpp_lib_expected >= 202202L
+#include <expected>
+#endif
+
+namespace hl {
+
+/// A word of the log, and every number that a call takes or tells.
+using Word = std::uint64_t;
+
+/// Why a call can be refused, by the names of docs/RULES.md; OutOfRange and NoCore are codes of the library.
+enum class Fault : Word {
+    NoSlot = HL_NO_SLOT,
+    Occupied = HL_OCCUPIED,
+    NotProtected = HL_NOT_PROTECTED,
+    Stale = HL_STALE,
+    DrainFull = HL_DRAIN_FULL,
+    EpochsSpent = HL_EPOCHS_SPENT,
+    Empty = HL_EMPTY,
+    NotReady = HL_NOT_READY,
+    NotTaken = HL_NOT_TAKEN,
+    NotAbove = HL_NOT_ABOVE,
+    AboveTail = HL_ABOVE_TAIL,
+    NotPage = HL_NOT_PAGE,
+    AboveFlushed = HL_ABOVE_FLUSHED,
+    Size = HL_SIZE,
+    Busy = HL_BUSY,
+    SpaceSpent = HL_SPACE_SPENT,
+    Below = HL_BELOW,
+    Beyond = HL_BEYOND,
+    Evicted = HL_EVICTED,
+    NoneSealed = HL_NONE_SEALED,
+    NotInFlight = HL_NOT_IN_FLIGHT,
+    NoneClosed = HL_NONE_CLOSED,
+    NotCleaning = HL_NOT_CLEANING,
+    OutOfMemory = HL_OUT_OF_MEMORY,
+    WindowFull = HL_WINDOW_FULL,
+    OutOfRange = HL_OUT_OF_RANGE,
+    NoCore = HL_NO_CORE,
+};
+
+/// A fault's name, as docs/RULES.md has it.
+constexpr const char *name(Fault fault) noexcept {
+    switch (fault) {
+    case Fault::NoSlot: return "NoSlot";
+    case Fault::Occupied: return "Occupied";
+    case Fault::NotProtected: return "NotProtected";
+    case Fault::Stale: return "Stale";
+    case Fault::DrainFull: return "DrainFull";
+    case Fault::EpochsSpent: return "EpochsSpent";
+    case Fault::Empty: return "Empty";
+    case Fault::NotReady: return "NotReady";
+    case Fault::NotTaken: return "NotTaken";
+    case Fault::NotAbove: return "NotAbove";
+    case Fault::AboveTail: return "AboveTail";
+    case Fault::NotPage: return "NotPage";
+    case Fault::AboveFlushed: return "AboveFlushed";
+    case Fault::Size: return "Size";
+    case Fault::Busy: return "Busy";
+    case Fault::SpaceSpent: return "SpaceSpent";
+    case Fault::Below: return "Below";
+    case Fault::Beyond: return "Beyond";
+    case Fault::Evicted: return "Evicted";
+    case Fault::NoneSealed: return "NoneSealed";
+    case Fault::NotInFlight: return "NotInFlight";
+    case Fault::NoneClosed: return "NoneClosed";
+    case Fault::NotCleaning: return "NotCleaning";
+    case Fault::OutOfMemory: return "OutOfMemory";
+    case Fault::WindowFull: return "WindowFull";
+    case Fault::OutOfRange: return "OutOfRange";
+    case Fault::NoCore: return "NoCore";
+    }
+    return "unknown";
+}
+
+/// A refusal: the call changed nothing.
+struct Refusal {
+    Fault fault;
+    /// What the fault carries: of NotReady the front's ticket and the safe epoch, of Busy the page, of Below, Beyond
+    /// and Evicted the view's read-only offset, tail and head; else 0.
+    Word first = 0;
+    Word second = 0;
+
+    constexpr const char *name() const noexcept { return hl::name(fault); }
+    constexpr bool operator==(Fault other) const noexcept { return fault == other; }
+    constexpr bool operator!=(Fault other) const noexcept { return fault != other; }
+};
+
+// ---- Answers ----
+
+#if defined(__cpp_lib_expected) && __cpp_lib_expected >= 202202L
+
+template <class T> using Result = std::expected<T, Refusal>;
+using Refused = std::unexpected<Refusal>;
+
+#else
+
+/// What value() of a refused answer throws.
+class BadAccess : public std::exception {
+  public:
+    explicit BadAccess(Refusal refusal) noexcept : refusal_(refusal) {}
+    const char *what() const noexcept override { return refusal_.name(); }
+    const Refusal &error() const noexcept { return refusal_; }
+
+  private:
+    Refusal refusal_;
+};
+
+/// Makes a refused answer.
+class Refused {
+  public:
+    constexpr explicit Refused(Refusal refusal) noexcept : refusal_(refusal) {}
+    constexpr const Refusal &error() const noexcept { return refusal_; }
+
+  private:
+    Refusal refusal_;
+};
+
+/// A value, or a refusal, with the calls of std::expected that are used most. value() throws BadAccess, or ends the
+/// program where exceptions are off; `*` and `->` want an answer that has a value.
+template <class T> class [[nodiscard]] Result {
+  public:
+    Result(T value) : held_(std::in_place_index<0>, std::move(value)) {}
+    Result(Refused refused) : held_(std::in_place_index<1>, refused.error()) {}
+
+    bool has_value() const noexcept { return held_.index() == 0; }
+    explicit operator bool() const noexcept { return has_value(); }
+    T &operator*() &noexcept { return *std::get_if<0>(&held_); }
+    const T &operator*() const &noexcept { return *std::get_if<0>(&held_); }
+    T &&operator*() &&noexcept { return std::move(*std::get_if<0>(&held_)); }
+    T *operator->() noexcept { return std::get_if<0>(&held_); }
+    const T *operator->() const noexcept { return std::get_if<0>(&held_); }
+    const Refusal &error() const noexcept { return *std::get_if<1>(&held_); }
+    T &value() & { return check(), **this; }
+    const T &value() const & { return check(), **this; }
+    T &&value() && { return check(), *std::move(*this); }
+    T value_or(T other) const & { return has_value() ? **this : std::move(other); }
+
+  private:
+    void check() const {
+        if (has_value()) return;
+#if defined(__cpp_exceptions)
+        throw BadAccess(error());
+#else
+        std::terminate();
+#endif
+    }
+
+    std::variant<T, Refusal> held_;
+};
+
+/// An answer without a value.
+template <> class [[nodiscard]] Result<void> {
+  public:
+    Result() = default;
+    Result(Refused refused) : refusal_(refused.error()) {}
+
+    bool has_value() const noexcept { return !refusal_; }
+    explicit operator bool() const noexcept { return has_value(); }
+    const Refusal &error() const noexcept { return *refusal_; }
+    void value() const {
+        if (has_value()) return;
+#if defined(__cpp_exceptions)
+        throw BadAccess(error());
+#else
+        std::terminate();
+#endif
+    }
+
+  private:
+    std::optional<Refusal> refusal_;
+};
+
+#endif
+
+} // namespace hl
+
+#endif

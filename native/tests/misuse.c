@@ -1,0 +1,84 @@
+/* The error of each misuse by hl.h. */
+#include "hl.h"
+
+#include <stdio.h>
+
+static int wrong;
+
+static void wants(const char *name, uint64_t told, uint64_t wanted) {
+    if (told != wanted) {
+        printf("%s: %llu and not %llu\n", name, (unsigned long long)told, (unsigned long long)wanted);
+        wrong++;
+    }
+}
+
+static void no_core(void) {
+    hl_core core = {0};
+    wants("a step of no core", hl_take(&core).number, HL_NO_CORE);
+    wants("an acquire of no core", hl_acquire(&core, 0).number, HL_NO_CORE);
+    wants("an allocation of no core", hl_allocate(&core, 0, 1).number, HL_NO_CORE);
+    wants("offsets of no core", hl_six(&core).number, HL_NO_CORE);
+    wants("quantities of no core", hl_snapshot(&core).number, HL_NO_CORE);
+    wants("a frame of no core", hl_frame(&core, 0).number, HL_NO_CORE);
+    wants("a free of no core", hl_free(&core), HL_NO_CORE);
+    wants("a first opening", hl_open(&core, 4, 2, 2, 1), 0);
+    wants("a second opening", hl_open(&core, 4, 2, 2, 1), HL_NO_CORE);
+    wants("a first free", hl_free(&core), 0);
+    wants("a second free", hl_free(&core), HL_NO_CORE);
+}
+
+static void sizes(void) {
+    static const uint64_t out_of_range[][4] = {{0, 2, 1, 1},
+                                               {2, 2, 1, 1},
+                                               {6, 2, 1, 1},
+                                               {8192, 2, 1, 1},
+                                               {4, 1, 1, 1},
+                                               {4, 257, 1, 1},
+                                               {4, 2, 0, 1},
+                                               {4, 2, 65, 1},
+                                               {4, 2, 1, 0},
+                                               {4, 2, 1, 65},
+                                               {UINT64_MAX, UINT64_MAX, 1, 1}};
+    hl_core core = {0};
+    for (unsigned i = 0; i < sizeof out_of_range / sizeof out_of_range[0]; i++) {
+        const uint64_t *row = out_of_range[i];
+        wants("sizes out of range", hl_open(&core, row[0], row[1], row[2], row[3]), HL_OUT_OF_RANGE);
+    }
+}
+
+static void out_of_place(void) {
+    hl_core core = {0};
+    wants("an opening", hl_open(&core, 4, 2, 2, 1), 0);
+    wants("a slot that isn't there", hl_acquire(&core, 2).number, HL_NO_SLOT);
+    wants("a slot that isn't protected", hl_refresh(&core, 0).number, HL_NOT_PROTECTED);
+    wants("a release without an acquire", hl_release(&core, 0).number, HL_NOT_PROTECTED);
+    wants("a slot", hl_acquire(&core, 0).number, 0);
+    wants("a slot twice", hl_acquire(&core, 0).number, HL_OCCUPIED);
+    wants("a record of no word", hl_allocate(&core, 0, 0).number, HL_SIZE);
+    wants("a record of more than a page", hl_allocate(&core, 0, 5).number, HL_SIZE);
+    wants("a write at the tail", hl_write(&core, 0, 0, 1).number, HL_BEYOND);
+    wants("a read at the tail", hl_read(&core, 0, 0).number, HL_BEYOND);
+    wants("a raise above the tail", hl_raise(&core, 1).number, HL_ABOVE_TAIL);
+    wants("a shift into a page", hl_shift(&core, 1).number, HL_NOT_PAGE);
+    wants("a shift above what is flushed", hl_shift(&core, 4).number, HL_ABOVE_FLUSHED);
+    wants("no action", hl_take(&core).number, HL_EMPTY);
+    wants("a done of no action", hl_done(&core, 1).number, HL_NOT_TAKEN);
+    wants("an action", hl_bump(&core, 1).number, 0);
+    wants("a take before its slots moved on", hl_take(&core).number, HL_NOT_READY);
+    wants("a second action in one place", hl_bump(&core, 1).number, HL_DRAIN_FULL);
+    wants("a page where none is sealed", hl_flush_take(&core).number, HL_NONE_SEALED);
+    wants("an end of no flush", hl_flush_done(&core, 0, true).number, HL_NOT_IN_FLIGHT);
+    wants("a page where none is closed", hl_clean_take(&core).number, HL_NONE_CLOSED);
+    wants("an end of no cleaning", hl_clean_done(&core, 0).number, HL_NOT_CLEANING);
+    wants("a frame that isn't there", hl_frame(&core, 2).number, HL_OUT_OF_RANGE);
+    wants("a place where nothing waits", hl_pending(&core, 1).number, HL_OUT_OF_RANGE);
+    wants("the end", hl_free(&core), 0);
+}
+
+int main(void) {
+    no_core();
+    sizes();
+    out_of_place();
+    printf("misuse in C: %d wrong\n", wrong);
+    return wrong != 0;
+}

@@ -1,0 +1,126 @@
+// The error of each misuse by hl.hpp and hl_log.hpp.
+#include "hl_log.hpp"
+
+#include <cstdio>
+
+static int wrong;
+
+/// An answer is to be this fault.
+template <class T> static void wants(const char *name, const hl::Result<T> &told, hl::Fault fault) {
+    if (!told.has_value() && told.error() == fault) return;
+    std::printf("%s: %s and not %s\n", name, told.has_value() ? "accepted" : told.error().name(), hl::name(fault));
+    wrong++;
+}
+
+static void is(const char *name, bool holds) {
+    if (!holds) std::printf("%s\n", name);
+    wrong += !holds;
+}
+
+static hl::Core core() { return hl::Core::open(hl::Sizes::checked(4, 2, 2, 1).value()).value(); }
+
+static void sizes() {
+    const hl::Word out_of_range[][4] = {{0, 2, 1, 1},
+                                        {2, 2, 1, 1},
+                                        {6, 2, 1, 1},
+                                        {8192, 2, 1, 1},
+                                        {4, 1, 1, 1},
+                                        {4, 257, 1, 1},
+                                        {4, 2, 0, 1},
+                                        {4, 2, 65, 1},
+                                        {4, 2, 1, 0},
+                                        {4, 2, 1, 65},
+                                        {~hl::Word{0}, ~hl::Word{0}, 1, 1}};
+    for (auto &row : out_of_range)
+        wants("sizes out of range", hl::Sizes::checked(row[0], row[1], row[2], row[3]), hl::Fault::OutOfRange);
+    is("the least sizes", hl::Sizes::checked(4, 2, 1, 1).has_value());
+    is("the greatest sizes", hl::Sizes::checked(4096, 256, 64, 64).has_value());
+}
+
+static void no_core() {
+    hl::Core first = core();
+    hl::Slot slot = first.acquire(0).value();
+    hl::Core second = std::move(first);
+    wants("a step of a core that was moved", first.take(), hl::Fault::NoCore);
+    wants("offsets of a core that was moved", first.six(), hl::Fault::NoCore);
+    is("a slot of a core that was moved", slot.refresh().has_value());
+    hl::Slot other = std::move(slot);
+    wants("a slot that was moved", slot.refresh(), hl::Fault::NoCore);
+    is("a release", other.release().has_value());
+    wants("a second release", other.release(), hl::Fault::NoCore);
+    is("nobody is protected", second.snapshot()->protected_slots == 0);
+}
+
+static void slots() {
+    hl::Core one = core();
+    {
+        hl::Slot slot = one.acquire(0).value();
+        wants("a slot twice", one.acquire(0), hl::Fault::Occupied);
+        wants("a slot that isn't there", one.acquire(2), hl::Fault::NoSlot);
+        wants("a slot that isn't protected", one.refresh(1), hl::Fault::NotProtected);
+        wants("a record of no word", slot.allocate(0), hl::Fault::Size);
+        wants("a record of more than a page", slot.allocate(5), hl::Fault::Size);
+        wants("a write at the tail", slot.may_write(0), hl::Fault::Beyond);
+        is("an action", one.bump(1).has_value());
+        wants("a take before its slots moved on", one.take(), hl::Fault::NotReady);
+        wants("a second action in one place", one.bump(1), hl::Fault::DrainFull);
+    }
+    is("a slot is released where it goes out of scope", one.acquire(0).has_value());
+    is("one that is kept isn't", one.acquire(1).value().keep() == 1 && one.snapshot()->protected_slots == 1);
+}
+
+static void out_of_place() {
+    hl::Core one = core();
+    wants("no action", one.take(), hl::Fault::Empty);
+    wants("a done of no action", one.done(1), hl::Fault::NotTaken);
+    wants("a raise to where it is", one.raise(0), hl::Fault::NotAbove);
+    wants("a raise above the tail", one.raise(1), hl::Fault::AboveTail);
+    wants("a shift into a page", one.shift(1), hl::Fault::NotPage);
+    wants("a shift above what is flushed", one.shift(4), hl::Fault::AboveFlushed);
+    wants("an end of no flush", one.flush_done(0, true), hl::Fault::NotInFlight);
+    wants("an end of no cleaning", one.clean_done(0), hl::Fault::NotCleaning);
+    wants("a frame that isn't there", one.frame(2), hl::Fault::OutOfRange);
+    wants("a place where nothing waits", one.pending(0), hl::Fault::OutOfRange);
+}
+
+static void a_log() {
+    hl::Log log = hl::Log::open(hl::Sizes::checked(4, 2, 1, 1).value()).value();
+    {
+        hl::Pass pass = log.acquire(0).value();
+        wants("a slot of a log twice", log.acquire(0), hl::Fault::Occupied);
+        wants("a slot that a log doesn't have", log.acquire(1), hl::Fault::NoSlot);
+        wants("a store at the tail", pass.store(0, 1), hl::Fault::Beyond);
+        wants("a load at the tail", pass.load(0), hl::Fault::Beyond);
+        wants("a page where none is sealed", log.flush_take(), hl::Fault::NoneSealed);
+        wants("a page where none is closed", log.clean_take(), hl::Fault::NoneClosed);
+        hl::Pass other = std::move(pass);
+        wants("a pass that was moved", pass.refresh(), hl::Fault::NoCore);
+        wants("a store by a pass that was moved", pass.store(0, 1), hl::Fault::NoCore);
+    }
+    is("a pass releases its slot", log.acquire(0).has_value());
+    hl::Log other = std::move(log);
+    wants("a step of a log that was moved", log.take(), hl::Fault::NoCore);
+    wants("an acquire of a log that was moved", log.acquire(0), hl::Fault::NoCore);
+    is("the log that it was moved to", other.snapshot().epoch == 1);
+}
+
+static void thrown() {
+    bool caught = false;
+    try {
+        (void)core().take().value();
+    } catch (const std::exception &) {
+        caught = true;
+    }
+    is("value() of a refused answer throws", caught);
+}
+
+int main() {
+    sizes();
+    no_core();
+    slots();
+    out_of_place();
+    a_log();
+    thrown();
+    std::printf("misuse in C++: %d wrong\n", wrong);
+    return wrong != 0;
+}

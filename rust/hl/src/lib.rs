@@ -1,0 +1,35 @@
+//! Epoch protection and the page frames of a hybrid log, after FASTER (Chandramouli, Prasaad, Kossmann, Levandoski,
+//! Hunter, Barnett, SIGMOD 2018).
+//!
+//! | Take | For |
+//! |---|---|
+//! | [`Core`] | words, jobs and threads of your own: the proved core of `hl.h`, for one thread at a time |
+//! | [`Log`] | many threads: a core under a mutex, and words that threads store and load without it |
+//!
+//! The core's answers are proved; this crate, which hands them on, and the log's words are not. The log is compared
+//! with the core step by step (`tests/`).
+//!
+//! The crate links `libhl.a`, which `./hl install FOLDER` of hl's repository makes. It is found in the folder that
+//! `HL_DIR` names, by pkg-config, or in the installed folder that this crate lies in.
+
+mod core;
+mod fault;
+mod journal;
+mod log;
+mod pages;
+mod pass;
+mod raw;
+mod slot;
+mod told;
+
+pub use crate::core::Core;
+pub use fault::Fault;
+pub use journal::{Entry, Reply, Step};
+pub use log::Log;
+pub use pages::{Clean, Flush};
+pub use pass::Pass;
+pub use slot::Slot;
+pub use told::{Action, Done, Entered, Frame, Kind, Offsets, Pending, Sizes, Snapshot, View};
+
+/// The version of hl.
+pub const VERSION: &str = env!("CARGO_PKG_VERSION");

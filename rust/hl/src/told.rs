@@ -1,0 +1,144 @@
+//! Sizes, and what calls tell.
+
+use crate::Fault;
+
+/// Sizes in their ranges.
+#[derive(Clone, Copy, Debug, PartialEq, Eq)]
+pub struct Sizes {
+    page_size: u64,
+    frames: u64,
+    slots: u64,
+    drain_places: u64,
+}
+
+impl Sizes {
+    /// Words a page, a power of two from 4 to 4,096; 2 to 256 frames; 1 to 64 slots; 1 to 64 places in the drain list.
+    ///
+    /// [`Fault::OutOfRange`] where one is out of its range.
+    pub fn checked(page_size: u64, frames: u64, slots: u64, drain_places: u64) -> Result<Sizes, Fault> {
+        let fit = page_size.is_power_of_two()
+            && (4..=4096).contains(&page_size)
+            && (2..=256).contains(&frames)
+            && (1..=64).contains(&slots)
+            && (1..=64).contains(&drain_places);
+        let sizes = Sizes {
+            page_size,
+            frames,
+            slots,
+            drain_places,
+        };
+        fit.then_some(sizes).ok_or(Fault::OutOfRange)
+    }
+
+    /// Words a page.
+    pub fn page_size(self) -> u64 {
+        self.page_size
+    }
+
+    /// Pages in memory.
+    pub fn frames(self) -> u64 {
+        self.frames
+    }
+
+    /// Slots for threads.
+    pub fn slots(self) -> u64 {
+        self.slots
+    }
+
+    /// Actions that wait or are taken at a time.
+    pub fn drain_places(self) -> u64 {
+        self.drain_places
+    }
+
+    /// The place of an address in a row of `page_size * frames` words.
+    pub fn cell_of(self, address: u64) -> usize {
+        // A page's size is a power of two, so one division is enough.
+        let frame = (address >> self.page_size.trailing_zeros()) % self.frames;
+        (frame * self.page_size + (address & (self.page_size - 1))) as usize
+    }
+}
+
+/// What a slot sees of the log: it may write from `read_only`, and read from `head`, up to `tail`.
+#[derive(Clone, Copy, Debug, Default, PartialEq, Eq)]
+pub struct View {
+    pub read_only: u64,
+    pub head: u64,
+    pub tail: u64,
+}
+
+/// What a slot learns by entering an epoch.
+#[derive(Clone, Copy, Debug, PartialEq, Eq)]
+pub struct Entered {
+    pub epoch: u64,
+    pub view: View,
+}
+
+/// A taken action: its ticket, and its tag where it is a job.
+#[derive(Clone, Copy, Debug, PartialEq, Eq)]
+pub struct Action {
+    pub ticket: u64,
+    pub tag: Option<u64>,
+}
+
+/// What a done did.
+#[derive(Clone, Copy, Debug, PartialEq, Eq)]
+pub enum Done {
+    /// It was a job of this tag.
+    Job(u64),
+    /// The safe read-only offset is this one now.
+    Settled(u64),
+    /// The closed offset is this one now.
+    Closed(u64),
+}
+
+/// What a pending action is.
+#[derive(Clone, Copy, Debug, PartialEq, Eq)]
+pub enum Kind {
+    /// A job of this tag.
+    Job(u64),
+    /// It will raise the safe read-only offset to this one.
+    Settle(u64),
+    /// It will raise the closed offset to this one.
+    Close(u64),
+}
+
+/// A pending action.
+#[derive(Clone, Copy, Debug, PartialEq, Eq)]
+pub struct Pending {
+    pub ticket: u64,
+    pub kind: Kind,
+}
+
+/// A frame's state, with its page.
+#[derive(Clone, Copy, Debug, PartialEq, Eq)]
+pub enum Frame {
+    Open(u64),
+    Sealed(u64),
+    Flushed(u64),
+    Closed(u64),
+    Free,
+}
+
+/// The offsets in their order, each at most the next.
+#[derive(Clone, Copy, Debug, Default, PartialEq, Eq)]
+pub struct Offsets {
+    pub closed: u64,
+    pub head: u64,
+    pub flushed: u64,
+    pub safe_read_only: u64,
+    pub read_only: u64,
+    pub tail: u64,
+}
+
+/// All quantities.
+#[derive(Clone, Copy, Debug, Default, PartialEq, Eq)]
+pub struct Snapshot {
+    pub epoch: u64,
+    pub safe: u64,
+    pub protected: u64,
+    pub pending: u64,
+    pub taken: u64,
+    pub offsets: Offsets,
+    /// How many frames are open, sealed, flushed, closed and free.
+    pub frames: [u64; 5],
+}

@@ -1,0 +1,131 @@
+# What ./hl install lays out is all that programs in C, C++ and Rust need: they are built against it and run with
+# nothing else in the environment, and nothing of the kit on the path. What has no compiler here is left out, and named.
+# The journals that the logs of C++ and Rust write are answered by the program with the text that they have.
+
+top="$(cd "$scripts/.." && pwd)"
+installed="$room/installed"
+
+# Whether these commands are there, on the path that stands in path if one does; says what is left out where one isn't.
+has_all() {
+    local purpose="$1" command
+    shift
+    for command in "$@"; do
+        PATH="${path:-$PATH}" command -v "$command" > /dev/null || { echo "left out, for want of $command: $purpose" >&2; return 1; }
+    done
+}
+
+# Runs a command with nothing but what a system's compiler needs.
+alone() {
+    env -i PATH=/usr/bin:/bin PKG_CONFIG_PATH="$installed/lib/pkgconfig" "$@"
+}
+
+# The same for cargo, which knows its toolchains by its home.
+with_cargo() {
+    env -i PATH="$(dirname "$(command -v cargo)"):/usr/bin:/bin" HOME="$HOME" \
+        ${RUSTUP_HOME:+"RUSTUP_HOME=$RUSTUP_HOME"} ${CARGO_HOME:+"CARGO_HOME=$CARGO_HOME"} \
+        HL_DIR="$installed" CARGO_TARGET_DIR="$room/target" "$@"
+}
+
+# Installs into a folder, and moves that.
+installs() {
+    "$top/hl" install "$room/made" && mv "$room/made" "$installed"
+}
+
+# Builds a program of the repository, and runs it on words: builds_and_runs COMPILER STANDARD SOURCE [WORD..]
+builds_and_runs() {
+    local compiler="$1" standard="$2" source="$top/$3" flags
+    shift 3
+    flags="$(alone pkg-config --cflags --libs hl)" || return
+    # The flags of pkg-config are apart by blanks.
+    alone "$compiler" -std="$standard" -O1 -Wall -Wextra -pedantic -Werror "$source" $flags -pthread -o "$room/app" &&
+        alone timeout 100 "$room/app" "$@" > "$room/app.text"
+}
+
+# The C program that answers a script's text writes that text.
+answers_in_c() {
+    builds_and_runs cc c11 bench/c/first_action.c && cmp "$room/app.text" "$top/examples/first_action.expected"
+}
+
+# The program answers each journal of the folder with its text.
+answers_journals() {
+    local script
+    for script in "$1"/*.script; do
+        answers "$script" "${script%.script}.expected" 0 run || { echo "of $script"; return 1; }
+    done
+}
+
+log_in_cpp() {
+    mkdir -p "$room/cpp_journals"
+    builds_and_runs c++ c++17 native/tests/log.cpp 100000 "$room/cpp_journals" &&
+        answers_journals "$room/cpp_journals"
+}
+
+by_cmake() {
+    mkdir -p "$room/cmake"
+    cat > "$room/cmake/CMakeLists.txt" << LISTS
+cmake_minimum_required(VERSION 3.13)
+project(app CXX)
+set(CMAKE_CXX_STANDARD 17)
+find_package(hl $(cat "$top/VERSION") REQUIRED)
+find_package(Threads REQUIRED)
+add_executable(app "$top/native/examples/append_log.cpp")
+target_link_libraries(app hl::hl Threads::Threads)
+LISTS
+    alone cmake -S "$room/cmake" -B "$room/cmake/build" -DCMAKE_PREFIX_PATH="$installed" &&
+        alone cmake --build "$room/cmake/build" && alone timeout 100 "$room/cmake/build/app" "$room/cmake.log"
+}
+
+crate_tests() {
+    mkdir -p "$room/rust_journals"
+    cp -r "$top/rust/hl" "$room/crate"
+    rm -rf "$room/crate/target"
+    (cd "$room/crate" && with_cargo HL_JOURNALS="$room/rust_journals" cargo test --quiet --offline) &&
+        answers_journals "$room/rust_journals"
+}
+
+# A program of one's own that names the installed crate.
+by_the_crate() {
+    mkdir -p "$room/app_in_rust/src"
+    printf '%s\n' '[package]' 'name = "app"' 'edition = "2021"' '[dependencies]' \
+        "hl = { path = \"$installed/share/hl/rust\" }" > "$room/app_in_rust/Cargo.toml"
+    cp "$top/rust/hl/examples/append_log.rs" "$room/app_in_rust/src/main.rs"
+    (cd "$room/app_in_rust" && with_cargo HL_DIR= cargo run --quiet --offline -- "$room/rust.log")
+}
+
+# All files tell the version.
+one_version() {
+    local version place
+    version="$(cat "$top/VERSION")"
+    [ "$("$top/hl" --version)" = "hl $version" ] || return
+    for place in "include/hl.h:#define HL_VERSION \"$version\"" \
+        "lib/pkgconfig/hl.pc:Version: $version" \
+        "lib/cmake/hl/hl-config-version.cmake:set(PACKAGE_VERSION \"$version\")" \
+        "share/hl/rust/Cargo.toml:version = \"$version\""; do
+        grep -qxF "${place#*:}" "$installed/${place%%:*}" || { echo "${place%%:*} tells another version"; return 1; }
+    done
+    grep -q "^## $version\$" "$top/CHANGELOG.md"
+}
+
+if has_all "what ./hl install lays out" ld objcopy nm ar rt; then
+    check "install" installs
+    check "one version" one_version
+    if path=/usr/bin:/bin has_all "programs in C" cc pkg-config; then
+        check "a script in C" answers_in_c
+        check "misuse in C" builds_and_runs cc c11 native/tests/misuse.c
+        check "an append-only log in C" builds_and_runs cc c11 native/examples/append_log.c "$room/c.log"
+    fi
+    if path=/usr/bin:/bin has_all "programs in C++" c++ pkg-config; then
+        check "a core in C++" builds_and_runs c++ c++17 native/tests/core.cpp
+        check "misuse in C++" builds_and_runs c++ c++17 native/tests/misuse.cpp
+        check "a log in C++ beside the core" log_in_cpp
+        if path=/usr/bin:/bin has_all "programs by CMake" cmake make; then
+            check "an append-only log in C++ by CMake" by_cmake
+        else
+            check "an append-only log in C++" builds_and_runs c++ c++17 native/examples/append_log.cpp "$room/cpp.log"
+        fi
+    fi
+    if has_all "programs in Rust" cargo cc; then
+        check "the tests of the Rust crate" crate_tests
+        check "an append-only log in Rust" by_the_crate
+    fi
+fi
