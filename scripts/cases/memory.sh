@@ -77,7 +77,8 @@ opened_size() {
 
 # A race of one rider and one round within ever more pages, by one page each time as long as its words are opened, and
 # then, since a thread's stack has 2,064, by so many that each stack is refused often: it ends with status 1 and the
-# fault's line, and at last with its own line.
+# fault's line, and at last with its own line. That isn't before the stacks of a crew's four threads have room, which wait
+# for one another: a crew without a thread would end well within less.
 race_within_ever_more_pages() {
     local held more status
     held="$(opened_size)"
@@ -92,7 +93,7 @@ race_within_ever_more_pages() {
             return 1
         fi
     done
-    [ "$more" -gt 700 ] || { echo "only $more pages were refused"; return 1; }
+    [ "$more" -gt "$((4 * 2064))" ] || { echo "it ended well within $more pages more"; return 1; }
     [ "$(cat "$room/text")" = "race 1 1 ok" ]
 }
 

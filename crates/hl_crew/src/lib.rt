@@ -1,8 +1,9 @@
 //! The crew: threads that bring the pages of a domain to a device, and free their frames.
 //!
 //! After the HybridLog of FASTER (Chandramouli, Prasaad, Kossmann, Levandoski, Hunter, Barnett, SIGMOD 2018), where a
-//! page that every thread sees as read-only is written to the log's device, and its frame is used again. [`run_crew`]
-//! runs four threads on a `Domain` that others may use at the same time:
+//! page that every thread sees as read-only is written to the log's device, and its frame is used again. [`serve`] and
+//! [`run_crew`] run four threads on a `Domain` that others may use at the same time, the one until a [`Stop`] is given,
+//! as a [`Duty`] says, the other for a number of turns:
 //!
 //! | Thread | What it does in a turn |
 //! |---|---|
@@ -22,25 +23,40 @@
 //! always says yes. A writer asks at most 1,000,000 times, and then acknowledges the page as failed: it may be taken
 //! again.
 //!
+//! # How it waits
+//!
+//! The writers wait for a page, and the flusher for an acknowledgement of each that it sent. Where the cleaner finds no
+//! closed page it sleeps until the flusher has made another turn. A flusher that serves sleeps after a turn that entered
+//! no step, or in which a write failed, until somebody calls [`Stop::ring`], and at most 20 milliseconds.
+//!
 //! # How it ends
 //!
-//! The flusher and the cleaner end after so many turns, or before where the journal is full or a channel fails; the
-//! flusher then stops the writers. What was taken and can't be answered then is forsaken: such a page stays in flight
-//! or in cleaning, such an action taken. Riders and page writers come back by value, also where a thread couldn't be
-//! made: each lies under a lock that its thread takes once.
+//! The flusher ends once its turns are over, or before where the journal is full and may not be cut, or a channel fails;
+//! it then stops the writers, and the cleaner ends once no page is closed. A crew that serves makes at most 1,000 turns
+//! after its stop, up to the first that got nowhere. At the end of each turn no page is in flight and no action taken of
+//! those that it took. What was taken and can't be answered is forsaken: such a page stays in flight or in cleaning, such
+//! an action taken. Riders and page writers come back by value, also where a thread couldn't be made: each lies under a
+//! lock that its thread takes once.
 //!
 //! # What is proved of it
 //!
 //! Of a crew as a whole: that riders and page writers come back is in its types, that no refusal is other than
-//! `OutOfMemory` a clause. Inside: a page told as written was copied, and its image written; the flusher
-//! answers an acknowledgement as it was told, and counts that answer; a turn that ended well left no page unanswered.
-//! That a thread gets on, what is done in a turn, and what [`CrewEnd`] counts in all, no clause says.
+//! `OutOfMemory` a clause. Inside, of each function that does a step: what it made under the domain's lock, in what order,
+//! and what it counted. A flusher's turn keeps the lag that it was told, by steps in their order up to the first that is
+//! refused, and ends where the journal is full; each action that it takes it runs and answers done, up to four, or until
+//! none is ready; it answers an acknowledgement as it was told, and counts that answer if it was accepted; what nobody
+//! acknowledged it counts as failed. Its turns end where they are over, or where one of them failed. A page told as
+//! written was let by the gate and copied, and its image written; a page told as clean was swept. That a thread gets on,
+//! what a channel delivers, and what [`CrewEnd`] counts in all, no clause says: what lies under a lock or comes from a
+//! channel is known by its type alone.
 //!
 //! | Module | What it has |
 //! |---|---|
-//! | `crew`, `threads`, `shared` | the call; its threads; what they share |
+//! | `crew`, `threads`, `shared`, `hands` | the calls; the threads; what they share; what each has of its own |
+//! | `duty`, `stop` | what a crew that serves is told; what ends it |
+//! | `orders`, `term` | what the flusher is told; for how long |
 //! | `flusher`, and in it `lag`, `actions`, `pages`, `acknowledgements` | the flusher's turn, a part each |
-//! | `writer`, `cleaner` | the other threads |
+//! | `writer`, and in it `write`; `cleaner` | the other threads |
 //! | `pouch` | the pages that wait for their acknowledgement |
 //! | `gate`, `messages`, `counts` | when a page may be written; what the channels carry; what is counted |
 #![tactic(auto)]

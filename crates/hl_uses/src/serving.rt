@@ -73,7 +73,15 @@ fn work<L: Realm + Send + Sync, R: Threads + Wait + Sync>(
         },
         || flush_all(rt, alloc, log, &stop, crew),
     );
-    let (Ok(mut riders), CrewEnd { riders: crew, failed, .. }) = (riders, end?) else {
+    let (
+        Ok(mut riders),
+        CrewEnd {
+            riders: crew,
+            failed,
+            ..
+        },
+    ) = (riders, end?)
+    else {
         return Err(Fault::OutOfMemory);
     };
     match riders.extend(crew) {
