@@ -7,6 +7,7 @@
 //! | You want | Take |
 //! |---|---|
 //! | to open a log, use it and close it | [`with_log`], with an [`Opening`] and a [`Part`] of your own |
+//! | the same with threads and a crew | [`with_threads`], with a [`Work`] of your own and a [`CrewPlan`] |
 //! | to place, store and load words in a thread | a [`Session`], which a [`Rider`] enters |
 //! | pages written and frames freed behind the threads | a [`Crew`], by a [`CrewPlan`], with two page writers |
 //! | to know why a call was refused, and what it was handed | [`Fault`], [`Refused`] |
@@ -24,6 +25,8 @@ mod opening;
 mod part;
 mod refused;
 mod session;
+mod sink;
+mod threads;
 
 pub use crew::{Crew, CrewPlan, CrewReport, CrewRiders};
 pub use hl_action::{AnyAnswer, Firing, Kept, NoJob, Promise, Ran, Ready, Task};
@@ -42,3 +45,4 @@ pub use opening::Opening;
 pub use part::Part;
 pub use refused::Refused;
 pub use session::Session;
+pub use threads::{Outs, Work, with_threads};

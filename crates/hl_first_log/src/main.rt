@@ -1,58 +1,66 @@
-//! A first log: places a record, reads it back, and prints where the log ended.
+//! A first log: four threads place a word each, and a crew flushes behind them.
 #![tactic(auto)]
 
-use hl::{Closed, Fault, Log, Opening, Params, Part, Realm, Rider, Session, with_log};
+use hl::{CrewPlan, Fault, Opening, Params, Realm, Session, Work, with_threads};
+use std::alloc::Global;
 use std::io;
 use std::process::ExitCode;
 use std::sync::Wait;
+use std::thread::Threads;
 
-/// Places one word.
-#[derive(Drop)]
-struct OneRecord {
-    word: u64,
-}
+/// Each thread places its number, and reads it back.
+struct OneWord;
 
-impl<R: Wait> Part<R> for OneRecord {
-    type Out = Option<u64>;
+impl<R: Wait> Work<R> for OneWord {
+    type Out = Result<u64, Fault>;
 
     fn run<L: Realm + Send + Sync>(
-        self,
-        rt: &R,
-        log: &Log<L>,
-        riders: Vec<Rider<L>>,
-    ) -> (Option<u64>, Vec<Rider<L>>) {
-        let mut riders = riders;
-        let mut found = None;
-        if let Some(rider) = riders.pop() {
-            if let Ok(mut session) = Session::enter(rt, log, rider) {
-                found = place(&mut session, self.word).ok();
-                match session.leave() {
-                    Ok(rider) => riders.push_reserved(rider),
-                    Err(refused) => riders.push_reserved(refused.back.abandon()),
-                }
-            }
-        }
-        (found, riders)
+        &self,
+        _rt: &R,
+        session: &mut Session<R, L>,
+        number: u64,
+    ) -> Result<u64, Fault> {
+        let address = session.allocate(1)?;
+        session.store(address, number)?;
+        session.load(address)
+    }
+
+    fn write_page(&self, _rt: &R, _page: u64, _image: &[u8]) -> bool {
+        true
     }
 }
 
-fn place<R: Wait, L: Realm>(session: &mut Session<R, L>, word: u64) -> Result<u64, Fault> {
-    let address = session.allocate(1)?;
-    session.store(address, word)?;
-    session.load(address)
+/// Opens a log of pages of 64 words, 64 frames, 4 slots and 16 places for actions; the answer is where it ended.
+fn place_words<R: Threads + Wait + Sync>(rt: &R, alloc: Global) -> Result<u64, Fault> {
+    let params = Params::checked(64, 64, 4, 16).ok_or(Fault::Size)?;
+    let opening = Opening {
+        params,
+        riders: 8,
+        journal: 10_000,
+        stamp: 1,
+    };
+    let plan = CrewPlan {
+        mutable: 2,
+        resident: 32,
+        turns: 10,
+        cut: true,
+    };
+    let closed = with_threads(rt, alloc, opening, plan, &OneWord)?;
+    for word in closed.out? {
+        word??;
+    }
+    Ok(closed.ending?.snapshot.six.tail)
 }
 
 fn main(rt: HostRuntime) -> io::Result<ExitCode> {
-    let Some(params) = Params::checked(64, 64, 4, 16) else {
-        return Ok(ExitCode::from(2));
-    };
-    let opening = Opening { params, riders: 2, journal: 10_000, stamp: 1 };
-    let Ok(Closed { out, ending }) = with_log(&rt, rt.alloc(), opening, OneRecord { word: 7 }) else {
-        return Ok(ExitCode::from(1));
-    };
-    if let (Some(word), Ok(ending)) = (out, ending) {
-        println!(rt; "read {word}")?;
-        println!(rt; "tail {}", ending.snapshot.six.tail)?;
+    match place_words(&rt, rt.alloc()) {
+        Ok(tail) => {
+            println!(rt; "tail {tail}")?;
+            Ok(ExitCode::from(0))
+        }
+        Err(fault) => {
+            println!(rt; "{fault}")?;
+            Ok(ExitCode::from(1))
+        }
     }
-    Ok(ExitCode::from(0))
 }

@@ -1,0 +1,188 @@
+//! A log that threads use beside a crew, opened and closed by one call.
+ghost use Rattle.std.specs.Prelude.{◌≡◌, true, false, Err, IfOk, IfErr};
+ghost use Rattle.hl_model.specs.declared.fault.Fault.TheVariants.{OutOfMemory, Size};
+ghost use Rattle.hl_words.specs.States.{IsSeedOf};
+ghost use Rattle.hl.specs.Openings.{can_open, IsInRange};
+ghost use Rattle.hl.specs.Closings.{IsClosed, Anything};
+
+use crate::crew::{Crew, CrewPlan, CrewReport, CrewRiders};
+use crate::log::Log;
+use crate::open::Closed;
+use crate::opening::Opening;
+use crate::refused::Refused;
+use crate::session::Session;
+use crate::sink::Sink;
+use hl_crew::OpenGate;
+use hl_model::Fault;
+use hl_words::{Realm, Rider, Seed};
+use std::alloc::{AllocError, Global};
+use std::marker::Brand;
+use std::sync::Wait;
+use std::thread;
+use std::thread::Threads;
+
+/// What the threads of a program do with a log. They share it.
+pub trait Work<R: Wait> {
+    /// What a thread hands out.
+    type Out: Send + Drop;
+
+    /// What the thread of this number does in its session; threads are counted from 0.
+    fn run<L: Realm + Send + Sync>(
+        &self,
+        rt: &R,
+        session: &mut Session<R, L>,
+        number: u64,
+    ) -> Self::Out;
+
+    /// Writes the image of a page to the program's device: whether it did. Two writers of the crew call it.
+    fn write_page(&self, rt: &R, page: u64, image: &[u8]) -> bool;
+}
+
+/// What each thread handed out, or why it got no session, or could not leave its own.
+pub type Outs<T> = Vec<Result<T, Fault>>;
+
+/// Opens a log, runs a thread for each rider but four, and a crew with these, and closes it. Each thread is in a session
+/// while it works.
+///
+/// Faults: `Size` where the opening is out of range, `OutOfMemory` where memory was refused before the threads ran. Once
+/// they ran, what they left tells `Size` where there are fewer than four riders or the log can't keep the plan's lag, and
+/// `OutOfMemory`; riders that are lost by that are missing at the end.
+pub fn with_threads<R: Threads + Wait + Sync, P: Work<R> + Sync>(
+    rt: &R,
+    alloc: Global,
+    opening: Opening,
+    plan: CrewPlan,
+    work: &P,
+) -> Result<Closed<Result<Outs<P::Out>, Fault>>, Fault>
+    ensures size { can_open opening ≡ false → result ≡ Err Size }
+    ensures memory { can_open opening ≡ true → IfErr result (λ fault. fault ≡ OutOfMemory) }
+    ensures closed { IfOk result (IsClosed opening Anything) }
+{
+    if !opening.is_in_range() {
+        return Err(Fault::Size);
+    }
+    let seed = Seed::make(alloc, opening.params, opening.riders as usize)?;
+    threads_over::<Brand, R, P>(rt, alloc, seed, opening, plan, work)
+}
+
+// The same over the words of a seed.
+fn threads_over<L: Realm + Send + Sync, R: Threads + Wait + Sync, P: Work<R> + Sync>(
+    rt: &R,
+    alloc: Global,
+    seed: Seed,
+    opening: Opening,
+    plan: CrewPlan,
+    work: &P,
+) -> Result<Closed<Result<Outs<P::Out>, Fault>>, Fault>
+    requires seed { IsSeedOf L.name L.parts L.table seed }
+    requires sizes { (seed.sizes ≡ opening.params) × (seed.riders ≡ opening.riders) }
+    requires named { (seed.sizes ≡ L.sizes) × (opening.stamp ≡ L.stamp) }
+    requires range { IsInRange opening }
+    ensures memory { IfErr result (λ fault. fault ≡ OutOfMemory) }
+    ensures closed { IfOk result (IsClosed opening Anything) }
+{
+    let (log, riders) = Log::<L>::open(alloc, seed, opening.journal, opening.stamp)?;
+    let (out, riders) = run_all(rt, alloc, &log, riders, plan, work);
+    let ending = match log.close(riders) {
+        Ok(ending) => Ok(ending),
+        Err((fault, _log, _riders)) => Err(fault),
+    };
+    Ok(Closed { out, ending })
+}
+
+// The threads and the crew: what they left, and the riders.
+fn run_all<L: Realm + Send + Sync, R: Threads + Wait + Sync, P: Work<R> + Sync>(
+    rt: &R,
+    alloc: Global,
+    log: &Log<L>,
+    mut riders: Vec<Rider<L>>,
+    plan: CrewPlan,
+    work: &P,
+) -> (Result<Outs<P::Out>, Fault>, Vec<Rider<L>>) {
+    let Some(crew) = CrewRiders::take_from(&mut riders) else {
+        return (Err(Fault::Size), riders);
+    };
+    let (worked, crew) = thread::join(
+        rt,
+        || work_all(rt, alloc, log, riders, work),
+        || flush_behind(rt, alloc, log, crew, plan, work),
+    );
+    let Ok(worked) = worked else {
+        return (Err(Fault::OutOfMemory), Vec::new(alloc));
+    };
+    match gather(alloc, worked, crew) {
+        Ok((outs, riders)) => (Ok(outs), riders),
+        Err(fault) => (Err(fault), Vec::new(alloc)),
+    }
+}
+
+// What each thread handed out, and all riders.
+fn gather<L: Realm, T: Drop>(
+    alloc: Global,
+    worked: Vec<(Result<T, Fault>, Rider<L>)>,
+    crew: Result<CrewRiders<L>, Fault>,
+) -> Result<(Outs<T>, Vec<Rider<L>>), Fault> {
+    let mut outs = Vec::new(alloc);
+    let mut riders = Vec::new(alloc);
+    for (out, rider) in worked {
+        outs.push(out).map_err(|_| Fault::OutOfMemory)?;
+        riders.push(rider).map_err(|_| Fault::OutOfMemory)?;
+    }
+    crew?.put_back(&mut riders)?;
+    Ok((outs, riders))
+}
+
+// Each rider's thread.
+fn work_all<L: Realm + Send + Sync, R: Threads + Wait + Sync, P: Work<R> + Sync>(
+    rt: &R,
+    alloc: Global,
+    log: &Log<L>,
+    riders: Vec<Rider<L>>,
+    work: &P,
+) -> Result<Vec<(Result<P::Out, Fault>, Rider<L>)>, AllocError> {
+    let jobs = riders.into_iter().enumerate().collect::<Vec<_>>(alloc)?;
+    thread::map_vec(
+        rt,
+        jobs,
+        &|(number, rider)| work_one(rt, log, rider, number as u64, work),
+    )
+}
+
+// A thread's time in its session.
+fn work_one<L: Realm + Send + Sync, R: Wait, P: Work<R>>(
+    rt: &R,
+    log: &Log<L>,
+    rider: Rider<L>,
+    number: u64,
+    work: &P,
+) -> (Result<P::Out, Fault>, Rider<L>) {
+    let mut session = match Session::enter(rt, log, rider) {
+        Ok(session) => session,
+        Err(Refused { fault, back }) => return (Err(fault), back),
+    };
+    let out = work.run(rt, &mut session, number);
+    match session.leave() {
+        Ok(rider) => (Ok(out), rider),
+        Err(Refused { fault, back }) => (Err(fault), back.abandon()),
+    }
+}
+
+// The crew works; its riders come back.
+fn flush_behind<L: Realm + Send + Sync, R: Threads + Wait + Sync, P: Work<R> + Sync>(
+    rt: &R,
+    alloc: Global,
+    log: &Log<L>,
+    riders: CrewRiders<L>,
+    plan: CrewPlan,
+    work: &P,
+) -> Result<CrewRiders<L>, Fault> {
+    let first = Sink::new(rt, work);
+    let second = Sink::new(rt, work);
+    let crew = Crew {
+        riders,
+        first,
+        second,
+    };
+    let end = crew.work(rt, alloc, log, &OpenGate, plan)?;
+    Ok(CrewReport::of(end).crew.riders)
+}

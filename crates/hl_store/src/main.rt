@@ -1,0 +1,19 @@
+//! A small key-value store over a log: put, read, and add to a counter, in four threads beside a crew.
+//!
+//! | Module | What it has |
+//! |---|---|
+//! | `store` | the index, and what is done to one key |
+//! | `count` | what the threads do, and what they leave |
+#![tactic(auto)]
+
+mod count;
+mod store;
+
+use std::io;
+
+fn main(rt: HostRuntime) -> io::Result<()> {
+    if let Err(fault) = count::run(&rt, rt.alloc(), &mut rt.stdout()) {
+        println!(rt; "{fault}")?;
+    }
+    Ok(())
+}
