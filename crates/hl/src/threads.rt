@@ -2,7 +2,8 @@
 ghost use Rattle.std.specs.Prelude.{◌≡◌, true, false, Err, IfOk, IfErr};
 ghost use Rattle.hl_model.specs.declared.fault.Fault.TheVariants.{OutOfMemory, Size};
 ghost use Rattle.hl_words.specs.States.{IsSeedOf};
-ghost use Rattle.hl.specs.Openings.{can_open, IsInRange};
+ghost use Rattle.hl.specs.Openings.{IsInRange};
+ghost use Rattle.hl.specs.Crews.{can_run};
 ghost use Rattle.hl.specs.Closings.{IsClosed, Anything};
 
 use crate::crew::{Crew, CrewPlan, CrewReport, CrewRiders};
@@ -44,9 +45,9 @@ pub type Outs<T> = Vec<Result<T, Fault>>;
 /// Opens a log, runs a thread for each rider but four, and a crew with these, and closes it. Each thread is in a session
 /// while it works.
 ///
-/// Faults: `Size` where the opening is out of range, `OutOfMemory` where memory was refused before the threads ran. Once
-/// they ran, what they left tells `Size` where there are fewer than four riders or the log can't keep the plan's lag, and
-/// `OutOfMemory`; riders that are lost by that are missing at the end.
+/// Faults: `Size` where the opening is out of range, has fewer than four riders, or fewer frames than the plan keeps
+/// resident; `OutOfMemory` where memory was refused before the threads ran. Where it is refused later, `out` tells it, and
+/// riders that are lost by that are missing at the end.
 pub fn with_threads<R: Threads + Wait + Sync, P: Work<R> + Sync>(
     rt: &R,
     alloc: Global,
@@ -54,15 +55,24 @@ pub fn with_threads<R: Threads + Wait + Sync, P: Work<R> + Sync>(
     plan: CrewPlan,
     work: &P,
 ) -> Result<Closed<Result<Outs<P::Out>, Fault>>, Fault>
-    ensures size { can_open opening ≡ false → result ≡ Err Size }
-    ensures memory { can_open opening ≡ true → IfErr result (λ fault. fault ≡ OutOfMemory) }
+    ensures size { can_run opening plan ≡ false → result ≡ Err Size }
+    ensures memory { can_run opening plan ≡ true → IfErr result (λ fault. fault ≡ OutOfMemory) }
     ensures closed { IfOk result (IsClosed opening Anything) }
 {
-    if !opening.is_in_range() {
+    if !has_room(&opening, plan) {
         return Err(Fault::Size);
     }
     let seed = Seed::make(alloc, opening.params, opening.riders as usize)?;
     threads_over::<Brand, R, P>(rt, alloc, seed, opening, plan, work)
+}
+
+// Whether the opening is in range, has riders for the crew, and frames for its lag.
+#[tactic(auto, unfolding(crate::specs::Crews::can_run))]
+fn has_room(opening: &Opening, plan: CrewPlan) -> bool
+    ensures value { result ≡ can_run opening.now plan }
+    ensures range { result ≡ true → IsInRange opening.now }
+{
+    opening.is_in_range() && 4 <= opening.riders && plan.fits(opening.params)
 }
 
 // The same over the words of a seed.
