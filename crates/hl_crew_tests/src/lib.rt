@@ -9,8 +9,6 @@ mod crew;
 #[cfg(test)]
 mod gates;
 #[cfg(test)]
-mod jobs;
-#[cfg(test)]
 mod pouch;
 #[cfg(test)]
 mod races;
