@@ -1,12 +1,12 @@
 -- A session, and how its slot was found.
-use Rattle.std.specs.Prelude.{◌≡◌, ℕ, ◌+◌, Ok, Err, Result, IfErr, ◌++◌, [], ◌∷◌}
+use Rattle.std.specs.Prelude.{◌≡◌, ℕ, ◌+◌, Ok, Err, Result, ◌++◌, [], ◌∷◌}
 use Rattle.hl_model.specs.declared.fault.Fault.{Fault}
-use Rattle.hl_model.specs.declared.fault.Fault.TheVariants.{Occupied}
 use Rattle.hl_model.specs.declared.step.Step.TheVariants.{Acquire}
 use Rattle.hl_model.specs.Views.{view_of}
 use Rattle.hl_words.specs.States.{RiderState}
-use Rattle.hl_domain.specs.Passes.{PassRecord, with_share, new_pass}
-use Rattle.hl_domain.specs.Calls.{Makes}
+use Rattle.hl_domain.specs.Passes.{PassRecord, with_share, with_rider, new_pass}
+use Rattle.hl_core.specs.Holding.{least_free}
+use Rattle.hl_domain.specs.Calls.{Makes, MakesAt, acquired_pass}
 use Rattle.hl_domain.specs.Stamps.{acquires_in}
 use Rattle.hl_domain.specs.Domains.{DomainState, MakesUnderLock}
 use Rattle.hl.specs.declared.refused.Refused.{Refused}
@@ -36,18 +36,12 @@ Asked F log rider t result = MakesUnderLock F log result (λ old. Makes old (Acq
     (λ A. new_pass t (old.stamp + acquires_in (A ++ Acquire t ∷ []))
     (view_of old.core.sizes t (A ++ Acquire t ∷ [])) (with_share 1 rider)))
 
--- a log was asked for slots in turn, from this one on: each before slot k was occupied, and slot k was answered so
-pub data AskedFrom (F : Type 0) (log : DomainState) (rider : RiderState)
-    : ℕ → ℕ → Result PassRecord Fault → Type 0 where
-  last : {t : ℕ} {result : Result PassRecord Fault} → Asked F log rider t result
-      → AskedFrom F log rider t t result
-  next : {t k : ℕ} {result : Result PassRecord Fault} → Asked F log rider t (Err Occupied)
-      → AskedFrom F log rider (t + 1) k result → AskedFrom F log rider t k result
+-- a log was asked for the least slot that isn't protected, and answered as an acquire of it does
+abbrev pub Entered : (F : Type 0) → DomainState → RiderState → Result PassRecord Fault → Type 0
+Entered F log rider result = MakesUnderLock F log result (λ old.
+    MakesAt old (λ A. Acquire (least_free old.core.sizes A))
+    (λ A. acquired_pass old (least_free old.core.sizes A) rider A))
 
--- a log was asked for slots in turn, from this one on, until one answered otherwise than that it is occupied, or the
--- log had no other
-pub record EnteredFrom (F : Type 0) (log : DomainState) (rider : RiderState) (t : ℕ)
-    (result : Result PassRecord Fault) : Type 0 where
-  pub slot : ℕ
-  pub asked : AskedFrom F log rider t slot result
-  pub is_last : IfErr result (λ fault. fault ≡ Occupied → slot + 1 ≡ log.sizes.slots)
+-- the same session, but for its rider
+abbrev pub KeepsAllButRider : SessionState → SessionState → Type 0
+KeepsAllButRider old new = new ≡ with_pass (with_rider new.pass.rider old.pass) old

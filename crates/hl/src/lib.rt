@@ -31,8 +31,10 @@ mod threads;
 pub use crew::{Crew, CrewPlan, CrewReport, CrewRiders};
 pub use hl_action::{AnyAnswer, Firing, Kept, NoJob, Promise, Ran, Ready, Task};
 pub use hl_counts::CountTable;
-pub use hl_crew::{CrewEnd, Gate, OpenGate, run_crew};
-pub use hl_domain::{Broom, Domain, Ending, Keeper, Load, PageJob, Pass};
+pub use hl_crew::{CrewEnd, Duty, Gate, OpenGate, Stop, run_crew, serve};
+pub use hl_domain::{
+    ArrayVec, Broom, Domain, Ending, FrameState, Holder, Keeper, Load, PageJob, Pass,
+};
 pub use hl_drain::{Action, Ask, Drain};
 pub use hl_epoch::{Epochs, ScanTable};
 pub use hl_image::{HexWriter, MemoryWriter, PageWriter};

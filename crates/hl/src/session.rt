@@ -1,5 +1,5 @@
 //! A thread's time in a slot of a log.
-ghost use Rattle.std.specs.Prelude.{◌≡◌, ◌+◌, ◌-◌, ◌/◌, ◌^◌, ◌<◌, ◌≤◌, ◌++◌, ℕ, Ok, Err, Some, None, length, IfOk, IfErr, OnOk, MatchResult};
+ghost use Rattle.std.specs.Prelude.{◌≡◌, ◌+◌, ◌-◌, ◌/◌, ◌^◌, ◌≤◌, ◌++◌, Some, None, length, IfOk, IfErr, OnOk, MatchResult};
 ghost use Rattle.hl_model.specs.declared.step.Step.TheVariants.{Refresh as REFRESH, Release as RELEASE, Allocate as ALLOCATE};
 ghost use Rattle.hl_model.specs.Offsets.{place_of, tail};
 ghost use Rattle.hl_model.specs.Replies.{unless_fault, unless_refused};
@@ -7,7 +7,9 @@ ghost use Rattle.hl_model.specs.Views.{view_of};
 ghost use Rattle.hl_domain.specs.Passes.{seen, rested, with_share, with_tail, touch_fault, store_fault, load_fault, with_look, with_store, with_load, last_read_only, last_head, LooksOn};
 ghost use Rattle.hl_domain.specs.Calls.{call_fault, refresh_fault, touched_list, MakesTouched, IsUpTo};
 ghost use Rattle.hl_domain.specs.Domains.{MakesUnderLock};
-ghost use Rattle.hl.specs.Sessions.{with_pass, fault_alone, pass_of, Asked, EnteredFrom};
+ghost use Rattle.hl.specs.Sessions.{with_pass, fault_alone, pass_of, Asked, Entered};
+
+mod rider;
 
 use crate::log::Log;
 use crate::refused::Refused;
@@ -47,20 +49,22 @@ impl<'a, R: Wait, L: Realm, F: Task, P: Promise, E: Epochs> Model for Session<'a
 }
 
 impl<'a, R: Wait, L: Realm, F: Task, P: Promise, E: Epochs + Drop> Session<'a, R, L, F, P, E> {
-    /// Protects the least slot that is free: slots are asked for in turn, from 0 on, by one locked call each.
+    /// Protects the least slot that is free; [`slot`](Session::slot) tells which it is.
     ///
-    /// Faults, with the rider handed back: `Occupied` where each slot was in use when it was asked for, `JournalFull`.
+    /// Faults, with the rider handed back: `JournalFull`, `NoSlot` where each slot is protected.
     pub fn enter(
         rt: &'a R,
         log: &'a Log<L, F, P, E>,
         rider: Rider<L>,
     ) -> Result<Session<'a, R, L, F, P, E>, Refused<Rider<L>>>
+        ensures met { Entered F log.now rider (pass_of result) }
         ensures log { IfOk result (λ session. session.log ≡ log.now) }
-        ensures slot { EnteredFrom F log.now rider 0 (pass_of result) }
         ensures back { IfErr result (λ refused. refused.back ≡ rider) }
     {
-        let slots = log.params().slots();
-        Session::enter_from(rt, log, rider, 0, slots)
+        match log.enter(rt, rider) {
+            Ok(pass) => Ok(Session { rt, log, pass }),
+            Err((fault, back)) => Err(Refused { fault, back }),
+        }
     }
 
     /// Protects this slot.
@@ -202,27 +206,10 @@ impl<'a, R: Wait, L: Realm, F: Task, P: Promise, E: Epochs + Drop> Session<'a, R
         self.pass.view()
     }
 
-    // Asks for this slot and then for those above it.
-    fn enter_from(
-        rt: &'a R,
-        log: &'a Log<L, F, P, E>,
-        rider: Rider<L>,
-        slot: u64,
-        slots: u64,
-    ) -> Result<Session<'a, R, L, F, P, E>, Refused<Rider<L>>>
-        requires { (slot < slots) × (slots ≡ log.now.sizes.slots) }
-        ensures log { IfOk result (λ session. session.log ≡ log.now) }
-        ensures slot { EnteredFrom F log.now rider slot (pass_of result) }
-        ensures back { IfErr result (λ refused. refused.back ≡ rider) }
+    /// Its slot.
+    pub fn slot(&self) -> u64
+        ensures { result ≡ self.now.pass.slot }
     {
-        match log.acquire(rt, slot, rider) {
-            Ok(pass) => Ok(Session { rt, log, pass }),
-            Err((fault, back)) => {
-                if fault == Fault::Occupied && slot + 1 < slots {
-                    return Session::enter_from(rt, log, back, slot + 1, slots);
-                }
-                Err(Refused { fault, back })
-            }
-        }
+        self.pass.slot()
     }
 }

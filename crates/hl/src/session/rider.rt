@@ -1,0 +1,89 @@
+//! What a thread does in its slot as a rider: bumps, takes, dones and cuts. The session's own touches stay, and enter at
+//! its next locked call.
+ghost use Rattle.std.specs.Prelude.{◌≡◌, ◌+◌, List, [], ◌∷◌, ◌++◌, length, OnErr, IfOk, IfErr};
+ghost use Rattle.hl_model.specs.declared.step.Step.{Step as STEP};
+ghost use Rattle.hl_model.specs.declared.step.Step.TheVariants.{Take as TAKE, Done as DONE};
+ghost use Rattle.hl_model.specs.Actions.{bumps};
+ghost use Rattle.hl_model.specs.Replies.{answer_of};
+ghost use Rattle.hl_core.specs.Steps.{asking, stored, CameOut};
+ghost use Rattle.hl_domain.specs.Passes.{Shares};
+ghost use Rattle.hl_domain.specs.Keepers.{job_tag, KeeperStands};
+ghost use Rattle.hl_domain.specs.Calls.{Makes, Ends, Stays};
+ghost use Rattle.hl_domain.specs.Taking.{taken_from, ready_told};
+ghost use Rattle.hl_domain.specs.Domains.{LeavesUnderLock, MakesUnderLock};
+ghost use Rattle.hl.specs.Sessions.{fault_alone, KeepsAllButRider};
+
+use super::Session;
+use crate::refused::Refused;
+use hl_action::{Kept, Promise, Ran, Ready, Task};
+use hl_drain::Ask;
+use hl_epoch::Epochs;
+use hl_model::{Fault, Reply};
+use hl_words::Realm;
+use std::sync::Wait;
+
+impl<'a, R: Wait, L: Realm, F: Task, P: Promise, E: Epochs + Drop> Session<'a, R, L, F, P, E> {
+    /// Ends the current epoch, and stores what is asked for under it (a settle, a close, a job); the answer is the
+    /// ticket, the epoch that ended.
+    ///
+    /// Faults, with what was asked for handed back: `JournalFull`, `DrainFull`, `EpochsSpent`, `WindowFull`.
+    pub fn bump(&mut self, ask: Ask<Kept<F, P>>) -> Result<u64, Refused<Ask<Kept<F, P>>>>
+        ensures met { let step = asking job_tag ask
+            in LeavesUnderLock F self.old.log (λ old new.
+            Makes old step (λ A. bumps (A ++ step ∷ [])) new (fault_alone result) × Stays old new
+            × IfOk result (λ ticket. new.core.drain.pending
+            ≡ old.core.drain.pending ++ (ticket, stored old.core.offsets ask) ∷ [])
+            × OnErr result (new ≡ old)) }
+        ensures back { IfErr result (λ refused. refused.back ≡ ask) }
+        ensures kept { KeepsAllButRider self.old self.new }
+        ensures rider { Shares 1 result self.old.pass.rider self.new.pass.rider }
+    {
+        match self.log.bump(self.rt, self.pass.rider_mut(), ask) {
+            Ok(ticket) => Ok(ticket),
+            Err((fault, back)) => Err(Refused { fault, back }),
+        }
+    }
+
+    /// Takes the oldest pending action, once its ticket is safe; the answer is ready to be run.
+    ///
+    /// Faults: `JournalFull`, `Empty`, `NotReady`: where its own slot holds the action up, a refresh comes first.
+    pub fn take(&mut self) -> Result<Ready<F, P>, Fault>
+        ensures met { LeavesUnderLock F self.old.log (λ old new.
+            Makes old TAKE (taken_from old) new (ready_told result) × Stays old new
+            × IfOk result (λ ready. CameOut job_tag old.core new.core ready.firing.ticket ready.kept)
+            × OnErr result (new ≡ old)) }
+        ensures kept { KeepsAllButRider self.old self.new }
+        ensures rider { Shares 1 result self.old.pass.rider self.new.pass.rider }
+    {
+        self.log.take(self.rt, self.pass.rider_mut())
+    }
+
+    /// A taken action that was run is done.
+    ///
+    /// Faults, with it handed back: `Stranger` where it is of another log, `JournalFull`, `NotTaken`.
+    pub fn done(&mut self, ran: Ran) -> Result<Reply, Refused<Ran>>
+        ensures met { let step = DONE ran.ticket
+            in MakesUnderLock F self.old.log (fault_alone result) (λ old. Ends old ran.origin step
+            (λ A. answer_of old.core.sizes A (A ++ step ∷ []) step)) }
+        ensures back { IfErr result (λ refused. refused.back ≡ ran) }
+        ensures kept { KeepsAllButRider self.old self.new }
+        ensures rider { Shares 1 result self.old.pass.rider self.new.pass.rider }
+    {
+        match self.log.done(self.rt, self.pass.rider_mut(), ran) {
+            Ok(reply) => Ok(reply),
+            Err((fault, back)) => Err(Refused { fault, back }),
+        }
+    }
+
+    /// Forgets the steps since the last cut; the answer is their number. It is never refused, and gives room where a
+    /// call met `JournalFull`.
+    pub fn cut(&mut self) -> u64
+        ensures met { LeavesUnderLock F self.old.log (λ old new. (result ≡ length old.journal)
+            × (new.journal ≡ []) × (new.cut ≡ old.cut + length old.journal)
+            × (new.core ≡ old.core) × (new.limit ≡ old.limit)
+            × ((A : List STEP) → KeeperStands old A → KeeperStands new A)) }
+        ensures kept { self.new ≡ self.old }
+    {
+        self.log.cut(self.rt, self.pass.rider_mut())
+    }
+}
