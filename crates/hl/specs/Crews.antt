@@ -1,8 +1,8 @@
--- The riders of a crew, and the lags that it can keep.
-use Rattle.std.specs.Prelude.{nat_le, Bool, ◌&&◌, List, [], ◌∷◌}
+-- The riders of a crew, and the logs that it can serve.
+use Rattle.std.specs.Prelude.{nat_eq, nat_le, Bool, ◌&&◌, List, [], ◌∷◌}
 use Rattle.hl_model.specs.Sizes.{Sizes}
 use Rattle.hl_words.specs.States.{RiderState}
-use Rattle.hl.specs.declared.crew.CrewPlan.{CrewPlan}
+use Rattle.hl_crew.specs.declared.duty.Duty.{Duty}
 use Rattle.hl.specs.declared.crew.CrewRiders.{CrewRiders}
 use Rattle.hl.specs.declared.opening.Opening.{Opening}
 use Rattle.hl.specs.Openings.{can_open}
@@ -11,11 +11,10 @@ use Rattle.hl.specs.Openings.{can_open}
 abbrev pub riders_of : {L : Type 0} → CrewRiders L → List RiderState
 riders_of crew = crew.flusher ∷ crew.first_writer ∷ crew.second_writer ∷ crew.cleaner ∷ []
 
--- at least one page stays mutable, at least as many stay resident, and no more of these than there are frames
-unfoldable pub can_lag : Sizes → CrewPlan → Bool
-can_lag sizes plan =
-    nat_le 1 plan.mutable && (nat_le plan.mutable plan.resident && nat_le plan.resident sizes.frames)
+-- the duty is one for logs of this many frames
+unfoldable pub can_serve : Sizes → Duty → Bool
+can_serve sizes duty = nat_eq duty.frames sizes.frames
 
--- a log that can be opened with riders for a crew, whose lag it can keep
-unfoldable pub can_run : Opening → CrewPlan → Bool
-can_run o plan = can_open o && (nat_le 4 o.riders && can_lag o.params plan)
+-- a log that can be opened with riders for a crew of this duty
+unfoldable pub can_run : Opening → Duty → Bool
+can_run o duty = can_open o && (nat_le 4 o.riders && can_serve o.params duty)

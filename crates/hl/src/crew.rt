@@ -1,14 +1,13 @@
 //! A crew's riders, writers and counts by their names.
 ghost use Rattle.std.specs.Prelude.{◌≡◌, ◌+◌, ◌<◌, ◌++◌, [], ◌∷◌, true, false, Err, IfErr, IfNone, IfSome, MatchResult, length};
 ghost use Rattle.hl_model.specs.declared.fault.Fault.TheVariants.{OutOfMemory, Size};
-ghost use Rattle.hl_crew.specs.Lags.{IsLag};
 ghost use Rattle.hl.specs.Openings.{was_refused};
-ghost use Rattle.hl.specs.Crews.{can_lag, riders_of};
+ghost use Rattle.hl.specs.Crews.{can_serve, riders_of};
 
 use crate::log::Log;
 use crate::refused::Refused;
 use hl_action::{Promise, Task};
-use hl_crew::{CrewEnd, Gate, run_crew};
+use hl_crew::{CrewEnd, Duty, Gate, Stop, serve};
 use hl_epoch::Epochs;
 use hl_image::PageWriter;
 use hl_model::{Fault, Params};
@@ -112,20 +111,6 @@ pub struct Crew<L: Realm, W> {
     pub second: W,
 }
 
-/// What a crew is to do.
-#[derive(Clone, Copy, Debug, PartialEq, Eq)]
-pub struct CrewPlan {
-    /// About how many pages at the tail may be written, at least 1.
-    pub mutable: u64,
-    /// About how many pages may be read: as many or more, and fewer than there are frames. (Where it is as many as the
-    /// frames, which isn't refused, no page is ever closed, and a log that has used its frames stays `Busy`.)
-    pub resident: u64,
-    /// How many turns it makes.
-    pub turns: u64,
-    /// Whether it cuts the journal at the end of each turn.
-    pub cut: bool,
-}
-
 /// A crew that has worked.
 #[derive(Drop)]
 pub struct CrewReport<L: Realm, W> {
@@ -139,19 +124,19 @@ pub struct CrewReport<L: Realm, W> {
 }
 
 impl<L: Realm, W> Crew<L, W> {
-    /// Works on a log: a flusher, two writers and a cleaner, each in a thread of its own. [`CrewReport::of`] gives the
-    /// crew back out of the answer.
+    /// Serves a log until its stop is given: a flusher, two writers and a cleaner, each in a thread of its own.
+    /// [`CrewReport::of`] gives the crew back out of the answer.
     ///
-    /// Faults, with the crew handed back: `Size` where the plan keeps no page mutable, or fewer resident than mutable, or
-    /// more resident than there are frames; `OutOfMemory` where memory or a thread was refused. What was done until then
-    /// stays done.
-    pub fn work<R, E, F, P, G>(
+    /// Faults, with the crew handed back: `Size` where the duty was checked for another number of frames; `OutOfMemory`
+    /// where memory or a thread was refused. What was done until then stays done.
+    pub fn serve<R, E, F, P, G>(
         self,
         rt: &R,
         alloc: Global,
         log: &Log<L, F, P, E>,
         gate: &G,
-        plan: CrewPlan,
+        duty: Duty,
+        stop: &Stop,
     ) -> Result<CrewEnd<L, W>, Refused<Crew<L, W>>>
     where
         R: Threads + Wait + Sync,
@@ -161,17 +146,11 @@ impl<L: Realm, W> Crew<L, W> {
         L: Send + Sync,
         W: PageWriter + Send,
         G: Gate + Sync,
-        ensures size { can_lag log.now.sizes plan ≡ false → result ≡ Err (was_refused Size self) }
-        ensures memory { can_lag log.now.sizes plan ≡ true
+        ensures size { can_serve log.now.sizes duty ≡ false → result ≡ Err (was_refused Size self) }
+        ensures memory { can_serve log.now.sizes duty ≡ true
             → IfErr result (λ refused. refused.fault ≡ OutOfMemory) }
     {
-        let CrewPlan {
-            mutable,
-            resident,
-            turns,
-            cut,
-        } = plan;
-        if !plan.fits(log.params()) {
+        if !is_for(duty, log.params()) {
             return Err(Refused {
                 fault: Fault::Size,
                 back: self,
@@ -183,9 +162,7 @@ impl<L: Realm, W> Crew<L, W> {
             second,
         } = self;
         let row = riders.into();
-        match run_crew(
-            rt, alloc, log, row, first, second, gate, mutable, resident, turns, cut,
-        ) {
+        match serve(rt, alloc, log, row, first, second, gate, duty, stop) {
             Ok(end) => Ok(end),
             Err(handed_back) => {
                 let (fault, row, first, second) = handed_back;
@@ -201,15 +178,13 @@ impl<L: Realm, W> Crew<L, W> {
     }
 }
 
-impl CrewPlan {
-    /// Whether a crew can keep this lag on a log of these sizes.
-    #[tactic(auto, unfolding(crate::specs::Crews::can_lag))]
-    pub fn fits(self, params: Params) -> bool
-        ensures value { result ≡ can_lag params self }
-        ensures lag { result ≡ true → IsLag params.frames self.mutable self.resident }
-    {
-        1 <= self.mutable && self.mutable <= self.resident && self.resident <= params.frames()
-    }
+/// Whether a duty is one for logs of these sizes.
+#[tactic(auto, unfolding(crate::specs::Crews::can_serve))]
+pub(crate) fn is_for(duty: Duty, params: Params) -> bool
+    ensures value { result ≡ can_serve params duty }
+    ensures frames { result ≡ true → duty.frames ≡ params.frames }
+{
+    duty.frames() == params.frames()
 }
 
 impl<L: Realm, W> CrewReport<L, W> {

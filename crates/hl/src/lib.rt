@@ -7,9 +7,9 @@
 //! | You want | Take |
 //! |---|---|
 //! | to open a log, use it and close it | [`with_log`], with an [`Opening`] and a [`Part`] of your own |
-//! | the same with threads and a crew | [`with_threads`], with a [`Work`] of your own and a [`CrewPlan`] |
+//! | the same with threads and a crew | [`with_threads`], with a [`Work`] of your own and a [`Duty`] |
 //! | to place, store and load words in a thread | a [`Session`], which a [`Rider`] enters |
-//! | pages written and frames freed behind the threads | a [`Crew`], by a [`CrewPlan`], with two page writers |
+//! | pages written and frames freed behind the threads | a [`Crew`], by a [`Duty`], with two page writers, until its [`Stop`] is given |
 //! | to know why a call was refused, and what it was handed | [`Fault`], [`Refused`] |
 //! | the log's own calls (bumps, cuts, pages by hand) | the methods of [`Log`], which is a [`Domain`] |
 //! | the forms for one thread, or under a lock of your own | `hl_cells`, `hl_core`: they aren't handed on here |
@@ -28,7 +28,7 @@ mod session;
 mod sink;
 mod threads;
 
-pub use crew::{Crew, CrewPlan, CrewReport, CrewRiders};
+pub use crew::{Crew, CrewReport, CrewRiders};
 pub use hl_action::{AnyAnswer, Firing, Kept, NoJob, Promise, Ran, Ready, Task};
 pub use hl_counts::CountTable;
 pub use hl_crew::{CrewEnd, Duty, Gate, OpenGate, Stop, run_crew, serve};

@@ -6,14 +6,14 @@ ghost use Rattle.hl.specs.Openings.{IsInRange};
 ghost use Rattle.hl.specs.Crews.{can_run};
 ghost use Rattle.hl.specs.Closings.{IsClosed, Anything};
 
-use crate::crew::{Crew, CrewPlan, CrewReport, CrewRiders};
+use crate::crew::{Crew, CrewReport, CrewRiders, is_for};
 use crate::log::Log;
 use crate::open::Closed;
 use crate::opening::Opening;
 use crate::refused::Refused;
 use crate::session::Session;
 use crate::sink::Sink;
-use hl_crew::OpenGate;
+use hl_crew::{Duty, OpenGate, Stop};
 use hl_model::Fault;
 use hl_words::{Realm, Rider, Seed};
 use std::alloc::{AllocError, Global};
@@ -43,36 +43,36 @@ pub trait Work<R: Wait> {
 pub type Outs<T> = Vec<Result<T, Fault>>;
 
 /// Opens a log, runs a thread for each rider but four, and a crew with these, and closes it. Each thread is in a session
-/// while it works.
+/// while it works, and the crew serves until all have ended.
 ///
-/// Faults: `Size` where the opening is out of range, has fewer than four riders, or fewer frames than the plan keeps
-/// resident; `OutOfMemory` where memory was refused before the threads ran. Where it is refused later, `out` tells it, and
+/// Faults: `Size` where the opening is out of range, has fewer than four riders, or another number of frames than the
+/// duty was checked for; `OutOfMemory` where memory was refused before the threads ran. Where it is refused later, `out` tells it, and
 /// riders that are lost by that are missing at the end.
 pub fn with_threads<R: Threads + Wait + Sync, P: Work<R> + Sync>(
     rt: &R,
     alloc: Global,
     opening: Opening,
-    plan: CrewPlan,
+    duty: Duty,
     work: &P,
 ) -> Result<Closed<Result<Outs<P::Out>, Fault>>, Fault>
-    ensures size { can_run opening plan ≡ false → result ≡ Err Size }
-    ensures memory { can_run opening plan ≡ true → IfErr result (λ fault. fault ≡ OutOfMemory) }
+    ensures size { can_run opening duty ≡ false → result ≡ Err Size }
+    ensures memory { can_run opening duty ≡ true → IfErr result (λ fault. fault ≡ OutOfMemory) }
     ensures closed { IfOk result (IsClosed opening Anything) }
 {
-    if !has_room(&opening, plan) {
+    if !has_room(&opening, duty) {
         return Err(Fault::Size);
     }
     let seed = Seed::make(alloc, opening.params, opening.riders as usize)?;
-    threads_over::<Brand, R, P>(rt, alloc, seed, opening, plan, work)
+    threads_over::<Brand, R, P>(rt, alloc, seed, opening, duty, work)
 }
 
-// Whether the opening is in range, has riders for the crew, and frames for its lag.
+// Whether the opening is in range, has riders for the crew, and as many frames as its duty was checked for.
 #[tactic(auto, unfolding(crate::specs::Crews::can_run))]
-fn has_room(opening: &Opening, plan: CrewPlan) -> bool
-    ensures value { result ≡ can_run opening.now plan }
+fn has_room(opening: &Opening, duty: Duty) -> bool
+    ensures value { result ≡ can_run opening.now duty }
     ensures range { result ≡ true → IsInRange opening.now }
 {
-    opening.is_in_range() && 4 <= opening.riders && plan.fits(opening.params)
+    opening.is_in_range() && 4 <= opening.riders && is_for(duty, opening.params)
 }
 
 // The same over the words of a seed.
@@ -81,7 +81,7 @@ fn threads_over<L: Realm + Send + Sync, R: Threads + Wait + Sync, P: Work<R> + S
     alloc: Global,
     seed: Seed,
     opening: Opening,
-    plan: CrewPlan,
+    duty: Duty,
     work: &P,
 ) -> Result<Closed<Result<Outs<P::Out>, Fault>>, Fault>
     requires seed { IsSeedOf L.name L.parts L.table seed }
@@ -92,7 +92,7 @@ fn threads_over<L: Realm + Send + Sync, R: Threads + Wait + Sync, P: Work<R> + S
     ensures closed { IfOk result (IsClosed opening Anything) }
 {
     let (log, riders) = Log::<L>::open(alloc, seed, opening.journal, opening.stamp)?;
-    let (out, riders) = run_all(rt, alloc, &log, riders, plan, work);
+    let (out, riders) = run_all(rt, alloc, &log, riders, duty, work);
     let ending = match log.close(riders) {
         Ok(ending) => Ok(ending),
         Err((fault, _log, _riders)) => Err(fault),
@@ -106,16 +106,17 @@ fn run_all<L: Realm + Send + Sync, R: Threads + Wait + Sync, P: Work<R> + Sync>(
     alloc: Global,
     log: &Log<L>,
     mut riders: Vec<Rider<L>>,
-    plan: CrewPlan,
+    duty: Duty,
     work: &P,
 ) -> (Result<Outs<P::Out>, Fault>, Vec<Rider<L>>) {
     let Some(crew) = CrewRiders::take_from(&mut riders) else {
         return (Err(Fault::Size), riders);
     };
+    let stop = Stop::new();
     let (worked, crew) = thread::join(
         rt,
-        || work_all(rt, alloc, log, riders, work),
-        || flush_behind(rt, alloc, log, crew, plan, work),
+        || work_to_the_stop(rt, alloc, log, riders, work, &stop),
+        || serve_behind(rt, alloc, log, crew, duty, work, &stop),
     );
     let Ok(worked) = worked else {
         return (Err(Fault::OutOfMemory), Vec::new(alloc));
@@ -140,6 +141,20 @@ fn gather<L: Realm, T: Drop>(
     }
     crew?.put_back(&mut riders)?;
     Ok((outs, riders))
+}
+
+// Each rider's thread; then the crew is stopped.
+fn work_to_the_stop<L: Realm + Send + Sync, R: Threads + Wait + Sync, P: Work<R> + Sync>(
+    rt: &R,
+    alloc: Global,
+    log: &Log<L>,
+    riders: Vec<Rider<L>>,
+    work: &P,
+    stop: &Stop,
+) -> Result<Vec<(Result<P::Out, Fault>, Rider<L>)>, AllocError> {
+    let worked = work_all(rt, alloc, log, riders, work);
+    stop.give();
+    worked
 }
 
 // Each rider's thread.
@@ -177,14 +192,15 @@ fn work_one<L: Realm + Send + Sync, R: Wait, P: Work<R>>(
     }
 }
 
-// The crew works; its riders come back.
-fn flush_behind<L: Realm + Send + Sync, R: Threads + Wait + Sync, P: Work<R> + Sync>(
+// The crew serves; its riders come back.
+fn serve_behind<L: Realm + Send + Sync, R: Threads + Wait + Sync, P: Work<R> + Sync>(
     rt: &R,
     alloc: Global,
     log: &Log<L>,
     riders: CrewRiders<L>,
-    plan: CrewPlan,
+    duty: Duty,
     work: &P,
+    stop: &Stop,
 ) -> Result<CrewRiders<L>, Fault> {
     let first = Sink::new(rt, work);
     let second = Sink::new(rt, work);
@@ -193,6 +209,6 @@ fn flush_behind<L: Realm + Send + Sync, R: Threads + Wait + Sync, P: Work<R> + S
         first,
         second,
     };
-    let end = crew.work(rt, alloc, log, &OpenGate, plan)?;
+    let end = crew.serve(rt, alloc, log, &OpenGate, duty, stop)?;
     Ok(CrewReport::of(end).crew.riders)
 }

@@ -53,6 +53,13 @@ impl Duty {
         }
     }
 
+    /// Of how many frames the domains are for which it was checked.
+    pub fn frames(self) -> u64
+        ensures { result ≡ self.frames }
+    {
+        self.frames
+    }
+
     /// How many pages at the tail may be written.
     pub fn mutable(self) -> u64
         ensures { result ≡ self.mutable }

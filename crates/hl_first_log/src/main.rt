@@ -1,7 +1,7 @@
 //! A first log: four threads place a word each, and a crew flushes behind them.
 #![tactic(auto)]
 
-use hl::{CrewPlan, Fault, Opening, Params, Realm, Session, Work, with_threads};
+use hl::{Duty, Fault, Opening, Params, Realm, Session, Work, with_threads};
 use std::alloc::Global;
 use std::io;
 use std::process::ExitCode;
@@ -39,13 +39,9 @@ fn place_words<R: Threads + Wait + Sync>(rt: &R, alloc: Global) -> Result<u64, F
         journal: 10_000,
         stamp: 1,
     };
-    let plan = CrewPlan {
-        mutable: 2,
-        resident: 32,
-        turns: 10,
-        cut: true,
-    };
-    let closed = with_threads(rt, alloc, opening, plan, &OneWord)?;
+    let duty = Duty::checked(params, 2, 32).ok_or(Fault::Size)?;
+    let duty = duty.cutting_above(5_000);
+    let closed = with_threads(rt, alloc, opening, duty, &OneWord)?;
     for word in closed.out? {
         word??;
     }

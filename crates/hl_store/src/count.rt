@@ -1,5 +1,5 @@
 use crate::store::{Change, Store};
-use hl::{CrewPlan, Fault, Opening, Params, Realm, Session, Work, with_threads};
+use hl::{Duty, Fault, Opening, Params, Realm, Session, Work, with_threads};
 use std::alloc::Global;
 use std::io::Write;
 use std::sync::{Mutex, Wait};
@@ -54,18 +54,14 @@ pub fn run<R: Threads + Wait + Sync, W: Write>(
         stamp: 1,
     };
     // Of the records, 25 pages at most, all stay in memory.
-    let plan = CrewPlan {
-        mutable: 2,
-        resident: 32,
-        turns: 100,
-        cut: true,
-    };
+    let duty = Duty::checked(params, 2, 32).ok_or(Fault::Size)?;
+    let duty = duty.cutting_above(5_000);
     let account = Mutex::new(Account {
         done: 0,
         added: [0; COUNTERS],
     });
     let store = Store::open(alloc).map_err(|_| Fault::OutOfMemory)?;
-    let closed = with_threads(rt, alloc, opening, plan, &Counting { store, account })?;
+    let closed = with_threads(rt, alloc, opening, duty, &Counting { store, account })?;
     for tally in closed.out? {
         if let Some(tally) = tally?? {
             tell(out, tally)?;
