@@ -130,6 +130,15 @@ class Refused {
     Refusal refusal_;
 };
 
+/// What value() of a refused answer does.
+[[noreturn]] inline void throw_or_end([[maybe_unused]] const Refusal &refusal) {
+#if defined(__cpp_exceptions)
+    throw BadAccess(refusal);
+#else
+    std::terminate();
+#endif
+}
+
 /// A value, or a refusal, with the calls of std::expected that are used most. value() throws BadAccess, or ends the
 /// program where exceptions are off; `*` and `->` want an answer that has a value.
 template <class T> class [[nodiscard]] Result {
@@ -152,12 +161,7 @@ template <class T> class [[nodiscard]] Result {
 
   private:
     void check() const {
-        if (has_value()) return;
-#if defined(__cpp_exceptions)
-        throw BadAccess(error());
-#else
-        std::terminate();
-#endif
+        if (!has_value()) throw_or_end(error());
     }
 
     std::variant<T, Refusal> held_;
@@ -173,12 +177,7 @@ template <> class [[nodiscard]] Result<void> {
     explicit operator bool() const noexcept { return has_value(); }
     const Refusal &error() const noexcept { return *refusal_; }
     void value() const {
-        if (has_value()) return;
-#if defined(__cpp_exceptions)
-        throw BadAccess(error());
-#else
-        std::terminate();
-#endif
+        if (!has_value()) throw_or_end(error());
     }
 
   private:

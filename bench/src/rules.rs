@@ -31,6 +31,12 @@ impl Sizes {
             drain_places,
         })
     }
+
+    /// Where the word of an address lies among those of all frames.
+    pub fn cell_of(self, address: u64) -> usize {
+        let frame = address / self.page_size % self.frames;
+        (frame * self.page_size + address % self.page_size) as usize
+    }
 }
 
 #[derive(Clone, Copy, Debug, PartialEq, Eq)]
@@ -130,6 +136,8 @@ pub enum Fault {
     NoneClosed,
     NotCleaning,
     WindowFull,
+    TouchesFull,
+    JournalFull,
 }
 
 /// The offsets, in their order.

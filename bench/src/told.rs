@@ -87,6 +87,8 @@ fn of_fault(fault: &Fault) -> Outcome {
         Fault::NoneClosed => refused(22, 0, 0),
         Fault::NotCleaning => refused(23, 0, 0),
         Fault::WindowFull => refused(32, 0, 0),
+        Fault::TouchesFull => refused(25, 0, 0),
+        Fault::JournalFull => refused(27, 0, 0),
     }
 }
 

@@ -45,10 +45,7 @@ impl TwinLog {
     }
 
     fn cell(&self, address: u64) -> &AtomicU64 {
-        let Sizes {
-            page_size, frames, ..
-        } = self.sizes;
-        &self.cells[(address / page_size % frames * page_size + address % page_size) as usize]
+        &self.cells[self.sizes.cell_of(address)]
     }
 }
 

@@ -5,15 +5,6 @@
 top="$(cd "$scripts/.." && pwd)"
 installed="$room/installed"
 
-# Whether these commands are there, on the path that stands in path if one does; says what is left out where one isn't.
-has_all() {
-    local purpose="$1" command
-    shift
-    for command in "$@"; do
-        PATH="${path:-$PATH}" command -v "$command" > /dev/null || { echo "left out, for want of $command: $purpose" >&2; return 1; }
-    done
-}
-
 # Runs a command with nothing but what a system's compiler needs.
 alone() {
     env -i PATH=/usr/bin:/bin PKG_CONFIG_PATH="$installed/lib/pkgconfig" "$@"

@@ -75,26 +75,83 @@ opened_size() {
     wait "$pid"
 }
 
-# A race of one rider and one round within ever more pages, by one page each time as long as its words are opened, and
-# then, since a thread's stack has 2,064, by so many that each stack is refused often: it ends with status 1 and the
-# fault's line, and at last with its own line. That isn't before the stacks of a crew's four threads have room, which wait
-# for one another: a crew without a thread would end well within less.
+# A race of one rider and one round within ever more pages, by so many each time, since a thread's stack has 2,064, that
+# each stack is refused often: it ends with status 1 and the fault's line, and at last with its own line. That isn't
+# before the stacks of a crew's four threads have room, which wait for one another: a crew without a thread would end well
+# within less.
 race_within_ever_more_pages() {
     local held more status
     held="$(opened_size)"
-    for ((more = 0; more < 100000; more += more < 700 ? 1 : 131)); do
+    for ((more = 0; more < 100000; more += 131)); do
         status=0
         GLIBC_TUNABLES=glibc.malloc.mmap_threshold=0 prlimit --as="$((held + more * 4096))" \
             "$program" race 1 1 > "$room/text" 2> "$room/errors" || status=$?
         [ "$status" != 0 ] || break
-        if [ "$status" != 1 ] || [ -s "$room/text" ] || [ "$(cat "$room/errors")" != "fault 29 OutOfMemory" ]; then
-            echo "with $more pages more it ended with status $status"
-            cat "$room/text" "$room/errors"
-            return 1
-        fi
+        is_refused_race "with $more pages more" || return
     done
     [ "$more" -gt "$((4 * 2064))" ] || { echo "it ended well within $more pages more"; return 1; }
     [ "$(cat "$room/text")" = "race 1 1 ok" ]
 }
 
-check "memory refused in a race" race_within_ever_more_pages
+# Whether the race ended with status 1 and the fault's line alone: is_refused_race WHEN
+is_refused_race() {
+    if [ "$status" != 1 ] || [ -s "$room/text" ] || [ "$(cat "$room/errors")" != "fault 29 OutOfMemory" ]; then
+        echo "$1 it ended with status $status"
+        cat "$room/text" "$room/errors"
+        return 1
+    fi
+}
+
+check "memory for stacks refused in a race" race_within_ever_more_pages
+
+# Runs a race of one rider and one round that is refused a call, and sets status: with_refusal NAME=NUMBER WORDS..
+with_refusal() {
+    local refusal="$1"
+    shift
+    status=0
+    timeout 20 env "$refusal" COUNTED="$room/counted" LD_PRELOAD="$room/refuse.so" \
+        "$program" race 1 1 "$@" > "$room/text" 2> "$room/errors" || status=$?
+}
+
+# Each call for memory is refused in turn; of the images that the writers of the crew keep, which take nearly all, one
+# in 499. The race is refused whole, closes its domain with the riders that came back, and looks for the images of
+# flushed pages in the writers that did: another fault, or a race that differs, is one that lost them. Where the library
+# tries again for less, or makes two calls in turn for want of a thread, nothing is refused; that is seldom.
+each_call_refused() {
+    local status call calls _ done_without=0
+    with_refusal REFUSED_CALL=0 "$@"
+    read -r calls _ < "$room/counted"
+    [ "$calls" -gt 16384 ] || { echo "it made $calls calls"; return 1; }
+    for call in $(seq 200) $(seq 201 499 "$((calls - 150))") $(seq "$((calls - 149))" "$calls"); do
+        with_refusal "REFUSED_CALL=$call" "$@"
+        if [ "$status" = 0 ] && [ "$(cat "$room/text")" = "race 1 1 ok" ]; then
+            done_without="$((done_without + 1))"
+        else
+            is_refused_race "without call $call" || return
+        fi
+    done
+    [ "$done_without" -le 8 ] || { echo "it did without $done_without of its calls"; return 1; }
+}
+
+# The first thread of a race is its riders', who race in turn with the crew for want of it. Without any other the crew
+# isn't whole.
+each_thread_refused() {
+    local status thread threads _
+    with_refusal REFUSED_THREAD=1
+    [ "$status" = 0 ] && [ "$(cat "$room/text")" = "race 1 1 ok" ] || { echo "without its first thread"; return 1; }
+    for thread in 2 3 4 5; do
+        with_refusal "REFUSED_THREAD=$thread"
+        is_refused_race "without thread $thread" || return
+    done
+    with_refusal REFUSED_THREAD=0
+    read -r _ threads < "$room/counted"
+    [ "$threads" = 5 ] || { echo "it made $threads threads"; return 1; }
+}
+
+if has_all "memory refused to a race, call by call" cc; then
+    check "the library that refuses" cc -std=c11 -O1 -Wall -Wextra -Werror -fPIC -shared \
+        "$scripts/cases/refuse.c" -o "$room/refuse.so"
+    check "each call for memory refused in a race" each_call_refused
+    check "each call for memory refused in a race with cuts" each_call_refused --cut
+    check "each thread refused in a race" each_thread_refused
+fi

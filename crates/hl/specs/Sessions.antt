@@ -1,13 +1,11 @@
 -- A session, and how its slot was found.
-use Rattle.std.specs.Prelude.{◌≡◌, ℕ, ◌+◌, Ok, Err, Result, ◌++◌, [], ◌∷◌}
+use Rattle.std.specs.Prelude.{◌≡◌, ℕ, Ok, Err, Result}
 use Rattle.hl_model.specs.declared.fault.Fault.{Fault}
 use Rattle.hl_model.specs.declared.step.Step.TheVariants.{Acquire}
-use Rattle.hl_model.specs.Views.{view_of}
 use Rattle.hl_words.specs.States.{RiderState}
-use Rattle.hl_domain.specs.Passes.{PassRecord, with_share, with_rider, new_pass}
+use Rattle.hl_keeper.specs.Passes.{PassRecord, with_rider}
 use Rattle.hl_core.specs.Holding.{least_free}
-use Rattle.hl_domain.specs.Calls.{Makes, MakesAt, acquired_pass}
-use Rattle.hl_domain.specs.Stamps.{acquires_in}
+use Rattle.hl_keeper.specs.Calls.{Makes, MakesAt, acquired_pass}
 use Rattle.hl_domain.specs.Domains.{DomainState, MakesUnderLock}
 use Rattle.hl.specs.declared.refused.Refused.{Refused}
 
@@ -32,9 +30,8 @@ pass_of (Err refused) = Err refused.fault
 
 -- a log was asked for slot t by this rider, and answered as an acquire does
 abbrev pub Asked : (F : Type 0) → DomainState → RiderState → ℕ → Result PassRecord Fault → Type 0
-Asked F log rider t result = MakesUnderLock F log result (λ old. Makes old (Acquire t)
-    (λ A. new_pass t (old.stamp + acquires_in (A ++ Acquire t ∷ []))
-    (view_of old.core.sizes t (A ++ Acquire t ∷ [])) (with_share 1 rider)))
+Asked F log rider t result =
+    MakesUnderLock F log result (λ old. Makes old (Acquire t) (acquired_pass old t rider))
 
 -- a log was asked for the least slot that isn't protected, and answered as an acquire of it does
 abbrev pub Entered : (F : Type 0) → DomainState → RiderState → Result PassRecord Fault → Type 0

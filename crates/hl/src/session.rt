@@ -1,15 +1,15 @@
 //! A thread's time in a slot of a log.
-ghost use Rattle.std.specs.Prelude.{◌≡◌, ◌+◌, ◌-◌, ◌/◌, ◌^◌, ◌≤◌, ◌++◌, Some, None, length, IfOk, IfErr, OnOk, MatchResult};
+ghost use Rattle.std.specs.Prelude.{◌≡◌, ◌+◌, ◌-◌, ◌/◌, ◌^◌, ◌≤◌, ◌++◌, length, IfOk, IfErr, MatchResult};
 ghost use Rattle.hl_model.specs.declared.step.Step.TheVariants.{Refresh as REFRESH, Release as RELEASE, Allocate as ALLOCATE};
 ghost use Rattle.hl_model.specs.Offsets.{place_of, tail};
-ghost use Rattle.hl_model.specs.Replies.{unless_fault, unless_refused};
 ghost use Rattle.hl_model.specs.Views.{view_of};
-ghost use Rattle.hl_domain.specs.Passes.{seen, rested, with_share, with_tail, touch_fault, store_fault, load_fault, with_look, with_store, with_load, last_read_only, last_head, LooksOn};
-ghost use Rattle.hl_domain.specs.Calls.{call_fault, refresh_fault, touched_list, MakesTouched, IsUpTo};
+ghost use Rattle.hl_keeper.specs.Passes.{seen, rested, with_share, with_tail};
+ghost use Rattle.hl_keeper.specs.Calls.{call_fault, refresh_fault, touched_list, MakesTouched, IsUpTo};
 ghost use Rattle.hl_domain.specs.Domains.{MakesUnderLock};
 ghost use Rattle.hl.specs.Sessions.{with_pass, fault_alone, pass_of, Asked, Entered};
 
 mod rider;
+mod words;
 
 use crate::log::Log;
 use crate::refused::Refused;
@@ -122,48 +122,6 @@ impl<'a, R: Wait, L: Realm, F: Task, P: Promise, E: Epochs + Drop> Session<'a, R
             in IfOk result (λ a. a / page_size ≡ (a + n - 1) / page_size) }
     {
         self.log.allocate(self.rt, &mut self.pass, n)
-    }
-
-    /// Looks at both offset words, without the lock: what the session sees then.
-    ///
-    /// `TouchesFull` where it has 32 touches.
-    pub fn look(&mut self) -> Result<View, Fault>
-        ensures answer { result ≡ unless_fault (touch_fault self.old.pass) (seen self.new.pass) }
-        ensures pass { let new = self.new.pass
-            in let old = self.old.pass
-            in self.new ≡ with_pass (unless_refused (touch_fault old) old
-            (with_look (last_read_only new) (last_head new) old)) self.old }
-        ensures rises { OnOk result (LooksOn self.old.pass self.new.pass) }
-    {
-        self.log.look(&mut self.pass)
-    }
-
-    /// Stores a word at an address, without the lock.
-    ///
-    /// Faults: `Below` where the address is below the read-only offset that the session saw, `Beyond` where it isn't
-    /// below the tail that it saw, `TouchesFull` where it has 32 touches.
-    pub fn store(&mut self, a: u64, v: u64) -> Result<(), Fault>
-        ensures answer { result ≡ unless_fault (store_fault self.old.pass a) tt }
-        ensures pass { let old = self.old.pass
-            in self.new ≡ with_pass (unless_refused (store_fault old a) old
-            (with_store self.old.log.sizes a v old)) self.old }
-    {
-        self.log.store(&mut self.pass, a, v)
-    }
-
-    /// Loads the word at an address, without the lock.
-    ///
-    /// Faults: `Evicted` where the address is below the head that the session saw, `Beyond` where it isn't below the
-    /// tail that it saw.
-    pub fn load(&mut self, a: u64) -> Result<u64, Fault>
-        ensures answer { let met = load_fault self.old.pass a
-            in MatchResult result (λ _. met ≡ None) (λ fault. met ≡ Some fault) }
-        ensures pass { let old = self.old
-            in MatchResult result
-            (λ v. self.new ≡ with_pass (with_load old.log.sizes a v old.pass) old)
-            (λ _. self.new ≡ old) }
-    {
-        self.log.load(&mut self.pass, a)
     }
 
     /// Its slot is protected no longer; the answer is its rider.

@@ -46,8 +46,9 @@ pub type Outs<T> = Vec<Result<T, Fault>>;
 /// while it works, and the crew serves until all have ended.
 ///
 /// Faults: `Size` where the opening is out of range, has fewer than four riders, or another number of frames than the
-/// duty was checked for; `OutOfMemory` where memory was refused before the threads ran. Where it is refused later, `out` tells it, and
-/// riders that are lost by that are missing at the end.
+/// duty was checked for; `OutOfMemory` where memory was refused before the threads ran. Where it is refused later, `out`
+/// tells it: a crew that was refused gives its riders back, so that the log is closed, and riders that are lost with the
+/// threads' row are missing at the end.
 pub fn with_threads<R: Threads + Wait + Sync, P: Work<R> + Sync>(
     rt: &R,
     alloc: Global,
@@ -118,11 +119,12 @@ fn run_all<L: Realm + Send + Sync, R: Threads + Wait + Sync, P: Work<R> + Sync>(
         || work_to_the_stop(rt, alloc, log, riders, work, &stop),
         || serve_behind(rt, alloc, log, crew, duty, work, &stop),
     );
+    let (crew, ended) = crew;
     let Ok(worked) = worked else {
         return (Err(Fault::OutOfMemory), Vec::new(alloc));
     };
     match gather(alloc, worked, crew) {
-        Ok((outs, riders)) => (Ok(outs), riders),
+        Ok((outs, riders)) => (ended.map(|_| outs), riders),
         Err(fault) => (Err(fault), Vec::new(alloc)),
     }
 }
@@ -131,7 +133,7 @@ fn run_all<L: Realm + Send + Sync, R: Threads + Wait + Sync, P: Work<R> + Sync>(
 fn gather<L: Realm, T: Drop>(
     alloc: Global,
     worked: Vec<(Result<T, Fault>, Rider<L>)>,
-    crew: Result<CrewRiders<L>, Fault>,
+    crew: CrewRiders<L>,
 ) -> Result<(Outs<T>, Vec<Rider<L>>), Fault> {
     let mut outs = Vec::new(alloc);
     let mut riders = Vec::new(alloc);
@@ -139,7 +141,7 @@ fn gather<L: Realm, T: Drop>(
         outs.push(out).map_err(|_| Fault::OutOfMemory)?;
         riders.push(rider).map_err(|_| Fault::OutOfMemory)?;
     }
-    crew?.put_back(&mut riders)?;
+    crew.put_back(&mut riders)?;
     Ok((outs, riders))
 }
 
@@ -192,7 +194,7 @@ fn work_one<L: Realm + Send + Sync, R: Wait, P: Work<R>>(
     }
 }
 
-// The crew serves; its riders come back.
+// The crew serves; its riders come back, also where it was refused.
 fn serve_behind<L: Realm + Send + Sync, R: Threads + Wait + Sync, P: Work<R> + Sync>(
     rt: &R,
     alloc: Global,
@@ -201,7 +203,7 @@ fn serve_behind<L: Realm + Send + Sync, R: Threads + Wait + Sync, P: Work<R> + S
     duty: Duty,
     work: &P,
     stop: &Stop,
-) -> Result<CrewRiders<L>, Fault> {
+) -> (CrewRiders<L>, Result<(), Fault>) {
     let first = Sink::new(rt, work);
     let second = Sink::new(rt, work);
     let crew = Crew {
@@ -209,6 +211,8 @@ fn serve_behind<L: Realm + Send + Sync, R: Threads + Wait + Sync, P: Work<R> + S
         first,
         second,
     };
-    let end = crew.serve(rt, alloc, log, &OpenGate, duty, stop)?;
-    Ok(CrewReport::of(end).crew.riders)
+    match crew.serve(rt, alloc, log, &OpenGate, duty, stop) {
+        Ok(end) => (CrewReport::of(end).crew.riders, Ok(())),
+        Err(Refused { fault, back }) => (back.riders, Err(fault)),
+    }
 }

@@ -10,8 +10,8 @@ use Rattle.std.proofs.lemmas.Option.{get_or_from_slice_get}
 use Rattle.hl_model.specs.declared.fault.Fault.{Fault}
 use Rattle.hl_model.specs.declared.step.Step.TheVariants.{FlushDone}
 use Rattle.hl_model.specs.Pages.{flushed}
-use Rattle.hl_domain.specs.declared.load.PageJob.{PageJob}
-use Rattle.hl_domain.specs.Calls.{Ends}
+use Rattle.hl_keeper.specs.declared.load.PageJob.{PageJob}
+use Rattle.hl_keeper.specs.Calls.{Ends}
 use Rattle.hl_domain.specs.Domains.{DomainState, MakesUnderLock}
 use Rattle.hl_crew.specs.Pouches.{is_of, load_count, Answers}
 

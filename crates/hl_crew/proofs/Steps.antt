@@ -2,10 +2,10 @@
 use Rattle.std.proofs.Common.{◌≡◌, ℕ, Result, Ok, Err, subst}
 use Rattle.hl_model.specs.declared.fault.Fault.{Fault}
 use Rattle.hl_words.specs.States.{RiderState}
-use Rattle.hl_domain.specs.Calls.{without_back}
-use Rattle.hl_domain.specs.Passes.{Shares}
+use Rattle.hl_keeper.specs.Calls.{without_back}
+use Rattle.hl_keeper.specs.Passes.{Shares}
 use Rattle.hl_domain.specs.Domains.{DomainState, LeavesUnderLock}
-use Rattle.hl_domain.specs.Keepers.{KeeperState}
+use Rattle.hl_keeper.specs.Keepers.{KeeperState}
 use Rattle.hl_crew.specs.Turns.{Finishes}
 
 pub leaves : {F : Type 0} {domain : DomainState} {H K : KeeperState F → KeeperState F → Type 0} → ((before after : KeeperState F) → H before after → K before after) → LeavesUnderLock F domain H → LeavesUnderLock F domain K

@@ -1,7 +1,7 @@
 -- What a flusher counts.
 use Rattle.std.specs.Prelude.{◌≡◌, ℕ, zero, suc, ◌+◌, ◌-◌, ◌^◌, min, Bool, true, false, Option, Result, Ok, Err, MatchResult, List}
 use Rattle.hl_model.specs.declared.fault.Fault.{Fault}
-use Rattle.hl_domain.specs.declared.load.PageJob.{PageJob}
+use Rattle.hl_keeper.specs.declared.load.PageJob.{PageJob}
 use Rattle.hl_domain.specs.Domains.{DomainState}
 use Rattle.hl_crew.specs.declared.counts.Counts.{Counts}
 use Rattle.hl_crew.specs.declared.messages.Over.{Over}

@@ -10,9 +10,9 @@ use Rattle.hl_model.specs.Offsets.{read_only, head}
 use Rattle.hl_model.specs.Snapshots.{snapshot_of}
 use Rattle.hl_flush.specs.Lag.{lag_of}
 use Rattle.hl_words.specs.States.{RiderState}
-use Rattle.hl_domain.specs.Calls.{Makes, Stays}
+use Rattle.hl_keeper.specs.Calls.{Makes, Stays}
 use Rattle.hl_domain.specs.Domains.{DomainState, LeavesUnderLock, UnderLock}
-use Rattle.hl_domain.specs.Passes.{Shares}
+use Rattle.hl_keeper.specs.Passes.{Shares}
 use Rattle.hl_crew.specs.declared.messages.Over.{Over}
 use Rattle.hl_crew.specs.declared.messages.Over.TheVariants.{Full}
 use Rattle.hl_crew.specs.declared.orders.Cuts.{Cuts}

@@ -3,8 +3,8 @@ use Rattle.std.specs.Prelude.{◌≡◌, ℕ, ◌+◌, ◌==◌, Bool, false, Op
 use Rattle.hl_model.specs.declared.fault.Fault.{Fault}
 use Rattle.hl_model.specs.declared.step.Step.TheVariants.{FlushDone}
 use Rattle.hl_model.specs.Pages.{flushed}
-use Rattle.hl_domain.specs.declared.load.PageJob.{PageJob}
-use Rattle.hl_domain.specs.Calls.{Ends}
+use Rattle.hl_keeper.specs.declared.load.PageJob.{PageJob}
+use Rattle.hl_keeper.specs.Calls.{Ends}
 use Rattle.hl_domain.specs.Domains.{DomainState, MakesUnderLock}
 
 -- whether a place holds a load of this page

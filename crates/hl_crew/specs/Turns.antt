@@ -6,13 +6,13 @@ use Rattle.hl_model.specs.declared.step.Reply.{Reply}
 use Rattle.hl_model.specs.declared.step.Step.TheVariants.{Take, Done, FlushTake, CleanTake, CleanDone}
 use Rattle.hl_model.specs.Replies.{answer_of}
 use Rattle.hl_action.specs.Jobs.{ReadyRecord}
-use Rattle.hl_words.specs.States.{RiderState}
-use Rattle.hl_domain.specs.declared.load.PageJob.{PageJob}
-use Rattle.hl_domain.specs.Calls.{Makes, Ends}
+use Rattle.hl_words.specs.States.{RiderState, with_view}
+use Rattle.hl_keeper.specs.declared.load.PageJob.{PageJob}
+use Rattle.hl_keeper.specs.Calls.{Makes, Ends}
 use Rattle.hl_domain.specs.Domains.{DomainState, LeavesUnderLock, MakesUnderLock}
-use Rattle.hl_domain.specs.Pages.{BroomRecord, to_flush, to_clean, first_cell, zeroed}
-use Rattle.hl_domain.specs.Passes.{with_share}
-use Rattle.hl_domain.specs.Taking.{taken_from, ready_told}
+use Rattle.hl_keeper.specs.Pages.{BroomRecord, to_flush, to_clean, first_cell, zeroed}
+use Rattle.hl_keeper.specs.Passes.{with_share}
+use Rattle.hl_keeper.specs.Taking.{taken_from, ready_told}
 use Rattle.hl_crew.specs.declared.messages.Over.{Over}
 
 -- a page whose cells were all swept, in this domain
@@ -21,7 +21,8 @@ swept domain broom = record { stamp = broom.stamp; page = broom.page; swept = do
 
 -- the rider who swept them
 abbrev pub swept_by : DomainState → BroomRecord → RiderState → RiderState
-swept_by domain broom r = record { view = zeroed (first_cell domain.sizes broom.page) domain.sizes.page_size r.view; share = r.share }
+swept_by domain broom r =
+    with_view (zeroed (first_cell domain.sizes broom.page) domain.sizes.page_size r.view) r
 
 module _ (F : Type 0) (domain : DomainState) where
   -- a take was answered so

@@ -2,9 +2,9 @@
 use Rattle.std.specs.Prelude.{◌≡◌, ℕ, List, length}
 use Rattle.hl_model.specs.Sizes.{Sizes}
 use Rattle.hl_image.specs.Image.{image}
-use Rattle.hl_words.specs.States.{RiderState}
-use Rattle.hl_domain.specs.declared.load.PageJob.{PageJob}
-use Rattle.hl_domain.specs.Pages.{first_cell, loaded_all}
+use Rattle.hl_words.specs.States.{RiderState, with_view}
+use Rattle.hl_keeper.specs.declared.load.PageJob.{PageJob}
+use Rattle.hl_keeper.specs.Pages.{first_cell, loaded_all}
 
 -- some words, as many as a page has, were loaded from the page's cells, and the page's image of them was
 -- written
@@ -14,6 +14,5 @@ pub record IsWritten
     : Type 0 where
   pub words : List ℕ
   pub places : length words ≡ sizes.page_size
-  pub loaded : new
-      ≡ record { view = loaded_all (first_cell sizes job.page) words old.view; share = old.share }
+  pub loaded : new ≡ with_view (loaded_all (first_cell sizes job.page) words old.view) old
   pub written : wrote before job.page (image job.page words) after

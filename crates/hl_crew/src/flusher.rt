@@ -91,7 +91,8 @@ impl<R: Wait, E: Epochs + Drop, F: Task, P: Promise, L: Realm> Flusher<'_, R, E,
     }
 
     // Makes a turn, and wakes the cleaner. True where the turn entered a step and no write of a page failed. A full journal
-    // that may be cut doesn't end the turns.
+    // that may be cut doesn't end the turns: what is left of this one is made in the next. That the cut finds nothing says no
+    // more than that the cleaner was there before.
     fn make_turn(&self, own: &mut FlusherState<L>, cleaner: &Parker) -> Result<bool, Over>
         requires { let orders = self.now.orders
             in IsLag self.now.domain.now.sizes.frames orders.mutable orders.resident }
@@ -104,7 +105,8 @@ impl<R: Wait, E: Epochs + Drop, F: Task, P: Promise, L: Realm> Flusher<'_, R, E,
         match made {
             Ok(()) => Ok(own.rider.share() != share && own.counts.failed == failed),
             Err(Over::Full) if self.orders.makes_room() => {
-                Ok(self.domain.cut(self.rt, &mut own.rider) > 0)
+                self.domain.cut(self.rt, &mut own.rider);
+                Ok(true)
             }
             Err(over) => Err(over),
         }

@@ -1,4 +1,4 @@
-ghost use Rattle.std.specs.Prelude.{◌≡◌};
+ghost use Rattle.std.specs.Prelude.{◌≡◌, ℕ, Some, None};
 ghost use Rattle.hl_crew.specs.Lags.{makes_room};
 
 use crate::duty::Duty;
@@ -36,6 +36,8 @@ impl Orders {
     pub(crate) fn of(duty: Duty) -> Orders
         ensures mutable { result.mutable ≡ duty.mutable }
         ensures resident { result.resident ≡ duty.resident }
+        ensures above { (steps : ℕ) → duty.cut_above ≡ Some steps → result.cuts ≡ Cuts.Above steps }
+        ensures never { duty.cut_above ≡ None → result.cuts ≡ Cuts.Never }
     {
         Orders {
             mutable: duty.mutable(),

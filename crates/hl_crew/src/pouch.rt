@@ -1,6 +1,6 @@
 ghost use Rattle.std.specs.Prelude.{◌≡◌, ℕ, ◌+◌, ◌<◌, Some, None, Err, replicate, position, is_none, is_some, length, IfSome, IfNone, OnOk, OnErr, false, slice_get, slice_set};
 ghost use Rattle.hl_model.specs.declared.fault.Fault.TheVariants.{NotInFlight};
-ghost use Rattle.hl_domain.specs.Passes.{Shares};
+ghost use Rattle.hl_keeper.specs.Passes.{Shares};
 ghost use Rattle.hl_crew.specs.Pouches.{is_of, load_count, Answers};
 
 use hl_action::{Promise, Task};
@@ -19,7 +19,7 @@ pub struct Pouch {
 
 impl Model for Pouch {
     ghost use Rattle.std.specs.Prelude.{◌≡◌, Option, List, length};
-    ghost use Rattle.hl_domain.specs.declared.load.PageJob.{PageJob};
+    ghost use Rattle.hl_keeper.specs.declared.load.PageJob.{PageJob};
 
     ghost Value = { List (Option PageJob) };
 

@@ -281,12 +281,12 @@ fn crew_writers_always_fail(rt: HostRuntime) -> Result<(), Fail> {
     Ok(())
 }
 
-/// Three turns that cut the journal: in the first the pages are flushed, in the second they are closed. Whether the
-/// cleaner finds them in time is open.
+/// Three turns that cut the journal: in the first two pages are flushed, in the second one of them is closed.
+/// Whether the cleaner finds it in time is open.
 #[test]
 fn crew_cuts(rt: HostRuntime) -> Result<(), Fail> {
     let run = Run {
-        resident: 1,
+        resident: 2,
         turns: 3,
         cut: true,
         ..ONE_TURN
@@ -294,16 +294,16 @@ fn crew_cuts(rt: HostRuntime) -> Result<(), Fail> {
     let left = crew_left::<_, Brand, _>(&rt, rt.alloc(), seed(rt.alloc())?, &OpenGate, run)?;
     assert!(rt; left.written == 2 && left.failed == 0 && left.strangers == 0);
     let six = Six {
-        closed: 8,
-        head: 8,
+        closed: 4,
+        head: 4,
         flushed: 8,
         safe_read_only: 8,
         read_only: 8,
         tail: 12,
     };
     let [open, sealed, flushed, closed, free] = left.now.frames;
-    assert!(rt; left.now.six == six && closed.saturating_add(free) == 3);
-    assert!(rt; open == 1 && sealed == 0 && flushed == 0);
+    assert!(rt; left.now.six == six && closed.saturating_add(free) == 2);
+    assert!(rt; open == 1 && sealed == 0 && flushed == 1);
     assert!(rt; left.is_whole() && left.cut > 0);
     Ok(())
 }

@@ -1,5 +1,6 @@
 //! The tests of the crew and of what runs above it, of what no clause says: that its threads run beside one another,
-//! what they count, and what comes back; how a race ends at a full journal; what the programs of `hl_uses` print.
+//! what they count, and what comes back; when a crew that serves cuts; that jobs are called by a crew alone; how a race
+//! ends at a full journal, and what its audit sees; what the programs of `hl_uses` print.
 //!
 //! This crate has no code beside its tests: a crate with tests is proved twice.
 #![tactic(auto)]
@@ -9,9 +10,13 @@ mod crew;
 #[cfg(test)]
 mod gates;
 #[cfg(test)]
+mod jobs;
+#[cfg(test)]
 mod pouch;
 #[cfg(test)]
 mod races;
+#[cfg(test)]
+mod serves;
 #[cfg(test)]
 mod uses;
 #[cfg(test)]

@@ -1,4 +1,4 @@
-use hl_uses::{four_threads, one_lock, one_thread, retired_row};
+use hl_uses::{four_threads, one_lock, one_thread, retired_row, serving};
 use std::test::Fail;
 
 #[test]
@@ -32,5 +32,14 @@ fn four_threads_fill_pages(rt: HostRuntime) -> Result<(), Fail> {
     let mut out = Vec::new(rt.alloc());
     four_threads::run(&rt, rt.alloc(), &mut out)?;
     assert_eq!(rt; out.as_slice(), "tail 3200\n".as_bytes());
+    Ok(())
+}
+
+/// Four threads place more than the frames hold; the crew behind them is stopped, and leaves no action taken.
+#[test]
+fn a_crew_serves(rt: HostRuntime) -> Result<(), Fail> {
+    let mut out = Vec::new(rt.alloc());
+    serving::run(&rt, rt.alloc(), &mut out)?;
+    assert_eq!(rt; out.as_slice(), "failed 0\ntail 3200\ntaken 0\n".as_bytes());
     Ok(())
 }

@@ -117,8 +117,13 @@ where
     requires frames { seed.sizes.frames ≡ 4 }
 {
     let (domain, mut riders) = Pages::<L>::open(alloc, seed, 100, STAMP)?;
-    let crew = four(&mut riders)?;
+    let mut crew = four(&mut riders)?;
     let rider = allocate_pages(rt, &domain, riders.pop().ok_or("five riders")?)?;
+    for (rider, steps) in crew.iter_mut().zip([0, 1, 2, 3]) {
+        for _ in 0..steps {
+            domain.bare(rt, rider)?;
+        }
+    }
     let run = Run {
         bytes: [40, 39],
         ..ONE_TURN
@@ -129,7 +134,7 @@ where
     Ok(())
 }
 
-// The second writer alone failed, and the first rider alone entered steps.
+// The second writer alone failed, and the first rider alone entered steps besides those that it had entered before.
 fn check_order<L: Realm>(rt: &impl Abort, end: CrewEnd<L, MemoryWriter>) {
     let CrewEnd {
         riders,
@@ -143,7 +148,7 @@ fn check_order<L: Realm>(rt: &impl Abort, end: CrewEnd<L, MemoryWriter>) {
         assert_eq!(rt; writer.failures(), failures);
     }
     // A raise, a settle, its take and its done, and two pages taken and ended.
-    for (rider, share) in riders.iter().zip([8, 0, 0, 0]) {
+    for (rider, share) in riders.iter().zip([8, 1, 2, 3]) {
         assert_eq!(rt; rider.share(), share);
     }
 }

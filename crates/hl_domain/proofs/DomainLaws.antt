@@ -10,9 +10,10 @@ use Rattle.hl_model.specs.Snapshots.{snapshot_of}
 use Rattle.hl_drain.specs.Actions.{waiting_of}
 use Rattle.hl_drain.specs.Lists.{Lists}
 use Rattle.hl_action.specs.Jobs.{KeptRecord}
-use Rattle.hl_domain.specs.Keepers.{job_tag, KeeperState, KeeperStands, IsKeeper, IsOf}
-use Rattle.hl_domain.proofs.KeeperLaws.{counted}
-use Rattle.hl_domain.specs.Domains.{DomainState, LeavesUnderLock, EndingState, IsEnding}
+use Rattle.hl_keeper.specs.Keepers.{job_tag, KeeperState, KeeperStands, IsKeeper, IsOf}
+use Rattle.hl_keeper.specs.Endings.{EndingState}
+use Rattle.hl_keeper.proofs.KeeperLaws.{counted}
+use Rattle.hl_domain.specs.Domains.{DomainState, LeavesUnderLock, IsEnding}
 
 -- a call under the lock left what it makes of a keeper of the domain
 pub leaves : {F : Type 0} (domain : DomainState) (old new : KeeperState F) (Holds : KeeperState F → KeeperState F → Type 0) → IsOf domain.sizes domain.stamp old → new.core.sizes ≡ old.core.sizes → new.stamp ≡ old.stamp → IsKeeper new → Holds old new → LeavesUnderLock F domain Holds

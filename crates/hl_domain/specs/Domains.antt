@@ -1,18 +1,16 @@
 -- What contracts see of a domain, what a call met under its lock, and what is left of it at its end.
 use Rattle.std.specs.Prelude.{◌≡◌, ℕ, ◌+◌, Result, List, ◌++◌, length, map}
 use Rattle.hl_model.specs.declared.fault.Fault.{Fault}
-use Rattle.hl_model.specs.declared.snapshot.Snapshot.{Snapshot}
 use Rattle.hl_model.specs.declared.step.Step.{Step}
 use Rattle.hl_model.specs.Sizes.{Sizes}
 use Rattle.hl_model.specs.Actions.{pending, taken}
-use Rattle.hl_model.specs.Bases.{Base, base_of}
+use Rattle.hl_model.specs.Bases.{base_of}
 use Rattle.hl_model.specs.Replies.{IsAccepted}
 use Rattle.hl_model.specs.Snapshots.{snapshot_of}
 use Rattle.hl_drain.specs.Actions.{waiting_of}
-use Rattle.hl_drain.specs.Lists.{Lists}
-use Rattle.hl_action.specs.Jobs.{KeptRecord}
-use Rattle.hl_domain.specs.Keepers.{job_tag, KeeperState, KeeperStands, IsOf}
-use Rattle.hl_domain.specs.Calls.{Keeps}
+use Rattle.hl_keeper.specs.Keepers.{job_tag, KeeperState, KeeperStands, IsOf}
+use Rattle.hl_keeper.specs.Calls.{Keeps}
+use Rattle.hl_keeper.specs.Endings.{EndingState}
 
 -- a domain: its sizes, its stamp, and how many riders it has
 pub record DomainState : Type 0 where
@@ -47,15 +45,6 @@ abbrev pub MakesUnderLock : {X : Type 0} (F : Type 0) → DomainState → Result
     → (KeeperState F → KeeperState F → Result X Fault → Type 0) → Type 0
 MakesUnderLock F domain result Holds =
     LeavesUnderLock F domain (λ old new. Holds old new result × Keeps old new result)
-
--- what is left of a domain at its end: the base of the steps that were cut, and how many these are; the steps
--- since; the actions that were never taken, and those taken and not done; all quantities
-pub record EndingState (F : Type 0) : Type 0 where
-  pub base : Base
-  pub cut : ℕ
-  pub journal : List Step
-  pub left : Lists (KeptRecord F)
-  pub snapshot : Snapshot
 
 -- the steps that were cut and then the journal are an accepted list; the base is that of the steps cut; the
 -- snapshot is that of both, and so are the actions left; riders entered as many steps as both have

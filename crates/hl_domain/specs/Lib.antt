@@ -1,15 +1,4 @@
-pub mod Calls
 pub mod Domains
-pub mod Entering
-pub mod Journals
-pub mod Keepers
-pub mod Lending
-pub mod Pages
-pub mod Passes
-pub mod Stamps
-pub mod Taking
-pub mod Touches
-pub mod Worked
 pub use Rattle.hl_model.specs.Actions
 pub use Rattle.hl_model.specs.Bases
 pub use Rattle.hl_model.specs.Offsets
@@ -18,3 +7,7 @@ pub use Rattle.hl_model.specs.Snapshots
 pub use Rattle.hl_model.specs.Views
 pub use Rattle.hl_words.specs.States
 pub use Rattle.hl_core.specs.Holding
+pub use Rattle.hl_keeper.specs.Calls
+pub use Rattle.hl_keeper.specs.Endings
+pub use Rattle.hl_keeper.specs.Keepers
+pub use Rattle.hl_keeper.specs.Passes

@@ -4,7 +4,7 @@ ghost use Rattle.std.specs.List.{sum_by};
 ghost use Rattle.std.specs.Sync.Mutex.{mutex_guard_value};
 ghost use Rattle.hl_model.specs.declared.fault.Fault.TheVariants.{OutOfMemory, Stranger};
 ghost use Rattle.hl_words.specs.States.{IsSeedOf, new_rider};
-ghost use Rattle.hl_domain.specs.Keepers.{IsOf, steps_most};
+ghost use Rattle.hl_keeper.specs.Keepers.{IsOf, steps_most};
 ghost use Rattle.hl_domain.specs.Domains.{IsEnding};
 
 mod pages;
@@ -12,10 +12,9 @@ mod riders;
 mod slots;
 mod words;
 
-use crate::ending::Ending;
-use crate::keeper::Keeper;
 use hl_action::{Promise, Task};
 use hl_epoch::Epochs;
+use hl_keeper::{Ending, Keeper};
 use hl_model::{Fault, Params};
 use hl_words::{Realm, Rider, Seed, Words};
 use std::alloc::Global;
@@ -107,7 +106,7 @@ impl<E: Epochs + Drop, F: Task, P: Promise, L: Realm> Domain<E, F, P, L> {
         } = self;
         let keeper = keeper.into_inner();
         // As in `lock`.
-        let _ = &keeper.core;
+        let _ = keeper.params();
         match keeper.close(words, riders) {
             Ok(ending) => Ok(ending),
             Err((keeper, words, riders)) => {
@@ -141,8 +140,8 @@ impl<E: Epochs + Drop, F: Task, P: Promise, L: Realm> Domain<E, F, P, L> {
         ensures { IsOf self.now.sizes self.now.stamp (mutex_guard_value result) }
     {
         let guard = self.keeper.lock(rt);
-        // Of a value under a lock its type alone is known, and is asked for by a look at a field.
-        let _ = &guard.core;
+        // Of a value under a lock its type alone is known, and a call tells what that says.
+        let _ = guard.params();
         guard
     }
 }

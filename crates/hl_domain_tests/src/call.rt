@@ -9,6 +9,8 @@ pub(crate) enum Call {
     Step(Step),
     /// `abandon t`: the pass of slot t is given up, and its rider comes back.
     Abandon(u64),
+    /// `stamp t`: the stamp of slot t's pass.
+    Stamp(u64),
     /// `forsake p`: page p, which is in flight, is given up.
     Forsake(u64),
     /// `cut`: the journal is cut; the answer is how many steps it had.
@@ -30,6 +32,7 @@ pub(crate) fn read_call(text: &str) -> Option<Call> {
             head: 0,
         })),
         ("abandon", Ok(t)) => Some(Call::Abandon(t)),
+        ("stamp", Ok(t)) => Some(Call::Stamp(t)),
         ("forsake", Ok(page)) => Some(Call::Forsake(page)),
         _ => read_step(text),
     }

@@ -6,6 +6,7 @@ use std::test::Fail;
 const TOUCHES: Example = Example {
     journal: 100,
     calls: "acquire 0 -> view 0 0 0
+stamp 0 -> answer 1001
 alloc 0 4 -> at 0
 write 0 1 5 -> written
 read 0 1 -> value 5
@@ -13,6 +14,7 @@ refresh 0 -> view 0 0 4
 32 times write 0 2 7 -> written
 write 0 2 7 -> fault 25 TouchesFull
 acquire 1 -> view 0 0 4
+stamp 1 -> answer 1002
 raise 4 -> read_only 4
 refresh 1 -> view 4 0 4
 write 1 1 6 -> fault 17 Below read_only 4
@@ -37,8 +39,10 @@ write 0 2 7
 const LOOK: Example = Example {
     journal: 100,
     calls: "acquire 0 -> view 0 0 0
+stamp 0 -> answer 1001
 alloc 0 4 -> at 0
 acquire 1 -> view 0 0 4
+stamp 1 -> answer 1002
 raise 4 -> read_only 4
 look 1 -> view 4 0 4
 write 1 1 6 -> fault 17 Below read_only 4

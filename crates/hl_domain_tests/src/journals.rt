@@ -1,7 +1,7 @@
 //! How many steps a journal holds, after each cut anew.
 ghost use Rattle.std.specs.Prelude.{◌≡◌, ◌≤◌};
 ghost use Rattle.hl_words.specs.States.{IsSeedOf};
-ghost use Rattle.hl_domain.specs.Keepers.{steps_most};
+ghost use Rattle.hl_keeper.specs.Keepers.{steps_most};
 
 use crate::jobs::{Pages, small_seed};
 use hl_counts::CountTable;

@@ -58,6 +58,10 @@ impl<E: Epochs + Drop, L: Realm> Play<E, L> {
         match call {
             Call::Step(step) => self.make(rt, step),
             Call::Abandon(t) => self.abandon(t),
+            Call::Stamp(t) => match self.passes.get(t as usize) {
+                Some(Some(pass)) => Ok(Reply::Answer(pass.stamp())),
+                _ => Err(NO_CALL),
+            },
             Call::Forsake(page) => {
                 let taken = self.find(Step::FlushDone { page, ok: true })?;
                 Ok(taken.out.reply())

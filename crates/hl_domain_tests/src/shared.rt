@@ -1,7 +1,7 @@
 //! A domain as what an example asks.
 ghost use Rattle.std.specs.Prelude.{◌≡◌, ◌≤◌};
 ghost use Rattle.hl_words.specs.States.{IsSeedOf};
-ghost use Rattle.hl_domain.specs.Keepers.{steps_most};
+ghost use Rattle.hl_keeper.specs.Keepers.{steps_most};
 
 use crate::asked::{Either, NO_CALL, Out};
 use crate::jobs::Pages;

@@ -18,6 +18,10 @@ use hl_model::{Params, Six, Step};
 /// a caller who asks while one waits is told a settle again, each time, as long as the safe read-only offset lags, and
 /// likewise a close: the drain list fills with them, until a bump meets `DrainFull`.
 ///
+/// With `resident` = F the head goes no further than where the page N - F begins. The page N wants the frame of that page,
+/// which is so never closed: once the pages are full each allocation is `Busy`, and the lag can't move any more. Whoever
+/// wants frames to come free keeps `resident` below F.
+///
 /// At these offsets neither the raise nor the shift meets a fault, where the six are in order. The settle and the close
 /// may meet `DrainFull`, `EpochsSpent` or `WindowFull`.
 pub fn lag_steps(params: Params, six: Six, mutable: u64, resident: u64) -> ArrayVec<Step, 4>

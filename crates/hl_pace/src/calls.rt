@@ -1,11 +1,17 @@
 //! The calls that one thread makes.
 use crate::work::Kind;
 use hl_action::{Promise, Task};
-use hl_domain::{Domain, Pass};
+use hl_domain::{Domain, Lease, Pass};
 use hl_epoch::Epochs;
 use hl_model::Fault;
 use hl_words::{Realm, Rider};
 use std::sync::{Mutex, Wait};
+
+/// How many words lie between those that two threads store into, so that no two share a line of a cache.
+const APART: u64 = 16;
+
+/// How many words a thread leases at once.
+const PIECE: u64 = 256;
 
 /// Acquires a slot, makes so many calls there, and releases it. No rider comes back where a call was refused.
 pub(crate) fn call_all<E: Epochs + Drop, F: Task, P: Promise, L: Realm>(
@@ -18,9 +24,10 @@ pub(crate) fn call_all<E: Epochs + Drop, F: Task, P: Promise, L: Realm>(
     calls: u64,
 ) -> Option<Rider<L>> {
     let mut pass = domain.acquire(rt, slot, rider).ok()?;
-    let address = domain.allocate(rt, &mut pass, 1).ok()?;
+    let address = domain.allocate(rt, &mut pass, APART).ok()?;
+    let mut lease = Lease::of(address, 0);
     for _ in 0..calls {
-        call(rt, domain, floor, &mut pass, address, kind).ok()?;
+        call(rt, domain, floor, &mut pass, &mut lease, address, kind).ok()?;
     }
     domain.release(rt, pass).ok()
 }
@@ -31,6 +38,7 @@ fn call<E: Epochs + Drop, F: Task, P: Promise, L: Realm>(
     domain: &Domain<E, F, P, L>,
     floor: &Mutex<u64>,
     pass: &mut Pass<L>,
+    lease: &mut Lease,
     address: u64,
     kind: Kind,
 ) -> Result<(), Fault> {
@@ -48,6 +56,16 @@ fn call<E: Epochs + Drop, F: Task, P: Promise, L: Realm>(
         Kind::Store => {
             if let Err(Fault::TouchesFull) = domain.store(pass, address, 1) {
                 domain.refresh(rt, pass)?;
+            }
+        }
+        Kind::Add => {
+            if let Err(Fault::TouchesFull) = domain.fetch_add(pass, address, 1) {
+                domain.refresh(rt, pass)?;
+            }
+        }
+        Kind::Lease => {
+            if lease.take(1).is_none() {
+                *lease = Lease::of(domain.allocate(rt, pass, PIECE)?, PIECE);
             }
         }
         Kind::Load => {

@@ -1,11 +1,15 @@
 //! Makes calls of a domain in some threads, for `measure/threads` to time: `hl_pace KIND THREADS CALLS`.
 //!
-//! The kinds are `refresh`, `allocate`, `store`, `load` and `look`, and `lock`, which adds to a number under a lock and
-//! so shows what the lock itself costs. Each thread has a slot of its own and makes as many calls. Nothing is printed;
-//! the status is 1 where a call was refused.
+//! The kinds are `refresh`, `allocate`, `store`, `load`, `look`, `add` (an add to a word in one step), `lease` (a record of
+//! one word from a lease), and `lock`, which adds to a number under a lock and so shows what the lock itself costs. Each
+//! thread has a slot of its own and makes as many calls. Nothing is printed; the status is 1 if a call was refused.
+//!
+//! `hl_pace idle SECONDS` makes no call: a thread sleeps so long in its slot, beside a crew that serves and has nothing to
+//! do. What the process uses meanwhile is what such a crew costs.
 #![tactic(auto)]
 
 mod calls;
+mod idle;
 mod threads;
 mod work;
 
@@ -13,14 +17,18 @@ use std::io::Write;
 use std::process::ExitCode;
 use std::{env, io};
 
-const USAGE: &[u8] = b"usage: hl_pace lock|refresh|allocate|store|load|look THREADS CALLS\n";
+const USAGE: &[u8] =
+    b"usage: hl_pace lock|refresh|allocate|store|load|look|add|lease THREADS CALLS\n       hl_pace idle SECONDS\n";
 
 fn main(rt: HostRuntime) -> io::Result<ExitCode> {
     let words = env::args(&rt)?.collect::<Vec<String>>(rt.alloc())?;
-    let Some(work) = work::read(&words) else {
+    let accepted = if let Some(seconds) = idle::read(&words) {
+        idle::run(&rt, rt.alloc(), seconds).is_ok()
+    } else if let Some(work) = work::read(&words) {
+        threads::run(&rt, rt.alloc(), work).unwrap_or(false)
+    } else {
         rt.stderr().write_all(USAGE)?;
         return Ok(ExitCode::from(2));
     };
-    let accepted = threads::run(&rt, rt.alloc(), work).unwrap_or(false);
     Ok(ExitCode::from(if accepted { 0 } else { 1 }))
 }

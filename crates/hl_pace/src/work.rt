@@ -9,6 +9,8 @@ pub(crate) enum Kind {
     Store,
     Load,
     Look,
+    Add,
+    Lease,
 }
 
 /// What is to be done.
@@ -50,6 +52,8 @@ fn kind_of(name: &str) -> Option<Kind> {
         "store" => Kind::Store,
         "load" => Kind::Load,
         "look" => Kind::Look,
+        "add" => Kind::Add,
+        "lease" => Kind::Lease,
         _ => return None,
     })
 }

@@ -3,6 +3,7 @@ use hl_action::{Promise, Task};
 use hl_core::Core;
 use hl_counts::CountTable;
 use hl_domain::Ending;
+use hl_image::MemoryWriter;
 use hl_model::{Fault, Params, Snapshot, Step, Tag};
 use hl_plain::Plain;
 use std::alloc::Global;
@@ -11,7 +12,7 @@ use std::alloc::Global;
 /// many steps as there are. It is for a journal that was never cut.
 ///
 /// `OutOfMemory` where memory for the core was refused.
-pub(crate) fn agrees_from_the_start<F: Task, P: Promise>(
+pub fn agrees_from_the_start<F: Task, P: Promise>(
     alloc: Global,
     params: Params,
     ending: &Ending<F, P>,
@@ -27,7 +28,7 @@ pub(crate) fn agrees_from_the_start<F: Task, P: Promise>(
 /// snapshot, and riders entered as many steps as were cut and kept.
 ///
 /// `OutOfMemory` where memory was refused.
-pub(crate) fn agrees_from_the_base<F: Task, P: Promise>(
+pub fn agrees_from_the_base<F: Task, P: Promise>(
     alloc: Global,
     ending: &Ending<F, P>,
     shares: u64,
@@ -42,4 +43,13 @@ pub(crate) fn agrees_from_the_base<F: Task, P: Promise>(
     }
     let counted = ending.cut.checked_add(ending.journal.len() as u64) == Some(shares);
     Ok(counted && plain.snapshot() == ending.snapshot)
+}
+
+/// Whether each page below this one has an image in one of the writers.
+pub(crate) fn has_images(writers: &Option<[MemoryWriter; 2]>, pages: u64) -> bool {
+    match writers {
+        Some([one, other]) => (0..pages).all(|page| one.image(page).is_some()
+            || other.image(page).is_some()),
+        None => pages == 0,
+    }
 }

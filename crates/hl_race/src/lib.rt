@@ -11,4 +11,5 @@ mod audit;
 mod race;
 mod riders;
 
+pub use audit::{agrees_from_the_base, agrees_from_the_start};
 pub use race::{Race, run_race, run_race_within};

@@ -1,13 +1,13 @@
 //! A race: riders beside a crew, and the audit of what they left.
 ghost use Rattle.std.specs.Prelude.{◌≡◌, ◌≤◌, ◌↔◌, IsSome, IfSome};
 ghost use Rattle.hl_words.specs.States.{IsSeedOf};
-ghost use Rattle.hl_domain.specs.Keepers.{steps_most};
+ghost use Rattle.hl_keeper.specs.Keepers.{steps_most};
 
-use crate::audit::{agrees_from_the_base, agrees_from_the_start};
+use crate::audit::{agrees_from_the_base, agrees_from_the_start, has_images};
 use crate::riders::ride;
 use hl_action::{AnyAnswer, NoJob};
 use hl_counts::CountTable;
-use hl_crew::{OpenGate, run_crew};
+use hl_crew::{CrewEnd, OpenGate, run_crew};
 use hl_domain::Domain;
 use hl_image::MemoryWriter;
 use hl_model::{Fault, Params};
@@ -83,10 +83,19 @@ const PAGES: u64 = 8192;
 /// The domain of a race.
 type Track<L> = Domain<CountTable, NoJob, AnyAnswer, L>;
 
-/// Runs a race, and tells whether its steps were all lawful and left what the domain was at when it was closed, and
-/// whether the riders entered as many steps as there are.
+/// What comes back from a crew, and whether it was refused. It has no page writers where memory for these was refused.
+#[derive(Drop)]
+struct CrewBack<L: Realm> {
+    riders: [Rider<L>; CREW],
+    writers: Option<[MemoryWriter; 2]>,
+    ended: Result<(), Fault>,
+}
+
+/// Runs a race, and tells whether its steps were all lawful and left what the domain was at when it was closed,
+/// whether the riders entered as many steps as there are, and whether each page that is flushed has an image.
 ///
-/// `OutOfMemory` where memory, or a thread of the crew, was refused.
+/// `OutOfMemory` where memory, or a thread of the crew, was refused. The domain of a refused crew is closed too:
+/// `Stranger`, with its stamp, where a rider didn't come back.
 pub fn run_race<R: Threads + Wait + Sync>(
     rt: &R,
     alloc: Global,
@@ -124,36 +133,51 @@ fn race_over<L: Realm + Send + Sync, R: Threads + Wait + Sync>(
 {
     let params = seed.params();
     let (domain, riders) = Track::<L>::open(alloc, seed, journal, STAMP)?;
-    let riders = run_on(rt, alloc, &domain, riders, race)?;
+    let (mut riders, crew) = run_on(rt, alloc, &domain, riders, race)?;
+    let CrewBack {
+        riders: its_riders,
+        writers,
+        ended,
+    } = crew;
+    riders.extend(its_riders).map_err(|_| Fault::OutOfMemory)?;
     let shares = riders
         .iter()
         .fold(0u64, |sum, rider| sum.wrapping_add(rider.share()));
-    match domain.close(riders) {
-        Err((fault, _, _)) => Err(fault),
-        Ok(ending) if race.cut => agrees_from_the_base(alloc, &ending, shares),
-        Ok(ending) => agrees_from_the_start(alloc, params, &ending, shares),
+    let ending = domain.close(riders).map_err(|(fault, _, _)| fault)?;
+    // A page that a refused crew told as written has its image too.
+    let flushed = ending.snapshot.six.flushed / params.page_size();
+    if !has_images(&writers, flushed) {
+        return Ok(false);
+    }
+    ended?;
+    if race.cut {
+        agrees_from_the_base(alloc, &ending, shares)
+    } else {
+        agrees_from_the_start(alloc, params, &ending, shares)
     }
 }
 
 // Runs the crew with the last four riders and the others round by round beside it; all come back.
+//
+// `OutOfMemory` where the threads of the others had none.
 fn run_on<L: Realm + Send + Sync, R: Threads + Wait + Sync>(
     rt: &R,
     alloc: Global,
     domain: &Track<L>,
     mut riders: Vec<Rider<L>>,
     race: Race,
-) -> Result<Vec<Rider<L>>, Fault>
+) -> Result<(Vec<Rider<L>>, CrewBack<L>), Fault>
     requires { domain.now.sizes.frames ≡ 8 }
 {
     let crew = crew_of(&mut riders)?;
     let (riders, crew) = thread::join(
         rt,
         || ride_all(rt, alloc, domain, riders, race.rounds),
-        || -> Result<[Rider<L>; CREW], Fault>
+        || -> CrewBack<L>
             requires { domain.now.sizes.frames ≡ 8 }
         { flush_all(rt, alloc, domain, crew, race) },
     );
-    all_of(riders, crew)
+    Ok((riders.map_err(|_| Fault::OutOfMemory)?, crew))
 }
 
 // The last four riders, for the crew.
@@ -177,38 +201,57 @@ fn ride_all<L: Realm + Send + Sync, R: Threads + Wait + Sync>(
     )
 }
 
-// The crew makes its turns.
+// The crew makes its turns. Its riders and page writers come back also where it was refused.
 fn flush_all<L: Realm + Send + Sync, R: Threads + Wait + Sync>(
     rt: &R,
     alloc: Global,
     domain: &Track<L>,
-    crew: [Rider<L>; CREW],
+    riders: [Rider<L>; CREW],
     race: Race,
-) -> Result<[Rider<L>; CREW], Fault>
+) -> CrewBack<L>
     requires { domain.now.sizes.frames ≡ 8 }
 {
-    let one = MemoryWriter::open(alloc, PAGES, 136)?;
-    let other = MemoryWriter::open(alloc, PAGES, 136)?;
+    let (one, other) = match open_writers(alloc) {
+        Ok(writers) => writers,
+        Err(fault) => {
+            return CrewBack {
+                riders,
+                writers: None,
+                ended: Err(fault),
+            };
+        }
+    };
     let Race { rounds, cut, .. } = race;
     match run_crew(
-        rt, alloc, domain, crew, one, other, &OpenGate, MUTABLE, RESIDENT, rounds, cut,
+        rt, alloc, domain, riders, one, other, &OpenGate, MUTABLE, RESIDENT, rounds, cut,
     ) {
-        Ok(end) => Ok(end.riders),
-        Err((fault, ..)) => Err(fault),
+        Ok(end) => {
+            let CrewEnd {
+                riders,
+                writers,
+                ..
+            } = end;
+            CrewBack {
+                riders,
+                writers: Some(writers),
+                ended: Ok(()),
+            }
+        }
+        Err(handed_back) => {
+            let (fault, riders, one, other) = handed_back;
+            let writers = [one, other];
+            CrewBack {
+                riders,
+                writers: Some(writers),
+                ended: Err(fault),
+            }
+        }
     }
 }
 
-// All riders, the crew's last.
-fn all_of<L: Realm>(
-    riders: Result<Vec<Rider<L>>, AllocError>,
-    crew: Result<[Rider<L>; CREW], Fault>,
-) -> Result<Vec<Rider<L>>, Fault> {
-    match (riders, crew) {
-        (Ok(mut riders), Ok(crew)) => match riders.extend(crew) {
-            Ok(()) => Ok(riders),
-            Err(_) => Err(Fault::OutOfMemory),
-        },
-        (Err(_), _) => Err(Fault::OutOfMemory),
-        (_, Err(fault)) => Err(fault),
-    }
+// Two writers of images of 16 words with the page's number before them.
+fn open_writers(alloc: Global) -> Result<(MemoryWriter, MemoryWriter), Fault> {
+    let one = MemoryWriter::open(alloc, PAGES, 136)?;
+    let other = MemoryWriter::open(alloc, PAGES, 136)?;
+    Ok((one, other))
 }

@@ -6,20 +6,26 @@
 mod command;
 mod race;
 
-use hl_commands::REFUSED;
+use hl_commands::{REFUSED, failed};
+use hl_model::Fault;
 use std::io::{BufWriter, ErrorKind, Write};
 use std::process::ExitCode;
 use std::{env, io};
 
 fn main(rt: HostRuntime) -> io::Result<ExitCode> {
     let words = match env::args(&rt) {
+        Ok(words) => words.collect::<Vec<String>>(rt.alloc()).ok(),
         Err(error) if error.kind() == ErrorKind::InvalidData => {
             let _ = rt.stderr().write_all(b"error: a word isn't UTF-8\n");
             return Ok(ExitCode::from(REFUSED));
         }
-        words => words?.collect::<Vec<String>>(rt.alloc())?,
+        Err(_) => None,
     };
-    let mut output = BufWriter::new(rt.alloc(), rt.stdout())?;
+    let output = BufWriter::new(rt.alloc(), rt.stdout());
+    let (Some(words), Ok(mut output)) = (words, output) else {
+        let status = failed(Fault::OutOfMemory, &mut rt.stderr());
+        return Ok(ExitCode::from(status));
+    };
     let status = command::command(
         &rt,
         rt.alloc(),

@@ -138,6 +138,27 @@ fn place_all<L: Realm + Send + Sync, R: Threads + Wait + Sync>(
     )
 }
 
+// Acquires the slot. Where the journal is full it wakes the crew, which cuts it, and tries again.
+fn enter<L: Realm>(
+    rt: &impl Wait,
+    log: &Log<L>,
+    stop: &Stop,
+    rider: Rider<L>,
+    slot: u64,
+) -> Result<Pass<L>, Rider<L>> {
+    let mut rider = rider;
+    for _ in rt.forever() {
+        match log.acquire(rt, slot, rider) {
+            Ok(pass) => return Ok(pass),
+            Err((Fault::JournalFull, back)) => rider = back,
+            Err((_, back)) => return Err(back),
+        }
+        stop.ring();
+        thread::yield_now();
+    }
+    unreachable!()
+}
+
 // Acquires the slot, places the records, and releases it. A pass that is refused is abandoned.
 fn place<L: Realm>(
     rt: &impl Wait,
@@ -146,9 +167,9 @@ fn place<L: Realm>(
     rider: Rider<L>,
     slot: u64,
 ) -> Rider<L> {
-    let mut pass = match log.acquire(rt, slot, rider) {
+    let mut pass = match enter(rt, log, stop, rider, slot) {
         Ok(pass) => pass,
-        Err((_, rider)) => return rider,
+        Err(rider) => return rider,
     };
     for _ in 0..100 {
         if place_one(rt, log, stop, &mut pass, slot).is_err() {

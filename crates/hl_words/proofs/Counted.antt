@@ -6,7 +6,7 @@ use Rattle.hl_model.specs.Lists.{greatest}
 use Rattle.std.proofs.lemmas.Bool.{eq-eqb, ne_eqb, cases_eq}
 use Rattle.std.proofs.lemmas.List.{get_or-set_same, get_or-set_other}
 use Rattle.std.proofs.lemmas.List.Sums.{sum_by-cons, sum_by-append}
-use Rattle.hl_words.specs.declared.view.Touch.TheVariants.{Stored, Loaded}
+use Rattle.hl_words.specs.declared.view.Touch.TheVariants.{Stored, Loaded, Changed}
 use Rattle.hl_words.specs.declared.view.OffsetWords.{OffsetWords}
 use Rattle.hl_words.specs.declared.view.RiderView.{RiderView}
 use Rattle.hl_words.specs.declared.which.Which.{Which}
@@ -204,6 +204,22 @@ module _ (front : List RiderView) (r : RiderView) (back : List RiderView) where
           (λ b. ⊎_elim (λ x. inl x) (λ y. inr (inl (omega (arith, counts w, some_store w back y)))) b)
           (some_parts (λ (p : RiderView). last_store c p.touches ≡ Some w) front (r ∷ back) s)
 
+  -- a rider that stored v into the cell c, and is else as it was, leaves each cell's rule
+  put_cell : (cells : ℕ) (words : List ℕ) (last : OffsetWords) (c v : ℕ) → c < cells → length words ≡ cells + 2 → IsCounted cells words last (front ++ r ∷ back)
+      → (q : RiderView) → ((d : ℕ) → last_store d q.touches ≡ (if c == d then Some v else last_store d r.touches)) → (d : ℕ) → d < cells → Cell (front ++ q ∷ back) d (slice_index (set words c v) d)
+  put_cell cells words last c v less width h q is d below =
+      ⊎_elim
+      (λ same. inr (some_back (λ (p : RiderView). last_store d p.touches ≡ Some (slice_index (set words c v) d)) front (q ∷ back)
+      (inl (is d ∙ rw (eq-eqb c d (sym same)) (ap Some (sym (ap (λ k. slice_index (set words c v) k) same ∙ get_or-set_same words c v 0 (omega arith))))))))
+      (λ apart. subst (λ w. Cell (front ++ q ∷ back) d w) (sym (get_or-set_other words c d v 0 apart))
+      (same_cell q d (slice_index words d) (is d ∙ rw (ne_eqb c d (λ e. apart (sym e))) refl) (h.cell d below)))
+      (cases_eq d c)
+
+  -- a store more of one value grows no count but its own
+  grown : (b : Bool) (n : ℕ) → n ≤ (if b then 1 else 0) + n
+  grown true n = omega arith
+  grown false n = omega arith
+
   -- a store into a cell
   pub after_store : (cells : ℕ) (words : List ℕ) (last : OffsetWords) (c v : ℕ) → c < cells → length words ≡ cells + 2
       → IsCounted cells words last (front ++ r ∷ back) → IsCounted cells (set words c v) last (front ++ touched (Stored c v) r ∷ back)
@@ -211,20 +227,27 @@ module _ (front : List RiderView) (r : RiderView) (back : List RiderView) where
       let q = touched (Stored c v) r in
       let grows : (d w : ℕ) → stores d w r.touches ≤ stores d w q.touches = λ d w. grown ((c == d) && (v == w)) (stores d w r.touches) in
       changed cells words (set words c v) last q h grows
-      (λ d below. ⊎_elim
-      (λ same. inr (some_back (λ (p : RiderView). last_store d p.touches ≡ Some (slice_index (set words c v) d)) front (q ∷ back)
-      (inl (rw (eq-eqb c d (sym same)) (ap Some (sym (ap (λ k. slice_index (set words c v) k) same ∙ get_or-set_same words c v 0 (omega arith))))))))
-      (λ apart. subst (λ w. Cell (front ++ q ∷ back) d w) (sym (get_or-set_other words c d v 0 apart))
-      (same_cell q d (slice_index words d) (rw (ne_eqb c d (λ e. apart (sym e))) refl) (h.cell d below)))
-      (cases_eq d c))
+      (put_cell cells words last c v less width h q (λ d. refl))
       (own_lawful cells words last q h grows)
       (get_or-set_other words c cells v 0 (λ e. omega arith))
       (get_or-set_other words c (cells + 1) v 0 (λ e. omega arith))
       (every_back (Below last) front (r ∷ back) h.offset).0
-    where
-      grown : (b : Bool) (n : ℕ) → n ≤ (if b then 1 else 0) + n
-      grown true n = omega arith
-      grown false n = omega arith
+
+  -- a cell found, and changed in the same step
+  pub after_change : (cells : ℕ) (words : List ℕ) (last : OffsetWords) (c v : ℕ) → c < cells → length words ≡ cells + 2
+      → IsCounted cells words last (front ++ r ∷ back) → IsCounted cells (set words c v) last (front ++ touched (Changed c (slice_index words c) v) r ∷ back)
+  after_change cells words last c v less width h =
+      let w = slice_index words c in
+      let q = touched (Changed c w v) r in
+      let grows : (d x : ℕ) → stores d x r.touches ≤ stores d x q.touches = λ d x. grown ((c == d) && (v == x)) (stores d x r.touches) in
+      let more : More (front ++ r ∷ back) r c w → More (front ++ q ∷ back) q c w =
+      λ m. let f : RiderView → ℕ = λ x. stores c w x.touches in omega (arith, m, sum_by-append f front (r ∷ back), sum_by-cons f r back, sum_by-append f front (q ∷ back), sum_by-cons f q back) in
+      changed cells words (set words c v) last q h grows
+      (put_cell cells words last c v less width h q (λ d. refl))
+      (⊎_elim (λ a. inl a) (λ b. inr (⊎_elim (λ m. inl (more m)) (λ z. inr z) b)) (found_lawful cells words last c less h), own_lawful cells words last q h grows)
+      (get_or-set_other words c cells v 0 (λ e. omega arith))
+      (get_or-set_other words c (cells + 1) v 0 (λ e. omega arith))
+      (every_back (Below last) front (r ∷ back) h.offset).0
 
   -- a load of a cell
   pub after_load : (cells : ℕ) (words : List ℕ) (last : OffsetWords) (c : ℕ) → c < cells

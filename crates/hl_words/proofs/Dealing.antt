@@ -1,7 +1,10 @@
 -- The master's seat deals out riders one after another.
-use Rattle.std.proofs.Common.{◌≡◌, ℕ, zero, suc, ◌+◌, ◌-◌, ◌<◌, List, [], ◌∷◌, ◌++◌, replicate, take, drop, refl, ap, ◌∙◌, arith}
+use Rattle.std.proofs.Common.{◌≡◌, ℕ, zero, suc, ◌+◌, ◌-◌, ◌<◌, List, [], ◌∷◌, ◌++◌, replicate, take, drop, refl, ap, sym, ◌∙◌, arith}
+use Rattle.std.specs.Prelude.{slice_index_or}
 use Rattle.std.proofs.lemmas.List.{replicate_more}
 use Rattle.atomic_table.specs.Table.{Me}
+use Rattle.hl_history.specs.declared.view.Entry.{Entry}
+use Rattle.hl_history.specs.States.{GatheredState}
 use Rattle.hl_words.specs.declared.view.SeatView.{SeatView}
 use Rattle.hl_words.specs.Views.{no_offsets, unused}
 use Rattle.hl_words.specs.Seats.{seat_of, rider_seat, left_seat, right_seat}
@@ -16,6 +19,22 @@ first_one : (m k : ℕ) → m ≡ k + 1 → take 1 (replicate m unused) ≡ unus
 first_one zero k e = absurd (omega arith)
 first_one (suc m) k e = refl
 
+first_same : {X : Type 0} (x : X) (m : ℕ) → slice_index_or (replicate m x) 0 x ≡ x
+first_same x zero = refl
+first_same x (suc m) = refl
+
+abbrev dealt_rider : SeatView → List Entry → RiderState
+dealt_rider v diary = record { view = first_rider v; share = 0; calls = diary }
+
+-- the diaries after one more
+pub next_diaries : (n k : ℕ) → k < n → (old new : GatheredState) (d : List Entry) → old ≡ record { list = []; diaries = replicate (n - k) [] } → old ≡ record { list = new.list; diaries = d ∷ new.diaries }
+    → (d ≡ []) × (new ≡ record { list = []; diaries = replicate (n - (k + 1)) [] })
+next_diaries n k less old new d is e =
+    let both = sym e ∙ is in
+    let list : new.list ≡ [] = ap (λ (g : GatheredState). g.list) both in
+    let rest : new.diaries ≡ replicate (n - (k + 1)) [] = ap (λ (g : GatheredState). drop 1 g.diaries) both ∙ shorter [] (n - k) (n - (k + 1)) (omega (arith, less)) in
+    (ap (λ (g : GatheredState). slice_index_or g.diaries 0 []) both ∙ first_same [] (n - k), ap (λ l. record { list = l; diaries = new.diaries }) list ∙ ap (λ ds. record { list = []; diaries = ds }) rest)
+
 module _ (n k : ℕ) (less : k < n) (me : Me (Unit {0}) SeatView) (is : me ≡ (seat_of no_offsets (replicate (n - k) unused), [])) where
   -- the master's seat after one more
   pub next_seat : (after : Me (Unit {0}) SeatView) → after ≡ (left_seat me.0, me.1) → after ≡ (seat_of no_offsets (replicate (n - (k + 1)) unused), [])
@@ -25,8 +44,14 @@ module _ (n k : ℕ) (less : k < n) (me : Me (Unit {0}) SeatView) (is : me ≡ (
   pub given_seat : (given : Me (Unit {0}) SeatView) → given ≡ (right_seat me.0, []) → given ≡ (rider_seat unused, [])
   given_seat given e = e ∙ ap (λ (m : Me (Unit {0}) SeatView). (right_seat m.0, [])) is ∙ ap (λ l. (seat_of no_offsets l, [])) (first_one (n - k) (n - (k + 1)) (omega arith))
 
-  pub more_riders : (given : Me (Unit {0}) SeatView) → given ≡ (right_seat me.0, []) → (riders after : List RiderState) → riders ≡ replicate k new_rider
-      → after ≡ riders ++ record { view = first_rider given.0; share = 0 } ∷ [] → after ≡ replicate (k + 1) new_rider
-  more_riders given e riders after old new =
+  -- it is a rider's
+  pub is_rider : (given : Me (Unit {0}) SeatView) → given ≡ (right_seat me.0, []) → given ≡ (rider_seat (first_rider given.0), [])
+  is_rider given e =
       let g = given_seat given e in
-      new ∙ ap (λ l. l ++ record { view = first_rider given.0; share = 0 } ∷ []) old ∙ ap (λ (m : Me (Unit {0}) SeatView). replicate k new_rider ++ record { view = first_rider m.0; share = 0 } ∷ []) g ∙ replicate_more k new_rider
+      g ∙ ap (λ (m : Me (Unit {0}) SeatView). (rider_seat (first_rider m.0), [])) (sym g)
+
+  pub more_riders : (given : Me (Unit {0}) SeatView) → given ≡ (right_seat me.0, []) → (diary : List Entry) → diary ≡ [] → (riders after : List RiderState) → riders ≡ replicate k new_rider
+      → after ≡ riders ++ dealt_rider given.0 diary ∷ [] → after ≡ replicate (k + 1) new_rider
+  more_riders given e diary empty riders after old new =
+      let g = given_seat given e in
+      new ∙ ap (λ l. l ++ dealt_rider given.0 diary ∷ []) old ∙ ap (λ d. replicate k new_rider ++ dealt_rider given.0 d ∷ []) empty ∙ ap (λ (m : Me (Unit {0}) SeatView). replicate k new_rider ++ dealt_rider m.0 [] ∷ []) g ∙ replicate_more k new_rider

@@ -1,24 +1,25 @@
 -- Each step of the table keeps its rule, whatever the table is when the step is taken.
 use Rattle.std.proofs.Common.{◌≡◌, ℕ, zero, suc, ◌+◌, ◌<◌, ◌≤◌, List, [], ◌∷◌, ◌++◌, length, set, replicate, Some, None, slice_get, refl, ap, sym, ◌∙◌, inl, subst, arith, append_assoc, length-append}
-use Rattle.std.specs.Prelude.{slice_index}
+use Rattle.std.specs.Prelude.{slice_index, ◌==◌, ◌%◌, ◌^◌, Bool, true, false, if◌then◌else◌}
+use prog.Atomic.{either}
 use Rattle.std.specs.List.{AllByRecursion as Every}
 use Rattle.std.proofs.lemmas.List.{append-nil, length-set, set-get_or, length-replicate}
 use mathlib.Core.Option.{some, none, some-injective, some-ne-none}
 use lib.ListN.{get_elem?}
 use Rattle.atomic_table.specs.Table.{Me, step, keeps, Allows, Splits, Joins, opening, Final, Seen}
-use Rattle.hl_words.specs.declared.view.Touch.TheVariants.{Stored, Loaded}
+use Rattle.hl_words.specs.declared.view.Touch.TheVariants.{Stored, Loaded, Changed}
 use Rattle.hl_words.specs.declared.view.OffsetWords.{OffsetWords}
 use Rattle.hl_words.specs.declared.view.RiderView.{RiderView}
 use Rattle.hl_words.specs.declared.view.SeatView.{SeatView}
 use Rattle.hl_words.specs.declared.view.Room.{Room}
 use Rattle.hl_words.specs.declared.which.Which.{Which}
 use Rattle.hl_words.specs.declared.which.Which.TheVariants.{ReadOnly, Head}
-use Rattle.hl_words.specs.Views.{place_of, no_offsets, offset_of, greatest_of, with_offset, unused, touched, with_loaded}
+use Rattle.hl_words.specs.Views.{place_of, no_offsets, offset_of, greatest_of, with_offset, unused, touched, added, exchanged, with_loaded}
 use Rattle.hl_words.specs.Rule.{last_store, IsRuled, IsLawful}
-use Rattle.hl_words.specs.Seats.{seat_of, rider_seat, spent_seat, first_seat, riders_in, IsKept, Holds, Stores, Loads, Looks, Sets, left_seat, right_seat, joined_seat}
+use Rattle.hl_words.specs.Seats.{seat_of, rider_seat, spent_seat, first_seat, riders_in, IsKept, Holds, Stores, Loads, Adds, Exchanges, Looks, Sets, left_seat, right_seat, joined_seat}
 use Rattle.hl_words.proofs.Cut.{every_back}
 use Rattle.hl_words.proofs.Counts.{More}
-use Rattle.hl_words.proofs.Counted.{IsCounted, Below, no_loads, no_stores, counted_from, ruled_from, to_front, from_front, after_store, after_load, after_look, after_set, found_offset}
+use Rattle.hl_words.proofs.Counted.{IsCounted, Below, no_loads, no_stores, counted_from, ruled_from, to_front, from_front, after_store, after_change, after_load, after_look, after_set, found_offset}
 
 abbrev Nothing : Type 0
 Nothing = Unit {0}
@@ -97,6 +98,43 @@ module _ (room : Room) (slots : ℕ) (id : ℕ) where
             (rider_kept room s.words s.words s.views id r q h at refl (λ front back last k. after_load front r back room.cells s.words last c less k)),
         refl,
       ))
+
+  -- a rider changes a cell, in one step
+  changed : (words : List ℕ) (views : List SeatView) (r : RiderView) (c v : ℕ) → c < room.cells → IsKept room words views → get_elem? views id ≡ some (rider_seat r)
+      → IsKept room (set words c v) (set views id (rider_seat (touched (Changed c (slice_index words c) v) r)))
+  changed words views r c v less h at =
+      rider_kept room words (set words c v) views id r (touched (Changed c (slice_index words c) v) r) h at (length-set words c v) (λ front back last k. after_change front r back room.cells words last c v less h.width k)
+
+  pub adds_allowed : (me : Me Nothing SeatView) (r : RiderView) (c more : ℕ) → me ≡ (rider_seat r, []) → c < room.cells
+      → Allows (Holds room) slots id me c (λ n. (n + more) % 2 ^ 64) (Adds (step slots c more 0 none) me)
+  adds_allowed me r c more is less = subst (λ (m : Me Nothing SeatView). Allows (Holds room) slots id m c (λ n. (n + more) % 2 ^ 64) (Adds (step slots c more 0 none) m)) (sym is)
+      (λ s h homes at bound. let found = slice_index s.words c in (
+        rider_seat (added c more found r),
+        keeps,
+        tt,
+        changed s.words s.views r c ((found + more) % 2 ^ 64) less h at,
+        refl,
+      ))
+
+  pub exchanges_allowed : (me : Me Nothing SeatView) (r : RiderView) (c old new : ℕ) → me ≡ (rider_seat r, []) → c < room.cells
+      → Allows (Holds room) slots id me c (λ n. either (n == old) new n) (Exchanges (step slots c old new none) me)
+  exchanges_allowed me r c old new is less = subst (λ (m : Me Nothing SeatView). Allows (Holds room) slots id m c (λ n. either (n == old) new n) (Exchanges (step slots c old new none) m)) (sym is)
+      (λ s h homes at bound. let found = slice_index s.words c in (
+        rider_seat (exchanged c old new found r),
+        keeps,
+        tt,
+        kept s.words s.views h at (found == old),
+        refl,
+      ))
+    where
+      kept : (words : List ℕ) (views : List SeatView) → IsKept room words views → get_elem? views id ≡ some (rider_seat r) → (same : Bool)
+          → let found = slice_index words c in
+          IsKept room (set words c (either same new found)) (set views id (rider_seat (if same then touched (Changed c found new) r else touched (Loaded c found) r)))
+      kept words views h at true = changed words views r c new less h at
+      kept words views h at false =
+          let q = touched (Loaded c (slice_index words c)) r in
+          subst (λ ws. IsKept room ws (set views id (rider_seat q))) (sym (set-get_or words c 0))
+              (rider_kept room words words views id r q h at refl (λ front back last k. after_load front r back room.cells words last c less k))
 
   pub looks_allowed : (me : Me Nothing SeatView) (r : RiderView) (which : Which) (i : ℕ) → me ≡ (rider_seat r, []) → i ≡ place_of which room.cells
       → Allows (Holds room) slots id me i (λ n. n) (Looks which (step slots i 0 0 none) me)

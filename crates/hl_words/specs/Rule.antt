@@ -4,7 +4,7 @@ use Rattle.std.specs.Prelude.{ℕ, ◌≡◌, ◌≢◌, ◌+◌, ◌<◌, ◌�
 use Rattle.std.specs.List.{AllByRecursion, Contains}
 use Rattle.hl_model.specs.Lists.{greatest}
 use Rattle.hl_words.specs.declared.view.Touch.{Touch}
-use Rattle.hl_words.specs.declared.view.Touch.TheVariants.{Stored, Loaded}
+use Rattle.hl_words.specs.declared.view.Touch.TheVariants.{Stored, Loaded, Changed}
 use Rattle.hl_words.specs.declared.view.OffsetWords.{OffsetWords}
 use Rattle.hl_words.specs.declared.view.RiderView.{RiderView}
 use Rattle.hl_words.specs.Views.{newest}
@@ -14,12 +14,21 @@ abbrev pub last_store : ℕ → List Touch → Option ℕ
 last_store c [] = None
 last_store c (Stored d v ∷ before) = if d == c then Some v else last_store c before
 last_store c (Loaded d v ∷ before) = last_store c before
+last_store c (Changed d found v ∷ before) = if d == c then Some v else last_store c before
 
 -- no store into the cell, and no load of it but of 0
 abbrev pub IsQuiet : ℕ → List Touch → Type 0
 IsQuiet c [] = Unit {0}
 IsQuiet c (Stored d v ∷ before) = (d ≢ c) × IsQuiet c before
 IsQuiet c (Loaded d v ∷ before) = (d ≡ c → v ≡ 0) × IsQuiet c before
+IsQuiet c (Changed d found v ∷ before) = (d ≢ c) × IsQuiet c before
+
+-- these touches stored the value into the cell
+abbrev pub HasStore : ℕ → ℕ → List Touch → Type 0
+HasStore c v [] = ⊥
+HasStore c v (Stored d w ∷ before) = ((d ≡ c) × (w ≡ v)) ⊎ HasStore c v before
+HasStore c v (Loaded d w ∷ before) = HasStore c v before
+HasStore c v (Changed d found w ∷ before) = ((d ≡ c) × (w ≡ v)) ⊎ HasStore c v before
 
 -- P holds of each rider's number and view; the riders are numbered from 0
 abbrev pub EachRider : (ℕ → RiderView → Type 0) → List RiderView → Type 0
@@ -31,16 +40,21 @@ SomeRider P riders = (i : ℕ) × (r : RiderView) × (slice_get riders i ≡ Som
 
 -- another rider than the i-th stored the value into the cell
 abbrev pub IsElsewhere : List RiderView → ℕ → ℕ → ℕ → Type 0
-IsElsewhere riders i c v = SomeRider (λ j r. (j ≢ i) × Contains r.touches (Stored c v)) riders
+IsElsewhere riders i c v = SomeRider (λ j r. (j ≢ i) × HasStore c v r.touches) riders
 
--- each load is of the last store before it in the list, or of a value stored elsewhere, or of 0 where the
--- list before it has no store and no load but of 0
+-- the value that is found in the cell is the last store of the list before, or a value stored elsewhere, or 0
+-- where the list before has no store and no load but of 0
+abbrev pub IsFound : (ℕ → ℕ → Type 0) → ℕ → ℕ → List Touch → Type 0
+IsFound Elsewhere c v before =
+    (last_store c before ≡ Some v) ⊎ (Elsewhere c v ⊎ ((v ≡ 0) × IsQuiet c before))
+
+-- each value that the list loads, or finds where it changes a cell, is found so
 abbrev pub IsLawful : (ℕ → ℕ → Type 0) → List Touch → Type 0
 IsLawful Elsewhere [] = Unit {0}
 IsLawful Elsewhere (Stored c v ∷ before) = IsLawful Elsewhere before
-IsLawful Elsewhere (Loaded c v ∷ before) =
-    ((last_store c before ≡ Some v) ⊎ (Elsewhere c v ⊎ ((v ≡ 0) × IsQuiet c before)))
-    × IsLawful Elsewhere before
+IsLawful Elsewhere (Loaded c v ∷ before) = IsFound Elsewhere c v before × IsLawful Elsewhere before
+IsLawful Elsewhere (Changed c found v ∷ before) =
+    IsFound Elsewhere c found before × IsLawful Elsewhere before
 
 -- the cell is 0 where no rider stored there, else it is some rider's last store there
 abbrev pub IsCell : List RiderView → ℕ → ℕ → Type 0

@@ -9,7 +9,7 @@ use Rattle.hl_words.specs.declared.view.RiderView.{RiderView}
 use Rattle.hl_words.specs.declared.view.SeatView.{SeatView}
 use Rattle.hl_words.specs.declared.view.Room.{Room}
 use Rattle.hl_words.specs.declared.which.Which.{Which}
-use Rattle.hl_words.specs.Views.{no_offsets, greatest_of, with_offset, unused, touched, with_loaded}
+use Rattle.hl_words.specs.Views.{no_offsets, greatest_of, with_offset, unused, touched, added, exchanged, with_loaded}
 use Rattle.hl_words.specs.Rule.{EachRider, IsRuled}
 
 -- a seat that knows these stores of the offset words, and stands for these riders
@@ -62,6 +62,14 @@ Stores s before found after = after ≡ (moved (touched (Stored s.word s.first))
 -- of a load of a cell: the rider's view has it
 abbrev pub Loads : Step (Unit {0}) → Me (Unit {0}) SeatView → ℕ → Me (Unit {0}) SeatView → Type 0
 Loads s before found after = after ≡ (moved (touched (Loaded s.word found)) before.0, before.1)
+
+-- of an add to a cell: the rider's view has the change
+abbrev pub Adds : Step (Unit {0}) → Me (Unit {0}) SeatView → ℕ → Me (Unit {0}) SeatView → Type 0
+Adds s before found after = after ≡ (moved (added s.word s.first found) before.0, before.1)
+
+-- of a compare and exchange of a cell: the rider's view has the change, or else the load
+abbrev pub Exchanges : Step (Unit {0}) → Me (Unit {0}) SeatView → ℕ → Me (Unit {0}) SeatView → Type 0
+Exchanges s before found after = after ≡ (moved (exchanged s.word s.first s.second found) before.0, before.1)
 
 -- of a load of an offset word: the rider's view has it, and the rider loaded no greater one before
 abbrev pub Looks : Which → Step (Unit {0}) → Me (Unit {0}) SeatView → ℕ → Me (Unit {0}) SeatView → Type 0

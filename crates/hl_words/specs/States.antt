@@ -1,7 +1,10 @@
 -- What contracts see of a seed, of words, of a master and of a rider.
-use Rattle.std.specs.Prelude.{ℕ, ◌≡◌, ◌+◌, ◌^◌, ◌≤◌, List, [], slice_index_or}
+use Rattle.std.specs.Prelude.{ℕ, ◌≡◌, ◌+◌, ◌^◌, ◌≤◌, List, [], ◌∷◌, ◌++◌, Option, Some, None, slice_index_or}
 use Rattle.atomic_table.specs.Seated.{TableId}
 use Rattle.hl_model.specs.Sizes.{Sizes}
+use Rattle.hl_model.specs.declared.step.Step.{Step}
+use Rattle.hl_history.specs.declared.view.Entry.{Entry}
+use Rattle.hl_history.specs.States.{GatheredState}
 use Rattle.hl_words.specs.declared.view.OffsetWords.{OffsetWords}
 use Rattle.hl_words.specs.declared.view.RiderView.{RiderView}
 use Rattle.hl_words.specs.declared.view.SeatView.{SeatView}
@@ -10,15 +13,34 @@ use Rattle.hl_words.specs.Views.{unused}
 use Rattle.hl_words.specs.Seats.{seat_of}
 use Rattle.atomic_table.specs.Table.{Me}
 
--- a rider's stores and loads, and how many journal steps it entered
+-- a rider's stores and loads, how many journal steps it entered, and its calls that met the one list, the newest
+-- first
 pub record RiderState : Type 0 where
   pub view : RiderView
   pub share : ℕ
+  pub calls : List Entry
 
 -- the master's stores of the offset words, and how many journal steps were entered in all
 pub record MasterState : Type 0 where
   pub offsets : OffsetWords
   pub total : ℕ
+
+-- the tables of one seed: that of its words, and that of its one list
+pub record Tables : Type 0 where
+  pub words : TableId
+  pub history : TableId
+
+-- the table that nothing has
+abbrev pub no_table : TableId
+no_table = record {
+  words = 0;
+  slots = 0;
+  views_name = 0;
+  atom = 0;
+  block = 0;
+  offset = 0;
+  slot_names = [];
+}
 
 -- how many cells and how many riders
 pub record WordsState : Type 0 where
@@ -30,24 +52,24 @@ pub record LastState : Type 0 where
   pub cells : ℕ
   pub words : List ℕ
 
--- the sizes of a seed's allocator, how many cells and how many riders it has, with the names of its table and
+-- the sizes of a seed's allocator, how many cells and how many riders it has, with the names of its tables and
 -- of its ledger
 pub record SeedState : Type 0 where
   pub sizes : Sizes
   pub cells : ℕ
   pub riders : ℕ
-  pub table : TableId
+  pub table : Tables
   pub name : ℕ
 
--- the seed whose ledger has this name and these parts, and whose table is this
-abbrev pub IsSeedOf : ℕ → ℕ → TableId → SeedState → Type 0
+-- the seed whose ledger has this name and these parts, and whose tables are these
+abbrev pub IsSeedOf : ℕ → ℕ → Tables → SeedState → Type 0
 IsSeedOf name parts table seed = (seed.name ≡ name) × (seed.riders ≡ parts) × (seed.table ≡ table)
 
 -- the view of the rider for whom a rider's seat stands
 abbrev pub first_rider : SeatView → RiderView
 first_rider v = slice_index_or v.riders 0 unused
 
--- the table of a seed, or of words: its rule is that of this room, and it has the cells and two words more
+-- the first table of a seed, or that of words: its rule is that of this room, and it has the cells and two words more
 pub record IsTableOf (room : Room) (key : Room) (table : TableId) : Type 0 where
   pub key_is : key ≡ room
   pub words_are : table.words ≡ room.cells + 2
@@ -62,6 +84,24 @@ pub record IsMasterSeat (last : OffsetWords) (riders : List RiderView) (id : ℕ
   pub first : id ≡ 0
   pub knows : me ≡ (seat_of last riders, [])
 
+-- a rider with another view
+abbrev pub with_view : RiderView → RiderState → RiderState
+with_view view r = record { view = view; share = r.share; calls = r.calls }
+
+-- a rider with one call more
+abbrev pub with_call : Entry → RiderState → RiderState
+with_call call r = record { view = r.view; share = r.share; calls = call ∷ r.calls }
+
 -- a rider before its first step
 abbrev pub new_rider : RiderState
-new_rider = record { view = unused; share = 0 }
+new_rider = record { view = unused; share = 0; calls = [] }
+
+-- the list at the end with no diary yet, where the scribe is there
+abbrev pub with_no_diaries : Option (List Step) → Option GatheredState
+with_no_diaries None = None
+with_no_diaries (Some list) = Some (record { list = list; diaries = [] })
+
+-- the same with these diaries before its own
+abbrev pub with_diaries : List (List Entry) → Option GatheredState → Option GatheredState
+with_diaries diaries None = None
+with_diaries diaries (Some g) = Some (record { list = g.list; diaries = diaries ++ g.diaries })

@@ -1,8 +1,8 @@
 -- What a rider's view is after one more store or load, and the two offset words by name.
-use Rattle.std.specs.Prelude.{ℕ, ◌+◌, List, [], ◌∷◌}
+use Rattle.std.specs.Prelude.{ℕ, ◌+◌, ◌%◌, ◌^◌, ◌==◌, if◌then◌else◌, List, [], ◌∷◌}
 use Rattle.hl_model.specs.Lists.{greatest}
 use Rattle.hl_words.specs.declared.view.Touch.{Touch}
-use Rattle.hl_words.specs.declared.view.Touch.TheVariants.{Stored, Loaded}
+use Rattle.hl_words.specs.declared.view.Touch.TheVariants.{Stored, Loaded, Changed}
 use Rattle.hl_words.specs.declared.view.OffsetWords.{OffsetWords}
 use Rattle.hl_words.specs.declared.view.RiderView.{RiderView}
 use Rattle.hl_words.specs.declared.which.Which.{Which}
@@ -52,6 +52,20 @@ stored cell value r = touched (Stored cell value) r
 -- the view after a load of the cell that gave the value
 abbrev pub loaded : ℕ → ℕ → RiderView → RiderView
 loaded cell value r = touched (Loaded cell value) r
+
+-- the view after one step that found the one value in the cell and stored the other there
+abbrev pub changed : ℕ → ℕ → ℕ → RiderView → RiderView
+changed cell found value r = touched (Changed cell found value) r
+
+-- the view after an add of a number to the cell, modulo 2^64, which found this
+abbrev pub added : ℕ → ℕ → ℕ → RiderView → RiderView
+added cell more found r = changed cell found ((found + more) % 2 ^ 64) r
+
+-- the view after a compare and exchange of the cell, which found this: a change if that is the old value, else
+-- a load
+abbrev pub exchanged : ℕ → ℕ → ℕ → ℕ → RiderView → RiderView
+exchanged cell old new found r =
+    if found == old then changed cell found new r else loaded cell found r
 
 -- the view after a load of an offset word that gave x
 abbrev pub with_loaded : Which → ℕ → RiderView → RiderView

@@ -4,12 +4,18 @@
 //! loads any word. The master alone stores the offset words, which never fall, and counts the journal steps that
 //! riders enter. At the end `Words::close` takes them all back, and gives the `LastWords`, to be read alone.
 //!
+//! Beside the words lies the one list of `hl_history`. Who wants it opens the seed by `Words::open_with_scribe`, which
+//! hands out the one `Scribe` too, and lays that under the lock where the master lies: `Words::enter` then puts a call's
+//! steps behind the list, and notes in the rider which list the call met. `Words::close_with_scribe` says that the
+//! scribe's list is the one list of all riders' calls.
+//!
 //! What each value witnesses:
 //!
-//! - a **rider**: what it stored into cells and loaded from them, in order, what it loaded of each offset word, and its
-//!   share: how many journal steps it entered;
+//! - a **rider**: what it stored into cells and loaded from them, in order, what it loaded of each offset word, its
+//!   share: how many journal steps it entered, and its calls: the list that each met, and the steps that it put behind;
 //! - the **master**: its stores of each offset word, and how many journal steps all riders entered;
-//! - a **seed**: that its words and its ledger are new. It is used up by `Words::open`;
+//! - the **scribe**: the one list of steps;
+//! - a **seed**: that its words, its ledger and its list are new. It is used up by `Words::open`;
 //! - a **realm**: nothing by itself. It names one seed in types, so that a rider, a master and words of one realm belong
 //!   together. Code that opens a seed is a function over `L: Realm`, and is called with `Brand`.
 //!
@@ -24,7 +30,7 @@
 //! seeds, whose types differ, are never mixed; that words may be shared by threads, and that a rider may go to another.
 //! Nothing is said of the order of two threads' stores into one cell, nor that a load finds the latest.
 //!
-//! No call waits. Memory is taken by `Seed::make` and `Words::open` alone.
+//! No call waits. Memory is taken by `Seed::make`, `Words::open` and `Words::open_with_scribe` alone.
 #![tactic(auto)]
 
 mod last;
@@ -39,7 +45,7 @@ mod words;
 pub use last::LastWords;
 pub use master::Master;
 pub use rider::Rider;
-pub use seed::{Realm, Seed};
+pub use seed::{HistoryOf, Realm, Scribe, Seed};
 pub use view::{OffsetWords, RiderView, Touch};
 pub use which::Which;
 pub use words::Words;

@@ -25,7 +25,7 @@ impl<L: Realm> Model for Master<L> {
     ghost view = { λ m. record { offsets = m.seat.me.0.offsets; total = m.total } };
 
     ghost invariant = { λ m. IsMasterSeat m.seat.me.0.offsets [] m.seat.id m.seat.me
-        × (m.seat.table_id ≡ L.table) × (m.book.total ≡ m.total) × (m.total ≤ 2 ^ 62) × (m.share.parts ≡ 0)
+        × (m.seat.table_id ≡ L.table.words) × (m.book.total ≡ m.total) × (m.total ≤ 2 ^ 62) × (m.share.parts ≡ 0)
         × (m.share.amount ≡ 0) };
 }
 
@@ -43,7 +43,8 @@ impl<L: Realm> Master<L> {
     pub fn enter(&mut self, rider: &mut Rider<L>, steps: u64)
         requires { self.old.total + steps ≤ 2 ^ 62 }
         ensures total { self.new ≡ record { offsets = self.old.offsets; total = self.old.total + steps } }
-        ensures share { rider.new ≡ record { view = rider.old.view; share = rider.old.share + steps } }
+        ensures share { let old = rider.old
+            in rider.new ≡ record { view = old.view; share = old.share + steps; calls = old.calls } }
     {
         let Master { book, total, .. } = self;
         let Rider { share, entered, .. } = rider;

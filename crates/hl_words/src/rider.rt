@@ -1,16 +1,19 @@
 ghost use Rattle.std.specs.Prelude.{◌≡◌};
 
-use crate::seed::{Realm, WordSeat};
+use crate::seed::{HistoryOf, Realm, WordSeat};
+use hl_history::Diary;
 use std::marker::Model;
 use std::sync::ledger::Share;
 
-/// The right to store into cells and to load any word. It can go to another thread. Contracts see what it stored and
-/// loaded, and how many journal steps it entered.
+/// The right to store into cells and to load any word, with a diary of its calls that met the one list. It can go to
+/// another thread. Contracts see what it stored and loaded, how many journal steps it entered, and these calls, the
+/// newest first.
 #[derive(Drop)]
 pub struct Rider<L: Realm> {
     pub(crate) seat: WordSeat,
     pub(crate) share: Share<L>,
     pub(crate) entered: u64,
+    pub(crate) diary: Diary<HistoryOf<L>>,
 }
 
 impl<L: Realm> Model for Rider<L> {
@@ -20,10 +23,10 @@ impl<L: Realm> Model for Rider<L> {
 
     ghost Value = { RiderState };
 
-    ghost view = { λ r. record { view = first_rider r.seat.me.0; share = r.entered } };
+    ghost view = { λ r. record { view = first_rider r.seat.me.0; share = r.entered; calls = r.diary } };
 
     ghost invariant = { λ r. (r.seat.me ≡ (rider_seat (first_rider r.seat.me.0), []))
-        × (r.seat.table_id ≡ L.table) × (r.share.parts ≡ 1) × (r.share.amount ≡ r.entered) };
+        × (r.seat.table_id ≡ L.table.words) × (r.share.parts ≡ 1) × (r.share.amount ≡ r.entered) };
 }
 
 impl<L: Realm> Rider<L> {

@@ -31,6 +31,24 @@ impl Play<(), SeatView> for LoadCell {
     ghost then = { Loads };
 }
 
+/// A rider's add of a number to a cell, in one step.
+pub struct AddCell;
+
+impl Play<(), SeatView> for AddCell {
+    ghost use Rattle.hl_words.specs.Seats.{Adds};
+
+    ghost then = { Adds };
+}
+
+/// A rider's store into a cell if another value stands there, in one step.
+pub struct ExchangeCell;
+
+impl Play<(), SeatView> for ExchangeCell {
+    ghost use Rattle.hl_words.specs.Seats.{Exchanges};
+
+    ghost then = { Exchanges };
+}
+
 /// A rider's load of the read-only word.
 pub struct LoadReadOnly;
 

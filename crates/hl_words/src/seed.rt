@@ -5,9 +5,10 @@ ghost use Rattle.hl_words.specs.Seats.{first_seat};
 use crate::rule::WordRule;
 use crate::view::{Room, SeatView};
 use atomic_table::{Seat, Table};
+use hl_history::Named;
 use hl_model::{Fault, Params};
 use std::alloc::{AllocError, Global};
-use std::marker::{Brand, Model};
+use std::marker::{Brand, Model, PhantomData};
 use std::sync::ledger::{Blank, Ledger};
 
 /// The table of the words.
@@ -16,14 +17,14 @@ pub(crate) type WordTable = Table<(), SeatView, Room, WordRule, Global>;
 /// A seat at the table of the words.
 pub(crate) type WordSeat = Seat<(), SeatView>;
 
-/// Names the table and the ledger of one seed, its sizes, and the stamp of the domain that is opened over it. What
+/// Names the tables and the ledger of one seed, its sizes, and the stamp of the domain that is opened over it. What
 /// carries one realm is all of one seed.
 pub trait Realm: Ledger {
     ghost use Rattle.std.specs.Prelude.{ℕ};
-    ghost use Rattle.atomic_table.specs.Seated.{TableId};
     ghost use Rattle.hl_model.specs.Sizes.{Sizes};
+    ghost use Rattle.hl_words.specs.States.{Tables};
 
-    ghost table: { TableId };
+    ghost table: { Tables };
 
     ghost sizes: { Sizes };
 
@@ -31,31 +32,34 @@ pub trait Realm: Ledger {
 }
 
 impl Realm for Brand {
-    ghost use Rattle.std.specs.Prelude.{[]};
+    ghost use Rattle.hl_words.specs.States.{no_table};
 
-    ghost table = { record {
-      words = 0;
-      slots = 0;
-      views_name = 0;
-      atom = 0;
-      block = 0;
-      offset = 0;
-      slot_names = [];
-    } };
+    ghost table = { record { words = no_table; history = no_table } };
 
     ghost sizes = { record { page_size = 4; frames = 2; slots = 1; drain = 1 } };
 
     ghost stamp = { 0 };
 }
 
-/// Words that nobody has opened yet: the cells, the two offset words, and a ledger with a part for each rider. It is
-/// the one witness that its realm is new: it is used up by `Words::open`.
+/// Names the history of a realm's seed.
+pub struct HistoryOf<L>(PhantomData<L>);
+
+impl<L: Realm> Named for HistoryOf<L> {
+    ghost table = { L.table.history };
+}
+
+/// The right to put steps behind the one list of a realm. Contracts see it as the list.
+pub type Scribe<L> = hl_history::Scribe<HistoryOf<L>>;
+
+/// Words that nobody has opened yet: the cells, the two offset words, a ledger with a part for each rider, and the
+/// empty list with a diary for each. It is the one witness that its realm is new: it is used up by `Words::open`.
 #[derive(Drop)]
 pub struct Seed {
     pub(crate) params: Params,
     pub(crate) table: WordTable,
     pub(crate) seat: WordSeat,
     pub(crate) blank: Blank,
+    pub(crate) history: hl_history::Seed,
     pub(crate) room: Room,
 }
 
@@ -71,13 +75,14 @@ impl Model for Seed {
       sizes = s.params;
       cells = s.room.cells;
       riders = s.room.riders;
-      table = s.table.shared.table_id;
+      table = record { words = s.table.shared.table_id; history = s.history.table };
       name = s.blank.name;
     } };
 
     ghost invariant = { λ s. IsTableOf s.room s.table.shared.key s.table.shared.table_id
         × IsMasterSeat no_offsets (first_seat s.room).riders s.seat.id s.seat.me
         × (s.seat.table_id ≡ s.table.shared.table_id) × (s.blank.parts ≡ s.room.riders)
+        × (s.history.diaries ≡ s.room.riders)
         × (s.room.cells ≡ s.params.frames * s.params.page_size) };
 }
 
@@ -96,11 +101,15 @@ impl Seed {
         let Ok((table, seat)) = laid(alloc, room) else {
             return Err(Fault::OutOfMemory);
         };
+        let Ok(history) = hl_history::Seed::make(alloc, riders) else {
+            return Err(Fault::OutOfMemory);
+        };
         Ok(Seed {
             params,
             table,
             seat,
             blank: Blank::new(riders as u64),
+            history,
             room,
         })
     }

@@ -7,6 +7,9 @@ pub enum Touch {
     Stored { cell: u64, value: u64 },
     /// It loaded the value from the cell.
     Loaded { cell: u64, value: u64 },
+    /// It found the one value in the cell and stored the other there, in one step: no store of another rider came
+    /// between.
+    Changed { cell: u64, found: u64, value: u64 },
 }
 
 /// Values of each offset word, in words of the log, the newest first: those that a rider loaded, or those that the

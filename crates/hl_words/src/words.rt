@@ -1,28 +1,36 @@
-ghost use Rattle.std.specs.Prelude.{◌≡◌, ◌≢◌, ◌+◌, ◌<◌, ◌≤◌, ℕ, List, [], map, length, replicate, IfOk, OnOk, IfErr};
+ghost use Rattle.std.specs.Prelude.{◌≡◌, ◌≢◌, ◌==◌, ◌+◌, ◌<◌, ◌≤◌, ℕ, List, [], ◌∷◌, ◌++◌, map, length, replicate, IfOk, OnOk, IfErr};
+ghost use Rattle.std.specs.Option.{IfSome};
 ghost use Rattle.std.specs.List.{sum_by};
 ghost use Rattle.hl_model.specs.declared.fault.Fault.TheVariants.{OutOfMemory};
-ghost use Rattle.hl_words.specs.Views.{no_offsets, offset_of, greatest_of, with_offset, stored, loaded, with_loaded};
+ghost use Rattle.hl_history.specs.Lists.{entry, IsOf, IsOneList};
+ghost use Rattle.hl_words.specs.Views.{no_offsets, offset_of, greatest_of, with_offset, stored, loaded, added, exchanged, with_loaded};
 ghost use Rattle.hl_words.specs.Rule.{IsRuled};
-ghost use Rattle.hl_words.specs.States.{IsSeedOf, IsMasterSeat, new_rider};
+ghost use Rattle.hl_words.specs.States.{IsSeedOf, IsMasterSeat, new_rider, with_view, with_call, with_diaries, with_no_diaries};
 
 use crate::last::LastWords;
 use crate::master::Master;
 use crate::rider::Rider;
-use crate::rule::{Deal, LoadCell, LoadHead, LoadReadOnly, StoreCell, StoreHead, StoreReadOnly};
-use crate::seed::{Realm, Seed, WordSeat, WordTable};
+use crate::rule::{
+    AddCell, Deal, ExchangeCell, LoadCell, LoadHead, LoadReadOnly, StoreCell, StoreHead,
+    StoreReadOnly,
+};
+use crate::seed::{HistoryOf, Realm, Scribe, Seed, WordSeat, WordTable};
 use crate::view::Room;
 use crate::which::Which;
-use hl_model::Fault;
+use hl_history::{Diary, Gathered, History};
+use hl_model::{Fault, Step};
 use std::alloc::Global;
 use std::marker::{Model, PhantomData};
 use std::sync::ledger::Share;
 
-/// The cells and the two offset words, which any thread may load and store through a `&`. No call here waits or takes
-/// memory but `open`. Contracts see how many cells and how many riders there are.
+/// The cells and the two offset words, which any thread may load and store through a `&`, and the one list of steps,
+/// behind which the scribe puts more. No call here waits or takes memory but those that open. Contracts see how many
+/// cells and how many riders there are.
 #[derive(Drop)]
 pub struct Words<L: Realm> {
     table: WordTable,
     room: Room,
+    history: History<HistoryOf<L>>,
     of: PhantomData<L>,
 }
 
@@ -35,12 +43,13 @@ impl<L: Realm> Model for Words<L> {
     ghost view = { λ w. record { cells = w.room.cells; riders = w.room.riders } };
 
     ghost invariant = { λ w. IsTableOf w.room w.table.shared.key w.table.shared.table_id
-        × (w.table.shared.table_id ≡ L.table) × (w.room.riders ≡ L.parts) };
+        × (w.table.shared.table_id ≡ L.table.words) × (w.room.riders ≡ L.parts)
+        × (w.history ≡ w.room.riders) };
 }
 
 impl<L: Realm> Words<L> {
     /// Opens a seed: its words, the one master, and the riders. OutOfMemory where memory was refused; then the seed is
-    /// given up.
+    /// given up. The scribe is dropped, so that nothing is entered in the one list.
     pub fn open(alloc: Global, seed: Seed) -> Result<(Words<L>, Master<L>, Vec<Rider<L>>), Fault>
         requires { IsSeedOf L.name L.parts L.table seed }
         ensures words { IfOk result
@@ -49,29 +58,51 @@ impl<L: Realm> Words<L> {
         ensures riders { IfOk result (λ opened. opened.2.items ≡ replicate seed.riders new_rider) }
         ensures memory { IfErr result (λ fault. fault ≡ OutOfMemory) }
     {
+        let (words, master, _scribe, riders) = Words::open_with_scribe(alloc, seed)?;
+        Ok((words, master, riders))
+    }
+
+    /// Opens a seed as `open` does, and hands out the one scribe, whose list is empty.
+    pub fn open_with_scribe(
+        alloc: Global,
+        seed: Seed,
+    ) -> Result<(Words<L>, Master<L>, Scribe<L>, Vec<Rider<L>>), Fault>
+        requires { IsSeedOf L.name L.parts L.table seed }
+        ensures words { IfOk result
+            (λ opened. opened.0 ≡ record { cells = seed.cells; riders = seed.riders }) }
+        ensures master { IfOk result (λ opened. opened.1 ≡ record { offsets = no_offsets; total = 0 }) }
+        ensures list { IfOk result (λ opened. opened.2 ≡ []) }
+        ensures riders { IfOk result (λ opened. opened.3.items ≡ replicate seed.riders new_rider) }
+        ensures memory { IfErr result (λ fault. fault ≡ OutOfMemory) }
+    {
         let Seed {
             params: _,
             table,
             mut seat,
             blank,
+            history,
             room,
         } = seed;
         let Ok(mut riders) = Vec::with_capacity(alloc, room.riders) else {
             return Err(Fault::OutOfMemory);
         };
         let (book, mut share) = blank.open::<L>();
+        let (history, mut diaries) = History::open(history);
         for _dealt in 0..room.riders {
             let seat = table.shared.split_seat::<Deal>(&mut seat);
             let share = share.split_off(1, 0);
+            let diary = history.deal(&mut diaries);
             riders.push_reserved(Rider {
                 seat,
                 share,
                 entered: 0,
+                diary,
             });
         }
         let words = Words {
             table,
             room,
+            history,
             of: PhantomData,
         };
         let master = Master {
@@ -80,13 +111,13 @@ impl<L: Realm> Words<L> {
             share,
             total: 0,
         };
-        Ok((words, master, riders))
+        Ok((words, master, diaries.into_scribe(), riders))
     }
 
     /// Stores a value into a cell. The rider's view has the store.
     pub fn store_cell(&self, rider: &mut Rider<L>, cell: u64, value: u64)
         requires { cell < self.now.cells }
-        ensures { rider.new ≡ record { view = stored cell value rider.old.view; share = rider.old.share } }
+        ensures { rider.new ≡ with_view (stored cell value rider.old.view) rider.old }
     {
         let shared = &self.table.shared;
         shared.store::<StoreCell>(&mut rider.seat, cell as usize, value);
@@ -95,10 +126,36 @@ impl<L: Realm> Words<L> {
     /// Loads a cell. The rider's view has the load; that its value is lawful is what `close` tells of all loads.
     pub fn load_cell(&self, rider: &mut Rider<L>, cell: u64) -> u64
         requires { cell < self.now.cells }
-        ensures { rider.new ≡ record { view = loaded cell result rider.old.view; share = rider.old.share } }
+        ensures { rider.new ≡ with_view (loaded cell result rider.old.view) rider.old }
     {
         let shared = &self.table.shared;
         shared.load::<LoadCell>(&mut rider.seat, cell as usize)
+    }
+
+    /// Adds a number to a cell, modulo 2^64, in one step: no store of another rider comes between its load and its store.
+    /// The answer is what it found. The rider's view has the change; that what it found is lawful is what `close` tells.
+    pub fn fetch_add_cell(&self, rider: &mut Rider<L>, cell: u64, more: u64) -> u64
+        requires { cell < self.now.cells }
+        ensures { rider.new ≡ with_view (added cell more result rider.old.view) rider.old }
+    {
+        let shared = &self.table.shared;
+        shared.fetch_add::<AddCell>(&mut rider.seat, cell as usize, more)
+    }
+
+    /// Stores the new value into a cell if the old one stands there, in one step. The answer is what it found. The
+    /// rider's view has the change, or else the load.
+    pub fn compare_exchange_cell(
+        &self,
+        rider: &mut Rider<L>,
+        cell: u64,
+        old: u64,
+        new: u64,
+    ) -> u64
+        requires { cell < self.now.cells }
+        ensures { rider.new ≡ with_view (exchanged cell old new result rider.old.view) rider.old }
+    {
+        let shared = &self.table.shared;
+        shared.compare_exchange::<ExchangeCell>(&mut rider.seat, cell as usize, old, new)
     }
 
     /// Stores an offset word, in words of the log. The caller sees to it that it isn't below the master's last store.
@@ -118,8 +175,7 @@ impl<L: Realm> Words<L> {
     /// Loads an offset word, in words of the log. It isn't below what this rider loaded of it before. The rider's view
     /// has the load; that it is one of the master's stores, or 0, is what `close` tells of all loads.
     pub fn load_offset(&self, rider: &mut Rider<L>, which: Which) -> u64
-        ensures view { rider.new
-            ≡ record { view = with_loaded which result rider.old.view; share = rider.old.share } }
+        ensures view { rider.new ≡ with_view (with_loaded which result rider.old.view) rider.old }
         ensures rises { greatest_of which rider.old.view.offsets ≤ result }
     {
         let shared = &self.table.shared;
@@ -128,6 +184,16 @@ impl<L: Realm> Words<L> {
             Which::ReadOnly => shared.load::<LoadReadOnly>(seat, self.room.cells),
             Which::Head => shared.load::<LoadHead>(seat, self.room.cells + 1),
         }
+    }
+
+    /// Puts steps behind the scribe's list, for a rider: its newest call tells the list before them, and the steps. That
+    /// list begins with what each of its earlier calls left.
+    pub fn enter(&self, scribe: &mut Scribe<L>, rider: &mut Rider<L>, steps: &[Step])
+        ensures list { scribe.new ≡ scribe.old ++ steps.now }
+        ensures rider { rider.new ≡ with_call (entry scribe.old steps.now) rider.old }
+        ensures rises { IsOf scribe.old rider.old.calls }
+    {
+        self.history.enter(scribe, &mut rider.diary, steps);
     }
 
     /// Ends the words, and tells what each one holds. Where a rider is missing, all is handed back. Else the master's
@@ -146,44 +212,131 @@ impl<L: Realm> Words<L> {
         ensures missing { IfErr result (λ _. length riders.items ≢ self.riders) }
         ensures back { IfErr result (λ back. (back.0 ≡ self) × (back.1 ≡ master) × (back.2 ≡ riders)) }
     {
-        if riders.len() != self.room.riders {
+        if !self.has_all(riders.as_slice()) {
             return Err((self, master, riders));
         }
+        Ok(self.end(master, None, riders))
+    }
+
+    /// Ends the words as `close` does. Besides, where no rider is missing, the scribe's list is the one list of exactly
+    /// these riders' calls.
+    pub fn close_with_scribe(
+        self,
+        master: Master<L>,
+        scribe: Scribe<L>,
+        riders: Vec<Rider<L>>,
+    ) -> Result<LastWords, (Words<L>, Master<L>, Scribe<L>, Vec<Rider<L>>)>
+        ensures all { OnOk result (length riders.items ≡ self.riders) }
+        ensures total { OnOk result (master.total ≡ sum_by (λ r. r.share) riders.items) }
+        ensures cells { IfOk result (λ last. last.cells ≡ self.cells) }
+        ensures rule { IfOk result
+            (λ last. IsRuled self.cells last.words master.offsets (map (λ r. r.view) riders.items)) }
+        ensures list { OnOk result (IsOneList scribe (map (λ r. r.calls) riders.items)) }
+        ensures missing { IfErr result (λ _. length riders.items ≢ self.riders) }
+        ensures back { IfErr result (λ back.
+            (back.0 ≡ self) × (back.1 ≡ master) × (back.2 ≡ scribe) × (back.3 ≡ riders)) }
+    {
+        if !self.has_all(riders.as_slice()) {
+            return Err((self, master, scribe, riders));
+        }
+        Ok(self.end(master, Some(scribe), riders))
+    }
+
+    // Whether these riders are as many as were dealt out.
+    fn has_all(&self, riders: &[Rider<L>]) -> bool
+        ensures { result ≡ (length riders.now == self.now.riders) }
+    {
+        riders.len() == self.room.riders
+    }
+
+    // Ends the words, where all riders are there, and the list where the scribe is.
+    fn end(self, master: Master<L>, scribe: Option<Scribe<L>>, riders: Vec<Rider<L>>) -> LastWords
+        requires { length riders.items ≡ self.riders }
+        ensures total { master.total ≡ sum_by (λ r. r.share) riders.items }
+        ensures cells { result.cells ≡ self.cells }
+        ensures rule { IsRuled self.cells result.words master.offsets (map (λ r. r.view) riders.items) }
+        ensures list { IfSome scribe (λ list. IsOneList list (map (λ r. r.calls) riders.items)) }
+    {
         let Master {
-            mut seat,
+            seat,
             mut book,
-            mut share,
+            share,
             ..
         } = master;
-        gather(&self.table, &mut seat, &mut share, riders);
-        book.audit(&mut share);
-        let cells = self.room.cells;
-        Ok(LastWords::of(self.table.close_with(seat), cells))
+        let mut ended = Ended {
+            seat,
+            share,
+            diaries: gathered(scribe),
+        };
+        self.gather(&mut ended, riders);
+        book.audit(&mut ended.share);
+        let Words {
+            table,
+            room,
+            history,
+            of: _,
+        } = self;
+        let Ended {
+            seat,
+            share: _,
+            diaries,
+        } = ended;
+        if let Some(diaries) = diaries {
+            history.close(diaries);
+        }
+        LastWords::of(table.close_with(seat), room.cells)
+    }
+
+    // Takes the riders back.
+    fn gather(&self, ended: &mut Ended<L>, mut riders: Vec<Rider<L>>)
+        requires seat { (ended.old.seat.table_id ≡ L.table.words)
+            × IsMasterSeat ended.old.seat.me.0.offsets [] ended.old.seat.id ended.old.seat.me }
+        ensures seat { (ended.new.seat.table_id ≡ L.table.words)
+            × IsMasterSeat ended.old.seat.me.0.offsets (map (λ r. r.view) riders.items)
+            ended.new.seat.id ended.new.seat.me }
+        ensures parts { ended.new.share.parts ≡ ended.old.share.parts + length riders.items }
+        ensures amount { ended.new.share.amount
+            ≡ ended.old.share.amount + sum_by (λ r. r.share) riders.items }
+        ensures diaries { ended.new.diaries
+            ≡ with_diaries (map (λ r. r.calls) riders.items) ended.old.diaries }
+    {
+        while let Some(rider) = riders.pop() {
+            let Rider {
+                seat,
+                share,
+                diary,
+                ..
+            } = rider;
+            self.table.shared.join_seat::<Deal>(&mut ended.seat, seat);
+            ended.share.merge(share);
+            self.take_back(&mut ended.diaries, diary);
+        }
+    }
+
+    // Takes a rider's diary back, where the scribe is there.
+    fn take_back(&self, diaries: &mut Option<Gathered<HistoryOf<L>>>, diary: Diary<HistoryOf<L>>)
+        ensures { diaries.new ≡ with_diaries (diary ∷ []) diaries.old }
+    {
+        if let Some(gathered) = diaries {
+            self.history.take_back(gathered, diary);
+        }
     }
 }
 
-// Joins the riders' seats and their shares into the master's.
-fn gather<L: Realm>(
-    table: &WordTable,
-    seat: &mut WordSeat,
-    share: &mut Share<L>,
-    mut riders: Vec<Rider<L>>,
-)
-    requires table { (table.now.shared.table_id ≡ L.table) × (0 < table.now.shared.table_id.words) }
-    requires seat { (seat.old.table_id ≡ L.table)
-        × IsMasterSeat seat.old.me.0.offsets [] seat.old.id seat.old.me }
-    ensures seat { (seat.new.table_id ≡ L.table)
-        × IsMasterSeat seat.old.me.0.offsets (map (λ r. r.view) riders.items) seat.new.id seat.new.me }
-    ensures parts { share.new.parts ≡ share.old.parts + length riders.items }
-    ensures amount { share.new.amount ≡ share.old.amount + sum_by (λ r. r.share) riders.items }
+// What the riders are taken back into at the end: the master's seat and its share, and the scribe's list and diaries,
+// where the scribe is there.
+struct Ended<L: Realm> {
+    seat: WordSeat,
+    share: Share<L>,
+    diaries: Option<Gathered<HistoryOf<L>>>,
+}
+
+// The scribe's list, with no diary yet.
+fn gathered<L: Realm>(scribe: Option<Scribe<L>>) -> Option<Gathered<HistoryOf<L>>>
+    ensures { result ≡ with_no_diaries scribe }
 {
-    while let Some(rider) = riders.pop() {
-        let Rider {
-            seat: its_seat,
-            share: its_share,
-            ..
-        } = rider;
-        table.shared.join_seat::<Deal>(seat, its_seat);
-        share.merge(its_share);
+    match scribe {
+        Some(scribe) => Some(scribe.gather()),
+        None => None,
     }
 }

@@ -85,10 +85,8 @@ impl Log {
 
     /// Protects a slot until the pass is dropped. NoSlot, Occupied.
     pub fn acquire(&self, slot: u64) -> Result<Pass<'_>, Fault> {
-        let mut locked = self.lock();
-        let entered = locked.core.enter(slot);
-        locked.note(Step::Acquire { slot }, entered.map(Reply::Entered));
-        Ok(Pass::new(self, slot, entered?.view))
+        let entered = self.make(Step::Acquire { slot }, |core| core.enter(slot), Reply::Entered)?;
+        Ok(Pass::new(self, slot, entered.view))
     }
 
     /// Ends the current epoch, and stores a job of this tag: its ticket. DrainFull, EpochsSpent, WindowFull.
@@ -184,10 +182,7 @@ impl Log {
         call: impl FnOnce(&Core) -> Result<T, Fault>,
         reply: impl FnOnce(T) -> Reply,
     ) -> Result<T, Fault> {
-        let mut locked = self.lock();
-        let told = call(&locked.core);
-        locked.note(step, told.map(reply));
-        told
+        self.lock().make(step, call, reply)
     }
 
     /// The read-only offset and the head as they were last stored.
@@ -210,8 +205,20 @@ impl Log {
 }
 
 impl Locked {
+    /// Makes a step by a call of the core, and notes it with what it was told.
+    pub(crate) fn make<T: Copy>(
+        &mut self,
+        step: Step,
+        call: impl FnOnce(&Core) -> Result<T, Fault>,
+        reply: impl FnOnce(T) -> Reply,
+    ) -> Result<T, Fault> {
+        let told = call(&self.core);
+        self.note(step, told.map(reply));
+        told
+    }
+
     /// Notes a step, where there is a journal.
-    pub(crate) fn note(&mut self, step: Step, reply: Result<Reply, Fault>) {
+    fn note(&mut self, step: Step, reply: Result<Reply, Fault>) {
         if let Some(journal) = &mut self.journal {
             journal.push(Entry { step, reply });
         }

@@ -160,10 +160,7 @@ impl<'a> Pass<'a> {
         call: impl FnOnce(&Core) -> Result<T, Fault>,
         reply: impl FnOnce(T) -> Reply,
     ) -> Result<T, Fault> {
-        let mut locked = self.lock();
-        let told = call(&locked.core);
-        locked.note(step, told.map(reply));
-        told
+        self.lock().make(step, call, reply)
     }
 }
 

@@ -6,10 +6,10 @@ ghost use Rattle.hl_model.specs.declared.step.Step.TheVariants.{Take as TAKE, Do
 ghost use Rattle.hl_model.specs.Actions.{bumps};
 ghost use Rattle.hl_model.specs.Replies.{answer_of};
 ghost use Rattle.hl_core.specs.Steps.{asking, stored, CameOut};
-ghost use Rattle.hl_domain.specs.Passes.{Shares};
-ghost use Rattle.hl_domain.specs.Keepers.{job_tag, KeeperStands};
-ghost use Rattle.hl_domain.specs.Calls.{Makes, Ends, Stays};
-ghost use Rattle.hl_domain.specs.Taking.{taken_from, ready_told};
+ghost use Rattle.hl_keeper.specs.Passes.{Shares};
+ghost use Rattle.hl_keeper.specs.Keepers.{job_tag, KeeperStands};
+ghost use Rattle.hl_keeper.specs.Calls.{Makes, Ends, Stays};
+ghost use Rattle.hl_keeper.specs.Taking.{taken_from, ready_told};
 ghost use Rattle.hl_domain.specs.Domains.{LeavesUnderLock, MakesUnderLock};
 ghost use Rattle.hl.specs.Sessions.{fault_alone, KeepsAllButRider};
 

@@ -1,5 +1,5 @@
 ghost use Rattle.std.specs.Prelude.{◌≡◌, ◌+◌, ℕ, Some, None, Ok, position, OnOk, OnErr};
-ghost use Rattle.hl_domain.specs.Passes.{Shares};
+ghost use Rattle.hl_keeper.specs.Passes.{Shares};
 ghost use Rattle.hl_crew.specs.Pouches.{is_of, load_count, Answers};
 ghost use Rattle.hl_crew.specs.Counting.{counted, one_stranger, failed_more, AnswersAndCounts};
 

@@ -1,5 +1,5 @@
 ghost use Rattle.std.specs.Prelude.{◌≡◌, true, length, All};
-ghost use Rattle.hl_domain.specs.Calls.{without_back};
+ghost use Rattle.hl_keeper.specs.Calls.{without_back};
 ghost use Rattle.hl_crew.specs.Goes.{UpTo};
 ghost use Rattle.hl_crew.specs.Lags.{IsLag, steps_wanted, is_lag_step, lag_end, MakesStep, MakesNext, KeepsLag};
 

@@ -2,15 +2,15 @@
 ghost use Rattle.std.specs.Prelude.{◌≡◌, List, [], ◌∷◌, ◌++◌, IfErr};
 ghost use Rattle.hl_model.specs.declared.step.Step.TheVariants.{FlushTake as FLUSH_TAKE, FlushDone as FLUSH_DONE, CleanTake as CLEAN_TAKE, CleanDone as CLEAN_DONE};
 ghost use Rattle.hl_model.specs.Pages.{flushed};
-ghost use Rattle.hl_domain.specs.Passes.{Shares};
-ghost use Rattle.hl_domain.specs.Calls.{without_back, Makes, Ends};
-ghost use Rattle.hl_domain.specs.Pages.{to_flush, to_clean};
+ghost use Rattle.hl_keeper.specs.Passes.{Shares};
+ghost use Rattle.hl_keeper.specs.Calls.{without_back, Makes, Ends};
+ghost use Rattle.hl_keeper.specs.Pages.{to_flush, to_clean};
 ghost use Rattle.hl_domain.specs.Domains.{MakesUnderLock};
 
 use crate::domain::Domain;
-use crate::load::{Broom, Load};
 use hl_action::{Promise, Task};
 use hl_epoch::Epochs;
+use hl_keeper::{Broom, Load};
 use hl_model::Fault;
 use hl_words::{Realm, Rider};
 use std::sync::Wait;

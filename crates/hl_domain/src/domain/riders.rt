@@ -9,10 +9,10 @@ ghost use Rattle.hl_model.specs.Snapshots.{snapshot_of};
 ghost use Rattle.hl_model.specs.Frames.{frame_of};
 ghost use Rattle.hl_core.specs.Holding.{oldest, holders};
 ghost use Rattle.hl_core.specs.Steps.{asking, stored, CameOut};
-ghost use Rattle.hl_domain.specs.Passes.{Shares};
-ghost use Rattle.hl_domain.specs.Keepers.{job_tag, KeeperStands};
-ghost use Rattle.hl_domain.specs.Calls.{without_back, Makes, Ends, Stays};
-ghost use Rattle.hl_domain.specs.Taking.{taken_from, ready_told};
+ghost use Rattle.hl_keeper.specs.Passes.{Shares};
+ghost use Rattle.hl_keeper.specs.Keepers.{job_tag, KeeperStands};
+ghost use Rattle.hl_keeper.specs.Calls.{without_back, Makes, Ends, Stays};
+ghost use Rattle.hl_keeper.specs.Taking.{taken_from, ready_told};
 ghost use Rattle.hl_domain.specs.Domains.{UnderLock, LeavesUnderLock, MakesUnderLock};
 
 use crate::domain::Domain;

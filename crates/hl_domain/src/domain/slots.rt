@@ -3,16 +3,16 @@ ghost use Rattle.std.specs.Prelude.{◌≡◌, ◌+◌, ◌-◌, ◌/◌, ◌^�
 ghost use Rattle.hl_model.specs.declared.step.Step.TheVariants.{Acquire as ACQUIRE, Refresh as REFRESH, Release as RELEASE, Allocate as ALLOCATE};
 ghost use Rattle.hl_model.specs.Offsets.{place_of, tail};
 ghost use Rattle.hl_model.specs.Views.{view_of};
-ghost use Rattle.hl_domain.specs.Passes.{seen, rested, with_share, new_pass, with_tail};
-ghost use Rattle.hl_domain.specs.Calls.{call_fault, refresh_fault, acquired_pass, touched_list, without_back, Makes, MakesAt, MakesTouched, IsUpTo};
+ghost use Rattle.hl_keeper.specs.Passes.{seen, rested, with_share, new_pass, with_tail};
+ghost use Rattle.hl_keeper.specs.Calls.{call_fault, refresh_fault, acquired_pass, touched_list, without_back, Makes, MakesAt, MakesTouched, IsUpTo};
 ghost use Rattle.hl_core.specs.Holding.{least_free};
-ghost use Rattle.hl_domain.specs.Stamps.{acquires_in};
+ghost use Rattle.hl_keeper.specs.Stamps.{acquires_in};
 ghost use Rattle.hl_domain.specs.Domains.{MakesUnderLock};
 
 use crate::domain::Domain;
-use crate::pass::Pass;
 use hl_action::{Promise, Task};
 use hl_epoch::Epochs;
+use hl_keeper::Pass;
 use hl_model::{Fault, View};
 use hl_words::{Realm, Rider};
 use std::sync::Wait;

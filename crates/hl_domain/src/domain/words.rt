@@ -1,16 +1,15 @@
 //! What riders do without the lock.
-ghost use Rattle.std.specs.Prelude.{◌≡◌, ◌==◌, Some, None, max, length, IfOk, OnOk, OnErr, MatchResult};
+ghost use Rattle.std.specs.Prelude.{◌≡◌, ◌≢◌, ◌+◌, ◌%◌, ◌^◌, ◌==◌, Some, None, max, length, IfOk, OnOk, OnErr, MatchResult};
 ghost use Rattle.hl_model.specs.Replies.{unless_fault, unless_refused};
-ghost use Rattle.hl_domain.specs.Passes.{seen, touch_fault, store_fault, load_fault, with_look, with_store, with_load, last_read_only, last_head, LooksOn};
-ghost use Rattle.hl_domain.specs.Calls.{unless_stranger};
-ghost use Rattle.hl_domain.specs.Pages.{first_cell, zeroed, loaded_all};
+ghost use Rattle.hl_words.specs.States.{with_view};
+ghost use Rattle.hl_keeper.specs.Passes.{seen, touch_fault, store_fault, load_fault, with_look, with_store, with_change, with_load, last_read_only, last_head, LooksOn};
+ghost use Rattle.hl_keeper.specs.Calls.{unless_stranger};
+ghost use Rattle.hl_keeper.specs.Pages.{first_cell, zeroed, loaded_all};
 
 use crate::domain::Domain;
-use crate::load::{Broom, PageJob};
-use crate::pass::Pass;
-use crate::{look, sweep};
 use hl_action::{Promise, Task};
 use hl_epoch::Epochs;
+use hl_keeper::{Broom, PageJob, Pass, unlocked};
 use hl_model::{Fault, View};
 use hl_words::{Realm, Rider};
 
@@ -35,7 +34,7 @@ impl<E: Epochs + Drop, F: Task, P: Promise, L: Realm> Domain<E, F, P, L> {
               tail = old.tail;
             }) }
     {
-        look::look(&self.words, pass)
+        unlocked::look(&self.words, pass)
     }
 
     /// Stores a word at an address of the log.
@@ -47,7 +46,7 @@ impl<E: Epochs + Drop, F: Task, P: Promise, L: Realm> Domain<E, F, P, L> {
         ensures pass { let old = pass.old
             in pass.new ≡ unless_refused (store_fault old a) old (with_store self.now.sizes a v old) }
     {
-        look::store(&self.words, self.params, pass, a, v)
+        unlocked::store(&self.words, self.params, pass, a, v)
     }
 
     /// Loads the word at an address of the log. It is no touch: no step of the journal tells it.
@@ -62,7 +61,49 @@ impl<E: Epochs + Drop, F: Task, P: Promise, L: Realm> Domain<E, F, P, L> {
             (λ v. pass.new ≡ with_load self.now.sizes a v old)
             (λ _. pass.new ≡ old) }
     {
-        look::load(&self.words, self.params, pass, a)
+        unlocked::load(&self.words, self.params, pass, a)
+    }
+
+    /// Adds a number to the word at an address of the log, modulo 2^64, in one step: no store of another rider comes
+    /// between its load and its store. The answer is what it found. It is a touch, the write of the sum.
+    ///
+    /// Faults, those of a store: `Below`, `Beyond`, `TouchesFull`; then nothing is loaded.
+    pub fn fetch_add(&self, pass: &mut Pass<L>, a: u64, more: u64) -> Result<u64, Fault>
+        ensures answer { let met = store_fault pass.old a
+            in MatchResult result (λ _. met ≡ None) (λ fault. met ≡ Some fault) }
+        ensures pass { let sizes = self.now.sizes
+            in let old = pass.old
+            in MatchResult result
+            (λ found. pass.new ≡ with_change sizes a found ((found + more) % 2 ^ 64) old)
+            (λ _. pass.new ≡ old) }
+    {
+        unlocked::fetch_add(&self.words, self.params, pass, a, more)
+    }
+
+    /// Stores a new value at an address of the log if the old one stands there, in one step: `Ok` with the old value,
+    /// which is a touch, the write of the new one; else `Err` with what it found, which is a load.
+    ///
+    /// Faults, those of a store: `Below`, `Beyond`, `TouchesFull`; then nothing is loaded.
+    pub fn compare_exchange(
+        &self,
+        pass: &mut Pass<L>,
+        a: u64,
+        old: u64,
+        new: u64,
+    ) -> Result<Result<u64, u64>, Fault>
+        ensures answer { let met = store_fault pass.old a
+            in MatchResult result (λ _. met ≡ None) (λ fault. met ≡ Some fault) }
+        ensures found { IfOk result (λ swap.
+            MatchResult swap (λ found. found ≡ old) (λ found. found ≢ old)) }
+        ensures pass { let sizes = self.now.sizes
+            in let was = pass.old
+            in MatchResult result
+            (λ swap. MatchResult swap
+            (λ found. pass.new ≡ with_change sizes a found new was)
+            (λ found. pass.new ≡ with_load sizes a found was))
+            (λ _. pass.new ≡ was) }
+    {
+        unlocked::compare_exchange(&self.words, self.params, pass, a, old, new)
     }
 
     /// Loads the cells of a page into P places: a page in flight, for whoever has the job of its load. Their order
@@ -80,11 +121,10 @@ impl<E: Epochs + Drop, F: Task, P: Promise, L: Realm> Domain<E, F, P, L> {
             in result ≡ unless_fault (unless_stranger (job.stamp == stamp) stamp) tt }
         ensures loads { let old = rider.old
             in let first = first_cell self.now.sizes job.page
-            in OnOk result (rider.new
-            ≡ record { view = loaded_all first out.new old.view; share = old.share }) }
+            in OnOk result (rider.new ≡ with_view (loaded_all first out.new old.view) old) }
         ensures refused { OnErr result ((rider.new ≡ rider.old) × (out.new ≡ out.old)) }
     {
-        sweep::copy_page(&self.words, self.params, self.stamp, job, rider, out)
+        unlocked::copy_page(&self.words, self.params, self.stamp, job, rider, out)
     }
 
     /// Stores 0 into all cells of the page of a broom, which is swept then.
@@ -98,10 +138,9 @@ impl<E: Epochs + Drop, F: Task, P: Promise, L: Realm> Domain<E, F, P, L> {
             (broom.new ≡ record { stamp = old.stamp; page = old.page; swept = self.now.sizes.page_size }) }
         ensures stores { let old = rider.old
             in let first = first_cell self.now.sizes broom.old.page
-            in OnOk result (rider.new
-            ≡ record { view = zeroed first self.now.sizes.page_size old.view; share = old.share }) }
+            in OnOk result (rider.new ≡ with_view (zeroed first self.now.sizes.page_size old.view) old) }
         ensures refused { OnErr result ((broom.new ≡ broom.old) × (rider.new ≡ rider.old)) }
     {
-        sweep::sweep(&self.words, self.params, self.stamp, broom, rider)
+        unlocked::sweep(&self.words, self.params, self.stamp, broom, rider)
     }
 }

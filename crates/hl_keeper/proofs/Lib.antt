@@ -1,0 +1,14 @@
+pub mod TouchLaws
+pub mod PassLaws
+pub mod StampLaws
+pub mod JournalLaws
+pub mod KeeperLaws
+pub mod CallLaws
+pub mod EnterLaws
+pub mod TouchedLaws
+pub mod SlotLaws
+pub mod StepLaws
+pub mod AcquireLaws
+pub mod ActionLaws
+pub mod SweepLaws
+pub mod WorkedProofs

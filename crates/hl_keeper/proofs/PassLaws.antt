@@ -1,0 +1,159 @@
+-- What a pass's calls without the lock answer, and what they make of it.
+use Rattle.std.proofs.Common.{◌≡◌, ℕ, ◌<◌, ◌≤◌, Bool, true, false, cond, leb, ltb, max, List, [], ◌∷◌, ◌++◌, length, refl, sym, ap, ap₂, ◌∙◌, subst, arith, append-nil}
+use Rattle.std.specs.Prelude.{◌==◌, ◌||◌, Some, None, Ok, Err}
+use Rattle.std.proofs.lemmas.Bool.{le-leb, lt-leb, leb-false, lt-ltb, le-ltb, ltb-false, eq-eqb, ne_eqb}
+use Rattle.hl_model.specs.declared.fault.Fault.TheVariants.{Below, Beyond, Evicted, TouchesFull}
+use Rattle.hl_model.specs.declared.step.Step.{Step}
+use Rattle.hl_model.specs.declared.step.Step.TheVariants.{Look, Write}
+use Rattle.hl_model.specs.declared.view.View.{View}
+use Rattle.hl_model.specs.Sizes.{Sizes}
+use Rattle.hl_model.specs.Replies.{or_fault, unless_fault, unless_refused}
+use Rattle.hl_laws.proofs.NoFaultLaws.{or_fault-none, later_fault}
+use Rattle.hl_words.specs.declared.which.Which.TheVariants.{ReadOnly, Head}
+use Rattle.hl_words.specs.States.{RiderState, with_view}
+use Rattle.hl_words.specs.Views.{newest, greatest_of, stored, changed, loaded, with_loaded}
+use Rattle.hl_keeper.specs.Touches.{view_past, view_after, IsTouch, AreTouches}
+use Rattle.hl_keeper.specs.Passes.{PassRecord, seen, touches_most, touch_fault, tail_fault, store_fault, load_fault, cell_at, with_store, with_change, with_load, look_made, with_look, LooksOn}
+use Rattle.hl_keeper.proofs.TouchLaws.{touches_more}
+
+-- a pass with other touches, and another rider
+abbrev pass_with : PassRecord → List Step → RiderState → PassRecord
+pass_with p xs rider = record { slot = p.slot; stamp = p.stamp; held = p.held; touches = xs; rider = rider }
+
+-- a pass with all its touches
+pub touches_full : (p : PassRecord) (n : ℕ) → n ≡ length p.touches → n ≡ touches_most → Err TouchesFull ≡ unless_fault (touch_fault p) (tt {0})
+unfolding touch_fault
+touches_full p n e h = sym (ap (λ b. unless_fault (cond b (Some TouchesFull) None) (tt {0})) (ap (λ m. m == touches_most) (sym e) ∙ eq-eqb n touches_most h))
+
+-- and one with room
+pub touches_room : (p : PassRecord) (n : ℕ) → n ≡ length p.touches → (n ≡ touches_most → ⊥) → Ok (tt {0}) ≡ unless_fault (touch_fault p) (tt {0})
+unfolding touch_fault
+touches_room p n e h = sym (ap (λ b. unless_fault (cond b (Some TouchesFull) None) (tt {0})) (ap (λ m. m == touches_most) (sym e) ∙ ne_eqb n touches_most h))
+
+-- an address at the tail that the pass saw, or above, and one below
+at_tail : (v : View) (a : ℕ) → v.tail ≤ a → tail_fault v a ≡ Some (Beyond v.tail)
+at_tail v a le = ap (λ b. cond b (Some (Beyond v.tail)) None) (le-leb v.tail a le)
+
+below_tail : (v : View) (a : ℕ) → a < v.tail → tail_fault v a ≡ None
+below_tail v a lt = ap (λ b. cond b (Some (Beyond v.tail)) None) (lt-leb v.tail a lt)
+
+module _ (p : PassRecord) (v : View) (a : ℕ) (is : v ≡ seen p) where
+  -- a store below the read-only offset
+  pub store_below : a < v.read_only → Err (Below v.read_only) ≡ unless_fault (store_fault p a) (tt {0})
+  unfolding store_fault
+  store_below lt =
+      let low : ltb a (seen p).read_only ≡ true = lt-ltb a (seen p).read_only (omega (arith, lt, ap (λ (w : View). w.read_only) is)) in
+      ap (λ (w : View). Err (Below w.read_only)) is ∙ sym (ap (λ b. unless_fault (cond b (Some (Below (seen p).read_only)) (or_fault (tail_fault (seen p) a) (touch_fault p))) (tt {0})) low)
+
+  -- from it on a store has the faults of its tail and of a touch
+  store_above : v.read_only ≤ a → store_fault p a ≡ or_fault (tail_fault (seen p) a) (touch_fault p)
+  unfolding store_fault
+  store_above le =
+      ap (λ b. cond b (Some (Below (seen p).read_only)) (or_fault (tail_fault (seen p) a) (touch_fault p)))
+      (le-ltb a (seen p).read_only (omega (arith, le, ap (λ (w : View). w.read_only) is)))
+
+  pub store_beyond : v.read_only ≤ a → v.tail ≤ a → Err (Beyond v.tail) ≡ unless_fault (store_fault p a) (tt {0})
+  store_beyond low high =
+      let all : store_fault p a ≡ Some (Beyond (seen p).tail) = store_above low ∙ ap (λ o. or_fault o (touch_fault p)) (at_tail (seen p) a (omega (arith, high, ap (λ (w : View). w.tail) is))) in
+      ap (λ (w : View). Err (Beyond w.tail)) is ∙ sym (ap (λ o. unless_fault o (tt {0})) all)
+
+  pub store_within : v.read_only ≤ a → a < v.tail → store_fault p a ≡ touch_fault p
+  store_within low high = store_above low ∙ ap (λ o. or_fault o (touch_fault p)) (below_tail (seen p) a (omega (arith, high, ap (λ (w : View). w.tail) is)))
+
+  -- a load below the head
+  pub load_below : a < v.head → Err (Evicted v.head) ≡ unless_fault (load_fault p a) (tt {0})
+  unfolding load_fault
+  load_below lt =
+      let low : ltb a (seen p).head ≡ true = lt-ltb a (seen p).head (omega (arith, lt, ap (λ (w : View). w.head) is)) in
+      ap (λ (w : View). Err (Evicted w.head)) is ∙ sym (ap (λ b. unless_fault (cond b (Some (Evicted (seen p).head)) (tail_fault (seen p) a)) (tt {0})) low)
+
+  load_above : v.head ≤ a → load_fault p a ≡ tail_fault (seen p) a
+  unfolding load_fault
+  load_above le = ap (λ b. cond b (Some (Evicted (seen p).head)) (tail_fault (seen p) a)) (le-ltb a (seen p).head (omega (arith, le, ap (λ (w : View). w.head) is)))
+
+  pub load_beyond : v.head ≤ a → v.tail ≤ a → Err (Beyond v.tail) ≡ unless_fault (load_fault p a) (tt {0})
+  load_beyond low high =
+      ap (λ (w : View). Err (Beyond w.tail)) is
+      ∙ sym (ap (λ o. unless_fault o (tt {0})) (load_above low ∙ at_tail (seen p) a (omega (arith, high, ap (λ (w : View). w.tail) is))))
+
+  pub load_within : v.head ≤ a → a < v.tail → Ok (tt {0}) ≡ unless_fault (load_fault p a) (tt {0})
+  load_within low high = sym (ap (λ o. unless_fault o (tt {0})) (load_above low ∙ below_tail (seen p) a (omega (arith, high, ap (λ (w : View). w.tail) is))))
+
+-- a store without a fault is a lawful touch
+pub store_lawful : (p : PassRecord) (a x : ℕ) → store_fault p a ≡ None → IsTouch p.slot (seen p) (Write p.slot a x)
+unfolding store_fault
+store_lawful p a x h =
+    let outer = later_fault (ltb a (seen p).read_only) (Below (seen p).read_only) (or_fault (tail_fault (seen p) a) (touch_fault p)) h in
+    let inner = later_fault (leb (seen p).tail a) (Beyond (seen p).tail) None (or_fault-none (tail_fault (seen p) a) (touch_fault p) outer.1).0 in
+    (refl, ltb-false a (seen p).read_only outer.0, leb-false (seen p).tail a inner.0)
+
+-- the touches of a pass that stored
+pub store_touches : (p : PassRecord) (v : View) (a x : ℕ) (xs : List Step) → store_fault p a ≡ None → v ≡ seen p → AreTouches p.slot p.held p.touches → xs ≡ p.touches ++ Write p.slot a x ∷ [] → (v ≡ view_after p.held xs) × AreTouches p.slot p.held xs
+store_touches p v a x xs h is are e =
+    let more = touches_more p.slot p.held p.touches (Write p.slot a x) are (store_lawful p a x h) in
+    subst (λ (z : List Step). (v ≡ view_after p.held z) × AreTouches p.slot p.held z) (sym e) (is ∙ sym more.1, more.0)
+
+-- the pass after a store
+pub store_is : (sizes : Sizes) (a x : ℕ) (p : PassRecord) (cell : ℕ) (rider : RiderState) (xs : List Step) → store_fault p a ≡ None → cell ≡ cell_at sizes a → rider ≡ with_view (stored cell x p.rider.view) p.rider → xs ≡ p.touches ++ Write p.slot a x ∷ []
+    → ◌≡◌ {A = PassRecord} (record { slot = p.slot; stamp = p.stamp; held = p.held; touches = xs; rider = rider }) (unless_refused (store_fault p a) p (with_store sizes a x p))
+unfolding with_store
+store_is sizes a x p cell rider xs h c r e =
+    ap₂ (λ (z : List Step) (q : RiderState). pass_with p z q) e (r ∙ ap (λ d. with_view (stored d x p.rider.view) p.rider) c)
+    ∙ sym (ap (λ o. unless_refused o p (with_store sizes a x p)) h)
+
+-- the pass after a load
+pub load_is : (sizes : Sizes) (a x : ℕ) (p : PassRecord) (cell : ℕ) (rider : RiderState) → cell ≡ cell_at sizes a → rider ≡ with_view (loaded cell x p.rider.view) p.rider
+    → ◌≡◌ {A = PassRecord} (record { slot = p.slot; stamp = p.stamp; held = p.held; touches = p.touches; rider = rider }) (with_load sizes a x p)
+unfolding with_load
+load_is sizes a x p cell rider c r = ap (λ (q : RiderState). pass_with p p.touches q) (r ∙ ap (λ d. with_view (loaded d x p.rider.view) p.rider) c)
+
+-- the pass after a change at an address
+pub change_is : (sizes : Sizes) (a found x : ℕ) (p : PassRecord) (cell : ℕ) (rider : RiderState) (xs : List Step) → cell ≡ cell_at sizes a → rider ≡ with_view (changed cell found x p.rider.view) p.rider → xs ≡ p.touches ++ Write p.slot a x ∷ []
+    → ◌≡◌ {A = PassRecord} (record { slot = p.slot; stamp = p.stamp; held = p.held; touches = xs; rider = rider }) (with_change sizes a found x p)
+unfolding with_change
+change_is sizes a found x p cell rider xs c r e =
+    ap₂ (λ (z : List Step) (q : RiderState). pass_with p z q) e (r ∙ ap (λ d. with_view (changed d found x p.rider.view) p.rider) c)
+
+-- the touches of a pass that looked
+pub look_touches : (p : PassRecord) (v : View) (r h x y : ℕ) (xs : List Step) → v ≡ seen p → AreTouches p.slot p.held p.touches → x ≡ max v.read_only r → y ≡ max v.head h → xs ≡ p.touches ++ Look p.slot x y ∷ []
+    → (◌≡◌ {A = View} (record { read_only = x; head = y; tail = v.tail }) (view_after p.held xs)) × AreTouches p.slot p.held xs
+look_touches p v r h x y xs is are ex ey e =
+    let lawful : IsTouch p.slot (seen p) (Look p.slot x y) = (refl, omega (arith, ex, ap (λ (w : View). w.read_only) is), omega (arith, ey, ap (λ (w : View). w.head) is)) in
+    let more = touches_more p.slot p.held p.touches (Look p.slot x y) are lawful in
+    subst (λ (z : List Step). (◌≡◌ {A = View} (record { read_only = x; head = y; tail = v.tail }) (view_after p.held z)) × AreTouches p.slot p.held z) (sym e)
+    (ap (λ (w : View). view_past w (Look p.slot x y)) is ∙ sym more.1, more.0)
+
+-- the touch that a look makes
+pub look_made-some : (p : PassRecord) (v : View) (r h x y : ℕ) (b : Bool) → v ≡ seen p → b ≡ (ltb v.read_only r || ltb v.head h) → b ≡ true → x ≡ max v.read_only r → y ≡ max v.head h → Look p.slot x y ∷ [] ≡ look_made p.slot (seen p) r h
+look_made-some p v r h x y b is e t ex ey =
+    ap₂ (λ m n. Look p.slot m n ∷ []) ex ey
+    ∙ sym (ap (λ c. cond c (Look p.slot (max v.read_only r) (max v.head h) ∷ []) []) (sym e ∙ t))
+    ∙ ap (λ (w : View). look_made p.slot w r h) is
+
+pub look_made-none : (p : PassRecord) (v : View) (r h : ℕ) (b : Bool) → v ≡ seen p → b ≡ (ltb v.read_only r || ltb v.head h) → b ≡ false → p.touches ≡ p.touches ++ look_made p.slot (seen p) r h
+look_made-none p v r h b is e f =
+    let none : look_made p.slot (seen p) r h ≡ [] = ap (λ (w : View). look_made p.slot w r h) (sym is) ∙ ap (λ c. cond c (Look p.slot (max v.read_only r) (max v.head h) ∷ []) []) (sym e ∙ f) in
+    sym (ap (λ z. p.touches ++ z) none ∙ append-nil p.touches)
+
+-- the rider after it loaded both offsets
+pub loaded_both : (r h : ℕ) (before first second : RiderState) → first ≡ with_view (with_loaded ReadOnly r before.view) before → second ≡ with_view (with_loaded Head h first.view) first
+    → second ≡ with_view (with_loaded Head h (with_loaded ReadOnly r before.view)) before
+loaded_both r h before first second a b = b ∙ ap (λ (q : RiderState). with_view (with_loaded Head h q.view) q) a
+
+-- and neither is below any that it had loaded
+pub looks_on : (r h : ℕ) (old new : PassRecord) (first second : RiderState) → first ≡ with_view (with_loaded ReadOnly r old.rider.view) old.rider → second ≡ with_view (with_loaded Head h first.view) first → new.rider ≡ second
+    → greatest_of ReadOnly old.rider.view.offsets ≤ r → greatest_of Head first.view.offsets ≤ h → LooksOn old new
+looks_on r h old new first second a b c low high =
+    let both : new.rider ≡ with_view (with_loaded Head h (with_loaded ReadOnly r old.rider.view)) old.rider = c ∙ loaded_both r h old.rider first second a b in record {
+      read_only = omega (arith, low, ap (λ (q : RiderState). newest q.view.offsets.read_only) both);
+      head = omega (arith, high, ap (λ (q : RiderState). greatest_of Head q.view.offsets) a, ap (λ (q : RiderState). newest q.view.offsets.head) both);
+    }
+
+-- the pass after a look
+pub look_is : (p : PassRecord) (r h : ℕ) (rider : RiderState) (xs : List Step) → touch_fault p ≡ None → rider ≡ with_view (with_loaded Head h (with_loaded ReadOnly r p.rider.view)) p.rider → xs ≡ p.touches ++ look_made p.slot (seen p) r h
+    → ◌≡◌ {A = PassRecord} (record { slot = p.slot; stamp = p.stamp; held = p.held; touches = xs; rider = rider }) (unless_refused (touch_fault p) p (with_look (newest rider.view.offsets.read_only) (newest rider.view.offsets.head) p))
+unfolding with_look
+look_is p r h rider xs none e t =
+    let last : with_look (newest rider.view.offsets.read_only) (newest rider.view.offsets.head) p ≡ with_look r h p =
+    ap (λ (q : RiderState). with_look (newest q.view.offsets.read_only) (newest q.view.offsets.head) p) e in
+    ap₂ (λ (z : List Step) (q : RiderState). pass_with p z q) t e ∙ sym (ap (λ o. unless_refused o p (with_look (newest rider.view.offsets.read_only) (newest rider.view.offsets.head) p)) none ∙ last)

@@ -1,0 +1,183 @@
+-- What touches make of a list: each is accepted, and they move nothing but their own slot's view.
+use Rattle.std.proofs.Common.{◌≡◌, ℕ, zero, suc, ◌-◌, ◌*◌, ◌/◌, ◌<◌, ◌≤◌, Bool, true, false, cond, leb, ltb, max, is_some, List, [], ◌∷◌, ◌++◌, length, take, drop, get_or, refl, sym, ap, ap₂, ◌∙◌, subst, arith, append_assoc, append-nil, eq-eqb}
+use Rattle.std.specs.Prelude.{Option, Some, None, ◌||◌, unwrap_or}
+use Rattle.std.proofs.lemmas.Bool.{lt-leb, le-ltb, cond-true}
+use Rattle.std.proofs.lemmas.List.{take-append-drop}
+use Rattle.hl_model.specs.declared.fault.Fault.{Fault}
+use Rattle.hl_model.specs.declared.fault.Fault.TheVariants.{NoSlot, NotProtected, Busy, Stale, Below, Beyond}
+use Rattle.hl_model.specs.declared.step.Step.{Step}
+use Rattle.hl_model.specs.declared.step.Step.TheVariants.{Refresh, Release, Allocate, Look, Write}
+use Rattle.hl_model.specs.declared.view.View.{View}
+use Rattle.hl_model.specs.Sizes.{Sizes}
+use Rattle.hl_model.specs.Epochs.{mark, enters, leaves, is_protected, epoch_of}
+use Rattle.hl_model.specs.Lists.{until_last}
+use Rattle.hl_model.specs.Offsets.{raised_to, shifted_to, read_only, head, place_of, tail_past, tail}
+use Rattle.hl_model.specs.Pages.{is_freed, frees}
+use Rattle.hl_model.specs.Views.{allocates, seen_read_only, seen_head, seen_tail, view_of, slot_view}
+use Rattle.hl_model.specs.Replies.{protected_fault, size_fault, allocate_fault, or_fault, look_fault, write_fault, beyond_fault, fault_of, IsAccepted}
+use Rattle.hl_laws.proofs.AcceptedLaws.{IsAccepted-push}
+use Rattle.hl_laws.proofs.BoundLaws.{tail-append}
+use Rattle.hl_laws.proofs.DrainLaws.{protected-slot}
+use Rattle.hl_laws.proofs.LawProofs.{slot_epoch-protected}
+use Rattle.hl_laws.proofs.OffsetLaws.{read_only-stay, head-stay, tail-push}
+use Rattle.hl_laws.proofs.ViewLaws.{is_protected-push, seen_read_only-push, seen_head-push, seen_tail-stay, slot_view-moves, slot_view-stay, is_protected-slot_view, view_of-slot_view}
+use Rattle.hl_laws.proofs.WorkLaws.{is_freed-stay}
+use Rattle.hl_core.specs.Steps.{is_acted}
+use Rattle.hl_keeper.specs.Touches.{view_past, view_after, IsTouch, AreTouches, is_call}
+
+-- a slot with a view is protected, and the view is what it saw
+pub viewed : (sizes : Sizes) (t : ℕ) (A : List Step) (v : View) → slot_view sizes t A ≡ Some v → (is_protected t A ≡ true) × (view_of sizes t A ≡ v)
+viewed sizes t A v h = (is_protected-slot_view sizes t A ∙ ap is_some h, view_of-slot_view sizes t A v h)
+
+-- and it is one of the slots
+pub viewed_slot : (sizes : Sizes) (t : ℕ) (A : List Step) (v : View) → IsAccepted sizes A → slot_view sizes t A ≡ Some v → t < sizes.slots
+viewed_slot sizes t A v a h = protected-slot sizes t A a (epoch_of t A) (slot_epoch-protected t A (viewed sizes t A v h).0)
+
+-- so steps that want it protected meet no fault for that
+pub viewed_fault : (sizes : Sizes) (t : ℕ) (A : List Step) (v : View) → IsAccepted sizes A → slot_view sizes t A ≡ Some v → protected_fault sizes A t ≡ None
+viewed_fault sizes t A v a h =
+    ap₂ (λ b c. cond b (Some NoSlot) (cond c None (Some NotProtected))) (lt-leb sizes.slots t (viewed_slot sizes t A v a h)) (viewed sizes t A v h).0
+
+-- a step that moves no slot, no offset and no page that is freed
+pub record IsStill (s : Step) : Type 0 where
+  pub enters_none : (t : ℕ) → enters t s ≡ false
+  pub leaves_none : (t : ℕ) → leaves t s ≡ false
+  pub raises_none : raised_to s ≡ 0
+  pub shifts_none : shifted_to s ≡ 0
+  pub tail_stays : (page_size tail : ℕ) → tail_past page_size tail s ≡ tail
+  pub frees_none : (p : ℕ) → frees p s ≡ false
+  pub acted : is_acted s ≡ true
+
+-- a touch is such a step
+pub touch_still : (t : ℕ) (v : View) (s : Step) → IsTouch t v s → IsStill s
+touch_still t v (Look u r h) is = record { enters_none = λ t. refl; leaves_none = λ t. refl; raises_none = refl; shifts_none = refl; tail_stays = λ p q. refl; frees_none = λ p. refl; acted = refl }
+touch_still t v (Write u a x) is = record { enters_none = λ t. refl; leaves_none = λ t. refl; raises_none = refl; shifts_none = refl; tail_stays = λ p q. refl; frees_none = λ p. refl; acted = refl }
+touch_still t v _ is = absurd is
+
+-- a look of a slot that isn't below its view is accepted, and its view is then what the look brings
+look_step : (sizes : Sizes) (t : ℕ) (A : List Step) (v : View) (r h : ℕ) → IsAccepted sizes A → slot_view sizes t A ≡ Some v → v.read_only ≤ r → v.head ≤ h → (fault_of sizes A (Look t r h) ≡ None) × (slot_view sizes t (A ++ Look t r h ∷ []) ≡ Some (view_past v (Look t r h)))
+look_step sizes t A v r h a at x y =
+    let seen = viewed sizes t A v at in
+    let left : seen_read_only t A ≤ r = omega (arith, x, ap (λ (w : View). w.read_only) seen.1) in
+    let right : seen_head t A ≤ h = omega (arith, y, ap (λ (w : View). w.head) seen.1) in
+    let last : look_fault A t r h ≡ None = ap₂ (λ p q. cond (p || q) (Some Stale) None) (le-ltb r (seen_read_only t A) left) (le-ltb h (seen_head t A) right) in (
+      ap₂ or_fault (viewed_fault sizes t A v a at) last,
+      slot_view-moves sizes t A (Look t r h) r h v.tail refl refl
+          (seen_read_only-push t A (Look t r h) refl ∙ ap (λ b. unwrap_or (cond b (Some r) None) (seen_read_only t A)) (eq-eqb t t refl))
+          (seen_head-push t A (Look t r h) refl ∙ ap (λ b. unwrap_or (cond b (Some h) None) (seen_head t A)) (eq-eqb t t refl))
+          (seen_tail-stay sizes t A (Look t r h) refl refl ∙ ap (λ (w : View). w.tail) seen.1)
+          ∙ cond-true (is_protected t A) (Some (view_past v (Look t r h))) None seen.0,
+    )
+
+-- a write of a slot from its view's read-only offset up to its tail is accepted, and leaves the view
+write_step : (sizes : Sizes) (t : ℕ) (A : List Step) (v : View) (a x : ℕ) → IsAccepted sizes A → slot_view sizes t A ≡ Some v → v.read_only ≤ a → a < v.tail → (fault_of sizes A (Write t a x) ≡ None) × (slot_view sizes t (A ++ Write t a x ∷ []) ≡ Some (view_past v (Write t a x)))
+write_step sizes t A v a x good at low high =
+    let seen = viewed sizes t A v at in
+    let left : seen_read_only t A ≤ a = omega (arith, low, ap (λ (w : View). w.read_only) seen.1) in
+    let right : a < seen_tail sizes t A = omega (arith, high, ap (λ (w : View). w.tail) seen.1) in
+    let beyond : beyond_fault sizes A t a ≡ None = ap (λ b. cond b (Some (Beyond (seen_tail sizes t A))) None) (lt-leb (seen_tail sizes t A) a right) in
+    let last : write_fault sizes A t a ≡ None = ap₂ (λ b o. cond b (Some (Below (seen_read_only t A))) o) (le-ltb a (seen_read_only t A) left) beyond in
+    (ap₂ or_fault (viewed_fault sizes t A v good at) last, slot_view-stay sizes t A (Write t a x) refl refl refl refl refl ∙ at)
+
+-- a touch is accepted, and the view is then that after it
+pub touch_step : (sizes : Sizes) (t : ℕ) (A : List Step) (v : View) (s : Step) → IsTouch t v s → IsAccepted sizes A → slot_view sizes t A ≡ Some v → (fault_of sizes A s ≡ None) × (slot_view sizes t (A ++ s ∷ []) ≡ Some (view_past v s))
+touch_step sizes t A v (Look u r h) is a at = subst (λ (z : ℕ). (fault_of sizes A (Look z r h) ≡ None) × (slot_view sizes t (A ++ Look z r h ∷ []) ≡ Some (view_past v (Look z r h)))) (sym is.0) (look_step sizes t A v r h a at is.1 is.2)
+touch_step sizes t A v (Write u b x) is a at = subst (λ (z : ℕ). (fault_of sizes A (Write z b x) ≡ None) × (slot_view sizes t (A ++ Write z b x ∷ []) ≡ Some (view_past v (Write z b x)))) (sym is.0) (write_step sizes t A v b x a at is.1 is.2)
+touch_step sizes t A v _ is a at = absurd is
+
+-- touches are accepted one after another, and the view is then that after them
+pub touches_accepted : (sizes : Sizes) (t : ℕ) (A : List Step) (v : View) (xs : List Step) → AreTouches t v xs → IsAccepted sizes A → slot_view sizes t A ≡ Some v → IsAccepted sizes (A ++ xs) × (slot_view sizes t (A ++ xs) ≡ Some (view_after v xs))
+unfolding AreTouches view_after
+touches_accepted sizes t A v [] are a at = subst (λ (z : List Step). IsAccepted sizes z × (slot_view sizes t z ≡ Some v)) (sym (append-nil A)) (a, at)
+touches_accepted sizes t A v (s ∷ xs) are a at =
+    let one = touch_step sizes t A v s are.0 a at in
+    let rest = touches_accepted sizes t (A ++ s ∷ []) (view_past v s) xs are.1 (IsAccepted-push sizes A s a one.0) one.1 in
+    subst (λ (z : List Step). IsAccepted sizes z × (slot_view sizes t z ≡ Some (view_after (view_past v s) xs))) (append_assoc A (s ∷ []) xs) rest
+
+-- what a still step leaves: who is protected
+still_protected : (sizes : Sizes) (A : List Step) (s : Step) (t : ℕ) → IsStill s → is_protected t (A ++ s ∷ []) ≡ is_protected t A
+still_protected sizes A s t h = is_protected-push t A s ∙ ap₂ (λ b c. cond b true (cond c false (is_protected t A))) (h.enters_none t) (h.leaves_none t)
+
+-- the tail
+still_tail : (sizes : Sizes) (A : List Step) (s : Step) → IsStill s → tail sizes (A ++ s ∷ []) ≡ tail sizes A
+still_tail sizes A s h = tail-push sizes A s ∙ h.tail_stays sizes.page_size (tail sizes A)
+
+-- the fault of a slot
+still_slot : (sizes : Sizes) (A : List Step) (s : Step) (t : ℕ) → IsStill s → protected_fault sizes (A ++ s ∷ []) t ≡ protected_fault sizes A t
+still_slot sizes A s t h = ap (λ b. cond (leb sizes.slots t) (Some NoSlot) (cond b None (Some NotProtected))) (still_protected sizes A s t h)
+
+-- the page of a record where the tail is T
+abbrev page_at : Sizes → ℕ → ℕ → ℕ
+page_at sizes n T = place_of sizes.page_size T n / sizes.page_size
+
+-- the fault of an allocation, told the tail and whether the page is freed whose frame it wants
+abbrev allocation : Sizes → ℕ → ℕ → Bool → Option Fault
+allocation sizes n T freed =
+    or_fault (size_fault sizes.page_size T n) (cond (ltb (page_at sizes n T * sizes.page_size) T || cond (ltb (page_at sizes n T) sizes.frames) true freed) None (Some (Busy (page_at sizes n T))))
+
+still_allocation : (sizes : Sizes) (A : List Step) (s : Step) (n : ℕ) → IsStill s → allocate_fault sizes (A ++ s ∷ []) n ≡ allocate_fault sizes A n
+still_allocation sizes A s n h =
+    let old : ℕ = page_at sizes n (tail sizes A) - sizes.frames in
+    ap (λ T. allocation sizes n T (is_freed sizes (page_at sizes n T - sizes.frames) (A ++ s ∷ []))) (still_tail sizes A s h)
+    ∙ ap (λ b. allocation sizes n (tail sizes A) b) (is_freed-stay sizes A s old (h.frees_none old))
+
+-- a call of a pass meets the same fault behind a still step
+still_call : (sizes : Sizes) (A : List Step) (s c : Step) → IsStill s → is_call c ≡ true → fault_of sizes (A ++ s ∷ []) c ≡ fault_of sizes A c
+still_call sizes A s (Refresh t) h is = still_slot sizes A s t h
+still_call sizes A s (Release t) h is = still_slot sizes A s t h
+still_call sizes A s (Allocate t n) h is = ap₂ or_fault (still_slot sizes A s t h) (still_allocation sizes A s n h)
+still_call sizes A s _ h is = cc
+
+-- and so behind touches
+pub touches_leave_faults : (sizes : Sizes) (t : ℕ) (A : List Step) (v : View) (xs : List Step) (c : Step) → AreTouches t v xs → is_call c ≡ true → fault_of sizes (A ++ xs) c ≡ fault_of sizes A c
+unfolding AreTouches
+touches_leave_faults sizes t A v [] c are is = ap (λ B. fault_of sizes B c) (append-nil A)
+touches_leave_faults sizes t A v (s ∷ xs) c are is =
+    ap (λ B. fault_of sizes B c) (sym (append_assoc A (s ∷ []) xs))
+    ∙ touches_leave_faults sizes t (A ++ s ∷ []) (view_past v s) xs c are.1 is
+    ∙ still_call sizes A s c (touch_still t v s are.0) is
+
+-- touches move no offset
+pub touches_leave_offsets : (sizes : Sizes) (t : ℕ) (A : List Step) (v : View) (xs : List Step) → AreTouches t v xs → (read_only (A ++ xs) ≡ read_only A) × (head (A ++ xs) ≡ head A) × (tail sizes (A ++ xs) ≡ tail sizes A)
+unfolding AreTouches
+touches_leave_offsets sizes t A v [] are = (ap read_only (append-nil A), ap head (append-nil A), ap (tail sizes) (append-nil A))
+touches_leave_offsets sizes t A v (s ∷ xs) are =
+    let still = touch_still t v s are.0 in
+    let rest = touches_leave_offsets sizes t (A ++ s ∷ []) (view_past v s) xs are.1 in
+    let whole : A ++ s ∷ xs ≡ (A ++ s ∷ []) ++ xs = sym (append_assoc A (s ∷ []) xs) in (
+      ap read_only whole ∙ rest.0 ∙ read_only-stay A s still.raises_none,
+      ap head whole ∙ rest.1 ∙ head-stay A s still.shifts_none,
+      ap (tail sizes) whole ∙ rest.2 ∙ still_tail sizes A s still,
+    )
+
+-- of touches none has a job go in or come out
+pub touches_act : (t : ℕ) (v : View) (xs : List Step) (n : ℕ) (d : Step) → AreTouches t v xs → n < length xs → is_acted (get_or xs n d) ≡ true
+unfolding AreTouches
+touches_act t v [] n d are lt = absurd (omega (arith, lt))
+touches_act t v (s ∷ xs) zero d are lt = (touch_still t v s are.0).acted
+touches_act t v (s ∷ xs) (suc n) d are lt = touches_act t (view_past v s) xs n d are.1 (omega (arith, lt))
+
+-- touches, and one more
+pub touches_more : (t : ℕ) (v : View) (xs : List Step) (s : Step) → AreTouches t v xs → IsTouch t (view_after v xs) s → AreTouches t v (xs ++ s ∷ []) × (view_after v (xs ++ s ∷ []) ≡ view_past (view_after v xs) s)
+unfolding AreTouches view_after
+touches_more t v [] s are one = ((one, tt), refl)
+touches_more t v (x ∷ xs) s are one = let rest = touches_more t (view_past v x) xs s are.1 one in ((are.0, rest.0), rest.1)
+
+-- no touch leaves a view with another tail, and looks never bring less
+pub touches_rise : (t : ℕ) (v : View) (xs : List Step) → AreTouches t v xs → (v.read_only ≤ (view_after v xs).read_only) × (v.head ≤ (view_after v xs).head) × ((view_after v xs).tail ≡ v.tail)
+unfolding AreTouches view_after
+touches_rise t v [] are = (omega arith, omega arith, refl)
+touches_rise t v (Look u r h ∷ xs) are =
+    let rest = touches_rise t (view_past v (Look u r h)) xs are.1 in
+    (omega (arith, rest.0, are.0.1), omega (arith, rest.1, are.0.2), rest.2)
+touches_rise t v (Write u a x ∷ xs) are = touches_rise t v xs are.1
+touches_rise t v (_ ∷ xs) are = absurd are.0
+
+-- a slot never saw a tail above the present one
+pub seen_tail-le : (sizes : Sizes) (t : ℕ) (A : List Step) → 0 < sizes.page_size → IsAccepted sizes A → seen_tail sizes t A ≤ tail sizes A
+unfolding seen_tail
+seen_tail-le sizes t A some a =
+    let n : ℕ = max (mark t A) (until_last (allocates t) A) in
+    let whole : take n A ++ drop n A ≡ A = take-append-drop n A in
+    let le : tail sizes (take n A) ≤ tail sizes (take n A ++ drop n A) = tail-append sizes (take n A) (drop n A) some (subst (λ (z : List Step). IsAccepted sizes z) (sym whole) a) in
+    omega (arith, le, ap (tail sizes) whole)

@@ -1,0 +1,71 @@
+use Rattle.std.proofs.Common.{sym, ap, ◌∙◌, arith, ◌+◌}
+use Rattle.std.proofs.lemmas.Result.{err_from_is_err_and}
+use Rattle.hl_keeper.specs.Passes.{PassRecord, seen}
+use Rattle.hl_keeper.specs.Calls.{call_fault}
+use Rattle.hl_model.specs.declared.step.Step.TheVariants.{Allocate as ALLOCATE}
+use Rattle.hl_keeper.specs.Passes.{with_tail}
+use Rattle.hl_keeper.proofs.SlotLaws.{Placed, knows, call_stranger, call_known, replied_refused, replied_err, replied_ok, accepted, allocate_place, allocate_placed, rested_is}
+use Rattle.hl_keeper.proofs.keeper.Keeper.allocate.Goals.{In-At}
+use Rattle.hl_keeper.proofs.keeper.Keeper.allocate.Goals as goal
+
+pub returns-in_err-known-clause-made : goal.returns-in_err-known-clause-made
+returns-in_err-known-clause-made g c =
+    let q = err_from_is_err_and c.from_residual.result c.from_residual.ensures.1 in
+    let k = c.args.self.now in
+    let p = c.args.pass.now in
+    let s = ALLOCATE p.slot c.args.n in
+    rw (q.1, q.2) (λ A st. replied_refused k A p.touches s (call_fault k A p s) c.in_err-known.field-0.0 _ st (call_stranger k A p s c.in_err-known.field-0.0 (c.in_err-known.ensures A st)))
+
+pub call-requires-clause-known : goal.call-requires-clause-known
+call-requires-clause-known g c = knows c.args.self.now c.args.pass.now c.in_ok-known.field-0 c.in_ok-known.ensures
+
+pub returns-in_err-address-clause-made : goal.returns-in_err-address-clause-made
+returns-in_err-address-clause-made g c =
+    let q = err_from_is_err_and c.from_residual-in_err-address.result c.from_residual-in_err-address.ensures.1 in
+    let k = c.args.self.now in
+    let p = c.args.pass.now in
+    let s = ALLOCATE p.slot c.args.n in
+    let made = rw (ap (λ (z : PassRecord). z.slot) c.pass.view_is) at c.in_err-address.ensures.made in
+    rw (q.1, q.2) (λ A st. replied_err k A p s c.call.new.self (call_fault k A p s) c.in_err-address.field-0.0 _ (call_known k A p s c.in_ok-known.field-0 (c.in_ok-known.ensures A st)) (made A st))
+
+pub unreachable-requires : goal.unreachable-requires
+unreachable-requires g c =
+    let A = c.in_ok-address.ensures.valid.0 in
+    c.in_default.not-At _ (accepted c.args.self.now A c.args.pass.now (ALLOCATE c.pass.inside.slot c.args.n) c.call.new.self c.in_ok-address.field-0 (c.in_ok-address.ensures.made A c.in_ok-address.ensures.valid.1)).1
+
+-- where the record is placed
+placed : (g : _) (c : In-At g) → Placed c.args.self.now.core.sizes.page_size c.in-At.address c.args.n (seen c.args.pass.now)
+placed g c =
+    let k = c.args.self.now in
+    let A = c.in_ok-address.ensures.valid.0 in
+    let st = c.in_ok-address.ensures.valid.1 in
+    let p : PassRecord = (record { slot = c.pass.inside.slot; stamp = c.pass.inside.stamp; held = c.pass.inside.held; touches = c.pass.inside.touches.items; rider = c.pass.inside.rider }) in
+    let made = rw (sym c.pass.view_is) at c.in_ok-address.ensures.made in
+    let known = rw (sym c.pass.view_is) at c.in_ok-known.ensures in
+    rw (sym c.pass.view_is) (allocate_placed k A p c.args.n c.call.new.self c.in_ok-address.field-0 c.in-At.address st (knows k p c.in_ok-known.field-0 known) c.pass.invariant.1 (made A st) c.in-At.is)
+
+pub overflow_add-address : goal.overflow_add-address
+overflow_add-address g c = omega (arith, (placed g c.before).most)
+
+pub returns-clause-made : goal.returns-clause-made
+returns-clause-made g c =
+    let k = c.args.self.now in
+    let p = c.args.pass.now in
+    let s = ALLOCATE p.slot c.args.n in
+    let made = rw (ap (λ (z : PassRecord). z.slot) c.pass.view_is) at c.in_ok-address.ensures.made in
+    λ A st. replied_ok k A p s c.call.new.self (call_fault k A p s) c.in_ok-address.field-0 c.in-At.address _ (call_known k A p s c.in_ok-known.field-0 (c.in_ok-known.ensures A st)) (made A st)
+    (allocate_place k A p p.slot c.args.n c.call.new.self c.in_ok-address.field-0 c.in-At.address (made A st) c.in-At.is)
+
+pub returns-clause-pass : goal.returns-clause-pass
+returns-clause-pass g c =
+    rested_is c.args.pass.now c.call.new.pass c.rest.new.self (with_tail (c.in-At.address + c.args.n) c.pass.inside.view) (with_tail (c.in-At.address + c.args.n) (seen c.args.pass.now)) c.in_ok-address.ensures.pass c.rest.ensures
+    (ap (with_tail (c.in-At.address + c.args.n)) (c.pass.invariant.0 ∙ ap seen c.pass.view_is))
+
+pub returns-clause-above : goal.returns-clause-above
+returns-clause-above g c = (placed g c.before.before).above
+
+pub returns-clause-one_page : goal.returns-clause-one_page
+returns-clause-one_page g c = (placed g c.before.before).one_page
+
+pub returns-clause-within : goal.returns-clause-within
+returns-clause-within g c = (placed g c.before.before).most

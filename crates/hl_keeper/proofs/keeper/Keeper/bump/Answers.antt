@@ -1,0 +1,73 @@
+use Rattle.std.proofs.Common.{◌∷◌, [], sym, ap, ◌∙◌}
+use Rattle.hl_words.specs.States.{MasterState}
+use Rattle.hl_keeper.specs.Journals.{with_steps}
+use Rattle.hl_keeper.specs.Keepers.{KeeperState}
+use Rattle.hl_keeper.specs.Calls.{step_fault}
+use Rattle.hl_model.specs.declared.step.Reply.TheVariants.{Ticket}
+use Rattle.hl_core.specs.Steps.{asking}
+use Rattle.hl_keeper.specs.Keepers.{job_tag}
+use Rattle.hl_keeper.proofs.ActionLaws.{asking_quiet, asking_acquires, bump_ticket}
+use Rattle.hl_keeper.proofs.KeeperLaws.{unstamped}
+use Rattle.hl_keeper.proofs.StepLaws.{step_full, one_fits, one_counts, made_refused, core_refused, core_made, quiet}
+use Rattle.hl_keeper.proofs.keeper.Keeper.bump.Goals as goal
+
+pub returns-in-Err-clause-made : goal.returns-in-Err-clause-made
+returns-in-Err-clause-made g c =
+    let k = c.args.self.now in
+    let s = asking job_tag c.args.ask in
+    λ A st. made_refused k A s (step_fault k A s) c.in-Err.fault _ st (step_full k A s c.in-Err.fault c.in-Err.ensures)
+
+pub returns-in-Err-bump-clause-made : goal.returns-in-Err-bump-clause-made
+returns-in-Err-bump-clause-made g c =
+    let k : KeeperState g.row.F.Denot = (record { core = c.self.inside.core; base = c.self.inside.journal.base; cut = c.self.inside.journal.cut; journal = c.self.inside.journal.steps; limit = c.self.inside.journal.limit; stamps = c.self.inside.stamps.items; stamp = c.self.inside.stamp; acquired = c.self.inside.acquired; offsets = c.self.inside.master.offsets; total = c.self.inside.master.total }) in
+    let s = asking job_tag c.args.ask in
+    let room = rw (sym c.self.view_is) at c.in_default.ensures in
+    rw (c.in-Err-bump.ensures.refused.1, sym c.self.view_is) (λ A st. core_refused k A s c.in_default.field-0 c.bump.new.self c.in-Err-bump.refused.0 _ st room (c.in-Err-bump.ensures.made A st.core_stands))
+
+pub note-requires-clause-room : goal.note-requires-clause-room
+note-requires-clause-room g c =
+    let k : KeeperState g.row.F.Denot = (record { core = c.self.inside.core; base = c.self.inside.journal.base; cut = c.self.inside.journal.cut; journal = c.self.inside.journal.steps; limit = c.self.inside.journal.limit; stamps = c.self.inside.stamps.items; stamp = c.self.inside.stamp; acquired = c.self.inside.acquired; offsets = c.self.inside.master.offsets; total = c.self.inside.master.total }) in
+    let s = asking job_tag c.args.ask in
+    let room = rw (sym c.self.view_is) at c.in_default.ensures in
+    one_fits k c.in_default.field-0 room
+
+pub note-requires-clause-count : goal.note-requires-clause-count
+note-requires-clause-count g c =
+    let k : KeeperState g.row.F.Denot = (record { core = c.self.inside.core; base = c.self.inside.journal.base; cut = c.self.inside.journal.cut; journal = c.self.inside.journal.steps; limit = c.self.inside.journal.limit; stamps = c.self.inside.stamps.items; stamp = c.self.inside.stamp; acquired = c.self.inside.acquired; offsets = c.self.inside.master.offsets; total = c.self.inside.master.total }) in
+    let s = asking job_tag c.args.ask in
+    let room = rw (sym c.self.view_is) at c.in_default.ensures in
+    one_counts k c.in_default.field-0 c.self.invariant.of.standing room
+
+pub invariant_of-self : goal.invariant_of-self
+invariant_of-self g c =
+    let k : KeeperState g.row.F.Denot = (record { core = c.self.inside.core; base = c.self.inside.journal.base; cut = c.self.inside.journal.cut; journal = c.self.inside.journal.steps; limit = c.self.inside.journal.limit; stamps = c.self.inside.stamps.items; stamp = c.self.inside.stamp; acquired = c.self.inside.acquired; offsets = c.self.inside.master.offsets; total = c.self.inside.master.total }) in
+    let s = asking job_tag c.args.ask in
+    let room = rw (sym c.self.view_is) at c.in_default.ensures in
+    let A = c.self.invariant.of.standing.0 in
+    let st = c.self.invariant.of.standing.1 in
+    record {
+      of = record {
+        standing = (
+          _,
+          (core_made k A s c.in_default.field-0 c.bump.new.self (Ticket c.in-Ok.ticket) c.in-Ok.ticket _ c.note.new.journal c.self.inside.stamps.items c.self.inside.acquired c.note.new.master.offsets c.note.new.master.total st room (c.in-Ok.ensures.made A st.core_stands)
+              (bump_ticket k A c.args.ask c.bump.new.self c.in-Ok.ticket (c.in-Ok.ensures.made A st.core_stands))
+              (c.note.ensures.journal ∙ ap (λ z. with_steps (z ∷ []) c.self.inside.journal) c.step_of-step.ensures) (unstamped k A s st (asking_acquires job_tag c.args.ask))
+              (quiet k A s c.note.new.master.offsets st (asking_quiet job_tag c.args.ask).0 (asking_quiet job_tag c.args.ask).1 (ap (λ (m : MasterState). m.offsets) c.note.ensures.master))
+              (ap (λ (m : MasterState). m.total) c.note.ensures.master)).standing,
+        );
+        sizes_are = c.in-Ok.ensures.sizes ∙ c.self.invariant.of.sizes_are;
+        stamp_is = c.self.invariant.of.stamp_is;
+      };
+      exact = c.self.invariant.exact ∙ sym (ap (λ z. z.slots) c.in-Ok.ensures.sizes);
+    }
+
+pub returns-in-Ok-clause-made : goal.returns-in-Ok-clause-made
+returns-in-Ok-clause-made g c =
+    let k : KeeperState g.row.F.Denot = (record { core = c.self.inside.core; base = c.self.inside.journal.base; cut = c.self.inside.journal.cut; journal = c.self.inside.journal.steps; limit = c.self.inside.journal.limit; stamps = c.self.inside.stamps.items; stamp = c.self.inside.stamp; acquired = c.self.inside.acquired; offsets = c.self.inside.master.offsets; total = c.self.inside.master.total }) in
+    let s = asking job_tag c.args.ask in
+    let room = rw (sym c.self.view_is) at c.in_default.ensures in
+    rw (sym c.self.view_is) (λ A st. core_made k A s c.in_default.field-0 c.bump.new.self (Ticket c.in-Ok.ticket) c.in-Ok.ticket _ c.note.new.journal c.self.inside.stamps.items c.self.inside.acquired c.note.new.master.offsets c.note.new.master.total st room (c.in-Ok.ensures.made A st.core_stands)
+    (bump_ticket k A c.args.ask c.bump.new.self c.in-Ok.ticket (c.in-Ok.ensures.made A st.core_stands))
+    (c.note.ensures.journal ∙ ap (λ z. with_steps (z ∷ []) c.self.inside.journal) c.step_of-step.ensures) (unstamped k A s st (asking_acquires job_tag c.args.ask))
+    (quiet k A s c.note.new.master.offsets st (asking_quiet job_tag c.args.ask).0 (asking_quiet job_tag c.args.ask).1 (ap (λ (m : MasterState). m.offsets) c.note.ensures.master))
+    (ap (λ (m : MasterState). m.total) c.note.ensures.master))

@@ -1,0 +1,68 @@
+-- What a keeper keeps, and when it stands at a list of steps.
+use Rattle.std.specs.Prelude.{◌≡◌, ℕ, ◌^◌, ◌≤◌, List, ◌++◌, length}
+use Rattle.hl_model.specs.declared.step.Step.{Step}
+use Rattle.hl_model.specs.Sizes.{Sizes}
+use Rattle.hl_model.specs.Offsets.{read_only, head}
+use Rattle.hl_model.specs.Bases.{Base, base_of}
+use Rattle.hl_action.specs.Jobs.{KeptRecord}
+use Rattle.hl_words.specs.declared.view.OffsetWords.{OffsetWords}
+use Rattle.hl_words.specs.Views.{newest}
+use Rattle.hl_core.specs.Standing.{State, Stands}
+use Rattle.hl_keeper.specs.Stamps.{acquires_in, slot_stamps}
+
+-- the tag of a job
+abbrev pub job_tag : {F : Type 0} → KeptRecord F → ℕ
+job_tag kept = kept.tag
+
+-- what a keeper keeps: a core; the base of the steps that were cut, and how many these are; the steps since,
+-- and how many it may keep; each slot's stamp, the domain's own, and how many acquires were accepted; the
+-- master's stores of the offset words, and how many steps riders entered in all
+pub record KeeperState (F : Type 0) : Type 0 where
+  pub core : State (KeptRecord F)
+  pub base : Base
+  pub cut : ℕ
+  pub journal : List Step
+  pub limit : ℕ
+  pub stamps : List ℕ
+  pub stamp : ℕ
+  pub acquired : ℕ
+  pub offsets : OffsetWords
+  pub total : ℕ
+
+-- how many steps a keeper counts in all, and the greatest stamp of a domain
+abbrev pub steps_most : ℕ
+steps_most = 2 ^ 62
+
+-- a keeper stands at the accepted list A: its core does; A is the steps that were cut, of which its base is,
+-- and then its journal; the offset words were last stored as the offsets of A; the total is A's length; it
+-- counts the acquires of A, and each slot has the stamp that A gives it
+pub record KeeperStands {F : Type 0} (keeper : KeeperState F) (A : List Step) : Type 0 where
+  pub core_stands : Stands job_tag keeper.core A
+  pub steps_cut : List Step
+  pub history : A ≡ steps_cut ++ keeper.journal
+  pub base_is : keeper.base ≡ base_of keeper.core.sizes steps_cut
+  pub cut_is : keeper.cut ≡ length steps_cut
+  pub read_only_is : newest keeper.offsets.read_only ≡ read_only A
+  pub head_is : newest keeper.offsets.head ≡ head A
+  pub total_is : keeper.total ≡ length A
+  pub total_most : keeper.total ≤ steps_most
+  pub journal_most : length keeper.journal ≤ keeper.limit
+  pub acquired_is : keeper.acquired ≡ acquires_in A
+  pub stamps_are : keeper.stamps ≡ slot_stamps keeper.core.sizes.slots keeper.stamp A
+  pub stamp_most : keeper.stamp ≤ steps_most
+
+-- a keeper stands at some list
+abbrev pub IsKeeper : {F : Type 0} → KeeperState F → Type 0
+IsKeeper {F} keeper = (A : List Step) × KeeperStands keeper A
+
+-- so does each keeper; its sizes and its stamp are those that its realm names
+pub record IsOf {F : Type 0} (sizes : Sizes) (stamp : ℕ) (keeper : KeeperState F) : Type 0 where
+  pub standing : IsKeeper keeper
+  pub sizes_are : keeper.core.sizes ≡ sizes
+  pub stamp_is : keeper.stamp ≡ stamp
+
+-- each keeper is that, and its row of stamps, which has this room, never grew
+pub record IsKept {F : Type 0} (sizes : Sizes) (stamp : ℕ) (keeper : KeeperState F)
+    (room : ℕ) : Type 0 where
+  pub of : IsOf sizes stamp keeper
+  pub exact : room ≡ keeper.core.sizes.slots

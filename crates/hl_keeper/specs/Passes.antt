@@ -1,0 +1,157 @@
+-- What a pass keeps, what its calls without the lock answer, and what they leave.
+use Rattle.std.specs.Prelude.{◌≡◌, ℕ, ◌≤◌, ◌+◌, ◌*◌, ◌/◌, ◌%◌, ◌==◌, nat_le, nat_lt, ◌||◌, max, if◌then◌else◌, Option, Some, None, Result, MatchResult, List, [], ◌∷◌, ◌++◌, length}
+use Rattle.hl_model.specs.declared.fault.Fault.{Fault}
+use Rattle.hl_model.specs.declared.fault.Fault.TheVariants.{Below, Beyond, Evicted, TouchesFull}
+use Rattle.hl_model.specs.declared.step.Step.{Step}
+use Rattle.hl_model.specs.declared.step.Step.TheVariants.{Look, Write}
+use Rattle.hl_model.specs.declared.view.View.{View}
+use Rattle.hl_model.specs.Sizes.{Sizes}
+use Rattle.hl_model.specs.Replies.{or_fault}
+use Rattle.hl_words.specs.declared.which.Which.TheVariants.{ReadOnly, Head}
+use Rattle.hl_words.specs.States.{RiderState, with_view}
+use Rattle.hl_words.specs.Views.{offset_of, greatest_of, stored, changed, loaded, with_loaded}
+use Rattle.hl_keeper.specs.Touches.{view_after}
+
+-- a pass: its slot and stamp, the view at its last locked call, its looks and stores since then, and its
+-- rider
+pub record PassRecord : Type 0 where
+  pub slot : ℕ
+  pub stamp : ℕ
+  pub held : View
+  pub touches : List Step
+  pub rider : RiderState
+
+-- its own view
+abbrev pub seen : PassRecord → View
+seen p = view_after p.held p.touches
+
+-- how many touches a pass can have
+abbrev pub touches_most : ℕ
+touches_most = 32
+
+-- the fault of one touch more
+unfoldable pub touch_fault : PassRecord → Option Fault
+touch_fault p = if length p.touches == touches_most then Some TouchesFull else None
+
+-- the fault of an address at or above the tail that the pass saw
+abbrev pub tail_fault : View → ℕ → Option Fault
+tail_fault v a = if nat_le v.tail a then Some (Beyond v.tail) else None
+
+-- the fault of a store at address a
+unfoldable pub store_fault : PassRecord → ℕ → Option Fault
+store_fault p a =
+    if nat_lt a (seen p).read_only then Some (Below (seen p).read_only)
+    else or_fault (tail_fault (seen p) a) (touch_fault p)
+
+-- the fault of a load at address a
+unfoldable pub load_fault : PassRecord → ℕ → Option Fault
+load_fault p a = if nat_lt a (seen p).head then Some (Evicted (seen p).head) else tail_fault (seen p) a
+
+-- the cell of address a
+abbrev pub cell_at : Sizes → ℕ → ℕ
+cell_at sizes a = a / sizes.page_size % sizes.frames * sizes.page_size + a % sizes.page_size
+
+-- the pass after a store of v at address a: its rider stored it into the address's cell, and it has one touch
+-- more
+unfoldable pub with_store : Sizes → ℕ → ℕ → PassRecord → PassRecord
+with_store sizes a v p = record {
+  slot = p.slot;
+  stamp = p.stamp;
+  held = p.held;
+  touches = p.touches ++ Write p.slot a v ∷ [];
+  rider = with_view (stored (cell_at sizes a) v p.rider.view) p.rider;
+}
+
+-- the pass after it found the one value at address a and stored v there, in one step: its rider changed the
+-- address's cell, and it has one touch more
+unfoldable pub with_change : Sizes → ℕ → ℕ → ℕ → PassRecord → PassRecord
+with_change sizes a found v p = record {
+  slot = p.slot;
+  stamp = p.stamp;
+  held = p.held;
+  touches = p.touches ++ Write p.slot a v ∷ [];
+  rider = with_view (changed (cell_at sizes a) found v p.rider.view) p.rider;
+}
+
+-- the pass after a load at address a that gave v: its rider has loaded it from the address's cell
+unfoldable pub with_load : Sizes → ℕ → ℕ → PassRecord → PassRecord
+with_load sizes a v p = record {
+  slot = p.slot;
+  stamp = p.stamp;
+  held = p.held;
+  touches = p.touches;
+  rider = with_view (loaded (cell_at sizes a) v p.rider.view) p.rider;
+}
+
+-- the touch of a look that brings these offsets: none where neither rises
+abbrev pub look_made : ℕ → View → ℕ → ℕ → List Step
+look_made t v read_only head =
+    if nat_lt v.read_only read_only || nat_lt v.head head
+    then Look t (max v.read_only read_only) (max v.head head) ∷ []
+    else []
+
+-- the pass after a look that loaded these offsets: its rider has loaded both, and it sees the greater of each
+-- and of its own
+unfoldable pub with_look : ℕ → ℕ → PassRecord → PassRecord
+with_look read_only head p = record {
+  slot = p.slot;
+  stamp = p.stamp;
+  held = p.held;
+  touches = p.touches ++ look_made p.slot (seen p) read_only head;
+  rider = with_view (with_loaded Head head (with_loaded ReadOnly read_only p.rider.view)) p.rider;
+}
+
+-- the last offsets that its rider loaded
+abbrev pub last_read_only : PassRecord → ℕ
+last_read_only p = offset_of ReadOnly p.rider.view.offsets
+
+abbrev pub last_head : PassRecord → ℕ
+last_head p = offset_of Head p.rider.view.offsets
+
+-- the pass loaded both offsets anew, neither below any that its rider had loaded
+pub record LooksOn (old new : PassRecord) : Type 0 where
+  pub read_only : greatest_of ReadOnly old.rider.view.offsets ≤ last_read_only new
+  pub head : greatest_of Head old.rider.view.offsets ≤ last_head new
+
+-- a rider that entered n steps more
+abbrev pub with_share : ℕ → RiderState → RiderState
+with_share n r = record { view = r.view; share = r.share + n; calls = r.calls }
+
+-- a pass with this rider in the place of its own
+abbrev pub with_rider : RiderState → PassRecord → PassRecord
+with_rider r p = record { slot = p.slot; stamp = p.stamp; held = p.held; touches = p.touches; rider = r }
+
+-- the rider of an accepted call entered n steps more, and that of a refused one none; what it stored, loaded and
+-- met stays
+abbrev pub Shares : {X E : Type 0} → ℕ → Result X E → RiderState → RiderState → Type 0
+Shares n result old new = MatchResult result (λ _. new ≡ with_share n old) (λ _. new ≡ old)
+
+-- the pass whose rider has entered its touches and one step more
+abbrev pub entered_by : PassRecord → PassRecord
+entered_by p = record {
+  slot = p.slot;
+  stamp = p.stamp;
+  held = p.held;
+  touches = p.touches;
+  rider = with_share (length p.touches + 1) p.rider;
+}
+
+-- the pass after a locked call that leaves it with this view: its touches and the call's own step are its
+-- rider's
+unfoldable pub rested : View → PassRecord → PassRecord
+rested v p = record {
+  slot = p.slot;
+  stamp = p.stamp;
+  held = v;
+  touches = [];
+  rider = with_share (length p.touches + 1) p.rider;
+}
+
+-- a view with another tail
+abbrev pub with_tail : ℕ → View → View
+with_tail tail v = record { read_only = v.read_only; head = v.head; tail = tail }
+
+-- a new pass
+abbrev pub new_pass : ℕ → ℕ → View → RiderState → PassRecord
+new_pass slot stamp view rider =
+    record { slot = slot; stamp = stamp; held = view; touches = []; rider = rider }

@@ -1,0 +1,165 @@
+//! What the locked calls have in common: the tests before the core's, and the journal behind them.
+ghost use Rattle.std.specs.Prelude.{◌≡◌, ◌+◌, ◌≤◌, None, List, [], ◌∷◌, slice_index_or, true, OnErr, MatchResult};
+ghost use Rattle.hl_model.specs.declared.step.Step.{Step as STEP};
+ghost use Rattle.hl_model.specs.Replies.{unless_fault};
+ghost use Rattle.hl_keeper.specs.Touches.{is_call};
+ghost use Rattle.hl_keeper.specs.Passes.{with_share, entered_by};
+ghost use Rattle.hl_keeper.specs.Keepers.{KeeperStands, IsKeeper, steps_most};
+ghost use Rattle.hl_keeper.specs.Journals.{full_fault, with_steps};
+ghost use Rattle.hl_keeper.specs.Calls.{has_view, stamp_at, is_known, is_behind, stranger_fault, ahead_fault, room_fault, origin_fault, Knows, Called, Keeps, SameStamps};
+
+use crate::enter::enter_steps;
+use crate::journal::Journal;
+use crate::keeper::Keeper;
+use crate::pass::Pass;
+use hl_action::{Promise, Task};
+use hl_epoch::Epochs;
+use hl_model::{Fault, Reply, Step, View};
+use hl_words::{Master, Realm, Rider};
+
+impl<E: Epochs + Drop, F: Task, P: Promise, L: Realm> Keeper<E, F, P, L> {
+    /// Whether the pass is the one to which its slot belongs.
+    ///
+    /// `Stranger`, with the slot's stamp, where it isn't.
+    pub(crate) fn known(&self, pass: &Pass<L>) -> Result<(), Fault>
+        ensures { (A : List STEP) → KeeperStands self.now A
+            → result ≡ unless_fault (stranger_fault self.now A pass.now) tt }
+    {
+        if self.is_known(pass) {
+            Ok(())
+        } else {
+            Err(Fault::Stranger {
+                stamp: self.stamp_at(pass.slot),
+            })
+        }
+    }
+
+    /// Whether it is, and saw no offset above the present one.
+    ///
+    /// `Stranger`, with the slot's stamp, where not both.
+    pub(crate) fn known_behind(&self, pass: &Pass<L>) -> Result<(), Fault>
+        ensures { (A : List STEP) → KeeperStands self.now A
+            → result ≡ unless_fault (ahead_fault self.now A pass.now) tt }
+    {
+        self.known(pass)?;
+        if self.is_behind(pass) {
+            Ok(())
+        } else {
+            Err(Fault::Stranger {
+                stamp: self.stamp_at(pass.slot),
+            })
+        }
+    }
+
+    /// Makes the touches of a pass that is known, and its own step behind them. The pass keeps its touches:
+    /// its caller rests it. Where it is refused nothing is changed.
+    pub(crate) fn call(&mut self, pass: &mut Pass<L>, step: &Step) -> Result<Reply, Fault>
+        requires kind { is_call step.now ≡ true }
+        requires known { Knows self.old pass.old }
+        ensures made { (A : List STEP) → KeeperStands self.old A
+            → Called self.old A pass.old step.now self.new result }
+        ensures keeps { Keeps self.old self.new result }
+        ensures stamps { SameStamps self.old self.new }
+        ensures pass { MatchResult result (λ _. pass.new ≡ entered_by pass.old) (λ _. pass.new ≡ pass.old) }
+        ensures valid { IsKeeper self.old }
+    {
+        let count = pass.touches.len() as u64 + 1;
+        self.room(count)?;
+        self.core.check(step)?;
+        enter_steps(&mut self.core, &mut self.journal, &pass.touches);
+        match self.core.act(step) {
+            Ok(reply) => {
+                self.journal.note(*step);
+                self.master.enter(&mut pass.rider, count);
+                Ok(reply)
+            }
+            // Touches leave the fault of the step.
+            Err(_) => unreachable!(),
+        }
+    }
+
+    fn is_known(&self, pass: &Pass<L>) -> bool
+        ensures { (A : List STEP) → KeeperStands self.now A → result ≡ is_known self.now A pass.now }
+    {
+        has_view(self.core.view(pass.slot), pass.held) && self.stamp_at(pass.slot) == pass.stamp
+    }
+
+    fn is_behind(&self, pass: &Pass<L>) -> bool
+        ensures { (A : List STEP) → KeeperStands self.now A → result ≡ is_behind A pass.now }
+    {
+        let six = self.core.six();
+        pass.view.read_only <= six.read_only && pass.view.head <= six.head
+    }
+
+    /// The stamp of a slot, and 0 where it is empty.
+    fn stamp_at(&self, t: u64) -> u64
+        ensures { (A : List STEP) → KeeperStands self.now A → result ≡ stamp_at self.now A t }
+    {
+        match self.core.view(t) {
+            Some(_) => stamp_of(&self.stamps, t),
+            None => 0,
+        }
+    }
+
+    /// Whether something is of this keeper's domain, told its origin.
+    ///
+    /// `Stranger`, with the domain's stamp, where it isn't.
+    pub(crate) fn own(&self, origin: u64) -> Result<(), Fault>
+        ensures { result ≡ unless_fault (origin_fault self.now origin) tt }
+    {
+        if origin == self.stamp {
+            Ok(())
+        } else {
+            Err(Fault::Stranger { stamp: self.stamp })
+        }
+    }
+
+    /// Whether the journal has room for so many steps more.
+    ///
+    /// `JournalFull` where it hasn't.
+    pub(crate) fn room(&self, count: u64) -> Result<(), Fault>
+        requires { count ≤ 33 }
+        ensures { result ≡ unless_fault (room_fault self.now count) tt }
+    {
+        self.journal.room(count)
+    }
+}
+
+/// Puts a step behind the journal, and counts it for a rider.
+pub(crate) fn note<L: Realm>(
+    journal: &mut Journal,
+    master: &mut Master<L>,
+    rider: &mut Rider<L>,
+    step: Step,
+)
+    requires room { full_fault journal.old 1 ≡ None }
+    requires count { master.old.total + 1 ≤ steps_most }
+    ensures journal { journal.new ≡ with_steps (step ∷ []) journal.old }
+    ensures master { master.new ≡ record { offsets = master.old.offsets; total = master.old.total + 1 } }
+    ensures rider { rider.new ≡ with_share 1 rider.old }
+{
+    journal.note(step);
+    master.enter(rider, 1);
+}
+
+// Whether a slot has this view.
+fn has_view(view: Option<View>, held: View) -> bool
+    ensures { result ≡ has_view view held }
+{
+    match view {
+        Some(view) => {
+            view.read_only == held.read_only && (view.head == held.head && view.tail == held.tail)
+        }
+        None => false,
+    }
+}
+
+// What the row of stamps has for a slot.
+fn stamp_of(stamps: &[u64], t: u64) -> u64
+    ensures { result ≡ slice_index_or stamps.now t 0 }
+{
+    match stamps.get(t as usize) {
+        Some(stamp) => *stamp,
+        None => 0,
+    }
+}

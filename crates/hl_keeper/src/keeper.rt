@@ -1,0 +1,244 @@
+ghost use Rattle.std.specs.Prelude.{◌≡◌, ◌≢◌, ◌*◌, ◌≤◌, List, [], length, map, replicate, IfOk, IfErr, OnOk};
+ghost use Rattle.std.specs.List.{sum_by};
+ghost use Rattle.hl_model.specs.declared.fault.Fault.TheVariants.{OutOfMemory};
+ghost use Rattle.hl_model.specs.declared.step.Step.{Step as STEP};
+ghost use Rattle.hl_model.specs.Snapshots.{snapshot_of};
+ghost use Rattle.hl_history.specs.Lists.{IsOneList};
+ghost use Rattle.hl_words.specs.States.{IsSeedOf, new_rider};
+ghost use Rattle.hl_keeper.specs.Keepers.{KeeperStands, steps_most};
+
+use crate::ending::Ending;
+use crate::journal::Journal;
+use hl_action::{Kept, Promise, Task};
+use hl_core::Core;
+use hl_epoch::Epochs;
+use hl_model::{Fault, filled};
+use hl_words::{Master, Realm, Rider, Scribe, Seed, Words};
+use std::alloc::Global;
+use std::marker::Model;
+
+/// What lies under a domain's one lock: a core over the table of epochs E with jobs F, the journal of the
+/// accepted steps with the base of those that were cut from it, each slot's stamp, and the right to store the
+/// offset words. The answers of its jobs keep the promise P.
+pub struct Keeper<E: Epochs, F: Task, P: Promise, L: Realm> {
+    pub(crate) core: Core<E, Kept<F, P>>,
+    pub(crate) journal: Journal,
+    pub(crate) stamps: Vec<u64>,
+    pub(crate) stamp: u64,
+    // How many acquires were accepted.
+    pub(crate) acquired: u64,
+    pub(crate) master: Master<L>,
+}
+
+impl<E: Epochs, F: Task, P: Promise, L: Realm> Model for Keeper<E, F, P, L> {
+    ghost use Rattle.std.specs.Prelude.{vec_capacity};
+    ghost use Rattle.hl_keeper.specs.Keepers.{KeeperState, IsKept};
+
+    ghost Value = { KeeperState F };
+
+    ghost view = { λ k. record {
+      core = k.core;
+      base = k.journal.base;
+      cut = k.journal.cut;
+      journal = k.journal.steps;
+      limit = k.journal.limit;
+      stamps = k.stamps.items;
+      stamp = k.stamp;
+      acquired = k.acquired;
+      offsets = k.master.offsets;
+      total = k.master.total;
+    } };
+
+    ghost invariant = { λ k. IsKept L.sizes L.stamp
+        (record {
+          core = k.core;
+          base = k.journal.base;
+          cut = k.journal.cut;
+          journal = k.journal.steps;
+          limit = k.journal.limit;
+          stamps = k.stamps.items;
+          stamp = k.stamp;
+          acquired = k.acquired;
+          offsets = k.master.offsets;
+          total = k.master.total;
+        })
+        (vec_capacity k.stamps) };
+}
+
+impl<E: Epochs + Drop, F: Task, P: Promise, L: Realm> Drop for Keeper<E, F, P, L> {
+    fn drop(self) {
+        let Keeper {
+            core: _,
+            journal: _,
+            stamps: _,
+            stamp: _,
+            acquired: _,
+            master: _,
+        } = self;
+    }
+}
+
+impl<E: Epochs + Drop, F: Task, P: Promise, L: Realm> Keeper<E, F, P, L> {
+    /// A keeper at the empty list, with its words and its riders. It may keep this many steps between two
+    /// cuts, and the stamp is its domain's. No other call has an answer for want of memory.
+    ///
+    /// `OutOfMemory` where memory was refused; then the seed is given up.
+    pub fn open(
+        alloc: Global,
+        seed: Seed,
+        journal: u64,
+        stamp: u64,
+    ) -> Result<(Keeper<E, F, P, L>, Words<L>, Vec<Rider<L>>), Fault>
+        requires seed { IsSeedOf L.name L.parts L.table seed }
+        requires journal { journal ≤ steps_most }
+        requires stamp { stamp ≤ steps_most }
+        requires named { (seed.sizes ≡ L.sizes) × (stamp ≡ L.stamp) }
+        ensures keeper { IfOk result (λ opened. KeeperStands opened.0 []) }
+        ensures sizes { IfOk result (λ opened. opened.0.core.sizes ≡ seed.sizes) }
+        ensures limit { IfOk result (λ opened. opened.0.limit ≡ journal) }
+        ensures stamp { IfOk result (λ opened. (opened.0.stamp ≡ stamp) × (opened.0.acquired ≡ 0)) }
+        ensures words { IfOk result (λ opened.
+            opened.1 ≡ record { cells = seed.sizes.frames * seed.sizes.page_size; riders = seed.riders }) }
+        ensures riders { IfOk result (λ opened. opened.2.items ≡ replicate seed.riders new_rider) }
+        ensures memory { IfErr result (λ fault. fault ≡ OutOfMemory) }
+    {
+        let (keeper, words, _scribe, riders) = Keeper::open_with_scribe(
+            alloc, seed, journal, stamp,
+        )?;
+        Ok((keeper, words, riders))
+    }
+
+    /// A keeper as `open` makes it, and the scribe of its words' list, whose list is empty too. Who lays both under one
+    /// lock, and enters each call's steps by `Words::enter`, finds each list that the keeper stands at.
+    ///
+    /// `OutOfMemory` where memory was refused; then the seed is given up.
+    pub fn open_with_scribe(
+        alloc: Global,
+        seed: Seed,
+        journal: u64,
+        stamp: u64,
+    ) -> Result<(Keeper<E, F, P, L>, Words<L>, Scribe<L>, Vec<Rider<L>>), Fault>
+        requires seed { IsSeedOf L.name L.parts L.table seed }
+        requires journal { journal ≤ steps_most }
+        requires stamp { stamp ≤ steps_most }
+        requires named { (seed.sizes ≡ L.sizes) × (stamp ≡ L.stamp) }
+        ensures keeper { IfOk result (λ opened. KeeperStands opened.0 []) }
+        ensures sizes { IfOk result (λ opened. opened.0.core.sizes ≡ seed.sizes) }
+        ensures limit { IfOk result (λ opened. opened.0.limit ≡ journal) }
+        ensures stamp { IfOk result (λ opened. (opened.0.stamp ≡ stamp) × (opened.0.acquired ≡ 0)) }
+        ensures words { IfOk result (λ opened.
+            opened.1 ≡ record { cells = seed.sizes.frames * seed.sizes.page_size; riders = seed.riders }) }
+        ensures list { IfOk result (λ opened. opened.2 ≡ []) }
+        ensures riders { IfOk result (λ opened. opened.3.items ≡ replicate seed.riders new_rider) }
+        ensures memory { IfErr result (λ fault. fault ≡ OutOfMemory) }
+    {
+        let params = seed.params();
+        let (words, master, scribe, riders) = Words::open_with_scribe(alloc, seed)?;
+        let core = Core::open(alloc, params)?;
+        let journal = Journal::open(alloc, params, journal)?;
+        let stamps = filled(alloc, params.slots(), 0)?;
+        let keeper = Keeper {
+            core,
+            journal,
+            stamps,
+            stamp,
+            acquired: 0,
+            master,
+        };
+        Ok((keeper, words, scribe, riders))
+    }
+
+    /// Ends it, where all riders are there: what is left of it. All are handed back where one is missing.
+    pub fn close(
+        self,
+        words: Words<L>,
+        riders: Vec<Rider<L>>,
+    ) -> Result<Ending<F, P>, (Keeper<E, F, P, L>, Words<L>, Vec<Rider<L>>)>
+        ensures kept { IfOk result (λ ending. (ending.base ≡ self.base) × (ending.cut ≡ self.cut)
+            × (ending.journal ≡ self.journal) × (ending.left ≡ self.core.drain)) }
+        ensures quantities { (A : List STEP) → KeeperStands self A
+            → IfOk result (λ ending. ending.snapshot ≡ snapshot_of self.core.sizes A) }
+        ensures sum { OnOk result (self.total ≡ sum_by (λ r. r.share) riders.items) }
+        ensures all { OnOk result (length riders.items ≡ words.riders) }
+        ensures missing { IfErr result (λ _. length riders.items ≢ words.riders) }
+        ensures back { IfErr result (λ back. (back.0 ≡ self) × (back.1 ≡ words) × (back.2 ≡ riders)) }
+    {
+        let Keeper {
+            core,
+            journal,
+            stamps,
+            stamp,
+            acquired,
+            master,
+        } = self;
+        match words.close(master, riders) {
+            Ok(_) => Ok(Ending {
+                snapshot: core.snapshot(),
+                base: journal.base,
+                cut: journal.cut,
+                journal: journal.steps,
+                left: core.into_drain(),
+            }),
+            Err((words, master, riders)) => {
+                let keeper = Keeper {
+                    core,
+                    journal,
+                    stamps,
+                    stamp,
+                    acquired,
+                    master,
+                };
+                Err((keeper, words, riders))
+            }
+        }
+    }
+
+    /// Ends it as `close` does. Besides, where no rider is missing, the scribe's list is the one list of exactly these
+    /// riders' calls.
+    pub fn close_with_scribe(
+        self,
+        words: Words<L>,
+        scribe: Scribe<L>,
+        riders: Vec<Rider<L>>,
+    ) -> Result<Ending<F, P>, (Keeper<E, F, P, L>, Words<L>, Scribe<L>, Vec<Rider<L>>)>
+        ensures kept { IfOk result (λ ending. (ending.base ≡ self.base) × (ending.cut ≡ self.cut)
+            × (ending.journal ≡ self.journal) × (ending.left ≡ self.core.drain)) }
+        ensures quantities { (A : List STEP) → KeeperStands self A
+            → IfOk result (λ ending. ending.snapshot ≡ snapshot_of self.core.sizes A) }
+        ensures sum { OnOk result (self.total ≡ sum_by (λ r. r.share) riders.items) }
+        ensures list { OnOk result (IsOneList scribe (map (λ r. r.calls) riders.items)) }
+        ensures all { OnOk result (length riders.items ≡ words.riders) }
+        ensures missing { IfErr result (λ _. length riders.items ≢ words.riders) }
+        ensures back { IfErr result (λ back.
+            (back.0 ≡ self) × (back.1 ≡ words) × (back.2 ≡ scribe) × (back.3 ≡ riders)) }
+    {
+        let Keeper {
+            core,
+            journal,
+            stamps,
+            stamp,
+            acquired,
+            master,
+        } = self;
+        match words.close_with_scribe(master, scribe, riders) {
+            Ok(_) => Ok(Ending {
+                snapshot: core.snapshot(),
+                base: journal.base,
+                cut: journal.cut,
+                journal: journal.steps,
+                left: core.into_drain(),
+            }),
+            Err((words, master, scribe, riders)) => {
+                let keeper = Keeper {
+                    core,
+                    journal,
+                    stamps,
+                    stamp,
+                    acquired,
+                    master,
+                };
+                Err((keeper, words, scribe, riders))
+            }
+        }
+    }
+}

@@ -1,0 +1,75 @@
+//! The keeper: the quantities of an allocator that riders share, with the journal of their steps.
+//!
+//! A `Domain` has one under its lock. Who has a lock of his own takes a [`Keeper`] and its `Words` apart, and finds in
+//! [`unlocked`] what needs no lock.
+//!
+//! # Standing at a list
+//!
+//! A keeper stands at a list of accepted steps where its core does, the list is the steps that were cut and
+//! then its journal, its base is that of the steps cut, the offset words were last stored as the read-only
+//! offset and the head of the list, and the riders' steps in all are as many as the list has: `KeeperStands`
+//! in `specs/Keepers.antt`. Each keeper stands at some list: that is in its type. Each locked call says: at
+//! whatever list the keeper stood, the answer is the definitions' after that list and the pass's touches, and
+//! the keeper then stands at the list with both, where it was accepted. A refused call changes nothing, and
+//! what was handed in comes back.
+//!
+//! # The order of the faults
+//!
+//! First `Stranger`: a pass whose stamp or held view isn't the slot's, or, in a refresh, that saw an offset
+//! above the present one; a page or an action of another domain. Then `JournalFull`. Then the core's, in
+//! their order. [`worked`] has the refusal of a pass of another stamp than its slot's, which no call makes.
+//!
+//! # Touches
+//!
+//! A look and a store need no lock. They are lawful in the pass's own view, and enter the journal, in their
+//! order, before the step of the pass's next locked call: what the slot's view allows is accepted there,
+//! whatever others did since. So touches refuse a call for the room that they want in the journal, and for nothing else.
+//!
+//! A pass lends its rider for the calls that want one ([`Pass::rider_mut`]): a protected thread bumps, takes, cuts
+//! and raises so. What the rider enters meanwhile stands before the touches, which stay in the pass, and no action
+//! that it stores is safe before they enter: the slot keeps its epoch until the pass refreshes or is released.
+//!
+//! # Who holds it up
+//!
+//! `holders` tells the oldest pending action's ticket and the slots at an epoch that isn't above it, `frame_of` what
+//! the frame of a page is at, as of the page that a `Busy` names. They are questions: no step, and no touch.
+//!
+//! No call after [`Keeper::open`] has an answer for want of memory. That the journal has exactly the room that opening
+//! made, and that the row of stamps never grows, is in their types.
+#![tactic(auto)]
+
+mod actions;
+mod call;
+mod cut;
+mod ending;
+mod enter;
+mod exchange;
+mod journal;
+mod keeper;
+mod lease;
+mod load;
+mod look;
+mod offsets;
+mod pages;
+mod pass;
+mod queries;
+mod rider;
+mod slots;
+mod sweep;
+pub mod unlocked;
+pub mod worked;
+
+pub use arrayvec::ArrayVec;
+pub use ending::Ending;
+pub use hl_action::{AnyAnswer, Firing, Kept, NoJob, Promise, Ran, Ready, Task};
+pub use hl_core::Holder;
+pub use hl_counts::CountTable;
+pub use hl_drain::{Action, Ask, Drain};
+pub use hl_epoch::{Epochs, ScanTable};
+pub use hl_laws::Base;
+pub use hl_model::{Fault, FrameState, Params, Reply, Six, Snapshot, Step, View};
+pub use hl_words::{Master, Realm, Rider, Seed, Words};
+pub use keeper::Keeper;
+pub use lease::Lease;
+pub use load::{Broom, Load, PageJob};
+pub use pass::Pass;

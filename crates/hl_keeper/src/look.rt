@@ -1,0 +1,149 @@
+//! What a pass does without the lock: looks at the offset words, and stores and loads of cells.
+ghost use Rattle.std.specs.Prelude.{◌≡◌, ◌*◌, ◌<◌, ◌||◌, nat_lt, Some, None, max, length, IfOk, OnOk, MatchResult};
+ghost use Rattle.hl_model.specs.Replies.{unless_fault, unless_refused};
+ghost use Rattle.hl_keeper.specs.Passes.{PassRecord, seen, touches_most, touch_fault, store_fault, load_fault, with_look, with_store, with_load, last_read_only, last_head, LooksOn};
+
+use crate::pass::{Pass, TOUCHES_MOST};
+use hl_model::{Fault, Params, Step, View, cell_of};
+use hl_words::{Realm, Which, Words};
+
+/// Looks at both offset words: each of the pass's two offsets becomes the greater of the loaded and its own.
+/// A look that raises neither is no touch. The answer is what the pass sees then. Neither load is below any
+/// that the rider loaded of that word before.
+///
+/// `TouchesFull` where the pass has 32 touches; then nothing is loaded.
+pub fn look<L: Realm>(words: &Words<L>, pass: &mut Pass<L>) -> Result<View, Fault>
+    ensures answer { result ≡ unless_fault (touch_fault pass.old) (seen pass.new) }
+    ensures pass { let new = pass.new
+        in let old = pass.old
+        in new ≡ unless_refused (touch_fault old) old (with_look (last_read_only new) (last_head new) old) }
+    ensures rises { OnOk result (LooksOn pass.old pass.new) }
+    ensures raised { let old = seen pass.old
+        in let new = pass.new
+        in IfOk result (λ view. view ≡ record {
+          read_only = max old.read_only (last_read_only new);
+          head = max old.head (last_head new);
+          tail = old.tail;
+        }) }
+{
+    pass.may_touch()?;
+    let seen = pass.view;
+    let read_only = words.load_offset(&mut pass.rider, Which::ReadOnly);
+    let head = words.load_offset(&mut pass.rider, Which::Head);
+    if !rises(seen, read_only, head) {
+        return Ok(seen);
+    }
+    let view = View {
+        read_only: seen.read_only.max(read_only),
+        head: seen.head.max(head),
+        tail: seen.tail,
+    };
+    pass.touches.push(Step::Look {
+        t: pass.slot,
+        read_only: view.read_only,
+        head: view.head,
+    });
+    pass.view = view;
+    Ok(view)
+}
+
+/// Stores a word of 64 bits at an address of the log, which counts words. It is a touch. The sizes are those
+/// of the words, which give each address its cell.
+///
+/// Faults: `Below` where the address is below the read-only offset that the pass saw, `Beyond` where it isn't
+/// below the tail that it saw, `TouchesFull` where it has 32 touches.
+pub fn store<L: Realm>(
+    words: &Words<L>,
+    params: Params,
+    pass: &mut Pass<L>,
+    a: u64,
+    v: u64,
+) -> Result<(), Fault>
+    requires { words.now.cells ≡ params.frames * params.page_size }
+    ensures answer { result ≡ unless_fault (store_fault pass.old a) tt }
+    ensures pass { let old = pass.old
+        in pass.new ≡ unless_refused (store_fault old a) old (with_store params a v old) }
+{
+    pass.may_store(a)?;
+    let cell = cell_of(params, a);
+    words.store_cell(&mut pass.rider, cell, v);
+    pass.touches.push(Step::Write { t: pass.slot, a, v });
+    Ok(())
+}
+
+/// Loads the word at an address of the log. It is no touch: no step of the journal tells it. The sizes are
+/// those of the words, as for a store.
+///
+/// Faults: `Evicted` where the address is below the head that the pass saw, `Beyond` where it isn't below the
+/// tail that it saw.
+pub fn load<L: Realm>(
+    words: &Words<L>,
+    params: Params,
+    pass: &mut Pass<L>,
+    a: u64,
+) -> Result<u64, Fault>
+    requires { words.now.cells ≡ params.frames * params.page_size }
+    ensures answer { let met = load_fault pass.old a
+        in MatchResult result (λ _. met ≡ None) (λ fault. met ≡ Some fault) }
+    ensures pass { let old = pass.old
+        in MatchResult result (λ v. pass.new ≡ with_load params a v old) (λ _. pass.new ≡ old) }
+{
+    pass.may_load(a)?;
+    let cell = cell_of(params, a);
+    Ok(words.load_cell(&mut pass.rider, cell))
+}
+
+/// Whether one of these two offsets is above that of the view.
+fn rises(seen: View, read_only: u64, head: u64) -> bool
+    ensures { result ≡ (nat_lt seen.read_only read_only || nat_lt seen.head head) }
+{
+    seen.read_only < read_only || seen.head < head
+}
+
+impl<L: Realm> Pass<L> {
+    /// Whether it has room for a touch.
+    fn may_touch(&self) -> Result<(), Fault>
+        ensures answer { result ≡ unless_fault (touch_fault self.now) tt }
+        ensures room { OnOk result (length self.now.touches < touches_most) }
+    {
+        if self.touches.len() == TOUCHES_MOST {
+            return Err(Fault::TouchesFull);
+        }
+        Ok(())
+    }
+
+    /// Whether it may store at this address.
+    pub(crate) fn may_store(&self, a: u64) -> Result<(), Fault>
+        ensures answer { result ≡ unless_fault (store_fault self.now a) tt }
+        ensures room { OnOk result (length self.now.touches < touches_most) }
+    {
+        if a < self.view.read_only {
+            return Err(Fault::Below {
+                read_only: self.view.read_only,
+            });
+        }
+        if a >= self.view.tail {
+            return Err(Fault::Beyond {
+                tail: self.view.tail,
+            });
+        }
+        self.may_touch()
+    }
+
+    /// Whether it may load at this address.
+    fn may_load(&self, a: u64) -> Result<(), Fault>
+        ensures { result ≡ unless_fault (load_fault self.now a) tt }
+    {
+        if a < self.view.head {
+            return Err(Fault::Evicted {
+                head: self.view.head,
+            });
+        }
+        if a >= self.view.tail {
+            return Err(Fault::Beyond {
+                tail: self.view.tail,
+            });
+        }
+        Ok(())
+    }
+}

@@ -1,0 +1,127 @@
+ghost use Rattle.std.specs.Prelude.{◌≡◌, []};
+ghost use Rattle.hl_keeper.specs.Passes.{seen, new_pass};
+
+use arrayvec::ArrayVec;
+use hl_model::{Step, View};
+use hl_words::{Realm, Rider};
+use std::marker::Model;
+
+/// How many touches a pass can have.
+pub(crate) const TOUCHES_MOST: usize = 32;
+
+/// The right of a rider to act for the slot that it acquired: to look at the offsets, and to store and load
+/// words, with no lock. What it did since its last locked call, its touches, enters the journal at the next.
+#[derive(Drop)]
+pub struct Pass<L: Realm> {
+    pub(crate) slot: u64,
+    pub(crate) stamp: u64,
+    // The slot's view at the last locked call, and what the pass has seen since.
+    pub(crate) held: View,
+    pub(crate) view: View,
+    pub(crate) touches: ArrayVec<Step, TOUCHES_MOST>,
+    pub(crate) rider: Rider<L>,
+}
+
+impl<L: Realm> Model for Pass<L> {
+    ghost use Rattle.std.specs.Prelude.{◌≡◌};
+    ghost use Rattle.hl_keeper.specs.Touches.{view_after, AreTouches};
+    ghost use Rattle.hl_keeper.specs.Passes.{PassRecord};
+
+    ghost Value = { PassRecord };
+
+    ghost view = { λ p. record {
+      slot = p.slot;
+      stamp = p.stamp;
+      held = p.held;
+      touches = p.touches.items;
+      rider = p.rider;
+    } };
+
+    ghost invariant = { λ p. (p.view ≡ view_after p.held p.touches.items)
+        × AreTouches p.slot p.held p.touches.items };
+}
+
+impl<L: Realm> Pass<L> {
+    ghost use Rattle.std.specs.Borrow.{sem};
+    ghost use Rattle.hl_keeper.specs.Lending.{LendsRider};
+
+    /// A pass that did nothing yet.
+    pub(crate) fn new(slot: u64, stamp: u64, view: View, rider: Rider<L>) -> Pass<L>
+        ensures { result ≡ new_pass slot stamp view rider }
+    {
+        Pass {
+            slot,
+            stamp,
+            held: view,
+            view,
+            touches: ArrayVec::new(),
+            rider,
+        }
+    }
+
+    /// Puts this view in place of its own, and forgets its touches, which have entered the journal.
+    pub(crate) fn rest(&mut self, view: View)
+        ensures { let old = self.old
+            in self.new
+            ≡ record { slot = old.slot; stamp = old.stamp; held = view; touches = []; rider = old.rider } }
+    {
+        self.held = view;
+        self.view = view;
+        self.touches.clear();
+    }
+
+    /// The slot for which it acts.
+    pub fn slot(&self) -> u64
+        ensures { result ≡ self.now.slot }
+    {
+        self.slot
+    }
+
+    /// Its stamp, which the acquire gave it: the k-th acquire of a domain gives the domain's stamp and k.
+    pub fn stamp(&self) -> u64
+        ensures { result ≡ self.now.stamp }
+    {
+        self.stamp
+    }
+
+    /// What its slot has seen: the view of its last locked call, after its looks since.
+    pub fn view(&self) -> View
+        ensures { result ≡ seen self.now }
+    {
+        self.view
+    }
+
+    /// Its rider.
+    pub fn rider(&self) -> &Rider<L>
+        ensures { result.now ≡ self.now.rider }
+    {
+        &self.rider
+    }
+
+    /// Lends its rider, for the calls that want one: a slot that is protected may bump, cut, take and raise. Slot,
+    /// stamp, view and touches stay as they are: the touches enter at the pass's next locked call, behind the steps
+    /// that the rider makes meanwhile. No action that these store is safe before, since the slot's epoch stays too.
+    pub fn rider_mut(&mut self) -> &mut Rider<L>
+        ensures value { result.now ≡ self.old.rider }
+        ensures* writes_back { sem 𝓛 (LendsRider L.row
+            (record { table = L.table; sizes = L.sizes; stamp = L.stamp }) L.Ledger self.entry result) }
+    {
+        &mut self.rider
+    }
+
+    /// Gives the rider back and lets the pass go. Where its slot wasn't released, it stays protected for good, and the
+    /// touches never enter the journal.
+    pub fn abandon(self) -> Rider<L>
+        ensures { result ≡ self.rider }
+    {
+        let Pass {
+            slot: _,
+            stamp: _,
+            held: _,
+            view: _,
+            touches: _,
+            rider,
+        } = self;
+        rider
+    }
+}

@@ -1,0 +1,68 @@
+ghost use Rattle.std.specs.Prelude.{◌≡◌, ◌%◌, List, length};
+ghost use Rattle.hl_model.specs.declared.step.Step.{Step as STEP};
+ghost use Rattle.hl_model.specs.Frames.{frame_of};
+ghost use Rattle.hl_model.specs.Snapshots.{snapshot_of};
+ghost use Rattle.hl_core.specs.Holding.{oldest, holders};
+ghost use Rattle.hl_keeper.specs.Keepers.{IsOf, KeeperStands};
+
+use crate::keeper::Keeper;
+use arrayvec::ArrayVec;
+use hl_action::{Promise, Task};
+use hl_core::Holder;
+use hl_epoch::Epochs;
+use hl_model::{FrameState, Params, Snapshot, Step};
+use hl_words::Realm;
+
+impl<E: Epochs, F: Task, P: Promise, L: Realm> Keeper<E, F, P, L> {
+    /// The sizes that it was opened with.
+    pub fn params(&self) -> Params
+        ensures sizes { result ≡ self.now.core.sizes }
+        ensures kept { IsOf L.sizes L.stamp self.now }
+    {
+        self.core.params()
+    }
+
+    /// The steps since the last cut, in the order in which they entered.
+    pub fn journal(&self) -> &[Step]
+        ensures { result.now ≡ self.now.journal }
+    {
+        &self.journal.steps
+    }
+
+    /// All quantities, the number of steps since the last cut, and the number of steps cut in all.
+    pub fn snapshot(&self) -> (Snapshot, u64, u64)
+        ensures quantities { (A : List STEP) → KeeperStands self.now A
+            → result.0 ≡ snapshot_of self.now.core.sizes A }
+        ensures steps { result.1 ≡ length self.now.journal }
+        ensures cut { result.2 ≡ self.now.cut }
+    {
+        let journal = &self.journal;
+        (
+            self.core.snapshot(),
+            journal.steps.len() as u64,
+            journal.cut,
+        )
+    }
+
+    /// The ticket of the oldest pending action, and into the row the slots that hold it up, least first, each with its
+    /// epoch: those protected at an epoch that isn't above the ticket. Each of them has to refresh or to leave before
+    /// a take gives that action; where the row is empty, the next take does.
+    ///
+    /// None, and no slot, where no action is pending.
+    pub fn holders(&self, row: &mut ArrayVec<Holder, 64>) -> Option<u64>
+        ensures ticket { (A : List STEP) → KeeperStands self.now A → result ≡ oldest A }
+        ensures row { (A : List STEP) → KeeperStands self.now A
+            → row.new.items ≡ holders self.now.core.sizes.slots A }
+    {
+        self.core.holders(row)
+    }
+
+    /// What the frame of a page is at, and the page that was last entered there; none where it is free. Of the page
+    /// that a `Busy` names it tells what is in its way: a page to be settled, flushed, closed or cleaned.
+    pub fn frame_of(&self, page: u64) -> (FrameState, Option<u64>)
+        ensures { (A : List STEP) → KeeperStands self.now A
+            → let sizes = self.now.core.sizes in result ≡ frame_of sizes (page % sizes.frames) A }
+    {
+        self.core.frame(page % self.core.params().frames())
+    }
+}

@@ -1,0 +1,96 @@
+//! What riders do to the cells of a page that was taken: copies and sweeps.
+ghost use Rattle.std.specs.Prelude.{◌≡◌, ◌+◌, ◌*◌, ◌^◌, ◌==◌, ◌≤◌, length, OnOk, OnErr};
+ghost use Rattle.hl_model.specs.Replies.{unless_fault, unless_refused};
+ghost use Rattle.hl_words.specs.States.{with_view};
+ghost use Rattle.hl_keeper.specs.Calls.{unless_stranger};
+ghost use Rattle.hl_keeper.specs.Pages.{first_cell, zeroed, loaded_all};
+
+use crate::load::{Broom, PageJob};
+use hl_model::{Fault, Params};
+use hl_words::{Realm, Rider, Words};
+
+/// Loads the cells of a page into P places, as many as a page has words: a page in flight, for whoever has
+/// the job of its load. Their order among other riders' stores isn't known. Sizes and stamp are those of the
+/// keeper whose words they are.
+///
+/// `Stranger` where the page is of another domain than the one of this stamp.
+pub fn copy_page<L: Realm>(
+    words: &Words<L>,
+    params: Params,
+    stamp: u64,
+    job: PageJob,
+    rider: &mut Rider<L>,
+    out: &mut [u64],
+) -> Result<(), Fault>
+    requires cells { words.now.cells ≡ params.frames * params.page_size }
+    requires places { length out.old ≡ params.page_size }
+    ensures answer { result ≡ unless_fault (unless_stranger (job.stamp == stamp) stamp) tt }
+    ensures loads { let first = first_cell params job.page
+        in OnOk result (rider.new ≡ with_view (loaded_all first out.new rider.old.view) rider.old) }
+    ensures refused { OnErr result ((rider.new ≡ rider.old) × (out.new ≡ out.old)) }
+{
+    if job.stamp != stamp {
+        return Err(Fault::Stranger { stamp });
+    }
+    copy_cells(words, rider, first_cell(params, job.page), out);
+    Ok(())
+}
+
+/// Stores 0 into all cells of the page of a broom, which is swept then. Sizes and stamp are those of the
+/// keeper whose words they are.
+///
+/// `Stranger` where the page is of another domain than the one of this stamp.
+pub fn sweep<L: Realm>(
+    words: &Words<L>,
+    params: Params,
+    stamp: u64,
+    broom: &mut Broom,
+    rider: &mut Rider<L>,
+) -> Result<(), Fault>
+    requires { words.now.cells ≡ params.frames * params.page_size }
+    ensures answer { result ≡ unless_fault (unless_stranger (broom.old.stamp == stamp) stamp) tt }
+    ensures broom { let old = broom.old
+        in OnOk result (broom.new ≡ record { stamp = old.stamp; page = old.page; swept = params.page_size }) }
+    ensures stores { let first = first_cell params broom.old.page
+        in OnOk result (rider.new ≡ with_view (zeroed first params.page_size rider.old.view) rider.old) }
+    ensures refused { OnErr result ((broom.new ≡ broom.old) × (rider.new ≡ rider.old)) }
+{
+    if broom.stamp() != stamp {
+        return Err(Fault::Stranger { stamp });
+    }
+    let (first, places) = (first_cell(params, broom.page()), params.page_size());
+    zero_cells(words, rider, first, places);
+    broom.count(places);
+    Ok(())
+}
+
+// The first cell of a page. Behind it the page has P cells.
+fn first_cell(params: Params, page: u64) -> u64
+    ensures value { result ≡ first_cell params page }
+    ensures room { result + params.page_size ≤ params.frames * params.page_size }
+    ensures few { result + params.page_size ≤ 2 ^ 20 }
+{
+    page % params.frames() * params.page_size()
+}
+
+// Loads as many cells as there are places.
+fn copy_cells<L: Realm>(words: &Words<L>, rider: &mut Rider<L>, first: u64, out: &mut [u64])
+    requires cells { first + length out.old ≤ words.now.cells }
+    requires few { first + length out.old ≤ 2 ^ 20 }
+    ensures { rider.new ≡ with_view (loaded_all first out.new rider.old.view) rider.old }
+{
+    for k in 0..out.len() {
+        out[k] = words.load_cell(rider, first + k as u64);
+    }
+}
+
+// Stores 0 into n cells.
+fn zero_cells<L: Realm>(words: &Words<L>, rider: &mut Rider<L>, first: u64, n: u64)
+    requires cells { first + n ≤ words.now.cells }
+    requires few { first + n ≤ 2 ^ 20 }
+    ensures { rider.new ≡ with_view (zeroed first n rider.old.view) rider.old }
+{
+    for k in 0..n {
+        words.store_cell(rider, first + k, 0);
+    }
+}

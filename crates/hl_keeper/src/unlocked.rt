@@ -1,0 +1,20 @@
+//! The calls that take no lock, of a keeper's `Words`: what a `Domain` does without its lock, for who has a `Keeper`
+//! behind a lock of his own.
+//!
+//! A pass looks at the offsets, stores a word, loads one, and changes one in place; a rider copies a page that is to be
+//! flushed, and sweeps one that is to be cleaned. All but the look want the sizes that the words were opened with, which
+//! `Keeper::params` tells; the two that name a page want the keeper's stamp besides.
+//!
+//! | Call | What it does | Its faults |
+//! |---|---|---|
+//! | [`look`] | brings the pass the offsets that rose | `TouchesFull` |
+//! | [`store`] | stores a word in the pass's view | `Below`, `Beyond`, `TouchesFull` |
+//! | [`fetch_add`] | adds to a word in one step | `Below`, `Beyond`, `TouchesFull` |
+//! | [`compare_exchange`] | stores a word where another stands, in one step | `Below`, `Beyond`, `TouchesFull` |
+//! | [`load`] | loads a word in the pass's view | `Evicted`, `Beyond` |
+//! | [`copy_page`] | loads all cells of a page | `Stranger` |
+//! | [`sweep`] | stores 0 into all cells of a page | `Stranger` |
+
+pub use crate::exchange::{compare_exchange, fetch_add};
+pub use crate::look::{load, look, store};
+pub use crate::sweep::{copy_page, sweep};
