@@ -134,7 +134,7 @@ module _ (room : Room) (slots : ℕ) (id : ℕ) where
       kept words views h at false =
           let q = touched (Loaded c (slice_index words c)) r in
           subst (λ ws. IsKept room ws (set views id (rider_seat q))) (sym (set-get_or words c 0))
-              (rider_kept room words words views id r q h at refl (λ front back last k. after_load front r back room.cells words last c less k))
+          (rider_kept room words words views id r q h at refl (λ front back last k. after_load front r back room.cells words last c less k))
 
   pub looks_allowed : (me : Me Nothing SeatView) (r : RiderView) (which : Which) (i : ℕ) → me ≡ (rider_seat r, []) → i ≡ place_of which room.cells
       → Allows (Holds room) slots id me i (λ n. n) (Looks which (step slots i 0 0 none) me)

@@ -144,13 +144,7 @@ impl<L: Realm> Words<L> {
 
     /// Stores the new value into a cell if the old one stands there, in one step. The answer is what it found. The
     /// rider's view has the change, or else the load.
-    pub fn compare_exchange_cell(
-        &self,
-        rider: &mut Rider<L>,
-        cell: u64,
-        old: u64,
-        new: u64,
-    ) -> u64
+    pub fn compare_exchange_cell(&self, rider: &mut Rider<L>, cell: u64, old: u64, new: u64) -> u64
         requires { cell < self.now.cells }
         ensures { rider.new ≡ with_view (exchanged cell old new result rider.old.view) rider.old }
     {
