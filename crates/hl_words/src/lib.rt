@@ -4,10 +4,11 @@
 //! loads any word. The master alone stores the offset words, which never fall, and counts the journal steps that
 //! riders enter. At the end `Words::close` takes them all back, and gives the `LastWords`, to be read alone.
 //!
-//! Beside the words lies the one list of `hl_history`. Who wants it opens the seed by `Words::open_with_scribe`, which
-//! hands out the one `Scribe` too, and lays that under the lock where the master lies: `Words::enter` then puts a call's
-//! steps behind the list, and notes in the rider which list the call met. `Words::close_with_scribe` says that the
-//! scribe's list is the one list of all riders' calls.
+//! Beside the words lies the one list of `hl_history`. To have it, open the seed by
+//! `Words::open_with_scribe`, which also returns the one `Scribe`, and lay that under the lock where
+//! the master lies: `Words::enter` then puts a call's steps behind the list, and notes in the rider
+//! which list the call met. `Words::close_with_scribe` says that the scribe's list is the one list
+//! of all riders' calls.
 //!
 //! What each value witnesses:
 //!
@@ -19,9 +20,9 @@
 //! - a **realm**: nothing by itself. It names one seed in types, so that a rider, a master and words of one realm belong
 //!   together. Code that opens a seed is a function over `L: Realm`, and is called with `Brand`.
 //!
-//! The rule, in `specs/Rule.antt`, holds between any two steps: a cell is 0 where no rider stored into it, else it is some
+//! The rule, in `specs/Rule.antt`, holds between any two steps: a cell is 0 if no rider stored into it, else it is some
 //! rider's last store there; a load is of the rider's last store before it, or of a value that another rider stores, or
-//! of 0 where the rider had seen nothing else there; an offset word is the master's last store and never falls, and each
+//! of 0 if the rider had seen nothing else there; an offset word is the master's last store and never falls, and each
 //! that a rider loaded is one of the master's stores, or 0, and at most the last. `close` says it of exactly what the
 //! riders stored and loaded that are handed in, and of what the words hold then, which `LastWords` tells.
 //!

@@ -88,7 +88,8 @@ impl Model for Seed {
 
 impl Seed {
     /// Makes the words of an allocator of these sizes: F * P cells and two offset words, all 0, for 1 to 128 riders.
-    /// OutOfMemory where memory was refused; then nothing is made.
+    ///
+    /// `OutOfMemory` if memory was refused; then nothing is made.
     pub fn make(alloc: Global, params: Params, riders: usize) -> Result<Seed, Fault>
         requires { (1 ≤ riders) × (riders ≤ 128) }
         ensures sizes { IfOk result (λ seed. seed.sizes ≡ params) }

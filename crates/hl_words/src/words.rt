@@ -48,8 +48,10 @@ impl<L: Realm> Model for Words<L> {
 }
 
 impl<L: Realm> Words<L> {
-    /// Opens a seed: its words, the one master, and the riders. OutOfMemory where memory was refused; then the seed is
-    /// given up. The scribe is dropped, so that nothing is entered in the one list.
+    /// Opens a seed: its words, the one master, and the riders. The scribe is dropped, so that nothing
+    /// is entered in the one list.
+    ///
+    /// `OutOfMemory` if memory was refused; then the seed is given up.
     pub fn open(alloc: Global, seed: Seed) -> Result<(Words<L>, Master<L>, Vec<Rider<L>>), Fault>
         requires { IsSeedOf L.name L.parts L.table seed }
         ensures words { IfOk result
@@ -62,7 +64,9 @@ impl<L: Realm> Words<L> {
         Ok((words, master, riders))
     }
 
-    /// Opens a seed as `open` does, and hands out the one scribe, whose list is empty.
+    /// Opens a seed as `open` does, and also returns the one scribe, whose list is empty.
+    ///
+    /// `OutOfMemory` if memory was refused; then the seed is given up.
     pub fn open_with_scribe(
         alloc: Global,
         seed: Seed,
@@ -132,8 +136,9 @@ impl<L: Realm> Words<L> {
         shared.load::<LoadCell>(&mut rider.seat, cell as usize)
     }
 
-    /// Adds a number to a cell, modulo 2^64, in one step: no store of another rider comes between its load and its store.
-    /// The answer is what it found. The rider's view has the change; that what it found is lawful is what `close` tells.
+    /// Adds a number to a cell, modulo 2^64, in one step: no store of another rider comes between its
+    /// load and its store. Returns what it found. The rider's view has the change; that what it found
+    /// is lawful is what `close` tells.
     pub fn fetch_add_cell(&self, rider: &mut Rider<L>, cell: u64, more: u64) -> u64
         requires { cell < self.now.cells }
         ensures { rider.new ≡ with_view (added cell more result rider.old.view) rider.old }
@@ -142,8 +147,8 @@ impl<L: Realm> Words<L> {
         shared.fetch_add::<AddCell>(&mut rider.seat, cell as usize, more)
     }
 
-    /// Stores the new value into a cell if the old one stands there, in one step. The answer is what it found. The
-    /// rider's view has the change, or else the load.
+    /// Stores the new value into a cell if the old one stands there, in one step. Returns what it
+    /// found. The rider's view has the change, or else the load.
     pub fn compare_exchange_cell(&self, rider: &mut Rider<L>, cell: u64, old: u64, new: u64) -> u64
         requires { cell < self.now.cells }
         ensures { rider.new ≡ with_view (exchanged cell old new result rider.old.view) rider.old }
@@ -190,9 +195,9 @@ impl<L: Realm> Words<L> {
         self.history.enter(scribe, &mut rider.diary, steps);
     }
 
-    /// Ends the words, and tells what each one holds. Where a rider is missing, all is handed back. Else the master's
-    /// total is the sum of the riders' shares, and the rule holds of what the words hold, of the master's stores, and
-    /// of exactly what these riders stored and loaded.
+    /// Ends the words, and tells what each one holds. If a rider is missing, all is handed back. Else
+    /// the master's total is the sum of the riders' shares, and the rule holds of what the words hold,
+    /// of the master's stores, and of exactly what these riders stored and loaded.
     pub fn close(
         self,
         master: Master<L>,
@@ -212,7 +217,7 @@ impl<L: Realm> Words<L> {
         Ok(self.end(master, None, riders))
     }
 
-    /// Ends the words as `close` does. Besides, where no rider is missing, the scribe's list is the one list of exactly
+    /// Ends the words as `close` does. Besides, if no rider is missing, the scribe's list is the one list of exactly
     /// these riders' calls.
     pub fn close_with_scribe(
         self,
@@ -243,7 +248,7 @@ impl<L: Realm> Words<L> {
         riders.len() == self.room.riders
     }
 
-    // Ends the words, where all riders are there, and the list where the scribe is.
+    // Ends the words, whose riders are all there, and also the list if the scribe is there.
     fn end(self, master: Master<L>, scribe: Option<Scribe<L>>, riders: Vec<Rider<L>>) -> LastWords
         requires { length riders.items ≡ self.riders }
         ensures total { master.total ≡ sum_by (λ r. r.share) riders.items }
@@ -307,7 +312,7 @@ impl<L: Realm> Words<L> {
         }
     }
 
-    // Takes a rider's diary back, where the scribe is there.
+    // Takes a rider's diary back, if the scribe is there.
     fn take_back(&self, diaries: &mut Option<Gathered<HistoryOf<L>>>, diary: Diary<HistoryOf<L>>)
         ensures { diaries.new ≡ with_diaries (diary ∷ []) diaries.old }
     {
@@ -318,7 +323,7 @@ impl<L: Realm> Words<L> {
 }
 
 // What the riders are taken back into at the end: the master's seat and its share, and the scribe's list and diaries,
-// where the scribe is there.
+// if the scribe is there.
 struct Ended<L: Realm> {
     seat: WordSeat,
     share: Share<L>,
