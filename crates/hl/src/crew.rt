@@ -26,7 +26,7 @@ pub struct CrewRiders<L: Realm> {
 }
 
 impl<L: Realm> CrewRiders<L> {
-    /// Takes the last four of these riders; `None` where there are fewer, and then all stay.
+    /// Takes the last four of these riders; `None` if there are fewer, and then all stay.
     pub fn take_from(riders: &mut Vec<Rider<L>>) -> Option<CrewRiders<L>>
         ensures taken { IfSome result (λ crew. riders.old.items ≡ riders.new.items ++ riders_of crew) }
         ensures few { IfNone result ((length riders.old.items < 4) × (riders.new ≡ riders.old)) }
@@ -48,7 +48,8 @@ impl<L: Realm> CrewRiders<L> {
 
     /// Puts them behind these.
     ///
-    /// `OutOfMemory` where memory was refused; then they are handed back, and the others are as before.
+    /// `OutOfMemory` if memory was refused; then they are handed back, and the others are as
+    /// before.
     pub fn put_back(self, riders: &mut Vec<Rider<L>>) -> Result<(), Refused<CrewRiders<L>>>
         ensures { MatchResult result
             (λ _. riders.new.items ≡ riders.old.items ++ riders_of self)
@@ -124,11 +125,12 @@ pub struct CrewReport<L: Realm, W> {
 }
 
 impl<L: Realm, W> Crew<L, W> {
-    /// Serves a log until its stop is given: a flusher, two writers and a cleaner, each in a thread of its own.
-    /// [`CrewReport::of`] gives the crew back out of the answer.
+    /// Serves a log until its stop is given: a flusher, two writers and a cleaner, each in a thread
+    /// of its own. [`CrewReport::of`] gives the crew back out of what this returns.
     ///
-    /// Faults, with the crew handed back: `Size` where the duty was checked for another number of frames; `OutOfMemory`
-    /// where memory or a thread was refused. What was done until then stays done.
+    /// Faults, with the crew handed back: `Size` if the duty was checked for another number of
+    /// frames; `OutOfMemory` if memory or a thread was refused. What was done until then stays
+    /// done.
     pub fn serve<R, E, F, P, G>(
         self,
         rt: &R,
@@ -188,7 +190,7 @@ pub(crate) fn is_for(duty: Duty, params: Params) -> bool
 }
 
 impl<L: Realm, W> CrewReport<L, W> {
-    /// What a crew's end tells, by names.
+    /// A crew's end, by names.
     pub fn of(end: CrewEnd<L, W>) -> CrewReport<L, W>
         ensures riders { riders_of result.crew.riders ≡ end.riders }
         ensures writers { result.crew.first ∷ result.crew.second ∷ [] ≡ end.writers }

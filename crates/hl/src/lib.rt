@@ -1,4 +1,4 @@
-//! The library by one name: all that a program on many threads names.
+//! The whole library in one crate: it re-exports all that a program on many threads needs.
 //!
 //! A log is FASTER's HybridLog in memory (Chandramouli, Prasaad, Kossmann, Levandoski, Hunter, Barnett, SIGMOD 2018):
 //! records of words of 64 bits on pages that many threads share under epoch protection. docs/GUIDE.md begins with a
@@ -12,10 +12,10 @@
 //! | pages written and frames freed behind the threads | a [`Crew`], by a [`Duty`], with two page writers, until its [`Stop`] is given |
 //! | to know why a call was refused, and what it was handed | [`Fault`], [`Refused`] |
 //! | the log's own calls (bumps, cuts, pages by hand) | the methods of [`Log`], which is a [`Domain`] |
-//! | the forms for one thread, or under a lock of your own | `hl_cells`, `hl_core`: they aren't handed on here |
+//! | the forms for one thread, or under a lock of your own | `hl_cells`, `hl_core`: they aren't re-exported here |
 //!
-//! What of another log is handed to a call doesn't compile where it carries the brand `L`: a log, riders, passes and
-//! sessions do. What doesn't carry it (a [`Load`], a [`Broom`], a [`Ready`]) is told by the log's stamp.
+//! A value with the brand `L` (a log, a rider, a pass, a session) doesn't compile with another log.
+//! A value without it (a [`Load`], a [`Broom`], a [`Ready`]) is recognised by the log's stamp.
 #![tactic(auto)]
 
 mod crew;

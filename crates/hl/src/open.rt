@@ -19,15 +19,17 @@ use std::marker::Brand;
 /// What a part left.
 #[derive(Drop)]
 pub struct Closed<T> {
-    /// What it handed out.
+    /// What it returned.
     pub out: T,
-    /// What is left of its log; `Stranger` where a rider was missing: the log was then let go of as it was.
+    /// What is left of its log; `Stranger` if a rider was missing: the log was then dropped as it
+    /// was.
     pub ending: Result<Ending<NoJob, AnyAnswer>, Fault>,
 }
 
 /// Opens a log, lets the part use it, and closes it.
 ///
-/// Faults, with the part handed back: `Size` where the opening is out of range, `OutOfMemory` where memory was refused.
+/// Faults, with the part handed back: `Size` if the opening is out of range, `OutOfMemory` if
+/// memory was refused.
 pub fn with_log<R, P: Part<R>>(
     rt: &R,
     alloc: Global,

@@ -18,7 +18,7 @@ pub struct Opening {
     pub riders: u64,
     /// How many steps the journal may keep between two cuts, at most 2^62. Its memory is taken at the opening.
     pub journal: u64,
-    /// What tells this log from others that the program has at the same time, at most 2^62.
+    /// Tells this log from the program's other logs; at most 2^62.
     pub stamp: u64,
 }
 

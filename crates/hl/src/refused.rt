@@ -4,7 +4,7 @@ use hl_model::Fault;
 use std::error::Error;
 use std::fmt;
 
-/// Why a call was refused that had been handed a value, and that value.
+/// A refused call's fault, and the value that the call was handed.
 #[derive(Drop)]
 pub struct Refused<T> {
     /// Why it was refused.
@@ -27,7 +27,7 @@ impl<T> fmt::Display for Refused<T> {
 
 impl<T: Drop> Error for Refused<T> {}
 
-/// The fault alone; what came back is let go of.
+/// The fault alone; the value is dropped.
 impl<T: Drop> From<Refused<T>> for Fault {
     ghost from_gives = { λ refused fault. fault ≡ refused.fault };
 

@@ -22,10 +22,10 @@ use hl_words::{Realm, Rider};
 use std::marker::Model;
 use std::sync::Wait;
 
-/// A thread that is protected: its pass, with the log and the runtime that the pass's calls want. What is of another
-/// log doesn't compile with it.
+/// A protected thread: its pass, with the log and the runtime that the pass's calls need. What is
+/// of another log doesn't compile with it.
 ///
-/// It can't be let go of: it ends by [`leave`](Session::leave), which gives the rider back, or by
+/// It can't be dropped: end it by [`leave`](Session::leave), which returns the rider, or by
 /// [`abandon`](Session::abandon).
 pub struct Session<
     'a,
@@ -51,7 +51,7 @@ impl<'a, R: Wait, L: Realm, F: Task, P: Promise, E: Epochs> Model for Session<'a
 impl<'a, R: Wait, L: Realm, F: Task, P: Promise, E: Epochs + Drop> Session<'a, R, L, F, P, E> {
     /// Protects the least slot that is free; [`slot`](Session::slot) tells which it is.
     ///
-    /// Faults, with the rider handed back: `JournalFull`, `NoSlot` where each slot is protected.
+    /// Faults, with the rider handed back: `JournalFull`, `NoSlot` if each slot is protected.
     pub fn enter(
         rt: &'a R,
         log: &'a Log<L, F, P, E>,
@@ -86,9 +86,9 @@ impl<'a, R: Wait, L: Realm, F: Task, P: Promise, E: Epochs + Drop> Session<'a, R
         }
     }
 
-    /// Its slot moves on: its epoch and its view are those of now. The answer is the view.
+    /// Moves the slot on to the current epoch and offsets; returns the view.
     ///
-    /// Faults: `Stranger` where the session saw an offset above the present one; `JournalFull`.
+    /// Faults: `Stranger` if the session saw an offset above the present one; `JournalFull`.
     pub fn refresh(&mut self) -> Result<View, Fault>
         ensures met { let p = self.old.pass
             in MakesUnderLock F self.old.log result (λ old. MakesTouched old p (REFRESH p.slot)
@@ -103,8 +103,9 @@ impl<'a, R: Wait, L: Realm, F: Task, P: Promise, E: Epochs + Drop> Session<'a, R
         self.log.refresh(self.rt, &mut self.pass)
     }
 
-    /// Places a record of n words; the answer is the address of its first word. It is on one page, and not below the
-    /// tail that the session saw. It then sees the record's end as its tail.
+    /// Places a record of n words; returns the address of its first word. The record is on one
+    /// page, and not below the tail that the session saw. The session then sees the record's end as
+    /// its tail.
     ///
     /// Faults: `JournalFull`, `Size`, `SpaceSpent`, `Busy`.
     pub fn allocate(&mut self, n: u64) -> Result<u64, Fault>
@@ -124,7 +125,7 @@ impl<'a, R: Wait, L: Realm, F: Task, P: Promise, E: Epochs + Drop> Session<'a, R
         self.log.allocate(self.rt, &mut self.pass, n)
     }
 
-    /// Its slot is protected no longer; the answer is its rider.
+    /// Releases the slot; returns the rider.
     ///
     /// Faults, with the session handed back: `JournalFull`.
     pub fn leave(self) -> Result<Rider<L>, Refused<Session<'a, R, L, F, P, E>>>
@@ -144,8 +145,8 @@ impl<'a, R: Wait, L: Realm, F: Task, P: Promise, E: Epochs + Drop> Session<'a, R
         }
     }
 
-    /// Gives the rider back and lets the session go: its slot stays protected for good, and its touches never enter the
-    /// journal.
+    /// Ends the session without a release, and returns its rider: the slot stays protected for
+    /// good, and the session's touches never enter the journal.
     pub fn abandon(self) -> Rider<L>
         ensures { result ≡ self.entry.pass.rider }
     {

@@ -24,7 +24,7 @@ use std::thread::Threads;
 
 /// What the threads of a program do with a log. They share it.
 pub trait Work<R: Wait> {
-    /// What a thread hands out.
+    /// What a thread returns.
     type Out: Send + Drop;
 
     /// What the thread of this number does in its session; threads are counted from 0.
@@ -39,16 +39,21 @@ pub trait Work<R: Wait> {
     fn write_page(&self, rt: &R, page: u64, image: &[u8]) -> bool;
 }
 
-/// What each thread handed out, or why it got no session, or could not leave its own.
+/// What each thread returned, or why it got no session, or couldn't leave its own.
 pub type Outs<T> = Vec<Result<T, Fault>>;
 
-/// Opens a log, runs a thread for each rider but four, and a crew with these, and closes it. Each thread is in a session
-/// while it works, and the crew serves until all have ended.
+/// Opens a log, runs a thread for each rider but four, and a crew with those four, and closes the
+/// log. Each thread is in a session while it works, and the crew serves until all have ended. A
+/// rider whose thread can't be made works after another, in that one's thread.
 ///
-/// Faults: `Size` where the opening is out of range, has fewer than four riders, or another number of frames than the
-/// duty was checked for; `OutOfMemory` where memory was refused before the threads ran. Where it is refused later, `out`
-/// tells it: a crew that was refused gives its riders back, so that the log is closed, and riders that are lost with the
-/// threads' row are missing at the end.
+/// If the thread from which the riders' threads start can't be made, the crew serves before the
+/// riders work: it waits for a stop that only their end gives, so the call doesn't return, unless
+/// the crew is refused too.
+///
+/// Faults: `Size` if the opening is out of range, has fewer than four riders, or another number of
+/// frames than the duty was checked for; `OutOfMemory` if memory was refused before the threads
+/// ran. What is refused later is told by `out`: a refused crew gives its riders back, so that the
+/// log is closed; riders that are lost with the threads' row are missing at the end.
 pub fn with_threads<R: Threads + Wait + Sync, P: Work<R> + Sync>(
     rt: &R,
     alloc: Global,
@@ -129,7 +134,7 @@ fn run_all<L: Realm + Send + Sync, R: Threads + Wait + Sync, P: Work<R> + Sync>(
     }
 }
 
-// What each thread handed out, and all riders.
+// What each thread returned, and all riders.
 fn gather<L: Realm, T: Drop>(
     alloc: Global,
     worked: Vec<(Result<T, Fault>, Rider<L>)>,
@@ -194,7 +199,7 @@ fn work_one<L: Realm + Send + Sync, R: Wait, P: Work<R>>(
     }
 }
 
-// The crew serves; its riders come back, also where it was refused.
+// The crew serves; its riders come back even if it was refused.
 fn serve_behind<L: Realm + Send + Sync, R: Threads + Wait + Sync, P: Work<R> + Sync>(
     rt: &R,
     alloc: Global,

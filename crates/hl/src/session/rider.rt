@@ -23,8 +23,8 @@ use hl_words::Realm;
 use std::sync::Wait;
 
 impl<'a, R: Wait, L: Realm, F: Task, P: Promise, E: Epochs + Drop> Session<'a, R, L, F, P, E> {
-    /// Ends the current epoch, and stores what is asked for under it (a settle, a close, a job); the answer is the
-    /// ticket, the epoch that ended.
+    /// Ends the current epoch, and stores what is asked for under it (a settle, a close, a job);
+    /// returns the ticket, the epoch that ended.
     ///
     /// Faults, with what was asked for handed back: `JournalFull`, `DrainFull`, `EpochsSpent`, `WindowFull`.
     pub fn bump(&mut self, ask: Ask<Kept<F, P>>) -> Result<u64, Refused<Ask<Kept<F, P>>>>
@@ -44,9 +44,11 @@ impl<'a, R: Wait, L: Realm, F: Task, P: Promise, E: Epochs + Drop> Session<'a, R
         }
     }
 
-    /// Takes the oldest pending action, once its ticket is safe; the answer is ready to be run.
+    /// Takes the oldest pending action, once its ticket is safe; what it returns is ready to be
+    /// run.
     ///
-    /// Faults: `JournalFull`, `Empty`, `NotReady`: where its own slot holds the action up, a refresh comes first.
+    /// Faults: `JournalFull`, `Empty`, `NotReady`. If the session's own slot holds the action up,
+    /// refresh first.
     pub fn take(&mut self) -> Result<Ready<F, P>, Fault>
         ensures met { LeavesUnderLock F self.old.log (λ old new.
             Makes old TAKE (taken_from old) new (ready_told result) × Stays old new
@@ -58,9 +60,9 @@ impl<'a, R: Wait, L: Realm, F: Task, P: Promise, E: Epochs + Drop> Session<'a, R
         self.log.take(self.rt, self.pass.rider_mut())
     }
 
-    /// A taken action that was run is done.
+    /// Tells that a taken action was run: it is then done.
     ///
-    /// Faults, with it handed back: `Stranger` where it is of another log, `JournalFull`, `NotTaken`.
+    /// Faults, with it handed back: `Stranger` if it is of another log, `JournalFull`, `NotTaken`.
     pub fn done(&mut self, ran: Ran) -> Result<Reply, Refused<Ran>>
         ensures met { let step = DONE ran.ticket
             in MakesUnderLock F self.old.log (fault_alone result) (λ old. Ends old ran.origin step
@@ -75,8 +77,8 @@ impl<'a, R: Wait, L: Realm, F: Task, P: Promise, E: Epochs + Drop> Session<'a, R
         }
     }
 
-    /// Forgets the steps since the last cut; the answer is their number. It is never refused, and gives room where a
-    /// call met `JournalFull`.
+    /// Drops the steps since the last cut; returns how many were dropped. It is never refused, and
+    /// makes room after a `JournalFull`.
     pub fn cut(&mut self) -> u64
         ensures met { LeavesUnderLock F self.old.log (λ old new. (result ≡ length old.journal)
             × (new.journal ≡ []) × (new.cut ≡ old.cut + length old.journal)

@@ -12,9 +12,9 @@ use hl_words::Realm;
 use std::sync::Wait;
 
 impl<'a, R: Wait, L: Realm, F: Task, P: Promise, E: Epochs + Drop> Session<'a, R, L, F, P, E> {
-    /// Looks at both offset words, without the lock: what the session sees then.
+    /// Looks at both offset words, without the lock; returns what the session then sees.
     ///
-    /// `TouchesFull` where it has 32 touches.
+    /// `TouchesFull` if it has 32 touches.
     pub fn look(&mut self) -> Result<View, Fault>
         ensures answer { result ≡ unless_fault (touch_fault self.old.pass) (seen self.new.pass) }
         ensures pass { let new = self.new.pass
@@ -28,8 +28,8 @@ impl<'a, R: Wait, L: Realm, F: Task, P: Promise, E: Epochs + Drop> Session<'a, R
 
     /// Stores a word at an address, without the lock.
     ///
-    /// Faults: `Below` where the address is below the read-only offset that the session saw, `Beyond` where it isn't
-    /// below the tail that it saw, `TouchesFull` where it has 32 touches.
+    /// Faults: `Below` if the address is below the read-only offset that the session saw, `Beyond`
+    /// if it isn't below the tail that it saw, `TouchesFull` if it has 32 touches.
     pub fn store(&mut self, a: u64, v: u64) -> Result<(), Fault>
         ensures answer { result ≡ unless_fault (store_fault self.old.pass a) tt }
         ensures pass { let old = self.old.pass
@@ -41,8 +41,8 @@ impl<'a, R: Wait, L: Realm, F: Task, P: Promise, E: Epochs + Drop> Session<'a, R
 
     /// Loads the word at an address, without the lock.
     ///
-    /// Faults: `Evicted` where the address is below the head that the session saw, `Beyond` where it isn't below the
-    /// tail that it saw.
+    /// Faults: `Evicted` if the address is below the head that the session saw, `Beyond` if it
+    /// isn't below the tail that it saw.
     pub fn load(&mut self, a: u64) -> Result<u64, Fault>
         ensures answer { let met = load_fault self.old.pass a
             in MatchResult result (λ _. met ≡ None) (λ fault. met ≡ Some fault) }
@@ -54,8 +54,8 @@ impl<'a, R: Wait, L: Realm, F: Task, P: Promise, E: Epochs + Drop> Session<'a, R
         self.log.load(&mut self.pass, a)
     }
 
-    /// Adds a number to the word at an address, modulo 2^64, without the lock and in one step: no store of another thread
-    /// comes between. The answer is what it found.
+    /// Adds a number to the word at an address, modulo 2^64, without the lock and in one step: no
+    /// store of another thread comes between. Returns what it found.
     ///
     /// Faults: those of [`store`](Session::store); then nothing is loaded.
     pub fn fetch_add(&mut self, a: u64, more: u64) -> Result<u64, Fault>
