@@ -24,8 +24,8 @@ pub(crate) struct Cleaner<'x, R, E: Epochs, F: Task, P: Promise, L: Realm> {
 }
 
 impl<R: Wait, E: Epochs + Drop, F: Task, P: Promise, L: Realm> Cleaner<'_, R, E, F, P, L> {
-    /// Cleans closed pages until its turns are over. Where none is closed it sleeps until the flusher has made another
-    /// turn, unless that has ended.
+    /// Cleans closed pages until its turns are over. If none is closed, it sleeps until the flusher
+    /// has made another turn, unless the flusher has ended.
     pub(crate) fn run<T: Term<R>>(&self, rider: &Mutex<Rider<L>>, term: &T) {
         let mut rider = rider.lock(self.rt);
         let rider = &mut *rider;
@@ -52,7 +52,7 @@ impl<R: Wait, E: Epochs + Drop, F: Task, P: Promise, L: Realm> Cleaner<'_, R, E,
         }
     }
 
-    // Cleans a page: takes it, sweeps it, and answers it clean. False where none is closed.
+    // Cleans a page: takes it, sweeps it, and answers it clean. False if none is closed.
     fn clean(&self, rider: &mut Rider<L>) -> Result<bool, Over>
         ensures { Cleans F self.now.domain.now result rider.old rider.new }
     {
@@ -69,7 +69,7 @@ impl<R: Wait, E: Epochs + Drop, F: Task, P: Promise, L: Realm> Cleaner<'_, R, E,
         Ok(true)
     }
 
-    // Answers a page that was swept. Where the journal is full and may be cut, it is cut first.
+    // Answers a page that was swept. If the journal is full and may be cut, it is cut first.
     fn finish(&self, rider: &mut Rider<L>, broom: Broom) -> Result<(), Over>
         requires { broom.swept ≡ self.now.domain.now.sizes.page_size }
         ensures { Frees F self.now.domain.now broom result rider.old rider.new }

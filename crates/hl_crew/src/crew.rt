@@ -36,16 +36,17 @@ pub struct CrewEnd<L: Realm, W> {
     pub strangers: u64,
 }
 
-/// Runs a crew on a domain: a flusher, two writers and a cleaner, each in a thread of its own, for so many turns. Of
-/// the riders the first is the flusher's, the next two are the writers', the last is the cleaner's. About `mutable`
-/// pages at the tail may be written and about `resident` may be read: `1 <= mutable <= resident <= F`. Where `cut` is
-/// true, the journal is cut at the end of each of the flusher's turns.
+/// Runs a crew on a domain for a given number of turns: a flusher, two writers and a cleaner, each
+/// in a thread of its own. Of the riders the first is the flusher's, the next two are the writers',
+/// the last is the cleaner's. About `mutable` pages at the tail may be written and about `resident`
+/// may be read: `1 <= mutable <= resident <= F`. If `cut` is true, the journal is cut at the end of
+/// each of the flusher's turns.
 ///
-/// With as many resident pages as frames the head never passes the page whose frame the page above the tail wants, and
-/// no frame comes free: [`Duty`] excludes that.
+/// With as many resident pages as frames, the head never passes the page whose frame the page above
+/// the tail needs, and no frame comes free: [`Duty`] excludes that.
 ///
-/// `OutOfMemory` where memory or a thread was refused; then riders and page writers are handed back. Steps that were
-/// made until then stay in the journal.
+/// `OutOfMemory` if memory or a thread was refused; then riders and page writers are handed back.
+/// Steps that were made until then stay in the journal.
 pub fn run_crew<R, E, F, P, L, W, G>(
     rt: &R,
     alloc: Global,
@@ -80,14 +81,14 @@ where
     run_until(rt, alloc, domain, hands, gate, orders, &term)
 }
 
-/// Runs a crew on a domain, as [`run_crew`] does, until its stop is given: it sleeps while there is nothing to do, and
-/// ends once nothing is in flight. It makes room where the journal is full and the duty lets it cut; else a full journal
-/// ends it before its stop.
+/// Runs a crew on a domain, as [`run_crew`] does, until its stop is given: it sleeps while there is
+/// nothing to do, and ends once nothing is in flight. If the journal is full, it cuts it where the
+/// duty lets it; else a full journal ends it before its stop.
 ///
 /// A thread that has entered a page may wake it by [`Stop::ring`]; a crew that nobody wakes looks every 20 milliseconds.
 ///
-/// `OutOfMemory` where memory or a thread was refused; then riders and page writers are handed back. Steps that were
-/// made until then stay in the journal.
+/// `OutOfMemory` if memory or a thread was refused; then riders and page writers are handed back.
+/// Steps that were made until then stay in the journal.
 pub fn serve<R, E, F, P, L, W, G>(
     rt: &R,
     alloc: Global,

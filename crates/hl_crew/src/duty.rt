@@ -5,9 +5,10 @@ use hl_model::Params;
 /// What a crew that serves is told: how many pages at the tail may be written, how many may be read, and when the
 /// journal is cut. Each number is in range: that is in its type.
 ///
-/// Fewer pages stay resident than there are frames. The head goes up to where the page N - resident begins, N being the
-/// pages up to the tail, and page N wants the frame of page N - F. With as many resident pages as frames the head never
-/// passes that page: its frame never comes free, and each allocation behind it is answered `Busy` for good.
+/// Fewer pages stay resident than there are frames. The head goes up to where the page N - resident
+/// begins, N being the number of pages up to the tail, and page N needs the frame of page N - F.
+/// With as many resident pages as frames, the head never passes that page: its frame never comes
+/// free, and each allocation behind it is answered `Busy` for good.
 #[derive(Clone, Copy, Debug, PartialEq, Eq)]
 pub struct Duty {
     frames: u64,
@@ -20,8 +21,9 @@ pub struct Duty {
 }
 
 impl Duty {
-    /// About `mutable` pages at the tail may be written and about `resident` may be read, in a domain of these sizes:
-    /// `1 <= mutable <= resident < F`, else none. The journal is never cut.
+    /// About `mutable` pages at the tail may be written and about `resident` may be read, in a
+    /// domain of these sizes: `1 <= mutable <= resident < F`, else `None`. The journal is never
+    /// cut.
     pub fn checked(params: Params, mutable: u64, resident: u64) -> Option<Duty>
         ensures some { IsSome result
             ↔ ((1 ≤ mutable) × (mutable ≤ resident) × (resident < params.frames)) }
@@ -40,8 +42,8 @@ impl Duty {
         })
     }
 
-    /// The same, but that the journal is cut at the end of each turn that leaves more than so many steps in it, and at
-    /// once where it is full.
+    /// The same, but the journal is cut at the end of each turn that leaves more than this many
+    /// steps in it, and at once if it is full.
     pub fn cutting_above(self, steps: u64) -> Duty
         ensures { result ≡ record self { cut_above = Some steps } }
     {
@@ -53,7 +55,7 @@ impl Duty {
         }
     }
 
-    /// Of how many frames the domains are for which it was checked.
+    /// How many frames the domains have for which it was checked.
     pub fn frames(self) -> u64
         ensures { result ≡ self.frames }
     {
@@ -74,7 +76,7 @@ impl Duty {
         self.resident
     }
 
-    /// How many steps the journal may have at the end of a turn; none where it is never cut.
+    /// How many steps the journal may have at the end of a turn; `None` if it is never cut.
     pub fn cut_above(self) -> Option<u64>
         ensures { result ≡ self.cut_above }
     {

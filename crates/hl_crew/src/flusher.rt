@@ -77,7 +77,7 @@ impl<R: Wait, E: Epochs + Drop, F: Task, P: Promise, L: Realm> Flusher<'_, R, E,
         unreachable!()
     }
 
-    // Makes at most so many turns, up to the first that got nowhere.
+    // Makes at most this many turns, up to the first that got nowhere.
     fn make_last_turns(&self, own: &mut FlusherState<L>, cleaner: &Parker, most: u64)
         requires { let orders = self.now.orders
             in IsLag self.now.domain.now.sizes.frames orders.mutable orders.resident }
@@ -90,9 +90,9 @@ impl<R: Wait, E: Epochs + Drop, F: Task, P: Promise, L: Realm> Flusher<'_, R, E,
         }
     }
 
-    // Makes a turn, and wakes the cleaner. True where the turn entered a step and no write of a page failed. A full journal
-    // that may be cut doesn't end the turns: what is left of this one is made in the next. That the cut finds nothing says no
-    // more than that the cleaner was there before.
+    // Makes a turn, and wakes the cleaner. True if the turn entered a step and no write of a page
+    // failed. A full journal that may be cut doesn't end the turns: what is left of this one is
+    // made in the next. If the cut finds nothing, another thread has cut before.
     fn make_turn(&self, own: &mut FlusherState<L>, cleaner: &Parker) -> Result<bool, Over>
         requires { let orders = self.now.orders
             in IsLag self.now.domain.now.sizes.frames orders.mutable orders.resident }
@@ -128,8 +128,8 @@ impl<R: Wait, E: Epochs + Drop, F: Task, P: Promise, L: Realm> Flusher<'_, R, E,
         Ok(())
     }
 
-    // Sends pages to the writers, and answers each of them: no page is left in the pouch. Where a call of the domain
-    // or a channel failed, what is left there can't be answered.
+    // Sends pages to the writers, and answers each of them: no page is left in the pouch. If a call
+    // of the domain or a channel failed, what is left there can't be answered.
     fn flush(&self, own: &mut FlusherState<L>, pouch: &mut Pouch) -> Result<(), Over>
         requires { load_count pouch.old ≡ 0 }
         ensures { OnOk result (load_count pouch.new ≡ 0) }
@@ -143,7 +143,7 @@ impl<R: Wait, E: Epochs + Drop, F: Task, P: Promise, L: Realm> Flusher<'_, R, E,
         answered
     }
 
-    // Cuts the journal, where that is wanted at a turn's end.
+    // Cuts the journal, if the orders say so for this turn's end.
     fn end_turn(&self, rider: &mut Rider<L>)
         ensures { rider.new ≡ rider.old }
     {

@@ -2,7 +2,8 @@ ghost use Rattle.std.specs.Prelude.{◌≡◌, ℕ, true, ⊤};
 
 /// When a page may be written. Several writers share it.
 ///
-/// `lets` is what its yes says of a page, for whoever wants to say more of a gate than that it was asked.
+/// `lets` is what its yes says of a page, for a gate of which more is to be said than that it was
+/// asked.
 pub trait Gate {
     ghost lets: { Self → ℕ → Type 0 } = { λ _ _. ⊤ };
 

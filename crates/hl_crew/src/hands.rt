@@ -45,8 +45,8 @@ impl<L: Realm, W> Hands<L, W> {
         }
     }
 
-    /// What a crew hands back, each at its place: with what was counted where all its threads were made, else
-    /// `OutOfMemory`.
+    /// What a crew hands back, each at its place: with what was counted if all its threads were
+    /// made, else `OutOfMemory`.
     pub(crate) fn hand_back(
         self,
         whole: Option<Whole>,

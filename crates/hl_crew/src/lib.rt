@@ -7,15 +7,16 @@
 //!
 //! | Thread | What it does in a turn |
 //! |---|---|
-//! | the flusher | makes the lag's steps where no action waits, runs safe actions, sends sealed pages, answers each |
+//! | the flusher | makes the lag's steps if no action waits, runs safe actions, sends sealed pages, answers each |
 //! | two writers | copy a page's words without the lock, make its image, hand it to their `PageWriter` |
 //! | the cleaner | sweeps a closed page without the lock, and frees its frame |
 //!
 //! # What an acknowledgement can do
 //!
-//! The flusher and the writers talk by two channels. What a channel delivers nothing tells, so nothing rests on it:
-//! the flusher keeps the load of each page that it sent in a [`Pouch`], and answers a flush only through it. A page
-//! whose load isn't there is refused, and neither pouch nor share changes: a clause of [`Pouch::answer`].
+//! The flusher and the writers talk by two channels. No clause says what a channel delivers, so
+//! nothing rests on it: the flusher keeps the load of each page that it sent in a [`Pouch`], and
+//! answers a flush only through it. A page whose load isn't there is refused, and neither pouch nor
+//! share changes: a clause of [`Pouch::answer`].
 //!
 //! # When a page may be written
 //!
@@ -25,36 +26,40 @@
 //!
 //! # How it waits
 //!
-//! The writers wait for a page, and the flusher for an acknowledgement of each that it sent. Where the cleaner finds no
-//! closed page it sleeps until the flusher has made another turn. A flusher that serves sleeps after a turn that entered
-//! no step, or in which a write failed, until somebody calls [`Stop::ring`], and at most 20 milliseconds.
+//! The writers wait for a page, and the flusher for an acknowledgement of each that it sent. If the
+//! cleaner finds no closed page, it sleeps until the flusher has made another turn. A flusher that
+//! serves sleeps after a turn that entered no step, or in which a write failed, until somebody
+//! calls [`Stop::ring`], and at most 20 milliseconds.
 //!
 //! # How it ends
 //!
-//! The flusher ends once its turns are over, or before where the journal is full and may not be cut, or a channel fails;
-//! it then stops the writers, and the cleaner ends once no page is closed. A crew that serves makes at most 1,000 turns
-//! after its stop, up to the first that got nowhere. At the end of each turn no page is in flight and no action taken of
-//! those that it took. What was taken and can't be answered is forsaken: such a page stays in flight or in cleaning, such
-//! an action taken. Riders and page writers come back by value, also where a thread couldn't be made: each lies under a
-//! lock that its thread takes once.
+//! The flusher ends once its turns are over, or earlier if the journal is full and may not be cut,
+//! or if a channel fails; it then stops the writers, and the cleaner ends once no page is closed. A
+//! crew that serves makes at most 1,000 turns after its stop, up to the first that got nowhere. At
+//! the end of each turn no page that it took is in flight, and no action that it took is still
+//! taken. What was taken and can't be answered is forsaken: such a page stays in flight or in
+//! cleaning, and such an action stays taken. Riders and page writers come back by value, even if a
+//! thread couldn't be made: each lies under a lock that its thread takes once.
 //!
 //! # What is proved of it
 //!
-//! Of a crew as a whole: that riders and page writers come back is in its types, that no refusal is other than
-//! `OutOfMemory` a clause. Inside, of each function that does a step: what it made under the domain's lock, in what order,
-//! and what it counted. A flusher's turn keeps the lag that it was told, by steps in their order up to the first that is
-//! refused, and ends where the journal is full; each action that it takes it runs and answers done, up to four, or until
-//! none is ready; it answers an acknowledgement as it was told, and counts that answer if it was accepted; what nobody
-//! acknowledged it counts as failed. Its turns end where they are over, or where one of them failed. A page told as
-//! written was let by the gate and copied, and its image written; a page told as clean was swept. That a thread gets on,
-//! what a channel delivers, and what [`CrewEnd`] counts in all, no clause says: what lies under a lock or comes from a
+//! Of a crew as a whole: that riders and page writers come back is in its types, that no refusal is
+//! other than `OutOfMemory` a clause. Inside, of each function that does a step: what it made under
+//! the domain's lock, in what order, and what it counted. A flusher's turn keeps the lag that was
+//! ordered, by steps in their order up to the first that is refused, and ends if the journal is
+//! full; it runs each action that it takes and answers it done, up to four, or until none is ready;
+//! it answers a page as its acknowledgement says, and counts that answer if it was accepted; what
+//! nobody acknowledged it counts as failed. Its turns end when they are over, or when one of them
+//! failed. A page reported as written was let through by the gate and copied, and its image was
+//! written; a page reported as clean was swept. No clause says that a thread gets on, what a
+//! channel delivers, or what [`CrewEnd`] counts in all: what lies under a lock or comes from a
 //! channel is known by its type alone.
 //!
 //! | Module | What it has |
 //! |---|---|
 //! | `crew`, `threads`, `shared`, `hands` | the calls; the threads; what they share; what each has of its own |
 //! | `duty`, `stop` | what a crew that serves is told; what ends it |
-//! | `orders`, `term` | what the flusher is told; for how long |
+//! | `orders`, `term` | what the flusher is told; for how long it runs |
 //! | `flusher`, and in it `lag`, `actions`, `pages`, `acknowledgements` | the flusher's turn, a part each |
 //! | `writer`, and in it `write`; `cleaner` | the other threads |
 //! | `pouch` | the pages that wait for their acknowledgement |

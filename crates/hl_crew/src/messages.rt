@@ -19,8 +19,8 @@ pub(crate) enum Message {
     Stop,
 }
 
-/// What a writer tells the flusher: the write of a page ended, well or not. That it ended well tells only who has
-/// written it.
+/// What a writer tells the flusher: the write of a page ended, well or not. Only whoever has
+/// written the page can tell that it ended well.
 #[derive(Clone, Copy)]
 pub(crate) struct Acknowledgement {
     page: u64,

@@ -9,7 +9,7 @@ use hl_model::Fault;
 use hl_words::{Realm, Rider};
 use std::sync::Wait;
 
-/// How often a step that ends something is tried where the journal is full and is cut.
+/// How often a step that ends something is tried while the journal is full and is cut.
 pub(crate) const ATTEMPTS: u64 = 1_000;
 
 /// When the flusher cuts the journal.
@@ -19,7 +19,7 @@ pub(crate) enum Cuts {
     Never,
     /// At the end of each turn. A full journal ends the turns all the same.
     EachTurn,
-    /// At the end of a turn that leaves more than so many steps, and where it is full.
+    /// At the end of a turn that leaves more than this many steps, and whenever it is full.
     Above(u64),
 }
 

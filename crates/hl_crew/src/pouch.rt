@@ -11,8 +11,8 @@ use hl_words::{Realm, Rider};
 use std::marker::Model;
 use std::sync::Wait;
 
-/// At most four pages that were taken to be flushed, until each is answered. Contracts see it as four places, each with
-/// a load or without. It must be spent, by `forsake`.
+/// At most four pages that were taken to be flushed, until each is answered. Contracts see it as
+/// four places, each with a load or without. It must be ended, by `forsake`.
 pub struct Pouch {
     loads: [Option<Load>; 4],
 }
@@ -51,10 +51,11 @@ impl Pouch {
         }
     }
 
-    /// The flush of a page ended, well or not; the answer is the flushed offset. The page is held no longer.
+    /// Tells that the flush of a page ended, well or not; returns the flushed offset. The page is
+    /// held no longer.
     ///
-    /// Faults, of which none changes what it holds: `NotInFlight` where it holds no load of that page, and then nothing
-    /// enters the journal; else those of `Domain::flush_done`.
+    /// Faults, of which none changes what it holds: `NotInFlight` if it holds no load of that page,
+    /// and then nothing enters the journal; else those of `Domain::flush_done`.
     pub fn answer<R: Wait, E: Epochs + Drop, F: Task, P: Promise, L: Realm>(
         &mut self,
         rt: &R,

@@ -32,8 +32,8 @@ impl Stop {
         self.sleeper.unpark();
     }
 
-    /// Wakes the crew, where it sleeps. For a thread that has entered a page, or refreshed after one: a crew that
-    /// nobody wakes looks every 20 milliseconds.
+    /// Wakes the crew if it sleeps. For a thread that has entered a page, or refreshed after one: a
+    /// crew that nobody wakes looks every 20 milliseconds.
     pub fn ring(&self) {
         self.sleeper.unpark();
     }

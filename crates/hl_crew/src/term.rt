@@ -4,16 +4,16 @@ use std::sync::Wait;
 
 /// How long a crew runs, and how it rests.
 ///
-/// `is_over` is what it takes for the flusher to make no turn more after so many.
+/// `is_over` is what holds of a number of turns after which the flusher makes no more.
 pub(crate) trait Term<R> {
     ghost is_over: { Self → ℕ → Type 0 } = { λ _ _. ⊤ };
 
-    /// Whether the flusher makes another turn, after so many.
+    /// Whether the flusher makes another turn, after `made`.
     fn goes_on(&self, made: u64) -> bool
         ensures { result ≡ false → is_over self.now made };
 
-    /// Whether the cleaner looks for a closed page once more, after so many looks. The last look was vain, and was
-    /// begun once the flusher had ended, where `is_last` is true.
+    /// Whether the cleaner looks for a closed page once more, after `looks`. If `is_last` is true,
+    /// the last look was in vain, and was begun once the flusher had ended.
     fn cleans_on(&self, looks: u64, is_last: bool) -> bool;
 
     /// Rests after a turn that entered nothing.
@@ -23,7 +23,7 @@ pub(crate) trait Term<R> {
     fn last_turns(&self) -> u64;
 }
 
-/// So many turns.
+/// A given number of turns.
 #[derive(Clone, Copy)]
 pub(crate) struct Turns {
     pub(crate) most: u64,

@@ -20,7 +20,7 @@ use std::sync::{Mutex, Wait};
 use std::thread;
 use std::thread::Threads;
 
-/// That each thread of a crew was made. Only the call that makes them tells so.
+/// That each thread of a crew was made. Only the call that makes them can tell.
 #[derive(Drop)]
 pub(crate) struct Whole {
     threads: u64,
@@ -38,7 +38,8 @@ fn whole_of(first: bool, second: bool, cleaner: bool, flusher: bool) -> Option<W
     }
 }
 
-/// Runs the threads until all have ended. None where one of them couldn't be made: those made are stopped.
+/// Runs the threads until all have ended. `None` if one of them couldn't be made: those made are
+/// stopped.
 pub(crate) fn run_threads<'x, R, E, F, P, L, W, G, T>(
     rt: &'x R,
     domain: &'x Domain<E, F, P, L>,
@@ -177,7 +178,7 @@ where
     cleaner.run(&shared.cleaner, term);
 }
 
-// The flusher makes no turn any more: each writer is told to stop, and the cleaner is woken.
+// The flusher makes no more turns: each writer is told to stop, and the cleaner is woken.
 fn end_flusher<R: Wait, L: Realm, W>(rt: &R, shared: &Shared<L, W>) {
     for _ in 0..2 {
         let _ = shared.channels.jobs.send(rt, Message::Stop);

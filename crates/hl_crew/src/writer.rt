@@ -57,7 +57,7 @@ where
         }
     }
 
-    // Writes a page once the gate lets it; what the flusher is to be told of it.
+    // Writes a page once the gate lets it; returns what the flusher is to be told of it.
     fn acknowledge<W: PageWriter>(
         &self,
         own: &mut WriterState<L, W>,

@@ -14,7 +14,8 @@ use hl_words::{Realm, Rider};
 use std::sync::Wait;
 
 impl<R: Wait, E: Epochs + Drop, F: Task, P: Promise, L: Realm> Flusher<'_, R, E, F, P, L> {
-    /// Receives so many acknowledgements, and answers each through the pouch. One whose page isn't there is a stranger.
+    /// Receives this many acknowledgements, and answers each through the pouch. One whose page
+    /// isn't there is a stranger.
     pub(crate) fn answer_acknowledged(
         &self,
         own: &mut FlusherState<L>,
@@ -30,8 +31,8 @@ impl<R: Wait, E: Epochs + Drop, F: Task, P: Promise, L: Realm> Flusher<'_, R, E,
         Ok(())
     }
 
-    // Answers the page of an acknowledgement as it was told, and counts the answer; of a page that isn't held it
-    // counts a stranger.
+    // Answers the page of an acknowledgement as that says, and counts the answer; if the page isn't
+    // held, it counts a stranger.
     fn answer(
         &self,
         own: &mut FlusherState<L>,
@@ -89,7 +90,7 @@ impl<R: Wait, E: Epochs + Drop, F: Task, P: Promise, L: Realm> Flusher<'_, R, E,
         }
     }
 
-    // As `Pouch::answer`. Where the journal is full and may be cut, it is cut first.
+    // As `Pouch::answer`. If the journal is full and may be cut, it is cut first.
     fn answer_page(
         &self,
         rider: &mut Rider<L>,

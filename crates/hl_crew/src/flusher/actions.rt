@@ -29,7 +29,7 @@ impl<R: Wait, E: Epochs + Drop, F: Task, P: Promise, L: Realm> Flusher<'_, R, E,
         Ok(())
     }
 
-    // Takes an action, runs it and answers it done. False where none is ready.
+    // Takes an action, runs it and answers it done. False if none is ready.
     fn run_action(&self, rider: &mut Rider<L>) -> Result<bool, Over>
         ensures { RunsAction F self.now.domain.now 0 result rider.old rider.new }
     {
@@ -43,7 +43,7 @@ impl<R: Wait, E: Epochs + Drop, F: Task, P: Promise, L: Realm> Flusher<'_, R, E,
         }
     }
 
-    // Answers an action that was run. Where the journal is full and may be cut, it is cut first.
+    // Answers an action that was run. If the journal is full and may be cut, it is cut first.
     fn finish(&self, rider: &mut Rider<L>, ran: Ran) -> Result<(), Over>
         ensures { Finishes F self.now.domain.now ran.origin ran.ticket result rider.old rider.new }
     {

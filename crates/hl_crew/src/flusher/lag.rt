@@ -15,10 +15,10 @@ use hl_words::{Realm, Rider};
 use std::sync::Wait;
 
 impl<R: Wait, E: Epochs + Drop, F: Task, P: Promise, L: Realm> Flusher<'_, R, E, F, P, L> {
-    /// Where no action waits or is taken, makes the lag's steps, up to the first that is refused.
+    /// If no action waits or is taken, makes the lag's steps, up to the first that is refused.
     ///
-    /// With as many resident pages as frames the head never passes page N - F, N being the pages up to the tail, and page
-    /// N wants that page's frame: then no frame comes free.
+    /// With as many resident pages as frames, the head never passes page N - F, N being the number
+    /// of pages up to the tail, and page N needs that page's frame: then no frame comes free.
     pub(crate) fn keep_lag(&self, rider: &mut Rider<L>) -> Result<(), Over>
         requires { let orders = self.now.orders
             in IsLag self.now.domain.now.sizes.frames orders.mutable orders.resident }
@@ -81,7 +81,7 @@ fn end_of(made: Result<(), Fault>) -> Result<(), Over>
     }
 }
 
-// The lag's steps, where no action waits and none is taken; else none.
+// The lag's steps, if no action waits and none is taken; else none.
 fn steps_wanted(params: Params, now: &Snapshot, mutable: u64, resident: u64) -> ArrayVec<Step, 4>
     requires { IsLag params.frames mutable resident }
     ensures steps { result.items ≡ steps_wanted params.page_size now.now mutable resident }

@@ -14,8 +14,8 @@ use std::sync::Wait;
 const PAGES: u64 = 4;
 
 impl<R: Wait, E: Epochs + Drop, F: Task, P: Promise, L: Realm> Flusher<'_, R, E, F, P, L> {
-    /// Takes at most four pages to flush, puts each into the pouch, and sends it to the writers; counts those sent.
-    /// Where all is well, these are the pages of the pouch.
+    /// Takes at most four pages to flush, puts each into the pouch, and sends it to the writers;
+    /// counts those sent. If all is well, these are the pages of the pouch.
     pub(crate) fn send_pages(
         &self,
         rider: &mut Rider<L>,

@@ -14,10 +14,11 @@ use std::sync::Wait;
 /// The most words that a page has.
 const WORDS: usize = PAGE_SIZE_MOST as usize;
 
-/// The bytes of the image of so many words.
+/// How many bytes the image of that many words has.
 const BYTES: usize = 8 + 8 * WORDS;
 
-/// That the image of a page was written. Only `Writer::write` makes one, so nobody else tells a page as written.
+/// That the image of a page was written. Only `Writer::write` makes one, so nobody else can report
+/// a page as written.
 #[derive(Clone, Copy)]
 pub(crate) struct Written {
     page: u64,
@@ -41,7 +42,7 @@ where
     L: Realm,
     G: Gate,
 {
-    /// Copies the words of a page, and writes its image. None where it isn't written.
+    /// Copies the words of a page, and writes its image. `None` if it isn't written.
     pub(crate) fn write<W: PageWriter>(
         &self,
         own: &mut WriterState<L, W>,
