@@ -13,7 +13,8 @@ const APART: u64 = 16;
 /// How many words a thread leases at once.
 const PIECE: u64 = 256;
 
-/// Acquires a slot, makes so many calls there, and releases it. No rider comes back where a call was refused.
+/// Acquires a slot, makes this many calls there, and releases it. No rider comes back if a call was
+/// refused.
 pub(crate) fn call_all<E: Epochs + Drop, F: Task, P: Promise, L: Realm>(
     rt: &impl Wait,
     domain: &Domain<E, F, P, L>,

@@ -5,7 +5,7 @@ use std::sync::Wait;
 use std::thread::{Parker, Threads};
 use std::time::Duration;
 
-/// A thread that sleeps in its session for so many seconds.
+/// A thread that sleeps in its session for this many seconds.
 #[derive(Drop)]
 struct Sleeper {
     seconds: u64,
@@ -23,7 +23,7 @@ impl<R: Wait> Work<R> for Sleeper {
     }
 }
 
-/// How many seconds the program's words ask for, and none where they ask for something else.
+/// How many seconds the program's words ask for; `None` if they ask for something else.
 pub(crate) fn read(words: &[String]) -> Option<u64> {
     match words {
         [_, kind, seconds] if kind.as_str() == "idle" => seconds.parse().ok(),
@@ -31,9 +31,10 @@ pub(crate) fn read(words: &[String]) -> Option<u64> {
     }
 }
 
-/// Opens a log in which a thread sleeps for so many seconds, beside a crew that serves, and closes it.
+/// Opens a log in which a thread sleeps for this many seconds, beside a crew that serves, and
+/// closes it.
 ///
-/// `OutOfMemory` where memory or a thread was refused.
+/// `OutOfMemory` if memory or a thread was refused.
 pub(crate) fn run<R: Threads + Wait + Sync>(
     rt: &R,
     alloc: Global,

@@ -4,8 +4,8 @@
 //! one word from a lease), and `lock`, which adds to a number under a lock and so shows what the lock itself costs. Each
 //! thread has a slot of its own and makes as many calls. Nothing is printed; the status is 1 if a call was refused.
 //!
-//! `hl_pace idle SECONDS` makes no call: a thread sleeps so long in its slot, beside a crew that serves and has nothing to
-//! do. What the process uses meanwhile is what such a crew costs.
+//! `hl_pace idle SECONDS` makes no call: a thread sleeps that long in its slot, beside a crew that
+//! serves and has nothing to do. What the process uses meanwhile is what such a crew costs.
 #![tactic(auto)]
 
 mod calls;

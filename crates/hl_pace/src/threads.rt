@@ -21,9 +21,9 @@ const JOURNAL: u64 = 1 << 21;
 /// The stamp of the domain.
 const STAMP: u64 = 1000;
 
-/// Makes the calls, and answers whether all were accepted: a thread ends at a call that is refused.
+/// Makes the calls, and returns whether all were accepted: a thread ends at a call that is refused.
 ///
-/// `OutOfMemory` where memory was refused.
+/// `OutOfMemory` if memory was refused.
 pub(crate) fn run<R: Threads + Wait + Sync>(
     rt: &R,
     alloc: Global,

@@ -23,7 +23,7 @@ pub(crate) struct Work {
     pub(crate) calls: u64,
 }
 
-/// The work that the program's words name, and none where they name none.
+/// The work that the program's words name; `None` if they name none.
 pub(crate) fn read(words: &[String]) -> Option<Work>
     ensures { IfSome result (λ work. (1 ≤ work.threads) × (work.threads ≤ 8)) }
 {

@@ -11,7 +11,7 @@ use std::alloc::Global;
 /// Whether a fresh core takes all steps of the journal, and is then at the closing snapshot, and riders entered as
 /// many steps as there are. It is for a journal that was never cut.
 ///
-/// `OutOfMemory` where memory for the core was refused.
+/// `OutOfMemory` if memory for the core was refused.
 pub fn agrees_from_the_start<F: Task, P: Promise>(
     alloc: Global,
     params: Params,
@@ -27,7 +27,7 @@ pub fn agrees_from_the_start<F: Task, P: Promise>(
 /// Whether the slow form, from the base of the steps that were cut, takes all steps since, and is then at the closing
 /// snapshot, and riders entered as many steps as were cut and kept.
 ///
-/// `OutOfMemory` where memory was refused.
+/// `OutOfMemory` if memory was refused.
 pub fn agrees_from_the_base<F: Task, P: Promise>(
     alloc: Global,
     ending: &Ending<F, P>,

@@ -31,8 +31,9 @@ pub struct Race {
 }
 
 impl Race {
-    /// A race of so many riders, 1 to 8, each in a thread of its own, which make so many rounds, 1 to 1,000; the crew
-    /// makes as many turns, and cuts the journal at the end of each where that is wanted. None out of range.
+    /// A race of 1 to 8 riders, each in a thread of its own, which make 1 to 1,000 rounds each; the
+    /// crew makes as many turns as a rider makes rounds, and cuts the journal at the end of each if
+    /// `cut` is true. `None` out of range.
     pub fn checked(riders: u64, rounds: u64, cut: bool) -> Option<Race>
         ensures some { IsSome result ↔ ((1 ≤ riders) × (riders ≤ 8) × (1 ≤ rounds) × (rounds ≤ 1000)) }
         ensures asked { IfSome result (λ race.
@@ -83,7 +84,8 @@ const PAGES: u64 = 8192;
 /// The domain of a race.
 type Track<L> = Domain<CountTable, NoJob, AnyAnswer, L>;
 
-/// What comes back from a crew, and whether it was refused. It has no page writers where memory for these was refused.
+/// What comes back from a crew, and whether it was refused. It has no page writers if memory for
+/// these was refused.
 #[derive(Drop)]
 struct CrewBack<L: Realm> {
     riders: [Rider<L>; CREW],
@@ -94,8 +96,8 @@ struct CrewBack<L: Realm> {
 /// Runs a race, and tells whether its steps were all lawful and left what the domain was at when it was closed,
 /// whether the riders entered as many steps as there are, and whether each page that is flushed has an image.
 ///
-/// `OutOfMemory` where memory, or a thread of the crew, was refused. The domain of a refused crew is closed too:
-/// `Stranger`, with its stamp, where a rider didn't come back.
+/// `OutOfMemory` if memory, or a thread of the crew, was refused. The domain of a refused crew is
+/// closed too: `Stranger`, with its stamp, if a rider didn't come back.
 pub fn run_race<R: Threads + Wait + Sync>(
     rt: &R,
     alloc: Global,
@@ -104,7 +106,8 @@ pub fn run_race<R: Threads + Wait + Sync>(
     run_race_within(rt, alloc, race, JOURNAL)
 }
 
-/// The same with a journal of so many steps, at most 2^62. Where it is full, its riders and its crew stop.
+/// The same with a journal of this many steps, at most 2^62. Once it is full, its riders and its
+/// crew stop.
 pub fn run_race_within<R: Threads + Wait + Sync>(
     rt: &R,
     alloc: Global,
@@ -159,7 +162,7 @@ fn race_over<L: Realm + Send + Sync, R: Threads + Wait + Sync>(
 
 // Runs the crew with the last four riders and the others round by round beside it; all come back.
 //
-// `OutOfMemory` where the threads of the others had none.
+// `OutOfMemory` if memory for the others' threads was refused.
 fn run_on<L: Realm + Send + Sync, R: Threads + Wait + Sync>(
     rt: &R,
     alloc: Global,
@@ -201,7 +204,7 @@ fn ride_all<L: Realm + Send + Sync, R: Threads + Wait + Sync>(
     )
 }
 
-// The crew makes its turns. Its riders and page writers come back also where it was refused.
+// The crew makes its turns. Its riders and page writers come back even if it was refused.
 fn flush_all<L: Realm + Send + Sync, R: Threads + Wait + Sync>(
     rt: &R,
     alloc: Global,

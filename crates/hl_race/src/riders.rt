@@ -30,7 +30,7 @@ pub(crate) fn ride<E: Epochs + Drop, F: Task, P: Promise, L: Realm>(
     }
 }
 
-// Allocates a word, stores the value there and loads it, where there was room; then refreshes.
+// Allocates a word, stores the value there and loads it, if there was room; then refreshes.
 //
 // Faults, which end the rider: `Stranger`, `JournalFull`.
 fn round_of<E: Epochs + Drop, F: Task, P: Promise, L: Realm>(

@@ -20,7 +20,7 @@ type Crew<L> = [Rider<L>; 4];
 
 /// Four threads place a hundred records each in a domain, and a crew flushes and frees pages behind them.
 ///
-/// Faults: `OutOfMemory`; `Stream` where the writer fails.
+/// Faults: `OutOfMemory`; `Stream` if the writer fails.
 pub fn run<R: Threads + Wait + Sync, W: Write>(
     rt: &R,
     alloc: Global,

@@ -8,7 +8,7 @@ use std::io::Write;
 
 /// Fills a page with a record, settles it, flushes it to memory, closes it and frees its frame.
 ///
-/// Faults: `OutOfMemory`; `Stream` where the writer fails.
+/// Faults: `OutOfMemory`; `Stream` if the writer fails.
 pub fn run<W: Write>(alloc: Global, out: &mut W) -> Result<(), Fault> {
     // Pages of 4 words, 2 frames, 1 slot, 4 places for actions.
     let params = Params::checked(4, 2, 1, 4).ok_or(Fault::Size)?;
@@ -24,7 +24,7 @@ pub fn run<W: Write>(alloc: Global, out: &mut W) -> Result<(), Fault> {
     engine.release(0)
 }
 
-// Fills a page with a record and settles it; the answer is the record's end.
+// Fills a page with a record and settles it; returns the record's end.
 fn settle_record<W: Write>(
     engine: &mut Engine<CountTable, NoJob, AnyAnswer>,
     out: &mut W,
@@ -45,7 +45,7 @@ fn settle_record<W: Write>(
     Ok(end)
 }
 
-// Writes the image of the next page into a device in memory; the answer is the page.
+// Writes the image of the next page into a device in memory; returns the page.
 fn flush_to_memory(
     alloc: Global,
     engine: &mut Engine<CountTable, NoJob, AnyAnswer>,
@@ -56,7 +56,7 @@ fn flush_to_memory(
     flush_one(engine, &mut device, &mut image)
 }
 
-// Closes what lies below an offset and frees the frame of its page; the answer is the page.
+// Closes what lies below an offset and frees the frame of its page; returns the page.
 fn free_page(engine: &mut Engine<CountTable, NoJob, AnyAnswer>, offset: u64) -> Result<u64, Fault> {
     engine.shift(offset)?;
     engine.close()?;

@@ -25,7 +25,7 @@ type RowCore = Core<CountTable, Retired>;
 /// Frees an old row once the reader that may have seen it has moved on: the deferred free for which epochs are mostly
 /// used. The row itself is what the bump stores.
 ///
-/// Faults: `OutOfMemory`; `Stream` where the writer fails.
+/// Faults: `OutOfMemory`; `Stream` if the writer fails.
 pub fn run<W: Write>(alloc: Global, out: &mut W) -> Result<(), Fault> {
     let params = Params::checked(4, 2, 2, 4).ok_or(Fault::Size)?;
     let mut core = RowCore::open(alloc, params)?;
@@ -50,14 +50,14 @@ fn run_on<W: Write>(alloc: Global, core: &mut RowCore, out: &mut W) -> Result<()
     core.release(0)
 }
 
-// Stores the row until it may be freed: the ticket.
+// Stores the row until it may be freed; returns the ticket.
 fn retire(alloc: Global, core: &mut RowCore) -> Result<u64, Fault> {
     let row = vec![in alloc; 7; 100].map_err(|_| Fault::OutOfMemory)?;
     let retired = Ask::User(Retired { number: 1, row });
     core.bump(retired).map_err(|(fault, _)| fault)
 }
 
-// Takes the oldest action, and lets go of its row: how many words it had.
+// Takes the oldest action, and frees its row; returns how many words it had.
 fn free(core: &mut RowCore) -> Result<u64, Fault> {
     let (firing, job) = core.take()?;
     core.done(firing.ticket())?;

@@ -21,7 +21,7 @@ type Crew<L> = [Rider<L>; 4];
 /// Four threads place a hundred records each, more than the frames hold, and a crew serves behind them until they have
 /// ended.
 ///
-/// Faults: `OutOfMemory`; `Stream` where the writer fails.
+/// Faults: `OutOfMemory`; `Stream` if the writer fails.
 pub fn run<R: Threads + Wait + Sync, W: Write>(
     rt: &R,
     alloc: Global,
@@ -138,7 +138,7 @@ fn place_all<L: Realm + Send + Sync, R: Threads + Wait + Sync>(
     )
 }
 
-// Acquires the slot. Where the journal is full it wakes the crew, which cuts it, and tries again.
+// Acquires the slot. If the journal is full, it wakes the crew, which cuts it, and tries again.
 fn enter<L: Realm>(
     rt: &impl Wait,
     log: &Log<L>,
@@ -179,7 +179,7 @@ fn place<L: Realm>(
     leave(rt, log, stop, pass)
 }
 
-// Releases the slot. Where the journal is full it wakes the crew, which cuts it, and tries again.
+// Releases the slot. If the journal is full, it wakes the crew, which cuts it, and tries again.
 fn leave<L: Realm>(rt: &impl Wait, log: &Log<L>, stop: &Stop, pass: Pass<L>) -> Rider<L> {
     let mut pass = pass;
     for _ in rt.forever() {
@@ -194,8 +194,8 @@ fn leave<L: Realm>(rt: &impl Wait, log: &Log<L>, stop: &Stop, pass: Pass<L>) -> 
     unreachable!()
 }
 
-// Places a record of 8 words, stores its first, and refreshes. Where no frame is free or the journal is full, it wakes the
-// crew, refreshes and tries again.
+// Places a record of 8 words, stores its first, and refreshes. If no frame is free or the journal
+// is full, it wakes the crew, refreshes and tries again.
 fn place_one<L: Realm>(
     rt: &impl Wait,
     log: &Log<L>,
