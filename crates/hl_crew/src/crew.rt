@@ -85,7 +85,8 @@ where
 /// nothing to do, and ends once nothing is in flight. If the journal is full, it cuts it where the
 /// duty lets it; else a full journal ends it before its stop.
 ///
-/// A thread that has entered a page may wake it by [`Stop::ring`]; a crew that nobody wakes looks every 20 milliseconds.
+/// A thread that has entered a page may wake it by [`Stop::ring`]; a crew that nobody wakes looks at least
+/// every 160 milliseconds, and sooner after it had something to do.
 ///
 /// `OutOfMemory` if memory or a thread was refused; then riders and page writers are handed back.
 /// Steps that were made until then stay in the journal.

@@ -61,6 +61,7 @@ impl<R: Wait, E: Epochs + Drop, F: Task, P: Promise, L: Realm> Flusher<'_, R, E,
             own.old.rider own.new.rider }
     {
         let mut made = 0u64;
+        let mut vain = 0u64;
         for _ in self.rt.forever() {
             if !term.goes_on(made) {
                 return Ok(());
@@ -69,8 +70,11 @@ impl<R: Wait, E: Epochs + Drop, F: Task, P: Promise, L: Realm> Flusher<'_, R, E,
                 Ok(moved) => moved,
                 Err(over) => return Err(over),
             };
-            if !moved {
-                term.rest(self.rt);
+            if moved {
+                vain = 0;
+            } else {
+                term.rest(self.rt, vain);
+                vain = vain.saturating_add(1);
             }
             made = made.saturating_add(1);
         }

@@ -29,7 +29,8 @@
 //! The writers wait for a page, and the flusher for an acknowledgement of each that it sent. If the
 //! cleaner finds no closed page, it sleeps until the flusher has made another turn. A flusher that
 //! serves sleeps after a turn that entered no step, or in which a write failed, until somebody
-//! calls [`Stop::ring`], and at most 20 milliseconds.
+//! calls [`Stop::ring`], and at most 5 milliseconds. Each such turn more in a row doubles that, up
+//! to 160 milliseconds.
 //!
 //! # How it ends
 //!

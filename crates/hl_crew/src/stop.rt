@@ -4,8 +4,11 @@ use std::sync::atomic::{AtomicBool, Ordering};
 use std::thread::Parker;
 use std::time::Duration;
 
-/// How long a crew with nothing to do sleeps at most, in milliseconds.
-const NAP: u64 = 20;
+/// How long a crew sleeps at most after the first turn that got nowhere, in milliseconds.
+const FIRST_NAP: u64 = 5;
+
+/// How often that is doubled, once for each such turn more in a row: the longest nap is 160 milliseconds.
+const DOUBLINGS: u64 = 5;
 
 /// How many turns a crew makes at most once its stop was given.
 const LAST_TURNS: u64 = 1_000;
@@ -33,7 +36,8 @@ impl Stop {
     }
 
     /// Wakes the crew if it sleeps. For a thread that has entered a page, or refreshed after one: a
-    /// crew that nobody wakes looks every 20 milliseconds.
+    /// crew that nobody wakes looks at least every 160 milliseconds, and sooner after it had
+    /// something to do.
     pub fn ring(&self) {
         self.sleeper.unpark();
     }
@@ -53,8 +57,9 @@ impl<R: Wait> Term<R> for Stop {
         !is_last
     }
 
-    fn rest(&self, rt: &R) {
-        self.sleeper.park_timeout(rt, Duration::from_millis(NAP));
+    fn rest(&self, rt: &R, vain: u64) {
+        let nap = FIRST_NAP << vain.min(DOUBLINGS);
+        self.sleeper.park_timeout(rt, Duration::from_millis(nap));
     }
 
     fn last_turns(&self) -> u64 {

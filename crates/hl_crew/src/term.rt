@@ -16,8 +16,8 @@ pub(crate) trait Term<R> {
     /// the last look was in vain, and was begun once the flusher had ended.
     fn cleans_on(&self, looks: u64, is_last: bool) -> bool;
 
-    /// Rests after a turn that entered nothing.
-    fn rest(&self, rt: &R);
+    /// Rests after a turn that got nowhere, with `vain` such turns in a row before it.
+    fn rest(&self, rt: &R, vain: u64);
 
     /// How many turns the flusher makes at most after its last one, as long as there is something to do.
     fn last_turns(&self) -> u64;
@@ -40,7 +40,7 @@ impl<R: Wait> Term<R> for Turns {
         looks < self.most && !is_last
     }
 
-    fn rest(&self, _rt: &R) {}
+    fn rest(&self, _rt: &R, _vain: u64) {}
 
     fn last_turns(&self) -> u64 {
         0

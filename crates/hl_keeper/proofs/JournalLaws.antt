@@ -1,8 +1,7 @@
 -- When a journal has room.
-use Rattle.std.proofs.Common.{◌≡◌, ℕ, ◌+◌, ◌≤◌, Bool, true, false, cond, ltb, List, [], ◌++◌, length, refl, sym, ap, ◌∙◌, arith, append_assoc, length-append}
+use Rattle.std.proofs.Common.{◌≡◌, ℕ, ◌+◌, ◌≤◌, Bool, true, false, cond, ltb, List, ◌++◌, length, refl, sym, ap, ◌∙◌, arith, append_assoc, length-append}
 use Rattle.std.specs.Prelude.{◌||◌, Some, None, Ok, Err}
 use Rattle.std.proofs.lemmas.Bool.{ltb-false, le-ltb, or_parts}
-use Rattle.std.proofs.lemmas.List.{append-nil}
 use Rattle.hl_model.specs.declared.fault.Fault.TheVariants.{JournalFull}
 use Rattle.hl_model.specs.declared.step.Step.{Step}
 use Rattle.hl_model.specs.Replies.{unless_fault}
@@ -37,12 +36,9 @@ room_behind j xs m n h le =
     let len : length (j.steps ++ xs) ≡ length j.steps + length xs = length-append j.steps xs in
     none-full (with_steps xs j) n (omega (arith, most.0, le, len)) (omega (arith, most.1, le, len))
 
--- steps behind steps, and none
+-- steps behind steps
 pub steps_assoc : (j : JournalState) (xs ys : List Step) → with_steps ys (with_steps xs j) ≡ with_steps (xs ++ ys) j
 steps_assoc j xs ys = ap (with_all j) (append_assoc j.steps xs ys)
-
-pub steps_none : (j : JournalState) → j ≡ with_steps [] j
-steps_none j = ap (with_all j) (sym (append-nil j.steps))
 
 -- whether there is room
 pub no_room : (j : JournalState) (n : ℕ) → (b : Bool) → b ≡ (ltb j.limit (length j.steps + n) || ltb steps_most (j.cut + length j.steps + n)) → b ≡ true → Err JournalFull ≡ unless_fault (full_fault j n) (tt {0})

@@ -20,7 +20,7 @@ use hl_words::{Master, Realm, Rider};
 impl<E: Epochs + Drop, F: Task, P: Promise, L: Realm> Keeper<E, F, P, L> {
     /// Whether the pass is the one to which its slot belongs.
     ///
-    /// `Stranger`, with the slot's stamp, where it isn't.
+    /// `Stranger`, with the slot's stamp, if it isn't.
     pub(crate) fn known(&self, pass: &Pass<L>) -> Result<(), Fault>
         ensures { (A : List STEP) → KeeperStands self.now A
             → result ≡ unless_fault (stranger_fault self.now A pass.now) tt }
@@ -34,9 +34,9 @@ impl<E: Epochs + Drop, F: Task, P: Promise, L: Realm> Keeper<E, F, P, L> {
         }
     }
 
-    /// Whether it is, and saw no offset above the present one.
+    /// Whether the pass is the one to which its slot belongs, and saw no offset above the present one.
     ///
-    /// `Stranger`, with the slot's stamp, where not both.
+    /// `Stranger`, with the slot's stamp, if not both hold.
     pub(crate) fn known_behind(&self, pass: &Pass<L>) -> Result<(), Fault>
         ensures { (A : List STEP) → KeeperStands self.now A
             → result ≡ unless_fault (ahead_fault self.now A pass.now) tt }
@@ -51,8 +51,8 @@ impl<E: Epochs + Drop, F: Task, P: Promise, L: Realm> Keeper<E, F, P, L> {
         }
     }
 
-    /// Makes the touches of a pass that is known, and its own step behind them. The pass keeps its touches:
-    /// its caller rests it. Where it is refused nothing is changed.
+    /// Makes the touches of a pass that is known, and the call's own step behind them. The pass keeps its
+    /// touches: the caller rests it. If the call is refused, nothing is changed.
     pub(crate) fn call(&mut self, pass: &mut Pass<L>, step: &Step) -> Result<Reply, Fault>
         requires kind { is_call step.now ≡ true }
         requires known { Knows self.old pass.old }
@@ -91,7 +91,7 @@ impl<E: Epochs + Drop, F: Task, P: Promise, L: Realm> Keeper<E, F, P, L> {
         pass.view.read_only <= six.read_only && pass.view.head <= six.head
     }
 
-    /// The stamp of a slot, and 0 where it is empty.
+    /// The stamp of a slot, or 0 if it is empty.
     fn stamp_at(&self, t: u64) -> u64
         ensures { (A : List STEP) → KeeperStands self.now A → result ≡ stamp_at self.now A t }
     {
@@ -101,9 +101,9 @@ impl<E: Epochs + Drop, F: Task, P: Promise, L: Realm> Keeper<E, F, P, L> {
         }
     }
 
-    /// Whether something is of this keeper's domain, told its origin.
+    /// Whether this origin is the keeper's domain.
     ///
-    /// `Stranger`, with the domain's stamp, where it isn't.
+    /// `Stranger`, with the domain's stamp, if it isn't.
     pub(crate) fn own(&self, origin: u64) -> Result<(), Fault>
         ensures { result ≡ unless_fault (origin_fault self.now origin) tt }
     {
@@ -114,9 +114,9 @@ impl<E: Epochs + Drop, F: Task, P: Promise, L: Realm> Keeper<E, F, P, L> {
         }
     }
 
-    /// Whether the journal has room for so many steps more.
+    /// Whether the journal has room for this many steps more.
     ///
-    /// `JournalFull` where it hasn't.
+    /// `JournalFull` if it hasn't.
     pub(crate) fn room(&self, count: u64) -> Result<(), Fault>
         requires { count ≤ 33 }
         ensures { result ≡ unless_fault (room_fault self.now count) tt }

@@ -44,7 +44,9 @@ impl Model for Journal {
 }
 
 impl Journal {
-    /// An empty one of an allocator of these sizes, which may keep so many steps.
+    /// The empty journal of an allocator of these sizes, which may keep this many steps.
+    ///
+    /// `OutOfMemory` if memory was refused.
     pub(crate) fn open(alloc: Global, params: Params, limit: u64) -> Result<Journal, Fault>
         ensures journal { IfOk result (λ journal.
             journal ≡ record { base = base_of params []; cut = 0; steps = []; limit = limit }) }
@@ -60,9 +62,9 @@ impl Journal {
         })
     }
 
-    /// Whether there is room for so many steps more.
+    /// Whether there is room for this many steps more.
     ///
-    /// `JournalFull` where there isn't.
+    /// `JournalFull` if there isn't.
     pub(crate) fn room(&self, count: u64) -> Result<(), Fault>
         requires { count ≤ 33 }
         ensures { result ≡ unless_fault (full_fault self.now count) tt }
@@ -91,8 +93,8 @@ impl Journal {
         self.steps.push_reserved(step);
     }
 
-    /// Puts the base of a core in place of its own, and forgets its steps, which lead there; the answer is their
-    /// number.
+    /// Replaces its base by the core's, and drops its steps, which lead there; returns how many were
+    /// dropped.
     pub(crate) fn cut<E: Epochs, J: Tagged>(&mut self, core: &Core<E, J>) -> u64
         requires { self.old.base.sizes ≡ core.now.sizes }
         ensures count { result ≡ length self.old.steps }

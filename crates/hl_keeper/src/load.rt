@@ -3,7 +3,8 @@ ghost use Rattle.hl_keeper.specs.Pages.{BroomRecord};
 
 use std::marker::Model;
 
-/// What names a page of a domain, one in flight where it is a load's: the stamp of its domain, and its number.
+/// Names a page of a domain by the stamp of its domain and its number. If it is a load's, the page is in
+/// flight.
 #[derive(Clone, Copy, Debug, PartialEq, Eq)]
 pub struct PageJob {
     /// The stamp of the domain whose page it is.
@@ -12,7 +13,7 @@ pub struct PageJob {
     pub page: u64,
 }
 
-/// A page that was taken to be flushed. Only a keeper makes one. It must be spent: by `flush_done`, or by
+/// A page that was taken to be flushed. Only a keeper makes one. It must be ended, by `flush_done` or by
 /// `forsake`.
 pub struct Load {
     job: PageJob,
@@ -33,21 +34,21 @@ impl Load {
         Load { job }
     }
 
-    /// What names the page, for whoever copies it and writes it.
+    /// Names the page, for whoever copies it and writes it.
     pub fn job(&self) -> PageJob
         ensures { result ≡ self.now }
     {
         self.job
     }
 
-    /// Lets it go. Where no `flush_done` was made of it, the page stays in flight for good.
+    /// Gives it up. If no `flush_done` was made of it, the page stays in flight for good.
     pub fn forsake(self) {
         let Load { job: _ } = self;
     }
 }
 
 /// A page that was taken to be cleaned, with the number of its cells into which 0 was stored. Only a keeper
-/// makes one. It must be spent: by `clean_done`, once it is swept, or by `forsake`.
+/// makes one. It must be ended, by `clean_done` once it is swept, or by `forsake`.
 pub struct Broom {
     stamp: u64,
     page: u64,
@@ -87,7 +88,7 @@ impl Broom {
         self.page
     }
 
-    /// Counts so many of its cells as swept.
+    /// Counts this many of its cells as swept.
     pub(crate) fn count(&mut self, swept: u64)
         ensures { self.new ≡ record { stamp = self.old.stamp; page = self.old.page; swept = swept } }
     {
@@ -101,7 +102,7 @@ impl Broom {
         self.swept
     }
 
-    /// Lets it go. Where no `clean_done` was made of it, the page stays in cleaning for good.
+    /// Gives it up. If no `clean_done` was made of it, the page stays in cleaning for good.
     pub fn forsake(self) {
         let Broom {
             stamp: _,

@@ -34,9 +34,9 @@ impl<E: Epochs + Drop, F: Task, P: Promise, L: Realm> Keeper<E, F, P, L> {
         }
     }
 
-    /// The flush of a page ended, well or not; the answer is the flushed offset.
+    /// Tells that the flush of a page ended, well or not; returns the flushed offset.
     ///
-    /// Faults, with the load handed back: `Stranger` where it is of another domain, `JournalFull`,
+    /// Faults, with the load handed back: `Stranger` if it is of another domain, `JournalFull`,
     /// `NotInFlight`.
     pub fn flush_done(
         &mut self,
@@ -87,10 +87,10 @@ impl<E: Epochs + Drop, F: Task, P: Promise, L: Realm> Keeper<E, F, P, L> {
         }
     }
 
-    /// The cells of a page hold 0: its frame is free. The broom is swept: 0 was stored into all P cells. The
-    /// answer is the page.
+    /// Tells that the cells of a page hold 0: its frame is then free. The broom is swept: 0 was stored into
+    /// all P cells. Returns the page.
     ///
-    /// Faults, with the broom handed back: `Stranger` where it is of another domain, `JournalFull`,
+    /// Faults, with the broom handed back: `Stranger` if it is of another domain, `JournalFull`,
     /// `NotCleaning`.
     pub fn clean_done(
         &mut self,
@@ -119,10 +119,10 @@ impl<E: Epochs + Drop, F: Task, P: Promise, L: Realm> Keeper<E, F, P, L> {
         }
     }
 
-    /// A taken action that was run is done. A settle and a close raise their offset to what they stored; of a
-    /// job the answer tells the tag, and what the job answered is in the `Ran`.
+    /// Tells that a taken action was run: it is then done. A settle and a close raise their offset to what
+    /// they stored; for a job this returns the tag, and what the job answered is in the `Ran`.
     ///
-    /// Faults, with it handed back: `Stranger` where it is of another domain, `JournalFull`, `NotTaken`.
+    /// Faults, with it handed back: `Stranger` if it is of another domain, `JournalFull`, `NotTaken`.
     pub fn done(
         &mut self,
         _words: &Words<L>,

@@ -59,7 +59,7 @@ impl<L: Realm> Pass<L> {
         }
     }
 
-    /// Puts this view in place of its own, and forgets its touches, which have entered the journal.
+    /// Replaces its view by this one, and drops its touches, which have entered the journal.
     pub(crate) fn rest(&mut self, view: View)
         ensures { let old = self.old
             in self.new
@@ -77,7 +77,7 @@ impl<L: Realm> Pass<L> {
         self.slot
     }
 
-    /// Its stamp, which the acquire gave it: the k-th acquire of a domain gives the domain's stamp and k.
+    /// Its stamp, which the acquire gave it: the k-th acquire of a domain gives the domain's stamp plus k.
     pub fn stamp(&self) -> u64
         ensures { result ≡ self.now.stamp }
     {
@@ -98,9 +98,10 @@ impl<L: Realm> Pass<L> {
         &self.rider
     }
 
-    /// Lends its rider, for the calls that want one: a slot that is protected may bump, cut, take and raise. Slot,
-    /// stamp, view and touches stay as they are: the touches enter at the pass's next locked call, behind the steps
-    /// that the rider makes meanwhile. No action that these store is safe before, since the slot's epoch stays too.
+    /// Lends its rider, for the calls that need one: so a protected thread may bump, cut, take and raise.
+    /// Slot, stamp, view and touches stay as they are: the touches enter at the pass's next locked call,
+    /// behind the steps that the rider makes meanwhile. No action that these store is safe before, since
+    /// the slot's epoch stays too.
     pub fn rider_mut(&mut self) -> &mut Rider<L>
         ensures value { result.now ≡ self.old.rider }
         ensures* writes_back { sem 𝓛 (LendsRider L.row
@@ -109,8 +110,8 @@ impl<L: Realm> Pass<L> {
         &mut self.rider
     }
 
-    /// Gives the rider back and lets the pass go. Where its slot wasn't released, it stays protected for good, and the
-    /// touches never enter the journal.
+    /// Ends the pass, and returns its rider. If its slot wasn't released, it stays protected for good, and
+    /// the touches never enter the journal.
     pub fn abandon(self) -> Rider<L>
         ensures { result ≡ self.rider }
     {

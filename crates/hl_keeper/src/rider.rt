@@ -18,7 +18,7 @@ use hl_model::{Fault, Reply, Step};
 use hl_words::{Realm, Rider, Words};
 
 impl<E: Epochs + Drop, F: Task, P: Promise, L: Realm> Keeper<E, F, P, L> {
-    /// Makes one step, which moves neither offset word, stamps no slot, and of which no job goes in or comes out.
+    /// Makes one step, which moves neither offset word, stamps no slot, and takes no job in or out.
     pub(crate) fn one(&mut self, rider: &mut Rider<L>, step: &Step) -> Result<Reply, Fault>
         requires acted { is_acted step.now ≡ true }
         requires quiet { (raised_to step.now ≡ 0) × (shifted_to step.now ≡ 0) }
@@ -36,7 +36,7 @@ impl<E: Epochs + Drop, F: Task, P: Promise, L: Realm> Keeper<E, F, P, L> {
         Ok(reply)
     }
 
-    /// Ends the current epoch, and stores nothing; the answer is the epoch that ended.
+    /// Ends the current epoch, and stores nothing; returns the epoch that ended.
     ///
     /// Faults: `JournalFull`, `EpochsSpent`, `WindowFull`.
     pub fn bare(&mut self, _words: &Words<L>, rider: &mut Rider<L>) -> Result<u64, Fault>

@@ -17,10 +17,10 @@ use hl_model::{Fault, Reply, Step, View};
 use hl_words::{Realm, Rider, Words};
 
 impl<E: Epochs + Drop, F: Task, P: Promise, L: Realm> Keeper<E, F, P, L> {
-    /// The slot of a pass moves on: its epoch and its view are those of now. The answer is the view, and
-    /// isn't below what the pass saw.
+    /// Moves the pass's slot on to the current epoch and offsets; returns the view, which isn't below what
+    /// the pass saw.
     ///
-    /// Faults: `Stranger` where the slot isn't the pass's, or the pass saw an offset above the present one;
+    /// Faults: `Stranger` if the slot isn't the pass's, or the pass saw an offset above the present one;
     /// `JournalFull`.
     pub fn refresh(&mut self, _words: &Words<L>, pass: &mut Pass<L>) -> Result<View, Fault>
         ensures made { let old = self.old
@@ -44,9 +44,9 @@ impl<E: Epochs + Drop, F: Task, P: Promise, L: Realm> Keeper<E, F, P, L> {
         }
     }
 
-    /// The slot of a pass is protected no longer; the answer is the rider.
+    /// Releases the pass's slot; returns the rider.
     ///
-    /// Faults, with the pass handed back: `Stranger` where the slot isn't the pass's, `JournalFull`.
+    /// Faults, with the pass handed back: `Stranger` if the slot isn't the pass's, `JournalFull`.
     pub fn release(
         &mut self,
         _words: &Words<L>,
@@ -70,11 +70,11 @@ impl<E: Epochs + Drop, F: Task, P: Promise, L: Realm> Keeper<E, F, P, L> {
         }
     }
 
-    /// Places a record of n words for the slot of a pass; the answer is the address of its first word. It is
-    /// on one page, and not below the tail that the pass saw. The pass then sees the record's end as its
+    /// Places a record of n words for the slot of a pass; returns the address of its first word. The record
+    /// is on one page, and not below the tail that the pass saw. The pass then sees the record's end as its
     /// tail.
     ///
-    /// Faults: `Stranger` where the slot isn't the pass's, `JournalFull`, `Size`, `SpaceSpent`, `Busy`.
+    /// Faults: `Stranger` if the slot isn't the pass's, `JournalFull`, `Size`, `SpaceSpent`, `Busy`.
     pub fn allocate(&mut self, _words: &Words<L>, pass: &mut Pass<L>, n: u64) -> Result<u64, Fault>
         ensures made { let sizes = self.old.core.sizes
             in let p = pass.old
@@ -106,8 +106,8 @@ impl<E: Epochs + Drop, F: Task, P: Promise, L: Realm> Keeper<E, F, P, L> {
         }
     }
 
-    /// A slot becomes protected, at the current epoch, and sees the offsets as they are; the answer is the
-    /// pass of the rider. The k-th accepted acquire stamps it with the domain's stamp and k.
+    /// Protects a slot, at the current epoch and with the current offsets as its view; returns the rider's
+    /// pass. The k-th accepted acquire stamps the slot with the domain's stamp plus k.
     ///
     /// Faults, with the rider handed back: `JournalFull`, `NoSlot`, `Occupied`.
     pub fn acquire(
@@ -145,9 +145,9 @@ impl<E: Epochs + Drop, F: Task, P: Promise, L: Realm> Keeper<E, F, P, L> {
         }
     }
 
-    /// An acquire of the least slot that isn't protected; the pass tells which it is.
+    /// Acquires the least slot that isn't protected; the pass tells which it is.
     ///
-    /// Faults, with the rider handed back: `JournalFull`, `NoSlot` where each slot is protected.
+    /// Faults, with the rider handed back: `JournalFull`, `NoSlot` if each slot is protected.
     pub fn enter(&mut self, words: &Words<L>, rider: Rider<L>) -> Result<Pass<L>, (Fault, Rider<L>)>
         ensures made { let old = self.old
             in MakesAt old (λ A. ACQUIRE (least_free old.core.sizes A))
