@@ -17,8 +17,8 @@ use hl_model::{Fault, Step, Tagged};
 use hl_words::{Realm, Rider, Words};
 
 impl<E: Epochs + Drop, F: Task, P: Promise, L: Realm> Keeper<E, F, P, L> {
-    /// Ends the current epoch, and stores what is asked for under it; returns the ticket, the epoch that
-    /// ended.
+    /// Ends the current epoch, and stores what is asked for under it; returns the ticket, the epoch
+    /// that ended.
     ///
     /// Faults, with what was asked for handed back: `JournalFull`, `DrainFull`, `EpochsSpent`, `WindowFull`.
     pub fn bump(
@@ -50,8 +50,8 @@ impl<E: Epochs + Drop, F: Task, P: Promise, L: Realm> Keeper<E, F, P, L> {
         }
     }
 
-    /// Takes the oldest pending action, once its ticket is safe; what it returns is ready to be run,
-    /// under its ticket and the present safe epoch.
+    /// Takes the oldest pending action, once its ticket is safe; what it returns is ready to be
+    /// run, under its ticket and the present safe epoch.
     ///
     /// Faults: `JournalFull`, `Empty`, `NotReady`.
     pub fn take(&mut self, _words: &Words<L>, rider: &mut Rider<L>) -> Result<Ready<F, P>, Fault>

@@ -34,7 +34,8 @@ impl<E: Epochs + Drop, F: Task, P: Promise, L: Realm> Keeper<E, F, P, L> {
         }
     }
 
-    /// Whether the pass is the one to which its slot belongs, and saw no offset above the present one.
+    /// Whether the pass is the one to which its slot belongs, and saw no offset above the present
+    /// one.
     ///
     /// `Stranger`, with the slot's stamp, if not both hold.
     pub(crate) fn known_behind(&self, pass: &Pass<L>) -> Result<(), Fault>
@@ -51,8 +52,8 @@ impl<E: Epochs + Drop, F: Task, P: Promise, L: Realm> Keeper<E, F, P, L> {
         }
     }
 
-    /// Makes the touches of a pass that is known, and the call's own step behind them. The pass keeps its
-    /// touches: the caller rests it. If the call is refused, nothing is changed.
+    /// Makes the touches of a pass that is known, and the call's own step behind them. The pass
+    /// keeps its touches: the caller rests it. If the call is refused, nothing is changed.
     pub(crate) fn call(&mut self, pass: &mut Pass<L>, step: &Step) -> Result<Reply, Fault>
         requires kind { is_call step.now ≡ true }
         requires known { Knows self.old pass.old }

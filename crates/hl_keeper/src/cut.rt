@@ -10,8 +10,9 @@ use hl_epoch::Epochs;
 use hl_words::{Realm, Rider, Words};
 
 impl<E: Epochs + Drop, F: Task, P: Promise, L: Realm> Keeper<E, F, P, L> {
-    /// Drops the steps since the last cut, and replaces the base by the current one; returns how many were
-    /// dropped. It is no step: the keeper stands where it stood. It is never refused, and takes no memory.
+    /// Drops the steps since the last cut, and replaces the base by the current one; returns how
+    /// many were dropped. It is no step: the keeper stands where it stood. It is never refused, and
+    /// takes no memory.
     pub fn cut(&mut self, _words: &Words<L>, _rider: &mut Rider<L>) -> u64
         ensures count { result ≡ length self.old.journal }
         ensures standing { (A : List STEP) → KeeperStands self.old A → KeeperStands self.new A }

@@ -12,8 +12,8 @@ pub struct Ending<F: Task, P: Promise> {
     pub cut: u64,
     /// The steps since the last cut, in the order in which they entered.
     pub journal: Vec<Step>,
-    /// The actions that were never taken, which its `give_up` returns, and the tickets of those taken and
-    /// not done.
+    /// The actions that were never taken, which its `give_up` returns, and the tickets of those
+    /// taken and not done.
     pub left: Drain<Kept<F, P>>,
     /// All quantities.
     pub snapshot: Snapshot,

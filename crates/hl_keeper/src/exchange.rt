@@ -6,9 +6,9 @@ use crate::pass::Pass;
 use hl_model::{Fault, Params, Step, cell_of};
 use hl_words::{Realm, Words};
 
-/// Adds a number to the word at an address of the log, modulo 2^64, in one step: no store of another
-/// rider comes between its load and its store. Returns what it found. It is a touch, the write of the
-/// sum. The sizes are those of the words, as for a store.
+/// Adds a number to the word at an address of the log, modulo 2^64, in one step: no store of
+/// another rider comes between its load and its store. Returns what it found. It is a touch, the
+/// write of the sum. The sizes are those of the words, as for a store.
 ///
 /// Faults, those of a store: `Below`, `Beyond`, `TouchesFull`; then nothing is loaded.
 pub fn fetch_add<L: Realm>(
@@ -34,9 +34,9 @@ pub fn fetch_add<L: Realm>(
     Ok(found)
 }
 
-/// Stores a new value at an address of the log if the old one stands there, in one step: `Ok` with the
-/// old value if it did, which is a touch, the write of the new one; else `Err` with what it found, which
-/// is a load. The sizes are those of the words, as for a store.
+/// Stores a new value at an address of the log if the old one stands there, in one step: `Ok` with
+/// the old value if it did, which is a touch, the write of the new one; else `Err` with what it
+/// found, which is a load. The sizes are those of the words, as for a store.
 ///
 /// Faults, those of a store: `Below`, `Beyond`, `TouchesFull`; then nothing is loaded.
 pub fn compare_exchange<L: Realm>(

@@ -93,8 +93,8 @@ impl Journal {
         self.steps.push_reserved(step);
     }
 
-    /// Replaces its base by the core's, and drops its steps, which lead there; returns how many were
-    /// dropped.
+    /// Replaces its base by the core's, and drops its steps, which lead there; returns how many
+    /// were dropped.
     pub(crate) fn cut<E: Epochs, J: Tagged>(&mut self, core: &Core<E, J>) -> u64
         requires { self.old.base.sizes ≡ core.now.sizes }
         ensures count { result ≡ length self.old.steps }

@@ -79,8 +79,9 @@ impl<E: Epochs + Drop, F: Task, P: Promise, L: Realm> Drop for Keeper<E, F, P, L
 }
 
 impl<E: Epochs + Drop, F: Task, P: Promise, L: Realm> Keeper<E, F, P, L> {
-    /// A keeper at the empty list, with its words and its riders. It may keep this many steps between two
-    /// cuts, and the stamp is its domain's. No other call may answer that memory was refused.
+    /// A keeper at the empty list, with its words and its riders. It may keep this many steps
+    /// between two cuts, and the stamp is its domain's. No other call may answer that memory was
+    /// refused.
     ///
     /// `OutOfMemory` if memory was refused; then the seed is given up.
     pub fn open(
@@ -108,9 +109,9 @@ impl<E: Epochs + Drop, F: Task, P: Promise, L: Realm> Keeper<E, F, P, L> {
         Ok((keeper, words, riders))
     }
 
-    /// A keeper as `open` makes it, and the scribe of its words' list, whose list is empty too. If both lie
-    /// under one lock, and each call's steps are entered by `Words::enter`, the scribe has each list at
-    /// which the keeper stands.
+    /// A keeper as `open` makes it, and the scribe of its words' list, whose list is empty too. If
+    /// both lie under one lock, and each call's steps are entered by `Words::enter`, the scribe has
+    /// each list at which the keeper stands.
     ///
     /// `OutOfMemory` if memory was refused; then the seed is given up.
     pub fn open_with_scribe(
@@ -149,8 +150,8 @@ impl<E: Epochs + Drop, F: Task, P: Promise, L: Realm> Keeper<E, F, P, L> {
         Ok((keeper, words, scribe, riders))
     }
 
-    /// Ends the keeper, and returns what is left of it. It needs all its riders: if one is missing, all that
-    /// was handed in comes back.
+    /// Ends the keeper, and returns what is left of it. It needs all its riders: if one is missing,
+    /// all that was handed in comes back.
     pub fn close(
         self,
         words: Words<L>,
@@ -195,8 +196,8 @@ impl<E: Epochs + Drop, F: Task, P: Promise, L: Realm> Keeper<E, F, P, L> {
         }
     }
 
-    /// Ends it as `close` does. If no rider is missing, the scribe's list is also the one list of exactly
-    /// these riders' calls.
+    /// Ends it as `close` does. If no rider is missing, the scribe's list is also the one list of
+    /// exactly these riders' calls.
     pub fn close_with_scribe(
         self,
         words: Words<L>,

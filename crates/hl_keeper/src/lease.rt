@@ -35,9 +35,9 @@ impl Lease {
         }
     }
 
-    /// Takes a record of n words from the front of what is left; returns the address of its first word. It
-    /// lies in the piece, behind all records taken before, and on one page if the piece does. `None` if n
-    /// is 0 or more than is left: then nothing was taken.
+    /// Takes a record of n words from the front of what is left; returns the address of its first
+    /// word. It lies in the piece, behind all records taken before, and on one page if the piece
+    /// does. `None` if n is 0 or more than is left: then nothing was taken.
     #[inline(always)]
     pub fn take(&mut self, n: u64) -> Option<u64>
         ensures taken { let old = self.old

@@ -1,17 +1,17 @@
 //! The keeper: the quantities of an allocator that riders share, with the journal of their steps.
 //!
-//! A `Domain` has one under its lock. With a lock of your own, take a [`Keeper`] and its `Words` apart:
-//! [`unlocked`] has the calls that take no lock.
+//! A `Domain` has one under its lock. With a lock of your own, take a [`Keeper`] and its `Words`
+//! apart: [`unlocked`] has the calls that take no lock.
 //!
 //! # Standing at a list
 //!
-//! A keeper stands at a list of accepted steps where its core does, the list is the steps that were cut and
-//! then its journal, its base is that of the steps cut, the offset words were last stored as the read-only
-//! offset and the head of the list, and the riders' steps in all are as many as the list has: `KeeperStands`
-//! in `specs/Keepers.antt`. Each keeper stands at some list: that is in its type. Each locked call says: at
-//! whatever list the keeper stood, the answer is the definitions' after that list and the pass's touches, and
-//! the keeper then stands at the list with both, if it was accepted. A refused call changes nothing, and
-//! what was handed in comes back.
+//! A keeper stands at a list of accepted steps where its core does, the list is the steps that were
+//! cut and then its journal, its base is that of the steps cut, the offset words were last stored
+//! as the read-only offset and the head of the list, and the riders' steps in all are as many as
+//! the list has: `KeeperStands` in `specs/Keepers.antt`. Each keeper stands at some list: that is
+//! in its type. Each locked call says: at whatever list the keeper stood, the answer is the
+//! definitions' after that list and the pass's touches, and the keeper then stands at the list with
+//! both, if it was accepted. A refused call changes nothing, and what was handed in comes back.
 //!
 //! # The order of the faults
 //!
@@ -21,26 +21,26 @@
 //!
 //! # Touches
 //!
-//! Seven calls take no lock: a pass's `look`, `store`, `load`, `fetch_add` and `compare_exchange`, and a
-//! rider's `copy_page` and `sweep`. Of these a store, an add, an exchange that stored, and a look that
-//! raised the view are touches. Touches are lawful in the pass's own view, and enter the journal, in their
-//! order, before the step of the pass's next locked call: what the slot's view allows is accepted there,
-//! whatever others did since. So touches refuse a call for the room that they need in the journal, and
-//! for nothing else.
+//! Seven calls take no lock: a pass's `look`, `store`, `load`, `fetch_add` and `compare_exchange`,
+//! and a rider's `copy_page` and `sweep`. Of these a store, an add, an exchange that stored, and a
+//! look that raised the view are touches. Touches are lawful in the pass's own view, and enter the
+//! journal, in their order, before the step of the pass's next locked call: what the slot's view
+//! allows is accepted there, whatever others did since. So touches refuse a call for the room that
+//! they need in the journal, and for nothing else.
 //!
-//! A pass lends its rider for the calls that need one ([`Pass::rider_mut`]): so a protected thread bumps,
-//! takes, cuts and raises. What the rider enters meanwhile stands before the touches, which stay in the
-//! pass, and no action that it stores is safe before they enter: the slot keeps its epoch until the pass
-//! refreshes or is released.
+//! A pass lends its rider for the calls that need one ([`Pass::rider_mut`]): so a protected thread
+//! bumps, takes, cuts and raises. What the rider enters meanwhile stands before the touches, which
+//! stay in the pass, and no action that it stores is safe before they enter: the slot keeps its
+//! epoch until the pass refreshes or is released.
 //!
 //! # Who holds it up
 //!
-//! `holders` tells the oldest pending action's ticket and the slots at an epoch that isn't above it;
-//! `frame_of` tells the state of a page's frame, for example of the page that a `Busy` names. They are
-//! questions: no step, and no touch.
+//! `holders` tells the oldest pending action's ticket and the slots at an epoch that isn't above
+//! it; `frame_of` tells the state of a page's frame, for example of the page that a `Busy` names.
+//! They are questions: no step, and no touch.
 //!
-//! No call after [`Keeper::open`] may answer that memory was refused. That the journal has exactly the
-//! room that opening made, and that the row of stamps never grows, is in their types.
+//! No call after [`Keeper::open`] may answer that memory was refused. That the journal has exactly
+//! the room that opening made, and that the row of stamps never grows, is in their types.
 #![tactic(auto)]
 
 mod actions;

@@ -3,8 +3,8 @@ ghost use Rattle.hl_keeper.specs.Pages.{BroomRecord};
 
 use std::marker::Model;
 
-/// Names a page of a domain by the stamp of its domain and its number. If it is a load's, the page is in
-/// flight.
+/// Names a page of a domain by the stamp of its domain and its number. If it is a load's, the page
+/// is in flight.
 #[derive(Clone, Copy, Debug, PartialEq, Eq)]
 pub struct PageJob {
     /// The stamp of the domain whose page it is.
@@ -13,8 +13,8 @@ pub struct PageJob {
     pub page: u64,
 }
 
-/// A page that was taken to be flushed. Only a keeper makes one. It must be ended, by `flush_done` or by
-/// `forsake`.
+/// A page that was taken to be flushed. Only a keeper makes one. It must be ended, by `flush_done`
+/// or by `forsake`.
 pub struct Load {
     job: PageJob,
 }
@@ -47,8 +47,8 @@ impl Load {
     }
 }
 
-/// A page that was taken to be cleaned, with the number of its cells into which 0 was stored. Only a keeper
-/// makes one. It must be ended, by `clean_done` once it is swept, or by `forsake`.
+/// A page that was taken to be cleaned, with the number of its cells into which 0 was stored. Only
+/// a keeper makes one. It must be ended, by `clean_done` once it is swept, or by `forsake`.
 pub struct Broom {
     stamp: u64,
     page: u64,

@@ -7,9 +7,9 @@ use crate::pass::{Pass, TOUCHES_MOST};
 use hl_model::{Fault, Params, Step, View, cell_of};
 use hl_words::{Realm, Which, Words};
 
-/// Loads both offset words: each of the pass's two offsets becomes the greater of the loaded one and its
-/// own. Returns what the pass then sees. A look that raises neither is no touch. Neither load is below any
-/// that the rider made of that word before.
+/// Loads both offset words: each of the pass's two offsets becomes the greater of the loaded one
+/// and its own. Returns what the pass then sees. A look that raises neither is no touch. Neither
+/// load is below any that the rider made of that word before.
 ///
 /// `TouchesFull` if the pass has 32 touches; then nothing is loaded.
 pub fn look<L: Realm>(words: &Words<L>, pass: &mut Pass<L>) -> Result<View, Fault>
@@ -47,11 +47,11 @@ pub fn look<L: Realm>(words: &Words<L>, pass: &mut Pass<L>) -> Result<View, Faul
     Ok(view)
 }
 
-/// Stores a word of 64 bits at an address of the log; addresses count words. It is a touch. The sizes are
-/// those of the words, and give each address its cell.
+/// Stores a word of 64 bits at an address of the log; addresses count words. It is a touch. The
+/// sizes are those of the words, and give each address its cell.
 ///
-/// Faults: `Below` if the address is below the read-only offset that the pass saw, `Beyond` if it isn't
-/// below the tail that it saw, `TouchesFull` if it has 32 touches.
+/// Faults: `Below` if the address is below the read-only offset that the pass saw, `Beyond` if it
+/// isn't below the tail that it saw, `TouchesFull` if it has 32 touches.
 pub fn store<L: Realm>(
     words: &Words<L>,
     params: Params,
@@ -71,11 +71,11 @@ pub fn store<L: Realm>(
     Ok(())
 }
 
-/// Loads the word at an address of the log. It is no touch: no step of the journal tells of it. The sizes
-/// are those of the words, as for a store.
+/// Loads the word at an address of the log. It is no touch: no step of the journal tells of it. The
+/// sizes are those of the words, as for a store.
 ///
-/// Faults: `Evicted` if the address is below the head that the pass saw, `Beyond` if it isn't below the
-/// tail that it saw.
+/// Faults: `Evicted` if the address is below the head that the pass saw, `Beyond` if it isn't below
+/// the tail that it saw.
 pub fn load<L: Realm>(
     words: &Words<L>,
     params: Params,

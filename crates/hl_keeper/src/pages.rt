@@ -87,8 +87,8 @@ impl<E: Epochs + Drop, F: Task, P: Promise, L: Realm> Keeper<E, F, P, L> {
         }
     }
 
-    /// Tells that the cells of a page hold 0: its frame is then free. The broom is swept: 0 was stored into
-    /// all P cells. Returns the page.
+    /// Tells that the cells of a page hold 0: its frame is then free. The broom is swept: 0 was
+    /// stored into all P cells. Returns the page.
     ///
     /// Faults, with the broom handed back: `Stranger` if it is of another domain, `JournalFull`,
     /// `NotCleaning`.
@@ -119,10 +119,12 @@ impl<E: Epochs + Drop, F: Task, P: Promise, L: Realm> Keeper<E, F, P, L> {
         }
     }
 
-    /// Tells that a taken action was run: it is then done. A settle and a close raise their offset to what
-    /// they stored; for a job this returns the tag, and what the job answered is in the `Ran`.
+    /// Tells that a taken action was run: it is then done. A settle and a close raise their offset
+    /// to what they stored; for a job this returns the tag, and what the job answered is in the
+    /// `Ran`.
     ///
-    /// Faults, with it handed back: `Stranger` if it is of another domain, `JournalFull`, `NotTaken`.
+    /// Faults, with it handed back: `Stranger` if it is of another domain, `JournalFull`,
+    /// `NotTaken`.
     pub fn done(
         &mut self,
         _words: &Words<L>,

@@ -77,7 +77,8 @@ impl<L: Realm> Pass<L> {
         self.slot
     }
 
-    /// Its stamp, which the acquire gave it: the k-th acquire of a domain gives the domain's stamp plus k.
+    /// Its stamp, which the acquire gave it: the k-th acquire of a domain gives the domain's stamp
+    /// plus k.
     pub fn stamp(&self) -> u64
         ensures { result ≡ self.now.stamp }
     {
@@ -98,10 +99,10 @@ impl<L: Realm> Pass<L> {
         &self.rider
     }
 
-    /// Lends its rider, for the calls that need one: so a protected thread may bump, cut, take and raise.
-    /// Slot, stamp, view and touches stay as they are: the touches enter at the pass's next locked call,
-    /// behind the steps that the rider makes meanwhile. No action that these store is safe before, since
-    /// the slot's epoch stays too.
+    /// Lends its rider, for the calls that need one: so a protected thread may bump, cut, take and
+    /// raise. Slot, stamp, view and touches stay as they are: the touches enter at the pass's next
+    /// locked call, behind the steps that the rider makes meanwhile. No action that these store is
+    /// safe before, since the slot's epoch stays too.
     pub fn rider_mut(&mut self) -> &mut Rider<L>
         ensures value { result.now ≡ self.old.rider }
         ensures* writes_back { sem 𝓛 (LendsRider L.row
@@ -110,8 +111,8 @@ impl<L: Realm> Pass<L> {
         &mut self.rider
     }
 
-    /// Ends the pass, and returns its rider. If its slot wasn't released, it stays protected for good, and
-    /// the touches never enter the journal.
+    /// Ends the pass, and returns its rider. If its slot wasn't released, it stays protected for
+    /// good, and the touches never enter the journal.
     pub fn abandon(self) -> Rider<L>
         ensures { result ≡ self.rider }
     {

@@ -44,10 +44,10 @@ impl<E: Epochs, F: Task, P: Promise, L: Realm> Keeper<E, F, P, L> {
         )
     }
 
-    /// Returns the ticket of the oldest pending action, and makes the row that of the slots that hold it up,
-    /// least first, each with its epoch: those protected at an epoch that isn't above the ticket. Each of
-    /// them has to refresh or to leave before a take gives that action; if the row is empty, the next take
-    /// gives it.
+    /// Returns the ticket of the oldest pending action, and makes the row that of the slots that
+    /// hold it up, least first, each with its epoch: those protected at an epoch that isn't above
+    /// the ticket. Each of them has to refresh or to leave before a take gives that action; if the
+    /// row is empty, the next take gives it.
     ///
     /// `None`, and an empty row, if no action is pending.
     pub fn holders(&self, row: &mut ArrayVec<Holder, 64>) -> Option<u64>
@@ -58,9 +58,9 @@ impl<E: Epochs, F: Task, P: Promise, L: Realm> Keeper<E, F, P, L> {
         self.core.holders(row)
     }
 
-    /// The state of a page's frame, and the page that was last entered there, or `None` if the frame is
-    /// free. For the page that a `Busy` names it tells what is in its way: a page to be settled, flushed,
-    /// closed or cleaned.
+    /// The state of a page's frame, and the page that was last entered there, or `None` if the
+    /// frame is free. For the page that a `Busy` names it tells what is in its way: a page to be
+    /// settled, flushed, closed or cleaned.
     pub fn frame_of(&self, page: u64) -> (FrameState, Option<u64>)
         ensures { (A : List STEP) → KeeperStands self.now A
             → let sizes = self.now.core.sizes in result ≡ frame_of sizes (page % sizes.frames) A }

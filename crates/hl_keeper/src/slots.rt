@@ -17,11 +17,11 @@ use hl_model::{Fault, Reply, Step, View};
 use hl_words::{Realm, Rider, Words};
 
 impl<E: Epochs + Drop, F: Task, P: Promise, L: Realm> Keeper<E, F, P, L> {
-    /// Moves the pass's slot on to the current epoch and offsets; returns the view, which isn't below what
-    /// the pass saw.
+    /// Moves the pass's slot on to the current epoch and offsets; returns the view, which isn't
+    /// below what the pass saw.
     ///
-    /// Faults: `Stranger` if the slot isn't the pass's, or the pass saw an offset above the present one;
-    /// `JournalFull`.
+    /// Faults: `Stranger` if the slot isn't the pass's, or the pass saw an offset above the present
+    /// one; `JournalFull`.
     pub fn refresh(&mut self, _words: &Words<L>, pass: &mut Pass<L>) -> Result<View, Fault>
         ensures made { let old = self.old
             in let p = pass.old
@@ -70,11 +70,12 @@ impl<E: Epochs + Drop, F: Task, P: Promise, L: Realm> Keeper<E, F, P, L> {
         }
     }
 
-    /// Places a record of n words for the slot of a pass; returns the address of its first word. The record
-    /// is on one page, and not below the tail that the pass saw. The pass then sees the record's end as its
-    /// tail.
+    /// Places a record of n words for the slot of a pass; returns the address of its first word.
+    /// The record is on one page, and not below the tail that the pass saw. The pass then sees the
+    /// record's end as its tail.
     ///
-    /// Faults: `Stranger` if the slot isn't the pass's, `JournalFull`, `Size`, `SpaceSpent`, `Busy`.
+    /// Faults: `Stranger` if the slot isn't the pass's, `JournalFull`, `Size`, `SpaceSpent`,
+    /// `Busy`.
     pub fn allocate(&mut self, _words: &Words<L>, pass: &mut Pass<L>, n: u64) -> Result<u64, Fault>
         ensures made { let sizes = self.old.core.sizes
             in let p = pass.old
@@ -106,8 +107,8 @@ impl<E: Epochs + Drop, F: Task, P: Promise, L: Realm> Keeper<E, F, P, L> {
         }
     }
 
-    /// Protects a slot, at the current epoch and with the current offsets as its view; returns the rider's
-    /// pass. The k-th accepted acquire stamps the slot with the domain's stamp plus k.
+    /// Protects a slot, at the current epoch and with the current offsets as its view; returns the
+    /// rider's pass. The k-th accepted acquire stamps the slot with the domain's stamp plus k.
     ///
     /// Faults, with the rider handed back: `JournalFull`, `NoSlot`, `Occupied`.
     pub fn acquire(

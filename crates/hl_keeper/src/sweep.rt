@@ -9,9 +9,9 @@ use crate::load::{Broom, PageJob};
 use hl_model::{Fault, Params};
 use hl_words::{Realm, Rider, Words};
 
-/// Loads the cells of a page into P places, as many as a page has words. It is meant for a page in flight,
-/// by whoever has the job of its load. How the loads are ordered among other riders' stores isn't known.
-/// Sizes and stamp are those of the keeper whose words these are.
+/// Loads the cells of a page into P places, as many as a page has words. It is meant for a page in
+/// flight, by whoever has the job of its load. How the loads are ordered among other riders' stores
+/// isn't known. Sizes and stamp are those of the keeper whose words these are.
 ///
 /// `Stranger` if the page is of another domain than that of this stamp.
 pub fn copy_page<L: Realm>(
@@ -36,8 +36,8 @@ pub fn copy_page<L: Realm>(
     Ok(())
 }
 
-/// Stores 0 into all cells of a broom's page; the broom is then swept. Sizes and stamp are those of the
-/// keeper whose words these are.
+/// Stores 0 into all cells of a broom's page; the broom is then swept. Sizes and stamp are those of
+/// the keeper whose words these are.
 ///
 /// `Stranger` if the page is of another domain than that of this stamp.
 pub fn sweep<L: Realm>(
