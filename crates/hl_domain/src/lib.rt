@@ -10,9 +10,9 @@
 //! |---|---|
 //! | a [`Domain`] | a keeper under its lock, and the words: shared by a `&` |
 //! | a [`Keeper`] | the core, the journal with the base of the steps cut, the right to store offset words |
-//! | a `Rider` | the right to act, and its share: how many steps it entered. `close` wants all of them |
+//! | a `Rider` | the right to act, and its share: how many steps it entered. `close` needs all of them |
 //! | a [`Pass`] | the right to act for a slot, with its touches: what it did since its last locked call |
-//! | a [`Load`], a [`Broom`] | a page that was taken, to be flushed or to be cleaned; each must be spent |
+//! | a [`Load`], a [`Broom`] | a page that was taken, to be flushed or to be cleaned; each must be ended |
 //! | an [`Ending`] | what is left of a domain: base, journal, actions that were never taken, all quantities |
 //!
 //! # Under the lock
@@ -20,12 +20,12 @@
 //! A locked call of a domain is its keeper's, and hl_keeper tells what these are. No clause can name what lies under a
 //! lock, so each says that there is a keeper, of the domain's sizes and stamp, and one after the call, and that
 //! between the two the keeper's own clause holds: `LeavesUnderLock` in `specs/Domains.antt`. After a refusal the keeper
-//! is equal to the one before. `look`, `store`, `load`, `copy_page` and `sweep` take no lock, and their clauses are
-//! exact in the pass, the broom and the rider. `close` says what the whole adds up to.
+//! is equal to the one before. `look`, `store`, `load`, `fetch_add`, `compare_exchange`, `copy_page` and `sweep` take no
+//! lock, and their clauses are exact in the pass, the broom and the rider. `close` says what the whole adds up to.
 //!
 //! A thread that ends with a pass in its hands leaves the slot protected for good, and its rider missing.
 //!
-//! No call after [`Domain::open`] has an answer for want of memory.
+//! No call after [`Domain::open`] may answer that memory was refused.
 #![tactic(auto)]
 
 mod domain;
