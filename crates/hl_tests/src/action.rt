@@ -108,6 +108,16 @@ fn shelf(rt: HostRuntime) -> Result<(), Fault> {
     Ok(())
 }
 
+// A shelf for very many tags takes the job of the last one.
+#[test]
+fn many_tags(rt: HostRuntime) -> Result<(), Fault> {
+    let calls = AtomicU64::new(0);
+    let mut shelf = Shelf::<_, Anything>::open(rt.alloc(), 1 << 20)?;
+    let back = shelf.put(Kept::new((1 << 20) - 1, Counted { calls: &calls }));
+    assert!(rt; back.is_none());
+    Ok(())
+}
+
 #[test]
 fn refused_memory(rt: HostRuntime) {
     let shelf = Shelf::<Counted<'static>, Anything>::open(rt.alloc(), 1 << 62);

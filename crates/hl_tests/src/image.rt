@@ -48,6 +48,16 @@ fn writers_by_the_trait(rt: HostRuntime) -> Result<(), Fail> {
     memory_keeps_page_0(&rt, rt.alloc(), &image)
 }
 
+// A million pages are kept in memory, and the last page of a log of the smallest pages is a line.
+#[test]
+fn writers_of_many_pages(rt: HostRuntime) -> Result<(), Fail> {
+    let mut memory = MemoryWriter::open(rt.alloc(), 1 << 20, 8)?;
+    assert_eq!(rt; memory.write_page((1 << 20) - 1, &[7; 8]), Ok(()));
+    let mut lines = HexWriter::new(Vec::new(rt.alloc()));
+    assert_eq!(rt; lines.write_page((1 << 46) - 1, &IMAGE), Ok(()));
+    Ok(())
+}
+
 /// Takes up to seven bytes a call, and answers by an error in one call: the call `fails_at`, counted from 1.
 #[derive(Drop)]
 struct Short {

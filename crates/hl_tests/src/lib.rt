@@ -1,8 +1,8 @@
 //! The tests of the parts that the core and scripts are made of, of what no clause says: refused memory,
-//! devices that fail, drops, printed text, exact turns, and one happy path of what the built program doesn't
-//! call. Each module tries the crate that it is named after, `tables` both tables of epochs. What a clause
-//! says is tested nowhere; that the clauses mean what was meant is shown by the examples that the built
-//! program is run on.
+//! devices that fail, no fault at the greatest numbers, drops, printed text, exact turns, and one happy path of
+//! what the built program doesn't call. Each module tries the crate that it is named after, `tables` both tables
+//! of epochs, `report` that of `hl_monitor`. What a clause says is tested nowhere; that the clauses mean what
+//! was meant is shown by the examples that the built program is run on.
 //!
 //! This crate has no code beside its tests: a crate with tests is proved twice, so only this one and
 //! `hl_run_tests` have any. It stands on every part that the program needs, and on nothing above them.
@@ -22,5 +22,7 @@ mod line;
 mod offsets;
 #[cfg(test)]
 mod plain;
+#[cfg(test)]
+mod report;
 #[cfg(test)]
 mod tables;
