@@ -253,8 +253,8 @@ module _ {J : Type 0} (tag : J → ℕ) where
       table_is = (call_accepts (rise_fault core.table) ticket core.table.current core.table (bumped core.table) table a eff).1 ∙ ap bumped st.table_is
           ∙ ap₂ make (sym (current_epoch-push A s ∙ ap (λ b. current_epoch A + cond b 1 0) (stores tag ask).bump)) (sym (slot_epochs-stay core.sizes.slots A s (stores tag ask).enters_none (stores tag ask).leaves_none))
 
-      put_is : drain ≡ record { limit = core.drain.limit; pending = core.drain.pending ++ (ticket, action) ∷ []; taken = core.drain.taken }
-      put_is = put ∙ ap (λ b. cond b core.drain (record { limit = core.drain.limit; pending = core.drain.pending ++ (ticket, action) ∷ []; taken = core.drain.taken })) (ne_eqb (count_of core.drain) core.drain.limit (λ q. absurd (omega (arith, q, room))))
+      put_is : drain ≡ (record core.drain { pending = core.drain.pending ++ (ticket, action) ∷ [] })
+      put_is = put ∙ ap (λ b. cond b core.drain (record core.drain { pending = core.drain.pending ++ (ticket, action) ∷ [] })) (ne_eqb (count_of core.drain) core.drain.limit (λ q. absurd (omega (arith, q, room))))
 
       waits : waiting_of tag (ticket, action) ≡ waiting_of tag (current_epoch A, stored (log_of core.sizes A) ask)
       waits = ap₂ (λ (n : ℕ) (x : Action J). waiting_of tag (n, x)) is (act ∙ ap (λ z. stored z ask) st.offsets_is)

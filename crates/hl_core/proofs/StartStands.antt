@@ -51,7 +51,7 @@ pages-nil sizes r =
     ap₂ (λ (xs : List (Option Held)) (n : ℕ). record { page_size = sizes.page_size; frames = xs; entered = n }) (row_same (held_of sizes []) None 0 sizes.frames (λ f l u. held_of-nil sizes f page_size (omega (arith, u)))) (sym (entered-nil sizes page_size))
 
 -- before the first step
-pub stands_start : {J : Type 0} (tag : J → ℕ) (sizes : Sizes) (slots limit : ℕ) (table : Table) (views : List (Option View)) (drain : Lists J) (offsets : Log) (pages : Pages) → AreInRange sizes → slots ≡ sizes.slots → limit ≡ sizes.drain → table ≡ opened slots epoch_window 1 → views ≡ replicate slots None → drain ≡ record { limit = limit; pending = []; taken = [] } → offsets ≡ started sizes.page_size → pages ≡ opened_pages sizes.page_size sizes.frames → Stands tag (record { sizes = sizes; table = table; views = views; drain = drain; offsets = offsets; pages = pages }) []
+pub stands_start : {J : Type 0} (tag : J → ℕ) (sizes : Sizes) (slots limit : ℕ) (table : Table) (views : List (Option View)) (drain : Lists J) (offsets : Log) (pages : Pages) → AreInRange sizes → slots ≡ sizes.slots → limit ≡ sizes.drain → table ≡ opened slots epoch_window 1 → views ≡ replicate slots None → drain ≡ record { limit = limit; pending = []; taken = []; turns = 0 } → offsets ≡ started sizes.page_size → pages ≡ opened_pages sizes.page_size sizes.frames → Stands tag (record { sizes = sizes; table = table; views = views; drain = drain; offsets = offsets; pages = pages }) []
 stands_start {J = J} tag sizes slots limit table views drain offsets pages r s l t v d o q = record {
   in_range = r;
   accepted = good-nil sizes;

@@ -32,7 +32,7 @@ impl<E: Epochs, J: Tagged> Model for Core<E, J> {
       views = a.views.items;
       drain = a.drain;
       offsets = a.offsets;
-      pages = a.frames;
+      pages = a.frames.pages;
     } };
 
     ghost invariant = { λ a. IsKept J.tag
@@ -42,7 +42,7 @@ impl<E: Epochs, J: Tagged> Model for Core<E, J> {
           views = a.views.items;
           drain = a.drain;
           offsets = a.offsets;
-          pages = a.frames;
+          pages = a.frames.pages;
         }) (vec_capacity a.views) };
 }
 

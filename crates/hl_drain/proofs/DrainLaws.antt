@@ -53,8 +53,8 @@ module _ {J : Type 0} where
   tickets-put lists ticket action = simp (map-append, append_assoc)
 
   -- a take leaves the tickets as they are
-  tickets-take : (tag : J → ℕ) (lists : Lists J) (entry : ℕ × Action J) (later : List (ℕ × Action J)) → lists.pending ≡ entry ∷ later → tickets (record lists { pending = later; taken = lists.taken ++ waiting_of tag entry ∷ [] }) ≡ tickets lists
-  tickets-take tag lists entry later front = rw front (simp (map-append, append_assoc))
+  tickets-take : (tag : J → ℕ) (lists : Lists J) (entry : ℕ × Action J) (later : List (ℕ × Action J)) (turns : ℕ) → lists.pending ≡ entry ∷ later → tickets (record lists { pending = later; taken = lists.taken ++ waiting_of tag entry ∷ []; turns = turns }) ≡ tickets lists
+  tickets-take tag lists entry later turns front = rw front (simp (map-append, append_assoc))
 
   -- a drain list with room is one after a put of a ticket above all others
   pub IsDrain-put : (lists : Lists J) (ticket : ℕ) (action : Action J) → IsDrain lists → count_of lists < lists.limit → All (λ earlier. earlier < ticket) (tickets lists) → IsDrain (record lists { pending = lists.pending ++ (ticket, action) ∷ [] })
@@ -66,12 +66,12 @@ module _ {J : Type 0} where
   }
 
   -- a drain list is one after a take of its oldest pending action
-  pub IsDrain-take : (tag : J → ℕ) (lists : Lists J) (entry : ℕ × Action J) (later : List (ℕ × Action J)) → lists.pending ≡ entry ∷ later → IsDrain lists → IsDrain (record lists { pending = later; taken = lists.taken ++ waiting_of tag entry ∷ [] })
-  IsDrain-take tag lists entry later front known = record {
+  pub IsDrain-take : (tag : J → ℕ) (lists : Lists J) (entry : ℕ × Action J) (later : List (ℕ × Action J)) (turns : ℕ) → lists.pending ≡ entry ∷ later → IsDrain lists → IsDrain (record lists { pending = later; taken = lists.taken ++ waiting_of tag entry ∷ []; turns = turns })
+  IsDrain-take tag lists entry later turns front known = record {
     limit_least = known.limit_least;
     limit_most = known.limit_most;
     within_limit = simp length-append (omega (arith, ap length front));
-    rising = rw (tickets-take tag lists entry later front) known.rising;
+    rising = rw (tickets-take tag lists entry later turns front) known.rising;
   }
 
   -- a drain list is one after its oldest pending action was given up

@@ -1,4 +1,4 @@
--- A drain list as callers see it: two lists in order, and a limit.
+-- A drain list as callers see it: two lists in order, a limit, and the turns of its last take.
 use Rattle.std.specs.Prelude.{ℕ, ◌+◌, ◌<◌, ◌≤◌, ◌==◌, nat_le, not, Bool, if◌then◌else◌, Option, Some, None, Result, Ok, Err, List, [], ◌∷◌, ◌++◌, length, drop, map, filter, find}
 use Rattle.std.specs.List.{AllPairs}
 use Rattle.hl_model.specs.declared.action.Kind.{Kind}
@@ -8,11 +8,13 @@ use Rattle.hl_model.specs.declared.fault.Fault.TheVariants.{DrainFull, Empty, No
 use Rattle.hl_drain.specs.declared.action.Action.{Action}
 use Rattle.hl_drain.specs.Actions.{waiting_of}
 
--- the pending actions with their tickets, and the taken ones by ticket and kind, each oldest first
+-- the pending actions with their tickets, and the taken ones by ticket and kind, each oldest first; how many
+-- pending places the last accepted take visited
 pub record Lists (J : Type 0) : Type 0 where
   pub limit : ℕ
   pub pending : List (ℕ × Action J)
   pub taken : List Waiting
+  pub turns : ℕ
 
 -- whether a taken action has this ticket
 abbrev pub has_ticket : ℕ → Waiting → Bool
@@ -61,11 +63,12 @@ module _ {J : Type 0} where
   abbrev pub take_answer : Lists J → ℕ → Result (ℕ × Action J) Fault
   take_answer lists safe = taken_from lists.pending safe
 
-  -- the lists after a take with this answer: the oldest pending action is the last taken one
+  -- the lists after a take with this answer: the oldest pending action is the last taken one, and its place alone
+  -- was visited
   abbrev pub after_take : (J → ℕ) → Result (ℕ × Action J) Fault → Lists J → Lists J
   after_take tag (Err fault) lists = lists
   after_take tag (Ok entry) lists =
-      record lists { pending = drop 1 lists.pending; taken = lists.taken ++ waiting_of tag entry ∷ [] }
+      record lists { pending = drop 1 lists.pending; taken = lists.taken ++ waiting_of tag entry ∷ []; turns = 1 }
 
   -- the lists after the oldest pending action, if there is one, was given up
   abbrev pub after_give_up : Lists J → Lists J

@@ -6,7 +6,12 @@ use Rattle.hl_drain.specs.Lists.{Lists, IsDrain}
 module _ {J : Type 0} where
   -- the rows' entries in order
   abbrev pub lists_of : Inside J → Lists J
-  lists_of a = record { limit = a.limit; pending = a.pending.ring.items; taken = a.taken.items }
+  lists_of a = record {
+    limit = a.limit;
+    pending = a.pending.ring.items;
+    taken = a.taken.items;
+    turns = a.last_take;
+  }
 
   -- the lists are in order, each row has the places that it was opened with, and a take visits at most one
   pub record IsKept (a : Inside J) : Type 0 where

@@ -39,7 +39,7 @@ impl<J> Drain<J> {
     pub fn open(alloc: Global, d: u64) -> Result<Drain<J>, Fault>
         requires least { 1 ≤ d }
         requires most { d ≤ 64 }
-        ensures ok { IfOk result (λ drain. drain ≡ record { limit = d; pending = []; taken = [] }) }
+        ensures ok { IfOk result (λ drain. drain ≡ record { limit = d; pending = []; taken = []; turns = 0 }) }
         ensures err { IfErr result (λ fault. fault ≡ Fault.OutOfMemory) }
     {
         let limit = d as usize;
@@ -98,8 +98,9 @@ impl<J> Drain<J> {
         self.pending.pop(&mut Visits::none())
     }
 
-    /// How many pending places the last accepted `take` visited.
+    /// How many pending places the last accepted `take` visited: one, and 0 before the first.
     pub fn turns(&self) -> u64
+        ensures turns { result ≡ self.now.turns }
         ensures bound { result ≤ 1 }
         ensures valid { IsDrain self.now }
     {

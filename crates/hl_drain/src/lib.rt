@@ -26,9 +26,9 @@
 //!
 //! The pending actions lie in a ring of as many places as the limit: behind the last place comes the first again, so
 //! the ring goes round as actions come and go. A put and a take visit one place of it each, and move no other
-//! action; [`Drain::turns`] counts it for a take. A take appends to the row of taken actions; a done walks that
-//! row, and closes it up. [`Drain::has_room`] compares two lengths; [`Drain::pending`] and [`Drain::taken`] walk
-//! their rows.
+//! action; [`Drain::turns`] counts it for a take, and contracts see that it is one. A take appends to the row of taken
+//! actions; a done walks that row, and closes it up. [`Drain::has_room`] compares two lengths; [`Drain::pending`] and
+//! [`Drain::taken`] walk their rows.
 //!
 //! No call after [`Drain::open`] takes memory: neither row ever has more or fewer places than it was opened with.
 #![tactic(auto)]

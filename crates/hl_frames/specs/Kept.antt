@@ -3,12 +3,17 @@ use Rattle.std.specs.Prelude.{◌≡◌, ℕ, ◌+◌, ◌<◌, ◌≤◌, Bool,
 use Rattle.hl_frames.specs.declared.turns.Turns.{Turns}
 use Rattle.hl_frames.specs.declared.frames.Frames.TheInside.{Inside}
 use Rattle.hl_frames.specs.Pages.{Pages, is_unflushed, is_uncleaned, flushed_run}
+use Rattle.hl_frames.specs.Counted.{Counted}
 use Rattle.hl_frames.specs.IsFrames.{IsFrames}
 use Rattle.hl_frames.specs.Row.{HasFrame}
 
 -- the pages of these fields
 abbrev pub pages_of : Inside → Pages
 pages_of a = record { page_size = a.page_size; frames = a.held.items; entered = a.entered }
+
+-- the pages and the turns of these fields
+abbrev pub counted_of : Inside → Counted
+counted_of a = record { pages = pages_of a; turns = a.turns }
 
 -- page q is the least that waits
 pub record IsLeast (waits : ℕ → Bool) (q : ℕ) : Type 0 where

@@ -1,6 +1,7 @@
 ghost use Rattle.std.specs.Prelude.{◌≡◌, ◌+◌, ◌/◌, ◌%◌, ◌^◌, ◌<◌, ◌≤◌, nat_lt, length, slice_index_or, IfOk, IfErr, OnErr};
 ghost use Rattle.hl_frames.specs.Pages.{held_for, is_in_flight, is_cleaning, may_enter, pages_below, next_to_flush, next_to_clean, flushed_offset};
 ghost use Rattle.hl_frames.specs.Answers.{opened, page_or, after_take, enter_answer, after_enter, flush_begun, flush_done_answer, after_flush_done, clean_begun, clean_done_answer, after_clean_done, state_of};
+ghost use Rattle.hl_frames.specs.Counted.{none_yet, enter_turns, flush_done_turns, clean_done_turns};
 ghost use Rattle.hl_frames.specs.IsFrames.{IsFrames};
 
 use crate::marks::{begin_cleaning, begin_flush, begin_page, end_cleaning, end_flush};
@@ -27,13 +28,13 @@ pub struct Frames {
 }
 
 impl Model for Frames {
-    ghost use Rattle.hl_frames.specs.Pages.{Pages};
+    ghost use Rattle.hl_frames.specs.Counted.{Counted};
 
-    ghost Value = { Pages };
+    ghost Value = { Counted };
 
-    ghost use Rattle.hl_frames.specs.Kept.{pages_of, IsKept};
+    ghost use Rattle.hl_frames.specs.Kept.{counted_of, IsKept};
 
-    ghost view = { pages_of };
+    ghost view = { counted_of };
 
     ghost invariant = { IsKept };
 }
@@ -43,9 +44,10 @@ impl Frames {
     ///
     /// `OutOfMemory` where memory for the row was refused.
     pub fn open(alloc: Global, params: Params) -> Result<Frames, Fault>
-        ensures ok { IfOk result (λ made. made ≡ opened params.page_size params.frames) }
+        ensures ok { IfOk result (λ made. made.pages ≡ opened params.page_size params.frames) }
+        ensures turns { IfOk result (λ made. made.turns ≡ none_yet) }
         ensures err { IfErr result (λ fault. fault ≡ Fault.OutOfMemory) }
-        ensures valid { IfOk result IsFrames }
+        ensures valid { IfOk result (λ made. IsFrames made.pages) }
     {
         let first = Placed { page: 0, frame: 0 };
         Ok(Frames {
@@ -68,12 +70,13 @@ impl Frames {
     ///
     /// `Busy`, with the page, where its frame isn't free: the page F before it isn't freed.
     pub fn enter(&mut self, page: u64) -> Result<(), Fault>
-        requires next { page ≡ self.old.entered }
-        requires within_space { page < 2 ^ 48 / self.old.page_size }
-        ensures answer { result ≡ enter_answer page self.old }
-        ensures pages { self.new ≡ after_enter page self.old }
+        requires next { page ≡ self.old.pages.entered }
+        requires within_space { page < 2 ^ 48 / self.old.pages.page_size }
+        ensures answer { result ≡ enter_answer page self.old.pages }
+        ensures pages { self.new.pages ≡ after_enter page self.old.pages }
+        ensures turns { self.new.turns ≡ enter_turns page self.old }
         ensures refused { OnErr result (self.new ≡ self.old) }
-        ensures valid { IsFrames self.new }
+        ensures valid { IsFrames self.new.pages }
     {
         let frame = self.frame_of(page);
         if !self.is_free(frame, page) {
@@ -88,8 +91,8 @@ impl Frames {
 
     /// Whether the frame of this page is free for it: the page is below F, or the page F before it is freed.
     pub fn may_enter(&self, page: u64) -> bool
-        ensures free { result ≡ may_enter page self.now }
-        ensures valid { IsFrames self.now }
+        ensures free { result ≡ may_enter page self.now.pages }
+        ensures valid { IsFrames self.now.pages }
     {
         self.is_free(self.frame_of(page), page)
     }
@@ -100,11 +103,13 @@ impl Frames {
     /// `NoneSealed` where there is no such page.
     #[inline(always)]
     pub fn flush_take(&mut self, sro: u64) -> Result<u64, Fault>
-        requires { pages_below sro self.old ≤ self.old.entered }
-        ensures answer { result ≡ page_or Fault.NoneSealed (next_to_flush sro self.old) }
-        ensures pages { self.new ≡ after_take flush_begun (next_to_flush sro self.old) self.old }
+        requires { pages_below sro self.old.pages ≤ self.old.pages.entered }
+        ensures answer { result ≡ page_or Fault.NoneSealed (next_to_flush sro self.old.pages) }
+        ensures pages { let old = self.old.pages
+            in self.new.pages ≡ after_take flush_begun (next_to_flush sro old) old }
+        ensures turns { self.new.turns ≡ self.old.turns }
         ensures refused { OnErr result (self.new ≡ self.old) }
-        ensures valid { IsFrames self.new }
+        ensures valid { IsFrames self.new.pages }
     {
         let Some(page) = self.next_to_flush(sro) else {
             return Err(Fault::NoneSealed);
@@ -122,10 +127,11 @@ impl Frames {
     /// `NotInFlight` where the page isn't in flight.
     #[inline(always)]
     pub fn flush_done(&mut self, page: u64, ok: bool) -> Result<u64, Fault>
-        ensures answer { result ≡ flush_done_answer page ok self.old }
-        ensures pages { self.new ≡ after_flush_done page ok self.old }
+        ensures answer { result ≡ flush_done_answer page ok self.old.pages }
+        ensures pages { self.new.pages ≡ after_flush_done page ok self.old.pages }
+        ensures turns { self.new.turns ≡ flush_done_turns page ok self.old }
         ensures refused { OnErr result (self.new ≡ self.old) }
-        ensures valid { IsFrames self.new }
+        ensures valid { IsFrames self.new.pages }
     {
         let frame = self.frame_of(page);
         if !is_in_flight(self.held[frame], page) {
@@ -148,11 +154,13 @@ impl Frames {
     /// `NoneClosed` where there is no such page.
     #[inline(always)]
     pub fn clean_take(&mut self, closed: u64) -> Result<u64, Fault>
-        requires { closed ≤ flushed_offset self.old }
-        ensures answer { result ≡ page_or Fault.NoneClosed (next_to_clean closed self.old) }
-        ensures pages { self.new ≡ after_take clean_begun (next_to_clean closed self.old) self.old }
+        requires { closed ≤ flushed_offset self.old.pages }
+        ensures answer { result ≡ page_or Fault.NoneClosed (next_to_clean closed self.old.pages) }
+        ensures pages { let old = self.old.pages
+            in self.new.pages ≡ after_take clean_begun (next_to_clean closed old) old }
+        ensures turns { self.new.turns ≡ self.old.turns }
         ensures refused { OnErr result (self.new ≡ self.old) }
-        ensures valid { IsFrames self.new }
+        ensures valid { IsFrames self.new.pages }
     {
         let Some(page) = self.next_to_clean(closed) else {
             return Err(Fault::NoneClosed);
@@ -168,10 +176,11 @@ impl Frames {
     /// `NotCleaning` where the page isn't being cleaned.
     #[inline(always)]
     pub fn clean_done(&mut self, page: u64) -> Result<(), Fault>
-        ensures answer { result ≡ clean_done_answer page self.old }
-        ensures pages { self.new ≡ after_clean_done page self.old }
+        ensures answer { result ≡ clean_done_answer page self.old.pages }
+        ensures pages { self.new.pages ≡ after_clean_done page self.old.pages }
+        ensures turns { self.new.turns ≡ clean_done_turns page self.old }
         ensures refused { OnErr result (self.new ≡ self.old) }
-        ensures valid { IsFrames self.new }
+        ensures valid { IsFrames self.new.pages }
     {
         let frame = self.frame_of(page);
         if !is_cleaning(self.held[frame], page) {
@@ -185,9 +194,9 @@ impl Frames {
 
     /// What a frame holds, below F: its last entered page, with that page's marks. None where nothing was entered.
     pub fn marks(&self, frame: u64) -> Option<Held>
-        requires { frame < length self.now.frames }
-        ensures held { result ≡ slice_index_or self.now.frames frame None }
-        ensures valid { IsFrames self.now }
+        requires { frame < length self.now.pages.frames }
+        ensures held { result ≡ slice_index_or self.now.pages.frames frame None }
+        ensures valid { IsFrames self.now.pages }
     {
         self.held[frame as usize]
     }
@@ -196,11 +205,11 @@ impl Frames {
     /// offset and `closed` the closed offset, words' addresses: the pages below the first are entered, and the
     /// second is at most the flushed offset.
     pub fn state(&self, frame: u64, sro: u64, closed: u64) -> (FrameState, Option<u64>)
-        requires frame { frame < length self.now.frames }
-        requires sealed_entered { pages_below sro self.now ≤ self.now.entered }
-        requires closed_flushed { closed ≤ flushed_offset self.now }
-        ensures state { result ≡ state_of frame sro closed self.now }
-        ensures valid { IsFrames self.now }
+        requires frame { frame < length self.now.pages.frames }
+        requires sealed_entered { pages_below sro self.now.pages ≤ self.now.pages.entered }
+        requires closed_flushed { closed ≤ flushed_offset self.now.pages }
+        ensures state { result ≡ state_of frame sro closed self.now.pages }
+        ensures valid { IsFrames self.now.pages }
     {
         let Some(held) = self.marks(frame) else {
             return (FrameState::Free, None);
@@ -222,8 +231,8 @@ impl Frames {
     /// The flushed offset, a word's address: the words of the longest run 0, 1, 2, .. of flushed pages.
     #[inline(always)]
     pub fn flushed_until(&self) -> u64
-        ensures offset { result ≡ flushed_offset self.now }
-        ensures valid { IsFrames self.now }
+        ensures offset { result ≡ flushed_offset self.now.pages }
+        ensures valid { IsFrames self.now.pages }
     {
         self.run.page * self.page_size
     }
@@ -232,8 +241,8 @@ impl Frames {
     /// neither flushed nor in flight.
     #[inline(always)]
     pub fn next_to_flush(&self, sro: u64) -> Option<u64>
-        ensures page { result ≡ next_to_flush sro self.now }
-        ensures valid { IsFrames self.now }
+        ensures page { result ≡ next_to_flush sro self.now.pages }
+        ensures valid { IsFrames self.now.pages }
     {
         let page = self.to_flush.page;
         let end = (page + 1) * self.page_size;
@@ -244,8 +253,8 @@ impl Frames {
     /// freed nor being cleaned.
     #[inline(always)]
     pub fn next_to_clean(&self, closed: u64) -> Option<u64>
-        ensures page { result ≡ next_to_clean closed self.now }
-        ensures valid { IsFrames self.now }
+        ensures page { result ≡ next_to_clean closed self.now.pages }
+        ensures valid { IsFrames self.now.pages }
     {
         let page = self.to_clean.page;
         let end = (page + 1) * self.page_size;
@@ -254,14 +263,14 @@ impl Frames {
 
     /// Whether a page is in flight.
     pub fn is_in_flight(&self, page: u64) -> bool
-        ensures { result ≡ is_in_flight page self.now }
+        ensures { result ≡ is_in_flight page self.now.pages }
     {
         is_in_flight(self.held[self.frame_of(page)], page)
     }
 
     /// Whether a page is being cleaned.
     pub fn is_cleaning(&self, page: u64) -> bool
-        ensures { result ≡ is_cleaning page self.now }
+        ensures { result ≡ is_cleaning page self.now.pages }
     {
         is_cleaning(self.held[self.frame_of(page)], page)
     }
@@ -270,15 +279,16 @@ impl Frames {
     /// of the address would be a quotient.
     #[inline(always)]
     pub fn is_entered_at(&self, address: u64) -> bool
-        ensures { result ≡ nat_lt (address / self.now.page_size) self.now.entered }
+        ensures { result ≡ nat_lt (address / self.now.pages.page_size) self.now.pages.entered }
     {
         address < self.entered * self.page_size
     }
 
     /// How many frames of the row the last accepted call of each kind visited.
     pub fn turns(&self) -> Turns
+        ensures turns { result ≡ self.now.turns }
         ensures enter { result.enter ≤ 1 }
-        ensures flush_done { result.flush_done ≤ length self.now.frames + 2 }
+        ensures flush_done { result.flush_done ≤ length self.now.pages.frames + 2 }
         ensures clean_done { result.clean_done ≤ 1 }
     {
         self.turns
@@ -287,17 +297,17 @@ impl Frames {
     // The frame of a page. It divides, so a call asks it once.
     #[inline(always)]
     fn frame_of(&self, page: u64) -> usize
-        ensures frame { result ≡ page % length self.now.frames }
-        ensures within { result < length self.now.frames }
+        ensures frame { result ≡ page % length self.now.pages.frames }
+        ensures within { result < length self.now.pages.frames }
     {
         (page % self.held.len() as u64) as usize
     }
 
     // Whether this frame, which is the page's, is free for it. The page F before it has the same frame.
     fn is_free(&self, frame: usize, page: u64) -> bool
-        requires { frame ≡ page % length self.now.frames }
-        ensures free { result ≡ may_enter page self.now }
-        ensures valid { IsFrames self.now }
+        requires { frame ≡ page % length self.now.pages.frames }
+        ensures free { result ≡ may_enter page self.now.pages }
+        ensures valid { IsFrames self.now.pages }
     {
         let frames = self.held.len() as u64;
         page < frames || is_freed(self.held[frame], page - frames)

@@ -58,12 +58,13 @@
 //! page that was flushed. Takes pass each page once too, but for a failed flush: the take of the page that failed
 //! moves over the pages behind it again, at most F - 1 of them. Else a take that comes in order takes two turns.
 //!
-//! [`Frames::turns`] tells the turns of the last `enter`, `flush_done` and `clean_done`, and its clauses bound them.
+//! [`Frames::turns`] tells the turns of the last accepted `enter`, `flush_done` and `clean_done`. The clause `turns` of
+//! each call says exactly how many these are.
 //!
 //! # What a contract sees
 //!
-//! How many words a page has, what each frame holds, and how many pages were entered. Each answer and change is an
-//! equation on these, and each call tells besides what is true of all frames (`IsFrames`). The read-only, safe
+//! How many words a page has, what each frame holds, how many pages were entered, and the turns (`Counted`). Each answer
+//! and change is an equation on these, and each call tells besides what is true of all frames (`IsFrames`). The read-only, safe
 //! read-only, head and closed offsets are the caller's: it hands in the ones that a call needs.
 //!
 //! No call after [`Frames::open`] takes memory: the row has room for exactly F frames, and keeps it.

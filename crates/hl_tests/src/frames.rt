@@ -8,7 +8,7 @@ use std::test::Fail;
 
 // Both pages are entered, and taken to be flushed.
 fn takes_both(rt: &impl Abort, frames: &mut Frames)
-    requires { frames.old ≡ opened 4 2 }
+    requires { frames.old.pages ≡ opened 4 2 }
 {
     let entered = [frames.enter(0), frames.enter(1)];
     let taken = [frames.flush_take(8), frames.flush_take(8)];

@@ -27,7 +27,7 @@ pub returns-in_err-enter-clause-made : goal.returns-in_err-enter-clause-made
 returns-in_err-enter-clause-made g c =
     let p = err_from_is_err_and c.from_residual-in_err-enter.result c.from_residual-in_err-enter.ensures.1 in
     rw (p.1, p.2, sym c.self.view_is)
-    (enter_refused g.J.Tagged.tag _ c.args.t c.args.n c.in_ok-address.address c.page_size.result c.in_ok-seen.seen c.in_err-enter.field-0.0 c.enter.new.self (rw (sym c.self.view_is) at c.in_ok-seen.ensures) c.in_ok-address.ensures.answer c.page_size.ensures.value (entered_as g.J.Tagged.tag _ _ _ _ c.if-not-is_entered_at.true (entered_at g.J.Tagged.tag _ c.in_ok-address.address c.page_size.result _ c.page_size.ensures.value (rw (sym c.self.view_is) at c.is_entered_at.ensures))) c.in_err-enter.ensures.answer c.in_err-enter.ensures.pages)
+    (enter_refused g.J.Tagged.tag _ c.args.t c.args.n c.in_ok-address.address c.page_size.result c.in_ok-seen.seen c.in_err-enter.field-0.0 c.enter.new.self.pages (rw (sym c.self.view_is) at c.in_ok-seen.ensures) c.in_ok-address.ensures.answer c.page_size.ensures.value (entered_as g.J.Tagged.tag _ _ _ _ c.if-not-is_entered_at.true (entered_at g.J.Tagged.tag _ c.in_ok-address.address c.page_size.result _ c.page_size.ensures.value (rw (sym c.self.view_is) at c.is_entered_at.ensures))) c.in_err-enter.ensures.answer c.in_err-enter.ensures.pages)
 
 pub allocate_at-requires : goal.allocate_at-requires
 allocate_at-requires g c =
@@ -50,8 +50,8 @@ invariant_of-self-2 g c =
           rw w.self-inside-is
           (record {
             standing = still_stands g.J.Tagged.tag _ _ _ _ c.self.invariant.standing
-                (allocate_ok g.J.Tagged.tag _ c.args.t c.args.n c.in_ok-address.address c.tail-tail.result c.in_ok-seen.seen c.allocate_at.new.self w.enter.new.self (rw (sym c.self.view_is) at c.in_ok-seen.ensures) c.in_ok-address.ensures.answer (rw w.self-inside-is at c.allocate_at.ensures.effect) c.tail-tail.ensures.value
-                (entered_now g.J.Tagged.tag _ c.args.t c.args.n c.in_ok-address.address c.page_size.result w.enter.new.self c.in_ok-address.ensures.answer c.page_size.ensures.value (entered_as g.J.Tagged.tag _ _ _ _ w.if-not-is_entered_at.true (entered_at g.J.Tagged.tag _ c.in_ok-address.address c.page_size.result _ c.page_size.ensures.value (rw (sym c.self.view_is) at c.is_entered_at.ensures))) w.in_ok-enter.ensures.answer w.in_ok-enter.ensures.pages));
+                (allocate_ok g.J.Tagged.tag _ c.args.t c.args.n c.in_ok-address.address c.tail-tail.result c.in_ok-seen.seen c.allocate_at.new.self w.enter.new.self.pages (rw (sym c.self.view_is) at c.in_ok-seen.ensures) c.in_ok-address.ensures.answer (rw w.self-inside-is at c.allocate_at.ensures.effect) c.tail-tail.ensures.value
+                (entered_now g.J.Tagged.tag _ c.args.t c.args.n c.in_ok-address.address c.page_size.result w.enter.new.self.pages c.in_ok-address.ensures.answer c.page_size.ensures.value (entered_as g.J.Tagged.tag _ _ _ _ w.if-not-is_entered_at.true (entered_at g.J.Tagged.tag _ c.in_ok-address.address c.page_size.result _ c.page_size.ensures.value (rw (sym c.self.view_is) at c.is_entered_at.ensures))) w.in_ok-enter.ensures.answer w.in_ok-enter.ensures.pages));
             exact = search rules;
           })
       | else-not-is_entered_at w ↦
@@ -69,8 +69,8 @@ returns-clause-made g c =
     elim c.if-not-is_entered_at.branch [
       | then-not-is_entered_at+in_ok-enter w ↦
           rw (w.self-inside-is, sym c.self.view_is)
-          (allocate_ok g.J.Tagged.tag _ c.args.t c.args.n c.in_ok-address.address c.tail-tail.result c.in_ok-seen.seen c.allocate_at.new.self w.enter.new.self (rw (sym c.self.view_is) at c.in_ok-seen.ensures) c.in_ok-address.ensures.answer (rw w.self-inside-is at c.allocate_at.ensures.effect) c.tail-tail.ensures.value
-          (entered_now g.J.Tagged.tag _ c.args.t c.args.n c.in_ok-address.address c.page_size.result w.enter.new.self c.in_ok-address.ensures.answer c.page_size.ensures.value (entered_as g.J.Tagged.tag _ _ _ _ w.if-not-is_entered_at.true (entered_at g.J.Tagged.tag _ c.in_ok-address.address c.page_size.result _ c.page_size.ensures.value (rw (sym c.self.view_is) at c.is_entered_at.ensures))) w.in_ok-enter.ensures.answer w.in_ok-enter.ensures.pages))
+          (allocate_ok g.J.Tagged.tag _ c.args.t c.args.n c.in_ok-address.address c.tail-tail.result c.in_ok-seen.seen c.allocate_at.new.self w.enter.new.self.pages (rw (sym c.self.view_is) at c.in_ok-seen.ensures) c.in_ok-address.ensures.answer (rw w.self-inside-is at c.allocate_at.ensures.effect) c.tail-tail.ensures.value
+          (entered_now g.J.Tagged.tag _ c.args.t c.args.n c.in_ok-address.address c.page_size.result w.enter.new.self.pages c.in_ok-address.ensures.answer c.page_size.ensures.value (entered_as g.J.Tagged.tag _ _ _ _ w.if-not-is_entered_at.true (entered_at g.J.Tagged.tag _ c.in_ok-address.address c.page_size.result _ c.page_size.ensures.value (rw (sym c.self.view_is) at c.is_entered_at.ensures))) w.in_ok-enter.ensures.answer w.in_ok-enter.ensures.pages))
       | else-not-is_entered_at w ↦
           rw (w.self-inside-is, sym c.self.view_is)
           (allocate_ok g.J.Tagged.tag _ c.args.t c.args.n c.in_ok-address.address c.tail-tail.result c.in_ok-seen.seen c.allocate_at.new.self _ (rw (sym c.self.view_is) at c.in_ok-seen.ensures) c.in_ok-address.ensures.answer (rw w.self-inside-is at c.allocate_at.ensures.effect) c.tail-tail.ensures.value

@@ -9,10 +9,10 @@ clean_take-requires g c = rw (c.closed-closed.ensures.value) (closed_fits g.J.Ta
 
 pub invariant_of-self : goal.invariant_of-self
 invariant_of-self g c = record {
-  standing = still_stands g.J.Tagged.tag _ _ _ _ c.self.invariant.standing (clean_take_made g.J.Tagged.tag _ _ c.clean_take.result c.clean_take.new.self c.closed-closed.ensures.value c.clean_take.ensures.answer c.clean_take.ensures.pages);
+  standing = still_stands g.J.Tagged.tag _ _ _ _ c.self.invariant.standing (clean_take_made g.J.Tagged.tag _ _ c.clean_take.result c.clean_take.new.self.pages c.closed-closed.ensures.value c.clean_take.ensures.answer c.clean_take.ensures.pages);
   exact = c.self.invariant.exact;
 }
 
 pub returns-clause-made : goal.returns-clause-made
 returns-clause-made g c =
-    rw (sym c.self.view_is) (clean_take_made g.J.Tagged.tag _ _ c.clean_take.result c.clean_take.new.self c.closed-closed.ensures.value c.clean_take.ensures.answer c.clean_take.ensures.pages)
+    rw (sym c.self.view_is) (clean_take_made g.J.Tagged.tag _ _ c.clean_take.result c.clean_take.new.self.pages c.closed-closed.ensures.value c.clean_take.ensures.answer c.clean_take.ensures.pages)

@@ -5,10 +5,10 @@ use Rattle.hl_core.proofs.state.Core.flush_done.Goals as goal
 
 pub invariant_of-self : goal.invariant_of-self
 invariant_of-self g c = record {
-  standing = still_stands g.J.Tagged.tag _ _ _ _ c.self.invariant.standing (flush_done_made g.J.Tagged.tag _ c.args.page c.args.ok c.flush_done.result c.flush_done.new.self c.flush_done.ensures.answer c.flush_done.ensures.pages);
+  standing = still_stands g.J.Tagged.tag _ _ _ _ c.self.invariant.standing (flush_done_made g.J.Tagged.tag _ c.args.page c.args.ok c.flush_done.result c.flush_done.new.self.pages c.flush_done.ensures.answer c.flush_done.ensures.pages);
   exact = c.self.invariant.exact;
 }
 
 pub returns-clause-made : goal.returns-clause-made
 returns-clause-made g c =
-    rw (sym c.self.view_is) (flush_done_made g.J.Tagged.tag _ c.args.page c.args.ok c.flush_done.result c.flush_done.new.self c.flush_done.ensures.answer c.flush_done.ensures.pages)
+    rw (sym c.self.view_is) (flush_done_made g.J.Tagged.tag _ c.args.page c.args.ok c.flush_done.result c.flush_done.new.self.pages c.flush_done.ensures.answer c.flush_done.ensures.pages)

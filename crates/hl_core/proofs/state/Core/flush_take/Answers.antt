@@ -9,10 +9,10 @@ flush_take-requires g c = rw (c.safe_read_only-safe_read_only.ensures.value) (se
 
 pub invariant_of-self : goal.invariant_of-self
 invariant_of-self g c = record {
-  standing = still_stands g.J.Tagged.tag _ _ _ _ c.self.invariant.standing (flush_take_made g.J.Tagged.tag _ _ c.flush_take.result c.flush_take.new.self c.safe_read_only-safe_read_only.ensures.value c.flush_take.ensures.answer c.flush_take.ensures.pages);
+  standing = still_stands g.J.Tagged.tag _ _ _ _ c.self.invariant.standing (flush_take_made g.J.Tagged.tag _ _ c.flush_take.result c.flush_take.new.self.pages c.safe_read_only-safe_read_only.ensures.value c.flush_take.ensures.answer c.flush_take.ensures.pages);
   exact = c.self.invariant.exact;
 }
 
 pub returns-clause-made : goal.returns-clause-made
 returns-clause-made g c =
-    rw (sym c.self.view_is) (flush_take_made g.J.Tagged.tag _ _ c.flush_take.result c.flush_take.new.self c.safe_read_only-safe_read_only.ensures.value c.flush_take.ensures.answer c.flush_take.ensures.pages)
+    rw (sym c.self.view_is) (flush_take_made g.J.Tagged.tag _ _ c.flush_take.result c.flush_take.new.self.pages c.safe_read_only-safe_read_only.ensures.value c.flush_take.ensures.answer c.flush_take.ensures.pages)

@@ -1,13 +1,15 @@
-use Rattle.std.proofs.Common.{rules, ◌≡◌, ◌∙◌, ◌+◌, subst, length, ◌*◌, ℕ, Ok, arith, true, false, sym, ap, length-set}
+use Rattle.std.proofs.Common.{rules, ◌≡◌, ◌∙◌, ◌+◌, ◌-◌, cond, ltb, ap₂, subst, length, ◌*◌, ℕ, Ok, arith, true, false, sym, ap, length-set}
 use Rattle.std.specs.Prelude.{slice_set}
 use Rattle.hl_model.specs.declared.frame.Held.{Held}
 use Rattle.hl_frames.specs.Pages.{is_in_flight, flushed_run, flushed_offset}
 use Rattle.hl_frames.specs.IsFrames.{IsFrames}
+use Rattle.hl_frames.specs.Counted.{walked}
 use Rattle.hl_frames.specs.Answers.{flush_ended}
 use Rattle.std.specs.Vec.{with_item}
 use Rattle.std.proofs.lemmas.Grind.{common_steps}
 use Rattle.hl_frames.specs.declared.placed.Placed.{Placed}
 use Rattle.hl_frames.specs.Row.{HasFrame}
+use Rattle.hl_frames.specs.declared.turns.Turns.{Turns}
 use Rattle.hl_frames.specs.Kept.{pages_of, AreStored, IsKept}
 use Rattle.hl_frames.proofs.PageLaws.{IsFrames-flush_ended, run_within}
 use Rattle.hl_frames.proofs.MarkLaws.{flushed-ended_kept}
@@ -39,8 +41,8 @@ pub skip_flushed-walk-requires-clause-order : goal.skip_flushed-walk-requires-cl
 skip_flushed-walk-requires-clause-order c = omega (arith, c.self.invariant.stored.flushed, run_within (pages_of c.self.inside))
 
 -- the walk is over the row after the done
-walked : (c : goal.After-skip_flushed-arg-1) → c.deref.result.now ≡ (flush_ended c.args.page c.args.ok (pages_of c.self.inside)).frames
-walked c = c.deref.ensures.value ∙ row c
+row_walked : (c : goal.After-skip_flushed-arg-1) → c.deref.result.now ≡ (flush_ended c.args.page c.args.ok (pages_of c.self.inside)).frames
+row_walked c = c.deref.ensures.value ∙ row c
 
 -- what was known when the walk began
 abbrev at_deref : goal.Joined-not-ok → goal.After-skip_flushed-arg-1
@@ -56,7 +58,16 @@ moved c =
     let walk = c.skip_flushed-walk.ensures in
     run-walked T T' c.self.inside.run.page c.skip_flushed-walk.result.at.page (known here) kept.stored.flushed
     (λ q flushed. flushed-ended_kept T c.args.page q c.args.ok kept.pages (flies here) flushed)
-    (rw (walked here) at walk.flushed) (rw (walked here) at walk.stops) walk.most
+    (rw (row_walked here) at walk.flushed) (rw (row_walked here) at walk.stops) walk.most
+
+-- the walk's turns are those that the pages tell
+turns_are : (c : goal.Joined-not-ok) → c.skip_flushed-walk.result.turns ≡ walked (pages_of c.self.inside) (flush_ended c.args.page c.args.ok (pages_of c.self.inside))
+turns_are c =
+    let at : ℕ = c.skip_flushed-walk.result.at.page in
+    let end : ℕ = c.self.inside.entered in
+    let walk = c.skip_flushed-walk.ensures in
+    let each : c.skip_flushed-walk.result.turns ≡ (at - c.self.inside.run.page) + cond (ltb at end) 1 0 = omega (arith, walk.each_once, walk.least) in
+    each ∙ ap₂ (λ (r s : ℕ). (r - s) + cond (ltb r end) 1 0) (moved c) c.self.invariant.stored.flushed
 
 -- what is true of the fields with this page to be flushed next
 kept_with : (c : goal.Joined-not-ok) (to_flush : Placed) → AreStored (flush_ended c.args.page c.args.ok (pages_of c.self.inside)) c.skip_flushed-walk.result.at.page to_flush.page c.self.inside.to_clean.page → HasFrame to_flush c.self.inside.held.items → IsKept (record { page_size = c.self.inside.page_size; entered = c.self.inside.entered; held = with_item c.self.inside.held c.frame_of-frame.result c.end_flush.new.held; run = c.skip_flushed-walk.result.at; to_flush = to_flush; to_clean = c.self.inside.to_clean; turns = record { enter = c.self.inside.turns.enter; flush_done = 1 + c.skip_flushed-walk.result.turns; clean_done = c.self.inside.turns.clean_done } })
@@ -112,3 +123,13 @@ returns-clause-pages c = grind (arith, common_steps)
 
 pub overflow_mul-result : goal.overflow_mul-result
 overflow_mul-result c = search rules
+
+pub returns-clause-turns : goal.returns-clause-turns
+returns-clause-turns c =
+    let T = pages_of c.self.inside in
+    let before = c.self.inside.turns in
+    let told = ap {B = Turns} (λ (n : ℕ). record { enter = before.enter; flush_done = 1 + n; clean_done = before.clean_done }) (turns_are c) in
+    rw (← c.self.view_is) (rw (flies (at_deref c)) (elim c.if-not-ok.branch [
+      | then-not-ok w ↦ rw w.self-inside-is told
+      | else-not-ok w ↦ rw w.self-inside-is told
+    ]))
