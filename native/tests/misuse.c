@@ -1,4 +1,4 @@
-/* The error of each misuse by hl.h. */
+/* The error of each misuse by hl.h, and none within the greatest sizes. */
 #include "hl.h"
 
 #include <stdio.h>
@@ -75,10 +75,30 @@ static void out_of_place(void) {
     wants("the end", hl_free(&core), 0);
 }
 
+/* The greatest core has all its slots, frames and places, and no more. */
+static void greatest(void) {
+    hl_core core = {0};
+    wants("the greatest sizes", hl_open(&core, 4096, 256, 64, 64), 0);
+    for (uint64_t i = 0; i < 64; i++) {
+        wants("each slot", hl_acquire(&core, i).number, 0);
+    }
+    wants("a slot too many", hl_acquire(&core, 64).number, HL_NO_SLOT);
+    for (uint64_t i = 0; i < 256; i++) {
+        wants("each page", hl_allocate(&core, 63, 4096).number, 0);
+    }
+    wants("a page too many", hl_allocate(&core, 63, 1).number, HL_BUSY);
+    for (uint64_t i = 0; i < 64; i++) {
+        wants("each place", hl_bump(&core, UINT64_MAX).number, 0);
+    }
+    wants("an action too many", hl_bump(&core, 0).number, HL_DRAIN_FULL);
+    wants("the greatest core's end", hl_free(&core), 0);
+}
+
 int main(void) {
     no_core();
     sizes();
     out_of_place();
+    greatest();
     printf("misuse in C: %d wrong\n", wrong);
     return wrong != 0;
 }

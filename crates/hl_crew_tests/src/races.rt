@@ -1,4 +1,5 @@
-//! How a race ends at a full journal, and that its audit sees an ending that isn't the race's.
+//! How a race ends at a full journal, that its riders make all their rounds, and that its audit sees an ending that isn't
+//! the race's.
 ghost use Rattle.std.specs.Prelude.{◌≡◌};
 ghost use Rattle.hl_words.specs.States.{IsSeedOf};
 
@@ -16,7 +17,20 @@ use std::test::Fail;
 fn full_journals_end_a_race(rt: HostRuntime) -> Result<(), Fail> {
     for journal in [0, 1, 40, 500] {
         let race = Race::checked(4, 200, false).ok_or("a race in range")?;
-        assert_eq!(rt; run_race_within(&rt, rt.alloc(), race, journal), Ok(true));
+        assert!(rt; run_race_within(&rt, rt.alloc(), race, journal)?.agrees);
+    }
+    Ok(())
+}
+
+/// Two riders make ten rounds each. All they allocate is 20 words, which two pages of 16 hold, so no allocation is refused:
+/// each round is a record, a store, a load and a refresh. A load is no step, so a rider enters 3 steps a round, and besides
+/// its acquire and its release: 64 in all. What the crew enters comes on top.
+#[test]
+fn a_race_makes_all_its_rounds(rt: HostRuntime) -> Result<(), Fail> {
+    for cut in [false, true] {
+        let race = Race::checked(2, 10, cut).ok_or("a race in range")?;
+        let raced = run_race_within(&rt, rt.alloc(), race, 1_000)?;
+        assert!(rt; raced.agrees && raced.steps >= 64 && raced.loads == 20);
     }
     Ok(())
 }

@@ -12,4 +12,4 @@ mod race;
 mod riders;
 
 pub use audit::{agrees_from_the_base, agrees_from_the_start};
-pub use race::{Race, run_race, run_race_within};
+pub use race::{Race, Raced, run_race, run_race_within};

@@ -8,13 +8,14 @@ use crate::riders::ride;
 use hl_action::{AnyAnswer, NoJob};
 use hl_counts::CountTable;
 use hl_crew::{CrewEnd, OpenGate, run_crew};
-use hl_domain::Domain;
+use hl_domain::{Domain, Ending};
 use hl_image::MemoryWriter;
 use hl_model::{Fault, Params};
 use hl_words::{Realm, Rider, Seed};
 use std::alloc::{AllocError, Global};
 use std::marker::Brand;
 use std::sync::Wait;
+use std::sync::atomic::AtomicU64;
 use std::thread::Threads;
 use std::{array, thread};
 
@@ -93,8 +94,19 @@ struct CrewBack<L: Realm> {
     ended: Result<(), Fault>,
 }
 
-/// Runs a race, and tells whether its steps were all lawful and left what the domain was at when it was closed,
-/// whether the riders entered as many steps as there are, and whether each page that is flushed has an image.
+/// How a race ended.
+#[derive(Clone, Copy, Debug, PartialEq, Eq)]
+pub struct Raced {
+    /// Whether its steps were all lawful and left what the domain was at when it was closed, the riders entered as
+    /// many steps as there are, and each page that is flushed has an image.
+    pub agrees: bool,
+    /// How many steps were entered, those that were cut among them.
+    pub steps: u64,
+    /// How many loads of the riders were answered by a word. No step tells of a load.
+    pub loads: u64,
+}
+
+/// Runs a race, and tells whether it agrees, as in [`Raced`].
 ///
 /// `OutOfMemory` if memory, or a thread of the crew, was refused. The domain of a refused crew is
 /// closed too: `Stranger`, with its stamp, if a rider didn't come back.
@@ -103,17 +115,17 @@ pub fn run_race<R: Threads + Wait + Sync>(
     alloc: Global,
     race: Race,
 ) -> Result<bool, Fault> {
-    run_race_within(rt, alloc, race, JOURNAL)
+    Ok(run_race_within(rt, alloc, race, JOURNAL)?.agrees)
 }
 
-/// The same with a journal of this many steps, at most 2^62. Once it is full, its riders and its
-/// crew stop.
+/// The same with a journal of this many steps, at most 2^62, and all that is told of a race. Once it
+/// is full, its riders and its crew stop.
 pub fn run_race_within<R: Threads + Wait + Sync>(
     rt: &R,
     alloc: Global,
     race: Race,
     journal: u64,
-) -> Result<bool, Fault>
+) -> Result<Raced, Fault>
     requires { journal ≤ steps_most }
 {
     let params = Params::checked(16, 8, 8, 16).ok_or(Fault::Size)?;
@@ -128,7 +140,7 @@ fn race_over<L: Realm + Send + Sync, R: Threads + Wait + Sync>(
     seed: Seed,
     race: Race,
     journal: u64,
-) -> Result<bool, Fault>
+) -> Result<Raced, Fault>
     requires journal { journal ≤ steps_most }
     requires seed { IsSeedOf L.name L.parts L.table seed }
     requires named { (seed.sizes ≡ L.sizes) × (1000 ≡ L.stamp) }
@@ -136,7 +148,8 @@ fn race_over<L: Realm + Send + Sync, R: Threads + Wait + Sync>(
 {
     let params = seed.params();
     let (domain, riders) = Track::<L>::open(alloc, seed, journal, STAMP)?;
-    let (mut riders, crew) = run_on(rt, alloc, &domain, riders, race)?;
+    let loads = AtomicU64::new(0);
+    let (mut riders, crew) = run_on(rt, alloc, &domain, riders, race, &loads)?;
     let CrewBack {
         riders: its_riders,
         writers,
@@ -147,16 +160,32 @@ fn race_over<L: Realm + Send + Sync, R: Threads + Wait + Sync>(
         .iter()
         .fold(0u64, |sum, rider| sum.wrapping_add(rider.share()));
     let ending = domain.close(riders).map_err(|(fault, _, _)| fault)?;
+    let steps = ending.cut.saturating_add(ending.journal.len() as u64);
     // A page that a refused crew told as written has its image too.
     let flushed = ending.snapshot.six.flushed / params.page_size();
-    if !has_images(&writers, flushed) {
-        return Ok(false);
+    let has_images = has_images(&writers, flushed);
+    if has_images {
+        ended?;
     }
-    ended?;
+    Ok(Raced {
+        agrees: has_images && agrees(alloc, params, race, &ending, shares)?,
+        steps,
+        loads: loads.into_inner(),
+    })
+}
+
+// Whether the steps agree with what the race left, from the base where it was cut.
+fn agrees(
+    alloc: Global,
+    params: Params,
+    race: Race,
+    ending: &Ending<NoJob, AnyAnswer>,
+    shares: u64,
+) -> Result<bool, Fault> {
     if race.cut {
-        agrees_from_the_base(alloc, &ending, shares)
+        agrees_from_the_base(alloc, ending, shares)
     } else {
-        agrees_from_the_start(alloc, params, &ending, shares)
+        agrees_from_the_start(alloc, params, ending, shares)
     }
 }
 
@@ -169,13 +198,14 @@ fn run_on<L: Realm + Send + Sync, R: Threads + Wait + Sync>(
     domain: &Track<L>,
     mut riders: Vec<Rider<L>>,
     race: Race,
+    loads: &AtomicU64,
 ) -> Result<(Vec<Rider<L>>, CrewBack<L>), Fault>
     requires { domain.now.sizes.frames ≡ 8 }
 {
     let crew = crew_of(&mut riders)?;
     let (riders, crew) = thread::join(
         rt,
-        || ride_all(rt, alloc, domain, riders, race.rounds),
+        || ride_all(rt, alloc, domain, riders, race.rounds, loads),
         || -> CrewBack<L>
             requires { domain.now.sizes.frames ≡ 8 }
         { flush_all(rt, alloc, domain, crew, race) },
@@ -195,12 +225,13 @@ fn ride_all<L: Realm + Send + Sync, R: Threads + Wait + Sync>(
     domain: &Track<L>,
     riders: Vec<Rider<L>>,
     rounds: u64,
+    loads: &AtomicU64,
 ) -> Result<Vec<Rider<L>>, AllocError> {
     let jobs = riders.into_iter().enumerate().collect::<Vec<_>>(alloc)?;
     thread::map_vec(
         rt,
         jobs,
-        &|(slot, rider)| ride(rt, domain, rider, slot as u64, rounds),
+        &|(slot, rider)| ride(rt, domain, rider, slot as u64, rounds, loads),
     )
 }
 

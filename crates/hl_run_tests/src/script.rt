@@ -222,6 +222,35 @@ fn writes_whole_lines_where_memory_is_refused(rt: HostRuntime) {
     }
 }
 
+const LAST_TAG: &str = "config 4 2 1 1\nbump 1048575\n";
+
+// Both forms answer a bump of the last of very many tags.
+#[test]
+fn many_tags(rt: HostRuntime) -> Result<(), Fault> {
+    let tag = (1 << 20) - 1;
+    let mut shelf = Shelf::open(rt.alloc(), 1 << 20)?;
+    shelf.put(Kept::new(tag, AddTicket { tag }));
+    let mut text = Vec::new(rt.alloc());
+    let mut reader = LAST_TAG.as_bytes();
+    let ended: Option<Finished<CountTable, AddTicket>> = run_text(
+        rt.alloc(),
+        &mut reader,
+        &mut text,
+        shelf,
+    )?;
+    assert_eq!(rt; ended.map(|end| end.accepted), Some(1));
+    let mut reader = LAST_TAG.as_bytes();
+    assert_eq!(rt;
+        slow_text(rt.alloc(), &mut reader, &mut text, 1 << 62)?,
+        Some(1)
+    );
+    assert_eq!(rt;
+        text.as_slice(),
+        b"opened\nticket 1\nopened\nticket 1\n".as_slice()
+    );
+    Ok(())
+}
+
 /// How a writer fails, and what it takes before.
 #[derive(Clone, Copy)]
 struct Failing<'a> {
