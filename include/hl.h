@@ -75,7 +75,7 @@ enum hl_fault {
     HL_OUT_OF_MEMORY = 29,
     HL_WINDOW_FULL = 32,
     /* no fault of the rules: */
-    HL_OUT_OF_RANGE = 254, /* a size, a frame or a place in a list */
+    HL_OUT_OF_RANGE = 254, /* a size, a frame, a place in a list or a number of pages */
     HL_NO_CORE = 255       /* no core is open at the handle; for hl_open: one is */
 };
 
@@ -107,6 +107,27 @@ typedef struct hl_quantities {
     hl_offsets six;
     uint64_t frames[5];
 } hl_quantities;
+
+/* What a step of hl_lag is, and the call that makes it. */
+enum hl_lag_kind {
+    HL_LAG_RAISE = 1,  /* hl_raise, to the address */
+    HL_LAG_SETTLE = 2, /* hl_settle */
+    HL_LAG_SHIFT = 3,  /* hl_shift, to the address */
+    HL_LAG_CLOSE = 4   /* hl_close */
+};
+
+/* A step of hl_lag; the address is 0 where the kind has none. */
+typedef struct hl_lag_step {
+    uint64_t kind;
+    uint64_t address;
+} hl_lag_step;
+
+/* The steps of hl_lag in their order, count of them, and then zeros; number is 0, HL_OUT_OF_RANGE or HL_NO_CORE. */
+typedef struct hl_lag_steps {
+    uint64_t number;
+    uint64_t count;
+    hl_lag_step steps[4];
+} hl_lag_steps;
 
 /* ---- A core. Every call below but hl_open answers HL_NO_CORE, and changes nothing, where none is open. ---- */
 
@@ -199,6 +220,16 @@ hl_offsets hl_six(hl_core *core);
 
 /* All quantities. */
 hl_quantities hl_snapshot(hl_core *core);
+
+/* The steps that a flusher makes next, for whoever wants about mutable_pages pages at the tail to be written and about
+ * resident_pages to be read: a raise, a settle, a shift and a close, in this order, each where its offset isn't there
+ * yet (docs/FORMATS.md has the rule). They are yours to make. At the offsets as they are the raise and the shift are
+ * accepted; the settle and the close can meet what hl_settle and hl_close do.
+ * Ask where hl_snapshot tells that no action is pending and none is taken: an action takes effect when it is done, and
+ * until then each call tells the settle or the close again.
+ * HL_OUT_OF_RANGE: not 1 <= mutable_pages <= resident_pages < frames. With all frames resident, no page may be closed
+ * before the next one needs its frame. */
+hl_lag_steps hl_lag(hl_core *core, uint64_t mutable_pages, uint64_t resident_pages);
 
 /* The pending action at a place, 0 being the oldest: a its ticket, b its kind, c its tag or the offset that it stores,
  * d how many are pending. HL_OUT_OF_RANGE: fewer are. */

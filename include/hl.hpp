@@ -12,6 +12,7 @@
 #include "hl_answers.hpp"
 
 #include <array>
+#include <cstddef>
 #include <memory>
 #include <new>
 #include <optional>
@@ -78,6 +79,37 @@ struct Offsets {
     Word safe_read_only;
     Word read_only;
     Word tail;
+};
+
+enum class LagKind : Word {
+    Raise = HL_LAG_RAISE,
+    Settle = HL_LAG_SETTLE,
+    Shift = HL_LAG_SHIFT,
+    Close = HL_LAG_CLOSE,
+};
+
+/// A step of a lag; the address is that of a raise or a shift, and else 0.
+struct LagStep {
+    LagKind kind;
+    Word address;
+};
+
+/// The steps of a lag, at most four, in the order in which they are to be made.
+class Lag {
+  public:
+    const LagStep *begin() const noexcept { return steps_.data(); }
+    const LagStep *end() const noexcept { return begin() + count_; }
+    std::size_t size() const noexcept { return count_; }
+
+  private:
+    friend class Core;
+    explicit Lag(const hl_lag_steps &told) noexcept : count_(static_cast<std::size_t>(told.count)) {
+        for (std::size_t i = 0; i < count_; i++)
+            steps_[i] = {static_cast<LagKind>(told.steps[i].kind), told.steps[i].address};
+    }
+
+    std::array<LagStep, 4> steps_{};
+    std::size_t count_;
 };
 
 /// All quantities; frames counts those of each state.
@@ -315,6 +347,13 @@ class Core {
                         all.taken,
                         detail::offsets_of(all.six),
                         {frames[0], frames[1], frames[2], frames[3], frames[4]}};
+    }
+    /// The steps that a flusher makes next, for whoever wants about so many pages at the tail to be written and about
+    /// so many to be read; hl_lag says more. OutOfRange: not 1 <= mutable_pages <= resident_pages < frames.
+    Result<Lag> lag(Word mutable_pages, Word resident_pages) {
+        hl_lag_steps told = detail::ask(hl_lag, at_.get(), mutable_pages, resident_pages);
+        if (told.number != 0) return detail::refused(told.number);
+        return Lag(told);
     }
     Result<Pending> pending(Word place) {
         return detail::made(detail::ask(hl_pending, at_.get(), place), [](const hl_outcome &it) {

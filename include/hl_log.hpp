@@ -354,6 +354,12 @@ class Log {
         std::lock_guard<std::mutex> lock(shared_->mutex);
         return *shared_->core.snapshot();
     }
+    /// As that of a core.
+    Result<Lag> lag(Word mutable_pages, Word resident_pages) {
+        if (!shared_) return detail::refused(HL_NO_CORE);
+        std::lock_guard<std::mutex> lock(shared_->mutex);
+        return shared_->core.lag(mutable_pages, resident_pages);
+    }
 
     /// Takes what the journal has, and leaves it empty. Calls of a pass that took no lock are in it once the pass has
     /// made one that does.

@@ -1,8 +1,11 @@
-// What a core tells at each moment of one page's way, by the calls that throw a refusal.
+// What a core tells at each moment of one page's way, and the lags of docs/FORMATS.md, by the calls that throw a
+// refusal.
 #define HL_EXCEPTIONS
 #include "hl.hpp"
 
+#include <algorithm>
 #include <cstdio>
+#include <initializer_list>
 
 static int wrong;
 
@@ -47,6 +50,34 @@ static void the_way_of_a_page() {
     is("offsets", all.offsets.closed == 4 && core.six().value().tail == 4);
 }
 
+static bool is_lag(hl::Core &core, std::initializer_list<hl::LagStep> wanted) {
+    hl::Lag lag = core.lag(1, 2).value();
+    return std::equal(lag.begin(), lag.end(), wanted.begin(), wanted.end(), [](hl::LagStep told, hl::LagStep it) {
+        return told.kind == it.kind && told.address == it.address;
+    });
+}
+
+static void the_steps_of_a_lag() {
+    hl::Core core(hl::Sizes(4, 8, 1, 4));
+    hl::Slot slot = core.acquire(0).value();
+    slot.allocate(4).value();
+    is("a lag of one page", is_lag(core, {}));
+    slot.allocate(4).value();
+    core.raise(8).value();
+    core.settle().value();
+    slot.refresh().value();
+    is("two pages are settled", is_done(core, hl::Kind::Settles, 8));
+    for (hl::Word page = 0; page < 2; page++)
+        core.flush_done(core.flush_take().value(), true).value();
+    for (hl::Word words : {4, 4, 1})
+        slot.allocate(words).value();
+    is("a lag of all four steps",
+       is_lag(core,
+              {{hl::LagKind::Raise, 16}, {hl::LagKind::Settle, 0}, {hl::LagKind::Shift, 8}, {hl::LagKind::Close, 0}}));
+    is("a raise and a shift", core.raise(16).value() == 16 && core.shift(8).value() == 8);
+    is("a lag of what is left", is_lag(core, {{hl::LagKind::Settle, 0}, {hl::LagKind::Close, 0}}));
+}
+
 template <class Make> static bool throws(Make make) {
     try {
         make();
@@ -58,6 +89,7 @@ template <class Make> static bool throws(Make make) {
 
 int main() {
     the_way_of_a_page();
+    the_steps_of_a_lag();
     is("sizes out of range throw", throws([] { hl::Sizes(3, 2, 2, 4); }));
     is("a value of a refusal throws", throws([] { (void)hl::Core(hl::Sizes(4, 2, 2, 4)).take().value(); }));
     std::printf("a core in C++: %d wrong\n", wrong);

@@ -19,6 +19,7 @@ static void no_core(void) {
     wants("an allocation of no core", hl_allocate(&core, 0, 1).number, HL_NO_CORE);
     wants("offsets of no core", hl_six(&core).number, HL_NO_CORE);
     wants("quantities of no core", hl_snapshot(&core).number, HL_NO_CORE);
+    wants("a lag of no core", hl_lag(&core, 1, 1).number, HL_NO_CORE);
     wants("a frame of no core", hl_frame(&core, 0).number, HL_NO_CORE);
     wants("a free of no core", hl_free(&core), HL_NO_CORE);
     wants("a first opening", hl_open(&core, 4, 2, 2, 1), 0);
@@ -71,6 +72,9 @@ static void out_of_place(void) {
     wants("a page where none is closed", hl_clean_take(&core).number, HL_NONE_CLOSED);
     wants("an end of no cleaning", hl_clean_done(&core, 0).number, HL_NOT_CLEANING);
     wants("a frame that isn't there", hl_frame(&core, 2).number, HL_OUT_OF_RANGE);
+    wants("a lag with no mutable page", hl_lag(&core, 0, 1).number, HL_OUT_OF_RANGE);
+    wants("a lag with more mutable pages than resident ones", hl_lag(&core, 2, 1).number, HL_OUT_OF_RANGE);
+    wants("a lag with all frames resident", hl_lag(&core, 1, 2).number, HL_OUT_OF_RANGE);
     wants("a place where nothing waits", hl_pending(&core, 1).number, HL_OUT_OF_RANGE);
     wants("the end", hl_free(&core), 0);
 }

@@ -43,6 +43,7 @@ static void no_core() {
     hl::Core second = std::move(first);
     wants("a step of a core that was moved", first.take(), hl::Fault::NoCore);
     wants("offsets of a core that was moved", first.six(), hl::Fault::NoCore);
+    wants("a lag of a core that was moved", first.lag(1, 1), hl::Fault::NoCore);
     is("a slot of a core that was moved", slot.refresh().has_value());
     hl::Slot other = std::move(slot);
     wants("a slot that was moved", slot.refresh(), hl::Fault::NoCore);
@@ -80,6 +81,9 @@ static void out_of_place() {
     wants("an end of no flush", one.flush_done(0, true), hl::Fault::NotInFlight);
     wants("an end of no cleaning", one.clean_done(0), hl::Fault::NotCleaning);
     wants("a frame that isn't there", one.frame(2), hl::Fault::OutOfRange);
+    wants("a lag with no mutable page", one.lag(0, 1), hl::Fault::OutOfRange);
+    wants("a lag with more mutable pages than resident ones", one.lag(2, 1), hl::Fault::OutOfRange);
+    wants("a lag with all frames resident", one.lag(1, 2), hl::Fault::OutOfRange);
     wants("a place where nothing waits", one.pending(0), hl::Fault::OutOfRange);
 }
 
@@ -100,6 +104,7 @@ static void a_log() {
     is("a pass releases its slot", log.acquire(0).has_value());
     hl::Log other = std::move(log);
     wants("a step of a log that was moved", log.take(), hl::Fault::NoCore);
+    wants("a lag of a log that was moved", log.lag(1, 1), hl::Fault::NoCore);
     wants("an acquire of a log that was moved", log.acquire(0), hl::Fault::NoCore);
     is("the log that it was moved to", other.snapshot().epoch == 1);
 }

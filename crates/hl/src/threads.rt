@@ -46,9 +46,8 @@ pub type Outs<T> = Vec<Result<T, Fault>>;
 /// log. Each thread is in a session while it works, and the crew serves until all have ended. A
 /// rider whose thread can't be made works after another, in that one's thread.
 ///
-/// If the thread from which the riders' threads start can't be made, the crew serves before the
-/// riders work: it waits for a stop that only their end gives, so the call doesn't return, unless
-/// the crew is refused too.
+/// If the crew's own thread can't be made, the riders work without a crew, and it serves after them: a rider that waits
+/// for a frame then waits for good.
 ///
 /// Faults: `Size` if the opening is out of range, has fewer than four riders, or another number of
 /// frames than the duty was checked for; `OutOfMemory` if memory was refused before the threads
@@ -119,12 +118,12 @@ fn run_all<L: Realm + Send + Sync, R: Threads + Wait + Sync, P: Work<R> + Sync>(
         return (Err(Fault::Size), riders);
     };
     let stop = Stop::new();
-    let (worked, crew) = thread::join(
+    // If the first one's thread can't be made, it runs after the second: a crew that ran first would wait for its stop.
+    let ((crew, ended), worked) = thread::join(
         rt,
-        || work_to_the_stop(rt, alloc, log, riders, work, &stop),
         || serve_behind(rt, alloc, log, crew, duty, work, &stop),
+        || work_to_the_stop(rt, alloc, log, riders, work, &stop),
     );
-    let (crew, ended) = crew;
     let Ok(worked) = worked else {
         return (Err(Fault::OutOfMemory), Vec::new(alloc));
     };

@@ -1,3 +1,4 @@
 pub mod Doors
+pub mod Lags
 pub mod Outcomes
 pub mod Slots

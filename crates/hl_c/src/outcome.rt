@@ -5,9 +5,9 @@ use hl_action::Firing;
 use hl_model::{Fault, FrameState, Kind, Reply, Tag, View, Waiting};
 
 /// The number of a call on a handle at which no core is open, and of an open on one at which one is.
-const NO_CORE: u64 = 255;
-/// The number of a call with sizes, a place or a frame out of range.
-const OUT_OF_RANGE: u64 = 254;
+pub(crate) const NO_CORE: u64 = 255;
+/// The number of a call with sizes, a place, a frame or the pages of a lag out of range.
+pub(crate) const OUT_OF_RANGE: u64 = 254;
 
 /// A reply as numbers: 0 and up to four numbers for an answer, the fault's number and up to two for a fault.
 #[repr(C)]

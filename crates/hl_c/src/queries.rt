@@ -4,9 +4,11 @@ ghost use Rattle.hl_model.specs.Frames.{frame_of};
 ghost use Rattle.hl_model.specs.Snapshots.{six, snapshot_of};
 ghost use Rattle.hl_model.specs.Views.{slot_view};
 ghost use Rattle.hl_c.specs.Doors.{Tells};
+ghost use Rattle.hl_c.specs.Lags.{lag_answer, no_lag};
 ghost use Rattle.hl_c.specs.Outcomes.{six_told, no_six, snapshot_told, no_snapshot, pending_told, frame_told, view_told, no_core, out_of_range};
 
 use crate::handle::Handle;
+use crate::lag::LagOutcome;
 use crate::outcome::Outcome;
 use crate::quantities::{SixOutcome, SnapshotOutcome};
 
@@ -39,6 +41,24 @@ pub extern "C" fn hl_snapshot(handle: &mut Handle) -> SnapshotOutcome
             outcome
         }
         None => SnapshotOutcome::no_core(),
+    }
+}
+
+/// The steps by which the offsets follow the tail, for whoever wants about `mutable` pages at the tail to be written and
+/// about `resident` to be read. It makes none of them. Out of range unless `1 <= mutable <= resident < F`: with all frames
+/// resident, none would ever come free.
+#[unsafe(no_mangle)]
+pub extern "C" fn hl_lag(handle: &mut Handle, mutable: u64, resident: u64) -> LagOutcome
+    ensures { Tells handle.old.slot.value (λ sizes A. lag_answer sizes (six sizes A) mutable resident)
+        (no_lag 255) handle.new.slot.value result }
+{
+    match handle.take_core() {
+        Some(core) => {
+            let outcome = LagOutcome::of(core.params(), core.six(), mutable, resident);
+            handle.put_core(core);
+            outcome
+        }
+        None => LagOutcome::no_core(),
     }
 }
 

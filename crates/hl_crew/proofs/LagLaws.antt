@@ -5,7 +5,7 @@ use Rattle.std.proofs.lemmas.List.Elements.{All-append}
 use Rattle.hl_model.specs.declared.step.Step.{Step}
 use Rattle.hl_model.specs.declared.view.Six.{Six}
 use Rattle.hl_model.specs.declared.step.Step.TheVariants.{Raise, Settle, Shift, Close}
-use Rattle.hl_flush.specs.Lag.{step_if, lag_of, read_only_at, head_at}
+use Rattle.hl_lag.specs.Lag.{step_if, lag_of, read_only_at, head_at}
 use Rattle.hl_crew.specs.Lags.{is_lag_step}
 
 one_step : (b : Bool) (step : Step) → is_lag_step step ≡ true → All (λ step. is_lag_step step ≡ true) (step_if b step)

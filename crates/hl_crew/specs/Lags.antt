@@ -8,7 +8,7 @@ use Rattle.hl_model.specs.declared.step.Step.TheVariants.{Raise, Settle, Shift, 
 use Rattle.hl_model.specs.Actions.{bumps}
 use Rattle.hl_model.specs.Offsets.{read_only, head}
 use Rattle.hl_model.specs.Snapshots.{snapshot_of}
-use Rattle.hl_flush.specs.Lag.{lag_of}
+use Rattle.hl_lag.specs.Lag.{lag_of}
 use Rattle.hl_words.specs.States.{RiderState}
 use Rattle.hl_keeper.specs.Calls.{Makes, Stays}
 use Rattle.hl_domain.specs.Domains.{DomainState, LeavesUnderLock, UnderLock}

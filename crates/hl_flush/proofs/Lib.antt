@@ -1,3 +1,2 @@
 pub mod EngineLaws
 pub mod FlushLaws
-pub mod LagLaws

@@ -1,7 +1,9 @@
 //! A core.
 
 use crate::raw::{self, Brief, Handle, Outcome};
-use crate::{Action, Done, Entered, Fault, Frame, Kind, Offsets, Pending, Sizes, Slot, Snapshot, View};
+use crate::{
+    Action, Done, Entered, Fault, Frame, Kind, LagStep, Offsets, Pending, Sizes, Slot, Snapshot, View,
+};
 use std::cell::UnsafeCell;
 
 /// The proved core: epochs, stored actions, offsets and page frames. It is freed where it is dropped.
@@ -215,6 +217,44 @@ impl Core {
         }
     }
 
+    /// The steps that a flusher makes next, for whoever wants about `mutable` pages at the tail to be written and about
+    /// `resident` to be read: a raise, a settle, a shift and a close, in this order, each where its offset isn't there
+    /// yet (`docs/FORMATS.md` has the rule). It makes none of them.
+    ///
+    /// At the offsets as they are the raise and the shift are accepted; the settle and the close can meet what
+    /// [`Core::settle`] and [`Core::close`] do. Ask while no action is pending and none is taken: an action takes effect
+    /// when it is done, and until then each call tells the settle or the close again.
+    ///
+    /// OutOfRange unless `1 <= mutable <= resident < frames`: with all frames resident, no page may be closed before the
+    /// next one needs its frame.
+    ///
+    /// ```
+    /// use hl::{Core, LagStep, Sizes};
+    ///
+    /// let core = Core::open(Sizes::checked(4, 4, 1, 4)?)?;
+    /// let slot = core.acquire(0)?;
+    /// slot.allocate(4)?;
+    /// slot.allocate(1)?;
+    /// for step in core.lag(1, 2)? {
+    ///     match step {
+    ///         LagStep::Raise(to) => core.raise(to)?,
+    ///         LagStep::Settle => core.settle()?,
+    ///         LagStep::Shift(to) => core.shift(to)?,
+    ///         LagStep::Close => core.close()?,
+    ///     };
+    /// }
+    /// assert_eq!(core.offsets().read_only, 4);
+    /// # Ok::<(), hl::Fault>(())
+    /// ```
+    pub fn lag(&self, mutable: u64, resident: u64) -> Result<impl Iterator<Item = LagStep>, Fault> {
+        // SAFETY: as in `ask`.
+        let told = unsafe { raw::hl_lag(self.handle.get(), mutable, resident) };
+        match told.number {
+            0 => Ok(told.steps.into_iter().take(told.count as usize).map(lag_step)),
+            number => Err(Fault::of(number, 0, 0)),
+        }
+    }
+
     /// The pending actions, oldest first.
     pub fn pending(&self) -> impl Iterator<Item = Pending> + '_ {
         (0..).map_while(|place| {
@@ -282,6 +322,15 @@ fn entered(told: Outcome) -> Entered {
     Entered {
         epoch: told.a,
         view: view_of(told),
+    }
+}
+
+fn lag_step(step: raw::LagStep) -> LagStep {
+    match step.kind {
+        1 => LagStep::Raise(step.address),
+        2 => LagStep::Settle,
+        3 => LagStep::Shift(step.address),
+        _ => LagStep::Close,
     }
 }
 

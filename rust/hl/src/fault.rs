@@ -64,7 +64,7 @@ pub enum Fault {
     OutOfMemory,
     /// 4,096 epochs have ended and aren't safe.
     WindowFull,
-    /// A size, a frame or a place in a list is out of range.
+    /// A size, a frame, a place in a list or a number of pages is out of range.
     OutOfRange,
 }
 

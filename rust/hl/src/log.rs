@@ -1,7 +1,9 @@
 //! Not proved: a log for many threads, a core under a mutex beside words that need none. Tests compare it with the
 //! proved core step by step.
 
-use crate::{Action, Clean, Core, Done, Entry, Fault, Flush, Offsets, Pass, Reply, Sizes, Snapshot, Step};
+use crate::{
+    Action, Clean, Core, Done, Entry, Fault, Flush, LagStep, Offsets, Pass, Reply, Sizes, Snapshot, Step,
+};
 use std::sync::atomic::{AtomicU64, Ordering};
 use std::sync::{Mutex, MutexGuard, PoisonError};
 
@@ -154,6 +156,11 @@ impl Log {
     /// All quantities.
     pub fn snapshot(&self) -> Snapshot {
         self.lock().core.snapshot()
+    }
+
+    /// As [`Core::lag`].
+    pub fn lag(&self, mutable: u64, resident: u64) -> Result<impl Iterator<Item = LagStep>, Fault> {
+        self.lock().core.lag(mutable, resident)
     }
 
     /// Takes what the journal has, and leaves it empty. Calls of a pass that took no lock are in it once the pass has

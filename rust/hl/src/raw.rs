@@ -68,6 +68,20 @@ pub(crate) struct Quantities {
     pub(crate) frames: [u64; 5],
 }
 
+#[repr(C)]
+#[derive(Clone, Copy)]
+pub(crate) struct LagStep {
+    pub(crate) kind: u64,
+    pub(crate) address: u64,
+}
+
+#[repr(C)]
+pub(crate) struct LagSteps {
+    pub(crate) number: u64,
+    pub(crate) count: u64,
+    pub(crate) steps: [LagStep; 4],
+}
+
 extern "C" {
     pub(crate) fn hl_open(
         core: *mut Handle,
@@ -98,6 +112,7 @@ extern "C" {
     pub(crate) fn hl_clean_done(core: *mut Handle, page: u64) -> Brief;
     pub(crate) fn hl_six(core: *mut Handle) -> Six;
     pub(crate) fn hl_snapshot(core: *mut Handle) -> Quantities;
+    pub(crate) fn hl_lag(core: *mut Handle, mutable_pages: u64, resident_pages: u64) -> LagSteps;
     pub(crate) fn hl_pending(core: *mut Handle, place: u64) -> Outcome;
     pub(crate) fn hl_frame(core: *mut Handle, frame: u64) -> Outcome;
     pub(crate) fn hl_view(core: *mut Handle, slot: u64) -> Outcome;

@@ -130,6 +130,19 @@ pub struct Offsets {
     pub tail: u64,
 }
 
+/// A step of a lag, which brings an offset to where it should be.
+#[derive(Clone, Copy, Debug, PartialEq, Eq)]
+pub enum LagStep {
+    /// A raise of the read-only offset to this address.
+    Raise(u64),
+    /// A settle.
+    Settle,
+    /// A shift of the head to this address.
+    Shift(u64),
+    /// A close.
+    Close,
+}
+
 /// All quantities.
 #[derive(Clone, Copy, Debug, Default, PartialEq, Eq)]
 pub struct Snapshot {

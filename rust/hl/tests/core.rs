@@ -1,6 +1,6 @@
-//! What a core tells at each moment of one page's way.
+//! What a core tells at each moment of one page's way, and the lags of `docs/FORMATS.md`.
 
-use hl::{Action, Core, Done, Fault, Frame, Kind, Offsets, Pending, Sizes, View};
+use hl::{Action, Core, Done, Fault, Frame, Kind, LagStep, Offsets, Pending, Sizes, View};
 
 #[test]
 fn the_way_of_a_page() -> Result<(), Fault> {
@@ -79,4 +79,34 @@ fn the_way_of_a_page() -> Result<(), Fault> {
     };
     assert_eq!((all.offsets, core.offsets()), (offsets, offsets));
     core.release(number)
+}
+
+#[test]
+fn the_steps_of_a_lag() -> Result<(), Fault> {
+    let core = Core::open(Sizes::checked(4, 8, 1, 4)?)?;
+    let lag = || core.lag(1, 2).map(Iterator::collect::<Vec<_>>);
+    let mut slot = core.acquire(0)?;
+    slot.allocate(4)?;
+    assert_eq!(lag()?, []);
+    slot.allocate(4)?;
+    core.raise(8)?;
+    core.settle()?;
+    slot.refresh()?;
+    assert_eq!(core.done(core.take()?.ticket)?, Done::Settled(8));
+    for _ in 0..2 {
+        core.flush_done(core.flush_take()?, true)?;
+    }
+    for words in [4, 4, 1] {
+        slot.allocate(words)?;
+    }
+    let all = [
+        LagStep::Raise(16),
+        LagStep::Settle,
+        LagStep::Shift(8),
+        LagStep::Close,
+    ];
+    assert_eq!(lag()?, all);
+    assert_eq!((core.raise(16)?, core.shift(8)?), (16, 8));
+    assert_eq!(lag()?, [LagStep::Settle, LagStep::Close]);
+    Ok(())
 }

@@ -35,7 +35,7 @@ fn sizes_out_of_range() {
 #[test]
 fn calls_out_of_place() {
     let core = core();
-    let rows: [(&str, Result<u64, Fault>, Fault); 14] = [
+    let rows: [(&str, Result<u64, Fault>, Fault); 17] = [
         (
             "a slot that isn't there",
             core.refresh(2).map(|_| 0),
@@ -76,6 +76,21 @@ fn calls_out_of_place() {
         (
             "a frame that isn't there",
             core.frame(2).map(|_| 0),
+            Fault::OutOfRange,
+        ),
+        (
+            "a lag with no mutable page",
+            core.lag(0, 1).map(|_| 0),
+            Fault::OutOfRange,
+        ),
+        (
+            "a lag with more mutable pages than resident ones",
+            core.lag(2, 1).map(|_| 0),
+            Fault::OutOfRange,
+        ),
+        (
+            "a lag with all frames resident",
+            core.lag(1, 2).map(|_| 0),
             Fault::OutOfRange,
         ),
     ];

@@ -9,7 +9,7 @@ use arrayvec::ArrayVec;
 use hl_action::{Promise, Task};
 use hl_drain::Ask;
 use hl_epoch::Epochs;
-use hl_flush::lag_steps;
+use hl_lag::lag_steps;
 use hl_model::{Fault, Params, Snapshot, Step};
 use hl_words::{Realm, Rider};
 use std::sync::Wait;

@@ -1,7 +1,7 @@
 ghost use Rattle.std.specs.Prelude.{◌≡◌, ◌+◌, ◌<◌, ◌≤◌, None, ◌++◌, length};
 ghost use Rattle.std.specs.List.{All};
 ghost use Rattle.hl_model.specs.Snapshots.{AreInOrder};
-ghost use Rattle.hl_flush.specs.Lag.{step_if, lag_of, fault_at};
+ghost use Rattle.hl_lag.specs.Lag.{step_if, lag_of, fault_at};
 
 use arrayvec::ArrayVec;
 use hl_model::{Params, Six, Step};

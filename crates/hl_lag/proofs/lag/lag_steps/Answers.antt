@@ -1,7 +1,7 @@
 use Rattle.std.proofs.Common.{◌≡◌, refl, arith}
-use Rattle.hl_flush.specs.Lag.{pages_up_to, read_only_at, head_at}
-use Rattle.hl_flush.proofs.LagLaws.{pages_up_to-is, lag-lawful}
-use Rattle.hl_flush.proofs.lag.lag_steps.Goals as goal
+use Rattle.hl_lag.specs.Lag.{pages_up_to, read_only_at, head_at}
+use Rattle.hl_lag.proofs.LagLaws.{pages_up_to-is, lag-lawful}
+use Rattle.hl_lag.proofs.lag.lag_steps.Goals as goal
 
 -- the pages up to the tail
 pages_is : (c : goal.After-push_if-4) → c.div_ceil-pages.result ≡ pages_up_to c.args.params.page_size c.args.six.tail

@@ -12,7 +12,7 @@ use Rattle.hl_model.specs.Replies.{raise_fault}
 use Rattle.hl_model.proofs.ListLaws.{max-has}
 use Rattle.hl_laws.proofs.NoFaultLaws.{shift_lawful}
 use Rattle.hl_model.specs.Snapshots.{AreInOrder}
-use Rattle.hl_flush.specs.Lag.{pages_up_to, read_only_at, head_at, step_if, lag_of, fault_at}
+use Rattle.hl_lag.specs.Lag.{pages_up_to, read_only_at, head_at, step_if, lag_of, fault_at}
 
 -- so many pages, and one more where words are left, is a quotient that is rounded up
 rounded_up : (page_size q r : ℕ) → r < page_size → q + min 1 r ≡ (q * page_size + r + page_size - 1) / page_size

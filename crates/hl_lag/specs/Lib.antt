@@ -1,0 +1,2 @@
+pub mod Lag
+pub use Rattle.hl_model.specs.Snapshots
