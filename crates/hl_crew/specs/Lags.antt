@@ -1,5 +1,5 @@
 -- The lag that a flusher keeps.
-use Rattle.std.specs.Prelude.{◌≡◌, ℕ, ◌+◌, ◌≤◌, ◌==◌, ◌&&◌, if◌then◌else◌, Bool, true, false, Some, Result, Ok, Err, List, [], ◌∷◌, ◌++◌, length, slice_get}
+use Rattle.std.specs.Prelude.{◌≡◌, ℕ, ◌≤◌, ◌==◌, ◌&&◌, if◌then◌else◌, Bool, true, false, Some, Result, Ok, Err, List, [], ◌∷◌, ◌++◌, length, slice_get}
 use Rattle.hl_model.specs.declared.fault.Fault.{Fault}
 use Rattle.hl_model.specs.declared.fault.Fault.TheVariants.{JournalFull}
 use Rattle.hl_model.specs.declared.snapshot.Snapshot.{Snapshot}
@@ -83,8 +83,3 @@ pub record KeepsLag
 abbrev pub makes_room : Cuts → Bool
 makes_room (Above steps) = true
 makes_room _ = false
-
--- the journal was cut: all steps that were met in it are cut, and none was left
-abbrev pub IsCut : (F : Type 0) → DomainState → Type 0
-IsCut F domain = LeavesUnderLock F domain (λ before after.
-    (after.journal ≡ []) × (after.cut ≡ before.cut + length before.journal))

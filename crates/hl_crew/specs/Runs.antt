@@ -1,12 +1,11 @@
 -- The flusher's turns.
-use Rattle.std.specs.Prelude.{◌≡◌, ℕ, ◌≤◌, Bool, true, Result, Ok, Err, IsErr, OnErr, MatchResult}
+use Rattle.std.specs.Prelude.{ℕ, ◌≤◌, Bool, Result, Ok, Err, IsErr, OnErr, MatchResult}
 use Rattle.hl_words.specs.States.{RiderState}
 use Rattle.hl_domain.specs.Domains.{DomainState}
 use Rattle.hl_crew.specs.declared.messages.Over.{Over}
-use Rattle.hl_crew.specs.declared.messages.Over.TheVariants.{Full, Lost}
 use Rattle.hl_crew.specs.declared.orders.Orders.{Orders}
 use Rattle.hl_crew.specs.Goes.{Followed, UpTo}
-use Rattle.hl_crew.specs.Lags.{KeepsLag, makes_room, IsCut}
+use Rattle.hl_crew.specs.Lags.{KeepsLag}
 use Rattle.hl_crew.specs.Turns.{RunsAction}
 
 -- a turn kept the lag that was ordered, and then ran actions; where either failed, so did the turn
@@ -22,17 +21,11 @@ pub record MakesTurn
       × UpTo (RunsAction F domain) 4 ran lagged acted × OnErr ran (IsErr result))
       (λ over. IsErr result)
 
--- after a turn that ended so another may follow: it ended well, or at a full journal, which was cut as was ordered
-abbrev pub GoesOn : (F : Type 0) → DomainState → Orders → Result (Unit {0}) Over → Type 0
-GoesOn F domain orders (Ok done) = Unit {0}
-GoesOn F domain orders (Err Full) = (makes_room orders.cuts ≡ true) × IsCut F domain
-GoesOn F domain orders (Err Lost) = ⊥
-
--- a turn was made after which another may follow; where it ended the turns it ended so
+-- a turn was made; where it ended the turns it ended so
 abbrev pub MakesAny : (F : Type 0) → DomainState → Orders
     → ℕ → Result Bool Over → RiderState → RiderState → Type 0
 MakesAny F domain orders i (Ok moved) old new =
-    (made : Result (Unit {0}) Over) × MakesTurn F domain orders made old new × GoesOn F domain orders made
+    (made : Result (Unit {0}) Over) × MakesTurn F domain orders made old new
 MakesAny F domain orders i (Err over) old new = MakesTurn F domain orders (Err over) old new
 
 -- as many turns were made as it takes for them to be over, or one of them ended them

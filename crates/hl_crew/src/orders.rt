@@ -1,5 +1,5 @@
-ghost use Rattle.std.specs.Prelude.{◌≡◌, ℕ, true, Some, None};
-ghost use Rattle.hl_crew.specs.Lags.{makes_room, IsCut};
+ghost use Rattle.std.specs.Prelude.{◌≡◌, ℕ, Some, None};
+ghost use Rattle.hl_crew.specs.Lags.{makes_room};
 
 use crate::duty::Duty;
 use hl_action::{Promise, Task};
@@ -65,8 +65,7 @@ pub(crate) fn make_room<R: Wait, E: Epochs + Drop, F: Task, P: Promise, L: Realm
     rider: &mut Rider<L>,
     fault: &Fault,
 ) -> bool
-    ensures rider { rider.new ≡ rider.old }
-    ensures cut { result ≡ true → IsCut F domain.now }
+    ensures { rider.new ≡ rider.old }
 {
     let is_cut = orders.makes_room() && matches!(fault, Fault::JournalFull);
     if is_cut {
