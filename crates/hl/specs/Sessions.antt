@@ -5,8 +5,8 @@ use Rattle.hl_model.specs.declared.step.Step.TheVariants.{Acquire}
 use Rattle.hl_words.specs.States.{RiderState}
 use Rattle.hl_keeper.specs.Passes.{PassRecord, with_rider}
 use Rattle.hl_core.specs.Holding.{least_free}
-use Rattle.hl_keeper.specs.Calls.{Makes, MakesAt, acquired_pass}
-use Rattle.hl_domain.specs.Domains.{DomainState, MakesUnderLock}
+use Rattle.hl_keeper.specs.Calls.{Makes, MakesAt}
+use Rattle.hl_domain.specs.Domains.{DomainState, call_of, enter_call, pass_at, MakesUnderLock}
 use Rattle.hl.specs.declared.refused.Refused.{Refused}
 
 -- a session: its log, and its pass there
@@ -28,16 +28,30 @@ abbrev pub pass_of : {Y : Type 0} → Result SessionState (Refused Y) → Result
 pass_of (Ok session) = Ok session.pass
 pass_of (Err refused) = Err refused.fault
 
+-- the rider whom a call for a slot leaves: that of the session, or the one handed back
+abbrev pub seated : Result SessionState (Refused RiderState) → RiderState
+seated (Ok session) = session.pass.rider
+seated (Err refused) = refused.back
+
+-- the rider whom the end of a session leaves: the one returned, or that of the session handed back
+abbrev pub unseated : Result RiderState (Refused SessionState) → RiderState
+unseated (Ok rider) = rider
+unseated (Err refused) = refused.back.pass.rider
+
 -- a log was asked for slot t by this rider, and answered as an acquire does
-abbrev pub Asked : (F : Type 0) → DomainState → RiderState → ℕ → Result PassRecord Fault → Type 0
+abbrev pub Asked : (F : Type 0) → DomainState → RiderState → ℕ
+    → Result SessionState (Refused RiderState) → Type 0
 Asked F log rider t result =
-    MakesUnderLock F log result (λ old. Makes old (Acquire t) (acquired_pass old t rider))
+    MakesUnderLock F log (call_of (Acquire t) rider (seated result)) (pass_of result)
+    (λ old. Makes old (Acquire t) (pass_at old t (seated result)))
 
 -- a log was asked for the least slot that isn't protected, and answered as an acquire of it does
-abbrev pub Entered : (F : Type 0) → DomainState → RiderState → Result PassRecord Fault → Type 0
-Entered F log rider result = MakesUnderLock F log result (λ old.
-    MakesAt old (λ A. Acquire (least_free old.core.sizes A))
-    (λ A. acquired_pass old (least_free old.core.sizes A) rider A))
+abbrev pub Entered : (F : Type 0) → DomainState → RiderState
+    → Result SessionState (Refused RiderState) → Type 0
+Entered F log rider result =
+    MakesUnderLock F log (enter_call log.sizes rider (seated result)) (pass_of result)
+    (λ old. MakesAt old (λ A. Acquire (least_free old.core.sizes A))
+    (λ A. pass_at old (least_free old.core.sizes A) (seated result) A))
 
 -- the same session, but for its rider
 abbrev pub KeepsAllButRider : SessionState → SessionState → Type 0

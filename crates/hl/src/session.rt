@@ -1,12 +1,12 @@
 //! A thread's time in a slot of a log.
-ghost use Rattle.std.specs.Prelude.{◌≡◌, ◌+◌, ◌-◌, ◌/◌, ◌^◌, ◌≤◌, ◌++◌, length, IfOk, IfErr, MatchResult};
+ghost use Rattle.std.specs.Prelude.{◌≡◌, ◌+◌, ◌-◌, ◌/◌, ◌^◌, ◌≤◌, ◌++◌, IfOk, IfErr, MatchResult};
 ghost use Rattle.hl_model.specs.declared.step.Step.TheVariants.{Refresh as REFRESH, Release as RELEASE, Allocate as ALLOCATE};
 ghost use Rattle.hl_model.specs.Offsets.{place_of, tail};
 ghost use Rattle.hl_model.specs.Views.{view_of};
-ghost use Rattle.hl_keeper.specs.Passes.{seen, rested, with_share, with_tail};
+ghost use Rattle.hl_keeper.specs.Passes.{seen, with_rider, with_tail};
 ghost use Rattle.hl_keeper.specs.Calls.{call_fault, refresh_fault, touched_list, MakesTouched, IsUpTo};
-ghost use Rattle.hl_domain.specs.Domains.{MakesUnderLock};
-ghost use Rattle.hl.specs.Sessions.{with_pass, fault_alone, pass_of, Asked, Entered};
+ghost use Rattle.hl_domain.specs.Domains.{pass_call, with_held, MakesUnderLock};
+ghost use Rattle.hl.specs.Sessions.{with_pass, fault_alone, unseated, Asked, Entered};
 
 mod rider;
 mod words;
@@ -57,9 +57,8 @@ impl<'a, R: Wait, L: Realm, F: Task, P: Promise, E: Epochs + Drop> Session<'a, R
         log: &'a Log<L, F, P, E>,
         rider: Rider<L>,
     ) -> Result<Session<'a, R, L, F, P, E>, Refused<Rider<L>>>
-        ensures met { Entered F log.now rider (pass_of result) }
+        ensures met { Entered F log.now rider result }
         ensures log { IfOk result (λ session. session.log ≡ log.now) }
-        ensures back { IfErr result (λ refused. refused.back ≡ rider) }
     {
         match log.enter(rt, rider) {
             Ok(pass) => Ok(Session { rt, log, pass }),
@@ -76,9 +75,8 @@ impl<'a, R: Wait, L: Realm, F: Task, P: Promise, E: Epochs + Drop> Session<'a, R
         slot: u64,
         rider: Rider<L>,
     ) -> Result<Session<'a, R, L, F, P, E>, Refused<Rider<L>>>
-        ensures met { Asked F log.now rider slot (pass_of result) }
+        ensures met { Asked F log.now rider slot result }
         ensures log { IfOk result (λ session. session.log ≡ log.now) }
-        ensures back { IfErr result (λ refused. refused.back ≡ rider) }
     {
         match log.acquire(rt, slot, rider) {
             Ok(pass) => Ok(Session { rt, log, pass }),
@@ -91,13 +89,14 @@ impl<'a, R: Wait, L: Realm, F: Task, P: Promise, E: Epochs + Drop> Session<'a, R
     /// Faults: `Stranger` if the session saw an offset above the present one; `JournalFull`.
     pub fn refresh(&mut self) -> Result<View, Fault>
         ensures met { let p = self.old.pass
-            in MakesUnderLock F self.old.log result (λ old. MakesTouched old p (REFRESH p.slot)
-            (λ A. refresh_fault old A p)
+            in let call = pass_call p (REFRESH p.slot) self.new.pass.rider
+            in MakesUnderLock F self.old.log call result (λ old.
+            MakesTouched old p (REFRESH p.slot) (λ A. refresh_fault old A p)
             (λ A. view_of old.core.sizes p.slot (touched_list A p (REFRESH p.slot)))) }
-        ensures pass { let old = self.old
+        ensures pass { let pass = with_rider self.new.pass.rider self.old.pass
             in MatchResult result
-            (λ view. self.new ≡ with_pass (rested view old.pass) old)
-            (λ _. self.new ≡ old) }
+            (λ view. self.new ≡ with_pass (with_held view pass) self.old)
+            (λ _. self.new ≡ with_pass pass self.old) }
         ensures fresh { IfOk result (IsUpTo (seen self.old.pass)) }
     {
         self.log.refresh(self.rt, &mut self.pass)
@@ -110,13 +109,14 @@ impl<'a, R: Wait, L: Realm, F: Task, P: Promise, E: Epochs + Drop> Session<'a, R
     /// Faults: `JournalFull`, `Size`, `SpaceSpent`, `Busy`.
     pub fn allocate(&mut self, n: u64) -> Result<u64, Fault>
         ensures met { let p = self.old.pass
-            in MakesUnderLock F self.old.log result (λ old. MakesTouched old p (ALLOCATE p.slot n)
-            (λ A. call_fault old A p (ALLOCATE p.slot n))
+            in let call = pass_call p (ALLOCATE p.slot n) self.new.pass.rider
+            in MakesUnderLock F self.old.log call result (λ old.
+            MakesTouched old p (ALLOCATE p.slot n) (λ A. call_fault old A p (ALLOCATE p.slot n))
             (λ A. place_of old.core.sizes.page_size (tail old.core.sizes (A ++ p.touches)) n)) }
-        ensures pass { let old = self.old
+        ensures pass { let pass = with_rider self.new.pass.rider self.old.pass
             in MatchResult result
-            (λ a. self.new ≡ with_pass (rested (with_tail (a + n) (seen old.pass)) old.pass) old)
-            (λ _. self.new ≡ old) }
+            (λ a. self.new ≡ with_pass (with_held (with_tail (a + n) (seen pass)) pass) self.old)
+            (λ _. self.new ≡ with_pass pass self.old) }
         ensures above { IfOk result (λ a. (seen self.old.pass).tail ≤ a) }
         ensures within { IfOk result (λ address. address + n ≤ 2 ^ 48) }
         ensures one_page { let page_size = self.old.log.sizes.page_size
@@ -130,10 +130,12 @@ impl<'a, R: Wait, L: Realm, F: Task, P: Promise, E: Epochs + Drop> Session<'a, R
     /// Faults, with the session handed back: `JournalFull`.
     pub fn leave(self) -> Result<Rider<L>, Refused<Session<'a, R, L, F, P, E>>>
         ensures met { let p = self.entry.pass
-            in MakesUnderLock F self.entry.log (fault_alone result) (λ old. MakesTouched old p (RELEASE p.slot)
-            (λ A. call_fault old A p (RELEASE p.slot))
-            (λ A. with_share (length p.touches + 1) p.rider)) }
-        ensures back { IfErr result (λ refused. refused.back ≡ self.entry) }
+            in let call = pass_call p (RELEASE p.slot) (unseated result)
+            in MakesUnderLock F self.entry.log call (fault_alone result) (λ old.
+            MakesTouched old p (RELEASE p.slot) (λ A. call_fault old A p (RELEASE p.slot))
+            (λ A. unseated result)) }
+        ensures back { IfErr result (λ refused. refused.back
+            ≡ with_pass (with_rider refused.back.pass.rider self.entry.pass) self.entry) }
     {
         let Session { rt, log, pass } = self;
         match log.release(rt, pass) {

@@ -2,11 +2,13 @@
 use Rattle.std.specs.Prelude.{◌≡◌, ℕ, zero, suc, ◌+◌, ◌-◌, ◌^◌, min, Bool, true, false, Option, Result, Ok, Err, MatchResult, List}
 use Rattle.hl_model.specs.declared.fault.Fault.{Fault}
 use Rattle.hl_keeper.specs.declared.load.PageJob.{PageJob}
+use Rattle.hl_words.specs.States.{RiderState}
 use Rattle.hl_domain.specs.Domains.{DomainState}
 use Rattle.hl_crew.specs.declared.counts.Counts.{Counts}
 use Rattle.hl_crew.specs.declared.messages.Over.{Over}
 use Rattle.hl_crew.specs.Overs.{over_of}
-use Rattle.hl_crew.specs.Pouches.{Answers}
+use Rattle.hl_crew.specs.Pouches.{PageAnswer, Answers}
+use Rattle.hl_crew.specs.Waits.{Waits}
 
 -- one more; the count stays at the last number
 abbrev pub one_more : ℕ → ℕ
@@ -30,14 +32,17 @@ abbrev pub failed_more : ℕ → Counts → Counts
 failed_more zero c = c
 failed_more (suc n) c = counted false (failed_more n c)
 
--- a page, held in place `at`, was answered; an answer that the domain accepted was counted as that, and one that it
--- refused ends the turn and is counted as none
+-- a page, held in place `at`, was answered, after calls that entered nothing; an answer that the domain accepted was
+-- counted as that, and one that it refused ends the turn and is counted as none
 pub record AnswersAndCounts
-    (F : Type 0) (domain : DomainState) (page : ℕ) (ok : Bool) (at : ℕ)
+    (F : Type 0) (domain : DomainState) (told : PageAnswer) (at : ℕ)
     (old new : List (Option PageJob)) (before after : Counts) (result : Result (Unit {0}) Over)
     : Type 0 where
+  pub mid : RiderState
+  pub waits : Waits told.from mid
   pub answer : Result ℕ Fault
-  pub answers : Answers F domain page ok at old new answer
+  pub answers : Answers F domain (record { page = told.page; ok = told.ok; from = mid; to = told.to }) at
+      old new answer
   pub counts : MatchResult answer
-      (λ _. (result ≡ Ok tt) × (after ≡ counted ok before))
+      (λ _. (result ≡ Ok tt) × (after ≡ counted told.ok before))
       (λ fault. (result ≡ Err (over_of fault)) × (after ≡ before))

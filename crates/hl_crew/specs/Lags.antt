@@ -11,8 +11,7 @@ use Rattle.hl_model.specs.Snapshots.{snapshot_of}
 use Rattle.hl_lag.specs.Lag.{lag_of}
 use Rattle.hl_words.specs.States.{RiderState}
 use Rattle.hl_keeper.specs.Calls.{Makes, Stays}
-use Rattle.hl_domain.specs.Domains.{DomainState, LeavesUnderLock, UnderLock}
-use Rattle.hl_keeper.specs.Passes.{Shares}
+use Rattle.hl_domain.specs.Domains.{DomainState, call_of, answered, LeavesUnderLock, UnderLock}
 use Rattle.hl_crew.specs.declared.messages.Over.{Over}
 use Rattle.hl_crew.specs.declared.messages.Over.TheVariants.{Full}
 use Rattle.hl_crew.specs.declared.orders.Cuts.{Cuts}
@@ -44,13 +43,11 @@ effect_of (Raise x) A = read_only (A ++ Raise x ∷ [])
 effect_of (Shift x) A = head (A ++ Shift x ∷ [])
 effect_of step A = bumps (A ++ step ∷ [])
 
--- a step of the lag was answered as the domain answers it, and is its rider's where it was accepted
-pub record MakesStep
-    (F : Type 0) (domain : DomainState) (step : Step) (answer : Result ℕ Fault) (old new : RiderState)
-    : Type 0 where
-  pub met : LeavesUnderLock F domain (λ before after.
-      Makes before step (effect_of step) after answer × Stays before after)
-  pub share : Shares 1 answer old new
+-- a step of the lag was answered as the domain answers it
+abbrev pub MakesStep : (F : Type 0) → DomainState → Step → Result ℕ Fault → RiderState → RiderState → Type 0
+MakesStep F domain step answer old new =
+    LeavesUnderLock F domain (answered answer (call_of step old new))
+    (λ before after. Makes before step (effect_of step) after answer × Stays before after)
 
 -- step i of these was made; where it was refused none may follow
 abbrev pub MakesNext : (F : Type 0) → DomainState → List Step

@@ -5,4 +5,5 @@ pub mod Overs
 pub mod Pouches
 pub mod Runs
 pub mod Turns
+pub mod Waits
 pub mod Writes

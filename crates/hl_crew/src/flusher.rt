@@ -2,6 +2,7 @@ ghost use Rattle.std.specs.Prelude.{◌≡◌, OnOk};
 ghost use Rattle.hl_crew.specs.Lags.{IsLag};
 ghost use Rattle.hl_crew.specs.Pouches.{load_count};
 ghost use Rattle.hl_crew.specs.Runs.{MakesTurn, MakesAny, MakesTurns};
+ghost use Rattle.hl_crew.specs.Waits.{EndsTurn};
 
 use crate::counts::Counts;
 use crate::messages::{Channels, Over};
@@ -149,7 +150,7 @@ impl<R: Wait, E: Epochs + Drop, F: Task, P: Promise, L: Realm> Flusher<'_, R, E,
 
     // Cuts the journal, if the orders say so for this turn's end.
     fn end_turn(&self, rider: &mut Rider<L>)
-        ensures { rider.new ≡ rider.old }
+        ensures { EndsTurn F self.now.domain.now self.now.orders.cuts rider.old rider.new }
     {
         let is_wanted = match self.orders.cuts {
             Cuts::Never => false,

@@ -1,7 +1,7 @@
 ghost use Rattle.std.specs.Prelude.{◌≡◌, ℕ, ◌+◌, ◌<◌, Some, None, Err, replicate, position, is_none, is_some, length, IfSome, IfNone, OnOk, OnErr, false, slice_get, slice_set};
 ghost use Rattle.hl_model.specs.declared.fault.Fault.TheVariants.{NotInFlight};
-ghost use Rattle.hl_keeper.specs.Passes.{Shares};
-ghost use Rattle.hl_crew.specs.Pouches.{is_of, load_count, Answers};
+ghost use Rattle.hl_crew.specs.Pouches.{is_of, load_count, PageAnswer, Answers};
+ghost use Rattle.hl_crew.specs.Waits.{Waits};
 
 use hl_action::{Promise, Task};
 use hl_domain::{Domain, Load};
@@ -67,10 +67,11 @@ impl Pouch {
         ensures none { position (is_of page) self.old ≡ None
             → (result ≡ Err NotInFlight) × (self.new ≡ self.old) × (rider.new ≡ rider.old) }
         ensures held { (at : ℕ) → position (is_of page) self.old ≡ Some at
-            → Answers F domain.now page ok at self.old self.new result }
+            → let answer : PageAnswer = record { page = page; ok = ok; from = rider.old; to = rider.new }
+            in Answers F domain.now answer at self.old self.new result }
         ensures fewer { OnOk result (load_count self.new + 1 ≡ load_count self.old) }
         ensures refused { OnErr result (self.new ≡ self.old) }
-        ensures rider { Shares 1 result rider.old rider.new }
+        ensures waits { OnErr result (Waits rider.old rider.new) }
     {
         let Some(at) = self.place_of(page) else {
             return Err(Fault::NotInFlight);

@@ -1,14 +1,23 @@
 -- What contracts see of a domain, what a call met under its lock, and what is left of it at its end.
-use Rattle.std.specs.Prelude.{◌≡◌, ℕ, ◌+◌, Result, List, ◌++◌, length, map}
+use Rattle.std.specs.Prelude.{◌≡◌, ℕ, ◌+◌, Result, Ok, Err, List, [], ◌∷◌, ◌++◌, length, map}
+use Rattle.std.specs.List.{sum_by}
 use Rattle.hl_model.specs.declared.fault.Fault.{Fault}
 use Rattle.hl_model.specs.declared.step.Step.{Step}
+use Rattle.hl_model.specs.declared.step.Step.TheVariants.{Acquire}
+use Rattle.hl_model.specs.declared.view.View.{View}
+use Rattle.hl_model.specs.Views.{view_of}
 use Rattle.hl_model.specs.Sizes.{Sizes}
 use Rattle.hl_model.specs.Actions.{pending, taken}
 use Rattle.hl_model.specs.Bases.{base_of}
 use Rattle.hl_model.specs.Replies.{IsAccepted}
 use Rattle.hl_model.specs.Snapshots.{snapshot_of}
 use Rattle.hl_drain.specs.Actions.{waiting_of}
-use Rattle.hl_keeper.specs.Keepers.{job_tag, KeeperState, KeeperStands, IsOf}
+use Rattle.hl_core.specs.Holding.{least_free}
+use Rattle.hl_history.specs.Lists.{entry, IsOf, IsOneList}
+use Rattle.hl_words.specs.States.{RiderState, with_call}
+use Rattle.hl_keeper.specs.Keepers.{job_tag, KeeperState, KeeperStands}
+use Rattle.hl_keeper.specs.Passes.{PassRecord, new_pass, with_share}
+use Rattle.hl_keeper.specs.Stamps.{acquires_in}
 use Rattle.hl_keeper.specs.Calls.{Keeps}
 use Rattle.hl_keeper.specs.Endings.{EndingState}
 
@@ -18,8 +27,8 @@ pub record DomainState : Type 0 where
   pub stamp : ℕ
   pub riders : ℕ
 
--- what a call met under the lock: a keeper of the domain's sizes and stamp, which stood at a list, and of
--- both of which this holds
+-- what a call without a rider met under the lock: a keeper of the domain's sizes and stamp, which stood at a
+-- list, and of both of which this holds
 pub record UnderLock (F : Type 0) (domain : DomainState)
     (Holds : KeeperState F → List Step → Type 0) : Type 0 where
   pub keeper : KeeperState F
@@ -29,31 +38,110 @@ pub record UnderLock (F : Type 0) (domain : DomainState)
   pub stamp_is : keeper.stamp ≡ domain.stamp
   pub holds : Holds keeper list
 
--- what a call met under the lock, and what it left there: a keeper before it and one after it, both of the
--- domain's sizes and stamp, and each at some list; this holds of both
-pub record LeavesUnderLock
-    (F : Type 0) (domain : DomainState) (Holds : KeeperState F → KeeperState F → Type 0)
+-- a keeper of these sizes and this stamp, which stands at the list
+pub record IsAt {F : Type 0} (sizes : Sizes) (stamp : ℕ) (list : List Step) (keeper : KeeperState F)
     : Type 0 where
+  pub stands : KeeperStands keeper list
+  pub sizes_are : keeper.core.sizes ≡ sizes
+  pub stamp_is : keeper.stamp ≡ stamp
+
+-- what lies under the lock: a keeper, and the list of all steps that were entered
+pub record HeldState (F : Type 0) : Type 0 where
+  pub keeper : KeeperState F
+  pub list : List Step
+
+-- the keeper stands at the list
+abbrev pub IsHeld : {F : Type 0} → Sizes → ℕ → HeldState F → Type 0
+IsHeld sizes stamp held = IsAt sizes stamp held.list held.keeper
+
+-- a call of a rider: what it puts behind the list that it meets, and the rider before and after it
+pub record Call : Type 0 where
+  pub steps : List Step → List Step
+  pub old : RiderState
+  pub new : RiderState
+
+-- a call that makes one step
+abbrev pub call_of : Step → RiderState → RiderState → Call
+call_of s old new = record { steps = λ _. s ∷ []; old = old; new = new }
+
+-- a call of a pass, which enters its touches and makes one step
+abbrev pub pass_call : PassRecord → Step → RiderState → Call
+pass_call p s new = record { steps = λ _. p.touches ++ s ∷ []; old = p.rider; new = new }
+
+-- a call that makes none
+abbrev pub no_step : RiderState → RiderState → Call
+no_step old new = record { steps = λ _. []; old = old; new = new }
+
+-- a refused call makes none
+abbrev pub steps_if : {X : Type 0} → Result X Fault → List Step → List Step
+steps_if (Ok x) steps = steps
+steps_if (Err fault) steps = []
+
+-- the call as it was answered
+abbrev pub answered : {X : Type 0} → Result X Fault → Call → Call
+answered result call =
+    record { steps = λ list. steps_if result (call.steps list); old = call.old; new = call.new }
+
+-- a rider after a call that met this list, and put these steps behind it
+abbrev pub with_entry : List Step → List Step → RiderState → RiderState
+with_entry list steps r = with_call (entry list steps) (with_share (length steps) r)
+
+-- what a call met under the lock, and what it left there: a keeper that stood at the list of all steps, and one
+-- that stands at this list and the call's steps behind it. The rider's newest call is of exactly that list and
+-- those steps, and the list begins with what each earlier one left. This holds of both keepers
+pub record LeavesUnderLock
+    (F : Type 0) (domain : DomainState) (call : Call) (Holds : KeeperState F → KeeperState F → Type 0)
+    : Type 0 where
+  pub list : List Step
   pub before : KeeperState F
   pub after : KeeperState F
-  pub met : IsOf domain.sizes domain.stamp before
-  pub left : IsOf domain.sizes domain.stamp after
+  pub met : IsAt domain.sizes domain.stamp list before
+  pub left : IsAt domain.sizes domain.stamp (list ++ call.steps list) after
+  pub entered : call.new ≡ with_entry list (call.steps list) call.old
+  pub rises : IsOf list call.old.calls
   pub holds : Holds before after
 
 -- likewise of a call that keeps what such a call of a keeper does
-abbrev pub MakesUnderLock : {X : Type 0} (F : Type 0) → DomainState → Result X Fault
+abbrev pub MakesUnderLock : {X : Type 0} (F : Type 0) → DomainState → Call → Result X Fault
     → (KeeperState F → KeeperState F → Result X Fault → Type 0) → Type 0
-MakesUnderLock F domain result Holds =
-    LeavesUnderLock F domain (λ old new. Holds old new result × Keeps old new result)
+MakesUnderLock F domain call result Holds =
+    LeavesUnderLock F domain (answered result call) (λ old new. Holds old new result × Keeps old new result)
 
--- the steps that were cut and then the journal are an accepted list; the base is that of the steps cut; the
--- snapshot is that of both, and so are the actions left; riders entered as many steps as both have
-pub record IsEnding {F : Type 0} (sizes : Sizes) (shares : ℕ) (ending : EndingState F) : Type 0 where
+-- the pass that saw this at its last locked call, and did nothing since
+abbrev pub with_held : View → PassRecord → PassRecord
+with_held view p =
+    record { slot = p.slot; stamp = p.stamp; epoch = p.epoch; held = view; touches = []; rider = p.rider }
+
+-- the pass of a rider once slot t was acquired behind this list
+abbrev pub pass_at : {F : Type 0} → KeeperState F → ℕ → RiderState → List Step → PassRecord
+pass_at keeper t rider A =
+    new_pass t (keeper.stamp + acquires_in (A ++ Acquire t ∷ []))
+    (view_of keeper.core.sizes t (A ++ Acquire t ∷ [])) rider
+
+-- a call that acquires the least slot that isn't protected
+abbrev pub enter_call : Sizes → RiderState → RiderState → Call
+enter_call sizes old new = record { steps = λ A. Acquire (least_free sizes A) ∷ []; old = old; new = new }
+
+-- the rider whom an acquire leaves: that of the pass, or the one handed back
+abbrev pub acquirer : Result PassRecord (Fault × RiderState) → RiderState
+acquirer (Ok pass) = pass.rider
+acquirer (Err back) = back.1
+
+-- the rider whom a release leaves: the one handed out, or that of the pass handed back
+abbrev pub releaser : Result RiderState (Fault × PassRecord) → RiderState
+releaser (Ok rider) = rider
+releaser (Err back) = back.1.rider
+
+-- the steps that were cut and then the journal are an accepted list, which is the one list of all that these
+-- riders' calls met and made; the base is that of the steps cut; the snapshot is that of both, and so are the
+-- actions left; the riders entered as many steps as both have
+pub record IsEnding {F : Type 0} (sizes : Sizes) (riders : List RiderState) (ending : EndingState F) : Type 0 where
   pub steps_cut : List Step
   pub accepted : IsAccepted sizes (steps_cut ++ ending.journal)
+  pub one_list : IsOneList (steps_cut ++ ending.journal) (map (λ r. r.calls) riders)
   pub base_is : ending.base ≡ base_of sizes steps_cut
   pub cut_is : ending.cut ≡ length steps_cut
   pub snapshot_is : ending.snapshot ≡ snapshot_of sizes (steps_cut ++ ending.journal)
   pub pending_are : map (waiting_of job_tag) ending.left.pending ≡ pending (steps_cut ++ ending.journal)
   pub taken_are : ending.left.taken ≡ taken (steps_cut ++ ending.journal)
-  pub sum : ending.cut + length ending.journal ≡ shares
+  pub sum : ending.cut + length ending.journal ≡ sum_by (λ r. r.share) riders

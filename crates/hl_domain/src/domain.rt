@@ -1,30 +1,32 @@
-//! The keeper under one lock, beside the words, which need none.
-ghost use Rattle.std.specs.Prelude.{◌≡◌, ◌≢◌, ◌≤◌, length, replicate, IfOk, IfErr, OnOk};
-ghost use Rattle.std.specs.List.{sum_by};
+//! The keeper and the one list under a lock, beside the words, which need none.
+ghost use Rattle.std.specs.Prelude.{◌≡◌, ◌≢◌, ◌≤◌, ◌++◌, drop, length, replicate, IfOk, IfErr, OnOk};
 ghost use Rattle.std.specs.Sync.Mutex.{mutex_guard_value};
 ghost use Rattle.hl_model.specs.declared.fault.Fault.TheVariants.{OutOfMemory, Stranger};
-ghost use Rattle.hl_words.specs.States.{IsSeedOf, new_rider};
-ghost use Rattle.hl_keeper.specs.Keepers.{IsOf, steps_most};
-ghost use Rattle.hl_domain.specs.Domains.{IsEnding};
+ghost use Rattle.hl_history.specs.Lists.{entry, IsOf};
+ghost use Rattle.hl_words.specs.States.{IsSeedOf, new_rider, with_call};
+ghost use Rattle.hl_keeper.specs.Keepers.{steps_most};
+ghost use Rattle.hl_domain.specs.Domains.{IsEnding, IsHeld};
 
+mod held;
 mod pages;
 mod riders;
 mod slots;
 mod words;
 
+use crate::domain::held::Held;
 use hl_action::{Promise, Task};
 use hl_epoch::Epochs;
 use hl_keeper::{Ending, Keeper};
 use hl_model::{Fault, Params};
-use hl_words::{Realm, Rider, Seed, Words};
+use hl_words::{Realm, Rider, Scribe, Seed, Words};
 use std::alloc::Global;
 use std::marker::Model;
 use std::sync::{Mutex, MutexGuard, Wait};
 
-/// An allocator for many threads, which share it by a `&`: a [`Keeper`] under one lock, and the words beside it.
-/// What its contracts see are its sizes, its stamp, and how many riders it has.
+/// An allocator for many threads, which share it by a `&`: a [`Keeper`] and the one list of steps under a lock, and the
+/// words beside it. What its contracts see are its sizes, its stamp, and how many riders it has.
 pub struct Domain<E: Epochs, F: Task, P: Promise, L: Realm> {
-    keeper: Mutex<Keeper<E, F, P, L>>,
+    held: Mutex<Held<E, F, P, L>>,
     words: Words<L>,
     params: Params,
     stamp: u64,
@@ -45,7 +47,7 @@ impl<E: Epochs, F: Task, P: Promise, L: Realm> Model for Domain<E, F, P, L> {
 impl<E: Epochs + Drop, F: Task, P: Promise, L: Realm> Drop for Domain<E, F, P, L> {
     fn drop(self) {
         let Domain {
-            keeper: _,
+            held: _,
             words: _,
             params: _,
             stamp: _,
@@ -75,9 +77,11 @@ impl<E: Epochs + Drop, F: Task, P: Promise, L: Realm> Domain<E, F, P, L> {
         ensures memory { IfErr result (λ fault. fault ≡ OutOfMemory) }
     {
         let params = seed.params();
-        let (keeper, words, riders) = Keeper::open(alloc, seed, journal, stamp)?;
+        let (keeper, words, scribe, riders) = Keeper::open_with_scribe(
+            alloc, seed, journal, stamp,
+        )?;
         let domain = Domain {
-            keeper: Mutex::new(keeper),
+            held: Mutex::new(Held { keeper, scribe }),
             words,
             params,
             stamp,
@@ -85,33 +89,33 @@ impl<E: Epochs + Drop, F: Task, P: Promise, L: Realm> Domain<E, F, P, L> {
         Ok((domain, riders))
     }
 
-    /// Ends it, where all riders are there: what is left of it. It needs no lock: nobody else has it.
+    /// Ends it, if all riders are there: what is left of it. The list of its steps is the one list of all calls of these
+    /// riders: it begins with what each of them met and left, and each step was entered by one of them. It needs no lock:
+    /// nobody else has it.
     ///
-    /// `Stranger`, with the domain's stamp, where a rider is missing; then all is handed back.
+    /// `Stranger`, with the domain's stamp, if a rider is missing; then all is handed back.
     pub fn close(
         self,
         riders: Vec<Rider<L>>,
     ) -> Result<Ending<F, P>, (Fault, Domain<E, F, P, L>, Vec<Rider<L>>)>
-        ensures ending { IfOk result (IsEnding self.sizes (sum_by (λ r. r.share) riders.items)) }
+        ensures ending { IfOk result (IsEnding self.sizes riders.items) }
         ensures all { OnOk result (length riders.items ≡ self.riders) }
         ensures missing { IfErr result (λ back.
             (back.0 ≡ Stranger self.stamp) × (length riders.items ≢ self.riders)) }
         ensures back { IfErr result (λ back. (back.1 ≡ self) × (back.2 ≡ riders)) }
     {
         let Domain {
-            keeper,
+            held,
             words,
             params,
             stamp,
         } = self;
-        let keeper = keeper.into_inner();
-        // As in `lock`.
-        let _ = keeper.params();
-        match keeper.close(words, riders) {
+        let (keeper, scribe) = held.into_inner().into_parts();
+        match keeper.close_with_scribe(words, scribe, riders) {
             Ok(ending) => Ok(ending),
-            Err((keeper, words, riders)) => {
+            Err((keeper, words, scribe, riders)) => {
                 let domain = Domain {
-                    keeper: Mutex::new(keeper),
+                    held: Mutex::new(Held { keeper, scribe }),
                     words,
                     params,
                     stamp,
@@ -135,13 +139,29 @@ impl<E: Epochs + Drop, F: Task, P: Promise, L: Realm> Domain<E, F, P, L> {
         self.stamp
     }
 
-    // Waits for the lock. What lies under it stands at some list.
-    fn lock<'a>(&'a self, rt: &impl Wait) -> MutexGuard<'a, Keeper<E, F, P, L>>
-        ensures { IsOf self.now.sizes self.now.stamp (mutex_guard_value result) }
+    // Waits for the lock. What lies under it is a keeper that stands at the scribe's list.
+    fn lock<'a>(&'a self, rt: &impl Wait) -> MutexGuard<'a, Held<E, F, P, L>>
+        ensures { IsHeld self.now.sizes self.now.stamp (mutex_guard_value result) }
     {
-        let guard = self.keeper.lock(rt);
+        let guard = self.held.lock(rt);
         // Of a value under a lock its type alone is known, and a call tells what that says.
-        let _ = guard.params();
+        guard.known();
         guard
+    }
+
+    // Notes a call of this rider: behind the list it puts the steps that the keeper's journal has since it was so long.
+    fn note(
+        &self,
+        keeper: &Keeper<E, F, P, L>,
+        before: usize,
+        scribe: &mut Scribe<L>,
+        rider: &mut Rider<L>,
+    )
+        requires { before ≤ length keeper.now.journal }
+        ensures list { scribe.new ≡ scribe.old ++ drop before keeper.now.journal }
+        ensures rider { rider.new ≡ with_call (entry scribe.old (drop before keeper.now.journal)) rider.old }
+        ensures rises { IsOf scribe.old rider.old.calls }
+    {
+        self.words.enter(scribe, rider, &keeper.journal()[before..]);
     }
 }

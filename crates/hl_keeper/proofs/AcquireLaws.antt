@@ -21,7 +21,7 @@ use Rattle.hl_keeper.specs.Passes.{PassRecord, new_pass, with_share}
 use Rattle.hl_keeper.specs.Journals.{JournalState, journal_of, with_steps}
 use Rattle.hl_keeper.specs.Keepers.{job_tag, KeeperState, KeeperStands}
 use Rattle.hl_keeper.specs.Stamps.{acquires_in}
-use Rattle.hl_keeper.specs.Calls.{room_fault, step_fault, made, Replied}
+use Rattle.hl_keeper.specs.Calls.{room_fault, step_fault, made, Replied, slot_after, acquired_pass}
 use Rattle.hl_keeper.proofs.KeeperLaws.{moved, Stamped}
 use Rattle.hl_keeper.proofs.StampLaws.{acquires_in-le, acquires_in-acquire, slot_stamps-acquire, length-slot_stamps}
 use Rattle.hl_keeper.proofs.StepLaws.{core_made, core_told, quiet}
@@ -48,10 +48,10 @@ module _ {F : Type 0} (keeper : KeeperState F) (A : List Step) (t : ℕ) (st : K
 
   -- its pass has the slot's stamp and view
   pub acquire_made : (u : Unit {0}) (core : State (KeptRecord F)) (slot : Slot) (journal : JournalState) (stamps : List ℕ) (acquired : ℕ) (offsets : OffsetWords) (total : ℕ) (rider after : RiderState) (pass : PassRecord) → Ok u ≡ unless_fault (room_fault keeper 1) (tt {0}) → Stepped job_tag keeper.core A (Acquire t) core (Ok (entered_reply slot))
-      → journal ≡ with_steps (Acquire t ∷ []) (journal_of keeper) → acquired ≡ keeper.acquired + 1 → stamps ≡ set keeper.stamps t (keeper.stamp + acquired) → offsets ≡ keeper.offsets → total ≡ keeper.total + 1 → after ≡ with_share 1 rider → pass ≡ new_pass t (keeper.stamp + acquired) slot.view after
-      → Replied (step_fault keeper A (Acquire t)) (new_pass t (keeper.stamp + acquires_in (A ++ Acquire t ∷ [])) (view_of keeper.core.sizes t (A ++ Acquire t ∷ [])) (with_share 1 rider)) (made (step_fault keeper A (Acquire t)) A (Acquire t)) (moved keeper core journal stamps acquired offsets total) (Ok pass)
+      → journal ≡ with_steps (Acquire t ∷ []) (journal_of keeper) → acquired ≡ keeper.acquired + 1 → stamps ≡ set keeper.stamps t (keeper.stamp + acquired) → offsets ≡ keeper.offsets → total ≡ keeper.total + 1 → after ≡ with_share 1 rider → pass ≡ new_pass t (keeper.stamp + acquired) slot after
+      → Replied (step_fault keeper A (Acquire t)) (acquired_pass keeper t rider A) (made (step_fault keeper A (Acquire t)) A (Acquire t)) (moved keeper core journal stamps acquired offsets total) (Ok pass)
   acquire_made u core slot journal stamps acquired offsets total rider after pass room stepped j a s o n r p =
-      core_made keeper A (Acquire t) u core (entered_reply slot) pass _ journal stamps acquired offsets total st room stepped (p ∙ whole) j stamped (quiet keeper A (Acquire t) offsets st refl refl o) n
+      core_made keeper A (Acquire t) u core (entered_reply slot) pass _ journal stamps acquired offsets total st room stepped (p ∙ whole) j stamped (quiet keeper A (Acquire t) offsets st refl refl refl o) n
     where
       B : List Step
       B = A ++ Acquire t ∷ []
@@ -59,11 +59,14 @@ module _ {F : Type 0} (keeper : KeeperState F) (A : List Step) (t : ℕ) (st : K
       stamped : Stamped keeper B stamps acquired
       stamped = acquire_stamps stamps acquired a s
 
-      of_reply : (e d : ℕ) (v w : View) → Entered e v ≡ Entered d w → v ≡ w
-      of_reply e d v w h = cc
+      of_reply : (e d : ℕ) (v w : View) → Entered e v ≡ Entered d w → (e ≡ d) × (v ≡ w)
+      of_reply e d v w h = (cc, cc)
 
-      view : slot.view ≡ view_of keeper.core.sizes t B
-      view = of_reply slot.epoch (epoch_of t B) slot.view (view_of keeper.core.sizes t B) (core_told keeper A (Acquire t) core (entered_reply slot) stepped).1
+      told : (slot.epoch ≡ epoch_of t B) × (slot.view ≡ view_of keeper.core.sizes t B)
+      told = of_reply slot.epoch (epoch_of t B) slot.view (view_of keeper.core.sizes t B) (core_told keeper A (Acquire t) core (entered_reply slot) stepped).1
 
-      whole : new_pass t (keeper.stamp + acquired) slot.view after ≡ new_pass t (keeper.stamp + acquires_in B) (view_of keeper.core.sizes t B) (with_share 1 rider)
-      whole = ap₂ (λ (m : ℕ) (w : View). new_pass t (keeper.stamp + m) w after) stamped.count view ∙ ap (λ z. new_pass t (keeper.stamp + acquires_in B) (view_of keeper.core.sizes t B) z) r
+      at : slot ≡ slot_after keeper.core.sizes t B
+      at = ap₂ (λ (e : ℕ) (v : View). let q : Slot = record { epoch = e; view = v } in q) told.0 told.1
+
+      whole : new_pass t (keeper.stamp + acquired) slot after ≡ acquired_pass keeper t rider A
+      whole = ap₂ (λ (m : ℕ) (w : Slot). new_pass t (keeper.stamp + m) w after) stamped.count at ∙ ap (new_pass t (keeper.stamp + acquires_in B) (slot_after keeper.core.sizes t B)) r

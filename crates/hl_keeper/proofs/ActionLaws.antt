@@ -1,11 +1,11 @@
 -- What a keeper's bump and take answer.
-use Rattle.std.proofs.Common.{◌≡◌, ℕ, false, List, [], ◌∷◌, ◌++◌, refl, ap, ◌∙◌}
+use Rattle.std.proofs.Common.{◌≡◌, ℕ, true, false, List, [], ◌∷◌, ◌++◌, refl, ap, ◌∙◌}
 use Rattle.std.specs.Prelude.{Option, Ok}
-use Rattle.hl_model.specs.declared.step.Reply.TheVariants.{Ticket, Taken as TakenReply}
+use Rattle.hl_model.specs.declared.step.Reply.TheVariants.{Ticket, Bumped, Taken as TakenReply}
 use Rattle.hl_model.specs.declared.step.Step.{Step}
-use Rattle.hl_model.specs.declared.step.Step.TheVariants.{Take}
+use Rattle.hl_model.specs.declared.step.Step.TheVariants.{Bare, Take}
 use Rattle.hl_model.specs.Actions.{bumps, front}
-use Rattle.hl_model.specs.Epochs.{safe_epoch}
+use Rattle.hl_model.specs.Epochs.{is_bump, safe_epoch}
 use Rattle.hl_model.specs.Offsets.{raised_to, shifted_to}
 use Rattle.hl_model.specs.Sizes.{Sizes}
 use Rattle.hl_model.specs.Replies.{answer_of}
@@ -22,11 +22,11 @@ use Rattle.hl_keeper.specs.Stamps.{is_acquire}
 use Rattle.hl_keeper.specs.Taking.{TakenFrom, taken_from}
 use Rattle.hl_keeper.proofs.StepLaws.{core_told}
 
--- a bump moves no offset
-pub asking_quiet : {J : Type 0} (tag : J → ℕ) (ask : Ask J) → (raised_to (asking tag ask) ≡ 0) × (shifted_to (asking tag ask) ≡ 0)
-asking_quiet tag Settle = (refl, refl)
-asking_quiet tag Close = (refl, refl)
-asking_quiet tag (User job) = (refl, refl)
+-- a bump moves no offset, and ends an epoch
+pub asking_bumps : {J : Type 0} (tag : J → ℕ) (ask : Ask J) → (raised_to (asking tag ask) ≡ 0) × (shifted_to (asking tag ask) ≡ 0) × (is_bump (asking tag ask) ≡ true)
+asking_bumps tag Settle = (refl, refl, refl)
+asking_bumps tag Close = (refl, refl, refl)
+asking_bumps tag (User job) = (refl, refl, refl)
 
 -- is no acquire
 pub asking_acquires : {J : Type 0} (tag : J → ℕ) (ask : Ask J) → is_acquire (asking tag ask) ≡ false
@@ -47,6 +47,13 @@ module _ {F : Type 0} where
       ((core_told keeper A (asking job_tag ask) core (Ticket ticket) stepped).1 ∙ asking_answer job_tag ask keeper.core.sizes A (A ++ asking job_tag ask ∷ []))
     where
       value : (a b : ℕ) → Ticket a ≡ Ticket b → a ≡ b
+      value a b h = cc
+
+  -- a bare bump with the epoch that it ended
+  pub bare_epoch : (keeper : KeeperState F) (A : List Step) (core : State (KeptRecord F)) (ended : ℕ) → Stepped job_tag keeper.core A Bare core (Ok (Bumped ended)) → ended ≡ bumps (A ++ Bare ∷ [])
+  bare_epoch keeper A core ended stepped = value ended (bumps (A ++ Bare ∷ [])) (core_told keeper A Bare core (Bumped ended) stepped).1
+    where
+      value : (a b : ℕ) → Bumped a ≡ Bumped b → a ≡ b
       value a b h = cc
 
   -- a take is answered with the front, at the safe epoch

@@ -15,8 +15,10 @@ use Rattle.hl_core.specs.Standing.{State, Stands}
 use Rattle.hl_keeper.specs.Journals.{JournalState, journal_of, with_steps}
 use Rattle.hl_keeper.specs.Keepers.{job_tag, KeeperState, KeeperStands, steps_most}
 use Rattle.hl_keeper.specs.Stamps.{is_acquire, acquires_in, slot_stamps}
+use Rattle.hl_keeper.specs.Stores.{stores_of}
 use Rattle.hl_keeper.specs.Calls.{room_fault}
 use Rattle.hl_keeper.proofs.JournalLaws.{full-none}
+use Rattle.hl_keeper.proofs.StoreLaws.{stores-nil}
 use Rattle.hl_keeper.proofs.StampLaws.{acquires_in-nil, acquires_in-stay, slot_stamps-nil, slot_stamps-stay}
 
 module _ {F : Type 0} where
@@ -29,6 +31,7 @@ module _ {F : Type 0} where
     history = sym (ap (λ (z : JournalState). z.steps) j);
     base_is = ap (λ (z : JournalState). z.base) j ∙ ap (λ z. base_of z []) (sym same);
     cut_is = ap (λ (z : JournalState). z.cut) j;
+    stores_are = ap (λ (z : MasterState). z.offsets) m ∙ sym stores-nil;
     read_only_is = ap (λ (z : MasterState). newest z.offsets.read_only) m ∙ sym read_only-nil;
     head_is = ap (λ (z : MasterState). newest z.offsets.head) m ∙ sym head-nil;
     total_is = ap (λ (z : MasterState). z.total) m;
@@ -52,6 +55,7 @@ module _ {F : Type 0} where
     history = sym (append-nil A) ∙ ap (λ z. A ++ z) (sym j);
     base_is = b;
     cut_is = omega (arith, counted k A st, st.total_is, m);
+    stores_are = st.stores_are;
     read_only_is = st.read_only_is;
     head_is = st.head_is;
     total_is = st.total_is;
@@ -85,9 +89,9 @@ module _ {F : Type 0} where
   -- it stands where its core does
   pub grown : (old : KeeperState F) (A xs : List Step) (core : State (KeptRecord F)) (journal : JournalState) (stamps : List ℕ) (acquired : ℕ) (offsets : OffsetWords) (total : ℕ) → KeeperStands old A → room_fault old (length xs) ≡ None
       → Stands job_tag core (A ++ xs) → core.sizes ≡ old.core.sizes → journal ≡ with_steps xs (journal_of old) → Stamped old (A ++ xs) stamps acquired
-      → newest offsets.read_only ≡ read_only (A ++ xs) → newest offsets.head ≡ head (A ++ xs) → total ≡ old.total + length xs
+      → offsets ≡ stores_of (A ++ xs) → newest offsets.read_only ≡ read_only (A ++ xs) → newest offsets.head ≡ head (A ++ xs) → total ≡ old.total + length xs
       → KeeperStands (moved old core journal stamps acquired offsets total) (A ++ xs)
-  grown old A xs core journal stamps acquired offsets total st room core_st same j stamped r h t =
+  grown old A xs core journal stamps acquired offsets total st room core_st same j stamped s r h t =
       let most = room-none old (length xs) room in
       let len : length (old.journal ++ xs) ≡ length old.journal + length xs = length-append old.journal xs in
       subst (λ (z : JournalState). KeeperStands (moved old core z stamps acquired offsets total) (A ++ xs)) (sym j) (record {
@@ -96,6 +100,7 @@ module _ {F : Type 0} where
         history = ap (λ z. z ++ xs) st.history ∙ append_assoc st.steps_cut old.journal xs;
         base_is = st.base_is ∙ ap (λ z. base_of z st.steps_cut) (sym same);
         cut_is = st.cut_is;
+        stores_are = s;
         read_only_is = r;
         head_is = h;
         total_is = omega (arith, t, st.total_is, length-append A xs);

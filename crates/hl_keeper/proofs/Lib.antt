@@ -1,5 +1,6 @@
 pub mod TouchLaws
 pub mod PassLaws
+pub mod NewsLaws
 pub mod StampLaws
 pub mod JournalLaws
 pub mod KeeperLaws
@@ -8,6 +9,7 @@ pub mod EnterLaws
 pub mod TouchedLaws
 pub mod SlotLaws
 pub mod StepLaws
+pub mod StoreLaws
 pub mod AcquireLaws
 pub mod ActionLaws
 pub mod SweepLaws

@@ -18,7 +18,7 @@ use Rattle.hl_keeper.proofs.TouchLaws.{touches_more}
 
 -- a pass with other touches, and another rider
 abbrev pass_with : PassRecord → List Step → RiderState → PassRecord
-pass_with p xs rider = record { slot = p.slot; stamp = p.stamp; held = p.held; touches = xs; rider = rider }
+pass_with p xs rider = record { slot = p.slot; stamp = p.stamp; epoch = p.epoch; held = p.held; touches = xs; rider = rider }
 
 -- a pass with all its touches
 pub touches_full : (p : PassRecord) (n : ℕ) → n ≡ length p.touches → n ≡ touches_most → Err TouchesFull ≡ unless_fault (touch_fault p) (tt {0})
@@ -95,7 +95,7 @@ store_touches p v a x xs h is are e =
 
 -- the pass after a store
 pub store_is : (sizes : Sizes) (a x : ℕ) (p : PassRecord) (cell : ℕ) (rider : RiderState) (xs : List Step) → store_fault p a ≡ None → cell ≡ cell_at sizes a → rider ≡ with_view (stored cell x p.rider.view) p.rider → xs ≡ p.touches ++ Write p.slot a x ∷ []
-    → ◌≡◌ {A = PassRecord} (record { slot = p.slot; stamp = p.stamp; held = p.held; touches = xs; rider = rider }) (unless_refused (store_fault p a) p (with_store sizes a x p))
+    → ◌≡◌ {A = PassRecord} (record { slot = p.slot; stamp = p.stamp; epoch = p.epoch; held = p.held; touches = xs; rider = rider }) (unless_refused (store_fault p a) p (with_store sizes a x p))
 unfolding with_store
 store_is sizes a x p cell rider xs h c r e =
     ap₂ (λ (z : List Step) (q : RiderState). pass_with p z q) e (r ∙ ap (λ d. with_view (stored d x p.rider.view) p.rider) c)
@@ -103,13 +103,13 @@ store_is sizes a x p cell rider xs h c r e =
 
 -- the pass after a load
 pub load_is : (sizes : Sizes) (a x : ℕ) (p : PassRecord) (cell : ℕ) (rider : RiderState) → cell ≡ cell_at sizes a → rider ≡ with_view (loaded cell x p.rider.view) p.rider
-    → ◌≡◌ {A = PassRecord} (record { slot = p.slot; stamp = p.stamp; held = p.held; touches = p.touches; rider = rider }) (with_load sizes a x p)
+    → ◌≡◌ {A = PassRecord} (record { slot = p.slot; stamp = p.stamp; epoch = p.epoch; held = p.held; touches = p.touches; rider = rider }) (with_load sizes a x p)
 unfolding with_load
 load_is sizes a x p cell rider c r = ap (λ (q : RiderState). pass_with p p.touches q) (r ∙ ap (λ d. with_view (loaded d x p.rider.view) p.rider) c)
 
 -- the pass after a change at an address
 pub change_is : (sizes : Sizes) (a found x : ℕ) (p : PassRecord) (cell : ℕ) (rider : RiderState) (xs : List Step) → cell ≡ cell_at sizes a → rider ≡ with_view (changed cell found x p.rider.view) p.rider → xs ≡ p.touches ++ Write p.slot a x ∷ []
-    → ◌≡◌ {A = PassRecord} (record { slot = p.slot; stamp = p.stamp; held = p.held; touches = xs; rider = rider }) (with_change sizes a found x p)
+    → ◌≡◌ {A = PassRecord} (record { slot = p.slot; stamp = p.stamp; epoch = p.epoch; held = p.held; touches = xs; rider = rider }) (with_change sizes a found x p)
 unfolding with_change
 change_is sizes a found x p cell rider xs c r e =
     ap₂ (λ (z : List Step) (q : RiderState). pass_with p z q) e (r ∙ ap (λ d. with_view (changed d found x p.rider.view) p.rider) c)
@@ -151,7 +151,7 @@ looks_on r h old new first second a b c low high =
 
 -- the pass after a look
 pub look_is : (p : PassRecord) (r h : ℕ) (rider : RiderState) (xs : List Step) → touch_fault p ≡ None → rider ≡ with_view (with_loaded Head h (with_loaded ReadOnly r p.rider.view)) p.rider → xs ≡ p.touches ++ look_made p.slot (seen p) r h
-    → ◌≡◌ {A = PassRecord} (record { slot = p.slot; stamp = p.stamp; held = p.held; touches = xs; rider = rider }) (unless_refused (touch_fault p) p (with_look (newest rider.view.offsets.read_only) (newest rider.view.offsets.head) p))
+    → ◌≡◌ {A = PassRecord} (record { slot = p.slot; stamp = p.stamp; epoch = p.epoch; held = p.held; touches = xs; rider = rider }) (unless_refused (touch_fault p) p (with_look (newest rider.view.offsets.read_only) (newest rider.view.offsets.head) p))
 unfolding with_look
 look_is p r h rider xs none e t =
     let last : with_look (newest rider.view.offsets.read_only) (newest rider.view.offsets.head) p ≡ with_look r h p =

@@ -111,12 +111,12 @@ module _ {F : Type 0} where
     standing = subst (λ (z : List Step). KeeperStands new z) (sym (ap (λ z. entered z A p.touches s) h)) called.standing;
   }
 
-  -- the reply to a refresh is a view, and that to an allocation a place
-  pub refresh_view : (old : KeeperState F) (A : List Step) (p : PassRecord) (t : ℕ) (new : KeeperState F) (r : Reply) (e : ℕ) (v : View) → Called old A p (Refresh t) new (Ok r) → r ≡ Entered e v → v ≡ view_of old.core.sizes t (touched_list A p (Refresh t))
-  refresh_view old A p t new r e v called is = of_reply e v (epoch_of t (touched_list A p (Refresh t))) (view_of old.core.sizes t (touched_list A p (Refresh t))) (sym is ∙ (accepted old A p (Refresh t) new r called).1)
+  -- the reply to a refresh is an epoch and a view, and that to an allocation a place
+  pub refresh_slot : (old : KeeperState F) (A : List Step) (p : PassRecord) (t : ℕ) (new : KeeperState F) (r : Reply) (e : ℕ) (v : View) → Called old A p (Refresh t) new (Ok r) → r ≡ Entered e v → (e ≡ epoch_of t (touched_list A p (Refresh t))) × (v ≡ view_of old.core.sizes t (touched_list A p (Refresh t)))
+  refresh_slot old A p t new r e v called is = of_reply e v (epoch_of t (touched_list A p (Refresh t))) (view_of old.core.sizes t (touched_list A p (Refresh t))) (sym is ∙ (accepted old A p (Refresh t) new r called).1)
     where
-      of_reply : (e : ℕ) (v : View) (d : ℕ) (w : View) → Entered e v ≡ Entered d w → v ≡ w
-      of_reply e v d w h = cc
+      of_reply : (e : ℕ) (v : View) (d : ℕ) (w : View) → Entered e v ≡ Entered d w → (e ≡ d) × (v ≡ w)
+      of_reply e v d w h = (cc, cc)
 
   pub allocate_place : (old : KeeperState F) (A : List Step) (p : PassRecord) (t n : ℕ) (new : KeeperState F) (r : Reply) (a : ℕ) → Called old A p (Allocate t n) new (Ok r) → r ≡ At a → a ≡ place_of old.core.sizes.page_size (tail old.core.sizes (A ++ p.touches)) n
   allocate_place old A p t n new r a called is = of_reply a (place_of old.core.sizes.page_size (tail old.core.sizes (A ++ p.touches)) n) (sym is ∙ (accepted old A p (Allocate t n) new r called).1)
@@ -159,8 +159,8 @@ module _ {F : Type 0} where
         most = omega (arith, place, size.2);
       }
 
--- the pass after a call that leaves it with a view
-pub rested_is : (p mid new : PassRecord) (v w : View) → mid ≡ entered_by p → new ≡ record { slot = mid.slot; stamp = mid.stamp; held = v; touches = []; rider = mid.rider } → v ≡ w → new ≡ rested w p
+-- the pass after a call that leaves it with an epoch and a view
+pub rested_is : (p mid new : PassRecord) (epoch : ℕ) (v w : View) → mid ≡ entered_by p → new ≡ record { slot = mid.slot; stamp = mid.stamp; epoch = epoch; held = v; touches = []; rider = mid.rider } → v ≡ w → new ≡ rested epoch w p
 unfolding rested
-rested_is p mid new v w m n e =
-    n ∙ ap₂ (λ (q : PassRecord) (z : View). let made : PassRecord = record { slot = q.slot; stamp = q.stamp; held = z; touches = []; rider = q.rider } in made) m e
+rested_is p mid new epoch v w m n e =
+    n ∙ ap₂ (λ (q : PassRecord) (z : View). let made : PassRecord = record { slot = q.slot; stamp = q.stamp; epoch = epoch; held = z; touches = []; rider = q.rider } in made) m e

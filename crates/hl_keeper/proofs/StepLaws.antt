@@ -1,28 +1,34 @@
 -- What a keeper makes of one step of a rider's.
-use Rattle.std.proofs.Common.{◌≡◌, ℕ, ◌+◌, ◌≤◌, cond, is_none, List, [], ◌∷◌, ◌++◌, refl, sym, ap, ◌∙◌, subst, arith}
+use Rattle.std.proofs.Common.{◌≡◌, ℕ, ◌+◌, ◌≤◌, true, false, cond, is_none, List, [], ◌∷◌, ◌++◌, refl, sym, ap, ◌∙◌, subst, arith}
 use Rattle.std.specs.Prelude.{Option, Some, None, Ok, Err}
 use Rattle.hl_model.specs.declared.fault.Fault.{Fault}
 use Rattle.hl_model.specs.declared.step.Reply.{Reply}
 use Rattle.hl_model.specs.declared.step.Step.{Step}
 use Rattle.hl_model.specs.declared.step.Step.TheVariants.{Raise, Shift}
+use Rattle.hl_model.specs.Actions.{bumps}
+use Rattle.hl_model.specs.Epochs.{is_bump}
 use Rattle.hl_model.specs.Offsets.{raised_to, shifted_to, read_only, head}
 use Rattle.hl_model.specs.Replies.{or_fault, fault_of, answer_of, unless_fault}
-use Rattle.hl_laws.proofs.NoFaultLaws.{unless_err, unless_ok}
+use Rattle.hl_laws.proofs.ActionLaws.{bumps-push}
+use Rattle.hl_laws.proofs.NoFaultLaws.{unless_err, unless_ok, raise-none, shift-none}
 use Rattle.hl_laws.proofs.OffsetLaws.{read_only-stay, head-stay, read_only-raise, head-shift}
 use Rattle.hl_action.specs.Jobs.{KeptRecord}
 use Rattle.hl_words.specs.declared.view.OffsetWords.{OffsetWords}
-use Rattle.hl_words.specs.declared.which.Which.TheVariants.{ReadOnly, Head}
+use Rattle.hl_words.specs.declared.which.Which.TheVariants.{ReadOnly, Head, Ended}
 use Rattle.hl_words.specs.Views.{newest, with_offset}
 use Rattle.hl_core.specs.Standing.{State, Stands}
 use Rattle.hl_core.specs.Steps.{Stepped}
 use Rattle.hl_keeper.specs.Journals.{JournalState, journal_of, full_fault, with_steps}
 use Rattle.hl_keeper.specs.Keepers.{job_tag, KeeperState, KeeperStands, IsKeeper, steps_most}
+use Rattle.hl_keeper.specs.Stores.{stores_of}
 use Rattle.hl_keeper.specs.Calls.{room_fault, origin_fault, step_fault, end_fault, made, Replied}
 use Rattle.hl_keeper.proofs.EnterLaws.{stepped_on}
+use Rattle.hl_keeper.proofs.StoreLaws.{stores-stay, stores-raise, stores-shift, stores-bump, newest-ended}
 use Rattle.hl_keeper.proofs.KeeperLaws.{moved, Stamped, grown, room-none, counted}
 
--- the offset words are those of the list with the step
+-- the master's stores are those of the list with the step
 pub record Follow (A : List Step) (s : Step) (offsets : OffsetWords) : Type 0 where
+  pub stores_are : offsets ≡ stores_of (A ++ s ∷ [])
   pub read_only_is : newest offsets.read_only ≡ read_only (A ++ s ∷ [])
   pub head_is : newest offsets.head ≡ head (A ++ s ∷ [])
 
@@ -81,15 +87,16 @@ module _ {F : Type 0} where
       none = step_fits keeper A s u room ∙ on.0
 
       stands : KeeperStands (moved keeper core journal stamps acquired offsets total) (A ++ s ∷ [])
-      stands = grown keeper A (s ∷ []) core journal stamps acquired offsets total st (unless_ok (room_fault keeper 1) u (tt {0}) room).0 on.2 stepped.sizes j stamped follow.read_only_is follow.head_is t
+      stands = grown keeper A (s ∷ []) core journal stamps acquired offsets total st (unless_ok (room_fault keeper 1) u (tt {0}) room).0 on.2 stepped.sizes j stamped follow.stores_are follow.read_only_is follow.head_is t
 
   -- what was answered
   pub core_told : (keeper : KeeperState F) (A : List Step) (s : Step) (core : State (KeptRecord F)) (r : Reply) → Stepped job_tag keeper.core A s core (Ok r) → (fault_of keeper.core.sizes A s ≡ None) × (r ≡ answer_of keeper.core.sizes A (A ++ s ∷ []) s)
   core_told keeper A s core r stepped = let on = stepped_on job_tag keeper.core A s core r stepped in (on.0, on.1)
 
-  -- a step that moves neither offset
-  pub quiet : (keeper : KeeperState F) (A : List Step) (s : Step) (offsets : OffsetWords) → KeeperStands keeper A → raised_to s ≡ 0 → shifted_to s ≡ 0 → offsets ≡ keeper.offsets → Follow A s offsets
-  quiet keeper A s offsets st r h e = record {
+  -- a step that moves neither offset, and ends no epoch
+  pub quiet : (keeper : KeeperState F) (A : List Step) (s : Step) (offsets : OffsetWords) → KeeperStands keeper A → raised_to s ≡ 0 → shifted_to s ≡ 0 → is_bump s ≡ false → offsets ≡ keeper.offsets → Follow A s offsets
+  quiet keeper A s offsets st r h b e = record {
+    stores_are = e ∙ st.stores_are ∙ sym (stores-stay A s r h b);
     read_only_is = ap (λ (z : OffsetWords). newest z.read_only) e ∙ st.read_only_is ∙ sym (read_only-stay A s r);
     head_is = ap (λ (z : OffsetWords). newest z.head) e ∙ st.head_is ∙ sym (head-stay A s h);
   }
@@ -124,15 +131,29 @@ module _ {F : Type 0} where
   -- an offset word of a keeper that has gone on is stored anew
   pub raise_follows : (keeper : KeeperState F) (A : List Step) (x : ℕ) (offsets : OffsetWords) → KeeperStands keeper A → fault_of keeper.core.sizes A (Raise x) ≡ None → offsets ≡ with_offset ReadOnly x keeper.offsets → Follow A (Raise x) offsets
   raise_follows keeper A x offsets st none e = record {
+    stores_are = e ∙ ap (with_offset ReadOnly x) st.stores_are ∙ sym (stores-raise A x (omega (arith, (raise-none keeper.core.sizes A x none).0)));
     read_only_is = ap (λ (z : OffsetWords). newest z.read_only) e ∙ sym (read_only-raise keeper.core.sizes A x none);
     head_is = ap (λ (z : OffsetWords). newest z.head) e ∙ st.head_is ∙ sym (head-stay A (Raise x) refl);
   }
 
   pub shift_follows : (keeper : KeeperState F) (A : List Step) (x : ℕ) (offsets : OffsetWords) → KeeperStands keeper A → fault_of keeper.core.sizes A (Shift x) ≡ None → offsets ≡ with_offset Head x keeper.offsets → Follow A (Shift x) offsets
   shift_follows keeper A x offsets st none e = record {
+    stores_are = e ∙ ap (with_offset Head x) st.stores_are ∙ sym (stores-shift A x (omega (arith, (shift-none keeper.core.sizes A x none).0)));
     read_only_is = ap (λ (z : OffsetWords). newest z.read_only) e ∙ st.read_only_is ∙ sym (read_only-stay A (Shift x) refl);
     head_is = ap (λ (z : OffsetWords). newest z.head) e ∙ sym (head-shift keeper.core.sizes A x none);
   }
+
+  pub bump_follows : (keeper : KeeperState F) (A : List Step) (s : Step) (n : ℕ) (offsets : OffsetWords) → KeeperStands keeper A → raised_to s ≡ 0 → shifted_to s ≡ 0 → is_bump s ≡ true → n ≡ bumps (A ++ s ∷ []) → offsets ≡ with_offset Ended n keeper.offsets → Follow A s offsets
+  bump_follows keeper A s n offsets st r h b is e = record {
+    stores_are = e ∙ ap (with_offset Ended n) st.stores_are ∙ sym (stores-bump A s n r h b is);
+    read_only_is = ap (λ (z : OffsetWords). newest z.read_only) e ∙ st.read_only_is ∙ sym (read_only-stay A s r);
+    head_is = ap (λ (z : OffsetWords). newest z.head) e ∙ st.head_is ∙ sym (head-stay A s h);
+  }
+
+  -- the epoch that it ends is above those that were stored
+  pub bump_rises : (keeper : KeeperState F) (A : List Step) (s : Step) (n : ℕ) → KeeperStands keeper A → n ≡ bumps (A ++ s ∷ []) → newest keeper.offsets.ended ≤ n
+  bump_rises keeper A s n st is =
+      omega (arith, is, bumps-push A s, newest-ended A, ap (λ (z : OffsetWords). newest z.ended) st.stores_are)
 
   -- the replies are the offsets
   pub raise_told : (keeper : KeeperState F) (A : List Step) (x : ℕ) → fault_of keeper.core.sizes A (Raise x) ≡ None → x ≡ read_only (A ++ Raise x ∷ [])

@@ -9,7 +9,7 @@ use Rattle.hl_model.specs.declared.step.Step.{Step}
 use Rattle.hl_model.specs.declared.step.Step.TheVariants.{Refresh, Release, Allocate, Look, Write}
 use Rattle.hl_model.specs.declared.view.View.{View}
 use Rattle.hl_model.specs.Sizes.{Sizes}
-use Rattle.hl_model.specs.Epochs.{mark, enters, leaves, is_protected, epoch_of}
+use Rattle.hl_model.specs.Epochs.{is_bump, mark, enters, leaves, is_protected, epoch_of}
 use Rattle.hl_model.specs.Lists.{until_last}
 use Rattle.hl_model.specs.Offsets.{raised_to, shifted_to, read_only, head, place_of, tail_past, tail}
 use Rattle.hl_model.specs.Pages.{is_freed, frees}
@@ -23,6 +23,8 @@ use Rattle.hl_laws.proofs.OffsetLaws.{read_only-stay, head-stay, tail-push}
 use Rattle.hl_laws.proofs.ViewLaws.{is_protected-push, seen_read_only-push, seen_head-push, seen_tail-stay, slot_view-moves, slot_view-stay, is_protected-slot_view, view_of-slot_view}
 use Rattle.hl_laws.proofs.WorkLaws.{is_freed-stay}
 use Rattle.hl_core.specs.Steps.{is_acted}
+use Rattle.hl_keeper.specs.Stores.{stores_of}
+use Rattle.hl_keeper.proofs.StoreLaws.{stores-stay}
 use Rattle.hl_keeper.specs.Touches.{view_past, view_after, IsTouch, AreTouches, is_call}
 
 -- a slot with a view is protected, and the view is what it saw
@@ -46,12 +48,13 @@ pub record IsStill (s : Step) : Type 0 where
   pub shifts_none : shifted_to s ≡ 0
   pub tail_stays : (page_size tail : ℕ) → tail_past page_size tail s ≡ tail
   pub frees_none : (p : ℕ) → frees p s ≡ false
+  pub bumps_none : is_bump s ≡ false
   pub acted : is_acted s ≡ true
 
 -- a touch is such a step
 pub touch_still : (t : ℕ) (v : View) (s : Step) → IsTouch t v s → IsStill s
-touch_still t v (Look u r h) is = record { enters_none = λ t. refl; leaves_none = λ t. refl; raises_none = refl; shifts_none = refl; tail_stays = λ p q. refl; frees_none = λ p. refl; acted = refl }
-touch_still t v (Write u a x) is = record { enters_none = λ t. refl; leaves_none = λ t. refl; raises_none = refl; shifts_none = refl; tail_stays = λ p q. refl; frees_none = λ p. refl; acted = refl }
+touch_still t v (Look u r h) is = record { enters_none = λ t. refl; leaves_none = λ t. refl; raises_none = refl; shifts_none = refl; tail_stays = λ p q. refl; frees_none = λ p. refl; bumps_none = refl; acted = refl }
+touch_still t v (Write u a x) is = record { enters_none = λ t. refl; leaves_none = λ t. refl; raises_none = refl; shifts_none = refl; tail_stays = λ p q. refl; frees_none = λ p. refl; bumps_none = refl; acted = refl }
 touch_still t v _ is = absurd is
 
 -- a look of a slot that isn't below its view is accepted, and its view is then what the look brings
@@ -149,6 +152,16 @@ touches_leave_offsets sizes t A v (s ∷ xs) are =
       ap head whole ∙ rest.1 ∙ head-stay A s still.shifts_none,
       ap (tail sizes) whole ∙ rest.2 ∙ still_tail sizes A s still,
     )
+
+-- nor is any of them told by the master's words
+pub touches_leave_stores : (t : ℕ) (A : List Step) (v : View) (xs : List Step) → AreTouches t v xs → stores_of (A ++ xs) ≡ stores_of A
+unfolding AreTouches
+touches_leave_stores t A v [] are = ap stores_of (append-nil A)
+touches_leave_stores t A v (s ∷ xs) are =
+    let still = touch_still t v s are.0 in
+    ap stores_of (sym (append_assoc A (s ∷ []) xs))
+    ∙ touches_leave_stores t (A ++ s ∷ []) (view_past v s) xs are.1
+    ∙ stores-stay A s still.raises_none still.shifts_none still.bumps_none
 
 -- of touches none has a job go in or come out
 pub touches_act : (t : ℕ) (v : View) (xs : List Step) (n : ℕ) (d : Step) → AreTouches t v xs → n < length xs → is_acted (get_or xs n d) ≡ true

@@ -1,12 +1,15 @@
 -- The faults of a keeper's calls, in their order, and the list at which it stands after one.
-use Rattle.std.specs.Prelude.{◌≡◌, ℕ, ◌≤◌, Ok, Err, ◌+◌, ◌==◌, nat_le, Bool, false, ◌&&◌, if◌then◌else◌, Option, Some, None, is_some, is_none, Result, OnErr, List, [], ◌∷◌, ◌++◌, length, slice_index_or}
+use Rattle.std.specs.Prelude.{◌≡◌, ℕ, ◌≤◌, Ok, Err, ◌+◌, ◌==◌, nat_le, Bool, false, ◌&&◌, if◌then◌else◌, Option, Some, None, is_some, is_none, Result, OnOk, OnErr, List, [], ◌∷◌, ◌++◌, length, slice_index_or}
 use Rattle.hl_model.specs.declared.fault.Fault.{Fault}
 use Rattle.hl_model.specs.declared.fault.Fault.TheVariants.{Stranger}
+use Rattle.hl_model.specs.declared.slot.Slot.{Slot}
 use Rattle.hl_model.specs.declared.step.Reply.{Reply}
 use Rattle.hl_model.specs.declared.step.Step.{Step}
 use Rattle.hl_model.specs.declared.step.Step.TheVariants.{Acquire, Refresh}
 use Rattle.hl_model.specs.declared.view.View.{View}
+use Rattle.hl_model.specs.Epochs.{epoch_of}
 use Rattle.hl_model.specs.Offsets.{read_only, head}
+use Rattle.hl_model.specs.Sizes.{Sizes}
 use Rattle.hl_model.specs.Views.{slot_view, view_of}
 use Rattle.hl_model.specs.Replies.{or_fault, fault_of, answer_of, unless_fault}
 use Rattle.hl_words.specs.States.{RiderState}
@@ -88,6 +91,14 @@ entered fault A touches s = if is_none fault then (A ++ touches) ++ s ∷ [] els
 abbrev pub made : Option Fault → List Step → Step → List Step
 made fault A s = if is_none fault then A ++ s ∷ [] else A
 
+-- the list after a pass's step: the touches and the step behind A
+abbrev pub touched_list : List Step → PassRecord → Step → List Step
+touched_list A p s = (A ++ p.touches) ++ s ∷ []
+
+-- what slot t has after A: its epoch and its view
+abbrev pub slot_after : Sizes → ℕ → List Step → Slot
+slot_after sizes t A = record { epoch = epoch_of t A; view = view_of sizes t A }
+
 module _ {F : Type 0} where
   -- wherever the keeper stands, the slot has the view that the pass held
   abbrev pub Knows : KeeperState F → PassRecord → Type 0
@@ -146,11 +157,15 @@ module _ {F : Type 0} where
       (A : List Step) → KeeperStands old A
       → Replied (step_fault old A (s A)) (answer A) (made (step_fault old A (s A)) A (s A)) new result
 
-  -- the pass that a rider has once it acquired slot t
-  abbrev pub acquired_pass : KeeperState F → ℕ → RiderState → List Step → PassRecord
-  acquired_pass keeper t rider A =
+  -- the pass of a rider once slot t was acquired behind A
+  abbrev pub pass_after : KeeperState F → ℕ → RiderState → List Step → PassRecord
+  pass_after keeper t rider A =
       new_pass t (keeper.stamp + acquires_in (A ++ Acquire t ∷ []))
-      (view_of keeper.core.sizes t (A ++ Acquire t ∷ [])) (with_share 1 rider)
+      (slot_after keeper.core.sizes t (A ++ Acquire t ∷ [])) rider
+
+  -- the pass that a rider has once it acquired slot t, which it entered as a step of its own
+  abbrev pub acquired_pass : KeeperState F → ℕ → RiderState → List Step → PassRecord
+  acquired_pass keeper t rider A = pass_after keeper t (with_share 1 rider) A
 
   -- likewise a step that ends something of this origin
   abbrev pub Ends : {X : Type 0}
@@ -167,14 +182,15 @@ module _ {F : Type 0} where
       (A : List Step) → KeeperStands old A
       → Replied (fault A) (answer A) (entered (fault A) A p.touches s) new result
 
+  -- at whatever list a keeper stood, the slot of the pass has this epoch after its accepted refresh
+  abbrev pub Refreshes : {X : Type 0} → KeeperState F → PassRecord → ℕ → Result X Fault → Type 0
+  Refreshes old p epoch result = (A : List Step) → KeeperStands old A
+      → OnOk result (epoch ≡ epoch_of p.slot (touched_list A p (Refresh p.slot)))
+
 -- the answer of a call, without what a refusal hands back
 abbrev pub without_back : {X Y : Type 0} → Result X (Fault × Y) → Result X Fault
 without_back (Ok x) = Ok x
 without_back (Err back) = Err back.0
-
--- the list after a pass's step: the touches and the step behind A
-abbrev pub touched_list : List Step → PassRecord → Step → List Step
-touched_list A p s = (A ++ p.touches) ++ s ∷ []
 
 -- each offset of the one view is at most that of the other
 abbrev pub IsUpTo : View → View → Type 0

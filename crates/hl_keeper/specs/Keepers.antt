@@ -9,6 +9,7 @@ use Rattle.hl_words.specs.declared.view.OffsetWords.{OffsetWords}
 use Rattle.hl_words.specs.Views.{newest}
 use Rattle.hl_core.specs.Standing.{State, Stands}
 use Rattle.hl_keeper.specs.Stamps.{acquires_in, slot_stamps}
+use Rattle.hl_keeper.specs.Stores.{stores_of}
 
 -- the tag of a job
 abbrev pub job_tag : {F : Type 0} → KeptRecord F → ℕ
@@ -16,7 +17,7 @@ job_tag kept = kept.tag
 
 -- what a keeper keeps: a core; the base of the steps that were cut, and how many these are; the steps since,
 -- and how many it may keep; each slot's stamp, the domain's own, and how many acquires were accepted; the
--- master's stores of the offset words, and how many steps riders entered in all
+-- master's stores of its words, and how many steps riders entered in all
 pub record KeeperState (F : Type 0) : Type 0 where
   pub core : State (KeptRecord F)
   pub base : Base
@@ -34,14 +35,15 @@ abbrev pub steps_most : ℕ
 steps_most = 2 ^ 62
 
 -- a keeper stands at the accepted list A: its core does; A is the steps that were cut, of which its base is,
--- and then its journal; the offset words were last stored as the offsets of A; the total is A's length; it
--- counts the acquires of A, and each slot has the stamp that A gives it
+-- and then its journal; the master's stores are those of A, so the offset words were last stored as the offsets
+-- of A; the total is A's length; it counts the acquires of A, and each slot has the stamp that A gives it
 pub record KeeperStands {F : Type 0} (keeper : KeeperState F) (A : List Step) : Type 0 where
   pub core_stands : Stands job_tag keeper.core A
   pub steps_cut : List Step
   pub history : A ≡ steps_cut ++ keeper.journal
   pub base_is : keeper.base ≡ base_of keeper.core.sizes steps_cut
   pub cut_is : keeper.cut ≡ length steps_cut
+  pub stores_are : keeper.offsets ≡ stores_of A
   pub read_only_is : newest keeper.offsets.read_only ≡ read_only A
   pub head_is : newest keeper.offsets.head ≡ head A
   pub total_is : keeper.total ≡ length A

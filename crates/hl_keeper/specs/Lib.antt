@@ -8,6 +8,7 @@ pub mod Lending
 pub mod Pages
 pub mod Passes
 pub mod Stamps
+pub mod Stores
 pub mod Taking
 pub mod Touches
 pub mod Worked

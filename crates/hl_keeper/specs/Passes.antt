@@ -1,22 +1,24 @@
 -- What a pass keeps, what its calls without the lock answer, and what they leave.
-use Rattle.std.specs.Prelude.{◌≡◌, ℕ, ◌≤◌, ◌+◌, ◌*◌, ◌/◌, ◌%◌, ◌==◌, nat_le, nat_lt, ◌||◌, max, if◌then◌else◌, Option, Some, None, Result, MatchResult, List, [], ◌∷◌, ◌++◌, length}
+use Rattle.std.specs.Prelude.{◌≡◌, ℕ, ◌≤◌, ◌+◌, ◌*◌, ◌/◌, ◌%◌, ◌==◌, nat_le, nat_lt, Bool, ◌||◌, ◌&&◌, max, if◌then◌else◌, Option, Some, None, Result, MatchResult, List, [], ◌∷◌, ◌++◌, length}
 use Rattle.hl_model.specs.declared.fault.Fault.{Fault}
 use Rattle.hl_model.specs.declared.fault.Fault.TheVariants.{Below, Beyond, Evicted, TouchesFull}
+use Rattle.hl_model.specs.declared.slot.Slot.{Slot}
 use Rattle.hl_model.specs.declared.step.Step.{Step}
 use Rattle.hl_model.specs.declared.step.Step.TheVariants.{Look, Write}
 use Rattle.hl_model.specs.declared.view.View.{View}
 use Rattle.hl_model.specs.Sizes.{Sizes}
 use Rattle.hl_model.specs.Replies.{or_fault}
-use Rattle.hl_words.specs.declared.which.Which.TheVariants.{ReadOnly, Head}
+use Rattle.hl_words.specs.declared.which.Which.TheVariants.{ReadOnly, Head, Ended}
 use Rattle.hl_words.specs.States.{RiderState, with_view}
 use Rattle.hl_words.specs.Views.{offset_of, greatest_of, stored, changed, loaded, with_loaded}
 use Rattle.hl_keeper.specs.Touches.{view_after}
 
--- a pass: its slot and stamp, the view at its last locked call, its looks and stores since then, and its
--- rider
+-- a pass: its slot and stamp, the epoch that its slot has, the view at its last locked call, its looks and stores
+-- since then, and its rider
 pub record PassRecord : Type 0 where
   pub slot : ℕ
   pub stamp : ℕ
+  pub epoch : ℕ
   pub held : View
   pub touches : List Step
   pub rider : RiderState
@@ -57,6 +59,7 @@ unfoldable pub with_store : Sizes → ℕ → ℕ → PassRecord → PassRecord
 with_store sizes a v p = record {
   slot = p.slot;
   stamp = p.stamp;
+  epoch = p.epoch;
   held = p.held;
   touches = p.touches ++ Write p.slot a v ∷ [];
   rider = with_view (stored (cell_at sizes a) v p.rider.view) p.rider;
@@ -68,6 +71,7 @@ unfoldable pub with_change : Sizes → ℕ → ℕ → ℕ → PassRecord → Pa
 with_change sizes a found v p = record {
   slot = p.slot;
   stamp = p.stamp;
+  epoch = p.epoch;
   held = p.held;
   touches = p.touches ++ Write p.slot a v ∷ [];
   rider = with_view (changed (cell_at sizes a) found v p.rider.view) p.rider;
@@ -78,6 +82,7 @@ unfoldable pub with_load : Sizes → ℕ → ℕ → PassRecord → PassRecord
 with_load sizes a v p = record {
   slot = p.slot;
   stamp = p.stamp;
+  epoch = p.epoch;
   held = p.held;
   touches = p.touches;
   rider = with_view (loaded (cell_at sizes a) v p.rider.view) p.rider;
@@ -96,6 +101,7 @@ unfoldable pub with_look : ℕ → ℕ → PassRecord → PassRecord
 with_look read_only head p = record {
   slot = p.slot;
   stamp = p.stamp;
+  epoch = p.epoch;
   held = p.held;
   touches = p.touches ++ look_made p.slot (seen p) read_only head;
   rider = with_view (with_loaded Head head (with_loaded ReadOnly read_only p.rider.view)) p.rider;
@@ -108,6 +114,28 @@ last_read_only p = offset_of ReadOnly p.rider.view.offsets
 abbrev pub last_head : PassRecord → ℕ
 last_head p = offset_of Head p.rider.view.offsets
 
+abbrev pub last_ended : PassRecord → ℕ
+last_ended p = offset_of Ended p.rider.view.offsets
+
+-- the pass after it loaded the offsets and the last epoch that ended, for its rider alone
+unfoldable pub with_news : ℕ → ℕ → ℕ → PassRecord → PassRecord
+with_news read_only head ended p = record {
+  slot = p.slot;
+  stamp = p.stamp;
+  epoch = p.epoch;
+  held = p.held;
+  touches = p.touches;
+  rider = with_view
+      (with_loaded Ended ended (with_loaded Head head (with_loaded ReadOnly read_only p.rider.view))) p.rider;
+}
+
+-- none of these is new to the pass: neither offset is above the one that it saw, and its slot's epoch has not
+-- ended; and it has room for a touch
+unfoldable pub is_current : ℕ → ℕ → ℕ → PassRecord → Bool
+is_current read_only head ended p =
+    nat_le read_only (seen p).read_only
+    && (nat_le head (seen p).head && (nat_lt ended p.epoch && nat_lt (length p.touches) touches_most))
+
 -- the pass loaded both offsets anew, neither below any that its rider had loaded
 pub record LooksOn (old new : PassRecord) : Type 0 where
   pub read_only : greatest_of ReadOnly old.rider.view.offsets ≤ last_read_only new
@@ -119,7 +147,7 @@ with_share n r = record { view = r.view; share = r.share + n; calls = r.calls }
 
 -- a pass with this rider in the place of its own
 abbrev pub with_rider : RiderState → PassRecord → PassRecord
-with_rider r p = record { slot = p.slot; stamp = p.stamp; held = p.held; touches = p.touches; rider = r }
+with_rider r p = record { slot = p.slot; stamp = p.stamp; epoch = p.epoch; held = p.held; touches = p.touches; rider = r }
 
 -- the rider of an accepted call entered n steps more, and that of a refused one none; what it stored, loaded and
 -- met stays
@@ -131,17 +159,19 @@ abbrev pub entered_by : PassRecord → PassRecord
 entered_by p = record {
   slot = p.slot;
   stamp = p.stamp;
+  epoch = p.epoch;
   held = p.held;
   touches = p.touches;
   rider = with_share (length p.touches + 1) p.rider;
 }
 
--- the pass after a locked call that leaves it with this view: its touches and the call's own step are its
--- rider's
-unfoldable pub rested : View → PassRecord → PassRecord
-rested v p = record {
+-- the pass after a locked call that leaves it with this epoch and view: its touches and the call's own step are
+-- its rider's
+unfoldable pub rested : ℕ → View → PassRecord → PassRecord
+rested epoch v p = record {
   slot = p.slot;
   stamp = p.stamp;
+  epoch = epoch;
   held = v;
   touches = [];
   rider = with_share (length p.touches + 1) p.rider;
@@ -151,7 +181,13 @@ rested v p = record {
 abbrev pub with_tail : ℕ → View → View
 with_tail tail v = record { read_only = v.read_only; head = v.head; tail = tail }
 
--- a new pass
-abbrev pub new_pass : ℕ → ℕ → View → RiderState → PassRecord
-new_pass slot stamp view rider =
-    record { slot = slot; stamp = stamp; held = view; touches = []; rider = rider }
+-- a new pass, of a slot with this epoch and view
+abbrev pub new_pass : ℕ → ℕ → Slot → RiderState → PassRecord
+new_pass t stamp slot rider = record {
+  slot = t;
+  stamp = stamp;
+  epoch = slot.epoch;
+  held = slot.view;
+  touches = [];
+  rider = rider;
+}

@@ -14,16 +14,16 @@ use hl_action::{Kept, Promise, Ready, Task};
 use hl_drain::Ask;
 use hl_epoch::Epochs;
 use hl_model::{Fault, Step, Tagged};
-use hl_words::{Realm, Rider, Words};
+use hl_words::{Realm, Rider, Which, Words};
 
 impl<E: Epochs + Drop, F: Task, P: Promise, L: Realm> Keeper<E, F, P, L> {
-    /// Ends the current epoch, and stores what is asked for under it; returns the ticket, the epoch
-    /// that ended.
+    /// Ends the current epoch, and stores what is asked for under it, and the word of the last epoch
+    /// that ended; returns the ticket, that epoch.
     ///
     /// Faults, with what was asked for handed back: `JournalFull`, `DrainFull`, `EpochsSpent`, `WindowFull`.
     pub fn bump(
         &mut self,
-        _words: &Words<L>,
+        words: &Words<L>,
         rider: &mut Rider<L>,
         ask: Ask<Kept<F, P>>,
     ) -> Result<u64, (Fault, Ask<Kept<F, P>>)>
@@ -43,6 +43,7 @@ impl<E: Epochs + Drop, F: Task, P: Promise, L: Realm> Keeper<E, F, P, L> {
         let step = step_of(&ask);
         match self.core.bump(ask) {
             Ok(ticket) => {
+                words.store_offset(&mut self.master, Which::Ended, ticket);
                 note(&mut self.journal, &mut self.master, rider, step);
                 Ok(ticket)
             }

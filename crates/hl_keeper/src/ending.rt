@@ -2,6 +2,7 @@ use hl_action::{Kept, Promise, Task};
 use hl_drain::Drain;
 use hl_laws::Base;
 use hl_model::{Snapshot, Step};
+use hl_words::LastWords;
 use std::marker::Model;
 
 /// What is left of a domain at its end.
@@ -17,6 +18,8 @@ pub struct Ending<F: Task, P: Promise> {
     pub left: Drain<Kept<F, P>>,
     /// All quantities.
     pub snapshot: Snapshot,
+    /// What the words hold: the cells, and the master's three.
+    pub words: LastWords,
 }
 
 impl<F: Task, P: Promise> Model for Ending<F, P> {
@@ -30,6 +33,7 @@ impl<F: Task, P: Promise> Model for Ending<F, P> {
       journal = e.journal.items;
       left = e.left;
       snapshot = e.snapshot;
+      words = e.words;
     } };
 }
 
@@ -41,6 +45,7 @@ impl<F: Task, P: Promise> Drop for Ending<F, P> {
             journal: _,
             left: _,
             snapshot: _,
+            words: _,
         } = self;
     }
 }

@@ -4,6 +4,7 @@ ghost use Rattle.hl_model.specs.declared.fault.Fault.TheVariants.{OutOfMemory};
 ghost use Rattle.hl_model.specs.declared.step.Step.{Step as STEP};
 ghost use Rattle.hl_model.specs.Snapshots.{snapshot_of};
 ghost use Rattle.hl_history.specs.Lists.{IsOneList};
+ghost use Rattle.hl_words.specs.Rule.{IsRuled};
 ghost use Rattle.hl_words.specs.States.{IsSeedOf, new_rider};
 ghost use Rattle.hl_keeper.specs.Keepers.{KeeperStands, steps_most};
 
@@ -162,6 +163,9 @@ impl<E: Epochs + Drop, F: Task, P: Promise, L: Realm> Keeper<E, F, P, L> {
         ensures quantities { (A : List STEP) → KeeperStands self A
             → IfOk result (λ ending. ending.snapshot ≡ snapshot_of self.core.sizes A) }
         ensures sum { OnOk result (self.total ≡ sum_by (λ r. r.share) riders.items) }
+        ensures words { IfOk result (λ ending. IsRuled words.cells ending.words.words self.offsets
+            (map (λ r. r.view) riders.items)) }
+        ensures cells { IfOk result (λ ending. ending.words.cells ≡ words.cells) }
         ensures all { OnOk result (length riders.items ≡ words.riders) }
         ensures missing { IfErr result (λ _. length riders.items ≢ words.riders) }
         ensures back { IfErr result (λ back. (back.0 ≡ self) × (back.1 ≡ words) × (back.2 ≡ riders)) }
@@ -175,12 +179,13 @@ impl<E: Epochs + Drop, F: Task, P: Promise, L: Realm> Keeper<E, F, P, L> {
             master,
         } = self;
         match words.close(master, riders) {
-            Ok(_) => Ok(Ending {
+            Ok(words) => Ok(Ending {
                 snapshot: core.snapshot(),
                 base: journal.base,
                 cut: journal.cut,
                 journal: journal.steps,
                 left: core.into_drain(),
+                words,
             }),
             Err((words, master, riders)) => {
                 let keeper = Keeper {
@@ -209,6 +214,9 @@ impl<E: Epochs + Drop, F: Task, P: Promise, L: Realm> Keeper<E, F, P, L> {
         ensures quantities { (A : List STEP) → KeeperStands self A
             → IfOk result (λ ending. ending.snapshot ≡ snapshot_of self.core.sizes A) }
         ensures sum { OnOk result (self.total ≡ sum_by (λ r. r.share) riders.items) }
+        ensures words { IfOk result (λ ending. IsRuled words.cells ending.words.words self.offsets
+            (map (λ r. r.view) riders.items)) }
+        ensures cells { IfOk result (λ ending. ending.words.cells ≡ words.cells) }
         ensures list { OnOk result (IsOneList scribe (map (λ r. r.calls) riders.items)) }
         ensures all { OnOk result (length riders.items ≡ words.riders) }
         ensures missing { IfErr result (λ _. length riders.items ≢ words.riders) }
@@ -224,12 +232,13 @@ impl<E: Epochs + Drop, F: Task, P: Promise, L: Realm> Keeper<E, F, P, L> {
             master,
         } = self;
         match words.close_with_scribe(master, scribe, riders) {
-            Ok(_) => Ok(Ending {
+            Ok(words) => Ok(Ending {
                 snapshot: core.snapshot(),
                 base: journal.base,
                 cut: journal.cut,
                 journal: journal.steps,
                 left: core.into_drain(),
+                words,
             }),
             Err((words, master, scribe, riders)) => {
                 let keeper = Keeper {

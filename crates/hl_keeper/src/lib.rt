@@ -54,6 +54,7 @@ mod keeper;
 mod lease;
 mod load;
 mod look;
+mod news;
 mod offsets;
 mod pages;
 mod pass;

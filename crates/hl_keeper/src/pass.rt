@@ -2,7 +2,7 @@ ghost use Rattle.std.specs.Prelude.{◌≡◌, []};
 ghost use Rattle.hl_keeper.specs.Passes.{seen, new_pass};
 
 use arrayvec::ArrayVec;
-use hl_model::{Step, View};
+use hl_model::{Slot, Step, View};
 use hl_words::{Realm, Rider};
 use std::marker::Model;
 
@@ -15,6 +15,8 @@ pub(crate) const TOUCHES_MOST: usize = 32;
 pub struct Pass<L: Realm> {
     pub(crate) slot: u64,
     pub(crate) stamp: u64,
+    // The slot's epoch, of the last acquire or refresh.
+    pub(crate) epoch: u64,
     // The slot's view at the last locked call, and what the pass has seen since.
     pub(crate) held: View,
     pub(crate) view: View,
@@ -32,6 +34,7 @@ impl<L: Realm> Model for Pass<L> {
     ghost view = { λ p. record {
       slot = p.slot;
       stamp = p.stamp;
+      epoch = p.epoch;
       held = p.held;
       touches = p.touches.items;
       rider = p.rider;
@@ -46,25 +49,33 @@ impl<L: Realm> Pass<L> {
     ghost use Rattle.hl_keeper.specs.Lending.{LendsRider};
 
     /// A pass that did nothing yet.
-    pub(crate) fn new(slot: u64, stamp: u64, view: View, rider: Rider<L>) -> Pass<L>
-        ensures { result ≡ new_pass slot stamp view rider }
+    pub(crate) fn new(t: u64, stamp: u64, slot: Slot, rider: Rider<L>) -> Pass<L>
+        ensures { result ≡ new_pass t stamp slot rider }
     {
         Pass {
-            slot,
+            slot: t,
             stamp,
-            held: view,
-            view,
+            epoch: slot.epoch,
+            held: slot.view,
+            view: slot.view,
             touches: ArrayVec::new(),
             rider,
         }
     }
 
-    /// Replaces its view by this one, and drops its touches, which have entered the journal.
-    pub(crate) fn rest(&mut self, view: View)
+    /// Replaces its epoch and its view by these, and drops its touches, which have entered the journal.
+    pub(crate) fn rest(&mut self, epoch: u64, view: View)
         ensures { let old = self.old
-            in self.new
-            ≡ record { slot = old.slot; stamp = old.stamp; held = view; touches = []; rider = old.rider } }
+            in self.new ≡ record {
+              slot = old.slot;
+              stamp = old.stamp;
+              epoch = epoch;
+              held = view;
+              touches = [];
+              rider = old.rider;
+            } }
     {
+        self.epoch = epoch;
         self.held = view;
         self.view = view;
         self.touches.clear();
@@ -83,6 +94,13 @@ impl<L: Realm> Pass<L> {
         ensures { result ≡ self.now.stamp }
     {
         self.stamp
+    }
+
+    /// The epoch of its slot: the one that was current at its last acquire or refresh.
+    pub fn epoch(&self) -> u64
+        ensures { result ≡ self.now.epoch }
+    {
+        self.epoch
     }
 
     /// What its slot has seen: the view of its last locked call, after its looks since.
@@ -106,7 +124,7 @@ impl<L: Realm> Pass<L> {
     pub fn rider_mut(&mut self) -> &mut Rider<L>
         ensures value { result.now ≡ self.old.rider }
         ensures* writes_back { sem 𝓛 (LendsRider L.row
-            (record { table = L.table; sizes = L.sizes; stamp = L.stamp }) L.Ledger self.entry result) }
+            (record { table = L.table; sizes = L.sizes; stamp = L.stamp; limit = L.limit }) L.Ledger self.entry result) }
     {
         &mut self.rider
     }
@@ -119,6 +137,7 @@ impl<L: Realm> Pass<L> {
         let Pass {
             slot: _,
             stamp: _,
+            epoch: _,
             held: _,
             view: _,
             touches: _,

@@ -2,6 +2,7 @@
 ghost use Rattle.std.specs.Prelude.{◌≡◌, true, false, List, [], ◌∷◌, ◌++◌, OnErr, MatchResult};
 ghost use Rattle.hl_model.specs.declared.step.Step.TheVariants.{Bare as BARE};
 ghost use Rattle.hl_model.specs.Actions.{bumps};
+ghost use Rattle.hl_model.specs.Epochs.{is_bump};
 ghost use Rattle.hl_model.specs.Offsets.{raised_to, shifted_to};
 ghost use Rattle.hl_model.specs.Replies.{answer_of};
 ghost use Rattle.hl_core.specs.Steps.{is_acted};
@@ -15,13 +16,13 @@ use crate::keeper::Keeper;
 use hl_action::{Promise, Task};
 use hl_epoch::Epochs;
 use hl_model::{Fault, Reply, Step};
-use hl_words::{Realm, Rider, Words};
+use hl_words::{Realm, Rider, Which, Words};
 
 impl<E: Epochs + Drop, F: Task, P: Promise, L: Realm> Keeper<E, F, P, L> {
-    /// Makes one step, which moves neither offset word, stamps no slot, and takes no job in or out.
+    /// Makes one step, which stores none of the master's words, stamps no slot, and takes no job in or out.
     pub(crate) fn one(&mut self, rider: &mut Rider<L>, step: &Step) -> Result<Reply, Fault>
         requires acted { is_acted step.now ≡ true }
-        requires quiet { (raised_to step.now ≡ 0) × (shifted_to step.now ≡ 0) }
+        requires quiet { (raised_to step.now ≡ 0) × (shifted_to step.now ≡ 0) × (is_bump step.now ≡ false) }
         requires unstamped { is_acquire step.now ≡ false }
         ensures made { Makes self.old step.now
             (λ A. answer_of self.old.core.sizes A (A ++ step.now ∷ []) step.now) self.new result }
@@ -36,19 +37,20 @@ impl<E: Epochs + Drop, F: Task, P: Promise, L: Realm> Keeper<E, F, P, L> {
         Ok(reply)
     }
 
-    /// Ends the current epoch, and stores nothing; returns the epoch that ended.
+    /// Ends the current epoch, and stores its word alone; returns the epoch that ended.
     ///
     /// Faults: `JournalFull`, `EpochsSpent`, `WindowFull`.
-    pub fn bare(&mut self, _words: &Words<L>, rider: &mut Rider<L>) -> Result<u64, Fault>
+    pub fn bare(&mut self, words: &Words<L>, rider: &mut Rider<L>) -> Result<u64, Fault>
         ensures made { Makes self.old BARE
             (λ A. bumps (A ++ BARE ∷ [])) self.new result }
         ensures keeps { Keeps self.old self.new result }
         ensures stamps { SameStamps self.old self.new }
         ensures rider { Shares 1 result rider.old rider.new }
     {
-        match self.one(rider, &Step::Bare)? {
-            Reply::Bumped(ended) => Ok(ended),
-            _ => unreachable!(),
-        }
+        self.room(1)?;
+        let ended = self.core.bare()?;
+        words.store_offset(&mut self.master, Which::Ended, ended);
+        note(&mut self.journal, &mut self.master, rider, Step::Bare);
+        Ok(ended)
     }
 }

@@ -3,9 +3,8 @@ ghost use Rattle.std.specs.Prelude.{◌≡◌, ◌+◌, ◌-◌, ◌/◌, ◌^�
 ghost use Rattle.hl_model.specs.declared.step.Step.TheVariants.{Acquire as ACQUIRE, Refresh as REFRESH, Release as RELEASE, Allocate as ALLOCATE};
 ghost use Rattle.hl_model.specs.Offsets.{place_of, tail};
 ghost use Rattle.hl_model.specs.Views.{view_of};
-ghost use Rattle.hl_keeper.specs.Passes.{seen, rested, with_share, new_pass, with_tail};
-ghost use Rattle.hl_keeper.specs.Stamps.{acquires_in};
-ghost use Rattle.hl_keeper.specs.Calls.{call_fault, refresh_fault, acquired_pass, touched_list, without_back, Makes, MakesAt, MakesTouched, IsUpTo, Keeps, SameStamps};
+ghost use Rattle.hl_keeper.specs.Passes.{seen, rested, with_share, with_tail};
+ghost use Rattle.hl_keeper.specs.Calls.{call_fault, refresh_fault, acquired_pass, touched_list, without_back, Makes, MakesAt, MakesTouched, Refreshes, IsUpTo, Keeps, SameStamps};
 ghost use Rattle.hl_core.specs.Holding.{least_free};
 
 use crate::call::note;
@@ -30,14 +29,15 @@ impl<E: Epochs + Drop, F: Task, P: Promise, L: Realm> Keeper<E, F, P, L> {
         ensures keeps { Keeps self.old self.new result }
         ensures stamps { SameStamps self.old self.new }
         ensures pass { let old = pass.old
-            in MatchResult result (λ view. pass.new ≡ rested view old) (λ _. pass.new ≡ old) }
+            in MatchResult result (λ view. pass.new ≡ rested pass.new.epoch view old) (λ _. pass.new ≡ old) }
+        ensures epoch { Refreshes self.old pass.old pass.new.epoch result }
         ensures fresh { IfOk result (IsUpTo (seen pass.old)) }
     {
         self.known_behind(pass)?;
         let step = Step::Refresh { t: pass.slot };
         match self.call(pass, &step)? {
-            Reply::Entered { view, .. } => {
-                pass.rest(view);
+            Reply::Entered { epoch, view } => {
+                pass.rest(epoch, view);
                 Ok(view)
             }
             _ => unreachable!(),
@@ -85,7 +85,7 @@ impl<E: Epochs + Drop, F: Task, P: Promise, L: Realm> Keeper<E, F, P, L> {
         ensures stamps { SameStamps self.old self.new }
         ensures pass { let old = pass.old
             in MatchResult result
-            (λ a. pass.new ≡ rested (with_tail (a + n) (seen old)) old)
+            (λ a. pass.new ≡ rested old.epoch (with_tail (a + n) (seen old)) old)
             (λ _. pass.new ≡ old) }
         ensures above { IfOk result (λ a. (seen pass.old).tail ≤ a) }
         ensures within { IfOk result (λ address. address + n ≤ 2 ^ 48) }
@@ -93,14 +93,16 @@ impl<E: Epochs + Drop, F: Task, P: Promise, L: Realm> Keeper<E, F, P, L> {
             in IfOk result (λ a. a / page_size ≡ (a + n - 1) / page_size) }
     {
         self.known(pass)?;
+        let epoch = pass.epoch;
         let seen = pass.view;
         let step = Step::Allocate { t: pass.slot, n };
         match self.call(pass, &step)? {
             Reply::At(address) => {
-                pass.rest(View {
+                let view = View {
                     tail: address + n,
                     ..seen
-                });
+                };
+                pass.rest(epoch, view);
                 Ok(address)
             }
             _ => unreachable!(),
@@ -118,10 +120,7 @@ impl<E: Epochs + Drop, F: Task, P: Promise, L: Realm> Keeper<E, F, P, L> {
         rider: Rider<L>,
     ) -> Result<Pass<L>, (Fault, Rider<L>)>
         ensures made { let old = self.old
-            in Makes old (ACQUIRE t)
-            (λ A. new_pass t (old.stamp + acquires_in (A ++ ACQUIRE t ∷ []))
-            (view_of old.core.sizes t (A ++ ACQUIRE t ∷ [])) (with_share 1 rider))
-            self.new (without_back result) }
+            in Makes old (ACQUIRE t) (acquired_pass old t rider) self.new (without_back result) }
         ensures refused { IfErr result (λ back. back.1 ≡ rider) }
         ensures keeps { Keeps self.old self.new (without_back result) }
         ensures acquired { OnOk result (self.new.acquired ≡ self.old.acquired + 1) }
@@ -140,7 +139,7 @@ impl<E: Epochs + Drop, F: Task, P: Promise, L: Realm> Keeper<E, F, P, L> {
                 let stamp = self.stamp + acquired;
                 self.acquired = acquired;
                 self.stamps[t as usize] = stamp;
-                Ok(Pass::new(t, stamp, slot.view, rider))
+                Ok(Pass::new(t, stamp, slot, rider))
             }
             Err(fault) => Err((fault, rider)),
         }

@@ -8,6 +8,7 @@
 //!
 //! | Call | What it does | Its faults |
 //! |---|---|---|
+//! | [`keeps_up`] | loads the master's words: whether any is new to the pass | none |
 //! | [`look`] | brings the pass the offsets that rose | `TouchesFull` |
 //! | [`store`] | stores a word in the pass's view | `Below`, `Beyond`, `TouchesFull` |
 //! | [`fetch_add`] | adds to a word in one step | `Below`, `Beyond`, `TouchesFull` |
@@ -18,4 +19,5 @@
 
 pub use crate::exchange::{compare_exchange, fetch_add};
 pub use crate::look::{load, look, store};
+pub use crate::news::keeps_up;
 pub use crate::sweep::{copy_page, sweep};

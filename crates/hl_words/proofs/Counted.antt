@@ -10,7 +10,7 @@ use Rattle.hl_words.specs.declared.view.Touch.TheVariants.{Stored, Loaded, Chang
 use Rattle.hl_words.specs.declared.view.OffsetWords.{OffsetWords}
 use Rattle.hl_words.specs.declared.view.RiderView.{RiderView}
 use Rattle.hl_words.specs.declared.which.Which.{Which}
-use Rattle.hl_words.specs.declared.which.Which.TheVariants.{ReadOnly, Head}
+use Rattle.hl_words.specs.declared.which.Which.TheVariants.{ReadOnly, Head, Ended}
 use Rattle.hl_words.specs.Views.{newest, offset_of, with_offset, place_of, touched, with_loaded}
 use Rattle.hl_words.specs.Rule.{last_store, IsQuiet, IsLawful, IsElsewhere, NeverFalls, AreLoads, IsRuled}
 use Rattle.hl_words.proofs.Cut.{SomeOf, every_front, every_back, every_append, every_weaker, some_front, some_back, some_parts, every_at, every_from, some_at, some_from}
@@ -22,7 +22,7 @@ Cell riders c w = ((w ≡ 0) × Every (λ r. last_store c r.touches ≡ None) ri
 
 -- what the rider loaded of the offset words are loads of these stores
 abbrev pub Below : OffsetWords → RiderView → Type 0
-Below last r = AreLoads last.read_only r.offsets.read_only × AreLoads last.head r.offsets.head
+Below last r = AreLoads last.read_only r.offsets.read_only × AreLoads last.head r.offsets.head × AreLoads last.ended r.offsets.ended
 
 -- the newest value of a word is 0 or one of its stores
 newest_stored : (stores : List ℕ) → (newest stores ≡ 0) ⊎ Contains stores (newest stores)
@@ -64,7 +64,8 @@ pub record IsCounted (cells : ℕ) (words : List ℕ) (last : OffsetWords) (ride
   pub load : Every (λ r. IsLawful (More riders r) r.touches) riders
   pub read_only : slice_index words cells ≡ newest last.read_only
   pub head : slice_index words (cells + 1) ≡ newest last.head
-  pub never_falls : NeverFalls last.read_only × NeverFalls last.head
+  pub ended : slice_index words (cells + 2) ≡ newest last.ended
+  pub never_falls : NeverFalls last.read_only × NeverFalls last.head × NeverFalls last.ended
   pub offset : Every (Below last) riders
 
 -- the two forms of the rule say the same
@@ -78,6 +79,7 @@ counted_from cells words last riders h =
       load = every_from (λ (r : RiderView). IsLawful (More riders r) r.touches) riders (λ i r at. lawful_weaker (IsElsewhere riders i) (More riders r) r.touches (elsewhere_more riders i r at) (h.load i r at));
       read_only = h.read_only;
       head = h.head;
+      ended = h.ended;
       never_falls = h.never_falls;
       offset = every_from (Below last) riders h.offset;
     }
@@ -92,6 +94,7 @@ ruled_from cells words last riders h =
       load = λ i r at. lawful_weaker (More riders r) (IsElsewhere riders i) r.touches (more_elsewhere riders i r at) (every_at (λ (q : RiderView). IsLawful (More riders q) q.touches) riders h.load i r at);
       read_only = h.read_only;
       head = h.head;
+      ended = h.ended;
       never_falls = h.never_falls;
       offset = every_at (Below last) riders h.offset;
     }
@@ -108,6 +111,7 @@ reordered cells words last riders after every some total h =
           (every (λ (r : RiderView). IsLawful (More riders r) r.touches) h.load);
       read_only = h.read_only;
       head = h.head;
+      ended = h.ended;
       never_falls = h.never_falls;
       offset = every (Below last) h.offset;
     }
@@ -136,10 +140,10 @@ module _ (front : List RiderView) (r : RiderView) (back : List RiderView) where
       → ((c v : ℕ) → stores c v r.touches ≤ stores c v q.touches)
       → ((c : ℕ) → c < cells → Cell (front ++ q ∷ back) c (slice_index after c))
       → IsLawful (More (front ++ q ∷ back) q) q.touches
-      → (slice_index after cells ≡ slice_index words cells) → (slice_index after (cells + 1) ≡ slice_index words (cells + 1))
+      → (slice_index after cells ≡ slice_index words cells) → (slice_index after (cells + 1) ≡ slice_index words (cells + 1)) → (slice_index after (cells + 2) ≡ slice_index words (cells + 2))
       → Below last q
       → IsCounted cells after last (front ++ q ∷ back)
-  changed cells words after last q h grows cell load read_only head below =
+  changed cells words after last q h grows cell load read_only head ended below =
       let all = every_back (λ (p : RiderView). IsLawful (More (front ++ r ∷ back) p) p.touches) front (r ∷ back) h.load in
       let more : (p : RiderView) → IsLawful (More (front ++ r ∷ back) p) p.touches → IsLawful (More (front ++ q ∷ back) p) p.touches =
       λ p l. lawful_weaker (More (front ++ r ∷ back) p) (More (front ++ q ∷ back) p) p.touches
@@ -152,6 +156,7 @@ module _ (front : List RiderView) (r : RiderView) (back : List RiderView) where
             (load, every_weaker (λ (p : RiderView). IsLawful (More (front ++ r ∷ back) p) p.touches) (λ (p : RiderView). IsLawful (More (front ++ q ∷ back) p) p.touches) back more all.1);
         read_only = read_only ∙ h.read_only;
         head = head ∙ h.head;
+        ended = ended ∙ h.ended;
         never_falls = h.never_falls;
         offset = every_append (Below last) front (q ∷ back) (every_front (Below last) front (r ∷ back) h.offset) (below, (every_back (Below last) front (r ∷ back) h.offset).1);
       }
@@ -205,7 +210,7 @@ module _ (front : List RiderView) (r : RiderView) (back : List RiderView) where
           (some_parts (λ (p : RiderView). last_store c p.touches ≡ Some w) front (r ∷ back) s)
 
   -- a rider that stored v into the cell c, and is else as it was, leaves each cell's rule
-  put_cell : (cells : ℕ) (words : List ℕ) (last : OffsetWords) (c v : ℕ) → c < cells → length words ≡ cells + 2 → IsCounted cells words last (front ++ r ∷ back)
+  put_cell : (cells : ℕ) (words : List ℕ) (last : OffsetWords) (c v : ℕ) → c < cells → length words ≡ cells + 3 → IsCounted cells words last (front ++ r ∷ back)
       → (q : RiderView) → ((d : ℕ) → last_store d q.touches ≡ (if c == d then Some v else last_store d r.touches)) → (d : ℕ) → d < cells → Cell (front ++ q ∷ back) d (slice_index (set words c v) d)
   put_cell cells words last c v less width h q is d below =
       ⊎_elim
@@ -221,7 +226,7 @@ module _ (front : List RiderView) (r : RiderView) (back : List RiderView) where
   grown false n = omega arith
 
   -- a store into a cell
-  pub after_store : (cells : ℕ) (words : List ℕ) (last : OffsetWords) (c v : ℕ) → c < cells → length words ≡ cells + 2
+  pub after_store : (cells : ℕ) (words : List ℕ) (last : OffsetWords) (c v : ℕ) → c < cells → length words ≡ cells + 3
       → IsCounted cells words last (front ++ r ∷ back) → IsCounted cells (set words c v) last (front ++ touched (Stored c v) r ∷ back)
   after_store cells words last c v less width h =
       let q = touched (Stored c v) r in
@@ -231,10 +236,11 @@ module _ (front : List RiderView) (r : RiderView) (back : List RiderView) where
       (own_lawful cells words last q h grows)
       (get_or-set_other words c cells v 0 (λ e. omega arith))
       (get_or-set_other words c (cells + 1) v 0 (λ e. omega arith))
+      (get_or-set_other words c (cells + 2) v 0 (λ e. omega arith))
       (every_back (Below last) front (r ∷ back) h.offset).0
 
   -- a cell found, and changed in the same step
-  pub after_change : (cells : ℕ) (words : List ℕ) (last : OffsetWords) (c v : ℕ) → c < cells → length words ≡ cells + 2
+  pub after_change : (cells : ℕ) (words : List ℕ) (last : OffsetWords) (c v : ℕ) → c < cells → length words ≡ cells + 3
       → IsCounted cells words last (front ++ r ∷ back) → IsCounted cells (set words c v) last (front ++ touched (Changed c (slice_index words c) v) r ∷ back)
   after_change cells words last c v less width h =
       let w = slice_index words c in
@@ -247,6 +253,7 @@ module _ (front : List RiderView) (r : RiderView) (back : List RiderView) where
       (⊎_elim (λ a. inl a) (λ b. inr (⊎_elim (λ m. inl (more m)) (λ z. inr z) b)) (found_lawful cells words last c less h), own_lawful cells words last q h grows)
       (get_or-set_other words c cells v 0 (λ e. omega arith))
       (get_or-set_other words c (cells + 1) v 0 (λ e. omega arith))
+      (get_or-set_other words c (cells + 2) v 0 (λ e. omega arith))
       (every_back (Below last) front (r ∷ back) h.offset).0
 
   -- a load of a cell
@@ -263,6 +270,7 @@ module _ (front : List RiderView) (r : RiderView) (back : List RiderView) where
       (⊎_elim (λ a. inl a) (λ b. inr (⊎_elim (λ m. inl (more m)) (λ z. inr z) b)) (found_lawful cells words last c less h), own_lawful cells words last q h grows)
       refl
       refl
+      refl
       (every_back (Below last) front (r ∷ back) h.offset).0
 
   -- a load of an offset word
@@ -276,19 +284,22 @@ module _ (front : List RiderView) (r : RiderView) (back : List RiderView) where
       (own_lawful cells words last q h grows)
       refl
       refl
+      refl
       (below which found (every_back (Below last) front (r ∷ back) h.offset).0)
     where
       below : (which : Which) → x ≡ offset_of which last → Below last r → Below last (with_loaded which x r)
-      below ReadOnly e b = (load_newest last.read_only r.offsets.read_only x e b.0, b.1)
-      below Head e b = (b.0, load_newest last.head r.offsets.head x e b.1)
+      below ReadOnly e b = (load_newest last.read_only r.offsets.read_only x e b.0, b.1, b.2)
+      below Head e b = (b.0, load_newest last.head r.offsets.head x e b.1, b.2)
+      below Ended e b = (b.0, b.1, load_newest last.ended r.offsets.ended x e b.2)
 
 -- an offset word is the master's newest store
 pub found_offset : (which : Which) (cells : ℕ) (words : List ℕ) (last : OffsetWords) (riders : List RiderView) → IsCounted cells words last riders → slice_index words (place_of which cells) ≡ offset_of which last
 found_offset ReadOnly cells words last riders h = h.read_only
 found_offset Head cells words last riders h = h.head
+found_offset Ended cells words last riders h = h.ended
 
 -- a store of an offset word that does not fall
-pub after_set : (which : Which) (cells : ℕ) (words : List ℕ) (last : OffsetWords) (riders : List RiderView) (x : ℕ) → length words ≡ cells + 2 → offset_of which last ≤ x
+pub after_set : (which : Which) (cells : ℕ) (words : List ℕ) (last : OffsetWords) (riders : List RiderView) (x : ℕ) → length words ≡ cells + 3 → offset_of which last ≤ x
     → IsCounted cells words last riders → IsCounted cells (set words (place_of which cells) x) (with_offset which x last) riders
 after_set ReadOnly cells words last riders x width le h =
     record {
@@ -296,8 +307,9 @@ after_set ReadOnly cells words last riders x width le h =
       load = h.load;
       read_only = get_or-set_same words cells x 0 (omega arith);
       head = get_or-set_other words cells (cells + 1) x 0 (λ e. omega arith) ∙ h.head;
-      never_falls = (store_rises last.read_only x le h.never_falls.0, h.never_falls.1);
-      offset = every_weaker (Below last) (Below (with_offset ReadOnly x last)) riders (λ r b. (store_more last.read_only r.offsets.read_only x le b.0, b.1)) h.offset;
+      ended = get_or-set_other words cells (cells + 2) x 0 (λ e. omega arith) ∙ h.ended;
+      never_falls = (store_rises last.read_only x le h.never_falls.0, h.never_falls.1, h.never_falls.2);
+      offset = every_weaker (Below last) (Below (with_offset ReadOnly x last)) riders (λ r b. (store_more last.read_only r.offsets.read_only x le b.0, b.1, b.2)) h.offset;
     }
 after_set Head cells words last riders x width le h =
     record {
@@ -305,6 +317,17 @@ after_set Head cells words last riders x width le h =
       load = h.load;
       read_only = get_or-set_other words (cells + 1) cells x 0 (λ e. omega arith) ∙ h.read_only;
       head = get_or-set_same words (cells + 1) x 0 (omega arith);
-      never_falls = (h.never_falls.0, store_rises last.head x le h.never_falls.1);
-      offset = every_weaker (Below last) (Below (with_offset Head x last)) riders (λ r b. (b.0, store_more last.head r.offsets.head x le b.1)) h.offset;
+      ended = get_or-set_other words (cells + 1) (cells + 2) x 0 (λ e. omega arith) ∙ h.ended;
+      never_falls = (h.never_falls.0, store_rises last.head x le h.never_falls.1, h.never_falls.2);
+      offset = every_weaker (Below last) (Below (with_offset Head x last)) riders (λ r b. (b.0, store_more last.head r.offsets.head x le b.1, b.2)) h.offset;
+    }
+after_set Ended cells words last riders x width le h =
+    record {
+      cell = λ c less. subst (Cell riders c) (sym (get_or-set_other words (cells + 2) c x 0 (λ e. omega arith))) (h.cell c less);
+      load = h.load;
+      read_only = get_or-set_other words (cells + 2) cells x 0 (λ e. omega arith) ∙ h.read_only;
+      head = get_or-set_other words (cells + 2) (cells + 1) x 0 (λ e. omega arith) ∙ h.head;
+      ended = get_or-set_same words (cells + 2) x 0 (omega arith);
+      never_falls = (h.never_falls.0, h.never_falls.1, store_rises last.ended x le h.never_falls.2);
+      offset = every_weaker (Below last) (Below (with_offset Ended x last)) riders (λ r b. (b.0, b.1, store_more last.ended r.offsets.ended x le b.2)) h.offset;
     }

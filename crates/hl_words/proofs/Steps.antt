@@ -13,7 +13,7 @@ use Rattle.hl_words.specs.declared.view.RiderView.{RiderView}
 use Rattle.hl_words.specs.declared.view.SeatView.{SeatView}
 use Rattle.hl_words.specs.declared.view.Room.{Room}
 use Rattle.hl_words.specs.declared.which.Which.{Which}
-use Rattle.hl_words.specs.declared.which.Which.TheVariants.{ReadOnly, Head}
+use Rattle.hl_words.specs.declared.which.Which.TheVariants.{ReadOnly, Head, Ended}
 use Rattle.hl_words.specs.Views.{place_of, no_offsets, offset_of, greatest_of, with_offset, unused, touched, added, exchanged, with_loaded}
 use Rattle.hl_words.specs.Rule.{last_store, IsRuled, IsLawful}
 use Rattle.hl_words.specs.Seats.{seat_of, rider_seat, spent_seat, first_seat, riders_in, IsKept, Holds, Stores, Loads, Adds, Exchanges, Looks, Sets, left_seat, right_seat, joined_seat}
@@ -158,6 +158,7 @@ module _ (room : Room) (slots : ℕ) (id : ℕ) where
       at_most : (which : Which) (last : OffsetWords) (r : RiderView) (x : ℕ) → x ≡ offset_of which last → Below last r → greatest_of which r.offsets ≤ x
       at_most ReadOnly last r x e b = omega (arith, b.0.0)
       at_most Head last r x e b = omega (arith, b.1.0)
+      at_most Ended last r x e b = omega (arith, b.2.0)
 
       only : (x : ℕ) (r : RiderView) → greatest_of which r.offsets ≤ x → (i : ℕ) (q : RiderView) → slice_get (r ∷ []) i ≡ Some q → greatest_of which q.offsets ≤ x
       only x r le zero q e = let same : r ≡ q = cc e in subst (λ (p : RiderView). greatest_of which p.offsets ≤ x) same le
@@ -277,14 +278,14 @@ module _ (room : Room) where
           subst (λ l. IsRuled room.cells words last l) (flat ∙ whole) (subst (λ (x : SeatView). IsRuled room.cells words x.offsets (riders_in (u ∷ us))) mine h.ruled)
 
   -- nothing was done yet
-  pub begins : (words : List ℕ) → words ≡ replicate (room.cells + 2) 0 → Holds room (opening words [] (first_seat room))
+  pub begins : (words : List ℕ) → words ≡ replicate (room.cells + 3) 0 → Holds room (opening words [] (first_seat room))
   begins words is = subst (λ ws. IsKept room ws (first_seat room ∷ [])) (sym is)
       record {
         master = first_seat room;
         seat = refl;
-        width = length-replicate (room.cells + 2) 0;
+        width = length-replicate (room.cells + 3) 0;
         count = ap length flat ∙ length-replicate room.riders unused;
-        ruled = subst (λ l. IsRuled room.cells (replicate (room.cells + 2) 0) no_offsets l) (sym flat) (ruled_from room.cells (replicate (room.cells + 2) 0) no_offsets (replicate room.riders unused) counted);
+        ruled = subst (λ l. IsRuled room.cells (replicate (room.cells + 3) 0) no_offsets l) (sym flat) (ruled_from room.cells (replicate (room.cells + 3) 0) no_offsets (replicate room.riders unused) counted);
       }
     where
       flat : replicate room.riders unused ++ [] ≡ replicate room.riders unused
@@ -299,12 +300,13 @@ module _ (room : Room) where
       each P p zero = tt
       each P p (suc n) = (p, each P p n)
 
-      counted : IsCounted room.cells (replicate (room.cells + 2) 0) no_offsets (replicate room.riders unused)
+      counted : IsCounted room.cells (replicate (room.cells + 3) 0) no_offsets (replicate room.riders unused)
       counted = record {
-        cell = λ c less. inl (zeros (room.cells + 2) c, each (λ r. last_store c r.touches ≡ None) refl room.riders);
+        cell = λ c less. inl (zeros (room.cells + 3) c, each (λ r. last_store c r.touches ≡ None) refl room.riders);
         load = each (λ r. IsLawful (More (replicate room.riders unused) r) r.touches) tt room.riders;
-        read_only = zeros (room.cells + 2) room.cells;
-        head = zeros (room.cells + 2) (room.cells + 1);
-        never_falls = (no_stores, no_stores);
-        offset = each (Below no_offsets) (no_loads, no_loads) room.riders;
+        read_only = zeros (room.cells + 3) room.cells;
+        head = zeros (room.cells + 3) (room.cells + 1);
+        ended = zeros (room.cells + 3) (room.cells + 2);
+        never_falls = (no_stores, no_stores, no_stores);
+        offset = each (Below no_offsets) (no_loads, no_loads, no_loads) room.riders;
       }

@@ -1,4 +1,4 @@
--- The rule that cells, offset words, the master's stores and the riders' stores and loads meet between any
+-- The rule that cells, the words of the master, the master's stores and the riders' stores and loads meet between any
 -- two steps.
 use Rattle.std.specs.Prelude.{ℕ, ◌≡◌, ◌≢◌, ◌+◌, ◌<◌, ◌≤◌, ◌==◌, ◌⊎◌, if◌then◌else◌, List, [], ◌∷◌, Option, Some, None, slice_get, slice_index, AllPairs}
 use Rattle.std.specs.List.{AllByRecursion, Contains}
@@ -61,11 +61,11 @@ abbrev pub IsCell : List RiderView → ℕ → ℕ → Type 0
 IsCell riders c w = ((w ≡ 0) × EachRider (λ i r. last_store c r.touches ≡ None) riders)
     ⊎ SomeRider (λ i r. last_store c r.touches ≡ Some w) riders
 
--- no store of an offset word is below an earlier one
+-- no store of such a word is below an earlier one
 abbrev pub NeverFalls : List ℕ → Type 0
 NeverFalls stores = AllPairs (λ later earlier. earlier ≤ later) stores
 
--- each load of an offset word is of 0 or of one of its stores, and the greatest is at most the newest store
+-- each load of such a word is of 0 or of one of its stores, and the greatest is at most the newest store
 abbrev pub AreLoads : List ℕ → List ℕ → Type 0
 AreLoads stores loads = (greatest (λ x. x) loads ≤ newest stores)
     × AllByRecursion (λ x. (x ≡ 0) ⊎ Contains stores x) loads
@@ -78,6 +78,8 @@ pub record IsRuled (cells : ℕ) (words : List ℕ) (stores : OffsetWords)
   pub load : EachRider (λ i r. IsLawful (IsElsewhere riders i) r.touches) riders
   pub read_only : slice_index words cells ≡ newest stores.read_only
   pub head : slice_index words (cells + 1) ≡ newest stores.head
-  pub never_falls : NeverFalls stores.read_only × NeverFalls stores.head
+  pub ended : slice_index words (cells + 2) ≡ newest stores.ended
+  pub never_falls : NeverFalls stores.read_only × NeverFalls stores.head × NeverFalls stores.ended
   pub offset : EachRider
-      (λ i r. AreLoads stores.read_only r.offsets.read_only × AreLoads stores.head r.offsets.head) riders
+      (λ i r. AreLoads stores.read_only r.offsets.read_only × AreLoads stores.head r.offsets.head
+      × AreLoads stores.ended r.offsets.ended) riders

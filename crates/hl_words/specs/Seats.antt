@@ -12,7 +12,7 @@ use Rattle.hl_words.specs.declared.which.Which.{Which}
 use Rattle.hl_words.specs.Views.{no_offsets, greatest_of, with_offset, unused, touched, added, exchanged, with_loaded}
 use Rattle.hl_words.specs.Rule.{EachRider, IsRuled}
 
--- a seat that knows these stores of the offset words, and stands for these riders
+-- a seat that knows these stores of the master's words, and stands for these riders
 abbrev pub seat_of : OffsetWords → List RiderView → SeatView
 seat_of last riders = record { offsets = last; riders = riders }
 
@@ -33,12 +33,12 @@ abbrev pub riders_in : List SeatView → List RiderView
 riders_in [] = []
 riders_in (v ∷ vs) = v.riders ++ riders_in vs
 
--- The table has the cells and two offset words, the seats stand for all riders, and the rule holds, the
+-- The table has the cells and the master's three words, the seats stand for all riders, and the rule holds, the
 -- master having seat 0
 pub record IsKept (room : Room) (words : List ℕ) (views : List SeatView) : Type 0 where
   pub master : SeatView
   pub seat : get_elem? views 0 ≡ some master
-  pub width : length words ≡ room.cells + 2
+  pub width : length words ≡ room.cells + 3
   pub count : length (riders_in views) ≡ room.riders
   pub ruled : IsRuled room.cells words master.offsets (riders_in views)
 
@@ -71,12 +71,12 @@ Adds s before found after = after ≡ (moved (added s.word s.first found) before
 abbrev pub Exchanges : Step (Unit {0}) → Me (Unit {0}) SeatView → ℕ → Me (Unit {0}) SeatView → Type 0
 Exchanges s before found after = after ≡ (moved (exchanged s.word s.first s.second found) before.0, before.1)
 
--- of a load of an offset word: the rider's view has it, and the rider loaded no greater one before
+-- of a load of a word of the master's: the rider's view has it, and the rider loaded no greater one before
 abbrev pub Looks : Which → Step (Unit {0}) → Me (Unit {0}) SeatView → ℕ → Me (Unit {0}) SeatView → Type 0
 Looks which s before found after = (after ≡ (moved (with_loaded which found) before.0, before.1))
     × EachRider (λ i r. greatest_of which r.offsets ≤ found) before.0.riders
 
--- of a store of an offset word: it is the master's newest
+-- of a store of a word of the master's: it is the newest
 abbrev pub Sets : Which → Step (Unit {0}) → Me (Unit {0}) SeatView → ℕ → Me (Unit {0}) SeatView → Type 0
 Sets which s before found after =
     after ≡ (seat_of (with_offset which s.first before.0.offsets) before.0.riders, before.1)

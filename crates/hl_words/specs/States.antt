@@ -20,7 +20,7 @@ pub record RiderState : Type 0 where
   pub share : ℕ
   pub calls : List Entry
 
--- the master's stores of the offset words, and how many journal steps were entered in all
+-- the master's stores of its words, and how many journal steps were entered in all
 pub record MasterState : Type 0 where
   pub offsets : OffsetWords
   pub total : ℕ
@@ -47,7 +47,7 @@ pub record WordsState : Type 0 where
   pub cells : ℕ
   pub riders : ℕ
 
--- the words at their end: so many cells, and then the two offset words
+-- the words at their end: so many cells, and then the master's three words
 pub record LastState : Type 0 where
   pub cells : ℕ
   pub words : List ℕ
@@ -69,10 +69,10 @@ IsSeedOf name parts table seed = (seed.name ≡ name) × (seed.riders ≡ parts)
 abbrev pub first_rider : SeatView → RiderView
 first_rider v = slice_index_or v.riders 0 unused
 
--- the first table of a seed, or that of words: its rule is that of this room, and it has the cells and two words more
+-- the first table of a seed, or that of words: its rule is that of this room, and it has the cells and three words more
 pub record IsTableOf (room : Room) (key : Room) (table : TableId) : Type 0 where
   pub key_is : key ≡ room
-  pub words_are : table.words ≡ room.cells + 2
+  pub words_are : table.words ≡ room.cells + 3
   pub no_slot : table.slots ≡ 0
   pub few : room.cells ≤ 2 ^ 20
   pub some : 1 ≤ room.riders

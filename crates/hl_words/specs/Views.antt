@@ -1,4 +1,4 @@
--- What a rider's view is after one more store or load, and the two offset words by name.
+-- What a rider's view is after one more store or load, and the master's three words by name.
 use Rattle.std.specs.Prelude.{ℕ, ◌+◌, ◌%◌, ◌^◌, ◌==◌, if◌then◌else◌, List, [], ◌∷◌}
 use Rattle.hl_model.specs.Lists.{greatest}
 use Rattle.hl_words.specs.declared.view.Touch.{Touch}
@@ -6,36 +6,40 @@ use Rattle.hl_words.specs.declared.view.Touch.TheVariants.{Stored, Loaded, Chang
 use Rattle.hl_words.specs.declared.view.OffsetWords.{OffsetWords}
 use Rattle.hl_words.specs.declared.view.RiderView.{RiderView}
 use Rattle.hl_words.specs.declared.which.Which.{Which}
-use Rattle.hl_words.specs.declared.which.Which.TheVariants.{ReadOnly, Head}
+use Rattle.hl_words.specs.declared.which.Which.TheVariants.{ReadOnly, Head, Ended}
 
--- both offset words before any store or load
+-- the master's words before any store or load
 abbrev pub no_offsets : OffsetWords
-no_offsets = record { read_only = []; head = [] }
+no_offsets = record { read_only = []; head = []; ended = [] }
 
 -- the newest of these values, which stands first, or the 0 that a word has before any store
 abbrev pub newest : List ℕ → ℕ
 newest [] = 0
 newest (x ∷ before) = x
 
--- the newest of the one of the two
+-- the newest of the one
 abbrev pub offset_of : Which → OffsetWords → ℕ
 offset_of ReadOnly o = newest o.read_only
 offset_of Head o = newest o.head
+offset_of Ended o = newest o.ended
 
--- the greatest of the one of the two, or 0
+-- the greatest of the one, or 0
 abbrev pub greatest_of : Which → OffsetWords → ℕ
 greatest_of ReadOnly o = greatest (λ x. x) o.read_only
 greatest_of Head o = greatest (λ x. x) o.head
+greatest_of Ended o = greatest (λ x. x) o.ended
 
 -- the same with x as the newest of the one
 abbrev pub with_offset : Which → ℕ → OffsetWords → OffsetWords
-with_offset ReadOnly x o = record { read_only = x ∷ o.read_only; head = o.head }
-with_offset Head x o = record { read_only = o.read_only; head = x ∷ o.head }
+with_offset ReadOnly x o = record { read_only = x ∷ o.read_only; head = o.head; ended = o.ended }
+with_offset Head x o = record { read_only = o.read_only; head = x ∷ o.head; ended = o.ended }
+with_offset Ended x o = record { read_only = o.read_only; head = o.head; ended = x ∷ o.ended }
 
--- where an offset word lies, behind this many cells
+-- where a word of the master's lies, behind this many cells
 abbrev pub place_of : Which → ℕ → ℕ
 place_of ReadOnly cells = cells
 place_of Head cells = cells + 1
+place_of Ended cells = cells + 2
 
 -- the view of a rider that did nothing
 abbrev pub unused : RiderView
@@ -67,6 +71,6 @@ abbrev pub exchanged : ℕ → ℕ → ℕ → ℕ → RiderView → RiderView
 exchanged cell old new found r =
     if found == old then changed cell found new r else loaded cell found r
 
--- the view after a load of an offset word that gave x
+-- the view after a load of a word of the master's that gave x
 abbrev pub with_loaded : Which → ℕ → RiderView → RiderView
 with_loaded which x r = record { touches = r.touches; offsets = with_offset which x r.offsets }

@@ -23,7 +23,7 @@ impl Model for LastWords {
 
     ghost view = { λ l. record { cells = l.cells; words = slots_items l.closed.words } };
 
-    ghost invariant = { λ l. IsFull l.closed.words × (slots_len l.closed.words ≡ l.cells + 2)
+    ghost invariant = { λ l. IsFull l.closed.words × (slots_len l.closed.words ≡ l.cells + 3)
         × (slots_len l.closed.slots ≡ 0) × (l.cells ≤ 2 ^ 20) };
 }
 
@@ -38,7 +38,7 @@ impl LastWords {
     /// The words of a table that was closed.
     pub(crate) fn of(closed: Closed<(), Global>, cells: usize) -> LastWords
         requires full { IsFull closed.words }
-        requires words { slots_len closed.words ≡ cells + 2 }
+        requires words { slots_len closed.words ≡ cells + 3 }
         requires no_slot { slots_len closed.slots ≡ 0 }
         requires few { cells ≤ 2 ^ 20 }
         ensures { result ≡ record { cells = cells; words = slots_items closed.words } }
@@ -54,13 +54,14 @@ impl LastWords {
         self.closed.word(cell as usize)
     }
 
-    /// What an offset word holds, in words of the log.
+    /// What one of the master's words holds: an offset in words of the log, or an epoch.
     pub fn offset(&self, which: Which) -> u64
         ensures { result ≡ slice_index self.now.words (place_of which self.now.cells) }
     {
         match which {
             Which::ReadOnly => self.closed.word(self.cells),
             Which::Head => self.closed.word(self.cells + 1),
+            Which::Ended => self.closed.word(self.cells + 2),
         }
     }
 }

@@ -1,8 +1,9 @@
-//! Shared words: cells and two offset words that many threads load and store with no lock.
+//! Shared words: cells, which many threads load and store with no lock, and three words that one stores and all load.
 //!
 //! A `Seed` becomes `Words`, which threads share by a `&`, one `Master` and some `Rider`s. A rider stores into cells and
-//! loads any word. The master alone stores the offset words, which never fall, and counts the journal steps that
-//! riders enter. At the end `Words::close` takes them all back, and gives the `LastWords`, to be read alone.
+//! loads any word. The master alone stores its three words, the two offset words and the last epoch that ended: they
+//! never fall. It also counts the journal steps that riders enter. At the end `Words::close` takes them all back, and
+//! gives the `LastWords`, to be read alone.
 //!
 //! Beside the words lies the one list of `hl_history`. To have it, open the seed by
 //! `Words::open_with_scribe`, which also returns the one `Scribe`, and lay that under the lock where
@@ -12,9 +13,10 @@
 //!
 //! What each value witnesses:
 //!
-//! - a **rider**: what it stored into cells and loaded from them, in order, what it loaded of each offset word, its
-//!   share: how many journal steps it entered, and its calls: the list that each met, and the steps that it put behind;
-//! - the **master**: its stores of each offset word, and how many journal steps all riders entered;
+//! - a **rider**: what it stored into cells and loaded from them, in order, what it loaded of each of the master's
+//!   words, its share: how many journal steps it entered, and its calls: the list that each met, and the steps that it
+//!   put behind;
+//! - the **master**: its stores of each of its words, and how many journal steps all riders entered;
 //! - the **scribe**: the one list of steps;
 //! - a **seed**: that its words, its ledger and its list are new. It is used up by `Words::open`;
 //! - a **realm**: nothing by itself. It names one seed in types, so that a rider, a master and words of one realm belong
@@ -22,7 +24,7 @@
 //!
 //! The rule, in `specs/Rule.antt`, holds between any two steps: a cell is 0 if no rider stored into it, else it is some
 //! rider's last store there; a load is of the rider's last store before it, or of a value that another rider stores, or
-//! of 0 if the rider had seen nothing else there; an offset word is the master's last store and never falls, and each
+//! of 0 if the rider had seen nothing else there; a word of the master's is its last store and never falls, and each
 //! that a rider loaded is one of the master's stores, or 0, and at most the last. `close` says it of exactly what the
 //! riders stored and loaded that are handed in, and of what the words hold then, which `LastWords` tells.
 //!

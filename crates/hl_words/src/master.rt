@@ -5,7 +5,7 @@ use crate::seed::{Realm, WordSeat};
 use std::marker::Model;
 use std::sync::ledger::{Book, Share};
 
-/// The right to store the offset words, and to count journal steps. Contracts see its stores, and how many steps
+/// The right to store its three words, and to count journal steps. Contracts see its stores, and how many steps
 /// all riders entered.
 #[derive(Drop)]
 pub struct Master<L: Realm> {

@@ -69,6 +69,26 @@ impl Play<(), SeatView> for LoadHead {
     ghost then = { Looks Head };
 }
 
+/// A rider's load of the word of the last epoch that ended.
+pub struct LoadEnded;
+
+impl Play<(), SeatView> for LoadEnded {
+    ghost use Rattle.hl_words.specs.Seats.{Looks};
+    ghost use Rattle.hl_words.specs.declared.which.Which.TheVariants.{Ended};
+
+    ghost then = { Looks Ended };
+}
+
+/// The master's store of the word of the last epoch that ended.
+pub struct StoreEnded;
+
+impl Play<(), SeatView> for StoreEnded {
+    ghost use Rattle.hl_words.specs.Seats.{Sets};
+    ghost use Rattle.hl_words.specs.declared.which.Which.TheVariants.{Ended};
+
+    ghost then = { Sets Ended };
+}
+
 /// The master's store of the read-only word.
 pub struct StoreReadOnly;
 

@@ -17,8 +17,8 @@ pub(crate) type WordTable = Table<(), SeatView, Room, WordRule, Global>;
 /// A seat at the table of the words.
 pub(crate) type WordSeat = Seat<(), SeatView>;
 
-/// Names the tables and the ledger of one seed, its sizes, and the stamp of the domain that is opened over it. What
-/// carries one realm is all of one seed.
+/// Names the tables and the ledger of one seed, its sizes, and the stamp of the domain that is opened over it with the
+/// room of its journal. What carries one realm is all of one seed.
 pub trait Realm: Ledger {
     ghost use Rattle.std.specs.Prelude.{ℕ};
     ghost use Rattle.hl_model.specs.Sizes.{Sizes};
@@ -29,6 +29,8 @@ pub trait Realm: Ledger {
     ghost sizes: { Sizes };
 
     ghost stamp: { ℕ };
+
+    ghost limit: { ℕ };
 }
 
 impl Realm for Brand {
@@ -39,6 +41,8 @@ impl Realm for Brand {
     ghost sizes = { record { page_size = 4; frames = 2; slots = 1; drain = 1 } };
 
     ghost stamp = { 0 };
+
+    ghost limit = { 0 };
 }
 
 /// Names the history of a realm's seed.
@@ -51,7 +55,7 @@ impl<L: Realm> Named for HistoryOf<L> {
 /// The right to put steps behind the one list of a realm. Contracts see it as the list.
 pub type Scribe<L> = hl_history::Scribe<HistoryOf<L>>;
 
-/// Words that nobody has opened yet: the cells, the two offset words, a ledger with a part for each rider, and the
+/// Words that nobody has opened yet: the cells, the master's three words, a ledger with a part for each rider, and the
 /// empty list with a diary for each. It is the one witness that its realm is new: it is used up by `Words::open`.
 #[derive(Drop)]
 pub struct Seed {
@@ -87,7 +91,7 @@ impl Model for Seed {
 }
 
 impl Seed {
-    /// Makes the words of an allocator of these sizes: F * P cells and two offset words, all 0, for 1 to 128 riders.
+    /// Makes the words of an allocator of these sizes: F * P cells and three words of the master's, all 0, for 1 to 128 riders.
     ///
     /// `OutOfMemory` if memory was refused; then nothing is made.
     pub fn make(alloc: Global, params: Params, riders: usize) -> Result<Seed, Fault>
@@ -128,11 +132,11 @@ impl Seed {
 fn laid(alloc: Global, room: Room) -> Result<(WordTable, WordSeat), AllocError>
     requires { room.cells ≤ 2 ^ 20 }
     ensures table { IfOk result
-        (λ t. (t.0.shared.key ≡ room) × (t.0.shared.table_id.words ≡ room.cells + 2)
+        (λ t. (t.0.shared.key ≡ room) × (t.0.shared.table_id.words ≡ room.cells + 3)
         × (t.0.shared.table_id.slots ≡ 0)) }
     ensures seat { IfOk result
         (λ t. (t.1.table_id ≡ t.0.shared.table_id) × (t.1.id ≡ 0) × (t.1.me ≡ (first_seat room, []))) }
 {
-    let words = vec![in alloc; 0u64; room.cells + 2]?;
+    let words = vec![in alloc; 0u64; room.cells + 3]?;
     Table::of_words(alloc, words.as_slice(), &room)
 }

@@ -12,22 +12,23 @@ pub enum Touch {
     Changed { cell: u64, found: u64, value: u64 },
 }
 
-/// Values of each offset word, in words of the log, the newest first: those that a rider loaded, or those that the
-/// master stored.
+/// Values of each of the master's words, the newest first: those that a rider loaded, or those that the master
+/// stored. Offsets are in words of the log.
 pub struct OffsetWords {
     pub read_only: LinkedList<u64>,
     pub head: LinkedList<u64>,
+    pub ended: LinkedList<u64>,
 }
 
 /// What a rider stored and loaded.
 pub struct RiderView {
     /// Its stores into cells and its loads of cells, the newest first.
     pub touches: LinkedList<Touch>,
-    /// Its loads of each offset word.
+    /// Its loads of each of the master's words.
     pub offsets: OffsetWords,
 }
 
-/// What one seat of the table knows: the master's knows its stores of the offset words, and each seat the views
+/// What one seat of the table knows: the master's knows its stores of its three words, and each seat the views
 /// of the riders that it stands for. A rider's seat stands for that rider alone. The master's stands for those that
 /// aren't dealt out yet, and at the end for all.
 pub struct SeatView {

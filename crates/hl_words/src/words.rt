@@ -11,8 +11,8 @@ use crate::last::LastWords;
 use crate::master::Master;
 use crate::rider::Rider;
 use crate::rule::{
-    AddCell, Deal, ExchangeCell, LoadCell, LoadHead, LoadReadOnly, StoreCell, StoreHead,
-    StoreReadOnly,
+    AddCell, Deal, ExchangeCell, LoadCell, LoadEnded, LoadHead, LoadReadOnly, StoreCell,
+    StoreEnded, StoreHead, StoreReadOnly,
 };
 use crate::seed::{HistoryOf, Realm, Scribe, Seed, WordSeat, WordTable};
 use crate::view::Room;
@@ -23,7 +23,7 @@ use std::alloc::Global;
 use std::marker::{Model, PhantomData};
 use std::sync::ledger::Share;
 
-/// The cells and the two offset words, which any thread may load and store through a `&`, and the one list of steps,
+/// The cells and the master's three words, which any thread may load through a `&`, and the one list of steps,
 /// behind which the scribe puts more. No call here waits or takes memory but those that open. Contracts see how many
 /// cells and how many riders there are.
 #[derive(Drop)]
@@ -157,7 +157,8 @@ impl<L: Realm> Words<L> {
         shared.compare_exchange::<ExchangeCell>(&mut rider.seat, cell as usize, old, new)
     }
 
-    /// Stores an offset word, in words of the log. The caller sees to it that it isn't below the master's last store.
+    /// Stores one of the master's words: an offset in words of the log, or an epoch. The caller sees to it that it
+    /// isn't below the master's last store.
     pub fn store_offset(&self, master: &mut Master<L>, which: Which, offset: u64)
         requires { offset_of which master.old.offsets ≤ offset }
         ensures { master.new
@@ -168,11 +169,12 @@ impl<L: Realm> Words<L> {
         match which {
             Which::ReadOnly => shared.store::<StoreReadOnly>(seat, self.room.cells, offset),
             Which::Head => shared.store::<StoreHead>(seat, self.room.cells + 1, offset),
+            Which::Ended => shared.store::<StoreEnded>(seat, self.room.cells + 2, offset),
         }
     }
 
-    /// Loads an offset word, in words of the log. It isn't below what this rider loaded of it before. The rider's view
-    /// has the load; that it is one of the master's stores, or 0, is what `close` tells of all loads.
+    /// Loads one of the master's words: an offset in words of the log, or an epoch. It isn't below what this rider
+    /// loaded of it before. The rider's view has the load; that it is one of the master's stores, or 0, is what `close` tells of all loads.
     pub fn load_offset(&self, rider: &mut Rider<L>, which: Which) -> u64
         ensures view { rider.new ≡ with_view (with_loaded which result rider.old.view) rider.old }
         ensures rises { greatest_of which rider.old.view.offsets ≤ result }
@@ -182,6 +184,7 @@ impl<L: Realm> Words<L> {
         match which {
             Which::ReadOnly => shared.load::<LoadReadOnly>(seat, self.room.cells),
             Which::Head => shared.load::<LoadHead>(seat, self.room.cells + 1),
+            Which::Ended => shared.load::<LoadEnded>(seat, self.room.cells + 2),
         }
     }
 

@@ -6,11 +6,10 @@ ghost use Rattle.hl_model.specs.declared.step.Step.TheVariants.{Take as TAKE, Do
 ghost use Rattle.hl_model.specs.Actions.{bumps};
 ghost use Rattle.hl_model.specs.Replies.{answer_of};
 ghost use Rattle.hl_core.specs.Steps.{asking, stored, CameOut};
-ghost use Rattle.hl_keeper.specs.Passes.{Shares};
 ghost use Rattle.hl_keeper.specs.Keepers.{job_tag, KeeperStands};
 ghost use Rattle.hl_keeper.specs.Calls.{Makes, Ends, Stays};
 ghost use Rattle.hl_keeper.specs.Taking.{taken_from, ready_told};
-ghost use Rattle.hl_domain.specs.Domains.{LeavesUnderLock, MakesUnderLock};
+ghost use Rattle.hl_domain.specs.Domains.{call_of, no_step, answered, LeavesUnderLock, MakesUnderLock};
 ghost use Rattle.hl.specs.Sessions.{fault_alone, KeepsAllButRider};
 
 use super::Session;
@@ -29,14 +28,14 @@ impl<'a, R: Wait, L: Realm, F: Task, P: Promise, E: Epochs + Drop> Session<'a, R
     /// Faults, with what was asked for handed back: `JournalFull`, `DrainFull`, `EpochsSpent`, `WindowFull`.
     pub fn bump(&mut self, ask: Ask<Kept<F, P>>) -> Result<u64, Refused<Ask<Kept<F, P>>>>
         ensures met { let step = asking job_tag ask
-            in LeavesUnderLock F self.old.log (λ old new.
+            in let call = call_of step self.old.pass.rider self.new.pass.rider
+            in LeavesUnderLock F self.old.log (answered (fault_alone result) call) (λ old new.
             Makes old step (λ A. bumps (A ++ step ∷ [])) new (fault_alone result) × Stays old new
             × IfOk result (λ ticket. new.core.drain.pending
             ≡ old.core.drain.pending ++ (ticket, stored old.core.offsets ask) ∷ [])
             × OnErr result (new ≡ old)) }
         ensures back { IfErr result (λ refused. refused.back ≡ ask) }
         ensures kept { KeepsAllButRider self.old self.new }
-        ensures rider { Shares 1 result self.old.pass.rider self.new.pass.rider }
     {
         match self.log.bump(self.rt, self.pass.rider_mut(), ask) {
             Ok(ticket) => Ok(ticket),
@@ -50,12 +49,12 @@ impl<'a, R: Wait, L: Realm, F: Task, P: Promise, E: Epochs + Drop> Session<'a, R
     /// Faults: `JournalFull`, `Empty`, `NotReady`. If the session's own slot holds the action up,
     /// refresh first.
     pub fn take(&mut self) -> Result<Ready<F, P>, Fault>
-        ensures met { LeavesUnderLock F self.old.log (λ old new.
+        ensures met { let call = call_of TAKE self.old.pass.rider self.new.pass.rider
+            in LeavesUnderLock F self.old.log (answered result call) (λ old new.
             Makes old TAKE (taken_from old) new (ready_told result) × Stays old new
             × IfOk result (λ ready. CameOut job_tag old.core new.core ready.firing.ticket ready.kept)
             × OnErr result (new ≡ old)) }
         ensures kept { KeepsAllButRider self.old self.new }
-        ensures rider { Shares 1 result self.old.pass.rider self.new.pass.rider }
     {
         self.log.take(self.rt, self.pass.rider_mut())
     }
@@ -65,11 +64,11 @@ impl<'a, R: Wait, L: Realm, F: Task, P: Promise, E: Epochs + Drop> Session<'a, R
     /// Faults, with it handed back: `Stranger` if it is of another log, `JournalFull`, `NotTaken`.
     pub fn done(&mut self, ran: Ran) -> Result<Reply, Refused<Ran>>
         ensures met { let step = DONE ran.ticket
-            in MakesUnderLock F self.old.log (fault_alone result) (λ old. Ends old ran.origin step
-            (λ A. answer_of old.core.sizes A (A ++ step ∷ []) step)) }
+            in let call = call_of step self.old.pass.rider self.new.pass.rider
+            in MakesUnderLock F self.old.log call (fault_alone result) (λ old.
+            Ends old ran.origin step (λ A. answer_of old.core.sizes A (A ++ step ∷ []) step)) }
         ensures back { IfErr result (λ refused. refused.back ≡ ran) }
         ensures kept { KeepsAllButRider self.old self.new }
-        ensures rider { Shares 1 result self.old.pass.rider self.new.pass.rider }
     {
         match self.log.done(self.rt, self.pass.rider_mut(), ran) {
             Ok(reply) => Ok(reply),
@@ -80,11 +79,12 @@ impl<'a, R: Wait, L: Realm, F: Task, P: Promise, E: Epochs + Drop> Session<'a, R
     /// Drops the steps since the last cut; returns how many were dropped. It is never refused, and
     /// makes room after a `JournalFull`.
     pub fn cut(&mut self) -> u64
-        ensures met { LeavesUnderLock F self.old.log (λ old new. (result ≡ length old.journal)
+        ensures met { let call = no_step self.old.pass.rider self.new.pass.rider
+            in LeavesUnderLock F self.old.log call (λ old new. (result ≡ length old.journal)
             × (new.journal ≡ []) × (new.cut ≡ old.cut + length old.journal)
             × (new.core ≡ old.core) × (new.limit ≡ old.limit)
             × ((A : List STEP) → KeeperStands old A → KeeperStands new A)) }
-        ensures kept { self.new ≡ self.old }
+        ensures kept { KeepsAllButRider self.old self.new }
     {
         self.log.cut(self.rt, self.pass.rider_mut())
     }

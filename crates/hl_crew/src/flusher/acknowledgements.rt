@@ -1,6 +1,7 @@
 ghost use Rattle.std.specs.Prelude.{◌≡◌, ◌+◌, ℕ, Some, None, Ok, position, OnOk, OnErr};
-ghost use Rattle.hl_keeper.specs.Passes.{Shares};
-ghost use Rattle.hl_crew.specs.Pouches.{is_of, load_count, Answers};
+ghost use Rattle.hl_words.specs.States.{RiderState};
+ghost use Rattle.hl_crew.specs.Pouches.{is_of, load_count, PageAnswer, Answers};
+ghost use Rattle.hl_crew.specs.Waits.{Waits};
 ghost use Rattle.hl_crew.specs.Counting.{counted, one_stranger, failed_more, AnswersAndCounts};
 
 use crate::flusher::{Flusher, FlusherState};
@@ -42,7 +43,10 @@ impl<R: Wait, E: Epochs + Drop, F: Task, P: Promise, L: Realm> Flusher<'_, R, E,
         ensures stranger { position (is_of told.page) pouch.old ≡ None
             → (result ≡ Ok tt) × (pouch.new ≡ pouch.old) × (own.new.counts ≡ one_stranger own.old.counts) }
         ensures held { (at : ℕ) → position (is_of told.page) pouch.old ≡ Some at
-            → AnswersAndCounts F self.now.domain.now told.page told.ok at pouch.old pouch.new
+            → let answer : PageAnswer = record {
+              page = told.page; ok = told.ok; from = own.old.rider; to = own.new.rider;
+            }
+            in AnswersAndCounts F self.now.domain.now answer at pouch.old pouch.new
             own.old.counts own.new.counts result }
     {
         if !pouch.holds(told.page()) {
@@ -76,7 +80,10 @@ impl<R: Wait, E: Epochs + Drop, F: Task, P: Promise, L: Realm> Flusher<'_, R, E,
         ok: bool,
     ) -> Result<(), Over>
         ensures held { (at : ℕ) → position (is_of page) pouch.old ≡ Some at
-            → AnswersAndCounts F self.now.domain.now page ok at pouch.old pouch.new
+            → let answer : PageAnswer = record {
+              page = page; ok = ok; from = own.old.rider; to = own.new.rider;
+            }
+            in AnswersAndCounts F self.now.domain.now answer at pouch.old pouch.new
             own.old.counts own.new.counts result }
         ensures fewer { OnOk result (load_count pouch.new + 1 ≡ load_count pouch.old) }
         ensures counts { OnOk result (own.new.counts ≡ counted ok own.old.counts) }
@@ -99,9 +106,10 @@ impl<R: Wait, E: Epochs + Drop, F: Task, P: Promise, L: Realm> Flusher<'_, R, E,
         ok: bool,
     ) -> Result<u64, Fault>
         ensures held { (at : ℕ) → position (is_of page) pouch.old ≡ Some at
-            → Answers F self.now.domain.now page ok at pouch.old pouch.new result }
+            → (mid : RiderState) × Waits rider.old mid
+            × let answer : PageAnswer = record { page = page; ok = ok; from = mid; to = rider.new }
+            in Answers F self.now.domain.now answer at pouch.old pouch.new result }
         ensures fewer { OnOk result (load_count pouch.new + 1 ≡ load_count pouch.old) }
-        ensures rider { Shares 1 result rider.old rider.new }
     {
         for _ in 0..ATTEMPTS {
             match pouch.answer(self.rt, self.domain, rider, page, ok) {

@@ -2,12 +2,12 @@
 ghost use Rattle.std.specs.Prelude.{◌≡◌, List, [], ◌∷◌, ◌++◌, IfErr};
 ghost use Rattle.hl_model.specs.declared.step.Step.TheVariants.{FlushTake as FLUSH_TAKE, FlushDone as FLUSH_DONE, CleanTake as CLEAN_TAKE, CleanDone as CLEAN_DONE};
 ghost use Rattle.hl_model.specs.Pages.{flushed};
-ghost use Rattle.hl_keeper.specs.Passes.{Shares};
 ghost use Rattle.hl_keeper.specs.Calls.{without_back, Makes, Ends};
 ghost use Rattle.hl_keeper.specs.Pages.{to_flush, to_clean};
-ghost use Rattle.hl_domain.specs.Domains.{MakesUnderLock};
+ghost use Rattle.hl_domain.specs.Domains.{call_of, MakesUnderLock};
 
 use crate::domain::Domain;
+use crate::domain::held::Held;
 use hl_action::{Promise, Task};
 use hl_epoch::Epochs;
 use hl_keeper::{Broom, Load};
@@ -20,11 +20,15 @@ impl<E: Epochs + Drop, F: Task, P: Promise, L: Realm> Domain<E, F, P, L> {
     ///
     /// Faults: `JournalFull`, `NoneSealed`.
     pub fn flush_take(&self, rt: &impl Wait, rider: &mut Rider<L>) -> Result<Load, Fault>
-        ensures met { MakesUnderLock F self.now result (λ old. Makes old FLUSH_TAKE
-            (λ A. to_flush old.core.sizes old.stamp A)) }
-        ensures rider { Shares 1 result rider.old rider.new }
+        ensures met { MakesUnderLock F self.now (call_of FLUSH_TAKE rider.old rider.new) result (λ old.
+            Makes old FLUSH_TAKE (λ A. to_flush old.core.sizes old.stamp A)) }
     {
-        self.lock(rt).flush_take(&self.words, rider)
+        let mut guard = self.lock(rt);
+        let Held { keeper, scribe } = &mut *guard;
+        let before = keeper.journal().len();
+        let taken = keeper.flush_take(&self.words, rider);
+        self.note(keeper, before, scribe, rider);
+        taken
     }
 
     /// The flush of a page ended, well or not; the answer is the flushed offset.
@@ -39,23 +43,31 @@ impl<E: Epochs + Drop, F: Task, P: Promise, L: Realm> Domain<E, F, P, L> {
         ok: bool,
     ) -> Result<u64, (Fault, Load)>
         ensures met { let step = FLUSH_DONE load.page ok
-            in MakesUnderLock F self.now (without_back result) (λ old. Ends old load.stamp step
-            (λ A. flushed old.core.sizes (A ++ step ∷ []))) }
+            in MakesUnderLock F self.now (call_of step rider.old rider.new) (without_back result) (λ old.
+            Ends old load.stamp step (λ A. flushed old.core.sizes (A ++ step ∷ []))) }
         ensures refused { IfErr result (λ back. back.1 ≡ load) }
-        ensures rider { Shares 1 result rider.old rider.new }
     {
-        self.lock(rt).flush_done(&self.words, rider, load, ok)
+        let mut guard = self.lock(rt);
+        let Held { keeper, scribe } = &mut *guard;
+        let before = keeper.journal().len();
+        let ended = keeper.flush_done(&self.words, rider, load, ok);
+        self.note(keeper, before, scribe, rider);
+        ended
     }
 
     /// Takes the least closed page that is neither freed nor being cleaned.
     ///
     /// Faults: `JournalFull`, `NoneClosed`.
     pub fn clean_take(&self, rt: &impl Wait, rider: &mut Rider<L>) -> Result<Broom, Fault>
-        ensures met { MakesUnderLock F self.now result (λ old. Makes old CLEAN_TAKE
-            (λ A. to_clean old.core.sizes old.stamp A)) }
-        ensures rider { Shares 1 result rider.old rider.new }
+        ensures met { MakesUnderLock F self.now (call_of CLEAN_TAKE rider.old rider.new) result (λ old.
+            Makes old CLEAN_TAKE (λ A. to_clean old.core.sizes old.stamp A)) }
     {
-        self.lock(rt).clean_take(&self.words, rider)
+        let mut guard = self.lock(rt);
+        let Held { keeper, scribe } = &mut *guard;
+        let before = keeper.journal().len();
+        let taken = keeper.clean_take(&self.words, rider);
+        self.note(keeper, before, scribe, rider);
+        taken
     }
 
     /// The cells of a page hold 0: its frame is free. The broom is swept: 0 was stored into all P cells. The
@@ -70,11 +82,16 @@ impl<E: Epochs + Drop, F: Task, P: Promise, L: Realm> Domain<E, F, P, L> {
         broom: Broom,
     ) -> Result<u64, (Fault, Broom)>
         requires { broom.swept ≡ self.now.sizes.page_size }
-        ensures met { MakesUnderLock F self.now (without_back result) (λ old.
-            Ends old broom.stamp (CLEAN_DONE broom.page) (λ A. broom.page)) }
+        ensures met { let step = CLEAN_DONE broom.page
+            in MakesUnderLock F self.now (call_of step rider.old rider.new) (without_back result) (λ old.
+            Ends old broom.stamp step (λ A. broom.page)) }
         ensures refused { IfErr result (λ back. back.1 ≡ broom) }
-        ensures rider { Shares 1 result rider.old rider.new }
     {
-        self.lock(rt).clean_done(&self.words, rider, broom)
+        let mut guard = self.lock(rt);
+        let Held { keeper, scribe } = &mut *guard;
+        let before = keeper.journal().len();
+        let freed = keeper.clean_done(&self.words, rider, broom);
+        self.note(keeper, before, scribe, rider);
+        freed
     }
 }

@@ -9,13 +9,13 @@ ghost use Rattle.hl_model.specs.Snapshots.{snapshot_of};
 ghost use Rattle.hl_model.specs.Frames.{frame_of};
 ghost use Rattle.hl_core.specs.Holding.{oldest, holders};
 ghost use Rattle.hl_core.specs.Steps.{asking, stored, CameOut};
-ghost use Rattle.hl_keeper.specs.Passes.{Shares};
 ghost use Rattle.hl_keeper.specs.Keepers.{job_tag, KeeperStands};
 ghost use Rattle.hl_keeper.specs.Calls.{without_back, Makes, Ends, Stays};
 ghost use Rattle.hl_keeper.specs.Taking.{taken_from, ready_told};
-ghost use Rattle.hl_domain.specs.Domains.{UnderLock, LeavesUnderLock, MakesUnderLock};
+ghost use Rattle.hl_domain.specs.Domains.{call_of, no_step, answered, UnderLock, LeavesUnderLock, MakesUnderLock};
 
 use crate::domain::Domain;
+use crate::domain::held::Held;
 use arrayvec::ArrayVec;
 use hl_action::{Kept, Promise, Ran, Ready, Task};
 use hl_core::Holder;
@@ -37,25 +37,35 @@ impl<E: Epochs + Drop, F: Task, P: Promise, L: Realm> Domain<E, F, P, L> {
         ask: Ask<Kept<F, P>>,
     ) -> Result<u64, (Fault, Ask<Kept<F, P>>)>
         ensures met { let step = asking job_tag ask
-            in LeavesUnderLock F self.now (λ old new.
+            in let call = answered (without_back result) (call_of step rider.old rider.new)
+            in LeavesUnderLock F self.now call (λ old new.
             Makes old step (λ A. bumps (A ++ step ∷ [])) new (without_back result) × Stays old new
             × IfOk result (λ ticket. new.core.drain.pending
             ≡ old.core.drain.pending ++ (ticket, stored old.core.offsets ask) ∷ [])
             × OnErr result (new ≡ old)) }
         ensures refused { IfErr result (λ back. back.1 ≡ ask) }
-        ensures rider { Shares 1 result rider.old rider.new }
     {
-        self.lock(rt).bump(&self.words, rider, ask)
+        let mut guard = self.lock(rt);
+        let Held { keeper, scribe } = &mut *guard;
+        let before = keeper.journal().len();
+        let bumped = keeper.bump(&self.words, rider, ask);
+        self.note(keeper, before, scribe, rider);
+        bumped
     }
 
     /// Ends the current epoch, and stores nothing; the answer is the epoch that ended.
     ///
     /// Faults: `JournalFull`, `EpochsSpent`, `WindowFull`.
     pub fn bare(&self, rt: &impl Wait, rider: &mut Rider<L>) -> Result<u64, Fault>
-        ensures met { MakesUnderLock F self.now result (λ old. Makes old BARE (λ A. bumps (A ++ BARE ∷ []))) }
-        ensures rider { Shares 1 result rider.old rider.new }
+        ensures met { MakesUnderLock F self.now (call_of BARE rider.old rider.new) result (λ old.
+            Makes old BARE (λ A. bumps (A ++ BARE ∷ []))) }
     {
-        self.lock(rt).bare(&self.words, rider)
+        let mut guard = self.lock(rt);
+        let Held { keeper, scribe } = &mut *guard;
+        let before = keeper.journal().len();
+        let bumped = keeper.bare(&self.words, rider);
+        self.note(keeper, before, scribe, rider);
+        bumped
     }
 
     /// Takes the oldest pending action, once its ticket is safe; the answer is ready to be run, under its ticket
@@ -63,13 +73,18 @@ impl<E: Epochs + Drop, F: Task, P: Promise, L: Realm> Domain<E, F, P, L> {
     ///
     /// Faults: `JournalFull`, `Empty`, `NotReady`.
     pub fn take(&self, rt: &impl Wait, rider: &mut Rider<L>) -> Result<Ready<F, P>, Fault>
-        ensures met { LeavesUnderLock F self.now (λ old new.
+        ensures met { let call = answered result (call_of TAKE rider.old rider.new)
+            in LeavesUnderLock F self.now call (λ old new.
             Makes old TAKE (taken_from old) new (ready_told result) × Stays old new
             × IfOk result (λ ready. CameOut job_tag old.core new.core ready.firing.ticket ready.kept)
             × OnErr result (new ≡ old)) }
-        ensures rider { Shares 1 result rider.old rider.new }
     {
-        self.lock(rt).take(&self.words, rider)
+        let mut guard = self.lock(rt);
+        let Held { keeper, scribe } = &mut *guard;
+        let before = keeper.journal().len();
+        let taken = keeper.take(&self.words, rider);
+        self.note(keeper, before, scribe, rider);
+        taken
     }
 
     /// A taken action that was run is done. A settle and a close raise their offset to what they stored; of a
@@ -83,48 +98,76 @@ impl<E: Epochs + Drop, F: Task, P: Promise, L: Realm> Domain<E, F, P, L> {
         ran: Ran,
     ) -> Result<Reply, (Fault, Ran)>
         ensures met { let step = DONE ran.ticket
-            in MakesUnderLock F self.now (without_back result) (λ old. Ends old ran.origin step
-            (λ A. answer_of old.core.sizes A (A ++ step ∷ []) step)) }
+            in MakesUnderLock F self.now (call_of step rider.old rider.new) (without_back result) (λ old.
+            Ends old ran.origin step (λ A. answer_of old.core.sizes A (A ++ step ∷ []) step)) }
         ensures refused { IfErr result (λ back. back.1 ≡ ran) }
-        ensures rider { Shares 1 result rider.old rider.new }
     {
-        self.lock(rt).done(&self.words, rider, ran)
+        let mut guard = self.lock(rt);
+        let Held { keeper, scribe } = &mut *guard;
+        let before = keeper.journal().len();
+        let done = keeper.done(&self.words, rider, ran);
+        self.note(keeper, before, scribe, rider);
+        done
     }
 
     /// Moves the read-only offset up to x, and stores its word; the answer is x.
     ///
     /// Faults: `JournalFull`, `NotAbove`, `AboveTail`.
     pub fn raise(&self, rt: &impl Wait, rider: &mut Rider<L>, x: u64) -> Result<u64, Fault>
-        ensures met { MakesUnderLock F self.now result (λ old.
+        ensures met { MakesUnderLock F self.now (call_of (RAISE x) rider.old rider.new) result (λ old.
             Makes old (RAISE x) (λ A. read_only (A ++ RAISE x ∷ []))) }
         ensures same { IfOk result (λ raised. raised ≡ x) }
-        ensures rider { Shares 1 result rider.old rider.new }
     {
-        self.lock(rt).raise(&self.words, rider, x)
+        let mut guard = self.lock(rt);
+        let Held { keeper, scribe } = &mut *guard;
+        let before = keeper.journal().len();
+        let raised = keeper.raise(&self.words, rider, x);
+        self.note(keeper, before, scribe, rider);
+        raised
     }
 
     /// Moves the head up to x, at most to the flushed offset, and stores its word; the answer is x.
     ///
     /// Faults: `JournalFull`, `NotAbove`, `NotPage`, `AboveFlushed`.
     pub fn shift(&self, rt: &impl Wait, rider: &mut Rider<L>, x: u64) -> Result<u64, Fault>
-        ensures met { MakesUnderLock F self.now result (λ old.
+        ensures met { MakesUnderLock F self.now (call_of (SHIFT x) rider.old rider.new) result (λ old.
             Makes old (SHIFT x) (λ A. head (A ++ SHIFT x ∷ []))) }
         ensures same { IfOk result (λ shifted. shifted ≡ x) }
-        ensures rider { Shares 1 result rider.old rider.new }
     {
-        self.lock(rt).shift(&self.words, rider, x)
+        let mut guard = self.lock(rt);
+        let Held { keeper, scribe } = &mut *guard;
+        let before = keeper.journal().len();
+        let shifted = keeper.shift(&self.words, rider, x);
+        self.note(keeper, before, scribe, rider);
+        shifted
     }
 
     /// Forgets the steps since the last cut, and puts the base of now in place of the one before them; the
     /// answer is their number. It is no step, and is never refused.
     pub fn cut(&self, rt: &impl Wait, rider: &mut Rider<L>) -> u64
-        ensures met { LeavesUnderLock F self.now (λ old new. (result ≡ length old.journal)
+        ensures met { LeavesUnderLock F self.now (no_step rider.old rider.new) (λ old new.
+            (result ≡ length old.journal)
             × (new.journal ≡ []) × (new.cut ≡ old.cut + length old.journal)
             × (new.core ≡ old.core) × (new.limit ≡ old.limit)
             × ((A : List STEP) → KeeperStands old A → KeeperStands new A)) }
-        ensures rider { rider.new ≡ rider.old }
     {
-        self.lock(rt).cut(&self.words, rider)
+        let mut guard = self.lock(rt);
+        let Held { keeper, scribe } = &mut *guard;
+        let dropped = keeper.cut(&self.words, rider);
+        self.words.enter(scribe, rider, &[]);
+        dropped
+    }
+
+    /// What `snapshot` answers, by a rider: its newest call then tells of which list that is.
+    pub fn snapshot_by(&self, rt: &impl Wait, rider: &mut Rider<L>) -> (Snapshot, u64, u64)
+        ensures met { LeavesUnderLock F self.now (no_step rider.old rider.new) (λ old new. (new ≡ old)
+            × ((A : List STEP) → KeeperStands old A → result.0 ≡ snapshot_of old.core.sizes A)
+            × (result.1 ≡ length old.journal) × (result.2 ≡ old.cut)) }
+    {
+        let mut guard = self.lock(rt);
+        let Held { keeper, scribe } = &mut *guard;
+        self.words.enter(scribe, rider, &[]);
+        keeper.snapshot()
     }
 
     /// All quantities, the number of steps since the last cut, and the number of steps cut in all.
@@ -132,7 +175,7 @@ impl<E: Epochs + Drop, F: Task, P: Promise, L: Realm> Domain<E, F, P, L> {
         ensures met { UnderLock F self.now (λ k A. (result.0 ≡ snapshot_of k.core.sizes A)
             × (result.1 ≡ length k.journal) × (result.2 ≡ k.cut)) }
     {
-        self.lock(rt).snapshot()
+        self.lock(rt).keeper.snapshot()
     }
 
     /// The ticket of the oldest pending action, and into the row the slots that hold it up, least first, each with its
@@ -144,7 +187,7 @@ impl<E: Epochs + Drop, F: Task, P: Promise, L: Realm> Domain<E, F, P, L> {
         ensures met { UnderLock F self.now (λ k A. (result ≡ oldest A)
             × (row.new.items ≡ holders k.core.sizes.slots A)) }
     {
-        self.lock(rt).holders(row)
+        self.lock(rt).keeper.holders(row)
     }
 
     /// What the frame of a page is at, and the page that was last entered there; none where it is free. Of the page
@@ -153,6 +196,6 @@ impl<E: Epochs + Drop, F: Task, P: Promise, L: Realm> Domain<E, F, P, L> {
         ensures met { UnderLock F self.now (λ k A.
             result ≡ frame_of k.core.sizes (page % k.core.sizes.frames) A) }
     {
-        self.lock(rt).frame_of(page)
+        self.lock(rt).keeper.frame_of(page)
     }
 }

@@ -1,15 +1,15 @@
 //! The locked calls of a pass, and the acquire that makes one.
-ghost use Rattle.std.specs.Prelude.{◌≡◌, ◌+◌, ◌-◌, ◌/◌, ◌^◌, ◌≤◌, List, [], ◌∷◌, ◌++◌, length, IfOk, IfErr, MatchResult};
+ghost use Rattle.std.specs.Prelude.{◌≡◌, ◌+◌, ◌-◌, ◌/◌, ◌^◌, ◌≤◌, List, [], ◌∷◌, ◌++◌, IfOk, IfErr, MatchResult};
 ghost use Rattle.hl_model.specs.declared.step.Step.TheVariants.{Acquire as ACQUIRE, Refresh as REFRESH, Release as RELEASE, Allocate as ALLOCATE};
 ghost use Rattle.hl_model.specs.Offsets.{place_of, tail};
 ghost use Rattle.hl_model.specs.Views.{view_of};
-ghost use Rattle.hl_keeper.specs.Passes.{seen, rested, with_share, new_pass, with_tail};
-ghost use Rattle.hl_keeper.specs.Calls.{call_fault, refresh_fault, acquired_pass, touched_list, without_back, Makes, MakesAt, MakesTouched, IsUpTo};
+ghost use Rattle.hl_keeper.specs.Passes.{seen, with_rider, with_tail};
+ghost use Rattle.hl_keeper.specs.Calls.{call_fault, refresh_fault, touched_list, without_back, Makes, MakesAt, MakesTouched, IsUpTo};
 ghost use Rattle.hl_core.specs.Holding.{least_free};
-ghost use Rattle.hl_keeper.specs.Stamps.{acquires_in};
-ghost use Rattle.hl_domain.specs.Domains.{MakesUnderLock};
+ghost use Rattle.hl_domain.specs.Domains.{call_of, pass_call, enter_call, pass_at, with_held, acquirer, releaser, MakesUnderLock};
 
 use crate::domain::Domain;
+use crate::domain::held::Held;
 use hl_action::{Promise, Task};
 use hl_epoch::Epochs;
 use hl_keeper::Pass;
@@ -28,24 +28,47 @@ impl<E: Epochs + Drop, F: Task, P: Promise, L: Realm> Domain<E, F, P, L> {
         t: u64,
         rider: Rider<L>,
     ) -> Result<Pass<L>, (Fault, Rider<L>)>
-        ensures met { MakesUnderLock F self.now (without_back result) (λ old. Makes old (ACQUIRE t)
-            (λ A. new_pass t (old.stamp + acquires_in (A ++ ACQUIRE t ∷ []))
-            (view_of old.core.sizes t (A ++ ACQUIRE t ∷ [])) (with_share 1 rider))) }
-        ensures refused { IfErr result (λ back. back.1 ≡ rider) }
+        ensures met { let new = acquirer result
+            in MakesUnderLock F self.now (call_of (ACQUIRE t) rider new) (without_back result)
+            (λ old. Makes old (ACQUIRE t) (pass_at old t new)) }
     {
-        self.lock(rt).acquire(&self.words, t, rider)
+        let mut guard = self.lock(rt);
+        let Held { keeper, scribe } = &mut *guard;
+        let before = keeper.journal().len();
+        match keeper.acquire(&self.words, t, rider) {
+            Ok(mut pass) => {
+                self.note(keeper, before, scribe, pass.rider_mut());
+                Ok(pass)
+            }
+            Err((fault, mut rider)) => {
+                self.note(keeper, before, scribe, &mut rider);
+                Err((fault, rider))
+            }
+        }
     }
 
     /// An acquire of the least slot that isn't protected; the pass tells which it is.
     ///
     /// Faults, with the rider handed back: `JournalFull`, `NoSlot` where each slot is protected.
     pub fn enter(&self, rt: &impl Wait, rider: Rider<L>) -> Result<Pass<L>, (Fault, Rider<L>)>
-        ensures met { MakesUnderLock F self.now (without_back result) (λ old.
-            MakesAt old (λ A. ACQUIRE (least_free old.core.sizes A))
-            (λ A. acquired_pass old (least_free old.core.sizes A) rider A)) }
-        ensures refused { IfErr result (λ back. back.1 ≡ rider) }
+        ensures met { let new = acquirer result
+            in MakesUnderLock F self.now (enter_call self.now.sizes rider new) (without_back result)
+            (λ old. MakesAt old (λ A. ACQUIRE (least_free old.core.sizes A))
+            (λ A. pass_at old (least_free old.core.sizes A) new A)) }
     {
-        self.lock(rt).enter(&self.words, rider)
+        let mut guard = self.lock(rt);
+        let Held { keeper, scribe } = &mut *guard;
+        let before = keeper.journal().len();
+        match keeper.enter(&self.words, rider) {
+            Ok(mut pass) => {
+                self.note(keeper, before, scribe, pass.rider_mut());
+                Ok(pass)
+            }
+            Err((fault, mut rider)) => {
+                self.note(keeper, before, scribe, &mut rider);
+                Err((fault, rider))
+            }
+        }
     }
 
     /// The slot of a pass moves on: its epoch and its view are those of now. The answer is the view, and isn't
@@ -55,14 +78,19 @@ impl<E: Epochs + Drop, F: Task, P: Promise, L: Realm> Domain<E, F, P, L> {
     /// `JournalFull`.
     pub fn refresh(&self, rt: &impl Wait, pass: &mut Pass<L>) -> Result<View, Fault>
         ensures met { let p = pass.old
-            in MakesUnderLock F self.now result (λ old. MakesTouched old p (REFRESH p.slot)
-            (λ A. refresh_fault old A p)
+            in MakesUnderLock F self.now (pass_call p (REFRESH p.slot) pass.new.rider) result (λ old.
+            MakesTouched old p (REFRESH p.slot) (λ A. refresh_fault old A p)
             (λ A. view_of old.core.sizes p.slot (touched_list A p (REFRESH p.slot)))) }
-        ensures pass { let old = pass.old
-            in MatchResult result (λ view. pass.new ≡ rested view old) (λ _. pass.new ≡ old) }
+        ensures pass { let old = with_rider pass.new.rider pass.old
+            in MatchResult result (λ view. pass.new ≡ with_held view old) (λ _. pass.new ≡ old) }
         ensures fresh { IfOk result (IsUpTo (seen pass.old)) }
     {
-        self.lock(rt).refresh(&self.words, pass)
+        let mut guard = self.lock(rt);
+        let Held { keeper, scribe } = &mut *guard;
+        let before = keeper.journal().len();
+        let refreshed = keeper.refresh(&self.words, pass);
+        self.note(keeper, before, scribe, pass.rider_mut());
+        refreshed
     }
 
     /// The slot of a pass is protected no longer; the answer is the rider.
@@ -70,12 +98,24 @@ impl<E: Epochs + Drop, F: Task, P: Promise, L: Realm> Domain<E, F, P, L> {
     /// Faults, with the pass handed back: `Stranger` where the slot isn't the pass's, `JournalFull`.
     pub fn release(&self, rt: &impl Wait, pass: Pass<L>) -> Result<Rider<L>, (Fault, Pass<L>)>
         ensures met { let step = RELEASE pass.slot
-            in MakesUnderLock F self.now (without_back result) (λ old. MakesTouched old pass step
-            (λ A. call_fault old A pass step)
-            (λ A. with_share (length pass.touches + 1) pass.rider)) }
-        ensures refused { IfErr result (λ back. back.1 ≡ pass) }
+            in let new = releaser result
+            in MakesUnderLock F self.now (pass_call pass step new) (without_back result) (λ old.
+            MakesTouched old pass step (λ A. call_fault old A pass step) (λ A. new)) }
+        ensures refused { IfErr result (λ back. back.1 ≡ with_rider back.1.rider pass) }
     {
-        self.lock(rt).release(&self.words, pass)
+        let mut guard = self.lock(rt);
+        let Held { keeper, scribe } = &mut *guard;
+        let before = keeper.journal().len();
+        match keeper.release(&self.words, pass) {
+            Ok(mut rider) => {
+                self.note(keeper, before, scribe, &mut rider);
+                Ok(rider)
+            }
+            Err((fault, mut pass)) => {
+                self.note(keeper, before, scribe, pass.rider_mut());
+                Err((fault, pass))
+            }
+        }
     }
 
     /// Places a record of n words for the slot of a pass; the answer is the address of its first word. It is on
@@ -84,18 +124,23 @@ impl<E: Epochs + Drop, F: Task, P: Promise, L: Realm> Domain<E, F, P, L> {
     /// Faults: `Stranger` where the slot isn't the pass's, `JournalFull`, `Size`, `SpaceSpent`, `Busy`.
     pub fn allocate(&self, rt: &impl Wait, pass: &mut Pass<L>, n: u64) -> Result<u64, Fault>
         ensures met { let p = pass.old
-            in MakesUnderLock F self.now result (λ old. MakesTouched old p (ALLOCATE p.slot n)
-            (λ A. call_fault old A p (ALLOCATE p.slot n))
+            in MakesUnderLock F self.now (pass_call p (ALLOCATE p.slot n) pass.new.rider) result (λ old.
+            MakesTouched old p (ALLOCATE p.slot n) (λ A. call_fault old A p (ALLOCATE p.slot n))
             (λ A. place_of old.core.sizes.page_size (tail old.core.sizes (A ++ p.touches)) n)) }
-        ensures pass { let old = pass.old
+        ensures pass { let old = with_rider pass.new.rider pass.old
             in MatchResult result
-            (λ a. pass.new ≡ rested (with_tail (a + n) (seen old)) old)
+            (λ a. pass.new ≡ with_held (with_tail (a + n) (seen old)) old)
             (λ _. pass.new ≡ old) }
         ensures above { IfOk result (λ a. (seen pass.old).tail ≤ a) }
         ensures within { IfOk result (λ address. address + n ≤ 2 ^ 48) }
         ensures one_page { let page_size = self.now.sizes.page_size
             in IfOk result (λ a. a / page_size ≡ (a + n - 1) / page_size) }
     {
-        self.lock(rt).allocate(&self.words, pass, n)
+        let mut guard = self.lock(rt);
+        let Held { keeper, scribe } = &mut *guard;
+        let before = keeper.journal().len();
+        let placed = keeper.allocate(&self.words, pass, n);
+        self.note(keeper, before, scribe, pass.rider_mut());
+        placed
     }
 }

@@ -1,9 +1,8 @@
 use Rattle.std.proofs.Common.{sym, ap, ◌∙◌, arith, ◌+◌}
 use Rattle.std.proofs.lemmas.Result.{err_from_is_err_and}
-use Rattle.hl_keeper.specs.Passes.{PassRecord, seen}
+use Rattle.hl_keeper.specs.Passes.{PassRecord, seen, rested, with_tail}
 use Rattle.hl_keeper.specs.Calls.{call_fault}
 use Rattle.hl_model.specs.declared.step.Step.TheVariants.{Allocate as ALLOCATE}
-use Rattle.hl_keeper.specs.Passes.{with_tail}
 use Rattle.hl_keeper.proofs.SlotLaws.{Placed, knows, call_stranger, call_known, replied_refused, replied_err, replied_ok, accepted, allocate_place, allocate_placed, rested_is}
 use Rattle.hl_keeper.proofs.keeper.Keeper.allocate.Goals.{In-At}
 use Rattle.hl_keeper.proofs.keeper.Keeper.allocate.Goals as goal
@@ -39,13 +38,13 @@ placed g c =
     let k = c.args.self.now in
     let A = c.in_ok-address.ensures.valid.0 in
     let st = c.in_ok-address.ensures.valid.1 in
-    let p : PassRecord = (record { slot = c.pass.inside.slot; stamp = c.pass.inside.stamp; held = c.pass.inside.held; touches = c.pass.inside.touches.items; rider = c.pass.inside.rider }) in
+    let p : PassRecord = (record { slot = c.pass.inside.slot; stamp = c.pass.inside.stamp; epoch = c.pass.inside.epoch; held = c.pass.inside.held; touches = c.pass.inside.touches.items; rider = c.pass.inside.rider }) in
     let made = rw (sym c.pass.view_is) at c.in_ok-address.ensures.made in
     let known = rw (sym c.pass.view_is) at c.in_ok-known.ensures in
     rw (sym c.pass.view_is) (allocate_placed k A p c.args.n c.call.new.self c.in_ok-address.field-0 c.in-At.address st (knows k p c.in_ok-known.field-0 known) c.pass.invariant.1 (made A st) c.in-At.is)
 
-pub overflow_add-address : goal.overflow_add-address
-overflow_add-address g c = omega (arith, (placed g c.before).most)
+pub overflow_add-view : goal.overflow_add-view
+overflow_add-view g c = omega (arith, (placed g c).most)
 
 pub returns-clause-made : goal.returns-clause-made
 returns-clause-made g c =
@@ -58,8 +57,9 @@ returns-clause-made g c =
 
 pub returns-clause-pass : goal.returns-clause-pass
 returns-clause-pass g c =
-    rested_is c.args.pass.now c.call.new.pass c.rest.new.self (with_tail (c.in-At.address + c.args.n) c.pass.inside.view) (with_tail (c.in-At.address + c.args.n) (seen c.args.pass.now)) c.in_ok-address.ensures.pass c.rest.ensures
+    rested_is c.args.pass.now c.call.new.pass c.rest.new.self c.pass.inside.epoch (with_tail (c.in-At.address + c.args.n) c.pass.inside.view) (with_tail (c.in-At.address + c.args.n) (seen c.args.pass.now)) c.in_ok-address.ensures.pass c.rest.ensures
     (ap (with_tail (c.in-At.address + c.args.n)) (c.pass.invariant.0 ∙ ap seen c.pass.view_is))
+    ∙ ap (λ (p : PassRecord). rested p.epoch (with_tail (c.in-At.address + c.args.n) (seen c.args.pass.now)) c.args.pass.now) c.pass.view_is
 
 pub returns-clause-above : goal.returns-clause-above
 returns-clause-above g c = (placed g c.before.before).above

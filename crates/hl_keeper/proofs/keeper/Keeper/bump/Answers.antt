@@ -1,4 +1,4 @@
-use Rattle.std.proofs.Common.{◌∷◌, [], sym, ap, ◌∙◌}
+use Rattle.std.proofs.Common.{◌+◌, ◌∷◌, [], sym, ap, ◌∙◌, arith}
 use Rattle.hl_words.specs.States.{MasterState}
 use Rattle.hl_keeper.specs.Journals.{with_steps}
 use Rattle.hl_keeper.specs.Keepers.{KeeperState}
@@ -6,9 +6,9 @@ use Rattle.hl_keeper.specs.Calls.{step_fault}
 use Rattle.hl_model.specs.declared.step.Reply.TheVariants.{Ticket}
 use Rattle.hl_core.specs.Steps.{asking}
 use Rattle.hl_keeper.specs.Keepers.{job_tag}
-use Rattle.hl_keeper.proofs.ActionLaws.{asking_quiet, asking_acquires, bump_ticket}
+use Rattle.hl_keeper.proofs.ActionLaws.{asking_bumps, asking_acquires, bump_ticket}
 use Rattle.hl_keeper.proofs.KeeperLaws.{unstamped}
-use Rattle.hl_keeper.proofs.StepLaws.{step_full, one_fits, one_counts, made_refused, core_refused, core_made, quiet}
+use Rattle.hl_keeper.proofs.StepLaws.{step_full, one_fits, one_counts, made_refused, core_refused, core_made, bump_follows, bump_rises}
 use Rattle.hl_keeper.proofs.keeper.Keeper.bump.Goals as goal
 
 pub returns-in-Err-clause-made : goal.returns-in-Err-clause-made
@@ -36,7 +36,14 @@ note-requires-clause-count g c =
     let k : KeeperState g.row.F.Denot = (record { core = c.self.inside.core; base = c.self.inside.journal.base; cut = c.self.inside.journal.cut; journal = c.self.inside.journal.steps; limit = c.self.inside.journal.limit; stamps = c.self.inside.stamps.items; stamp = c.self.inside.stamp; acquired = c.self.inside.acquired; offsets = c.self.inside.master.offsets; total = c.self.inside.master.total }) in
     let s = asking job_tag c.args.ask in
     let room = rw (sym c.self.view_is) at c.in_default.ensures in
-    one_counts k c.in_default.field-0 c.self.invariant.of.standing room
+    omega (arith, ap (λ (m : MasterState). m.total) c.store_offset.ensures, one_counts k c.in_default.field-0 c.self.invariant.of.standing room)
+
+pub store_offset-requires : goal.store_offset-requires
+store_offset-requires g c =
+    let k : KeeperState g.row.F.Denot = (record { core = c.self.inside.core; base = c.self.inside.journal.base; cut = c.self.inside.journal.cut; journal = c.self.inside.journal.steps; limit = c.self.inside.journal.limit; stamps = c.self.inside.stamps.items; stamp = c.self.inside.stamp; acquired = c.self.inside.acquired; offsets = c.self.inside.master.offsets; total = c.self.inside.master.total }) in
+    let A = c.self.invariant.of.standing.0 in
+    let st = c.self.invariant.of.standing.1 in
+    bump_rises k A (asking job_tag c.args.ask) c.in-Ok.ticket st (bump_ticket k A c.args.ask c.bump.new.self c.in-Ok.ticket (c.in-Ok.ensures.made A st.core_stands))
 
 pub invariant_of-self : goal.invariant_of-self
 invariant_of-self g c =
@@ -52,8 +59,8 @@ invariant_of-self g c =
           (core_made k A s c.in_default.field-0 c.bump.new.self (Ticket c.in-Ok.ticket) c.in-Ok.ticket _ c.note.new.journal c.self.inside.stamps.items c.self.inside.acquired c.note.new.master.offsets c.note.new.master.total st room (c.in-Ok.ensures.made A st.core_stands)
               (bump_ticket k A c.args.ask c.bump.new.self c.in-Ok.ticket (c.in-Ok.ensures.made A st.core_stands))
               (c.note.ensures.journal ∙ ap (λ z. with_steps (z ∷ []) c.self.inside.journal) c.step_of-step.ensures) (unstamped k A s st (asking_acquires job_tag c.args.ask))
-              (quiet k A s c.note.new.master.offsets st (asking_quiet job_tag c.args.ask).0 (asking_quiet job_tag c.args.ask).1 (ap (λ (m : MasterState). m.offsets) c.note.ensures.master))
-              (ap (λ (m : MasterState). m.total) c.note.ensures.master)).standing,
+              (bump_follows k A s c.in-Ok.ticket c.note.new.master.offsets st (asking_bumps job_tag c.args.ask).0 (asking_bumps job_tag c.args.ask).1 (asking_bumps job_tag c.args.ask).2 (bump_ticket k A c.args.ask c.bump.new.self c.in-Ok.ticket (c.in-Ok.ensures.made A st.core_stands)) (ap (λ (m : MasterState). m.offsets) c.note.ensures.master ∙ ap (λ (m : MasterState). m.offsets) c.store_offset.ensures))
+              (ap (λ (m : MasterState). m.total) c.note.ensures.master ∙ ap (λ (m : MasterState). m.total + 1) c.store_offset.ensures)).standing,
         );
         sizes_are = c.in-Ok.ensures.sizes ∙ c.self.invariant.of.sizes_are;
         stamp_is = c.self.invariant.of.stamp_is;
@@ -69,5 +76,5 @@ returns-in-Ok-clause-made g c =
     rw (sym c.self.view_is) (λ A st. core_made k A s c.in_default.field-0 c.bump.new.self (Ticket c.in-Ok.ticket) c.in-Ok.ticket _ c.note.new.journal c.self.inside.stamps.items c.self.inside.acquired c.note.new.master.offsets c.note.new.master.total st room (c.in-Ok.ensures.made A st.core_stands)
     (bump_ticket k A c.args.ask c.bump.new.self c.in-Ok.ticket (c.in-Ok.ensures.made A st.core_stands))
     (c.note.ensures.journal ∙ ap (λ z. with_steps (z ∷ []) c.self.inside.journal) c.step_of-step.ensures) (unstamped k A s st (asking_acquires job_tag c.args.ask))
-    (quiet k A s c.note.new.master.offsets st (asking_quiet job_tag c.args.ask).0 (asking_quiet job_tag c.args.ask).1 (ap (λ (m : MasterState). m.offsets) c.note.ensures.master))
-    (ap (λ (m : MasterState). m.total) c.note.ensures.master))
+    (bump_follows k A s c.in-Ok.ticket c.note.new.master.offsets st (asking_bumps job_tag c.args.ask).0 (asking_bumps job_tag c.args.ask).1 (asking_bumps job_tag c.args.ask).2 (bump_ticket k A c.args.ask c.bump.new.self c.in-Ok.ticket (c.in-Ok.ensures.made A st.core_stands)) (ap (λ (m : MasterState). m.offsets) c.note.ensures.master ∙ ap (λ (m : MasterState). m.offsets) c.store_offset.ensures))
+    (ap (λ (m : MasterState). m.total) c.note.ensures.master ∙ ap (λ (m : MasterState). m.total + 1) c.store_offset.ensures))

@@ -18,7 +18,7 @@ returns-in_err-check-clause-made g c =
     let known = rw (sym c.self.view_is, sym c.pass.view_is) at c.requires.known in
     let room = rw (sym c.self.view_is) at c.in_ok-room.ensures in
     let k : KeeperState g.row.F.Denot = (record { core = c.self.inside.core; base = c.self.inside.journal.base; cut = c.self.inside.journal.cut; journal = c.self.inside.journal.steps; limit = c.self.inside.journal.limit; stamps = c.self.inside.stamps.items; stamp = c.self.inside.stamp; acquired = c.self.inside.acquired; offsets = c.self.inside.master.offsets; total = c.self.inside.master.total }) in
-    let p : PassRecord = (record { slot = c.pass.inside.slot; stamp = c.pass.inside.stamp; held = c.pass.inside.held; touches = c.pass.inside.touches.items; rider = c.pass.inside.rider }) in
+    let p : PassRecord = (record { slot = c.pass.inside.slot; stamp = c.pass.inside.stamp; epoch = c.pass.inside.epoch; held = c.pass.inside.held; touches = c.pass.inside.touches.items; rider = c.pass.inside.rider }) in
     let may : MayCall k p c.args.step.now = may_call k p c.args.step.now c.len.result c.in_ok-room.field-0 c.self.invariant.of.standing known c.requires.kind c.pass.invariant.1 c.len.ensures.value room in
     let q = err_from_is_err_and c.from_residual-in_err-check.result c.from_residual-in_err-check.ensures.1 in
     rw (q.1, q.2, sym c.self.view_is, sym c.pass.view_is) (called_faulty k p c.args.step.now c.in_err-check.field-0.0 may c.in_err-check.ensures)
@@ -28,7 +28,7 @@ enter_steps-requires-clause-may g c =
     let known = rw (sym c.self.view_is, sym c.pass.view_is) at c.requires.known in
     let room = rw (sym c.self.view_is) at c.in_ok-room.ensures in
     let k : KeeperState g.row.F.Denot = (record { core = c.self.inside.core; base = c.self.inside.journal.base; cut = c.self.inside.journal.cut; journal = c.self.inside.journal.steps; limit = c.self.inside.journal.limit; stamps = c.self.inside.stamps.items; stamp = c.self.inside.stamp; acquired = c.self.inside.acquired; offsets = c.self.inside.master.offsets; total = c.self.inside.master.total }) in
-    let p : PassRecord = (record { slot = c.pass.inside.slot; stamp = c.pass.inside.stamp; held = c.pass.inside.held; touches = c.pass.inside.touches.items; rider = c.pass.inside.rider }) in
+    let p : PassRecord = (record { slot = c.pass.inside.slot; stamp = c.pass.inside.stamp; epoch = c.pass.inside.epoch; held = c.pass.inside.held; touches = c.pass.inside.touches.items; rider = c.pass.inside.rider }) in
     let may : MayCall k p c.args.step.now = may_call k p c.args.step.now c.len.result c.in_ok-room.field-0 c.self.invariant.of.standing known c.requires.kind c.pass.invariant.1 c.len.ensures.value room in
     rw c.deref.ensures.0 (may_enter k p c.args.step.now may)
 
@@ -37,7 +37,7 @@ enter_steps-requires-clause-room g c =
     let known = rw (sym c.self.view_is, sym c.pass.view_is) at c.requires.known in
     let room = rw (sym c.self.view_is) at c.in_ok-room.ensures in
     let k : KeeperState g.row.F.Denot = (record { core = c.self.inside.core; base = c.self.inside.journal.base; cut = c.self.inside.journal.cut; journal = c.self.inside.journal.steps; limit = c.self.inside.journal.limit; stamps = c.self.inside.stamps.items; stamp = c.self.inside.stamp; acquired = c.self.inside.acquired; offsets = c.self.inside.master.offsets; total = c.self.inside.master.total }) in
-    let p : PassRecord = (record { slot = c.pass.inside.slot; stamp = c.pass.inside.stamp; held = c.pass.inside.held; touches = c.pass.inside.touches.items; rider = c.pass.inside.rider }) in
+    let p : PassRecord = (record { slot = c.pass.inside.slot; stamp = c.pass.inside.stamp; epoch = c.pass.inside.epoch; held = c.pass.inside.held; touches = c.pass.inside.touches.items; rider = c.pass.inside.rider }) in
     let may : MayCall k p c.args.step.now = may_call k p c.args.step.now c.len.result c.in_ok-room.field-0 c.self.invariant.of.standing known c.requires.kind c.pass.invariant.1 c.len.ensures.value room in
     rw c.deref.ensures.0 (touches_fit k p c.args.step.now may)
 
@@ -46,7 +46,7 @@ note-requires g c =
     let known = rw (sym c.self.view_is, sym c.pass.view_is) at c.requires.known in
     let room = rw (sym c.self.view_is) at c.in_ok-room.ensures in
     let k : KeeperState g.row.F.Denot = (record { core = c.self.inside.core; base = c.self.inside.journal.base; cut = c.self.inside.journal.cut; journal = c.self.inside.journal.steps; limit = c.self.inside.journal.limit; stamps = c.self.inside.stamps.items; stamp = c.self.inside.stamp; acquired = c.self.inside.acquired; offsets = c.self.inside.master.offsets; total = c.self.inside.master.total }) in
-    let p : PassRecord = (record { slot = c.pass.inside.slot; stamp = c.pass.inside.stamp; held = c.pass.inside.held; touches = c.pass.inside.touches.items; rider = c.pass.inside.rider }) in
+    let p : PassRecord = (record { slot = c.pass.inside.slot; stamp = c.pass.inside.stamp; epoch = c.pass.inside.epoch; held = c.pass.inside.held; touches = c.pass.inside.touches.items; rider = c.pass.inside.rider }) in
     let may : MayCall k p c.args.step.now = may_call k p c.args.step.now c.len.result c.in_ok-room.field-0 c.self.invariant.of.standing known c.requires.kind c.pass.invariant.1 c.len.ensures.value room in
     rw (c.enter_steps.ensures.journal, c.deref.ensures.0) (step_fits_behind k p c.args.step.now may)
 
@@ -55,7 +55,7 @@ enter-requires g c =
     let known = rw (sym c.self.view_is, sym c.pass.view_is) at c.requires.known in
     let room = rw (sym c.self.view_is) at c.in_ok-room.ensures in
     let k : KeeperState g.row.F.Denot = (record { core = c.self.inside.core; base = c.self.inside.journal.base; cut = c.self.inside.journal.cut; journal = c.self.inside.journal.steps; limit = c.self.inside.journal.limit; stamps = c.self.inside.stamps.items; stamp = c.self.inside.stamp; acquired = c.self.inside.acquired; offsets = c.self.inside.master.offsets; total = c.self.inside.master.total }) in
-    let p : PassRecord = (record { slot = c.pass.inside.slot; stamp = c.pass.inside.stamp; held = c.pass.inside.held; touches = c.pass.inside.touches.items; rider = c.pass.inside.rider }) in
+    let p : PassRecord = (record { slot = c.pass.inside.slot; stamp = c.pass.inside.stamp; epoch = c.pass.inside.epoch; held = c.pass.inside.held; touches = c.pass.inside.touches.items; rider = c.pass.inside.rider }) in
     let may : MayCall k p c.args.step.now = may_call k p c.args.step.now c.len.result c.in_ok-room.field-0 c.self.invariant.of.standing known c.requires.kind c.pass.invariant.1 c.len.ensures.value room in
     omega (arith, c.len.ensures.value, counts k p c.args.step.now may)
 
@@ -64,7 +64,7 @@ unreachable-requires g c =
     let known = rw (sym c.self.view_is, sym c.pass.view_is) at c.requires.known in
     let room = rw (sym c.self.view_is) at c.in_ok-room.ensures in
     let k : KeeperState g.row.F.Denot = (record { core = c.self.inside.core; base = c.self.inside.journal.base; cut = c.self.inside.journal.cut; journal = c.self.inside.journal.steps; limit = c.self.inside.journal.limit; stamps = c.self.inside.stamps.items; stamp = c.self.inside.stamp; acquired = c.self.inside.acquired; offsets = c.self.inside.master.offsets; total = c.self.inside.master.total }) in
-    let p : PassRecord = (record { slot = c.pass.inside.slot; stamp = c.pass.inside.stamp; held = c.pass.inside.held; touches = c.pass.inside.touches.items; rider = c.pass.inside.rider }) in
+    let p : PassRecord = (record { slot = c.pass.inside.slot; stamp = c.pass.inside.stamp; epoch = c.pass.inside.epoch; held = c.pass.inside.held; touches = c.pass.inside.touches.items; rider = c.pass.inside.rider }) in
     let may : MayCall k p c.args.step.now = may_call k p c.args.step.now c.len.result c.in_ok-room.field-0 c.self.invariant.of.standing known c.requires.kind c.pass.invariant.1 c.len.ensures.value room in
     let at : HasEntered k p c.args.step.now c.enter_steps.new.core = record { may = may; fine = λ A st. (unless_ok (fault_of k.core.sizes A c.args.step.now) c.in_ok-check.field-0 (tt {0}) (c.in_ok-check.ensures A st)).0; sizes = c.enter_steps.ensures.sizes; jobs = c.enter_steps.ensures.jobs; core = rw c.deref.ensures.0 at c.enter_steps.ensures.core } in
     never_refused k p c.args.step.now c.enter_steps.new.core c.act.new.self c.in-Err.field-0 at c.in-Err.ensures.made
@@ -74,7 +74,7 @@ invariant_of-self g c =
     let known = rw (sym c.self.view_is, sym c.pass.view_is) at c.requires.known in
     let room = rw (sym c.self.view_is) at c.in_ok-room.ensures in
     let k : KeeperState g.row.F.Denot = (record { core = c.self.inside.core; base = c.self.inside.journal.base; cut = c.self.inside.journal.cut; journal = c.self.inside.journal.steps; limit = c.self.inside.journal.limit; stamps = c.self.inside.stamps.items; stamp = c.self.inside.stamp; acquired = c.self.inside.acquired; offsets = c.self.inside.master.offsets; total = c.self.inside.master.total }) in
-    let p : PassRecord = (record { slot = c.pass.inside.slot; stamp = c.pass.inside.stamp; held = c.pass.inside.held; touches = c.pass.inside.touches.items; rider = c.pass.inside.rider }) in
+    let p : PassRecord = (record { slot = c.pass.inside.slot; stamp = c.pass.inside.stamp; epoch = c.pass.inside.epoch; held = c.pass.inside.held; touches = c.pass.inside.touches.items; rider = c.pass.inside.rider }) in
     let may : MayCall k p c.args.step.now = may_call k p c.args.step.now c.len.result c.in_ok-room.field-0 c.self.invariant.of.standing known c.requires.kind c.pass.invariant.1 c.len.ensures.value room in
     let at : HasEntered k p c.args.step.now c.enter_steps.new.core = record { may = may; fine = λ A st. (unless_ok (fault_of k.core.sizes A c.args.step.now) c.in_ok-check.field-0 (tt {0}) (c.in_ok-check.ensures A st)).0; sizes = c.enter_steps.ensures.sizes; jobs = c.enter_steps.ensures.jobs; core = rw c.deref.ensures.0 at c.enter_steps.ensures.core } in
     record {
@@ -91,7 +91,7 @@ returns-clause-made g c =
     let known = rw (sym c.self.view_is, sym c.pass.view_is) at c.requires.known in
     let room = rw (sym c.self.view_is) at c.in_ok-room.ensures in
     let k : KeeperState g.row.F.Denot = (record { core = c.self.inside.core; base = c.self.inside.journal.base; cut = c.self.inside.journal.cut; journal = c.self.inside.journal.steps; limit = c.self.inside.journal.limit; stamps = c.self.inside.stamps.items; stamp = c.self.inside.stamp; acquired = c.self.inside.acquired; offsets = c.self.inside.master.offsets; total = c.self.inside.master.total }) in
-    let p : PassRecord = (record { slot = c.pass.inside.slot; stamp = c.pass.inside.stamp; held = c.pass.inside.held; touches = c.pass.inside.touches.items; rider = c.pass.inside.rider }) in
+    let p : PassRecord = (record { slot = c.pass.inside.slot; stamp = c.pass.inside.stamp; epoch = c.pass.inside.epoch; held = c.pass.inside.held; touches = c.pass.inside.touches.items; rider = c.pass.inside.rider }) in
     let may : MayCall k p c.args.step.now = may_call k p c.args.step.now c.len.result c.in_ok-room.field-0 c.self.invariant.of.standing known c.requires.kind c.pass.invariant.1 c.len.ensures.value room in
     let at : HasEntered k p c.args.step.now c.enter_steps.new.core = record { may = may; fine = λ A st. (unless_ok (fault_of k.core.sizes A c.args.step.now) c.in_ok-check.field-0 (tt {0}) (c.in_ok-check.ensures A st)).0; sizes = c.enter_steps.ensures.sizes; jobs = c.enter_steps.ensures.jobs; core = rw c.deref.ensures.0 at c.enter_steps.ensures.core } in
     rw (sym c.self.view_is, sym c.pass.view_is) (called_made k p c.args.step.now c.enter_steps.new.core c.act.new.self c.in-Ok.reply c.len.result c.enter_steps.new.journal c.note.new.self c.enter.new.self at c.in-Ok.ensures.made c.in-Ok.ensures.sizes c.len.ensures.value (c.enter_steps.ensures.journal ∙ ap (λ z. with_steps z c.self.inside.journal) c.deref.ensures.0) c.note.ensures c.enter.ensures.total)

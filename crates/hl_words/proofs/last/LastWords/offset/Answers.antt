@@ -11,3 +11,7 @@ returns-in-ReadOnly c =
 pub returns-in-Head : goal.returns-in-Head
 returns-in-Head c =
     rw c.in-Head.is (read_at (slots_items c.self.inside.closed.words) (c.self.inside.cells + 1) c.word-in-Head.result c.word-in-Head.ensures ∙ ap (λ l. slice_index l.words (l.cells + 1)) c.self.view_is)
+
+pub returns-in-Ended : goal.returns-in-Ended
+returns-in-Ended c =
+    rw c.in-Ended.is (read_at (slots_items c.self.inside.closed.words) (c.self.inside.cells + 2) c.word-in-Ended.result c.word-in-Ended.ensures ∙ ap (λ l. slice_index l.words (l.cells + 2)) c.self.view_is)

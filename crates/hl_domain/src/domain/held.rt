@@ -1,0 +1,50 @@
+ghost use Rattle.std.specs.Prelude.{◌≡◌};
+ghost use Rattle.hl_domain.specs.Domains.{IsHeld};
+
+use hl_action::{Promise, Task};
+use hl_epoch::Epochs;
+use hl_keeper::Keeper;
+use hl_words::{Realm, Scribe};
+use std::marker::Model;
+
+/// What lies under a domain's one lock: the keeper, and the scribe of the one list, at which the keeper stands.
+pub(crate) struct Held<E: Epochs, F: Task, P: Promise, L: Realm> {
+    pub(crate) keeper: Keeper<E, F, P, L>,
+    pub(crate) scribe: Scribe<L>,
+}
+
+impl<E: Epochs, F: Task, P: Promise, L: Realm> Model for Held<E, F, P, L> {
+    ghost use Rattle.hl_domain.specs.Domains.{HeldState, IsAt};
+
+    ghost Value = { HeldState F };
+
+    ghost view = { λ h. record { keeper = h.keeper; list = h.scribe } };
+
+    ghost invariant = { λ h. IsAt L.sizes L.stamp h.scribe h.keeper };
+}
+
+impl<E: Epochs, F: Task, P: Promise, L: Realm> Held<E, F, P, L> {
+    /// What its type says of it.
+    pub(crate) fn known(&self)
+        ensures { IsHeld L.sizes L.stamp self.now }
+    {
+        let _ = &self.keeper;
+    }
+
+    /// Its parts.
+    pub(crate) fn into_parts(self) -> (Keeper<E, F, P, L>, Scribe<L>)
+        ensures { (result.0 ≡ self.keeper) × (result.1 ≡ self.list) × IsHeld L.sizes L.stamp self }
+    {
+        let Held { keeper, scribe } = self;
+        (keeper, scribe)
+    }
+}
+
+impl<E: Epochs + Drop, F: Task, P: Promise, L: Realm> Drop for Held<E, F, P, L> {
+    fn drop(self) {
+        let Held {
+            keeper: _,
+            scribe: _,
+        } = self;
+    }
+}
