@@ -1,10 +1,12 @@
 -- What a call met and left under the lock, and in the diary of its rider.
-use Rattle.std.proofs.Common.{◌≡◌, ℕ, ◌+◌, ◌≤◌, List, [], ◌∷◌, ◌++◌, length, map, drop, refl, sym, ap, ◌∙◌, subst, arith, append_assoc, length-append}
-use Rattle.std.specs.Prelude.{Result, Ok, Err, Option, Some, None, IfErr, OnErr}
+use Rattle.std.proofs.Common.{◌≡◌, ℕ, ◌+◌, ◌*◌, ◌≤◌, List, [], ◌∷◌, ◌++◌, length, map, drop, refl, sym, ap, ◌∙◌, subst, arith, append_assoc, length-append}
+use Rattle.std.specs.Prelude.{Result, Ok, Err, Option, Some, None, IfErr, OnErr, MatchResult}
 use Rattle.std.specs.List.{sum_by}
 use Rattle.std.proofs.lemmas.List.{append-nil, drop_at}
 use Rattle.hl_model.specs.declared.fault.Fault.{Fault}
 use Rattle.hl_model.specs.declared.step.Step.{Step}
+use Rattle.hl_model.specs.declared.slot.Slot.{Slot}
+use Rattle.hl_model.specs.declared.view.View.{View}
 use Rattle.hl_model.specs.Sizes.{Sizes}
 use Rattle.hl_model.specs.Actions.{pending, taken}
 use Rattle.hl_model.specs.Bases.{base_of}
@@ -12,76 +14,229 @@ use Rattle.hl_model.specs.Replies.{IsAccepted, unless_fault}
 use Rattle.hl_model.specs.Snapshots.{snapshot_of}
 use Rattle.hl_drain.specs.Actions.{waiting_of}
 use Rattle.hl_drain.specs.Lists.{Lists}
-use Rattle.hl_action.specs.Jobs.{KeptRecord}
+use Rattle.hl_action.specs.Jobs.{KeptRecord, ReadyRecord}
 use Rattle.hl_history.specs.Lists.{entry, IsOf, IsOneList}
+use Rattle.hl_words.specs.declared.view.OffsetWords.{OffsetWords}
+use Rattle.hl_words.specs.Rule.{IsRuled}
 use Rattle.hl_words.specs.States.{RiderState, with_call}
+use Rattle.hl_core.specs.Standing.{State}
 use Rattle.hl_keeper.specs.Keepers.{job_tag, KeeperState, KeeperStands}
-use Rattle.hl_keeper.specs.Passes.{with_share, Shares}
-use Rattle.hl_keeper.specs.Calls.{Replied, Stays, made, entered}
+use Rattle.hl_keeper.specs.Passes.{PassRecord, seen, with_news, rested, new_pass, with_rider, with_share, Shares}
+use Rattle.hl_keeper.specs.Taking.{ready_told}
+use Rattle.hl_keeper.specs.Calls.{Replied, Stays, made, entered, without_back}
 use Rattle.hl_keeper.specs.Endings.{EndingState}
+use Rattle.hl_keeper.specs.Stores.{stores_of}
 use Rattle.hl_keeper.proofs.KeeperLaws.{counted}
-use Rattle.hl_domain.specs.Domains.{DomainState, IsAt, LeavesUnderLock, IsEnding, call_of, answered, steps_if, with_entry}
+use Rattle.hl_domain.specs.Domains.{DomainState, Setup, setup_of, IsAt, HeldState, IsHeld, Call, LeavesUnderLock, IsEnding, no_step, answered, steps_if, with_held}
 
 -- the list that a call leaves has the steps of its answer behind the one that it met
-pub list_of_made : {X : Type 0} (fault : Option Fault) (x : X) (result : Result X Fault) (A : List Step) (s : Step) → result ≡ unless_fault fault x → made fault A s ≡ A ++ steps_if result (s ∷ [])
+list_of_made : {X : Type 0} (fault : Option Fault) (x : X) (result : Result X Fault) (A : List Step) (s : Step) → result ≡ unless_fault fault x → made fault A s ≡ A ++ steps_if result (s ∷ [])
 list_of_made None x result A s e = ap (λ z. A ++ steps_if z (s ∷ [])) (sym e)
 list_of_made (Some f) x result A s e = sym (append-nil A) ∙ ap (λ z. A ++ steps_if z (s ∷ [])) (sym e)
 
 -- likewise with the touches of a pass before the step
-pub list_of_entered : {X : Type 0} (fault : Option Fault) (x : X) (result : Result X Fault) (A touches : List Step) (s : Step) → result ≡ unless_fault fault x → entered fault A touches s ≡ A ++ steps_if result (touches ++ s ∷ [])
+list_of_entered : {X : Type 0} (fault : Option Fault) (x : X) (result : Result X Fault) (A touches : List Step) (s : Step) → result ≡ unless_fault fault x → entered fault A touches s ≡ A ++ steps_if result (touches ++ s ∷ [])
 list_of_entered None x result A touches s e = append_assoc A touches (s ∷ []) ∙ ap (λ z. A ++ steps_if z (touches ++ s ∷ [])) (sym e)
 list_of_entered (Some f) x result A touches s e = sym (append-nil A) ∙ ap (λ z. A ++ steps_if z (touches ++ s ∷ [])) (sym e)
 
 -- a rider that entered nothing has the share that it had
-pub no_share : (r : RiderState) → with_share 0 r ≡ r
-no_share r = ap (λ (n : ℕ). record { view = r.view; share = n; calls = r.calls }) (omega (arith {a = r.share}))
+no_share : (r : RiderState) → with_share 0 r ≡ r
+no_share r = let same : r.share + 0 ≡ r.share = omega arith in ap (λ (n : ℕ). record { view = r.view; share = n; calls = r.calls }) same
 
--- a rider whose share grew by the call's one step, where it was accepted, and who then noted the call
-pub noted_one : {X : Type 0} (result : Result X Fault) (s : Step) (old mid new : RiderState) (list xs : List Step) → Shares 1 result old mid → new ≡ with_call (entry list xs) mid → xs ≡ steps_if result (s ∷ []) → new ≡ with_entry list (steps_if result (s ∷ [])) old
-noted_one (Ok x) s old mid new list xs shares noted same = noted ∙ ap (λ z. with_call (entry list z) mid) same ∙ ap (with_call (entry list (s ∷ []))) shares
-noted_one (Err f) s old mid new list xs shares noted same = noted ∙ ap (λ z. with_call (entry list z) mid) same ∙ ap (with_call (entry list [])) (shares ∙ sym (no_share old))
+-- a rider's share grew by the call's steps, where it was accepted
+pub grew : {X : Type 0} (result : Result X Fault) (steps : List Step) (old mid : RiderState) → Shares (length steps) result old mid → mid ≡ with_share (length (steps_if result steps)) old
+grew (Ok x) steps old mid shares = shares
+grew (Err f) steps old mid shares = shares ∙ sym (no_share old)
 
--- what a rider's earlier calls met stays where its share grows
-pub rises_before : {X : Type 0} (result : Result X Fault) (n : ℕ) (old mid : RiderState) (list : List Step) → Shares n result old mid → IsOf list mid.calls → IsOf list old.calls
-rises_before (Ok x) n old mid list shares rises = subst (λ (r : RiderState). IsOf list r.calls) shares rises
-rises_before (Err f) n old mid list shares rises = subst (λ (r : RiderState). IsOf list r.calls) shares rises
+-- likewise where a refusal hands something back
+pub grew_without : {X Y : Type 0} (result : Result X (Fault × Y)) (steps : List Step) (old mid : RiderState) → Shares (length steps) result old mid → mid ≡ with_share (length (steps_if (without_back result) steps)) old
+grew_without (Ok x) steps old mid shares = shares
+grew_without (Err back) steps old mid shares = shares ∙ sym (no_share old)
 
-module _ {F : Type 0} where
-  -- a keeper that goes on by some steps, and cuts none, has them behind its journal
-  pub journal_grows : (old new : KeeperState F) (A steps : List Step) → KeeperStands old A → KeeperStands new (A ++ steps) → new.cut ≡ old.cut → new.journal ≡ old.journal ++ steps
-  journal_grows old new A steps a b same =
-      sym (drop_at b.steps_cut new.journal (length a.steps_cut) (sym b.cut_is ∙ same ∙ a.cut_is))
-      ∙ ap (drop (length a.steps_cut)) (sym b.history ∙ ap (λ z. z ++ steps) a.history ∙ append_assoc a.steps_cut old.journal steps)
-      ∙ drop_at a.steps_cut (old.journal ++ steps) (length a.steps_cut) refl
+-- a rider whose call was refused
+pub stayed : (old mid : RiderState) → mid ≡ old → mid ≡ with_share 0 old
+stayed old mid same = same ∙ sym (no_share old)
 
-  -- what the keeper's journal has behind the one before
-  pub steps_behind : (old new : KeeperState F) (A steps : List Step) → KeeperStands old A → KeeperStands new (A ++ steps) → new.cut ≡ old.cut → drop (length old.journal) new.journal ≡ steps
-  steps_behind old new A steps a b same =
-      ap (drop (length old.journal)) (journal_grows old new A steps a b same) ∙ drop_at old.journal steps (length old.journal) refl
+-- the rider of a pass entered its touches and the call's step, where it was accepted
+pub rested_grew : {X : Type 0} (result : Result X Fault) (epoch : X → ℕ) (view : X → View) (s : Step) (old mid : PassRecord) → MatchResult result (λ x. mid ≡ rested (epoch x) (view x) old) (λ _. mid ≡ old) → mid.rider ≡ with_share (length (steps_if result (old.touches ++ s ∷ []))) old.rider
+unfolding rested
+rested_grew (Ok x) epoch view s old mid h = ap (λ (p : PassRecord). p.rider) h ∙ ap (λ n. with_share n old.rider) (sym (length-append old.touches (s ∷ [])))
+rested_grew (Err f) epoch view s old mid h = stayed old.rider mid.rider (ap (λ (p : PassRecord). p.rider) h)
 
-  -- one step of a rider, under the lock: the keeper that it left stands at the list with the call's steps
-  pub stands_after : {X : Type 0} (old new : KeeperState F) (A : List Step) (s : Step) (fault : Option Fault) (x : X) (result : Result X Fault) → Replied fault x (made fault A s) new result → KeeperStands new (A ++ steps_if result (s ∷ []))
-  stands_after old new A s fault x result r = subst (KeeperStands new) (list_of_made fault x result A s r.reply) r.standing
+-- the pass that has its rider back
+pub rested_held : {X : Type 0} (result : Result X Fault) (epoch : X → ℕ) (view : X → View) (old mid : PassRecord) (rider : RiderState) → MatchResult result (λ x. mid ≡ rested (epoch x) (view x) old) (λ _. mid ≡ old) → MatchResult result (λ x. with_rider rider mid ≡ with_held (epoch x) (view x) (with_rider rider old)) (λ _. with_rider rider mid ≡ with_rider rider old)
+unfolding rested
+rested_held (Ok x) epoch view old mid rider h = ap (with_rider rider) h
+rested_held (Err f) epoch view old mid rider h = ap (with_rider rider) h
 
-  -- it is a call of the rider: what it met, what it left, and what its diary has then
-  pub one_call : {X : Type 0} (domain : DomainState) (s : Step) (result : Result X Fault) (old new : KeeperState F) (list : List Step) (before mid after : RiderState) (Holds : KeeperState F → KeeperState F → Type 0)
-      → IsAt domain.sizes domain.stamp list old → Stays old new → KeeperStands new (list ++ steps_if result (s ∷ []))
-      → Shares 1 result before mid → after ≡ with_call (entry list (drop (length old.journal) new.journal)) mid → IsOf list mid.calls → Holds old new
-      → LeavesUnderLock F domain (answered result (call_of s before after)) Holds
-  one_call domain s result old new list before mid after Holds met stays stands shares noted rises holds = record {
-    list = list;
-    before = old;
-    after = new;
-    met = met;
-    left = record { stands = stands; sizes_are = stays.sizes ∙ met.sizes_are; stamp_is = stays.stamp ∙ met.stamp_is };
-    entered = noted_one result s before mid after list (drop (length old.journal) new.journal) shares noted (steps_behind old new list (steps_if result (s ∷ [])) met.stands stands stays.cut);
-    rises = rises_before result 1 before mid list shares rises;
-    holds = holds;
+-- loads of the master's words leave what a pass saw
+pub seen_news : (read_only head ended : ℕ) (p : PassRecord) → seen (with_news read_only head ended p) ≡ seen p
+unfolding with_news
+seen_news read_only head ended p = refl
+
+-- the answer of a call that was accepted
+is_answer : {X : Type 0} (fault : Option Fault) (x y : X) → Ok x ≡ unless_fault fault y → x ≡ y
+is_answer None x y e = cc
+is_answer (Some f) x y e = absurd cc
+
+-- it was accepted whatever it answers
+still_accepted : {X Y : Type 0} (fault : Option Fault) (x z : X) (y : Y) → Ok x ≡ unless_fault fault z → Ok y ≡ unless_fault fault y
+still_accepted None x z y e = refl
+still_accepted (Some f) x z y e = absurd cc
+
+-- and a call that was refused, whatever it would have answered
+still_refused : {X Y : Type 0} (fault : Option Fault) (x : X) (y : Y) (f : Fault) → Err f ≡ unless_fault fault x → Err f ≡ unless_fault fault y
+still_refused None x y f e = absurd cc
+still_refused (Some g) x y f e = let same : f ≡ g = cc in ap (λ z. Err z) same
+
+module _ {F : Type 0} {fault : Option Fault} {list : List Step} {new : KeeperState F} where
+  -- a keeper refused a call, whatever it would have answered
+  pub refused_as : {X Y : Type 0} {x : X} {f : Fault} (y : Y) → Replied fault x list new (Err f) → Replied fault y list new (Err f)
+  refused_as {x} {f} y r = record { reply = still_refused fault x y f r.reply; standing = r.standing }
+
+  -- a keeper accepted a call, whatever it answers
+  pub accepted_as : {X Y : Type 0} {x z : X} (y : Y) → Replied fault z list new (Ok x) → Replied fault y list new (Ok y)
+  accepted_as {x} {z} y r = record { reply = still_accepted fault x z y r.reply; standing = r.standing }
+
+  -- the rider whom an accepted release hands out entered the touches and the call's step
+  pub released_grew : {mid : RiderState} (s : Step) (old : PassRecord) → Replied fault (with_share (length old.touches + 1) old.rider) list new (Ok mid) → mid ≡ with_share (length (old.touches ++ s ∷ [])) old.rider
+  released_grew {mid} s old r =
+      is_answer fault mid (with_share (length old.touches + 1) old.rider) r.reply ∙ ap (λ n. with_share n old.rider) (sym (length-append old.touches (s ∷ [])))
+
+  -- the rider of a new pass
+  pub acquired_grew : {t stamp : ℕ} {slot : Slot} {mid : PassRecord} {rider : RiderState} → Replied fault (new_pass t stamp slot rider) list new (Ok mid) → mid.rider ≡ rider
+  acquired_grew {t} {stamp} {slot} {mid} {rider} r = ap (λ (p : PassRecord). p.rider) (is_answer fault mid (new_pass t stamp slot rider) r.reply)
+
+  -- the new pass that has its rider back
+  pub reseated : {t stamp : ℕ} {slot : Slot} {mid : PassRecord} {before : RiderState} (after : RiderState) → Replied fault (new_pass t stamp slot before) list new (Ok mid) → Replied fault (new_pass t stamp slot after) list new (Ok (with_rider after mid))
+  reseated {t} {stamp} {slot} {mid} {before} after r = record {
+    reply =
+        ap (λ p. Ok (with_rider after p)) (is_answer fault mid (new_pass t stamp slot before) r.reply)
+        ∙ still_accepted fault mid (new_pass t stamp slot before) (new_pass t stamp slot after) r.reply;
+    standing = r.standing;
   }
 
+-- what is handed back, without what else a refusal keeps
+pub handed_back : {X Y Z : Type 0} (result : Result X (Y × Z)) (z : Z) (Kept : Type 0) → IfErr result (λ back. (back.1 ≡ z) × Kept) → IfErr result (λ back. back.1 ≡ z)
+handed_back (Ok x) z Kept h = h
+handed_back (Err back) z Kept h = h.0
+
+-- what else a refusal keeps, without what is handed back
+pub kept : {X Y Z : Type 0} (result : Result X (Y × Z)) (z : Z) (Kept : Type 0) → IfErr result (λ back. (back.1 ≡ z) × Kept) → OnErr result Kept
+kept (Ok x) z Kept h = h
+kept (Err back) z Kept h = h.1
+
+-- a keeper with this journal went on from the list at which it stood by these steps, and cut none
+pub record Moved {F : Type 0} (setup : Setup) (list steps journal : List Step) (old new : KeeperState F) : Type 0 where
+  pub met : IsAt setup list old
+  pub left : IsAt setup (list ++ steps) new
+  pub cut : new.cut ≡ old.cut
+  pub journal_is : journal ≡ old.journal
+
+module _ {F : Type 0} where
+  -- what lies under the lock stands at its list
+  pub met_held : {setup : Setup} {guarded now : HeldState F} {k : KeeperState F} {A : List Step} → IsHeld setup guarded → now ≡ guarded → record { keeper = k; list = A } ≡ now → IsAt setup A k
+  met_held {setup} held value view = subst (IsHeld setup) (sym (view ∙ value)) held
+
+  -- by what a keeper is left at, which kept its sizes, its stamp, its room and what was cut
+  moved : {setup : Setup} {A journal : List Step} {old new : KeeperState F} (steps : List Step) → IsAt setup A old → Stays old new → journal ≡ old.journal → KeeperStands new (A ++ steps) → Moved setup A steps journal old new
+  moved steps met stays journal stands = record {
+    met = met;
+    left = record { stands = stands; sizes_are = stays.sizes ∙ met.sizes_are; stamp_is = stays.stamp ∙ met.stamp_is; limit_is = stays.limit ∙ met.limit_is };
+    cut = stays.cut;
+    journal_is = journal;
+  }
+
+  -- a call made one step, where it was accepted
+  pub by_one : {X : Type 0} {setup : Setup} {A journal : List Step} {old new : KeeperState F} {fault : Option Fault} {x : X} {result : Result X Fault} (s : Step) → IsAt setup A old → Stays old new → journal ≡ old.journal → Replied fault x (made fault A s) new result → Moved setup A (steps_if result (s ∷ [])) journal old new
+  by_one {A} {new} {fault} {x} {result} s met stays journal r =
+      moved (steps_if result (s ∷ [])) met stays journal (subst (KeeperStands new) (list_of_made fault x result A s r.reply) r.standing)
+
+  -- a call entered touches and made one step, where it was accepted
+  pub by_pass : {X : Type 0} {setup : Setup} {A journal : List Step} {old new : KeeperState F} {fault : Option Fault} {x : X} {result : Result X Fault} (touches : List Step) (s : Step) → IsAt setup A old → Stays old new → journal ≡ old.journal → Replied fault x (entered fault A touches s) new result → Moved setup A (steps_if result (touches ++ s ∷ [])) journal old new
+  by_pass {A} {new} {fault} {x} {result} touches s met stays journal r =
+      moved (steps_if result (touches ++ s ∷ [])) met stays journal (subst (KeeperStands new) (list_of_entered fault x result A touches s r.reply) r.standing)
+
+module _ {F : Type 0} {setup : Setup} {A steps journal : List Step} {old new : KeeperState F} (m : Moved setup A steps journal old new) where
+  -- the keeper has the steps behind its journal
+  journal_grows : new.journal ≡ journal ++ steps
+  journal_grows =
+      let a = m.met.stands in
+      let b = m.left.stands in
+      sym (drop_at b.steps_cut new.journal (length a.steps_cut) (sym b.cut_is ∙ m.cut ∙ a.cut_is))
+      ∙ ap (drop (length a.steps_cut)) (sym b.history ∙ ap (λ z. z ++ steps) a.history ∙ append_assoc a.steps_cut old.journal steps)
+      ∙ drop_at a.steps_cut (old.journal ++ steps) (length a.steps_cut) refl
+      ∙ ap (λ z. z ++ steps) (sym m.journal_is)
+
+  -- its journal is at least as long as before
+  pub longer : length journal ≤ length new.journal
+  longer = omega (arith, ap length journal_grows, length-append journal steps)
+
+  -- what the journal has behind the one before
+  steps_behind : drop (length journal) new.journal ≡ steps
+  steps_behind = ap (drop (length journal)) journal_grows ∙ drop_at journal steps (length journal) refl
+
+  -- the keeper stands at the list behind which those steps were noted
+  pub stands_at : {list : List Step} → list ≡ A ++ drop (length journal) new.journal → IsAt setup list new
+  stands_at noted = subst (λ (z : List Step). IsAt setup z new) (sym (noted ∙ ap (λ z. A ++ z) steps_behind)) m.left
+
+-- the steps of a take are those of what it tells
+pub told : {F : Type 0} {setup : Setup} {A journal : List Step} {old new : KeeperState F} (result : Result (ReadyRecord F) Fault) (steps : List Step) → Moved setup A (steps_if (ready_told result) steps) journal old new → Moved setup A (steps_if result steps) journal old new
+told (Ok ready) steps m = m
+told (Err fault) steps m = m
+
+-- a keeper that was cut stands where it stood
+pub cut_at : {F : Type 0} {setup : Setup} {A : List Step} {old new : KeeperState F} → IsAt setup A old → new.core ≡ old.core → new.stamp ≡ old.stamp → new.limit ≡ old.limit → KeeperStands new A → IsAt setup A new
+cut_at met core stamp limit stands = record {
+  stands = stands;
+  sizes_are = ap (λ (z : State _). z.sizes) core ∙ met.sizes_are;
+  stamp_is = stamp ∙ met.stamp_is;
+  limit_is = limit ∙ met.limit_is;
+}
+
+-- where nothing was put behind the list, it is the same list
+pub still_at : {F : Type 0} {setup : Setup} {A list : List Step} {k : KeeperState F} → list ≡ A ++ [] → IsAt setup A k → IsAt setup list k
+still_at {setup} {A} {k} same at = subst (λ (z : List Step). IsAt setup z k) (sym (same ∙ append-nil A)) at
+
+-- it is a call of a rider: what it met, what it left, and what its diary has then
+pub call_left : {F X : Type 0} {domain : DomainState} {A journal : List Step} {old new : KeeperState F} {mid : RiderState} {Holds : KeeperState F → KeeperState F → Type 0} (call : Call) (result : Result X Fault)
+    → Moved (setup_of domain) A (steps_if result (call.steps A)) journal old new → mid ≡ with_share (length (steps_if result (call.steps A))) call.old
+    → call.new ≡ with_call (entry A (drop (length journal) new.journal)) mid → IsOf A mid.calls → Holds old new
+    → LeavesUnderLock F domain (answered result call) Holds
+call_left {A} {old} {new} {mid} call result m grows noted rises holds = record {
+  list = A;
+  before = old;
+  after = new;
+  met = m.met;
+  left = m.left;
+  entered = noted ∙ ap (λ z. with_call (entry A z) mid) (steps_behind m) ∙ ap (with_call (entry A (steps_if result (call.steps A)))) grows;
+  rises = subst (λ (r : RiderState). IsOf A r.calls) grows rises;
+  holds = holds;
+}
+
+-- it is a call that makes no step
+pub quiet_call : {F : Type 0} {domain : DomainState} {A : List Step} {old new : KeeperState F} {before mid after : RiderState} {Holds : KeeperState F → KeeperState F → Type 0}
+    → IsAt (setup_of domain) A old → IsAt (setup_of domain) A new → mid ≡ before → after ≡ with_call (entry A []) mid → IsOf A mid.calls → Holds old new
+    → LeavesUnderLock F domain (no_step before after) Holds
+quiet_call {domain} {A} {old} {new} {before} met left same noted rises holds = record {
+  list = A;
+  before = old;
+  after = new;
+  met = met;
+  left = subst (λ (z : List Step). IsAt (setup_of domain) z new) (sym (append-nil A)) left;
+  entered = noted ∙ ap (with_call (entry A [])) (same ∙ sym (no_share before));
+  rises = subst (λ (r : RiderState). IsOf A r.calls) same rises;
+  holds = holds;
+}
+
+-- a keeper and a list that are these stand where these do
+pub at_same : {F : Type 0} (setup : Setup) (k k' : KeeperState F) (A A' : List Step) → k' ≡ k → A' ≡ A → IsAt setup A k → IsAt setup A' k'
+at_same setup k k' A A' keeper list at =
+    subst (λ (z : List Step). IsAt setup z k') (sym list) (subst (λ (z : KeeperState _). IsAt setup A z) (sym keeper) at)
+
 -- what is left of a keeper that was closed
-pub ending_of : {F : Type 0} (sizes : Sizes) (riders : List RiderState) (list : List Step) (k : KeeperState F) (e : EndingState F) → KeeperStands k list → k.core.sizes ≡ sizes → e.base ≡ k.base → e.cut ≡ k.cut → e.journal ≡ k.journal → e.left ≡ k.core.drain → ((A : List Step) → KeeperStands k A → e.snapshot ≡ snapshot_of k.core.sizes A) → k.total ≡ sum_by (λ r. r.share) riders → IsOneList list (map (λ r. r.calls) riders) → IsEnding sizes riders e
-ending_of {F} sizes riders A k e st same base cut journal left quantities total one = record {
+pub ending_of : {F : Type 0} (sizes : Sizes) (riders : List RiderState) (list : List Step) (k : KeeperState F) (e : EndingState F) → KeeperStands k list → k.core.sizes ≡ sizes → e.base ≡ k.base → e.cut ≡ k.cut → e.journal ≡ k.journal → e.left ≡ k.core.drain → ((A : List Step) → KeeperStands k A → e.snapshot ≡ snapshot_of k.core.sizes A) → k.total ≡ sum_by (λ r. r.share) riders → IsOneList list (map (λ r. r.calls) riders) → IsRuled e.words.cells e.words.words k.offsets (map (λ r. r.view) riders) → e.words.cells ≡ sizes.frames * sizes.page_size → IsEnding sizes riders e
+ending_of {F} sizes riders A k e st same base cut journal left quantities total one ruled cells = record {
   steps_cut = st.steps_cut;
   accepted = subst (λ (z : Sizes). IsAccepted z (st.steps_cut ++ e.journal)) same (subst (λ (z : List Step). IsAccepted k.core.sizes z) list st.core_stands.accepted);
   one_list = subst (λ (z : List Step). IsOneList z (map (λ r. r.calls) riders)) list one;
@@ -90,6 +245,8 @@ ending_of {F} sizes riders A k e st same base cut journal left quantities total 
   snapshot_is = quantities A st ∙ ap (snapshot_of k.core.sizes) list ∙ ap (λ z. snapshot_of z (st.steps_cut ++ e.journal)) same;
   pending_are = ap (λ (z : Lists (KeptRecord F)). map (waiting_of job_tag) z.pending) left ∙ st.core_stands.pending_is ∙ ap pending list;
   taken_are = ap (λ (z : Lists (KeptRecord F)). z.taken) left ∙ st.core_stands.taken_is ∙ ap taken list;
+  ruled = subst (λ (z : OffsetWords). IsRuled e.words.cells e.words.words z (map (λ r. r.view) riders)) (st.stores_are ∙ ap stores_of list) ruled;
+  cells_are = cells;
   sum = omega (arith, cut, ap length journal, counted k A st, total);
 }
   where

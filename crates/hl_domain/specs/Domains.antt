@@ -1,12 +1,12 @@
 -- What contracts see of a domain, what a call met under its lock, and what is left of it at its end.
-use Rattle.std.specs.Prelude.{◌≡◌, ℕ, ◌+◌, Result, Ok, Err, List, [], ◌∷◌, ◌++◌, length, map}
+use Rattle.std.specs.Prelude.{◌≡◌, ℕ, ◌+◌, ◌*◌, Bool, Result, Ok, Err, IfOk, MatchResult, List, [], ◌∷◌, ◌++◌, length, map}
 use Rattle.std.specs.List.{sum_by}
 use Rattle.hl_model.specs.declared.fault.Fault.{Fault}
 use Rattle.hl_model.specs.declared.step.Step.{Step}
-use Rattle.hl_model.specs.declared.step.Step.TheVariants.{Acquire}
+use Rattle.hl_model.specs.declared.step.Step.TheVariants.{Acquire, Refresh}
 use Rattle.hl_model.specs.declared.view.View.{View}
-use Rattle.hl_model.specs.Views.{view_of}
 use Rattle.hl_model.specs.Sizes.{Sizes}
+use Rattle.hl_model.specs.Views.{view_of}
 use Rattle.hl_model.specs.Actions.{pending, taken}
 use Rattle.hl_model.specs.Bases.{base_of}
 use Rattle.hl_model.specs.Replies.{IsAccepted}
@@ -14,45 +14,55 @@ use Rattle.hl_model.specs.Snapshots.{snapshot_of}
 use Rattle.hl_drain.specs.Actions.{waiting_of}
 use Rattle.hl_core.specs.Holding.{least_free}
 use Rattle.hl_history.specs.Lists.{entry, IsOf, IsOneList}
+use Rattle.hl_words.specs.Rule.{IsRuled}
 use Rattle.hl_words.specs.States.{RiderState, with_call}
 use Rattle.hl_keeper.specs.Keepers.{job_tag, KeeperState, KeeperStands}
-use Rattle.hl_keeper.specs.Passes.{PassRecord, new_pass, with_share}
-use Rattle.hl_keeper.specs.Stamps.{acquires_in}
-use Rattle.hl_keeper.specs.Calls.{Keeps}
+use Rattle.hl_keeper.specs.Passes.{PassRecord, seen, with_share, with_rider, with_news, is_current, last_read_only, last_head, last_ended}
+use Rattle.hl_keeper.specs.Calls.{refresh_fault, touched_list, MakesTouched, Refreshes, Keeps, IsUpTo}
 use Rattle.hl_keeper.specs.Endings.{EndingState}
+use Rattle.hl_keeper.specs.Stores.{stores_of}
 
--- a domain: its sizes, its stamp, and how many riders it has
+-- a domain: its sizes, its stamp, how many steps it may keep between two cuts, and how many riders it has
 pub record DomainState : Type 0 where
   pub sizes : Sizes
   pub stamp : ℕ
+  pub limit : ℕ
   pub riders : ℕ
 
--- what a call without a rider met under the lock: a keeper of the domain's sizes and stamp, which stood at a
--- list, and of both of which this holds
+-- how a domain was set up: its sizes, its stamp, and how many steps it may keep between two cuts
+pub record Setup : Type 0 where
+  pub sizes : Sizes
+  pub stamp : ℕ
+  pub limit : ℕ
+
+-- that of a domain
+abbrev pub setup_of : DomainState → Setup
+setup_of domain = record { sizes = domain.sizes; stamp = domain.stamp; limit = domain.limit }
+
+-- a keeper that was set up so, and stands at the list
+pub record IsAt {F : Type 0} (setup : Setup) (list : List Step) (keeper : KeeperState F) : Type 0 where
+  pub stands : KeeperStands keeper list
+  pub sizes_are : keeper.core.sizes ≡ setup.sizes
+  pub stamp_is : keeper.stamp ≡ setup.stamp
+  pub limit_is : keeper.limit ≡ setup.limit
+
+-- what a call without a rider met under the lock: a keeper that was set up as the domain was, which stood at a list,
+-- and of both of which this holds
 pub record UnderLock (F : Type 0) (domain : DomainState)
     (Holds : KeeperState F → List Step → Type 0) : Type 0 where
   pub keeper : KeeperState F
   pub list : List Step
-  pub stands : KeeperStands keeper list
-  pub sizes_are : keeper.core.sizes ≡ domain.sizes
-  pub stamp_is : keeper.stamp ≡ domain.stamp
+  pub met : IsAt (setup_of domain) list keeper
   pub holds : Holds keeper list
-
--- a keeper of these sizes and this stamp, which stands at the list
-pub record IsAt {F : Type 0} (sizes : Sizes) (stamp : ℕ) (list : List Step) (keeper : KeeperState F)
-    : Type 0 where
-  pub stands : KeeperStands keeper list
-  pub sizes_are : keeper.core.sizes ≡ sizes
-  pub stamp_is : keeper.stamp ≡ stamp
 
 -- what lies under the lock: a keeper, and the list of all steps that were entered
 pub record HeldState (F : Type 0) : Type 0 where
   pub keeper : KeeperState F
   pub list : List Step
 
--- the keeper stands at the list
-abbrev pub IsHeld : {F : Type 0} → Sizes → ℕ → HeldState F → Type 0
-IsHeld sizes stamp held = IsAt sizes stamp held.list held.keeper
+-- the keeper was set up so, and stands at the list
+abbrev pub IsHeld : {F : Type 0} → Setup → HeldState F → Type 0
+IsHeld setup held = IsAt setup held.list held.keeper
 
 -- a call of a rider: what it puts behind the list that it meets, and the rider before and after it
 pub record Call : Type 0 where
@@ -95,8 +105,8 @@ pub record LeavesUnderLock
   pub list : List Step
   pub before : KeeperState F
   pub after : KeeperState F
-  pub met : IsAt domain.sizes domain.stamp list before
-  pub left : IsAt domain.sizes domain.stamp (list ++ call.steps list) after
+  pub met : IsAt (setup_of domain) list before
+  pub left : IsAt (setup_of domain) (list ++ call.steps list) after
   pub entered : call.new ≡ with_entry list (call.steps list) call.old
   pub rises : IsOf list call.old.calls
   pub holds : Holds before after
@@ -107,16 +117,35 @@ abbrev pub MakesUnderLock : {X : Type 0} (F : Type 0) → DomainState → Call �
 MakesUnderLock F domain call result Holds =
     LeavesUnderLock F domain (answered result call) (λ old new. Holds old new result × Keeps old new result)
 
--- the pass that saw this at its last locked call, and did nothing since
-abbrev pub with_held : View → PassRecord → PassRecord
-with_held view p =
-    record { slot = p.slot; stamp = p.stamp; epoch = p.epoch; held = view; touches = []; rider = p.rider }
+-- the pass whose slot has this epoch, that saw this at its last locked call, and did nothing since
+abbrev pub with_held : ℕ → View → PassRecord → PassRecord
+with_held epoch view p = record {
+  slot = p.slot;
+  stamp = p.stamp;
+  epoch = epoch;
+  held = view;
+  touches = [];
+  rider = p.rider;
+}
 
--- the pass of a rider once slot t was acquired behind this list
-abbrev pub pass_at : {F : Type 0} → KeeperState F → ℕ → RiderState → List Step → PassRecord
-pass_at keeper t rider A =
-    new_pass t (keeper.stamp + acquires_in (A ++ Acquire t ∷ []))
-    (view_of keeper.core.sizes t (A ++ Acquire t ∷ [])) rider
+-- a refresh of this pass was answered so, and left the pass so
+pub record Refreshed (F : Type 0) (domain : DomainState) (p new : PassRecord) (result : Result View Fault)
+    : Type 0 where
+  pub met : MakesUnderLock F domain (pass_call p (Refresh p.slot) new.rider) result (λ before after answer.
+      MakesTouched before p (Refresh p.slot) (λ A. refresh_fault before A p)
+      (λ A. view_of before.core.sizes p.slot (touched_list A p (Refresh p.slot))) after answer
+      × Refreshes before p new.epoch answer)
+  pub pass : let old = with_rider new.rider p
+      in MatchResult result (λ view. new ≡ with_held new.epoch view old) (λ _. new ≡ old)
+  pub fresh : IfOk result (IsUpTo (seen p))
+
+-- what a pass has once it loaded the words that it has newest now
+abbrev pub after_news : PassRecord → PassRecord → PassRecord
+after_news old new = with_news (last_read_only new) (last_head new) (last_ended new) old
+
+-- none of these words is new to the pass, and it has room for a touch
+abbrev pub stays_current : PassRecord → PassRecord → Bool
+stays_current old new = is_current (last_read_only new) (last_head new) (last_ended new) old
 
 -- a call that acquires the least slot that isn't protected
 abbrev pub enter_call : Sizes → RiderState → RiderState → Call
@@ -134,7 +163,8 @@ releaser (Err back) = back.1.rider
 
 -- the steps that were cut and then the journal are an accepted list, which is the one list of all that these
 -- riders' calls met and made; the base is that of the steps cut; the snapshot is that of both, and so are the
--- actions left; the riders entered as many steps as both have
+-- actions left; the riders entered as many steps as both have; and the rule of the words holds of what they hold,
+-- of the raises, shifts and bumps of both, and of exactly what these riders stored and loaded
 pub record IsEnding {F : Type 0} (sizes : Sizes) (riders : List RiderState) (ending : EndingState F) : Type 0 where
   pub steps_cut : List Step
   pub accepted : IsAccepted sizes (steps_cut ++ ending.journal)
@@ -144,4 +174,7 @@ pub record IsEnding {F : Type 0} (sizes : Sizes) (riders : List RiderState) (end
   pub snapshot_is : ending.snapshot ≡ snapshot_of sizes (steps_cut ++ ending.journal)
   pub pending_are : map (waiting_of job_tag) ending.left.pending ≡ pending (steps_cut ++ ending.journal)
   pub taken_are : ending.left.taken ≡ taken (steps_cut ++ ending.journal)
+  pub ruled : IsRuled ending.words.cells ending.words.words (stores_of (steps_cut ++ ending.journal))
+      (map (λ r. r.view) riders)
+  pub cells_are : ending.words.cells ≡ sizes.frames * sizes.page_size
   pub sum : ending.cut + length ending.journal ≡ sum_by (λ r. r.share) riders

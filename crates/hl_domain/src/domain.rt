@@ -5,9 +5,10 @@ ghost use Rattle.hl_model.specs.declared.fault.Fault.TheVariants.{OutOfMemory, S
 ghost use Rattle.hl_history.specs.Lists.{entry, IsOf};
 ghost use Rattle.hl_words.specs.States.{IsSeedOf, new_rider, with_call};
 ghost use Rattle.hl_keeper.specs.Keepers.{steps_most};
-ghost use Rattle.hl_domain.specs.Domains.{IsEnding, IsHeld};
+ghost use Rattle.hl_domain.specs.Domains.{setup_of, IsEnding, IsHeld};
 
 mod held;
+mod keep_up;
 mod pages;
 mod riders;
 mod slots;
@@ -24,7 +25,8 @@ use std::marker::Model;
 use std::sync::{Mutex, MutexGuard, Wait};
 
 /// An allocator for many threads, which share it by a `&`: a [`Keeper`] and the one list of steps under a lock, and the
-/// words beside it. What its contracts see are its sizes, its stamp, and how many riders it has.
+/// words beside it. What its contracts see are its sizes, its stamp, how many steps
+/// it may keep between two cuts, and how many riders it has.
 pub struct Domain<E: Epochs, F: Task, P: Promise, L: Realm> {
     held: Mutex<Held<E, F, P, L>>,
     words: Words<L>,
@@ -38,7 +40,12 @@ impl<E: Epochs, F: Task, P: Promise, L: Realm> Model for Domain<E, F, P, L> {
 
     ghost Value = { DomainState };
 
-    ghost view = { λ d. record { sizes = d.params; stamp = d.stamp; riders = d.words.riders } };
+    ghost view = { λ d. record {
+      sizes = d.params;
+      stamp = d.stamp;
+      limit = L.limit;
+      riders = d.words.riders;
+    } };
 
     ghost invariant = { λ d. (d.params ≡ L.sizes) × (d.stamp ≡ L.stamp)
         × (d.words.cells ≡ d.params.frames * d.params.page_size) };
@@ -70,9 +77,10 @@ impl<E: Epochs + Drop, F: Task, P: Promise, L: Realm> Domain<E, F, P, L> {
         requires seed { IsSeedOf L.name L.parts L.table seed }
         requires journal { journal ≤ steps_most }
         requires stamp { stamp ≤ steps_most }
-        requires named { (seed.sizes ≡ L.sizes) × (stamp ≡ L.stamp) }
+        requires named { (seed.sizes ≡ L.sizes) × (stamp ≡ L.stamp) × (journal ≡ L.limit) }
         ensures domain { IfOk result (λ opened.
-            opened.0 ≡ record { sizes = seed.sizes; stamp = stamp; riders = seed.riders }) }
+            opened.0
+            ≡ record { sizes = seed.sizes; stamp = stamp; limit = journal; riders = seed.riders }) }
         ensures riders { IfOk result (λ opened. opened.1.items ≡ replicate seed.riders new_rider) }
         ensures memory { IfErr result (λ fault. fault ≡ OutOfMemory) }
     {
@@ -141,7 +149,7 @@ impl<E: Epochs + Drop, F: Task, P: Promise, L: Realm> Domain<E, F, P, L> {
 
     // Waits for the lock. What lies under it is a keeper that stands at the scribe's list.
     fn lock<'a>(&'a self, rt: &impl Wait) -> MutexGuard<'a, Held<E, F, P, L>>
-        ensures { IsHeld self.now.sizes self.now.stamp (mutex_guard_value result) }
+        ensures { IsHeld (setup_of self.now) (mutex_guard_value result) }
     {
         let guard = self.held.lock(rt);
         // Of a value under a lock its type alone is known, and a call tells what that says.

@@ -20,20 +20,21 @@ impl<E: Epochs, F: Task, P: Promise, L: Realm> Model for Held<E, F, P, L> {
 
     ghost view = { λ h. record { keeper = h.keeper; list = h.scribe } };
 
-    ghost invariant = { λ h. IsAt L.sizes L.stamp h.scribe h.keeper };
+    ghost invariant = { λ h. IsAt (record { sizes = L.sizes; stamp = L.stamp; limit = L.limit }) h.scribe h.keeper };
 }
 
 impl<E: Epochs, F: Task, P: Promise, L: Realm> Held<E, F, P, L> {
     /// What its type says of it.
     pub(crate) fn known(&self)
-        ensures { IsHeld L.sizes L.stamp self.now }
+        ensures { IsHeld (record { sizes = L.sizes; stamp = L.stamp; limit = L.limit }) self.now }
     {
         let _ = &self.keeper;
     }
 
     /// Its parts.
     pub(crate) fn into_parts(self) -> (Keeper<E, F, P, L>, Scribe<L>)
-        ensures { (result.0 ≡ self.keeper) × (result.1 ≡ self.list) × IsHeld L.sizes L.stamp self }
+        ensures { (result.0 ≡ self.keeper) × (result.1 ≡ self.list)
+            × IsHeld (record { sizes = L.sizes; stamp = L.stamp; limit = L.limit }) self }
     {
         let Held { keeper, scribe } = self;
         (keeper, scribe)

@@ -1,12 +1,11 @@
 //! The locked calls of a pass, and the acquire that makes one.
 ghost use Rattle.std.specs.Prelude.{◌≡◌, ◌+◌, ◌-◌, ◌/◌, ◌^◌, ◌≤◌, List, [], ◌∷◌, ◌++◌, IfOk, IfErr, MatchResult};
-ghost use Rattle.hl_model.specs.declared.step.Step.TheVariants.{Acquire as ACQUIRE, Refresh as REFRESH, Release as RELEASE, Allocate as ALLOCATE};
+ghost use Rattle.hl_model.specs.declared.step.Step.TheVariants.{Acquire as ACQUIRE, Release as RELEASE, Allocate as ALLOCATE};
 ghost use Rattle.hl_model.specs.Offsets.{place_of, tail};
-ghost use Rattle.hl_model.specs.Views.{view_of};
 ghost use Rattle.hl_keeper.specs.Passes.{seen, with_rider, with_tail};
-ghost use Rattle.hl_keeper.specs.Calls.{call_fault, refresh_fault, touched_list, without_back, Makes, MakesAt, MakesTouched, IsUpTo};
+ghost use Rattle.hl_keeper.specs.Calls.{call_fault, without_back, pass_after, Makes, MakesAt, MakesTouched};
 ghost use Rattle.hl_core.specs.Holding.{least_free};
-ghost use Rattle.hl_domain.specs.Domains.{call_of, pass_call, enter_call, pass_at, with_held, acquirer, releaser, MakesUnderLock};
+ghost use Rattle.hl_domain.specs.Domains.{call_of, pass_call, enter_call, with_held, acquirer, releaser, MakesUnderLock, Refreshed};
 
 use crate::domain::Domain;
 use crate::domain::held::Held;
@@ -30,7 +29,7 @@ impl<E: Epochs + Drop, F: Task, P: Promise, L: Realm> Domain<E, F, P, L> {
     ) -> Result<Pass<L>, (Fault, Rider<L>)>
         ensures met { let new = acquirer result
             in MakesUnderLock F self.now (call_of (ACQUIRE t) rider new) (without_back result)
-            (λ old. Makes old (ACQUIRE t) (pass_at old t new)) }
+            (λ old. Makes old (ACQUIRE t) (pass_after old t new)) }
     {
         let mut guard = self.lock(rt);
         let Held { keeper, scribe } = &mut *guard;
@@ -54,7 +53,7 @@ impl<E: Epochs + Drop, F: Task, P: Promise, L: Realm> Domain<E, F, P, L> {
         ensures met { let new = acquirer result
             in MakesUnderLock F self.now (enter_call self.now.sizes rider new) (without_back result)
             (λ old. MakesAt old (λ A. ACQUIRE (least_free old.core.sizes A))
-            (λ A. pass_at old (least_free old.core.sizes A) new A)) }
+            (λ A. pass_after old (least_free old.core.sizes A) new A)) }
     {
         let mut guard = self.lock(rt);
         let Held { keeper, scribe } = &mut *guard;
@@ -77,13 +76,7 @@ impl<E: Epochs + Drop, F: Task, P: Promise, L: Realm> Domain<E, F, P, L> {
     /// Faults: `Stranger` where the slot isn't the pass's, or the pass saw an offset above the present one;
     /// `JournalFull`.
     pub fn refresh(&self, rt: &impl Wait, pass: &mut Pass<L>) -> Result<View, Fault>
-        ensures met { let p = pass.old
-            in MakesUnderLock F self.now (pass_call p (REFRESH p.slot) pass.new.rider) result (λ old.
-            MakesTouched old p (REFRESH p.slot) (λ A. refresh_fault old A p)
-            (λ A. view_of old.core.sizes p.slot (touched_list A p (REFRESH p.slot)))) }
-        ensures pass { let old = with_rider pass.new.rider pass.old
-            in MatchResult result (λ view. pass.new ≡ with_held view old) (λ _. pass.new ≡ old) }
-        ensures fresh { IfOk result (IsUpTo (seen pass.old)) }
+        ensures { Refreshed F self.now pass.old pass.new result }
     {
         let mut guard = self.lock(rt);
         let Held { keeper, scribe } = &mut *guard;
@@ -129,7 +122,7 @@ impl<E: Epochs + Drop, F: Task, P: Promise, L: Realm> Domain<E, F, P, L> {
             (λ A. place_of old.core.sizes.page_size (tail old.core.sizes (A ++ p.touches)) n)) }
         ensures pass { let old = with_rider pass.new.rider pass.old
             in MatchResult result
-            (λ a. pass.new ≡ with_held (with_tail (a + n) (seen old)) old)
+            (λ a. pass.new ≡ with_held old.epoch (with_tail (a + n) (seen old)) old)
             (λ _. pass.new ≡ old) }
         ensures above { IfOk result (λ a. (seen pass.old).tail ≤ a) }
         ensures within { IfOk result (λ address. address + n ≤ 2 ^ 48) }

@@ -1,12 +1,28 @@
-use Rattle.std.proofs.Common.{sym}
-use Rattle.hl_domain.proofs.DomainLaws.{leaves, handed_back, kept}
+use Rattle.std.proofs.Common.{[], ◌∷◌}
+use Rattle.hl_core.specs.Steps.{asking}
+use Rattle.hl_keeper.specs.Keepers.{job_tag}
+use Rattle.hl_keeper.specs.Calls.{without_back}
+use Rattle.hl_domain.specs.Domains.{call_of}
+use Rattle.hl_domain.proofs.DomainLaws.{grew_without, handed_back, kept, met_held, by_one, longer, stands_at, call_left}
 use Rattle.hl_domain.proofs.domain.Domain.bump.Goals as goal
+
+pub note-requires : goal.note-requires
+note-requires g c =
+    let at = c.deref_mut-2.invariant in
+    let e = c.bump-bumped.ensures in
+    longer (by_one (asking job_tag c.args.ask) at e.stays c.journal-before.ensures (e.made _ at.stands))
+
+pub invariant_of-deref_mut : goal.invariant_of-deref_mut
+invariant_of-deref_mut g c =
+    let at = c.deref_mut-2.invariant in
+    let e = c.bump-bumped.ensures in
+    stands_at (by_one (asking job_tag c.args.ask) at e.stays c.journal-before.ensures (e.made _ at.stands)) c.note.ensures.list
 
 pub returns-clause-met : goal.returns-clause-met
 returns-clause-met g c =
-    let of = rw (sym c.deref_mut.ensures.value) at c.lock.ensures in
-    let e = c.bump.ensures in
-    leaves c.args.self.now c.deref_mut.result.now c.bump.new.self _ of e.stays.sizes e.stays.stamp (_, (e.made of.standing.0 of.standing.1).standing) (e.made, e.stays, e.jobs, kept c.bump.result c.args.ask _ e.refused)
+    let at = met_held c.lock-guard.ensures c.deref_mut.ensures.value c.deref_mut-2.view_is in
+    let e = c.bump-bumped.ensures in
+    call_left (call_of (asking job_tag c.args.ask) c.args.rider.now c.note.new.rider) (without_back c.bump-bumped.result) (by_one (asking job_tag c.args.ask) at e.stays c.journal-before.ensures (e.made _ at.stands)) (grew_without c.bump-bumped.result (asking job_tag c.args.ask ∷ []) _ _ e.rider) c.note.ensures.rider c.note.ensures.rises (e.made, e.stays, e.jobs, kept c.bump-bumped.result c.args.ask _ e.refused)
 
 pub returns-clause-refused : goal.returns-clause-refused
-returns-clause-refused g c = handed_back c.bump.result c.args.ask _ c.bump.ensures.refused
+returns-clause-refused g c = handed_back c.bump-bumped.result c.args.ask _ c.bump-bumped.ensures.refused

@@ -1,9 +1,24 @@
-use Rattle.std.proofs.Common.{sym}
-use Rattle.hl_domain.proofs.DomainLaws.{leaves}
+use Rattle.std.proofs.Common.{[], ◌∷◌}
+use Rattle.hl_model.specs.declared.step.Step.TheVariants.{CleanDone}
+use Rattle.hl_keeper.specs.Calls.{without_back}
+use Rattle.hl_domain.specs.Domains.{call_of}
+use Rattle.hl_domain.proofs.DomainLaws.{grew_without, met_held, by_one, longer, stands_at, call_left}
 use Rattle.hl_domain.proofs.domain.Domain.clean_done.Goals as goal
+
+pub note-requires : goal.note-requires
+note-requires g c =
+    let at = c.deref_mut-2.invariant in
+    let e = c.clean_done-freed.ensures in
+    longer (by_one (CleanDone c.args.broom.page) at e.keeps.0 c.journal-before.ensures (e.made _ at.stands))
+
+pub invariant_of-deref_mut : goal.invariant_of-deref_mut
+invariant_of-deref_mut g c =
+    let at = c.deref_mut-2.invariant in
+    let e = c.clean_done-freed.ensures in
+    stands_at (by_one (CleanDone c.args.broom.page) at e.keeps.0 c.journal-before.ensures (e.made _ at.stands)) c.note.ensures.list
 
 pub returns-clause-met : goal.returns-clause-met
 returns-clause-met g c =
-    let of = rw (sym c.deref_mut.ensures.value) at c.lock.ensures in
-    let e = c.clean_done.ensures in
-    leaves c.args.self.now c.deref_mut.result.now c.clean_done.new.self _ of e.keeps.0.sizes e.keeps.0.stamp (_, (e.made of.standing.0 of.standing.1).standing) (e.made, e.keeps)
+    let at = met_held c.lock-guard.ensures c.deref_mut.ensures.value c.deref_mut-2.view_is in
+    let e = c.clean_done-freed.ensures in
+    call_left (call_of (CleanDone c.args.broom.page) c.args.rider.now c.note.new.rider) (without_back c.clean_done-freed.result) (by_one (CleanDone c.args.broom.page) at e.keeps.0 c.journal-before.ensures (e.made _ at.stands)) (grew_without c.clean_done-freed.result (CleanDone c.args.broom.page ∷ []) _ _ e.rider) c.note.ensures.rider c.note.ensures.rises (e.made, e.keeps)

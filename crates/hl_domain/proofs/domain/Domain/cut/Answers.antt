@@ -1,10 +1,14 @@
-use Rattle.std.proofs.Common.{sym, ap}
-use Rattle.hl_core.specs.Standing.{State}
-use Rattle.hl_domain.proofs.DomainLaws.{leaves}
+use Rattle.hl_domain.proofs.DomainLaws.{met_held, cut_at, still_at, quiet_call}
 use Rattle.hl_domain.proofs.domain.Domain.cut.Goals as goal
 
-pub returns-clause-met : goal.returns-clause-met
-returns-clause-met g c =
-    let of = rw (sym c.deref_mut.ensures.value) at c.lock.ensures in
-    let e = c.cut.ensures in
-    leaves c.args.self.now c.deref_mut.result.now c.cut.new.self _ of (ap (λ (z : State _). z.sizes) e.core) e.stamp (_, e.standing of.standing.0 of.standing.1) (e.count, e.journal, e.cut, e.core, e.limit, e.standing)
+pub invariant_of-deref_mut : goal.invariant_of-deref_mut
+invariant_of-deref_mut g c =
+    let at = c.deref_mut-2.invariant in
+    let e = c.cut-dropped.ensures in
+    still_at c.enter.ensures.list (cut_at at e.core e.stamp e.limit (e.standing _ at.stands))
+
+pub returns : goal.returns
+returns g c =
+    let at = met_held c.lock-guard.ensures c.deref_mut.ensures.value c.deref_mut-2.view_is in
+    let e = c.cut-dropped.ensures in
+    record { met = quiet_call at (cut_at at e.core e.stamp e.limit (e.standing _ at.stands)) e.rider c.enter.ensures.rider c.enter.ensures.rises (e.count, e.journal, e.cut, e.core, e.limit, e.standing) }

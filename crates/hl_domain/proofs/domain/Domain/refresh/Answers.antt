@@ -1,9 +1,31 @@
-use Rattle.std.proofs.Common.{sym}
-use Rattle.hl_domain.proofs.DomainLaws.{leaves}
+use Rattle.std.proofs.Common.{◌∙◌}
+use Rattle.hl_model.specs.declared.step.Step.TheVariants.{Refresh}
+use Rattle.hl_domain.specs.Domains.{pass_call}
+use Rattle.hl_domain.proofs.DomainLaws.{rested_grew, rested_held, met_held, by_pass, longer, stands_at, call_left}
 use Rattle.hl_domain.proofs.domain.Domain.refresh.Goals as goal
 
-pub returns-clause-met : goal.returns-clause-met
-returns-clause-met g c =
-    let of = rw (sym c.deref_mut.ensures.value) at c.lock.ensures in
-    let e = c.refresh.ensures in
-    leaves c.args.self.now c.deref_mut.result.now c.refresh.new.self _ of e.keeps.0.sizes e.keeps.0.stamp (_, (e.made of.standing.0 of.standing.1).standing) (e.made, e.keeps)
+pub note-requires : goal.note-requires
+note-requires g c =
+    let at = c.deref_mut-2.invariant in
+    let e = c.refresh-refreshed.ensures in
+    longer (by_pass c.args.pass.now.touches (Refresh c.args.pass.now.slot) at e.keeps.0 c.journal-before.ensures (e.made _ at.stands))
+
+pub invariant_of-deref_mut : goal.invariant_of-deref_mut
+invariant_of-deref_mut g c =
+    let at = c.deref_mut-2.invariant in
+    let e = c.refresh-refreshed.ensures in
+    stands_at (by_pass c.args.pass.now.touches (Refresh c.args.pass.now.slot) at e.keeps.0 c.journal-before.ensures (e.made _ at.stands)) c.note.ensures.list
+
+pub returns : goal.returns
+returns g c =
+    let at = met_held c.lock-guard.ensures c.deref_mut.ensures.value c.deref_mut-2.view_is in
+    let e = c.refresh-refreshed.ensures in
+    let p = c.args.pass.now in
+    let mid = c.refresh-refreshed.new.pass in
+    let m = by_pass p.touches (Refresh p.slot) at e.keeps.0 c.journal-before.ensures (e.made _ at.stands) in
+    let grew = c.rider_mut.ensures.value ∙ rested_grew c.refresh-refreshed.result (λ _. mid.epoch) (λ v. v) (Refresh p.slot) p mid e.pass in
+    record {
+      met = call_left (pass_call p (Refresh p.slot) c.note.new.rider) c.refresh-refreshed.result m grew c.note.ensures.rider c.note.ensures.rises ((e.made, e.epoch), e.keeps);
+      pass = rested_held c.refresh-refreshed.result (λ _. mid.epoch) (λ v. v) p mid c.note.new.rider e.pass;
+      fresh = e.fresh;
+    }

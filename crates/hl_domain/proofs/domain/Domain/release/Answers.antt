@@ -1,9 +1,40 @@
-use Rattle.std.proofs.Common.{sym}
-use Rattle.hl_domain.proofs.DomainLaws.{leaves}
+use Rattle.std.proofs.Common.{ap, ◌∙◌}
+use Rattle.std.specs.Prelude.{Ok, Err}
+use Rattle.hl_model.specs.declared.step.Step.TheVariants.{Release}
+use Rattle.hl_words.specs.States.{RiderState}
+use Rattle.hl_keeper.specs.Passes.{PassRecord}
+use Rattle.hl_domain.specs.Domains.{pass_call}
+use Rattle.hl_domain.proofs.DomainLaws.{stayed, released_grew, accepted_as, refused_as, met_held, by_pass, longer, stands_at, call_left}
 use Rattle.hl_domain.proofs.domain.Domain.release.Goals as goal
+
+pub note-requires : goal.note-requires
+note-requires g c =
+    let at = c.deref_mut-2.invariant in
+    let e = c.in-Ok.ensures in
+    longer (by_pass c.args.pass.touches (Release c.args.pass.slot) at e.keeps.0 c.journal-before.ensures (e.made _ at.stands))
+
+pub invariant_of-guard : goal.invariant_of-guard
+invariant_of-guard g c =
+    let at = c.deref_mut-2.invariant in
+    let e = c.in-Ok.ensures in
+    stands_at (by_pass c.args.pass.touches (Release c.args.pass.slot) at e.keeps.0 c.journal-before.ensures (e.made _ at.stands)) c.note.ensures.list
+
+pub returns-in-Ok-clause-met : goal.returns-in-Ok-clause-met
+returns-in-Ok-clause-met g c =
+    let at = met_held c.lock-guard.ensures c.deref_mut.ensures.value c.deref_mut-2.view_is in
+    let e = c.in-Ok.ensures in
+    let m = by_pass c.args.pass.touches (Release c.args.pass.slot) at e.keeps.0 c.journal-before.ensures (e.made _ at.stands) in
+    call_left (pass_call c.args.pass (Release c.args.pass.slot) c.note.new.rider) (Ok c.note.new.rider) m (released_grew (Release c.args.pass.slot) c.args.pass (e.made _ at.stands)) c.note.ensures.rider c.note.ensures.rises ((λ A st. accepted_as c.note.new.rider (e.made A st)), e.keeps)
+
+pub invariant_of-t-12 : goal.invariant_of-t-12
+invariant_of-t-12 g c =
+    let at = c.deref_mut-2.invariant in
+    let e = c.in-Err.ensures in
+    stands_at (by_pass c.args.pass.touches (Release c.args.pass.slot) at e.keeps.0 c.journal-before.ensures (e.made _ at.stands)) c.note-in-Err.ensures.list
 
 pub returns-clause-met : goal.returns-clause-met
 returns-clause-met g c =
-    let of = rw (sym c.deref_mut.ensures.value) at c.lock.ensures in
-    let e = c.release.ensures in
-    leaves c.args.self.now c.deref_mut.result.now c.release.new.self _ of e.keeps.0.sizes e.keeps.0.stamp (_, (e.made of.standing.0 of.standing.1).standing) (e.made, e.keeps)
+    let at = met_held c.lock-guard.ensures c.deref_mut.ensures.value c.deref_mut-2.view_is in
+    let e = c.in-Err.ensures in
+    let m = by_pass c.args.pass.touches (Release c.args.pass.slot) at e.keeps.0 c.journal-before.ensures (e.made _ at.stands) in
+    call_left {X = RiderState} (pass_call c.args.pass (Release c.args.pass.slot) c.note-in-Err.new.rider) (Err c.in-Err.fault) m (c.rider_mut.ensures.value ∙ stayed c.args.pass.rider c.in-Err.pass.rider (ap (λ (p : PassRecord). p.rider) e.refused)) c.note-in-Err.ensures.rider c.note-in-Err.ensures.rises ((λ A st. refused_as _ (e.made A st)), e.keeps)

@@ -1,9 +1,23 @@
-use Rattle.std.proofs.Common.{sym}
-use Rattle.hl_domain.proofs.DomainLaws.{leaves}
+use Rattle.std.proofs.Common.{[], ◌∷◌}
+use Rattle.hl_model.specs.declared.step.Step.TheVariants.{Shift}
+use Rattle.hl_domain.specs.Domains.{call_of}
+use Rattle.hl_domain.proofs.DomainLaws.{grew, met_held, by_one, longer, stands_at, call_left}
 use Rattle.hl_domain.proofs.domain.Domain.shift.Goals as goal
+
+pub note-requires : goal.note-requires
+note-requires g c =
+    let at = c.deref_mut-2.invariant in
+    let e = c.shift-shifted.ensures in
+    longer (by_one (Shift c.args.x) at e.keeps.0 c.journal-before.ensures (e.made _ at.stands))
+
+pub invariant_of-deref_mut : goal.invariant_of-deref_mut
+invariant_of-deref_mut g c =
+    let at = c.deref_mut-2.invariant in
+    let e = c.shift-shifted.ensures in
+    stands_at (by_one (Shift c.args.x) at e.keeps.0 c.journal-before.ensures (e.made _ at.stands)) c.note.ensures.list
 
 pub returns-clause-met : goal.returns-clause-met
 returns-clause-met g c =
-    let of = rw (sym c.deref_mut.ensures.value) at c.lock.ensures in
-    let e = c.shift.ensures in
-    leaves c.args.self.now c.deref_mut.result.now c.shift.new.self _ of e.keeps.0.sizes e.keeps.0.stamp (_, (e.made of.standing.0 of.standing.1).standing) (e.made, e.keeps)
+    let at = met_held c.lock-guard.ensures c.deref_mut.ensures.value c.deref_mut-2.view_is in
+    let e = c.shift-shifted.ensures in
+    call_left (call_of (Shift c.args.x) c.args.rider.now c.note.new.rider) c.shift-shifted.result (by_one (Shift c.args.x) at e.keeps.0 c.journal-before.ensures (e.made _ at.stands)) (grew c.shift-shifted.result (Shift c.args.x ∷ []) _ _ e.rider) c.note.ensures.rider c.note.ensures.rises (e.made, e.keeps)

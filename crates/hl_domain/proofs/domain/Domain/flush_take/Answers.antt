@@ -1,0 +1,23 @@
+use Rattle.std.proofs.Common.{[], ◌∷◌}
+use Rattle.hl_model.specs.declared.step.Step.TheVariants.{FlushTake}
+use Rattle.hl_domain.specs.Domains.{call_of}
+use Rattle.hl_domain.proofs.DomainLaws.{grew, met_held, by_one, longer, stands_at, call_left}
+use Rattle.hl_domain.proofs.domain.Domain.flush_take.Goals as goal
+
+pub note-requires : goal.note-requires
+note-requires g c =
+    let at = c.deref_mut-2.invariant in
+    let e = c.flush_take-taken.ensures in
+    longer (by_one FlushTake at e.keeps.0 c.journal-before.ensures (e.made _ at.stands))
+
+pub invariant_of-deref_mut : goal.invariant_of-deref_mut
+invariant_of-deref_mut g c =
+    let at = c.deref_mut-2.invariant in
+    let e = c.flush_take-taken.ensures in
+    stands_at (by_one FlushTake at e.keeps.0 c.journal-before.ensures (e.made _ at.stands)) c.note.ensures.list
+
+pub returns : goal.returns
+returns g c =
+    let at = met_held c.lock-guard.ensures c.deref_mut.ensures.value c.deref_mut-2.view_is in
+    let e = c.flush_take-taken.ensures in
+    record { met = call_left (call_of FlushTake c.args.rider.now c.note.new.rider) c.flush_take-taken.result (by_one FlushTake at e.keeps.0 c.journal-before.ensures (e.made _ at.stands)) (grew c.flush_take-taken.result (FlushTake ∷ []) _ _ e.rider) c.note.ensures.rider c.note.ensures.rises (e.made, e.keeps) }
