@@ -32,7 +32,6 @@ impl<L: Realm> Pass<L> {
         ensures { result ≡ is_current read_only head ended self.now }
     {
         read_only <= self.view.read_only
-            && (head <= self.view.head
-                && (ended < self.epoch && self.touches.len() < TOUCHES_MOST))
+            && (head <= self.view.head && (ended < self.epoch && self.touches.len() < TOUCHES_MOST))
     }
 }

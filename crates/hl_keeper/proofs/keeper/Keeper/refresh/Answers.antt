@@ -38,7 +38,7 @@ returns-clause-made g c =
     (refresh_slot k A p p.slot c.call.new.self c.in_ok-epoch.field-0 c.in-Entered.epoch c.in-Entered.view (made A st) c.in-Entered.is).1
 
 pub returns-clause-pass : goal.returns-clause-pass
-returns-clause-pass g c = 
+returns-clause-pass g c =
     rested_is c.args.pass.now c.call.new.pass c.rest.new.self c.in-Entered.epoch c.in-Entered.view c.in-Entered.view c.in_ok-epoch.ensures.pass c.rest.ensures refl
     ∙ ap (λ (z : PassRecord). rested z.epoch c.in-Entered.view c.args.pass.now) (sym c.rest.ensures)
 
