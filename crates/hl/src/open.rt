@@ -64,7 +64,7 @@ fn over<L: Realm + Send + Sync, R, P: Part<R>>(
 ) -> Result<Closed<P::Out>, Refused<P>>
     requires seed { IsSeedOf L.name L.parts L.table seed }
     requires sizes { (seed.sizes ≡ opening.params) × (seed.riders ≡ opening.riders) }
-    requires named { (seed.sizes ≡ L.sizes) × (opening.stamp ≡ L.stamp) }
+    requires named { (seed.sizes ≡ L.sizes) × (opening.stamp ≡ L.stamp) × (opening.journal ≡ L.limit) }
     requires range { IsInRange opening }
     requires wants { P.wants part (opened_as opening) (replicate opening.riders new_rider) }
     ensures memory { IfErr result (λ refused. refused ≡ was_refused OutOfMemory part) }

@@ -91,7 +91,7 @@ fn threads_over<L: Realm + Send + Sync, R: Threads + Wait + Sync, P: Work<R> + S
 ) -> Result<Closed<Result<Outs<P::Out>, Fault>>, Fault>
     requires seed { IsSeedOf L.name L.parts L.table seed }
     requires sizes { (seed.sizes ≡ opening.params) × (seed.riders ≡ opening.riders) }
-    requires named { (seed.sizes ≡ L.sizes) × (opening.stamp ≡ L.stamp) }
+    requires named { (seed.sizes ≡ L.sizes) × (opening.stamp ≡ L.stamp) × (opening.journal ≡ L.limit) }
     requires range { IsInRange opening }
     ensures memory { IfErr result (λ fault. fault ≡ OutOfMemory) }
     ensures closed { IfOk result (IsClosed opening Anything) }

@@ -174,7 +174,7 @@ where
     L: Realm + Send + Sync,
     G: Gate + Sync,
     requires seed { IsSeedOf L.name L.parts L.table seed }
-    requires named { (seed.sizes ≡ L.sizes) × (STAMP ≡ L.stamp) }
+    requires named { (seed.sizes ≡ L.sizes) × (STAMP ≡ L.stamp) × (100 ≡ L.limit) }
     requires frames { seed.sizes.frames ≡ 4 }
     requires resident { (1 ≤ run.resident) × (run.resident ≤ 4) }
 {

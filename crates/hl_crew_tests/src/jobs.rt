@@ -89,7 +89,7 @@ where
     R: Threads + Wait + Sync,
     L: Realm + Send + Sync,
     requires seed { IsSeedOf L.name L.parts L.table seed }
-    requires named { (seed.sizes ≡ L.sizes) × (STAMP ≡ L.stamp) }
+    requires named { (seed.sizes ≡ L.sizes) × (STAMP ≡ L.stamp) × (100 ≡ L.limit) }
     requires frames { seed.sizes.frames ≡ 4 }
 {
     let calls = Arc::new(alloc, AtomicU64::new(0)).map_err(|_| Fault::OutOfMemory)?;

@@ -31,7 +31,7 @@ fn seal<R: Wait, L: Realm>(rt: &R, domain: &Pages<L>, rider: &mut Rider<L>) -> R
 
 fn pouch_answers<R: Wait + Abort, L: Realm>(rt: &R, alloc: Global, seed: Seed) -> Result<(), Fail>
     requires seed { IsSeedOf L.name L.parts L.table seed }
-    requires named { (seed.sizes ≡ L.sizes) × (STAMP ≡ L.stamp) }
+    requires named { (seed.sizes ≡ L.sizes) × (STAMP ≡ L.stamp) × (100 ≡ L.limit) }
 {
     let (domain, mut riders) = Pages::<L>::open(alloc, seed, 100, STAMP)?;
     let mut rider = allocate_pages(rt, &domain, riders.pop().ok_or("a rider")?)?;

@@ -71,7 +71,7 @@ fn audited<R: Wait, L: Realm>(
     change: Change,
 ) -> Result<[bool; 2], Fault>
     requires seed { IsSeedOf L.name L.parts L.table seed }
-    requires named { (seed.sizes ≡ L.sizes) × (STAMP ≡ L.stamp) }
+    requires named { (seed.sizes ≡ L.sizes) × (STAMP ≡ L.stamp) × (100 ≡ L.limit) }
 {
     let params = seed.params();
     let (domain, mut riders) = Pages::<L>::open(alloc, seed, 100, STAMP)?;

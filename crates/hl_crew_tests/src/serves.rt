@@ -27,7 +27,7 @@ where
     R: Threads + Wait + Sync,
     L: Realm + Send + Sync,
     requires seed { IsSeedOf L.name L.parts L.table seed }
-    requires named { (seed.sizes ≡ L.sizes) × (STAMP ≡ L.stamp) }
+    requires named { (seed.sizes ≡ L.sizes) × (STAMP ≡ L.stamp) × (journal ≡ L.limit) }
     requires most { journal ≤ steps_most }
 {
     let (domain, mut riders) = Pages::<L>::open(alloc, seed, journal, STAMP)?;

@@ -39,7 +39,7 @@ where
     R: Threads + Wait + Abort + Sync,
     L: Realm + Send + Sync,
     requires seed { IsSeedOf L.name L.parts L.table seed }
-    requires named { (seed.sizes ≡ L.sizes) × (STAMP ≡ L.stamp) }
+    requires named { (seed.sizes ≡ L.sizes) × (STAMP ≡ L.stamp) × (100 ≡ L.limit) }
     requires frames { seed.sizes.frames ≡ 4 }
 {
     let (domain, mut riders) = Pages::<L>::open(alloc, seed, 100, STAMP)?;
@@ -74,7 +74,7 @@ where
     R: Threads + Wait + Abort + Sync,
     L: Realm + Send + Sync,
     requires seed { IsSeedOf L.name L.parts L.table seed }
-    requires named { (seed.sizes ≡ L.sizes) × (STAMP ≡ L.stamp) }
+    requires named { (seed.sizes ≡ L.sizes) × (STAMP ≡ L.stamp) × (100 ≡ L.limit) }
     requires frames { seed.sizes.frames ≡ 4 }
 {
     let (domain, mut riders) = Pages::<L>::open(alloc, seed, 100, STAMP)?;
@@ -113,7 +113,7 @@ where
     R: Threads + Wait + Abort + Sync,
     L: Realm + Send + Sync,
     requires seed { IsSeedOf L.name L.parts L.table seed }
-    requires named { (seed.sizes ≡ L.sizes) × (STAMP ≡ L.stamp) }
+    requires named { (seed.sizes ≡ L.sizes) × (STAMP ≡ L.stamp) × (100 ≡ L.limit) }
     requires frames { seed.sizes.frames ≡ 4 }
 {
     let (domain, mut riders) = Pages::<L>::open(alloc, seed, 100, STAMP)?;

@@ -59,7 +59,7 @@ fn crowd<R: Threads + Wait + Abort + Sync, L: Realm + Send + Sync>(
     seed: Seed,
 ) -> Result<(), Fail>
     requires seed { IsSeedOf L.name L.parts L.table seed }
-    requires named { (seed.sizes ≡ L.sizes) × (1000 ≡ L.stamp) }
+    requires named { (seed.sizes ≡ L.sizes) × (1000 ≡ L.stamp) × (2_097_152 ≡ L.limit) }
 {
     let (domain, riders) = Pages::<CountTable, L>::open(alloc, seed, 1 << 21, 1000)?;
     let workers = work_long(rt, alloc, &domain, riders)?;
@@ -186,9 +186,9 @@ where
     L: Realm + Send + Sync,
     M: Realm + Send + Sync,
     requires first { IsSeedOf L.name L.parts L.table first }
-    requires first_named { (first.sizes ≡ L.sizes) × (1000 ≡ L.stamp) }
+    requires first_named { (first.sizes ≡ L.sizes) × (1000 ≡ L.stamp) × (10_000 ≡ L.limit) }
     requires second { IsSeedOf M.name M.parts M.table second }
-    requires second_named { (second.sizes ≡ M.sizes) × (2000 ≡ M.stamp) }
+    requires second_named { (second.sizes ≡ M.sizes) × (2000 ≡ M.stamp) × (10_000 ≡ M.limit) }
 {
     let (one, riders) = Pages::<CountTable, L>::open(alloc, first, 10_000, 1000)?;
     let (other, others) = Pages::<CountTable, M>::open(alloc, second, 10_000, 2000)?;

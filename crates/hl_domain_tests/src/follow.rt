@@ -52,7 +52,7 @@ fn follow_both<E: Epochs + Drop, L: Realm, M: Realm>(
     requires one { IsSeedOf L.name L.parts L.table one }
     requires one_named { (one.sizes ≡ L.sizes) × (STAMP ≡ L.stamp) }
     requires other { IsSeedOf M.name M.parts M.table other }
-    requires other_named { (other.sizes ≡ M.sizes) × (STAMP ≡ M.stamp) }
+    requires other_named { (other.sizes ≡ M.sizes) × (STAMP ≡ M.stamp) × (example.now.journal ≡ M.limit) }
 {
     let journal = u64::from(example.journal);
     let mut alone = open_alone::<E, L>(alloc, one, journal, STAMP)?;

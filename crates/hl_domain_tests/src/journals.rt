@@ -21,7 +21,7 @@ fn fill_thrice<L: Realm>(
     journal: u64,
 ) -> Result<(), Fail>
     requires seed { IsSeedOf L.name L.parts L.table seed }
-    requires named { (seed.sizes ≡ L.sizes) × (2000 ≡ L.stamp) }
+    requires named { (seed.sizes ≡ L.sizes) × (2000 ≡ L.stamp) × (journal ≡ L.limit) }
     requires journal { journal ≤ steps_most }
 {
     let (domain, mut riders) = Pages::<CountTable, L>::open(alloc, seed, journal, 2000)?;

@@ -21,7 +21,7 @@ use std::test::Fail;
 // Every slot is acquired, and every frame filled by one record; then the log is full, and is left.
 fn greatest_sizes<L: Realm>(rt: &(impl Wait + Abort), alloc: Global, seed: Seed) -> Result<(), Fail>
     requires seed { IsSeedOf L.name L.parts L.table seed }
-    requires named { (seed.sizes ≡ L.sizes) × (1000 ≡ L.stamp) }
+    requires named { (seed.sizes ≡ L.sizes) × (1000 ≡ L.stamp) × (1000 ≡ L.limit) }
 {
     let (domain, mut riders) = Pages::<CountTable, L>::open(alloc, seed, 1000, 1000)?;
     let mut passes = acquire_all(rt, alloc, &domain, &mut riders)?;
@@ -95,7 +95,7 @@ take -> taken 1";
 
 fn last_stamp<L: Realm>(rt: &(impl Wait + Abort), alloc: Global, seed: Seed) -> Result<(), Fail>
     requires seed { IsSeedOf L.name L.parts L.table seed }
-    requires named { (seed.sizes ≡ L.sizes) × (4_611_686_018_427_387_904 ≡ L.stamp) }
+    requires named { (seed.sizes ≡ L.sizes) × (4_611_686_018_427_387_904 ≡ L.stamp) × (100 ≡ L.limit) }
 {
     let mut play = open_shared::<CountTable, L>(alloc, seed, 100, 1 << 62)?;
     use_last(rt, &mut play);
@@ -122,7 +122,7 @@ fn the_last_stamp(rt: HostRuntime) -> Result<(), Fail> {
 // No machine has room for a journal of the most steps.
 fn longest_journal<L: Realm>(rt: &impl Abort, alloc: Global, seed: Seed)
     requires seed { IsSeedOf L.name L.parts L.table seed }
-    requires named { (seed.sizes ≡ L.sizes) × (1000 ≡ L.stamp) }
+    requires named { (seed.sizes ≡ L.sizes) × (1000 ≡ L.stamp) × (4_611_686_018_427_387_904 ≡ L.limit) }
 {
     match Pages::<CountTable, L>::open(alloc, seed, 1 << 62, 1000) {
         Ok(_) => panic!(rt; "a journal of 2^62 steps was had"),
@@ -139,7 +139,7 @@ fn the_longest_journal(rt: HostRuntime) -> Result<(), Fail> {
 // Each job answers the tag of its successor, which is bumped once the answer came through a channel.
 fn chain<L: Realm>(rt: &(impl Wait + Abort), alloc: Global, seed: Seed) -> Result<(), Fail>
     requires seed { IsSeedOf L.name L.parts L.table seed }
-    requires named { (seed.sizes ≡ L.sizes) × (1000 ≡ L.stamp) }
+    requires named { (seed.sizes ≡ L.sizes) × (1000 ≡ L.stamp) × (100 ≡ L.limit) }
 {
     let (domain, mut riders) = Pages::<CountTable, L>::open(alloc, seed, 100, 1000)?;
     let mut rider = riders.pop().ok_or("two riders")?;

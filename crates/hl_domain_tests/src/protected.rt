@@ -16,7 +16,7 @@ use std::test::Fail;
 
 fn protected_turn<L: Realm>(rt: &(impl Wait + Abort), alloc: Global, seed: Seed) -> Result<(), Fail>
     requires seed { IsSeedOf L.name L.parts L.table seed }
-    requires named { (seed.sizes ≡ L.sizes) × (2000 ≡ L.stamp) }
+    requires named { (seed.sizes ≡ L.sizes) × (2000 ≡ L.stamp) × (8 ≡ L.limit) }
 {
     let (domain, mut riders) = Pages::<CountTable, L>::open(alloc, seed, 8, 2000)?;
     let mut first = passed(domain.enter(rt, riders.pop().ok_or("a rider")?))?;

@@ -15,7 +15,7 @@ use std::test::Fail;
 
 fn held_pass<L: Realm>(rt: &(impl Wait + Abort), alloc: Global, seed: Seed) -> Result<(), Fail>
     requires seed { IsSeedOf L.name L.parts L.table seed }
-    requires named { (seed.sizes ≡ L.sizes) × (2000 ≡ L.stamp) }
+    requires named { (seed.sizes ≡ L.sizes) × (2000 ≡ L.stamp) × (100 ≡ L.limit) }
 {
     let (domain, mut riders) = Pages::<CountTable, L>::open(alloc, seed, 100, 2000)?;
     let rider = riders.pop().ok_or("a rider")?;

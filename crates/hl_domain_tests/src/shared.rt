@@ -23,7 +23,7 @@ pub(crate) fn open_shared<E: Epochs + Drop, L: Realm>(
 ) -> Result<Play<E, L>, Fail>
     requires seed { IsSeedOf L.name L.parts L.table seed }
     requires most { (journal ≤ steps_most) × (stamp ≤ steps_most) }
-    requires named { (seed.sizes ≡ L.sizes) × (stamp ≡ L.stamp) }
+    requires named { (seed.sizes ≡ L.sizes) × (stamp ≡ L.stamp) × (journal ≡ L.limit) }
 {
     let (domain, riders) = Pages::<E, L>::open(alloc, seed, journal, stamp)?;
     Play::of(alloc, Either::Shared(domain), riders)

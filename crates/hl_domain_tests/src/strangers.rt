@@ -57,9 +57,9 @@ fn strangers<L: Realm, M: Realm>(
     second: Seed,
 ) -> Result<(), Fail>
     requires first { IsSeedOf L.name L.parts L.table first }
-    requires first_named { (first.sizes ≡ L.sizes) × (1000 ≡ L.stamp) }
+    requires first_named { (first.sizes ≡ L.sizes) × (1000 ≡ L.stamp) × (100 ≡ L.limit) }
     requires second { IsSeedOf M.name M.parts M.table second }
-    requires second_named { (second.sizes ≡ M.sizes) × (2000 ≡ M.stamp) }
+    requires second_named { (second.sizes ≡ M.sizes) × (2000 ≡ M.stamp) × (100 ≡ M.limit) }
 {
     let mut one = open_shared::<CountTable, L>(alloc, first, 100, 1000)?;
     let mut other = open_shared::<CountTable, M>(alloc, second, 100, 2000)?;

@@ -44,7 +44,7 @@ fn run_over<L: Realm + Send + Sync, R: Threads + Wait + Sync>(
     work: Work,
 ) -> Result<bool, Fault>
     requires seed { IsSeedOf L.name L.parts L.table seed }
-    requires named { (seed.sizes ≡ L.sizes) × (1000 ≡ L.stamp) }
+    requires named { (seed.sizes ≡ L.sizes) × (1000 ≡ L.stamp) × (2_097_152 ≡ L.limit) }
 {
     let (domain, riders) = Domain::<CountTable, NoJob, AnyAnswer, L>::open(
         alloc, seed, JOURNAL, STAMP,

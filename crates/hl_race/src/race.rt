@@ -143,7 +143,7 @@ fn race_over<L: Realm + Send + Sync, R: Threads + Wait + Sync>(
 ) -> Result<Raced, Fault>
     requires journal { journal ≤ steps_most }
     requires seed { IsSeedOf L.name L.parts L.table seed }
-    requires named { (seed.sizes ≡ L.sizes) × (1000 ≡ L.stamp) }
+    requires named { (seed.sizes ≡ L.sizes) × (1000 ≡ L.stamp) × (journal ≡ L.limit) }
     requires frames { seed.sizes.frames ≡ 8 }
 {
     let params = seed.params();

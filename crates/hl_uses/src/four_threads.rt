@@ -40,7 +40,7 @@ fn run_over<L: Realm + Send + Sync, R: Threads + Wait + Sync, W: Write>(
     out: &mut W,
 ) -> Result<(), Fault>
     requires seed { IsSeedOf L.name L.parts L.table seed }
-    requires named { (seed.sizes ≡ L.sizes) × (1 ≡ L.stamp) }
+    requires named { (seed.sizes ≡ L.sizes) × (1 ≡ L.stamp) × (10_000 ≡ L.limit) }
     requires frames { seed.sizes.frames ≡ 64 }
 {
     // The journal has room for 10,000 steps between two cuts; the stamp tells this domain from others.

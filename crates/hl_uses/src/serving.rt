@@ -41,7 +41,7 @@ fn run_over<L: Realm + Send + Sync, R: Threads + Wait + Sync, W: Write>(
     out: &mut W,
 ) -> Result<(), Fault>
     requires seed { IsSeedOf L.name L.parts L.table seed }
-    requires named { (seed.sizes ≡ L.sizes) × (2 ≡ L.stamp) }
+    requires named { (seed.sizes ≡ L.sizes) × (2 ≡ L.stamp) × (1000 ≡ L.limit) }
 {
     let (log, riders) = Log::<L>::open(alloc, seed, 1_000, 2)?;
     let (riders, failed) = work(rt, alloc, &log, riders)?;
