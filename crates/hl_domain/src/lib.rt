@@ -15,13 +15,21 @@
 //! | a [`Load`], a [`Broom`] | a page that was taken, to be flushed or to be cleaned; each must be ended |
 //! | an [`Ending`] | what is left of a domain: base, journal, actions that were never taken, all quantities |
 //!
-//! # Under the lock
+//! # Under the lock: one list for all threads
 //!
-//! A locked call of a domain is its keeper's, and hl_keeper tells what these are. No clause can name what lies under a
-//! lock, so each says that there is a keeper, of the domain's sizes and stamp, and one after the call, and that
-//! between the two the keeper's own clause holds: `LeavesUnderLock` in `specs/Domains.antt`. After a refusal the keeper
-//! is equal to the one before. `look`, `store`, `load`, `fetch_add`, `compare_exchange`, `copy_page` and `sweep` take no
-//! lock, and their clauses are exact in the pass, the broom and the rider. `close` says what the whole adds up to.
+//! A locked call of a domain is its keeper's, and hl_keeper tells what these are. Beside the keeper lies the one list of
+//! all steps, in the proofs alone. Each call, accepted or refused, notes in its rider's diary the list that it met and the
+//! steps that it put behind it: `LeavesUnderLock` in `specs/Domains.antt` says so, and that between the keepers before
+//! and after the call the keeper's own clause holds, at that list. After a refusal the keeper is equal to the one before.
+//! `close` ties all together: one accepted list begins with what each call of each rider met and left, the calls of one
+//! rider follow each other there, and each of its steps was entered by exactly one call. So all answers that any thread
+//! was given are those of one list of steps, the one that is there at the end.
+//!
+//! `look`, `store`, `load`, `fetch_add`, `compare_exchange`, `copy_page` and `sweep` take no lock, and their clauses are
+//! exact in the pass, the broom and the rider; `keep_up` takes the lock only if anything is new. `close` hands on the rule
+//! of the words too, of exactly what these riders stored and loaded: a load found its rider's own last store there, or
+//! another rider's store, or a 0 where the rider had seen nothing else; a look found an address to which a raise or a
+//! shift of the list moved, or 0.
 //!
 //! A thread that ends with a pass in its hands leaves the slot protected for good, and its rider missing.
 //!
