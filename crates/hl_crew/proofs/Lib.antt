@@ -2,3 +2,4 @@ pub mod PouchLaws
 pub mod Steps
 pub mod LagLaws
 pub mod GoesLaws
+pub mod WaitLaws

@@ -12,8 +12,8 @@ use Rattle.hl_model.specs.declared.step.Step.TheVariants.{FlushDone}
 use Rattle.hl_model.specs.Pages.{flushed}
 use Rattle.hl_keeper.specs.declared.load.PageJob.{PageJob}
 use Rattle.hl_keeper.specs.Calls.{Ends}
-use Rattle.hl_domain.specs.Domains.{DomainState, MakesUnderLock}
-use Rattle.hl_crew.specs.Pouches.{is_of, load_count, Answers}
+use Rattle.hl_domain.specs.Domains.{DomainState, call_of, MakesUnderLock}
+use Rattle.hl_crew.specs.Pouches.{is_of, load_count, PageAnswer, Answers}
 
 -- where no place is free, as many loads are held as there are places
 all_taken : (places : List (Option PageJob)) → length places ≤ position_or_len is_none places → load_count places ≡ length places
@@ -51,20 +51,20 @@ put_back places at job held =
     set-set places at None (Some job) ∙ ap (λ held. set places at held) (sym (get_or_from_slice_get places at (Some job) None held)) ∙ set-get_or places at None
 
 -- what an answer says of the place that was found
-pub answered : (F : Type 0) (domain : DomainState) (page : ℕ) (ok : Bool) (at other : ℕ) (job : PageJob) (old new : List (Option PageJob)) (result : Result ℕ Fault)
-    → position (is_of page) old ≡ Some at → slice_get old at ≡ Some (Some job)
-    → MakesUnderLock F domain result (λ before. Ends before job.stamp (FlushDone job.page ok) (λ A. flushed before.core.sizes (A ++ FlushDone job.page ok ∷ [])))
+pub told_at : (F : Type 0) (domain : DomainState) (told : PageAnswer) (at other : ℕ) (job : PageJob) (old new : List (Option PageJob)) (result : Result ℕ Fault)
+    → position (is_of told.page) old ≡ Some at → slice_get old at ≡ Some (Some job)
+    → MakesUnderLock F domain (call_of (FlushDone job.page told.ok) told.from told.to) result (λ before. Ends before job.stamp (FlushDone job.page told.ok) (λ A. flushed before.core.sizes (A ++ FlushDone job.page told.ok ∷ [])))
     → MatchResult result (λ _. new ≡ set old at None) (λ _. new ≡ old)
-    → position (is_of page) old ≡ Some other → Answers F domain page ok other old new result
-answered F domain page ok at other job old new result is held met left found =
+    → position (is_of told.page) old ≡ Some other → Answers F domain told other old new result
+told_at F domain told at other job old new result is held met left found =
     let same : at ≡ other = cc in
-    let page_is = held_job page at old job is held in
-    subst (λ at. Answers F domain page ok at old new result) same
+    let page_is = held_job told.page at old job is held in
+    subst (λ at. Answers F domain told at old new result) same
     (record {
       job = job;
       held = held;
       page_is = page_is;
-      met = subst (λ page. MakesUnderLock F domain result (λ before. Ends before job.stamp (FlushDone page ok) (λ A. flushed before.core.sizes (A ++ FlushDone page ok ∷ [])))) page_is met;
+      met = subst (λ page. MakesUnderLock F domain (call_of (FlushDone page told.ok) told.from told.to) result (λ before. Ends before job.stamp (FlushDone page told.ok) (λ A. flushed before.core.sizes (A ++ FlushDone page told.ok ∷ [])))) page_is met;
       left = left;
     })
 

@@ -41,10 +41,14 @@ impl<R: Wait, E: Epochs + Drop, F: Task, P: Promise, L: Realm> Flusher<'_, R, E,
         told: Acknowledgement,
     ) -> Result<(), Over>
         ensures stranger { position (is_of told.page) pouch.old ≡ None
-            → (result ≡ Ok tt) × (pouch.new ≡ pouch.old) × (own.new.counts ≡ one_stranger own.old.counts) }
+            → (result ≡ Ok tt) × (pouch.new ≡ pouch.old) × (own.new.rider ≡ own.old.rider)
+            × (own.new.counts ≡ one_stranger own.old.counts) }
         ensures held { (at : ℕ) → position (is_of told.page) pouch.old ≡ Some at
             → let answer : PageAnswer = record {
-              page = told.page; ok = told.ok; from = own.old.rider; to = own.new.rider;
+              page = told.page;
+              ok = told.ok;
+              from = own.old.rider;
+              to = own.new.rider;
             }
             in AnswersAndCounts F self.now.domain.now answer at pouch.old pouch.new
             own.old.counts own.new.counts result }
@@ -81,7 +85,10 @@ impl<R: Wait, E: Epochs + Drop, F: Task, P: Promise, L: Realm> Flusher<'_, R, E,
     ) -> Result<(), Over>
         ensures held { (at : ℕ) → position (is_of page) pouch.old ≡ Some at
             → let answer : PageAnswer = record {
-              page = page; ok = ok; from = own.old.rider; to = own.new.rider;
+              page = page;
+              ok = ok;
+              from = own.old.rider;
+              to = own.new.rider;
             }
             in AnswersAndCounts F self.now.domain.now answer at pouch.old pouch.new
             own.old.counts own.new.counts result }
@@ -110,6 +117,7 @@ impl<R: Wait, E: Epochs + Drop, F: Task, P: Promise, L: Realm> Flusher<'_, R, E,
             × let answer : PageAnswer = record { page = page; ok = ok; from = mid; to = rider.new }
             in Answers F self.now.domain.now answer at pouch.old pouch.new result }
         ensures fewer { OnOk result (load_count pouch.new + 1 ≡ load_count pouch.old) }
+        ensures waits { OnErr result (Waits rider.old rider.new) }
     {
         for _ in 0..ATTEMPTS {
             match pouch.answer(self.rt, self.domain, rider, page, ok) {

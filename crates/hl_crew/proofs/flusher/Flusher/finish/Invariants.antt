@@ -1,6 +1,7 @@
 use Rattle.std.proofs.Common.{◌≡◌}
+use Rattle.hl_crew.specs.Waits.{Waits}
 use Rattle.hl_crew.proofs.flusher.Flusher.finish.Given as goal
 
--- the action and the rider are as they were
+-- the action is as it was, and the rider waits
 abbrev pub invariant-loop : goal.invariant-loop
-invariant-loop g l = (l.ran ≡ l.initial.ran) × (l.rider ≡ l.initial.rider)
+invariant-loop g l = (l.ran ≡ l.initial.ran) × Waits l.initial.rider l.rider
