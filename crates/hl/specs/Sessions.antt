@@ -5,8 +5,8 @@ use Rattle.hl_model.specs.declared.step.Step.TheVariants.{Acquire}
 use Rattle.hl_words.specs.States.{RiderState}
 use Rattle.hl_keeper.specs.Passes.{PassRecord, with_rider}
 use Rattle.hl_core.specs.Holding.{least_free}
-use Rattle.hl_keeper.specs.Calls.{Makes, MakesAt}
-use Rattle.hl_domain.specs.Domains.{DomainState, call_of, enter_call, pass_at, MakesUnderLock}
+use Rattle.hl_keeper.specs.Calls.{Makes, MakesAt, pass_after}
+use Rattle.hl_domain.specs.Domains.{DomainState, call_of, enter_call, MakesUnderLock}
 use Rattle.hl.specs.declared.refused.Refused.{Refused}
 
 -- a session: its log, and its pass there
@@ -43,7 +43,7 @@ abbrev pub Asked : (F : Type 0) → DomainState → RiderState → ℕ
     → Result SessionState (Refused RiderState) → Type 0
 Asked F log rider t result =
     MakesUnderLock F log (call_of (Acquire t) rider (seated result)) (pass_of result)
-    (λ old. Makes old (Acquire t) (pass_at old t (seated result)))
+    (λ old. Makes old (Acquire t) (pass_after old t (seated result)))
 
 -- a log was asked for the least slot that isn't protected, and answered as an acquire of it does
 abbrev pub Entered : (F : Type 0) → DomainState → RiderState
@@ -51,7 +51,7 @@ abbrev pub Entered : (F : Type 0) → DomainState → RiderState
 Entered F log rider result =
     MakesUnderLock F log (enter_call log.sizes rider (seated result)) (pass_of result)
     (λ old. MakesAt old (λ A. Acquire (least_free old.core.sizes A))
-    (λ A. pass_at old (least_free old.core.sizes A) (seated result) A))
+    (λ A. pass_after old (least_free old.core.sizes A) (seated result) A))
 
 -- the same session, but for its rider
 abbrev pub KeepsAllButRider : SessionState → SessionState → Type 0

@@ -1,11 +1,10 @@
 //! A thread's time in a slot of a log.
-ghost use Rattle.std.specs.Prelude.{◌≡◌, ◌+◌, ◌-◌, ◌/◌, ◌^◌, ◌≤◌, ◌++◌, IfOk, IfErr, MatchResult};
-ghost use Rattle.hl_model.specs.declared.step.Step.TheVariants.{Refresh as REFRESH, Release as RELEASE, Allocate as ALLOCATE};
+ghost use Rattle.std.specs.Prelude.{◌≡◌, ◌+◌, ◌-◌, ◌/◌, ◌^◌, ◌≤◌, ◌++◌, Ok, true, false, IfOk, IfErr, MatchResult};
+ghost use Rattle.hl_model.specs.declared.step.Step.TheVariants.{Release as RELEASE, Allocate as ALLOCATE};
 ghost use Rattle.hl_model.specs.Offsets.{place_of, tail};
-ghost use Rattle.hl_model.specs.Views.{view_of};
 ghost use Rattle.hl_keeper.specs.Passes.{seen, with_rider, with_tail};
-ghost use Rattle.hl_keeper.specs.Calls.{call_fault, refresh_fault, touched_list, MakesTouched, IsUpTo};
-ghost use Rattle.hl_domain.specs.Domains.{pass_call, with_held, MakesUnderLock};
+ghost use Rattle.hl_keeper.specs.Calls.{call_fault, MakesTouched};
+ghost use Rattle.hl_domain.specs.Domains.{pass_call, with_held, after_news, stays_current, MakesUnderLock, Refreshed};
 ghost use Rattle.hl.specs.Sessions.{with_pass, fault_alone, unseated, Asked, Entered};
 
 mod rider;
@@ -88,18 +87,27 @@ impl<'a, R: Wait, L: Realm, F: Task, P: Promise, E: Epochs + Drop> Session<'a, R
     ///
     /// Faults: `Stranger` if the session saw an offset above the present one; `JournalFull`.
     pub fn refresh(&mut self) -> Result<View, Fault>
-        ensures met { let p = self.old.pass
-            in let call = pass_call p (REFRESH p.slot) self.new.pass.rider
-            in MakesUnderLock F self.old.log call result (λ old.
-            MakesTouched old p (REFRESH p.slot) (λ A. refresh_fault old A p)
-            (λ A. view_of old.core.sizes p.slot (touched_list A p (REFRESH p.slot)))) }
-        ensures pass { let pass = with_rider self.new.pass.rider self.old.pass
-            in MatchResult result
-            (λ view. self.new ≡ with_pass (with_held view pass) self.old)
-            (λ _. self.new ≡ with_pass pass self.old) }
-        ensures fresh { IfOk result (IsUpTo (seen self.old.pass)) }
+        ensures refreshed { Refreshed F self.old.log self.old.pass self.new.pass result }
+        ensures log { self.new.log ≡ self.old.log }
     {
         self.log.refresh(self.rt, &mut self.pass)
+    }
+
+    /// Brings the session up to date, as a thread wants before each of its operations: by three loads and no lock if
+    /// nothing is new, else by a refresh. Nothing is new if no offset is above the one that the session saw, its epoch
+    /// has not ended, and it has room for a touch. Returns what the session sees.
+    ///
+    /// Faults, those of a refresh: `Stranger`, `JournalFull`.
+    pub fn keep_up(&mut self) -> Result<View, Fault>
+        ensures kept { let new = self.new.pass
+            in let old = self.old.pass
+            in stays_current old new ≡ true → (result ≡ Ok (seen old)) × (new ≡ after_news old new) }
+        ensures refreshed { let new = self.new.pass
+            in let old = self.old.pass
+            in stays_current old new ≡ false → Refreshed F self.old.log (after_news old new) new result }
+        ensures log { self.new.log ≡ self.old.log }
+    {
+        self.log.keep_up(self.rt, &mut self.pass)
     }
 
     /// Places a record of n words; returns the address of its first word. The record is on one
@@ -115,7 +123,7 @@ impl<'a, R: Wait, L: Realm, F: Task, P: Promise, E: Epochs + Drop> Session<'a, R
             (λ A. place_of old.core.sizes.page_size (tail old.core.sizes (A ++ p.touches)) n)) }
         ensures pass { let pass = with_rider self.new.pass.rider self.old.pass
             in MatchResult result
-            (λ a. self.new ≡ with_pass (with_held (with_tail (a + n) (seen pass)) pass) self.old)
+            (λ a. self.new ≡ with_pass (with_held pass.epoch (with_tail (a + n) (seen pass)) pass) self.old)
             (λ _. self.new ≡ with_pass pass self.old) }
         ensures above { IfOk result (λ a. (seen self.old.pass).tail ≤ a) }
         ensures within { IfOk result (λ address. address + n ≤ 2 ^ 48) }
