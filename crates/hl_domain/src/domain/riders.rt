@@ -166,9 +166,8 @@ impl<E: Epochs + Drop, F: Task, P: Promise, L: Realm> Domain<E, F, P, L> {
     {
         let mut guard = self.lock(rt);
         let Held { keeper, scribe } = &mut *guard;
-        let told = keeper.snapshot();
         self.words.enter(scribe, rider, &[]);
-        told
+        keeper.snapshot()
     }
 
     /// All quantities, the number of steps since the last cut, and the number of steps cut in all.
