@@ -1,7 +1,8 @@
 -- What a call left under the lock, said by less.
-use Rattle.std.proofs.Common.{◌≡◌, ℕ, Ok, subst}
+use Rattle.std.proofs.Common.{◌≡◌, ℕ, Ok, List, subst}
+use Rattle.hl_model.specs.declared.step.Step.{Step}
 use Rattle.hl_words.specs.States.{RiderState}
-use Rattle.hl_domain.specs.Domains.{DomainState, Call, LeavesUnderLock}
+use Rattle.hl_domain.specs.Domains.{DomainState, Call, UnderLock, LeavesUnderLock}
 use Rattle.hl_keeper.specs.Keepers.{KeeperState}
 use Rattle.hl_crew.specs.Turns.{Finishes}
 
@@ -23,3 +24,12 @@ pub finishes_of : (F : Type 0) (domain : DomainState) (origin origin' ticket tic
 finishes_of F domain origin origin' ticket ticket' old new same_origin same_ticket done =
     subst (λ origin. Finishes F domain origin ticket' (Ok tt) old new) same_origin
     (subst (λ ticket. Finishes F domain origin ticket (Ok tt) old new) same_ticket done)
+
+-- what a call without a rider met is said by less
+pub sees : {F : Type 0} {domain : DomainState} {H K : KeeperState F → List Step → Type 0} → ((keeper : KeeperState F) (A : List Step) → H keeper A → K keeper A) → UnderLock F domain H → UnderLock F domain K
+sees f under = record {
+  keeper = under.keeper;
+  list = under.list;
+  met = under.met;
+  holds = f under.keeper under.list under.holds;
+}

@@ -53,7 +53,8 @@ MakesStep F domain step answer old new =
 abbrev pub MakesNext : (F : Type 0) → DomainState → List Step
     → ℕ → Result Bool Fault → RiderState → RiderState → Type 0
 MakesNext F domain steps i (Ok true) old new =
-    (step : Step) × (answer : ℕ) × (slice_get steps i ≡ Some step) × MakesStep F domain step (Ok answer) old new
+    (step : Step) × (answer : ℕ) × (slice_get steps i ≡ Some step)
+    × MakesStep F domain step (Ok answer) old new
 MakesNext F domain steps i (Ok false) old new = ⊥
 MakesNext F domain steps i (Err fault) old new =
     (step : Step) × (slice_get steps i ≡ Some step) × MakesStep F domain step (Err fault) old new

@@ -26,8 +26,8 @@ pub record PageAnswer : Type 0 where
   pub from : RiderState
   pub to : RiderState
 
--- the load in place `at`, of the answer's page, was answered as the domain answers it: it has left the pouch, or
--- nothing has changed there
+-- the load in place `at`, of the answer's page, was answered as the domain answers it: it has left the pouch,
+-- or nothing has changed there
 pub record Answers
     (F : Type 0) (domain : DomainState) (answer : PageAnswer) (at : ℕ)
     (old new : List (Option PageJob)) (result : Result ℕ Fault)

@@ -34,7 +34,8 @@ MakesAny F domain orders i (Err over) old new = MakesTurn F domain orders (Err o
 abbrev pub MakesTurns : (F : Type 0) → DomainState → Orders → (ℕ → Type 0)
     → Result (Unit {0}) Over → RiderState → RiderState → Type 0
 MakesTurns F domain orders IsOver (Ok done) old new =
-    (count : ℕ) × (told : ℕ) × (told ≤ count) × IsOver told × Followed (MakesAny F domain orders) count old new
+    (count : ℕ) × (told : ℕ) × (told ≤ count) × IsOver told
+    × Followed (MakesAny F domain orders) count old new
 MakesTurns F domain orders IsOver (Err over) old new =
     (count : ℕ) × (last : RiderState) × Followed (MakesAny F domain orders) count old last
     × MakesTurn F domain orders (Err over) last new

@@ -48,7 +48,8 @@ module _ (F : Type 0) (domain : DomainState) where
       → Step → ℕ → (KeeperState F → List Step → X) → X → RiderState → RiderState → Type 0
   EndsOne step origin answer x old new =
       (mid : RiderState) × Waits old mid
-      × MakesUnderLock F domain (call_of step mid new) (Ok x) (λ before. Ends before origin step (answer before))
+      × MakesUnderLock F domain (call_of step mid new) (Ok x)
+      (λ before. Ends before origin step (answer before))
 
   -- the domain accepted an action as done. Else no step was made
   abbrev pub Finishes : ℕ → ℕ → Result (Unit {0}) Over → RiderState → RiderState → Type 0

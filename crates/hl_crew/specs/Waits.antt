@@ -1,9 +1,9 @@
 -- Calls of a rider that entered nothing.
-use Rattle.std.specs.Prelude.{◌≡◌, ◌+◌, Bool, true, false, List, [], ◌++◌, length}
+use Rattle.std.specs.Prelude.{◌≡◌, ◌+◌, Bool, true, false, List, [], ◌++◌, length, nat_lt}
 use Rattle.std.specs.List.{AllByRecursion}
 use Rattle.hl_history.specs.declared.view.Entry.{Entry}
 use Rattle.hl_words.specs.States.{RiderState}
-use Rattle.hl_domain.specs.Domains.{DomainState, LeavesUnderLock, no_step}
+use Rattle.hl_domain.specs.Domains.{DomainState, UnderLock, LeavesUnderLock, no_step}
 use Rattle.hl_crew.specs.declared.orders.Cuts.{Cuts}
 use Rattle.hl_crew.specs.declared.orders.Cuts.TheVariants.{Never, EachTurn, Above}
 
@@ -29,8 +29,10 @@ module _ (F : Type 0) (domain : DomainState) where
   MakesRoom true old new = CutsJournal old new
   MakesRoom false old new = new ≡ old
 
-  -- the journal was cut at a turn's end as was ordered: where the orders name a number of steps, perhaps
+  -- the journal was cut at a turn's end as was ordered: where the orders name a number of steps, if it had more
   abbrev pub EndsTurn : Cuts → RiderState → RiderState → Type 0
   EndsTurn Never old new = new ≡ old
   EndsTurn EachTurn old new = CutsJournal old new
-  EndsTurn (Above steps) old new = (is_cut : Bool) × MakesRoom is_cut old new
+  EndsTurn (Above steps) old new =
+      (is_cut : Bool) × UnderLock F domain (λ keeper A. is_cut ≡ nat_lt steps (length keeper.journal))
+      × MakesRoom is_cut old new
