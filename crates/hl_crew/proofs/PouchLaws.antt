@@ -100,5 +100,6 @@ one_less (Some other ∷ places) (suc at) job within held = let others = one_les
 pub taken_out : (places : List (Option PageJob)) (at : ℕ) (job : PageJob) → at < length places → slice_get places at ≡ Some (Some job) → load_count (set places at None) + 1 ≡ load_count places
 taken_out places at job within held = one_less places at job within (get_or_from_slice_get places at (Some job) None held)
 
+-- no test both passes and fails
 pub not_none : true ≡ false → ⊥
 not_none e = cc

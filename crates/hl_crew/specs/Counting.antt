@@ -32,8 +32,8 @@ abbrev pub failed_more : ℕ → Counts → Counts
 failed_more zero c = c
 failed_more (suc n) c = counted false (failed_more n c)
 
--- a page, held in place `at`, was answered, after calls that entered nothing; an answer that the domain accepted
--- was counted as that, and one that it refused ends the turn and is counted as none
+-- a page, held in place `at`, was answered, after calls that entered nothing; an answer that the domain
+-- accepted was counted as that, and one that it refused ends the turn and is counted as none
 pub record AnswersAndCounts
     (F : Type 0) (domain : DomainState) (told : PageAnswer) (at : ℕ)
     (old new : List (Option PageJob)) (before after : Counts) (result : Result (Unit {0}) Over)

@@ -29,7 +29,8 @@ module _ (F : Type 0) (domain : DomainState) where
   MakesRoom true old new = CutsJournal old new
   MakesRoom false old new = new ≡ old
 
-  -- the journal was cut at a turn's end as was ordered: where the orders name a number of steps, if it had more
+  -- the journal was cut at a turn's end as was ordered: where the orders name a number of steps, if it had
+  -- more
   abbrev pub EndsTurn : Cuts → RiderState → RiderState → Type 0
   EndsTurn Never old new = new ≡ old
   EndsTurn EachTurn old new = CutsJournal old new
