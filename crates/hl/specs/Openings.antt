@@ -18,7 +18,7 @@ pub record IsInRange (o : Opening) : Type 0 where
 
 -- the log of an opening
 abbrev pub opened_as : Opening → DomainState
-opened_as o = record { sizes = o.params; stamp = o.stamp; riders = o.riders }
+opened_as o = record { sizes = o.params; stamp = o.stamp; limit = o.journal; riders = o.riders }
 
 -- the refusal with this fault, and what was handed in
 abbrev pub was_refused : {T : Type 0} → Fault → T → Refused T
