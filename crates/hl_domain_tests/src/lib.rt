@@ -38,6 +38,8 @@ mod jobs;
 #[cfg(test)]
 mod journals;
 #[cfg(test)]
+mod keeps_up;
+#[cfg(test)]
 mod limits;
 #[cfg(test)]
 mod play;
