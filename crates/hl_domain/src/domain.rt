@@ -97,9 +97,9 @@ impl<E: Epochs + Drop, F: Task, P: Promise, L: Realm> Domain<E, F, P, L> {
         Ok((domain, riders))
     }
 
-    /// Ends it, if all riders are there: what is left of it. The list of its steps is the one list of all calls of these
-    /// riders: it begins with what each of them met and left, and each step was entered by one of them. It needs no lock:
-    /// nobody else has it.
+    /// Ends it, if all riders are there: what is left of it. The list of its steps is the one list of all calls of
+    /// these riders: it begins with what each of them met and left, and each step was entered by one of them. It
+    /// needs no lock: nobody else has it.
     ///
     /// `Stranger`, with the domain's stamp, if a rider is missing; then all is handed back.
     pub fn close(

@@ -9,11 +9,11 @@
 //! | Value | What it is |
 //! |---|---|
 //! | a [`Domain`] | a keeper under its lock, and the words: shared by a `&` |
-//! | a [`Keeper`] | the core, the journal with the base of the steps cut, the right to store offset words |
-//! | a `Rider` | the right to act, and its share: how many steps it entered. `close` needs all of them |
+//! | a [`Keeper`] | the core, the journal with the base of the steps cut, the right to store the master's three words |
+//! | a `Rider` | the right to act; its share, how many steps it entered; its diary, in proofs. `close` needs all |
 //! | a [`Pass`] | the right to act for a slot, with its touches: what it did since its last locked call |
 //! | a [`Load`], a [`Broom`] | a page that was taken, to be flushed or to be cleaned; each must be ended |
-//! | an [`Ending`] | what is left of a domain: base, journal, actions that were never taken, all quantities |
+//! | an [`Ending`] | what is left: base, journal, actions that were never taken, all quantities, the words |
 //!
 //! # Under the lock: one list for all threads
 //!
@@ -22,8 +22,9 @@
 //! steps that it put behind it: `LeavesUnderLock` in `specs/Domains.antt` says so, and that between the keepers before
 //! and after the call the keeper's own clause holds, at that list. After a refusal the keeper is equal to the one before.
 //! `close` ties all together: one accepted list begins with what each call of each rider met and left, the calls of one
-//! rider follow each other there, and each of its steps was entered by exactly one call. So all answers that any thread
-//! was given are those of one list of steps, the one that is there at the end.
+//! rider follow each other there, and each of its steps was entered by exactly one call. So the answers to all locked
+//! calls of all threads' riders and passes are those of one list of steps, the one that is there at the end. `snapshot`,
+//! `holders` and `frame_of` take no rider and note nothing: each is answered at some list.
 //!
 //! `look`, `store`, `load`, `fetch_add`, `compare_exchange`, `copy_page` and `sweep` take no lock, and their clauses are
 //! exact in the pass, the broom and the rider; `keep_up` takes the lock only if anything is new. `close` hands on the rule

@@ -52,4 +52,6 @@ mod shared;
 #[cfg(test)]
 mod strangers;
 #[cfg(test)]
+mod turns;
+#[cfg(test)]
 mod work;

@@ -13,8 +13,8 @@ use Rattle.hl_words.specs.States.{RiderState, with_view}
 use Rattle.hl_words.specs.Views.{offset_of, greatest_of, stored, changed, loaded, with_loaded}
 use Rattle.hl_keeper.specs.Touches.{view_after}
 
--- a pass: its slot and stamp, the epoch that its slot has, the view at its last locked call, its looks and stores
--- since then, and its rider
+-- a pass: its slot and stamp, the epoch that its slot has, the view at its last locked call, its looks and
+-- stores since then, and its rider
 pub record PassRecord : Type 0 where
   pub slot : ℕ
   pub stamp : ℕ
@@ -114,6 +114,7 @@ last_read_only p = offset_of ReadOnly p.rider.view.offsets
 abbrev pub last_head : PassRecord → ℕ
 last_head p = offset_of Head p.rider.view.offsets
 
+-- and the last epoch that ended, of those that it loaded
 abbrev pub last_ended : PassRecord → ℕ
 last_ended p = offset_of Ended p.rider.view.offsets
 
@@ -147,7 +148,14 @@ with_share n r = record { view = r.view; share = r.share + n; calls = r.calls }
 
 -- a pass with this rider in the place of its own
 abbrev pub with_rider : RiderState → PassRecord → PassRecord
-with_rider r p = record { slot = p.slot; stamp = p.stamp; epoch = p.epoch; held = p.held; touches = p.touches; rider = r }
+with_rider r p = record {
+  slot = p.slot;
+  stamp = p.stamp;
+  epoch = p.epoch;
+  held = p.held;
+  touches = p.touches;
+  rider = r;
+}
 
 -- the rider of an accepted call entered n steps more, and that of a refused one none; what it stored, loaded and
 -- met stays
@@ -165,8 +173,8 @@ entered_by p = record {
   rider = with_share (length p.touches + 1) p.rider;
 }
 
--- the pass after a locked call that leaves it with this epoch and view: its touches and the call's own step are
--- its rider's
+-- the pass after a locked call that leaves it with this epoch and view: its touches and the call's own step
+-- are its rider's
 unfoldable pub rested : ℕ → View → PassRecord → PassRecord
 rested epoch v p = record {
   slot = p.slot;

@@ -15,8 +15,8 @@ unfoldable pub down_from : ℕ → List ℕ
 down_from zero = []
 down_from (suc n) = suc n ∷ down_from n
 
--- the stores of the master's words at A, the newest first: the addresses of its raises, those of its shifts, and
--- each epoch that a bump ended
+-- the stores of the master's words at A, the newest first: the addresses of its raises, those of its shifts,
+-- and each epoch that a bump ended
 unfoldable pub stores_of : List Step → OffsetWords
 stores_of A = record {
   read_only = moves_in raised_to A;

@@ -20,7 +20,7 @@ use std::marker::Model;
 
 /// What lies under a domain's one lock: a core over the table of epochs E with jobs F, the journal of the
 /// accepted steps with the base of those that were cut from it, each slot's stamp, and the right to store the
-/// offset words. The answers of its jobs keep the promise P.
+/// master's words. The answers of its jobs keep the promise P.
 pub struct Keeper<E: Epochs, F: Task, P: Promise, L: Realm> {
     pub(crate) core: Core<E, Kept<F, P>>,
     pub(crate) journal: Journal,

@@ -6,9 +6,9 @@
 //! # Standing at a list
 //!
 //! A keeper stands at a list of accepted steps where its core does, the list is the steps that were
-//! cut and then its journal, its base is that of the steps cut, the offset words were last stored
-//! as the read-only offset and the head of the list, and the riders' steps in all are as many as
-//! the list has: `KeeperStands` in `specs/Keepers.antt`. Each keeper stands at some list: that is
+//! cut and then its journal, its base is that of the steps cut, the master's words were stored as
+//! its raises, its shifts and its bumps say, and the riders' steps in all are as many as the list
+//! has: `KeeperStands` in `specs/Keepers.antt`. Each keeper stands at some list: that is
 //! in its type. Each locked call says: at whatever list the keeper stood, the answer is the
 //! definitions' after that list and the pass's touches, and the keeper then stands at the list with
 //! both, if it was accepted. A refused call changes nothing, and what was handed in comes back.
@@ -21,8 +21,8 @@
 //!
 //! # Touches
 //!
-//! Seven calls take no lock: a pass's `look`, `store`, `load`, `fetch_add` and `compare_exchange`,
-//! and a rider's `copy_page` and `sweep`. Of these a store, an add, an exchange that stored, and a
+//! Eight calls take no lock: a pass's `look`, `keeps_up`, `store`, `load`, `fetch_add` and
+//! `compare_exchange`, and a rider's `copy_page` and `sweep`. Of these a store, an add, an exchange that stored, and a
 //! look that raised the view are touches. Touches are lawful in the pass's own view, and enter the
 //! journal, in their order, before the step of the pass's next locked call: what the slot's view
 //! allows is accepted there, whatever others did since. So touches refuse a call for the room that

@@ -124,7 +124,8 @@ impl<L: Realm> Pass<L> {
     pub fn rider_mut(&mut self) -> &mut Rider<L>
         ensures value { result.now ≡ self.old.rider }
         ensures* writes_back { sem 𝓛 (LendsRider L.row
-            (record { table = L.table; sizes = L.sizes; stamp = L.stamp; limit = L.limit }) L.Ledger self.entry result) }
+            (record { table = L.table; sizes = L.sizes; stamp = L.stamp; limit = L.limit })
+            L.Ledger self.entry result) }
     {
         &mut self.rider
     }

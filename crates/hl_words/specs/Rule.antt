@@ -1,5 +1,5 @@
--- The rule that cells, the words of the master, the master's stores and the riders' stores and loads meet between any
--- two steps.
+-- The rule that cells, the master's words, its stores of these, and the riders' stores and loads meet between
+-- any two steps.
 use Rattle.std.specs.Prelude.{ℕ, ◌≡◌, ◌≢◌, ◌+◌, ◌<◌, ◌≤◌, ◌==◌, ◌⊎◌, if◌then◌else◌, List, [], ◌∷◌, Option, Some, None, slice_get, slice_index, AllPairs}
 use Rattle.std.specs.List.{AllByRecursion, Contains}
 use Rattle.hl_model.specs.Lists.{greatest}
@@ -70,8 +70,8 @@ abbrev pub AreLoads : List ℕ → List ℕ → Type 0
 AreLoads stores loads = (greatest (λ x. x) loads ≤ newest stores)
     × AllByRecursion (λ x. (x ≡ 0) ⊎ Contains stores x) loads
 
--- The rule on words, the master's stores and the riders' views: first the cells, then the read-only word and
--- the head word
+-- The rule on words, the master's stores and the riders' views: first the cells, then the read-only word, the
+-- head word and that of the last epoch that ended
 pub record IsRuled (cells : ℕ) (words : List ℕ) (stores : OffsetWords)
     (riders : List RiderView) : Type 0 where
   pub cell : (c : ℕ) → c < cells → IsCell riders c (slice_index words c)

@@ -69,7 +69,8 @@ IsSeedOf name parts table seed = (seed.name ≡ name) × (seed.riders ≡ parts)
 abbrev pub first_rider : SeatView → RiderView
 first_rider v = slice_index_or v.riders 0 unused
 
--- the first table of a seed, or that of words: its rule is that of this room, and it has the cells and three words more
+-- the first table of a seed, or that of words: its rule is that of this room, and it has the cells and three
+-- words more
 pub record IsTableOf (room : Room) (key : Room) (table : TableId) : Type 0 where
   pub key_is : key ≡ room
   pub words_are : table.words ≡ room.cells + 3

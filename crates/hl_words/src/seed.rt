@@ -91,7 +91,8 @@ impl Model for Seed {
 }
 
 impl Seed {
-    /// Makes the words of an allocator of these sizes: F * P cells and three words of the master's, all 0, for 1 to 128 riders.
+    /// Makes the words of an allocator of these sizes: F * P cells and the master's three words, all 0, for 1 to 128
+    /// riders.
     ///
     /// `OutOfMemory` if memory was refused; then nothing is made.
     pub fn make(alloc: Global, params: Params, riders: usize) -> Result<Seed, Fault>

@@ -174,7 +174,8 @@ impl<L: Realm> Words<L> {
     }
 
     /// Loads one of the master's words: an offset in words of the log, or an epoch. It isn't below what this rider
-    /// loaded of it before. The rider's view has the load; that it is one of the master's stores, or 0, is what `close` tells of all loads.
+    /// loaded of it before. The rider's view has the load; that it is one of the master's stores, or 0, is what `close`
+    /// tells of all loads.
     pub fn load_offset(&self, rider: &mut Rider<L>, which: Which) -> u64
         ensures view { rider.new ≡ with_view (with_loaded which result rider.old.view) rider.old }
         ensures rises { greatest_of which rider.old.view.offsets ≤ result }

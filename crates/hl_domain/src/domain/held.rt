@@ -20,7 +20,8 @@ impl<E: Epochs, F: Task, P: Promise, L: Realm> Model for Held<E, F, P, L> {
 
     ghost view = { λ h. record { keeper = h.keeper; list = h.scribe } };
 
-    ghost invariant = { λ h. IsAt (record { sizes = L.sizes; stamp = L.stamp; limit = L.limit }) h.scribe h.keeper };
+    ghost invariant = { λ h. IsAt (record { sizes = L.sizes; stamp = L.stamp; limit = L.limit })
+        h.scribe h.keeper };
 }
 
 impl<E: Epochs, F: Task, P: Promise, L: Realm> Held<E, F, P, L> {

@@ -1,0 +1,25 @@
+use Rattle.std.proofs.Common.{rules, ◌≡◌, ℕ, zero, suc, List, [], ◌∷◌, ◌++◌, replicate, refl, sym, subst}
+use Rattle.std.specs.List.{AllByRecursion as Every}
+use Rattle.hl_history.proofs.Calls.{every_back, every_front}
+use Rattle.hl_words.specs.States.{RiderState, new_rider}
+use Rattle.hl_domain_tests.proofs.turns.in_turn.Goals as goal
+
+-- riders that were just made have made no call
+fresh : (n : ℕ) → Every (λ r. r.calls ≡ []) (replicate n new_rider)
+fresh zero = tt
+fresh (suc n) = (refl, fresh n)
+
+-- and so the last two of them
+both_fresh : (n : ℕ) (items rest most : List RiderState) (one two : RiderState) → items ≡ replicate n new_rider → items ≡ most ++ two ∷ [] → most ≡ rest ++ one ∷ [] → (one.calls ≡ []) × (two.calls ≡ [])
+both_fresh n items rest most one two e f g =
+    let P : RiderState → Type 0 = λ r. r.calls ≡ [] in
+    let all : Every P (most ++ two ∷ []) = subst (Every P) f (subst (Every P) (sym e) (fresh n)) in
+    let some : Every P (rest ++ one ∷ []) = subst (Every P) g (every_front P most (two ∷ []) all) in
+    ((every_back P rest (one ∷ []) some).0, (every_back P most (two ∷ []) all).0)
+
+pub bump_in_turn-requires-clause-new : goal.bump_in_turn-requires-clause-new
+bump_in_turn-requires-clause-new g c κs within =
+    let e : c.in_ok-domain.riders.items ≡ replicate c.args.seed.riders new_rider = search rules in
+    let f : c.in_ok-domain.riders.items ≡ c.pop.new.self.items ++ c.in_ok-two.two ∷ [] = search rules in
+    let h : c.pop.new.self.items ≡ c.pop-2.new.self.items ++ c.in_ok-one.one ∷ [] = search rules in
+    both_fresh c.args.seed.riders c.in_ok-domain.riders.items c.pop-2.new.self.items c.pop.new.self.items c.in_ok-one.one c.in_ok-two.two e f h
