@@ -7,7 +7,8 @@ use Rattle.hl.specs.declared.refused.Refused.{Refused}
 
 -- 1 to 128 riders, and a journal and a stamp of at most 2^62
 unfoldable pub can_open : Opening → Bool
-can_open o = nat_le 1 o.riders && (nat_le o.riders 128 && (nat_le o.journal (2 ^ 62) && nat_le o.stamp (2 ^ 62)))
+can_open o =
+    nat_le 1 o.riders && (nat_le o.riders 128 && (nat_le o.journal (2 ^ 62) && nat_le o.stamp (2 ^ 62)))
 
 -- so it is
 pub record IsInRange (o : Opening) : Type 0 where

@@ -37,8 +37,8 @@ lag_told steps = record {
 abbrev pub no_lag : ℕ → LagOutcome
 no_lag number = record { number = number; count = 0; steps = replicate 4 no_step }
 
--- what is told of the lag at these offsets, for at least one mutable page, at least as many resident ones, and
--- a frame more than these; else out of range
+-- what is told of the lag at these offsets, for at least one mutable page, at least as many resident ones,
+-- and a frame more than these; else out of range
 unfoldable pub lag_answer : Sizes → Six → ℕ → ℕ → LagOutcome
 lag_answer sizes six mutable resident =
     if nat_le 1 mutable && nat_le mutable resident && nat_lt resident sizes.frames

@@ -29,8 +29,8 @@ pub record DomainState : Type 0 where
   pub limit : ℕ
   pub riders : ℕ
 
--- how a domain was set up, which is what its realm names: its sizes, its stamp, and how many steps it may keep
--- between two cuts
+-- how a domain was set up, which is what its realm names: its sizes, its stamp, and how many steps it may
+-- keep between two cuts
 pub record Setup : Type 0 where
   pub sizes : Sizes
   pub stamp : ℕ
@@ -47,8 +47,8 @@ pub record IsAt {F : Type 0} (setup : Setup) (list : List Step) (keeper : Keeper
   pub stamp_is : keeper.stamp ≡ setup.stamp
   pub limit_is : keeper.limit ≡ setup.limit
 
--- what a call without a rider met under the lock: a keeper that was set up as the domain was, which stood at a
--- list, and of both of which this holds
+-- what a call without a rider met under the lock: a keeper that was set up as the domain was, which stood at
+-- a list, and of both of which this holds
 pub record UnderLock (F : Type 0) (domain : DomainState)
     (Holds : KeeperState F → List Step → Type 0) : Type 0 where
   pub keeper : KeeperState F
@@ -98,8 +98,8 @@ abbrev pub with_entry : List Step → List Step → RiderState → RiderState
 with_entry list steps r = with_call (entry list steps) (with_share (length steps) r)
 
 -- what a call met under the lock, and what it left there: a keeper that stood at the list of all steps, and
--- one that stands at this list and the call's steps behind it. The rider's newest call is of exactly that list
--- and those steps, and the list begins with what each earlier one left. This holds of both keepers
+-- one that stands at this list and the call's steps behind it. The rider's newest call is of exactly that
+-- list and those steps, and the list begins with what each earlier one left. This holds of both keepers
 pub record LeavesUnderLock
     (F : Type 0) (domain : DomainState) (call : Call) (Holds : KeeperState F → KeeperState F → Type 0)
     : Type 0 where

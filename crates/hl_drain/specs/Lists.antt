@@ -63,12 +63,16 @@ module _ {J : Type 0} where
   abbrev pub take_answer : Lists J → ℕ → Result (ℕ × Action J) Fault
   take_answer lists safe = taken_from lists.pending safe
 
-  -- the lists after a take with this answer: the oldest pending action is the last taken one, and its place alone
-  -- was visited
+  -- the lists after a take with this answer: the oldest pending action is the last taken one, and its place
+  -- alone was visited
   abbrev pub after_take : (J → ℕ) → Result (ℕ × Action J) Fault → Lists J → Lists J
   after_take tag (Err fault) lists = lists
   after_take tag (Ok entry) lists =
-      record lists { pending = drop 1 lists.pending; taken = lists.taken ++ waiting_of tag entry ∷ []; turns = 1 }
+      record lists {
+        pending = drop 1 lists.pending;
+        taken = lists.taken ++ waiting_of tag entry ∷ [];
+        turns = 1;
+      }
 
   -- the lists after the oldest pending action, if there is one, was given up
   abbrev pub after_give_up : Lists J → Lists J

@@ -39,7 +39,8 @@ impl<J> Drain<J> {
     pub fn open(alloc: Global, d: u64) -> Result<Drain<J>, Fault>
         requires least { 1 ≤ d }
         requires most { d ≤ 64 }
-        ensures ok { IfOk result (λ drain. drain ≡ record { limit = d; pending = []; taken = []; turns = 0 }) }
+        ensures ok { IfOk result (λ drain.
+            drain ≡ record { limit = d; pending = []; taken = []; turns = 0 }) }
         ensures err { IfErr result (λ fault. fault ≡ Fault.OutOfMemory) }
     {
         let limit = d as usize;

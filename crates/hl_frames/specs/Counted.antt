@@ -17,8 +17,9 @@ none_yet = record { enter = 0; flush_done = 0; clean_done = 0 }
 abbrev pub enter_turns : ℕ → Counted → Turns
 enter_turns q C = if may_enter q C.pages then (record C.turns { enter = 1 }) else C.turns
 
--- the frames that a walk over the flushed pages visits, from the run of some pages to that of others: those of
--- the pages that the run is moved over, and that of the page at which it stops, unless none is entered there
+-- the frames that a walk over the flushed pages visits, from the run of some pages to that of others: those
+-- of the pages that the run is moved over, and that of the page at which it stops, unless none is entered
+-- there
 abbrev pub walked : Pages → Pages → ℕ
 walked T U = (flushed_run U - flushed_run T) + (if nat_lt (flushed_run U) T.entered then 1 else 0)
 

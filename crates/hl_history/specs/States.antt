@@ -1,4 +1,5 @@
--- What contracts see of a seed and of gathered diaries, and what is kept of a history's table and of its seats.
+-- What contracts see of a seed and of gathered diaries, and what is kept of a history's table and of its
+-- seats.
 use Rattle.std.specs.Prelude.{ℕ, ◌≡◌, List, [], slice_index_or}
 use Rattle.atomic_table.specs.Table.{Me}
 use Rattle.atomic_table.specs.Seated.{TableId}

@@ -56,7 +56,8 @@ impl<L: Named> History<L> {
     /// Hands out the first diary that no thread has.
     pub fn deal(&self, gathered: &mut Gathered<L>) -> Diary<L>
         requires { 0 < length gathered.old.diaries }
-        ensures { gathered.old ≡ record { list = gathered.new.list; diaries = result ∷ gathered.new.diaries } }
+        ensures { gathered.old
+            ≡ record { list = gathered.new.list; diaries = result ∷ gathered.new.diaries } }
     {
         let seat = self.table.shared.split_seat::<Deal>(&mut gathered.seat);
         Diary {

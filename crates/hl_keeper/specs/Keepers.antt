@@ -36,7 +36,8 @@ steps_most = 2 ^ 62
 
 -- a keeper stands at the accepted list A: its core does; A is the steps that were cut, of which its base is,
 -- and then its journal; the master's stores are those of A, so the offset words were last stored as the
--- offsets of A; the total is A's length; it counts the acquires of A, and each slot has the stamp that A gives it
+-- offsets of A; the total is A's length; it counts the acquires of A, and each slot has the stamp that A
+-- gives it
 pub record KeeperStands {F : Type 0} (keeper : KeeperState F) (A : List Step) : Type 0 where
   pub core_stands : Stands job_tag keeper.core A
   pub steps_cut : List Step

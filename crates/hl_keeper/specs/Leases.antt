@@ -6,7 +6,8 @@ pub record LeaseRecord : Type 0 where
   pub next : ℕ
   pub end : ℕ
 
--- whatever the size of a page, a record of n words at address a lies on one, if all that was left of the piece did
+-- whatever the size of a page, a record of n words at address a lies on one, if all that was left of the
+-- piece did
 abbrev pub StaysOnPage : LeaseRecord → ℕ → ℕ → Type 0
 StaysOnPage lease a n = (page_size : ℕ) → 0 < page_size
     → lease.next / page_size ≡ (lease.end - 1) / page_size → a / page_size ≡ (a + n - 1) / page_size

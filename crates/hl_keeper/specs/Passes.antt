@@ -157,8 +157,8 @@ with_rider r p = record {
   rider = r;
 }
 
--- the rider of an accepted call entered n steps more, and that of a refused one none; what it stored, loaded and
--- met stays
+-- the rider of an accepted call entered n steps more, and that of a refused one none; what it stored, loaded
+-- and met stays
 abbrev pub Shares : {X E : Type 0} → ℕ → Result X E → RiderState → RiderState → Type 0
 Shares n result old new = MatchResult result (λ _. new ≡ with_share n old) (λ _. new ≡ old)
 

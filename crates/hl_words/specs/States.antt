@@ -13,8 +13,8 @@ use Rattle.hl_words.specs.Views.{unused}
 use Rattle.hl_words.specs.Seats.{seat_of}
 use Rattle.atomic_table.specs.Table.{Me}
 
--- a rider's stores and loads, how many journal steps it entered, and its calls that met the one list, the newest
--- first
+-- a rider's stores and loads, how many journal steps it entered, and its calls that met the one list, the
+-- newest first
 pub record RiderState : Type 0 where
   pub view : RiderView
   pub share : ℕ
@@ -52,8 +52,8 @@ pub record LastState : Type 0 where
   pub cells : ℕ
   pub words : List ℕ
 
--- the sizes of a seed's allocator, how many cells and how many riders it has, with the names of its tables and
--- of its ledger
+-- the sizes of a seed's allocator, how many cells and how many riders it has, with the names of its tables
+-- and of its ledger
 pub record SeedState : Type 0 where
   pub sizes : Sizes
   pub cells : ℕ
@@ -73,7 +73,7 @@ first_rider v = slice_index_or v.riders 0 unused
 -- words more
 pub record IsTableOf (room : Room) (key : Room) (table : TableId) : Type 0 where
   pub key_is : key ≡ room
-  pub words_are : table.words ≡ room.cells + 3
+  pub words_are : table.words ≡ room.cells + 19
   pub no_slot : table.slots ≡ 0
   pub few : room.cells ≤ 2 ^ 20
   pub some : 1 ≤ room.riders
