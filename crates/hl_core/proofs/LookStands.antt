@@ -64,7 +64,7 @@ module _ {J : Type 0} (tag : J → ℕ) where
       accepted_step tag core core A s r free refl reply (views_moved core A s core.views st free d o p no_bump e l (st.views_is ∙ sym (slot_views-stay core.sizes A s e l a x y)))
 
   -- an accepted write and an accepted read
-  write_ok : (core : State J) (A : List Step) (t a v : ℕ) → Stands tag core A → fault_of core.sizes A (Write t a v) ≡ None → Stepped tag core A (Write t a v) core (Ok Written)
+  pub write_ok : (core : State J) (A : List Step) (t a v : ℕ) → Stands tag core A → fault_of core.sizes A (Write t a v) ≡ None → Stepped tag core A (Write t a v) core (Ok Written)
   write_ok core A t a v st free =
       nothing_moves core A (Write t a v) Written st free (record { takes_none = refl; ends_none = λ c. refl; stores_none = refl }) (record { done = refl; raised = refl; shifted = refl; allocated = λ x y. refl })
       (record { flush_taken = refl; flush_ended = refl; flushed = λ x. refl; clean_taken = refl; clean_ended = refl; freed = λ x. refl }) refl (λ x. refl) (λ x. refl) (λ x. refl) (λ x. refl) (λ x. refl) refl

@@ -6,13 +6,16 @@ use Rattle.std.proofs.lemmas.List.{take-append-drop, length-take-le}
 use Rattle.hl_model.specs.declared.fault.Fault.{Fault}
 use Rattle.hl_model.specs.declared.step.Reply.{Reply}
 use Rattle.hl_model.specs.declared.step.Step.{Step}
+use Rattle.hl_model.specs.declared.step.Step.TheVariants.{Write}
+use Rattle.hl_model.specs.declared.step.Reply.TheVariants.{Written}
 use Rattle.hl_model.specs.Sizes.{Sizes}
 use Rattle.hl_model.specs.Replies.{fault_of, answer_of, IsAccepted}
 use Rattle.hl_laws.proofs.AcceptedLaws.{IsAccepted-parts, IsAccepted-front, extended-none}
 use Rattle.hl_laws.proofs.NoFaultLaws.{unless_err, unless_ok}
 use Rattle.hl_core.specs.Standing.{State, Stands}
 use Rattle.hl_core.specs.Steps.{Stepped, Made}
-use Rattle.hl_keeper.specs.Entering.{MayEnter}
+use Rattle.hl_core.proofs.LookStands.{write_ok}
+use Rattle.hl_keeper.specs.Entering.{MayTake, MayEnter}
 use Rattle.hl_keeper.specs.Journals.{JournalState, full_fault, with_steps}
 use Rattle.hl_keeper.proofs.JournalLaws.{room_behind, steps_assoc}
 
@@ -40,14 +43,21 @@ module _ {J : Type 0} (tag : J → ℕ) where
     pub standing : (A : List Step) → Stands tag old A → Stands tag new (A ++ take n xs)
     pub journal_is : journal ≡ with_steps (take n xs) before
 
-  -- the next is never refused
-  pub next_taken : (old : State J) (before : JournalState) (xs : List Step) (n : ℕ) (mid : State J) (journal : JournalState) (s d : Step) (new : State J) (f : Fault) → Taken old before xs n mid journal → MayEnter tag old xs → n < length xs → s ≡ get_or xs n d → Made tag mid s new (Err f) → ⊥
-  next_taken old before xs n mid journal s d new f at may lt e made =
+  -- the next may be taken
+  pub next_free : (old : State J) (before : JournalState) (xs : List Step) (n : ℕ) (mid : State J) (journal : JournalState) (s d : Step) → Taken old before xs n mid journal → MayEnter tag old xs → n < length xs → s ≡ get_or xs n d → MayTake tag mid s
+  next_free old before xs n mid journal s d at may lt e =
       let A = may.standing.0 in
       let st : Stands tag old A = may.standing.1 in
-      let stepped : Stepped tag mid (A ++ take n xs) s new (Err f) = made (A ++ take n xs) (at.standing A st) in
-      let fine : fault_of mid.sizes (A ++ take n xs) s ≡ None = ap (λ z. fault_of z (A ++ take n xs) s) at.sizes ∙ fine_at old.sizes A n xs s d lt e (may.accepted A st) in
-      let refused : fault_of mid.sizes (A ++ take n xs) s ≡ Some f = unless_err (fault_of mid.sizes (A ++ take n xs) s) f (answer_of mid.sizes (A ++ take n xs) ((A ++ take n xs) ++ s ∷ []) s) stepped.reply in
+      (A ++ take n xs, at.standing A st, ap (λ z. fault_of z (A ++ take n xs) s) at.sizes ∙ fine_at old.sizes A n xs s d lt e (may.accepted A st))
+
+  -- a step that may be taken isn't refused
+  pub never_faulty : (old : State J) (s : Step) (new : State J) (f : Fault) → MayTake tag old s → Made tag old s new (Err f) → ⊥
+  never_faulty old s new f may made =
+      let A : List Step = may.0 in
+      let st : Stands tag old A = may.1 in
+      let fine : fault_of old.sizes A s ≡ None = may.2 in
+      let stepped : Stepped tag old A s new (Err f) = made A st in
+      let refused : fault_of old.sizes A s ≡ Some f = unless_err (fault_of old.sizes A s) f (answer_of old.sizes A (A ++ s ∷ []) s) stepped.reply in
       cc
 
   -- an accepted step takes a core on
@@ -56,12 +66,17 @@ module _ {J : Type 0} (tag : J → ℕ) where
       let both = unless_ok (fault_of old.sizes A s) r (answer_of old.sizes A (A ++ s ∷ []) s) stepped.reply in
       (both.0, both.1, subst (λ (z : List Step). Stands tag new z) (extended-none old.sizes A s both.0) stepped.standing)
 
+  -- a write leaves the core
+  pub written_on : (core : State J) (t a v : ℕ) (A : List Step) → Stands tag core A → fault_of core.sizes A (Write t a v) ≡ None → Stands tag core (A ++ Write t a v ∷ [])
+  written_on core t a v A st free = (stepped_on core A (Write t a v) core Written (write_ok tag core A t a v st free)).2
+
   -- the next was taken
-  pub taken_next : (old : State J) (before : JournalState) (xs : List Step) (n : ℕ) (mid : State J) (journal : JournalState) (s d : Step) (new : State J) (r : Reply) (longer : JournalState) → Taken old before xs n mid journal → n < length xs → s ≡ get_or xs n d → Made tag mid s new (Ok r) → new.sizes ≡ mid.sizes → new.drain.pending ≡ mid.drain.pending → longer ≡ with_steps (s ∷ []) journal → Taken old before xs (n + 1) new longer
-  taken_next old before xs n mid journal s d new r longer at lt e made same jobs j = record {
+  pub taken_next : (old : State J) (before : JournalState) (xs : List Step) (n : ℕ) (mid : State J) (journal : JournalState) (s d : Step) (new : State J) (longer : JournalState) → Taken old before xs n mid journal → MayEnter tag old xs → n < length xs → s ≡ get_or xs n d
+      → ((A : List Step) → Stands tag mid A → fault_of mid.sizes A s ≡ None → Stands tag new (A ++ s ∷ [])) → new.sizes ≡ mid.sizes → new.drain.pending ≡ mid.drain.pending → longer ≡ with_steps (s ∷ []) journal → Taken old before xs (n + 1) new longer
+  taken_next old before xs n mid journal s d new longer at may lt e made same jobs j = record {
     sizes = same ∙ at.sizes;
     jobs = jobs ∙ at.jobs;
-    standing = λ A st. subst (λ (z : List Step). Stands tag new z) (next_list A n xs s d lt e) (stepped_on mid (A ++ take n xs) s new r (made (A ++ take n xs) (at.standing A st))).2;
+    standing = λ A st. subst (λ (z : List Step). Stands tag new z) (next_list A n xs s d lt e) (made (A ++ take n xs) (at.standing A st) (ap (λ z. fault_of z (A ++ take n xs) s) at.sizes ∙ fine_at old.sizes A n xs s d lt e (may.accepted A st)));
     journal_is = j ∙ ap (with_steps (s ∷ [])) at.journal_is ∙ steps_assoc before (take n xs) (s ∷ []) ∙ ap (λ z. with_steps z before) (sym (take_next n xs s d lt e));
   }
 

@@ -1,6 +1,6 @@
 -- A pass's touches and its own step behind them, made by a keeper.
-use Rattle.std.proofs.Common.{◌≡◌, ℕ, ◌+◌, ◌^◌, ◌<◌, ◌≤◌, true, false, cond, is_none, List, [], ◌∷◌, ◌++◌, length, get_or, refl, sym, ap, ◌∙◌, subst, arith, append_assoc}
-use Rattle.std.specs.Prelude.{Option, Some, None, Ok, Err}
+use Rattle.std.proofs.Common.{◌≡◌, ℕ, ◌+◌, ◌^◌, ◌<◌, ◌≤◌, true, false, cond, is_none, List, [], ◌∷◌, ◌++◌, length, get_or, refl, sym, ap, ◌∙◌, subst, arith, append_assoc, append-nil}
+use Rattle.std.specs.Prelude.{Option, Some, None, Result, Ok, Err}
 use Rattle.std.proofs.lemmas.List.{length_push}
 use Rattle.hl_model.specs.declared.fault.Fault.{Fault}
 use Rattle.hl_model.specs.declared.step.Reply.{Reply}
@@ -18,12 +18,12 @@ use Rattle.hl_action.specs.Jobs.{KeptRecord}
 use Rattle.hl_words.specs.States.{MasterState}
 use Rattle.hl_words.specs.Views.{newest}
 use Rattle.hl_core.specs.Standing.{State, Stands}
-use Rattle.hl_core.specs.Steps.{Stepped}
+use Rattle.hl_core.specs.Steps.{Stepped, is_acted}
 use Rattle.hl_keeper.specs.Touches.{AreTouches, is_call}
 use Rattle.hl_keeper.specs.Passes.{PassRecord}
 use Rattle.hl_keeper.specs.Journals.{JournalState, journal_of, full_fault, with_steps}
 use Rattle.hl_keeper.specs.Keepers.{job_tag, KeeperState, KeeperStands, IsKeeper}
-use Rattle.hl_keeper.specs.Calls.{room_fault, touched_fault, entered, Knows, Called}
+use Rattle.hl_keeper.specs.Calls.{room_fault, step_fault, touched_fault, entered, made, Knows, Called, Replied, Makes}
 use Rattle.hl_keeper.specs.Entering.{MayEnter}
 use Rattle.hl_keeper.specs.Stamps.{is_acquire, acquires_in, slot_stamps}
 use Rattle.hl_keeper.proofs.TouchLaws.{viewed_slot, touches_accepted, touches_leave_faults, touches_leave_offsets, touches_leave_stores, touches_act}
@@ -35,11 +35,23 @@ use Rattle.hl_keeper.proofs.KeeperLaws.{moved, Stamped, grown, room-none, counte
 use Rattle.hl_keeper.proofs.StampLaws.{acquires_in-stay, slot_stamps-stay, call_acquires, touches_leave_stamps}
 
 -- a pass's own step moves no offset that the words show, and ends no epoch
-call_raises : (s : Step) → is_call s ≡ true → (raised_to s ≡ 0) × (shifted_to s ≡ 0) × (is_bump s ≡ false)
+pub call_raises : (s : Step) → is_call s ≡ true → (raised_to s ≡ 0) × (shifted_to s ≡ 0) × (is_bump s ≡ false)
 call_raises (Refresh t) h = (refl, refl, refl)
 call_raises (Release t) h = (refl, refl, refl)
 call_raises (Allocate t n) h = (refl, refl, refl)
 call_raises _ h = cc
+
+-- where they are 0, there are none
+pub no_touches : (xs : List Step) (n : ℕ) → n ≡ length xs → n ≡ 0 → xs ≡ []
+no_touches [] n e none = refl
+no_touches (x ∷ xs) n e none = cc
+
+-- and takes no job in or out
+pub call_acts : (s : Step) → is_call s ≡ true → is_acted s ≡ true
+call_acts (Refresh t) h = refl
+call_acts (Release t) h = refl
+call_acts (Allocate t n) h = refl
+call_acts _ h = cc
 
 module _ {F : Type 0} where
   -- a keeper after a refused call
@@ -48,6 +60,28 @@ module _ {F : Type 0} where
     reply = sym (ap (λ o. unless_fault o (answer_of keeper.core.sizes (A ++ p.touches) ((A ++ p.touches) ++ s ∷ []) s)) h);
     standing = subst (λ (z : List Step). KeeperStands keeper z) (sym (ap (λ o. cond (is_none o) ((A ++ p.touches) ++ s ∷ []) A) h)) st;
   }
+
+  -- where there are no touches, a call is a rider's step
+  alone : (keeper : KeeperState F) (p : PassRecord) (s : Step) → p.touches ≡ [] → (A : List Step) → touched_fault keeper A p s ≡ step_fault keeper A s
+  unfolding touched_fault step_fault
+  alone keeper p s none A =
+      ap (λ (ts : List Step). or_fault (room_fault keeper (length ts + 1)) (fault_of keeper.core.sizes (A ++ ts) s)) none
+      ∙ ap (λ (z : List Step). or_fault (room_fault keeper 1) (fault_of keeper.core.sizes z s)) (append-nil A)
+
+  pub called_alone : (keeper new : KeeperState F) (p : PassRecord) (s : Step) (result : Result Reply Fault) → p.touches ≡ [] → Makes keeper s (λ A. answer_of keeper.core.sizes A (A ++ s ∷ []) s) new result → (A : List Step) → KeeperStands keeper A → Called keeper A p s new result
+  called_alone keeper new p s result none makes A st = record {
+    reply = at.reply ∙ ap (λ o. unless_fault o (answer_of keeper.core.sizes A (A ++ s ∷ []) s)) (sym same) ∙ ap (λ (z : List Step). unless_fault (touched_fault keeper A p s) (answer_of keeper.core.sizes z (z ++ s ∷ []) s)) (sym list);
+    standing = subst (λ o. KeeperStands new (cond (is_none o) ((A ++ p.touches) ++ s ∷ []) A)) (sym same) (subst (λ (z : List Step). KeeperStands new (cond (is_none (step_fault keeper A s)) (z ++ s ∷ []) A)) (sym list) at.standing);
+  }
+    where
+      at : Replied (step_fault keeper A s) (answer_of keeper.core.sizes A (A ++ s ∷ []) s) (made (step_fault keeper A s) A s) new result
+      at = makes A st
+
+      list : A ++ p.touches ≡ A
+      list = ap (λ (ts : List Step). A ++ ts) none ∙ append-nil A
+
+      same : touched_fault keeper A p s ≡ step_fault keeper A s
+      same = alone keeper p s none A
 
   -- the fault of the room comes first
   pub called_full : (keeper : KeeperState F) (p : PassRecord) (s : Step) (count : ℕ) (f : Fault) → count ≡ length p.touches → Err f ≡ unless_fault (room_fault keeper (count + 1)) (tt {0}) → (A : List Step) → KeeperStands keeper A → Called keeper A p s keeper (Err f)

@@ -21,6 +21,7 @@ impl<E: Epochs + Drop, F: Task, P: Promise, L: Realm> Keeper<E, F, P, L> {
     /// Whether the pass is the one to which its slot belongs.
     ///
     /// `Stranger`, with the slot's stamp, if it isn't.
+    #[inline(always)]
     pub(crate) fn known(&self, pass: &Pass<L>) -> Result<(), Fault>
         ensures { (A : List STEP) → KeeperStands self.now A
             → result ≡ unless_fault (stranger_fault self.now A pass.now) tt }
@@ -38,6 +39,7 @@ impl<E: Epochs + Drop, F: Task, P: Promise, L: Realm> Keeper<E, F, P, L> {
     /// one.
     ///
     /// `Stranger`, with the slot's stamp, if not both hold.
+    #[inline(always)]
     pub(crate) fn known_behind(&self, pass: &Pass<L>) -> Result<(), Fault>
         ensures { (A : List STEP) → KeeperStands self.now A
             → result ≡ unless_fault (ahead_fault self.now A pass.now) tt }
@@ -54,6 +56,7 @@ impl<E: Epochs + Drop, F: Task, P: Promise, L: Realm> Keeper<E, F, P, L> {
 
     /// Makes the touches of a pass that is known, and the call's own step behind them. The pass
     /// keeps its touches: the caller rests it. If the call is refused, nothing is changed.
+    #[inline(always)]
     pub(crate) fn call(&mut self, pass: &mut Pass<L>, step: &Step) -> Result<Reply, Fault>
         requires kind { is_call step.now ≡ true }
         requires known { Knows self.old pass.old }
@@ -64,10 +67,15 @@ impl<E: Epochs + Drop, F: Task, P: Promise, L: Realm> Keeper<E, F, P, L> {
         ensures pass { MatchResult result (λ _. pass.new ≡ entered_by pass.old) (λ _. pass.new ≡ pass.old) }
         ensures valid { IsKeeper self.old }
     {
-        let count = pass.touches.len() as u64 + 1;
+        let touches = pass.touches.len() as u64;
+        if touches == 0 {
+            // The core judges the step as it makes it: once is enough.
+            return self.one(&mut pass.rider, step);
+        }
+        let count = touches + 1;
         self.room(count)?;
         self.core.check(step)?;
-        enter_steps(&mut self.core, &mut self.journal, &pass.touches);
+        enter_steps(&mut self.core, &mut self.journal, pass.touches.as_slice());
         match self.core.act(step) {
             Ok(reply) => {
                 self.journal.note(*step);
@@ -79,12 +87,14 @@ impl<E: Epochs + Drop, F: Task, P: Promise, L: Realm> Keeper<E, F, P, L> {
         }
     }
 
+    #[inline(always)]
     fn is_known(&self, pass: &Pass<L>) -> bool
         ensures { (A : List STEP) → KeeperStands self.now A → result ≡ is_known self.now A pass.now }
     {
         has_view(self.core.view(pass.slot), pass.held) && self.stamp_at(pass.slot) == pass.stamp
     }
 
+    #[inline(always)]
     fn is_behind(&self, pass: &Pass<L>) -> bool
         ensures { (A : List STEP) → KeeperStands self.now A → result ≡ is_behind A pass.now }
     {
@@ -93,6 +103,7 @@ impl<E: Epochs + Drop, F: Task, P: Promise, L: Realm> Keeper<E, F, P, L> {
     }
 
     /// The stamp of a slot, or 0 if it is empty.
+    #[inline(always)]
     fn stamp_at(&self, t: u64) -> u64
         ensures { (A : List STEP) → KeeperStands self.now A → result ≡ stamp_at self.now A t }
     {
@@ -118,6 +129,7 @@ impl<E: Epochs + Drop, F: Task, P: Promise, L: Realm> Keeper<E, F, P, L> {
     /// Whether the journal has room for this many steps more.
     ///
     /// `JournalFull` if it hasn't.
+    #[inline(always)]
     pub(crate) fn room(&self, count: u64) -> Result<(), Fault>
         requires { count ≤ 33 }
         ensures { result ≡ unless_fault (room_fault self.now count) tt }
@@ -127,6 +139,7 @@ impl<E: Epochs + Drop, F: Task, P: Promise, L: Realm> Keeper<E, F, P, L> {
 }
 
 /// Puts a step behind the journal, and counts it for a rider.
+#[inline(always)]
 pub(crate) fn note<L: Realm>(
     journal: &mut Journal,
     master: &mut Master<L>,
@@ -144,6 +157,7 @@ pub(crate) fn note<L: Realm>(
 }
 
 // Whether a slot has this view.
+#[inline(always)]
 fn has_view(view: Option<View>, held: View) -> bool
     ensures { result ≡ has_view view held }
 {
@@ -156,6 +170,7 @@ fn has_view(view: Option<View>, held: View) -> bool
 }
 
 // What the row of stamps has for a slot.
+#[inline(always)]
 fn stamp_of(stamps: &[u64], t: u64) -> u64
     ensures { result ≡ slice_index_or stamps.now t 0 }
 {

@@ -65,6 +65,7 @@ impl Journal {
     /// Whether there is room for this many steps more.
     ///
     /// `JournalFull` if there isn't.
+    #[inline(always)]
     pub(crate) fn room(&self, count: u64) -> Result<(), Fault>
         requires { count ≤ 33 }
         ensures { result ≡ unless_fault (full_fault self.now count) tt }
@@ -75,6 +76,7 @@ impl Journal {
         Ok(())
     }
 
+    #[inline(always)]
     fn is_full_at(&self, count: u64) -> bool
         requires { count ≤ 33 }
         ensures { let kept = length self.now.steps
@@ -86,6 +88,7 @@ impl Journal {
     }
 
     /// Puts a step behind the others.
+    #[inline(always)]
     pub(crate) fn note(&mut self, step: Step)
         requires { full_fault self.old 1 ≡ None }
         ensures { self.new ≡ with_steps (step ∷ []) self.old }

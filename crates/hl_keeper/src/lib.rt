@@ -62,6 +62,7 @@ mod queries;
 mod rider;
 mod slots;
 mod sweep;
+mod touches;
 pub mod unlocked;
 pub mod worked;
 

@@ -3,7 +3,8 @@ ghost use Rattle.std.specs.Prelude.{◌≡◌, ◌*◌, ◌<◌, ◌||◌, nat_l
 ghost use Rattle.hl_model.specs.Replies.{unless_fault, unless_refused};
 ghost use Rattle.hl_keeper.specs.Passes.{PassRecord, seen, touches_most, touch_fault, store_fault, load_fault, with_look, with_store, with_load, last_read_only, last_head, LooksOn};
 
-use crate::pass::{Pass, TOUCHES_MOST};
+use crate::pass::Pass;
+use crate::touches::TOUCHES_MOST;
 use hl_model::{Fault, Params, Step, View, cell_of};
 use hl_words::{Realm, Which, Words};
 

@@ -4,7 +4,8 @@ ghost use Rattle.hl_words.specs.declared.which.Which.TheVariants.{Ended};
 ghost use Rattle.hl_words.specs.Views.{greatest_of};
 ghost use Rattle.hl_keeper.specs.Passes.{is_current, with_news, last_read_only, last_head, last_ended, LooksOn};
 
-use crate::pass::{Pass, TOUCHES_MOST};
+use crate::pass::Pass;
+use crate::touches::TOUCHES_MOST;
 use hl_words::{Realm, Which, Words};
 
 /// Loads both offset words and the word of the last epoch that ended. Returns whether none is new

@@ -1,13 +1,10 @@
 ghost use Rattle.std.specs.Prelude.{◌≡◌, []};
 ghost use Rattle.hl_keeper.specs.Passes.{seen, new_pass};
 
-use arrayvec::ArrayVec;
-use hl_model::{Slot, Step, View};
+use crate::touches::Touches;
+use hl_model::{Slot, View};
 use hl_words::{Realm, Rider};
 use std::marker::Model;
-
-/// How many touches a pass can have.
-pub(crate) const TOUCHES_MOST: usize = 32;
 
 /// The right of a rider to act for the slot that it acquired: to look at the offsets, and to store and load
 /// words, with no lock. What it did since its last locked call, its touches, enters the journal at the next.
@@ -20,7 +17,7 @@ pub struct Pass<L: Realm> {
     // The slot's view at the last locked call, and what the pass has seen since.
     pub(crate) held: View,
     pub(crate) view: View,
-    pub(crate) touches: ArrayVec<Step, TOUCHES_MOST>,
+    pub(crate) touches: Touches,
     pub(crate) rider: Rider<L>,
 }
 
@@ -36,12 +33,12 @@ impl<L: Realm> Model for Pass<L> {
       stamp = p.stamp;
       epoch = p.epoch;
       held = p.held;
-      touches = p.touches.items;
+      touches = p.touches;
       rider = p.rider;
     } };
 
-    ghost invariant = { λ p. (p.view ≡ view_after p.held p.touches.items)
-        × AreTouches p.slot p.held p.touches.items };
+    ghost invariant = { λ p. (p.view ≡ view_after p.held p.touches)
+        × AreTouches p.slot p.held p.touches };
 }
 
 impl<L: Realm> Pass<L> {
@@ -58,12 +55,13 @@ impl<L: Realm> Pass<L> {
             epoch: slot.epoch,
             held: slot.view,
             view: slot.view,
-            touches: ArrayVec::new(),
+            touches: Touches::new(),
             rider,
         }
     }
 
     /// Replaces its epoch and its view by these, and drops its touches, which have entered the journal.
+    #[inline(always)]
     pub(crate) fn rest(&mut self, epoch: u64, view: View)
         ensures { let old = self.old
             in self.new ≡ record {

@@ -20,6 +20,7 @@ use hl_words::{Realm, Rider, Which, Words};
 
 impl<E: Epochs + Drop, F: Task, P: Promise, L: Realm> Keeper<E, F, P, L> {
     /// Makes one step, which stores none of the master's words, stamps no slot, and takes no job in or out.
+    #[inline(always)]
     pub(crate) fn one(&mut self, rider: &mut Rider<L>, step: &Step) -> Result<Reply, Fault>
         requires acted { is_acted step.now ≡ true }
         requires quiet { (raised_to step.now ≡ 0) × (shifted_to step.now ≡ 0) × (is_bump step.now ≡ false) }

@@ -21,6 +21,7 @@ impl<E: Epochs + Drop, F: Task, P: Promise, L: Realm> Keeper<E, F, P, L> {
     ///
     /// Faults: `Stranger` if the slot isn't the pass's, or the pass saw an offset above the present
     /// one; `JournalFull`.
+    #[inline(always)]
     pub fn refresh(&mut self, _words: &Words<L>, pass: &mut Pass<L>) -> Result<View, Fault>
         ensures made { let old = self.old
             in let p = pass.old
@@ -76,6 +77,7 @@ impl<E: Epochs + Drop, F: Task, P: Promise, L: Realm> Keeper<E, F, P, L> {
     ///
     /// Faults: `Stranger` if the slot isn't the pass's, `JournalFull`, `Size`, `SpaceSpent`,
     /// `Busy`.
+    #[inline(always)]
     pub fn allocate(&mut self, _words: &Words<L>, pass: &mut Pass<L>, n: u64) -> Result<u64, Fault>
         ensures made { let sizes = self.old.core.sizes
             in let p = pass.old

@@ -6,5 +6,5 @@ use Rattle.hl_keeper.proofs.look.load.Goals as goal
 pub returns-clause-pass : goal.returns-clause-pass
 returns-clause-pass g c =
     let i = c.pass.inside in
-    load_is c.args.params c.args.a c.load_cell.result (record { slot = i.slot; stamp = i.stamp; epoch = i.epoch; held = i.held; touches = i.touches.items; rider = i.rider }) c.cell_of-cell.result c.load_cell.new.rider c.cell_of-cell.ensures.value c.load_cell.ensures
+    load_is c.args.params c.args.a c.load_cell.result (record { slot = i.slot; stamp = i.stamp; epoch = i.epoch; held = i.held; touches = i.touches; rider = i.rider }) c.cell_of-cell.result c.load_cell.new.rider c.cell_of-cell.ensures.value c.load_cell.ensures
     ∙ ap (with_load c.args.params c.args.a c.load_cell.result) c.pass.view_is

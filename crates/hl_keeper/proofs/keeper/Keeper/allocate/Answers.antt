@@ -38,7 +38,7 @@ placed g c =
     let k = c.args.self.now in
     let A = c.in_ok-address.ensures.valid.0 in
     let st = c.in_ok-address.ensures.valid.1 in
-    let p : PassRecord = (record { slot = c.pass.inside.slot; stamp = c.pass.inside.stamp; epoch = c.pass.inside.epoch; held = c.pass.inside.held; touches = c.pass.inside.touches.items; rider = c.pass.inside.rider }) in
+    let p : PassRecord = (record { slot = c.pass.inside.slot; stamp = c.pass.inside.stamp; epoch = c.pass.inside.epoch; held = c.pass.inside.held; touches = c.pass.inside.touches; rider = c.pass.inside.rider }) in
     let made = rw (sym c.pass.view_is) at c.in_ok-address.ensures.made in
     let known = rw (sym c.pass.view_is) at c.in_ok-known.ensures in
     rw (sym c.pass.view_is) (allocate_placed k A p c.args.n c.call.new.self c.in_ok-address.field-0 c.in-At.address st (knows k p c.in_ok-known.field-0 known) c.pass.invariant.1 (made A st) c.in-At.is)

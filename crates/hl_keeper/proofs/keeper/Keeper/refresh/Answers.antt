@@ -55,7 +55,7 @@ returns-clause-fresh g c =
     let k = c.args.self.now in
     let A = c.in_ok-epoch.ensures.valid.0 in
     let st = c.in_ok-epoch.ensures.valid.1 in
-    let p : PassRecord = (record { slot = c.pass.inside.slot; stamp = c.pass.inside.stamp; epoch = c.pass.inside.epoch; held = c.pass.inside.held; touches = c.pass.inside.touches.items; rider = c.pass.inside.rider }) in
+    let p : PassRecord = (record { slot = c.pass.inside.slot; stamp = c.pass.inside.stamp; epoch = c.pass.inside.epoch; held = c.pass.inside.held; touches = c.pass.inside.touches; rider = c.pass.inside.rider }) in
     let made = rw (sym c.pass.view_is) at c.in_ok-epoch.ensures.made in
     let known = rw (sym c.pass.view_is) at c.in_ok-known_behind.ensures in
     rw (sym c.pass.view_is) (refresh_fresh k A p c.in_ok-known_behind.field-0 c.in-Entered.view st (knows_behind k p c.in_ok-known_behind.field-0 known) c.pass.invariant.1 (known A st)

@@ -14,11 +14,11 @@ returns-else-head-self g c =
 pub returns-else-ended-self : goal.returns-else-ended-self
 returns-else-ended-self g c =
     let i = c.self.inside in
-    let p : PassRecord = record { slot = i.slot; stamp = i.stamp; epoch = i.epoch; held = i.held; touches = i.touches.items; rider = i.rider } in
+    let p : PassRecord = record { slot = i.slot; stamp = i.stamp; epoch = i.epoch; held = i.held; touches = i.touches; rider = i.rider } in
     rw (sym c.self.view_is) (current_ended p c.args.read_only c.args.head c.args.ended i.view c.self.invariant.0 c.if-read_only-self.true c.if-head-self.true c.if-ended-self.false)
 
 pub returns-then-ended-self : goal.returns-then-ended-self
 returns-then-ended-self g c =
     let i = c.self.inside in
-    let p : PassRecord = record { slot = i.slot; stamp = i.stamp; epoch = i.epoch; held = i.held; touches = i.touches.items; rider = i.rider } in
+    let p : PassRecord = record { slot = i.slot; stamp = i.stamp; epoch = i.epoch; held = i.held; touches = i.touches; rider = i.rider } in
     rw (sym c.self.view_is) (current_room p c.args.read_only c.args.head c.args.ended i.view c.self.invariant.0 c.if-read_only-self.true c.if-head-self.true c.if-ended-self.true c.len.result c.len.ensures.value)

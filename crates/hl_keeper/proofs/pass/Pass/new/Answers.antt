@@ -9,4 +9,4 @@ unfolding view_after AreTouches
 none t v xs e = subst (λ (z : List Step). (v ≡ view_after v z) × AreTouches t v z) (sym e) (refl, tt)
 
 pub invariant_of-result : goal.invariant_of-result
-invariant_of-result g c = none c.args.t c.args.slot.view c.new.result.items c.new.ensures
+invariant_of-result g c = none c.args.t c.args.slot.view c.new.result c.new.ensures

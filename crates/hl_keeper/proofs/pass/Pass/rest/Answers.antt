@@ -9,4 +9,4 @@ unfolding view_after AreTouches
 none t v xs e = subst (λ (z : List Step). (v ≡ view_after v z) × AreTouches t v z) (sym e) (refl, tt)
 
 pub invariant_of-self : goal.invariant_of-self
-invariant_of-self g c = none c.self.inside.slot c.args.view c.clear.new.self.items c.clear.ensures
+invariant_of-self g c = none c.self.inside.slot c.args.view c.clear.new.self c.clear.ensures
