@@ -15,6 +15,7 @@ mod slots;
 mod words;
 
 use crate::domain::held::Held;
+use crossbeam_utils::CachePadded;
 use hl_action::{Promise, Task};
 use hl_epoch::Epochs;
 use hl_keeper::{Ending, Keeper};
@@ -28,7 +29,8 @@ use std::sync::{Mutex, MutexGuard, Wait};
 /// words beside it. What its contracts see are its sizes, its stamp, how many steps
 /// it may keep between two cuts, and how many riders it has.
 pub struct Domain<E: Epochs, F: Task, P: Promise, L: Realm> {
-    held: Mutex<Held<E, F, P, L>>,
+    // Padded, so that no line of a cache has the lock, or what threads change under it, beside what calls without it read.
+    held: CachePadded<Mutex<Held<E, F, P, L>>>,
     words: Words<L>,
     params: Params,
     stamp: u64,
@@ -89,7 +91,7 @@ impl<E: Epochs + Drop, F: Task, P: Promise, L: Realm> Domain<E, F, P, L> {
             alloc, seed, journal, stamp,
         )?;
         let domain = Domain {
-            held: Mutex::new(Held { keeper, scribe }),
+            held: CachePadded::new(Mutex::new(Held { keeper, scribe })),
             words,
             params,
             stamp,
@@ -118,12 +120,12 @@ impl<E: Epochs + Drop, F: Task, P: Promise, L: Realm> Domain<E, F, P, L> {
             params,
             stamp,
         } = self;
-        let (keeper, scribe) = held.into_inner().into_parts();
+        let (keeper, scribe) = held.into_inner().into_inner().into_parts();
         match keeper.close_with_scribe(words, scribe, riders) {
             Ok(ending) => Ok(ending),
             Err((keeper, words, scribe, riders)) => {
                 let domain = Domain {
-                    held: Mutex::new(Held { keeper, scribe }),
+                    held: CachePadded::new(Mutex::new(Held { keeper, scribe })),
                     words,
                     params,
                     stamp,

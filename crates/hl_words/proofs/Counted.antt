@@ -62,9 +62,9 @@ store_rises (y ∷ before) x le h (suc i) (suc j) d lt within = h i j d (omega a
 pub record IsCounted (cells : ℕ) (words : List ℕ) (last : OffsetWords) (riders : List RiderView) : Type 0 where
   pub cell : (c : ℕ) → c < cells → Cell riders c (slice_index words c)
   pub load : Every (λ r. IsLawful (More riders r) r.touches) riders
-  pub read_only : slice_index words cells ≡ newest last.read_only
-  pub head : slice_index words (cells + 1) ≡ newest last.head
-  pub ended : slice_index words (cells + 2) ≡ newest last.ended
+  pub read_only : slice_index words (cells + 8) ≡ newest last.read_only
+  pub head : slice_index words (cells + 9) ≡ newest last.head
+  pub ended : slice_index words (cells + 10) ≡ newest last.ended
   pub never_falls : NeverFalls last.read_only × NeverFalls last.head × NeverFalls last.ended
   pub offset : Every (Below last) riders
 
@@ -140,7 +140,7 @@ module _ (front : List RiderView) (r : RiderView) (back : List RiderView) where
       → ((c v : ℕ) → stores c v r.touches ≤ stores c v q.touches)
       → ((c : ℕ) → c < cells → Cell (front ++ q ∷ back) c (slice_index after c))
       → IsLawful (More (front ++ q ∷ back) q) q.touches
-      → (slice_index after cells ≡ slice_index words cells) → (slice_index after (cells + 1) ≡ slice_index words (cells + 1)) → (slice_index after (cells + 2) ≡ slice_index words (cells + 2))
+      → (slice_index after (cells + 8) ≡ slice_index words (cells + 8)) → (slice_index after (cells + 9) ≡ slice_index words (cells + 9)) → (slice_index after (cells + 10) ≡ slice_index words (cells + 10))
       → Below last q
       → IsCounted cells after last (front ++ q ∷ back)
   changed cells words after last q h grows cell load read_only head ended below =
@@ -210,7 +210,7 @@ module _ (front : List RiderView) (r : RiderView) (back : List RiderView) where
           (some_parts (λ (p : RiderView). last_store c p.touches ≡ Some w) front (r ∷ back) s)
 
   -- a rider that stored v into the cell c, and is else as it was, leaves each cell's rule
-  put_cell : (cells : ℕ) (words : List ℕ) (last : OffsetWords) (c v : ℕ) → c < cells → length words ≡ cells + 3 → IsCounted cells words last (front ++ r ∷ back)
+  put_cell : (cells : ℕ) (words : List ℕ) (last : OffsetWords) (c v : ℕ) → c < cells → length words ≡ cells + 19 → IsCounted cells words last (front ++ r ∷ back)
       → (q : RiderView) → ((d : ℕ) → last_store d q.touches ≡ (if c == d then Some v else last_store d r.touches)) → (d : ℕ) → d < cells → Cell (front ++ q ∷ back) d (slice_index (set words c v) d)
   put_cell cells words last c v less width h q is d below =
       ⊎_elim
@@ -226,7 +226,7 @@ module _ (front : List RiderView) (r : RiderView) (back : List RiderView) where
   grown false n = omega arith
 
   -- a store into a cell
-  pub after_store : (cells : ℕ) (words : List ℕ) (last : OffsetWords) (c v : ℕ) → c < cells → length words ≡ cells + 3
+  pub after_store : (cells : ℕ) (words : List ℕ) (last : OffsetWords) (c v : ℕ) → c < cells → length words ≡ cells + 19
       → IsCounted cells words last (front ++ r ∷ back) → IsCounted cells (set words c v) last (front ++ touched (Stored c v) r ∷ back)
   after_store cells words last c v less width h =
       let q = touched (Stored c v) r in
@@ -234,13 +234,13 @@ module _ (front : List RiderView) (r : RiderView) (back : List RiderView) where
       changed cells words (set words c v) last q h grows
       (put_cell cells words last c v less width h q (λ d. refl))
       (own_lawful cells words last q h grows)
-      (get_or-set_other words c cells v 0 (λ e. omega arith))
-      (get_or-set_other words c (cells + 1) v 0 (λ e. omega arith))
-      (get_or-set_other words c (cells + 2) v 0 (λ e. omega arith))
+      (get_or-set_other words c (cells + 8) v 0 (λ e. omega arith))
+      (get_or-set_other words c (cells + 9) v 0 (λ e. omega arith))
+      (get_or-set_other words c (cells + 10) v 0 (λ e. omega arith))
       (every_back (Below last) front (r ∷ back) h.offset).0
 
   -- a cell found, and changed in the same step
-  pub after_change : (cells : ℕ) (words : List ℕ) (last : OffsetWords) (c v : ℕ) → c < cells → length words ≡ cells + 3
+  pub after_change : (cells : ℕ) (words : List ℕ) (last : OffsetWords) (c v : ℕ) → c < cells → length words ≡ cells + 19
       → IsCounted cells words last (front ++ r ∷ back) → IsCounted cells (set words c v) last (front ++ touched (Changed c (slice_index words c) v) r ∷ back)
   after_change cells words last c v less width h =
       let w = slice_index words c in
@@ -251,9 +251,9 @@ module _ (front : List RiderView) (r : RiderView) (back : List RiderView) where
       changed cells words (set words c v) last q h grows
       (put_cell cells words last c v less width h q (λ d. refl))
       (⊎_elim (λ a. inl a) (λ b. inr (⊎_elim (λ m. inl (more m)) (λ z. inr z) b)) (found_lawful cells words last c less h), own_lawful cells words last q h grows)
-      (get_or-set_other words c cells v 0 (λ e. omega arith))
-      (get_or-set_other words c (cells + 1) v 0 (λ e. omega arith))
-      (get_or-set_other words c (cells + 2) v 0 (λ e. omega arith))
+      (get_or-set_other words c (cells + 8) v 0 (λ e. omega arith))
+      (get_or-set_other words c (cells + 9) v 0 (λ e. omega arith))
+      (get_or-set_other words c (cells + 10) v 0 (λ e. omega arith))
       (every_back (Below last) front (r ∷ back) h.offset).0
 
   -- a load of a cell
@@ -299,35 +299,35 @@ found_offset Head cells words last riders h = h.head
 found_offset Ended cells words last riders h = h.ended
 
 -- a store of an offset word that does not fall
-pub after_set : (which : Which) (cells : ℕ) (words : List ℕ) (last : OffsetWords) (riders : List RiderView) (x : ℕ) → length words ≡ cells + 3 → offset_of which last ≤ x
+pub after_set : (which : Which) (cells : ℕ) (words : List ℕ) (last : OffsetWords) (riders : List RiderView) (x : ℕ) → length words ≡ cells + 19 → offset_of which last ≤ x
     → IsCounted cells words last riders → IsCounted cells (set words (place_of which cells) x) (with_offset which x last) riders
 after_set ReadOnly cells words last riders x width le h =
     record {
-      cell = λ c less. subst (Cell riders c) (sym (get_or-set_other words cells c x 0 (λ e. omega arith))) (h.cell c less);
+      cell = λ c less. subst (Cell riders c) (sym (get_or-set_other words (cells + 8) c x 0 (λ e. omega arith))) (h.cell c less);
       load = h.load;
-      read_only = get_or-set_same words cells x 0 (omega arith);
-      head = get_or-set_other words cells (cells + 1) x 0 (λ e. omega arith) ∙ h.head;
-      ended = get_or-set_other words cells (cells + 2) x 0 (λ e. omega arith) ∙ h.ended;
+      read_only = get_or-set_same words (cells + 8) x 0 (omega arith);
+      head = get_or-set_other words (cells + 8) (cells + 9) x 0 (λ e. omega arith) ∙ h.head;
+      ended = get_or-set_other words (cells + 8) (cells + 10) x 0 (λ e. omega arith) ∙ h.ended;
       never_falls = (store_rises last.read_only x le h.never_falls.0, h.never_falls.1, h.never_falls.2);
       offset = every_weaker (Below last) (Below (with_offset ReadOnly x last)) riders (λ r b. (store_more last.read_only r.offsets.read_only x le b.0, b.1, b.2)) h.offset;
     }
 after_set Head cells words last riders x width le h =
     record {
-      cell = λ c less. subst (Cell riders c) (sym (get_or-set_other words (cells + 1) c x 0 (λ e. omega arith))) (h.cell c less);
+      cell = λ c less. subst (Cell riders c) (sym (get_or-set_other words (cells + 9) c x 0 (λ e. omega arith))) (h.cell c less);
       load = h.load;
-      read_only = get_or-set_other words (cells + 1) cells x 0 (λ e. omega arith) ∙ h.read_only;
-      head = get_or-set_same words (cells + 1) x 0 (omega arith);
-      ended = get_or-set_other words (cells + 1) (cells + 2) x 0 (λ e. omega arith) ∙ h.ended;
+      read_only = get_or-set_other words (cells + 9) (cells + 8) x 0 (λ e. omega arith) ∙ h.read_only;
+      head = get_or-set_same words (cells + 9) x 0 (omega arith);
+      ended = get_or-set_other words (cells + 9) (cells + 10) x 0 (λ e. omega arith) ∙ h.ended;
       never_falls = (h.never_falls.0, store_rises last.head x le h.never_falls.1, h.never_falls.2);
       offset = every_weaker (Below last) (Below (with_offset Head x last)) riders (λ r b. (b.0, store_more last.head r.offsets.head x le b.1, b.2)) h.offset;
     }
 after_set Ended cells words last riders x width le h =
     record {
-      cell = λ c less. subst (Cell riders c) (sym (get_or-set_other words (cells + 2) c x 0 (λ e. omega arith))) (h.cell c less);
+      cell = λ c less. subst (Cell riders c) (sym (get_or-set_other words (cells + 10) c x 0 (λ e. omega arith))) (h.cell c less);
       load = h.load;
-      read_only = get_or-set_other words (cells + 2) cells x 0 (λ e. omega arith) ∙ h.read_only;
-      head = get_or-set_other words (cells + 2) (cells + 1) x 0 (λ e. omega arith) ∙ h.head;
-      ended = get_or-set_same words (cells + 2) x 0 (omega arith);
+      read_only = get_or-set_other words (cells + 10) (cells + 8) x 0 (λ e. omega arith) ∙ h.read_only;
+      head = get_or-set_other words (cells + 10) (cells + 9) x 0 (λ e. omega arith) ∙ h.head;
+      ended = get_or-set_same words (cells + 10) x 0 (omega arith);
       never_falls = (h.never_falls.0, h.never_falls.1, store_rises last.ended x le h.never_falls.2);
       offset = every_weaker (Below last) (Below (with_offset Ended x last)) riders (λ r b. (b.0, b.1, store_more last.ended r.offsets.ended x le b.2)) h.offset;
     }

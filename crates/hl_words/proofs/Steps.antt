@@ -278,14 +278,14 @@ module _ (room : Room) where
           subst (λ l. IsRuled room.cells words last l) (flat ∙ whole) (subst (λ (x : SeatView). IsRuled room.cells words x.offsets (riders_in (u ∷ us))) mine h.ruled)
 
   -- nothing was done yet
-  pub begins : (words : List ℕ) → words ≡ replicate (room.cells + 3) 0 → Holds room (opening words [] (first_seat room))
+  pub begins : (words : List ℕ) → words ≡ replicate (room.cells + 19) 0 → Holds room (opening words [] (first_seat room))
   begins words is = subst (λ ws. IsKept room ws (first_seat room ∷ [])) (sym is)
       record {
         master = first_seat room;
         seat = refl;
-        width = length-replicate (room.cells + 3) 0;
+        width = length-replicate (room.cells + 19) 0;
         count = ap length flat ∙ length-replicate room.riders unused;
-        ruled = subst (λ l. IsRuled room.cells (replicate (room.cells + 3) 0) no_offsets l) (sym flat) (ruled_from room.cells (replicate (room.cells + 3) 0) no_offsets (replicate room.riders unused) counted);
+        ruled = subst (λ l. IsRuled room.cells (replicate (room.cells + 19) 0) no_offsets l) (sym flat) (ruled_from room.cells (replicate (room.cells + 19) 0) no_offsets (replicate room.riders unused) counted);
       }
     where
       flat : replicate room.riders unused ++ [] ≡ replicate room.riders unused
@@ -300,13 +300,13 @@ module _ (room : Room) where
       each P p zero = tt
       each P p (suc n) = (p, each P p n)
 
-      counted : IsCounted room.cells (replicate (room.cells + 3) 0) no_offsets (replicate room.riders unused)
+      counted : IsCounted room.cells (replicate (room.cells + 19) 0) no_offsets (replicate room.riders unused)
       counted = record {
-        cell = λ c less. inl (zeros (room.cells + 3) c, each (λ r. last_store c r.touches ≡ None) refl room.riders);
+        cell = λ c less. inl (zeros (room.cells + 19) c, each (λ r. last_store c r.touches ≡ None) refl room.riders);
         load = each (λ r. IsLawful (More (replicate room.riders unused) r) r.touches) tt room.riders;
-        read_only = zeros (room.cells + 3) room.cells;
-        head = zeros (room.cells + 3) (room.cells + 1);
-        ended = zeros (room.cells + 3) (room.cells + 2);
+        read_only = zeros (room.cells + 19) (room.cells + 8);
+        head = zeros (room.cells + 19) (room.cells + 9);
+        ended = zeros (room.cells + 19) (room.cells + 10);
         never_falls = (no_stores, no_stores, no_stores);
         offset = each (Below no_offsets) (no_loads, no_loads, no_loads) room.riders;
       }

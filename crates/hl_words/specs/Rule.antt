@@ -76,9 +76,9 @@ pub record IsRuled (cells : ℕ) (words : List ℕ) (stores : OffsetWords)
     (riders : List RiderView) : Type 0 where
   pub cell : (c : ℕ) → c < cells → IsCell riders c (slice_index words c)
   pub load : EachRider (λ i r. IsLawful (IsElsewhere riders i) r.touches) riders
-  pub read_only : slice_index words cells ≡ newest stores.read_only
-  pub head : slice_index words (cells + 1) ≡ newest stores.head
-  pub ended : slice_index words (cells + 2) ≡ newest stores.ended
+  pub read_only : slice_index words (cells + 8) ≡ newest stores.read_only
+  pub head : slice_index words (cells + 9) ≡ newest stores.head
+  pub ended : slice_index words (cells + 10) ≡ newest stores.ended
   pub never_falls : NeverFalls stores.read_only × NeverFalls stores.head × NeverFalls stores.ended
   pub offset : EachRider
       (λ i r. AreLoads stores.read_only r.offsets.read_only × AreLoads stores.head r.offsets.head

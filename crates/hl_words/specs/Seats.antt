@@ -33,12 +33,12 @@ abbrev pub riders_in : List SeatView → List RiderView
 riders_in [] = []
 riders_in (v ∷ vs) = v.riders ++ riders_in vs
 
--- The table has the cells and the master's three words, the seats stand for all riders, and the rule holds,
--- the master having seat 0
+-- The table has the cells and, eight words apart, the master's three words; the seats stand for all riders,
+-- and the rule holds, the master having seat 0
 pub record IsKept (room : Room) (words : List ℕ) (views : List SeatView) : Type 0 where
   pub master : SeatView
   pub seat : get_elem? views 0 ≡ some master
-  pub width : length words ≡ room.cells + 3
+  pub width : length words ≡ room.cells + 19
   pub count : length (riders_in views) ≡ room.riders
   pub ruled : IsRuled room.cells words master.offsets (riders_in views)
 

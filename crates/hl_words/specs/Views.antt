@@ -35,11 +35,12 @@ with_offset ReadOnly x o = record { read_only = x ∷ o.read_only; head = o.head
 with_offset Head x o = record { read_only = o.read_only; head = x ∷ o.head; ended = o.ended }
 with_offset Ended x o = record { read_only = o.read_only; head = o.head; ended = x ∷ o.ended }
 
--- where a word of the master's lies, behind this many cells
+-- where a word of the master's lies: behind this many cells and eight words more, so that no line of a cache
+-- has one of them beside a cell
 abbrev pub place_of : Which → ℕ → ℕ
-place_of ReadOnly cells = cells
-place_of Head cells = cells + 1
-place_of Ended cells = cells + 2
+place_of ReadOnly cells = cells + 8
+place_of Head cells = cells + 9
+place_of Ended cells = cells + 10
 
 -- the view of a rider that did nothing
 abbrev pub unused : RiderView
@@ -65,8 +66,8 @@ changed cell found value r = touched (Changed cell found value) r
 abbrev pub added : ℕ → ℕ → ℕ → RiderView → RiderView
 added cell more found r = changed cell found ((found + more) % 2 ^ 64) r
 
--- the view after a compare and exchange of the cell, which found this: a change if that is the old value, else
--- a load
+-- the view after a compare and exchange of the cell, which found this: a change if that is the old value,
+-- else a load
 abbrev pub exchanged : ℕ → ℕ → ℕ → ℕ → RiderView → RiderView
 exchanged cell old new found r =
     if found == old then changed cell found new r else loaded cell found r

@@ -3,7 +3,7 @@ ghost use Rattle.std.specs.Slots.{slots_items, slots_len, IsFull};
 ghost use Rattle.hl_words.specs.States.{LastState};
 ghost use Rattle.hl_words.specs.Views.{place_of};
 
-use crate::which::Which;
+use crate::which::{ENDED_AT, HEAD_AT, READ_ONLY_AT, Which};
 use atomic_table::Closed;
 use std::alloc::Global;
 use std::marker::Model;
@@ -23,7 +23,7 @@ impl Model for LastWords {
 
     ghost view = { λ l. record { cells = l.cells; words = slots_items l.closed.words } };
 
-    ghost invariant = { λ l. IsFull l.closed.words × (slots_len l.closed.words ≡ l.cells + 3)
+    ghost invariant = { λ l. IsFull l.closed.words × (slots_len l.closed.words ≡ l.cells + 19)
         × (slots_len l.closed.slots ≡ 0) × (l.cells ≤ 2 ^ 20) };
 }
 
@@ -38,7 +38,7 @@ impl LastWords {
     /// The words of a table that was closed.
     pub(crate) fn of(closed: Closed<(), Global>, cells: usize) -> LastWords
         requires full { IsFull closed.words }
-        requires words { slots_len closed.words ≡ cells + 3 }
+        requires words { slots_len closed.words ≡ cells + 19 }
         requires no_slot { slots_len closed.slots ≡ 0 }
         requires few { cells ≤ 2 ^ 20 }
         ensures { result ≡ record { cells = cells; words = slots_items closed.words } }
@@ -59,9 +59,9 @@ impl LastWords {
         ensures { result ≡ slice_index self.now.words (place_of which self.now.cells) }
     {
         match which {
-            Which::ReadOnly => self.closed.word(self.cells),
-            Which::Head => self.closed.word(self.cells + 1),
-            Which::Ended => self.closed.word(self.cells + 2),
+            Which::ReadOnly => self.closed.word(self.cells + READ_ONLY_AT),
+            Which::Head => self.closed.word(self.cells + HEAD_AT),
+            Which::Ended => self.closed.word(self.cells + ENDED_AT),
         }
     }
 }

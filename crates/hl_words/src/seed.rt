@@ -4,6 +4,7 @@ ghost use Rattle.hl_words.specs.Seats.{first_seat};
 
 use crate::rule::WordRule;
 use crate::view::{Room, SeatView};
+use crate::which::MORE;
 use atomic_table::{Seat, Table};
 use hl_history::Named;
 use hl_model::{Fault, Params};
@@ -133,11 +134,11 @@ impl Seed {
 fn laid(alloc: Global, room: Room) -> Result<(WordTable, WordSeat), AllocError>
     requires { room.cells ≤ 2 ^ 20 }
     ensures table { IfOk result
-        (λ t. (t.0.shared.key ≡ room) × (t.0.shared.table_id.words ≡ room.cells + 3)
+        (λ t. (t.0.shared.key ≡ room) × (t.0.shared.table_id.words ≡ room.cells + 19)
         × (t.0.shared.table_id.slots ≡ 0)) }
     ensures seat { IfOk result
         (λ t. (t.1.table_id ≡ t.0.shared.table_id) × (t.1.id ≡ 0) × (t.1.me ≡ (first_seat room, []))) }
 {
-    let words = vec![in alloc; 0u64; room.cells + 3]?;
+    let words = vec![in alloc; 0u64; room.cells + MORE]?;
     Table::of_words(alloc, words.as_slice(), &room)
 }

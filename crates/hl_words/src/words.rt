@@ -16,7 +16,7 @@ use crate::rule::{
 };
 use crate::seed::{HistoryOf, Realm, Scribe, Seed, WordSeat, WordTable};
 use crate::view::Room;
-use crate::which::Which;
+use crate::which::{ENDED_AT, HEAD_AT, READ_ONLY_AT, Which};
 use hl_history::{Diary, Gathered, History};
 use hl_model::{Fault, Step};
 use std::alloc::Global;
@@ -167,9 +167,13 @@ impl<L: Realm> Words<L> {
         let shared = &self.table.shared;
         let seat = &mut master.seat;
         match which {
-            Which::ReadOnly => shared.store::<StoreReadOnly>(seat, self.room.cells, offset),
-            Which::Head => shared.store::<StoreHead>(seat, self.room.cells + 1, offset),
-            Which::Ended => shared.store::<StoreEnded>(seat, self.room.cells + 2, offset),
+            Which::ReadOnly => shared.store::<StoreReadOnly>(
+                seat,
+                self.room.cells + READ_ONLY_AT,
+                offset,
+            ),
+            Which::Head => shared.store::<StoreHead>(seat, self.room.cells + HEAD_AT, offset),
+            Which::Ended => shared.store::<StoreEnded>(seat, self.room.cells + ENDED_AT, offset),
         }
     }
 
@@ -183,9 +187,9 @@ impl<L: Realm> Words<L> {
         let shared = &self.table.shared;
         let seat = &mut rider.seat;
         match which {
-            Which::ReadOnly => shared.load::<LoadReadOnly>(seat, self.room.cells),
-            Which::Head => shared.load::<LoadHead>(seat, self.room.cells + 1),
-            Which::Ended => shared.load::<LoadEnded>(seat, self.room.cells + 2),
+            Which::ReadOnly => shared.load::<LoadReadOnly>(seat, self.room.cells + READ_ONLY_AT),
+            Which::Head => shared.load::<LoadHead>(seat, self.room.cells + HEAD_AT),
+            Which::Ended => shared.load::<LoadEnded>(seat, self.room.cells + ENDED_AT),
         }
     }
 

@@ -7,7 +7,7 @@ pub returns-in-Ok-clause-ending : goal.returns-in-Ok-clause-ending
 returns-in-Ok-clause-ending g c =
     let parts = c.into_parts-keeper.result in
     let p = c.into_parts-keeper.ensures in
-    let held = c.into_inner.result in
+    let held = c.into_inner-2.result in
     let at = at_same (record { sizes = g.L.Realm.sizes; stamp = g.L.Realm.stamp; limit = g.L.Realm.limit }) held.keeper parts.0 held.list parts.1 p.0 p.1 p.2 in
     let h = c.in-Ok.ensures in
     let sizes : g.L.Realm.sizes ≡ c.args.self.sizes = sym c.self.invariant.0 ∙ ap (λ (z : DomainState). z.sizes) c.self.view_is in
