@@ -3,7 +3,7 @@ ghost use Rattle.std.specs.Prelude.{◌≡◌, ◌≤◌, ◌↔◌, IsSome, IfS
 ghost use Rattle.hl_words.specs.States.{IsSeedOf};
 ghost use Rattle.hl_keeper.specs.Keepers.{steps_most};
 
-use crate::audit::{agrees_from_the_base, agrees_from_the_start, has_images};
+use crate::audit::{agrees_from_the_base, agrees_from_the_start, bumps_in_turn, has_images};
 use crate::riders::ride;
 use hl_action::{AnyAnswer, NoJob};
 use hl_counts::CountTable;
@@ -98,7 +98,8 @@ struct CrewBack<L: Realm> {
 #[derive(Clone, Copy, Debug, PartialEq, Eq)]
 pub struct Raced {
     /// Whether its steps were all lawful and left what the domain was at when it was closed, the riders entered as
-    /// many steps as there are, and each page that is flushed has an image.
+    /// many steps as there are, and each page that is flushed has an image; and whether two threads that bumped a new
+    /// domain beside were answered by one list.
     pub agrees: bool,
     /// How many steps were entered, those that were cut among them.
     pub steps: u64,
@@ -168,7 +169,9 @@ fn race_over<L: Realm + Send + Sync, R: Threads + Wait + Sync>(
         ended?;
     }
     Ok(Raced {
-        agrees: has_images && agrees(alloc, params, race, &ending, shares)?,
+        agrees: has_images
+            && bumps_in_turn(rt, alloc)?
+            && agrees(alloc, params, race, &ending, shares)?,
         steps,
         loads: loads.into_inner(),
     })

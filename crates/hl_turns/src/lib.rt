@@ -11,9 +11,12 @@
 //! `Domain::close`.
 #![tactic(auto)]
 
+mod anew;
+
 ghost use Rattle.std.specs.Prelude.{◌≡◌, [], IfSome};
 ghost use Rattle.hl_turns.specs.Turns.{Bumped, IsInTurn};
 
+pub use anew::bump_anew;
 use hl_domain::{Domain, Epochs, Promise, Realm, Rider, Task};
 use std::alloc::Global;
 use std::sync::Wait;

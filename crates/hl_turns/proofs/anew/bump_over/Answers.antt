@@ -2,7 +2,7 @@ use Rattle.std.proofs.Common.{rules, ◌≡◌, ℕ, zero, suc, List, [], ◌∷
 use Rattle.std.specs.List.{AllByRecursion as Every}
 use Rattle.hl_history.proofs.Calls.{every_back, every_front}
 use Rattle.hl_words.specs.States.{RiderState, new_rider}
-use Rattle.hl_domain_tests.proofs.turns.in_turn.Goals as goal
+use Rattle.hl_turns.proofs.anew.bump_over.Goals as goal
 
 -- riders that were just made have made no call
 fresh : (n : ℕ) → Every (λ r. r.calls ≡ []) (replicate n new_rider)
