@@ -8,8 +8,8 @@ use Rattle.hl.specs.declared.opening.Opening.{Opening}
 
 -- the part handed out its result and these riders; where they are all, the ending is that of a log with them,
 -- and otherwise it was refused
-pub record IsClosed {Out : Type 0} (o : Opening) (Leaves : Out → List RiderState → Type 0)
-    (closed : Closed Out) : Type 0 where
+pub record IsClosed {Out F : Type 0} (o : Opening) (Leaves : Out → List RiderState → Type 0)
+    (closed : Closed Out F) : Type 0 where
   pub riders : List RiderState
   pub left : Leaves closed.out riders
   pub ending : MatchResult closed.ending

@@ -9,7 +9,7 @@ use crate::log::Log;
 use crate::opening::Opening;
 use crate::part::Part;
 use crate::refused::Refused;
-use hl_action::{AnyAnswer, NoJob};
+use hl_action::{AnyAnswer, NoJob, Task};
 use hl_domain::Ending;
 use hl_model::Fault;
 use hl_words::{Realm, Seed};
@@ -18,12 +18,12 @@ use std::marker::Brand;
 
 /// What a part left.
 #[derive(Drop)]
-pub struct Closed<T> {
+pub struct Closed<T, F: Task = NoJob> {
     /// What it returned.
     pub out: T,
     /// What is left of its log; `Stranger` if a rider was missing: the log was then dropped as it
     /// was.
-    pub ending: Result<Ending<NoJob, AnyAnswer>, Fault>,
+    pub ending: Result<Ending<F, AnyAnswer>, Fault>,
 }
 
 /// Opens a log, lets the part use it, and closes it.
@@ -35,7 +35,7 @@ pub fn with_log<R, P: Part<R>>(
     alloc: Global,
     opening: Opening,
     part: P,
-) -> Result<Closed<P::Out>, Refused<P>>
+) -> Result<Closed<P::Out, P::Job>, Refused<P>>
     requires wants { P.wants part (opened_as opening) (replicate opening.riders new_rider) }
     ensures size { can_open opening ≡ false → result ≡ Err (was_refused Size part) }
     ensures memory { can_open opening ≡ true
@@ -61,7 +61,7 @@ fn over<L: Realm + Send + Sync, R, P: Part<R>>(
     seed: Seed,
     opening: Opening,
     part: P,
-) -> Result<Closed<P::Out>, Refused<P>>
+) -> Result<Closed<P::Out, P::Job>, Refused<P>>
     requires seed { IsSeedOf L.name L.parts L.table seed }
     requires sizes { (seed.sizes ≡ opening.params) × (seed.riders ≡ opening.riders) }
     requires named { (seed.sizes ≡ L.sizes) × (opening.stamp ≡ L.stamp) × (opening.journal ≡ L.limit) }
@@ -70,7 +70,7 @@ fn over<L: Realm + Send + Sync, R, P: Part<R>>(
     ensures memory { IfErr result (λ refused. refused ≡ was_refused OutOfMemory part) }
     ensures closed { IfOk result (IsClosed opening (P.leaves part)) }
 {
-    let (log, riders) = match Log::<L>::open(alloc, seed, opening.journal, opening.stamp) {
+    let (log, riders) = match Log::<L, P::Job>::open(alloc, seed, opening.journal, opening.stamp) {
         Ok(opened) => opened,
         Err(fault) => return Err(Refused { fault, back: part }),
     };

@@ -1,4 +1,5 @@
 use crate::log::Log;
+use hl_action::Task;
 use hl_words::{Realm, Rider};
 
 /// What a program does with a log: a trait and not a closure, since a closure can't be generic over
@@ -7,6 +8,9 @@ pub trait Part<R> {
     ghost use Rattle.std.specs.Prelude.{List};
     ghost use Rattle.hl_words.specs.States.{RiderState};
     ghost use Rattle.hl_domain.specs.Domains.{DomainState};
+
+    /// The jobs that its bumps store: [`NoJob`](hl_action::NoJob) if it stores none.
+    type Job: Task;
 
     /// What it returns beside the riders.
     type Out;
@@ -25,7 +29,7 @@ pub trait Part<R> {
     fn run<L: Realm + Send + Sync>(
         self,
         rt: &R,
-        log: &Log<L>,
+        log: &Log<L, Self::Job>,
         riders: Vec<Rider<L>>,
     ) -> (Self::Out, Vec<Rider<L>>)
         requires { wants self log.now riders.items }

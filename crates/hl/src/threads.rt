@@ -13,6 +13,7 @@ use crate::opening::Opening;
 use crate::refused::Refused;
 use crate::session::Session;
 use crate::sink::Sink;
+use hl_action::Task;
 use hl_crew::{Duty, OpenGate, Stop};
 use hl_model::Fault;
 use hl_words::{Realm, Rider, Seed};
@@ -24,6 +25,9 @@ use std::thread::Threads;
 
 /// What the threads of a program do with a log. They share it.
 pub trait Work<R: Wait> {
+    /// The jobs that their bumps store, which the crew runs: [`NoJob`](hl_action::NoJob) if they store none.
+    type Job: Task + Send;
+
     /// What a thread returns.
     type Out: Send + Drop;
 
@@ -31,7 +35,7 @@ pub trait Work<R: Wait> {
     fn run<L: Realm + Send + Sync>(
         &self,
         rt: &R,
-        session: &mut Session<R, L>,
+        session: &mut Session<R, L, Self::Job>,
         number: u64,
     ) -> Self::Out;
 
@@ -59,7 +63,7 @@ pub fn with_threads<R: Threads + Wait + Sync, P: Work<R> + Sync>(
     opening: Opening,
     duty: Duty,
     work: &P,
-) -> Result<Closed<Result<Outs<P::Out>, Fault>>, Fault>
+) -> Result<Closed<Result<Outs<P::Out>, Fault>, P::Job>, Fault>
     ensures size { can_run opening duty ≡ false → result ≡ Err Size }
     ensures memory { can_run opening duty ≡ true → IfErr result (λ fault. fault ≡ OutOfMemory) }
     ensures closed { IfOk result (IsClosed opening Anything) }
@@ -88,7 +92,7 @@ fn threads_over<L: Realm + Send + Sync, R: Threads + Wait + Sync, P: Work<R> + S
     opening: Opening,
     duty: Duty,
     work: &P,
-) -> Result<Closed<Result<Outs<P::Out>, Fault>>, Fault>
+) -> Result<Closed<Result<Outs<P::Out>, Fault>, P::Job>, Fault>
     requires seed { IsSeedOf L.name L.parts L.table seed }
     requires sizes { (seed.sizes ≡ opening.params) × (seed.riders ≡ opening.riders) }
     requires named { (seed.sizes ≡ L.sizes) × (opening.stamp ≡ L.stamp) × (opening.journal ≡ L.limit) }
@@ -96,7 +100,7 @@ fn threads_over<L: Realm + Send + Sync, R: Threads + Wait + Sync, P: Work<R> + S
     ensures memory { IfErr result (λ fault. fault ≡ OutOfMemory) }
     ensures closed { IfOk result (IsClosed opening Anything) }
 {
-    let (log, riders) = Log::<L>::open(alloc, seed, opening.journal, opening.stamp)?;
+    let (log, riders) = Log::<L, P::Job>::open(alloc, seed, opening.journal, opening.stamp)?;
     let (out, riders) = run_all(rt, alloc, &log, riders, duty, work);
     let ending = match log.close(riders) {
         Ok(ending) => Ok(ending),
@@ -109,7 +113,7 @@ fn threads_over<L: Realm + Send + Sync, R: Threads + Wait + Sync, P: Work<R> + S
 fn run_all<L: Realm + Send + Sync, R: Threads + Wait + Sync, P: Work<R> + Sync>(
     rt: &R,
     alloc: Global,
-    log: &Log<L>,
+    log: &Log<L, P::Job>,
     mut riders: Vec<Rider<L>>,
     duty: Duty,
     work: &P,
@@ -153,7 +157,7 @@ fn gather<L: Realm, T: Drop>(
 fn work_to_the_stop<L: Realm + Send + Sync, R: Threads + Wait + Sync, P: Work<R> + Sync>(
     rt: &R,
     alloc: Global,
-    log: &Log<L>,
+    log: &Log<L, P::Job>,
     riders: Vec<Rider<L>>,
     work: &P,
     stop: &Stop,
@@ -167,7 +171,7 @@ fn work_to_the_stop<L: Realm + Send + Sync, R: Threads + Wait + Sync, P: Work<R>
 fn work_all<L: Realm + Send + Sync, R: Threads + Wait + Sync, P: Work<R> + Sync>(
     rt: &R,
     alloc: Global,
-    log: &Log<L>,
+    log: &Log<L, P::Job>,
     riders: Vec<Rider<L>>,
     work: &P,
 ) -> Result<Vec<(Result<P::Out, Fault>, Rider<L>)>, AllocError> {
@@ -182,7 +186,7 @@ fn work_all<L: Realm + Send + Sync, R: Threads + Wait + Sync, P: Work<R> + Sync>
 // A thread's time in its session.
 fn work_one<L: Realm + Send + Sync, R: Wait, P: Work<R>>(
     rt: &R,
-    log: &Log<L>,
+    log: &Log<L, P::Job>,
     rider: Rider<L>,
     number: u64,
     work: &P,
@@ -202,7 +206,7 @@ fn work_one<L: Realm + Send + Sync, R: Wait, P: Work<R>>(
 fn serve_behind<L: Realm + Send + Sync, R: Threads + Wait + Sync, P: Work<R> + Sync>(
     rt: &R,
     alloc: Global,
-    log: &Log<L>,
+    log: &Log<L, P::Job>,
     riders: CrewRiders<L>,
     duty: Duty,
     work: &P,

@@ -1,7 +1,7 @@
 //! A first log: four threads place a word each, and a crew flushes behind them.
 #![tactic(auto)]
 
-use hl::{Duty, Fault, Opening, Params, Realm, Session, Work, with_threads};
+use hl::{Duty, Fault, NoJob, Opening, Params, Realm, Session, Work, with_threads};
 use std::alloc::Global;
 use std::io;
 use std::process::ExitCode;
@@ -12,6 +12,8 @@ use std::thread::Threads;
 struct OneWord;
 
 impl<R: Wait> Work<R> for OneWord {
+    type Job = NoJob;
+
     type Out = Result<u64, Fault>;
 
     fn run<L: Realm + Send + Sync>(

@@ -1,5 +1,5 @@
 use crate::store::{Change, Store};
-use hl::{Duty, Fault, Opening, Params, Realm, Session, Work, with_threads};
+use hl::{Duty, Fault, NoJob, Opening, Params, Realm, Session, Work, with_threads};
 use std::alloc::Global;
 use std::io::Write;
 use std::sync::{Mutex, Wait};
@@ -80,6 +80,8 @@ fn tell<W: Write>(out: &mut W, tally: Tally) -> Result<(), Fault> {
 }
 
 impl<R: Wait> Work<R> for Counting {
+    type Job = NoJob;
+
     type Out = Result<Option<Tally>, Fault>;
 
     fn run<L: Realm + Send + Sync>(
