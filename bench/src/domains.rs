@@ -45,7 +45,7 @@ impl Caller {
 fn calls_of(kind: &str) -> u64 {
     match kind {
         "lock" => 8_000_000,
-        "load" | "look" | "pin" => 80_000_000,
+        "load" | "load_beside" | "look" | "lease" | "keep_up" | "pin" => 80_000_000,
         _ => 1_000_000,
     }
 }
@@ -66,8 +66,8 @@ fn waits(callers: &[&Caller], kind: &str, threads: u64) -> io::Result<Vec<f64>> 
     Ok(best.iter().map(wait).collect())
 }
 
-/// Prints a row for each call and number of threads: the program of the proved domain, and crossbeam-epoch's, where it
-/// is there.
+/// Prints a row for each call and number of threads: the program of the proved domain beside the twin's, then what the
+/// proved domain alone has, and crossbeam-epoch's calls, where that program is there.
 pub fn run(proved: &Path, pin: Option<&Path>) -> io::Result<()> {
     let proved = Caller {
         program: proved.to_path_buf(),
@@ -90,6 +90,18 @@ pub fn run(proved: &Path, pin: Option<&Path>) -> io::Result<()> {
             );
         }
     }
+    println!("| Calls | Threads | Proved |");
+    println!("|---|---|---|");
+    for kind in ["add", "lease", "keep_up"] {
+        prints_alone(&proved, kind, kind, &THREADS)?;
+    }
+    // One of the threads refreshes meanwhile.
+    prints_alone(
+        &proved,
+        "load_beside",
+        "load beside a thread that refreshes",
+        &THREADS[1..],
+    )?;
     let Some(program) = pin else { return Ok(()) };
     let pin = Caller {
         program: program.to_path_buf(),
@@ -97,11 +109,14 @@ pub fn run(proved: &Path, pin: Option<&Path>) -> io::Result<()> {
     };
     println!("| Calls | Threads | crossbeam-epoch |");
     println!("|---|---|---|");
-    for threads in THREADS {
-        println!(
-            "| pin and unpin | {threads} | {:.1} |",
-            waits(&[&pin], "pin", threads)?[0]
-        );
+    prints_alone(&pin, "pin", "pin and unpin", &THREADS)
+}
+
+/// Prints a row for each number of threads that make calls which one program alone has.
+fn prints_alone(caller: &Caller, kind: &str, name: &str, threads: &[u64]) -> io::Result<()> {
+    for &threads in threads {
+        let wait = waits(&[caller], kind, threads)?[0];
+        println!("| {name} | {threads} | {wait:.1} |");
     }
     Ok(())
 }

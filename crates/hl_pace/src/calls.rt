@@ -1,10 +1,11 @@
 //! The calls that one thread makes.
-use crate::work::Kind;
+use crate::work::{Kind, Work};
 use hl_action::{Promise, Task};
 use hl_domain::{Domain, Lease, Pass};
 use hl_epoch::Epochs;
 use hl_model::Fault;
 use hl_words::{Realm, Rider};
+use std::sync::atomic::{AtomicU64, Ordering};
 use std::sync::{Mutex, Wait};
 
 /// How many words lie between those that two threads store into, so that no two share a line of a cache.
@@ -13,31 +14,75 @@ const APART: u64 = 16;
 /// How many words a thread leases at once.
 const PIECE: u64 = 256;
 
-/// Acquires a slot, makes this many calls there, and releases it. No rider comes back if a call was
-/// refused.
+/// What the threads share beside the domain.
+#[derive(Drop)]
+pub(crate) struct Shared {
+    /// A number under a lock of its own.
+    pub(crate) floor: Mutex<u64>,
+    /// How many threads haven't made all their calls.
+    pub(crate) working: AtomicU64,
+}
+
+/// Acquires a slot, makes the calls of the work there, and releases it. A full journal is cut. No rider comes back if a
+/// call was refused.
 pub(crate) fn call_all<E: Epochs + Drop, F: Task, P: Promise, L: Realm>(
     rt: &impl Wait,
     domain: &Domain<E, F, P, L>,
-    floor: &Mutex<u64>,
+    shared: &Shared,
     rider: Rider<L>,
     slot: u64,
-    kind: Kind,
-    calls: u64,
+    work: Work,
 ) -> Option<Rider<L>> {
     let mut pass = domain.acquire(rt, slot, rider).ok()?;
+    if work.kind == Kind::LoadBeside && slot == 0 {
+        refresh_beside(rt, domain, shared, &mut pass, work.calls).ok()?;
+        return domain.release(rt, pass).ok();
+    }
     let address = domain.allocate(rt, &mut pass, APART).ok()?;
     let mut lease = Lease::of(address, 0);
-    for _ in 0..calls {
-        call(rt, domain, floor, &mut pass, &mut lease, address, kind).ok()?;
+    for _ in 0..work.calls {
+        match call(
+            rt, domain, shared, &mut pass, &mut lease, address, work.kind,
+        ) {
+            Err(Fault::JournalFull) => {
+                domain.cut(rt, pass.rider_mut());
+            }
+            called => called.ok()?,
+        }
     }
+    shared.working.fetch_sub(1, Ordering::SeqCst);
     domain.release(rt, pass).ok()
+}
+
+// Refreshes while the others work, and cuts a full journal. It refreshes no more often than they call.
+fn refresh_beside<E: Epochs + Drop, F: Task, P: Promise, L: Realm>(
+    rt: &impl Wait,
+    domain: &Domain<E, F, P, L>,
+    shared: &Shared,
+    pass: &mut Pass<L>,
+    calls: u64,
+) -> Result<(), Fault> {
+    for _ in 0..calls {
+        if shared.working.load(Ordering::SeqCst) <= 1 {
+            break;
+        }
+        match domain.refresh(rt, pass) {
+            Err(Fault::JournalFull) => {
+                domain.cut(rt, pass.rider_mut());
+            }
+            refreshed => {
+                refreshed?;
+            }
+        }
+    }
+    Ok(())
 }
 
 // One call.
 fn call<E: Epochs + Drop, F: Task, P: Promise, L: Realm>(
     rt: &impl Wait,
     domain: &Domain<E, F, P, L>,
-    floor: &Mutex<u64>,
+    shared: &Shared,
     pass: &mut Pass<L>,
     lease: &mut Lease,
     address: u64,
@@ -45,7 +90,7 @@ fn call<E: Epochs + Drop, F: Task, P: Promise, L: Realm>(
 ) -> Result<(), Fault> {
     match kind {
         Kind::Lock => {
-            let mut number = floor.lock(rt);
+            let mut number = shared.floor.lock(rt);
             *number = number.wrapping_add(1);
         }
         Kind::Refresh => {
@@ -69,11 +114,14 @@ fn call<E: Epochs + Drop, F: Task, P: Promise, L: Realm>(
                 *lease = Lease::of(domain.allocate(rt, pass, PIECE)?, PIECE);
             }
         }
-        Kind::Load => {
+        Kind::Load | Kind::LoadBeside => {
             domain.load(pass, address)?;
         }
         Kind::Look => {
             domain.look(pass)?;
+        }
+        Kind::KeepUp => {
+            domain.keep_up(rt, pass)?;
         }
     }
     Ok(())

@@ -1,5 +1,5 @@
 //! A crew that serves while there is nothing to do.
-use hl::{Duty, Fault, Opening, Params, Realm, Session, Work, with_threads};
+use hl::{Duty, Fault, NoJob, Opening, Params, Realm, Session, Work, with_threads};
 use std::alloc::Global;
 use std::sync::Wait;
 use std::thread::{Parker, Threads};
@@ -12,6 +12,8 @@ struct Sleeper {
 }
 
 impl<R: Wait> Work<R> for Sleeper {
+    type Job = NoJob;
+
     type Out = ();
 
     fn run<L: Realm + Send + Sync>(&self, rt: &R, _session: &mut Session<R, L>, _number: u64) {

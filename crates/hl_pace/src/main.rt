@@ -1,7 +1,8 @@
 //! Makes calls of a domain in some threads, for `measure/threads` to time: `hl_pace KIND THREADS CALLS`.
 //!
 //! The kinds are `refresh`, `allocate`, `store`, `load`, `look`, `add` (an add to a word in one step), `lease` (a record of
-//! one word from a lease), and `lock`, which adds to a number under a lock and so shows what the lock itself costs. Each
+//! one word from a lease), `keep_up` where nothing is new, `load_beside` (loads of all threads but one, which
+//! refreshes meanwhile), and `lock`, which adds to a number under a lock and so shows what the lock itself costs. Each
 //! thread has a slot of its own and makes as many calls. Nothing is printed; the status is 1 if a call was refused.
 //!
 //! `hl_pace idle SECONDS` makes no call: a thread sleeps that long in its slot, beside a crew that
@@ -18,7 +19,7 @@ use std::process::ExitCode;
 use std::{env, io};
 
 const USAGE: &[u8] =
-    b"usage: hl_pace lock|refresh|allocate|store|load|look|add|lease THREADS CALLS\n       hl_pace idle SECONDS\n";
+    b"usage: hl_pace KIND THREADS CALLS, with KIND lock|refresh|allocate|store|load|look|add|lease|keep_up|load_beside\n       hl_pace idle SECONDS\n";
 
 fn main(rt: HostRuntime) -> io::Result<ExitCode> {
     let words = env::args(&rt)?.collect::<Vec<String>>(rt.alloc())?;

@@ -2,7 +2,7 @@
 ghost use Rattle.std.specs.Prelude.{◌≡◌, ◌≤◌};
 ghost use Rattle.hl_words.specs.States.{IsSeedOf};
 
-use crate::calls::call_all;
+use crate::calls::{Shared, call_all};
 use crate::work::Work;
 use hl_action::{AnyAnswer, NoJob};
 use hl_counts::CountTable;
@@ -11,6 +11,7 @@ use hl_model::{Fault, Params, with_room};
 use hl_words::{Realm, Rider, Seed};
 use std::alloc::Global;
 use std::marker::Brand;
+use std::sync::atomic::AtomicU64;
 use std::sync::{Mutex, Wait};
 use std::thread;
 use std::thread::Threads;
@@ -49,7 +50,10 @@ fn run_over<L: Realm + Send + Sync, R: Threads + Wait + Sync>(
     let (domain, riders) = Domain::<CountTable, NoJob, AnyAnswer, L>::open(
         alloc, seed, JOURNAL, STAMP,
     )?;
-    let floor = Mutex::new(0);
+    let shared = Shared {
+        floor: Mutex::new(0),
+        working: AtomicU64::new(work.threads),
+    };
     let mut seats = with_room(alloc, riders.len() as u64)?;
     for rider in riders {
         seats.push(Some(rider)).map_err(|_| Fault::OutOfMemory)?;
@@ -57,8 +61,7 @@ fn run_over<L: Realm + Send + Sync, R: Threads + Wait + Sync>(
     let threads = seats.len().max(1);
     let start = |slot: usize, seat: &mut Option<Rider<L>>| {
         if let Some(rider) = seat.take() {
-            let Work { kind, calls, .. } = work;
-            *seat = call_all(rt, &domain, &floor, rider, slot as u64, kind, calls);
+            *seat = call_all(rt, &domain, &shared, rider, slot as u64, work);
         }
     };
     thread::for_each_mut(rt, seats.as_mut_slice(), threads, &start);

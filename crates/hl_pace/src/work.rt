@@ -11,6 +11,8 @@ pub(crate) enum Kind {
     Look,
     Add,
     Lease,
+    KeepUp,
+    LoadBeside,
 }
 
 /// What is to be done.
@@ -54,6 +56,8 @@ fn kind_of(name: &str) -> Option<Kind> {
         "look" => Kind::Look,
         "add" => Kind::Add,
         "lease" => Kind::Lease,
+        "keep_up" => Kind::KeepUp,
+        "load_beside" => Kind::LoadBeside,
         _ => return None,
     })
 }
