@@ -53,6 +53,7 @@ pub fn look<L: Realm>(words: &Words<L>, pass: &mut Pass<L>) -> Result<View, Faul
 ///
 /// Faults: `Below` if the address is below the read-only offset that the pass saw, `Beyond` if it
 /// isn't below the tail that it saw, `TouchesFull` if it has 32 touches.
+#[inline(always)]
 pub fn store<L: Realm>(
     words: &Words<L>,
     params: Params,
@@ -77,6 +78,7 @@ pub fn store<L: Realm>(
 ///
 /// Faults: `Evicted` if the address is below the head that the pass saw, `Beyond` if it isn't below
 /// the tail that it saw.
+#[inline(always)]
 pub fn load<L: Realm>(
     words: &Words<L>,
     params: Params,
@@ -103,6 +105,7 @@ fn rises(seen: View, read_only: u64, head: u64) -> bool
 
 impl<L: Realm> Pass<L> {
     /// Whether it has room for a touch.
+    #[inline(always)]
     fn may_touch(&self) -> Result<(), Fault>
         ensures answer { result ≡ unless_fault (touch_fault self.now) tt }
         ensures room { OnOk result (length self.now.touches < touches_most) }
@@ -114,6 +117,7 @@ impl<L: Realm> Pass<L> {
     }
 
     /// Whether it may store at this address.
+    #[inline(always)]
     pub(crate) fn may_store(&self, a: u64) -> Result<(), Fault>
         ensures answer { result ≡ unless_fault (store_fault self.now a) tt }
         ensures room { OnOk result (length self.now.touches < touches_most) }
@@ -132,6 +136,7 @@ impl<L: Realm> Pass<L> {
     }
 
     /// Whether it may load at this address.
+    #[inline(always)]
     fn may_load(&self, a: u64) -> Result<(), Fault>
         ensures { result ≡ unless_fault (load_fault self.now a) tt }
     {

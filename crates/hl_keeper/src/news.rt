@@ -12,6 +12,7 @@ use hl_words::{Realm, Which, Words};
 /// to the pass: neither offset is above the one that it saw, and its slot's epoch has not ended;
 /// and whether it has room for a touch. Nothing enters, and no load is below any that the rider
 /// made of that word before.
+#[inline(always)]
 pub fn keeps_up<L: Realm>(words: &Words<L>, pass: &mut Pass<L>) -> bool
     ensures current { let new = pass.new
         in result ≡ is_current (last_read_only new) (last_head new) (last_ended new) pass.old }
@@ -29,6 +30,7 @@ pub fn keeps_up<L: Realm>(words: &Words<L>, pass: &mut Pass<L>) -> bool
 impl<L: Realm> Pass<L> {
     /// Whether neither offset is above the one that it saw, the last epoch that ended is below its
     /// slot's, and it has room for a touch.
+    #[inline(always)]
     fn is_current(&self, read_only: u64, head: u64, ended: u64) -> bool
         ensures { result ≡ is_current read_only head ended self.now }
     {

@@ -10,6 +10,7 @@ pub fn page_of(params: Params, address: u64) -> u64
 }
 
 /// The place of an address among the F * P words that are kept: page p lies in frame p mod F, in order.
+#[inline(always)]
 pub fn cell_of(params: Params, address: u64) -> u64
     ensures value { result ≡ address / params.page_size % params.frames * params.page_size
         + address % params.page_size }

@@ -23,6 +23,15 @@ pub(crate) struct Shared {
     pub(crate) working: AtomicU64,
 }
 
+/// A thread in its slot: its pass, the piece that it leased, a word of its own, and the sum of the records' addresses.
+#[derive(Drop)]
+struct Seat<L: Realm> {
+    pass: Pass<L>,
+    lease: Lease,
+    address: u64,
+    sum: u64,
+}
+
 /// Acquires a slot, makes the calls of the work there, and releases it. A full journal is cut. No rider comes back if a
 /// call was refused.
 pub(crate) fn call_all<E: Epochs + Drop, F: Task, P: Promise, L: Realm>(
@@ -39,19 +48,30 @@ pub(crate) fn call_all<E: Epochs + Drop, F: Task, P: Promise, L: Realm>(
         return domain.release(rt, pass).ok();
     }
     let address = domain.allocate(rt, &mut pass, APART).ok()?;
-    let mut lease = Lease::of(address, 0);
+    let mut seat = Seat {
+        pass,
+        lease: Lease::of(address, 0),
+        address,
+        sum: 0,
+    };
     for _ in 0..work.calls {
-        match call(
-            rt, domain, shared, &mut pass, &mut lease, address, work.kind,
-        ) {
+        match call(rt, domain, shared, &mut seat, work.kind) {
             Err(Fault::JournalFull) => {
-                domain.cut(rt, pass.rider_mut());
+                domain.cut(rt, seat.pass.rider_mut());
             }
             called => called.ok()?,
         }
     }
     shared.working.fetch_sub(1, Ordering::SeqCst);
+    let Seat { pass, sum, .. } = seat;
+    add_to(rt, &shared.floor, sum);
     domain.release(rt, pass).ok()
+}
+
+// Adds to a number under its lock.
+fn add_to(rt: &impl Wait, floor: &Mutex<u64>, more: u64) {
+    let mut number = floor.lock(rt);
+    *number = number.wrapping_add(more);
 }
 
 // Refreshes while the others work, and cuts a full journal. It refreshes no more often than they call.
@@ -83,45 +103,39 @@ fn call<E: Epochs + Drop, F: Task, P: Promise, L: Realm>(
     rt: &impl Wait,
     domain: &Domain<E, F, P, L>,
     shared: &Shared,
-    pass: &mut Pass<L>,
-    lease: &mut Lease,
-    address: u64,
+    seat: &mut Seat<L>,
     kind: Kind,
 ) -> Result<(), Fault> {
     match kind {
-        Kind::Lock => {
-            let mut number = shared.floor.lock(rt);
-            *number = number.wrapping_add(1);
-        }
+        Kind::Lock => add_to(rt, &shared.floor, 1),
         Kind::Refresh => {
-            domain.refresh(rt, pass)?;
+            domain.refresh(rt, &mut seat.pass)?;
         }
         Kind::Allocate => {
-            domain.allocate(rt, pass, 1)?;
+            domain.allocate(rt, &mut seat.pass, 1)?;
         }
         Kind::Store => {
-            if let Err(Fault::TouchesFull) = domain.store(pass, address, 1) {
-                domain.refresh(rt, pass)?;
+            if let Err(Fault::TouchesFull) = domain.store(&mut seat.pass, seat.address, 1) {
+                domain.refresh(rt, &mut seat.pass)?;
             }
         }
         Kind::Add => {
-            if let Err(Fault::TouchesFull) = domain.fetch_add(pass, address, 1) {
-                domain.refresh(rt, pass)?;
+            if let Err(Fault::TouchesFull) = domain.fetch_add(&mut seat.pass, seat.address, 1) {
+                domain.refresh(rt, &mut seat.pass)?;
             }
         }
-        Kind::Lease => {
-            if lease.take(1).is_none() {
-                *lease = Lease::of(domain.allocate(rt, pass, PIECE)?, PIECE);
-            }
-        }
+        Kind::Lease => match seat.lease.take(1) {
+            Some(record) => seat.sum = seat.sum.wrapping_add(record),
+            None => seat.lease = Lease::of(domain.allocate(rt, &mut seat.pass, PIECE)?, PIECE),
+        },
         Kind::Load | Kind::LoadBeside => {
-            domain.load(pass, address)?;
+            domain.load(&mut seat.pass, seat.address)?;
         }
         Kind::Look => {
-            domain.look(pass)?;
+            domain.look(&mut seat.pass)?;
         }
         Kind::KeepUp => {
-            domain.keep_up(rt, pass)?;
+            domain.keep_up(rt, &mut seat.pass)?;
         }
     }
     Ok(())

@@ -119,6 +119,7 @@ impl<L: Realm> Words<L> {
     }
 
     /// Stores a value into a cell. The rider's view has the store.
+    #[inline(always)]
     pub fn store_cell(&self, rider: &mut Rider<L>, cell: u64, value: u64)
         requires { cell < self.now.cells }
         ensures { rider.new ≡ with_view (stored cell value rider.old.view) rider.old }
@@ -128,6 +129,7 @@ impl<L: Realm> Words<L> {
     }
 
     /// Loads a cell. The rider's view has the load; that its value is lawful is what `close` tells of all loads.
+    #[inline(always)]
     pub fn load_cell(&self, rider: &mut Rider<L>, cell: u64) -> u64
         requires { cell < self.now.cells }
         ensures { rider.new ≡ with_view (loaded cell result rider.old.view) rider.old }
@@ -180,6 +182,7 @@ impl<L: Realm> Words<L> {
     /// Loads one of the master's words: an offset in words of the log, or an epoch. It isn't below what this rider
     /// loaded of it before. The rider's view has the load; that it is one of the master's stores, or 0, is what `close`
     /// tells of all loads.
+    #[inline(always)]
     pub fn load_offset(&self, rider: &mut Rider<L>, which: Which) -> u64
         ensures view { rider.new ≡ with_view (with_loaded which result rider.old.view) rider.old }
         ensures rises { greatest_of which rider.old.view.offsets ≤ result }

@@ -20,6 +20,7 @@ impl<E: Epochs + Drop, F: Task, P: Promise, L: Realm> Domain<E, F, P, L> {
     /// saw. Else this is a [`refresh`](Domain::refresh).
     ///
     /// Faults, those of a refresh: `Stranger`, `JournalFull`.
+    #[inline(always)]
     pub fn keep_up(&self, rt: &impl Wait, pass: &mut Pass<L>) -> Result<View, Fault>
         ensures kept { stays_current pass.old pass.new ≡ true
             → (result ≡ Ok (seen pass.old)) × (pass.new ≡ after_news pass.old pass.new) }

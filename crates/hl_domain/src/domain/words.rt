@@ -41,6 +41,7 @@ impl<E: Epochs + Drop, F: Task, P: Promise, L: Realm> Domain<E, F, P, L> {
     ///
     /// Faults: `Below` where the address is below the read-only offset that the pass saw, `Beyond` where it
     /// isn't below the tail that it saw, `TouchesFull` where it has 32 touches.
+    #[inline(always)]
     pub fn store(&self, pass: &mut Pass<L>, a: u64, v: u64) -> Result<(), Fault>
         ensures answer { result ≡ unless_fault (store_fault pass.old a) tt }
         ensures pass { let old = pass.old
@@ -53,6 +54,7 @@ impl<E: Epochs + Drop, F: Task, P: Promise, L: Realm> Domain<E, F, P, L> {
     ///
     /// Faults: `Evicted` where the address is below the head that the pass saw, `Beyond` where it isn't below
     /// the tail that it saw.
+    #[inline(always)]
     pub fn load(&self, pass: &mut Pass<L>, a: u64) -> Result<u64, Fault>
         ensures answer { let met = load_fault pass.old a
             in MatchResult result (λ _. met ≡ None) (λ fault. met ≡ Some fault) }
