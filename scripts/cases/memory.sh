@@ -133,19 +133,21 @@ each_call_refused() {
     [ "$done_without" -le 8 ] || { echo "it did without $done_without of its calls"; return 1; }
 }
 
-# The first thread of a race is its riders', who race in turn with the crew for want of it. Without any other the crew
-# isn't whole.
+# The first thread of a race is its riders', who race in turn with the crew for want of it, and the sixth that of one of
+# the two that bump a domain of their own, who bump in turn. Without any other the crew isn't whole.
 each_thread_refused() {
     local status thread threads _
-    with_refusal REFUSED_THREAD=1
-    [ "$status" = 0 ] && [ "$(cat "$room/text")" = "race 1 1 ok" ] || { echo "without its first thread"; return 1; }
+    for thread in 1 6; do
+        with_refusal "REFUSED_THREAD=$thread"
+        [ "$status" = 0 ] && [ "$(cat "$room/text")" = "race 1 1 ok" ] || { echo "without thread $thread"; return 1; }
+    done
     for thread in 2 3 4 5; do
         with_refusal "REFUSED_THREAD=$thread"
         is_refused_race "without thread $thread" || return
     done
     with_refusal REFUSED_THREAD=0
     read -r _ threads < "$room/counted"
-    [ "$threads" = 5 ] || { echo "it made $threads threads"; return 1; }
+    [ "$threads" = 6 ] || { echo "it made $threads threads"; return 1; }
 }
 
 if has_all "memory refused to a race, call by call" cc; then
