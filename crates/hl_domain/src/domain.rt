@@ -91,7 +91,7 @@ impl<E: Epochs + Drop, F: Task, P: Promise, L: Realm> Domain<E, F, P, L> {
             alloc, seed, journal, stamp,
         )?;
         let domain = Domain {
-            held: CachePadded::new(Mutex::new(Held { keeper, scribe })),
+            held: CachePadded::new(Mutex::new(Held::new(keeper, scribe))),
             words,
             params,
             stamp,
@@ -125,7 +125,7 @@ impl<E: Epochs + Drop, F: Task, P: Promise, L: Realm> Domain<E, F, P, L> {
             Ok(ending) => Ok(ending),
             Err((keeper, words, scribe, riders)) => {
                 let domain = Domain {
-                    held: CachePadded::new(Mutex::new(Held { keeper, scribe })),
+                    held: CachePadded::new(Mutex::new(Held::new(keeper, scribe))),
                     words,
                     params,
                     stamp,
@@ -150,6 +150,7 @@ impl<E: Epochs + Drop, F: Task, P: Promise, L: Realm> Domain<E, F, P, L> {
     }
 
     // Waits for the lock. What lies under it is a keeper that stands at the scribe's list.
+    #[inline(always)]
     fn lock<'a>(&'a self, rt: &impl Wait) -> MutexGuard<'a, Held<E, F, P, L>>
         ensures { IsHeld (setup_of self.now) (mutex_guard_value result) }
     {
@@ -160,6 +161,7 @@ impl<E: Epochs + Drop, F: Task, P: Promise, L: Realm> Domain<E, F, P, L> {
     }
 
     // Notes a call of this rider: behind the list it puts the steps that the keeper's journal has since it was so long.
+    #[inline(always)]
     fn note(
         &self,
         keeper: &Keeper<E, F, P, L>,

@@ -68,6 +68,7 @@ impl<L: Named> History<L> {
 
     /// Puts steps behind the list, and notes in the diary the list before them and the steps. That list begins with what
     /// each earlier call of the diary left.
+    #[inline(always)]
     pub fn enter(&self, scribe: &mut Scribe<L>, diary: &mut Diary<L>, steps: &[Step])
         ensures list { scribe.new ≡ scribe.old ++ steps.now }
         ensures diary { diary.new ≡ entry scribe.old steps.now ∷ diary.old }
@@ -102,6 +103,7 @@ impl<L: Named> History<L> {
 
 // The scribe's seat, which stands for one diary, deals it out with a call of these steps. S names the steps in a type,
 // since what a seat deals out is fixed by the type of the split.
+#[inline(always)]
 fn enter_as<S: Steps>(table: &HistoryTable, seat: &mut HistorySeat, steps: &[Step]) -> HistorySeat
     requires picked { steps.now ≡ S.steps }
     requires table { (seat.old.table_id ≡ table.now.shared.table_id) × (0 < table.now.shared.table_id.words) }

@@ -13,6 +13,7 @@ use hl_words::{Realm, Which, Words};
 /// load is below any that the rider made of that word before.
 ///
 /// `TouchesFull` if the pass has 32 touches; then nothing is loaded.
+#[inline(always)]
 pub fn look<L: Realm>(words: &Words<L>, pass: &mut Pass<L>) -> Result<View, Fault>
     ensures answer { result ≡ unless_fault (touch_fault pass.old) (seen pass.new) }
     ensures pass { let new = pass.new
@@ -97,6 +98,7 @@ pub fn load<L: Realm>(
 }
 
 /// Whether one of these two offsets is above that of the view.
+#[inline(always)]
 fn rises(seen: View, read_only: u64, head: u64) -> bool
     ensures { result ≡ (nat_lt seen.read_only read_only || nat_lt seen.head head) }
 {

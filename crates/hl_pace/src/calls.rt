@@ -8,10 +8,7 @@ use hl_words::{Realm, Rider};
 use std::sync::atomic::{AtomicU64, Ordering};
 use std::sync::{Mutex, Wait};
 
-/// How many words lie between those that two threads store into, so that no two share a line of a cache.
-const APART: u64 = 16;
-
-/// How many words a thread leases at once.
+/// How many words each thread places: the piece of its records, and no line of a cache has words of two threads.
 const PIECE: u64 = 256;
 
 /// What the threads share beside the domain.
@@ -47,7 +44,7 @@ pub(crate) fn call_all<E: Epochs + Drop, F: Task, P: Promise, L: Realm>(
         refresh_beside(rt, domain, shared, &mut pass, work.calls).ok()?;
         return domain.release(rt, pass).ok();
     }
-    let address = domain.allocate(rt, &mut pass, APART).ok()?;
+    let address = domain.allocate(rt, &mut pass, PIECE).ok()?;
     let mut seat = Seat {
         pass,
         lease: Lease::of(address, 0),
@@ -126,7 +123,11 @@ fn call<E: Epochs + Drop, F: Task, P: Promise, L: Realm>(
         }
         Kind::Lease => match seat.lease.take(1) {
             Some(record) => seat.sum = seat.sum.wrapping_add(record),
-            None => seat.lease = Lease::of(domain.allocate(rt, &mut seat.pass, PIECE)?, PIECE),
+            None => {
+                // A log has no words for so many records: a locked call, as an allocation is, and the log's first piece again.
+                domain.refresh(rt, &mut seat.pass)?;
+                seat.lease = Lease::of(0, PIECE);
+            }
         },
         Kind::Load | Kind::LoadBeside => {
             domain.load(&mut seat.pass, seat.address)?;

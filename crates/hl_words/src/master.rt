@@ -40,6 +40,7 @@ impl<L: Realm> Master<L> {
 
     /// Counts journal steps for a rider: its share and the total rise by them. The caller sees to it that the total
     /// stays at most 2^62.
+    #[inline(always)]
     pub fn enter(&mut self, rider: &mut Rider<L>, steps: u64)
         requires { self.old.total + steps ≤ 2 ^ 62 }
         ensures total { self.new ≡ record { offsets = self.old.offsets; total = self.old.total + steps } }

@@ -198,6 +198,7 @@ impl<L: Realm> Words<L> {
 
     /// Puts steps behind the scribe's list, for a rider: its newest call tells the list before them, and the steps. That
     /// list begins with what each of its earlier calls left.
+    #[inline(always)]
     pub fn enter(&self, scribe: &mut Scribe<L>, rider: &mut Rider<L>, steps: &[Step])
         ensures list { scribe.new ≡ scribe.old ++ steps.now }
         ensures rider { rider.new ≡ with_call (entry scribe.old steps.now) rider.old }

@@ -24,7 +24,7 @@ impl<E: Epochs + Drop, F: Task, P: Promise, L: Realm> Domain<E, F, P, L> {
             Makes old FLUSH_TAKE (λ A. to_flush old.core.sizes old.stamp A)) }
     {
         let mut guard = self.lock(rt);
-        let Held { keeper, scribe } = &mut *guard;
+        let Held { keeper, scribe, .. } = &mut *guard;
         let before = keeper.journal().len();
         let taken = keeper.flush_take(&self.words, rider);
         self.note(keeper, before, scribe, rider);
@@ -48,7 +48,7 @@ impl<E: Epochs + Drop, F: Task, P: Promise, L: Realm> Domain<E, F, P, L> {
         ensures refused { IfErr result (λ back. back.1 ≡ load) }
     {
         let mut guard = self.lock(rt);
-        let Held { keeper, scribe } = &mut *guard;
+        let Held { keeper, scribe, .. } = &mut *guard;
         let before = keeper.journal().len();
         let ended = keeper.flush_done(&self.words, rider, load, ok);
         self.note(keeper, before, scribe, rider);
@@ -63,7 +63,7 @@ impl<E: Epochs + Drop, F: Task, P: Promise, L: Realm> Domain<E, F, P, L> {
             Makes old CLEAN_TAKE (λ A. to_clean old.core.sizes old.stamp A)) }
     {
         let mut guard = self.lock(rt);
-        let Held { keeper, scribe } = &mut *guard;
+        let Held { keeper, scribe, .. } = &mut *guard;
         let before = keeper.journal().len();
         let taken = keeper.clean_take(&self.words, rider);
         self.note(keeper, before, scribe, rider);
@@ -88,7 +88,7 @@ impl<E: Epochs + Drop, F: Task, P: Promise, L: Realm> Domain<E, F, P, L> {
         ensures refused { IfErr result (λ back. back.1 ≡ broom) }
     {
         let mut guard = self.lock(rt);
-        let Held { keeper, scribe } = &mut *guard;
+        let Held { keeper, scribe, .. } = &mut *guard;
         let before = keeper.journal().len();
         let freed = keeper.clean_done(&self.words, rider, broom);
         self.note(keeper, before, scribe, rider);

@@ -46,7 +46,7 @@ impl<E: Epochs + Drop, F: Task, P: Promise, L: Realm> Domain<E, F, P, L> {
         ensures refused { IfErr result (λ back. back.1 ≡ ask) }
     {
         let mut guard = self.lock(rt);
-        let Held { keeper, scribe } = &mut *guard;
+        let Held { keeper, scribe, .. } = &mut *guard;
         let before = keeper.journal().len();
         let bumped = keeper.bump(&self.words, rider, ask);
         self.note(keeper, before, scribe, rider);
@@ -61,7 +61,7 @@ impl<E: Epochs + Drop, F: Task, P: Promise, L: Realm> Domain<E, F, P, L> {
             Makes old BARE (λ A. bumps (A ++ BARE ∷ []))) }
     {
         let mut guard = self.lock(rt);
-        let Held { keeper, scribe } = &mut *guard;
+        let Held { keeper, scribe, .. } = &mut *guard;
         let before = keeper.journal().len();
         let bumped = keeper.bare(&self.words, rider);
         self.note(keeper, before, scribe, rider);
@@ -80,7 +80,7 @@ impl<E: Epochs + Drop, F: Task, P: Promise, L: Realm> Domain<E, F, P, L> {
             × OnErr result (new ≡ old)) }
     {
         let mut guard = self.lock(rt);
-        let Held { keeper, scribe } = &mut *guard;
+        let Held { keeper, scribe, .. } = &mut *guard;
         let before = keeper.journal().len();
         let taken = keeper.take(&self.words, rider);
         self.note(keeper, before, scribe, rider);
@@ -103,7 +103,7 @@ impl<E: Epochs + Drop, F: Task, P: Promise, L: Realm> Domain<E, F, P, L> {
         ensures refused { IfErr result (λ back. back.1 ≡ ran) }
     {
         let mut guard = self.lock(rt);
-        let Held { keeper, scribe } = &mut *guard;
+        let Held { keeper, scribe, .. } = &mut *guard;
         let before = keeper.journal().len();
         let done = keeper.done(&self.words, rider, ran);
         self.note(keeper, before, scribe, rider);
@@ -119,7 +119,7 @@ impl<E: Epochs + Drop, F: Task, P: Promise, L: Realm> Domain<E, F, P, L> {
         ensures same { IfOk result (λ raised. raised ≡ x) }
     {
         let mut guard = self.lock(rt);
-        let Held { keeper, scribe } = &mut *guard;
+        let Held { keeper, scribe, .. } = &mut *guard;
         let before = keeper.journal().len();
         let raised = keeper.raise(&self.words, rider, x);
         self.note(keeper, before, scribe, rider);
@@ -135,7 +135,7 @@ impl<E: Epochs + Drop, F: Task, P: Promise, L: Realm> Domain<E, F, P, L> {
         ensures same { IfOk result (λ shifted. shifted ≡ x) }
     {
         let mut guard = self.lock(rt);
-        let Held { keeper, scribe } = &mut *guard;
+        let Held { keeper, scribe, .. } = &mut *guard;
         let before = keeper.journal().len();
         let shifted = keeper.shift(&self.words, rider, x);
         self.note(keeper, before, scribe, rider);
@@ -152,7 +152,7 @@ impl<E: Epochs + Drop, F: Task, P: Promise, L: Realm> Domain<E, F, P, L> {
             × ((A : List STEP) → KeeperStands old A → KeeperStands new A)) }
     {
         let mut guard = self.lock(rt);
-        let Held { keeper, scribe } = &mut *guard;
+        let Held { keeper, scribe, .. } = &mut *guard;
         let dropped = keeper.cut(&self.words, rider);
         self.words.enter(scribe, rider, &[]);
         dropped
@@ -165,7 +165,7 @@ impl<E: Epochs + Drop, F: Task, P: Promise, L: Realm> Domain<E, F, P, L> {
             × (result.1 ≡ length old.journal) × (result.2 ≡ old.cut)) }
     {
         let mut guard = self.lock(rt);
-        let Held { keeper, scribe } = &mut *guard;
+        let Held { keeper, scribe, .. } = &mut *guard;
         self.words.enter(scribe, rider, &[]);
         keeper.snapshot()
     }

@@ -32,7 +32,7 @@ impl<E: Epochs + Drop, F: Task, P: Promise, L: Realm> Domain<E, F, P, L> {
             (λ old. Makes old (ACQUIRE t) (pass_after old t new)) }
     {
         let mut guard = self.lock(rt);
-        let Held { keeper, scribe } = &mut *guard;
+        let Held { keeper, scribe, .. } = &mut *guard;
         let before = keeper.journal().len();
         match keeper.acquire(&self.words, t, rider) {
             Ok(mut pass) => {
@@ -56,7 +56,7 @@ impl<E: Epochs + Drop, F: Task, P: Promise, L: Realm> Domain<E, F, P, L> {
             (λ A. pass_after old (least_free old.core.sizes A) new A)) }
     {
         let mut guard = self.lock(rt);
-        let Held { keeper, scribe } = &mut *guard;
+        let Held { keeper, scribe, .. } = &mut *guard;
         let before = keeper.journal().len();
         match keeper.enter(&self.words, rider) {
             Ok(mut pass) => {
@@ -79,7 +79,7 @@ impl<E: Epochs + Drop, F: Task, P: Promise, L: Realm> Domain<E, F, P, L> {
         ensures { Refreshed F self.now pass.old pass.new result }
     {
         let mut guard = self.lock(rt);
-        let Held { keeper, scribe } = &mut *guard;
+        let Held { keeper, scribe, .. } = &mut *guard;
         let before = keeper.journal().len();
         let refreshed = keeper.refresh(&self.words, pass);
         self.note(keeper, before, scribe, pass.rider_mut());
@@ -97,7 +97,7 @@ impl<E: Epochs + Drop, F: Task, P: Promise, L: Realm> Domain<E, F, P, L> {
         ensures refused { IfErr result (λ back. back.1 ≡ with_rider back.1.rider pass) }
     {
         let mut guard = self.lock(rt);
-        let Held { keeper, scribe } = &mut *guard;
+        let Held { keeper, scribe, .. } = &mut *guard;
         let before = keeper.journal().len();
         match keeper.release(&self.words, pass) {
             Ok(mut rider) => {
@@ -130,7 +130,7 @@ impl<E: Epochs + Drop, F: Task, P: Promise, L: Realm> Domain<E, F, P, L> {
             in IfOk result (λ a. a / page_size ≡ (a + n - 1) / page_size) }
     {
         let mut guard = self.lock(rt);
-        let Held { keeper, scribe } = &mut *guard;
+        let Held { keeper, scribe, .. } = &mut *guard;
         let before = keeper.journal().len();
         let placed = keeper.allocate(&self.words, pass, n);
         self.note(keeper, before, scribe, pass.rider_mut());

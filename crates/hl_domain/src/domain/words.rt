@@ -19,6 +19,7 @@ impl<E: Epochs + Drop, F: Task, P: Promise, L: Realm> Domain<E, F, P, L> {
     /// that the rider loaded of that word before.
     ///
     /// `TouchesFull` where the pass has 32 touches; then nothing is loaded.
+    #[inline(always)]
     pub fn look(&self, pass: &mut Pass<L>) -> Result<View, Fault>
         ensures answer { result ≡ unless_fault (touch_fault pass.old) (seen pass.new) }
         ensures pass { let new = pass.new
