@@ -11,7 +11,8 @@
 //! | to place, store and load words in a thread | a [`Session`], which a [`Rider`] enters |
 //! | pages written and frames freed behind the threads | a [`Crew`], by a [`Duty`], with two page writers, until its [`Stop`] is given |
 //! | to know why a call was refused, and what it was handed | [`Fault`], [`Refused`] |
-//! | the log's own calls (bumps, cuts, pages by hand) | the methods of [`Log`], which is a [`Domain`] |
+//! | jobs that run once all threads have moved on | a [`Task`], the `Job` of your [`Work`] or [`Part`], which [`Session::bump`] stores |
+//! | the log's own calls (raises, shifts, pages by hand) | the methods of [`Log`], which is a [`Domain`] |
 //! | the forms for one thread, or under a lock of your own | `hl_cells`, `hl_core`: they aren't re-exported here |
 //!
 //! A value with the brand `L` (a log, a rider, a pass, a session) doesn't compile with another log.

@@ -43,7 +43,7 @@ impl Duty {
     }
 
     /// The same, but the journal is cut at the end of each turn that leaves more than this many
-    /// steps in it, and at once if it is full.
+    /// steps in it, and when a call of the crew's own finds it full.
     pub fn cutting_above(self, steps: u64) -> Duty
         ensures { result ≡ record self { cut_above = Some steps } }
     {

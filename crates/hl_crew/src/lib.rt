@@ -34,8 +34,8 @@
 //!
 //! # How it ends
 //!
-//! The flusher ends once its turns are over, or earlier if the journal is full and may not be cut,
-//! or if a channel fails; it then stops the writers, and the cleaner ends once no page is closed. A
+//! The flusher ends once its turns are over, or earlier if the journal is full, unless it serves by
+//! a duty that cuts, or if a channel fails; it then stops the writers, and the cleaner ends once no page is closed. A
 //! crew that serves makes at most 1,000 turns after its stop, up to the first that got nowhere. At
 //! the end of each turn no page that it took is in flight, and no action that it took is still
 //! taken. What was taken and can't be answered is forsaken: such a page stays in flight or in
@@ -48,8 +48,7 @@
 //! other than `OutOfMemory` a clause. Inside, of each function that does a step: what it made under
 //! the domain's lock, in what order, and what it counted. A flusher's turn keeps the lag that was
 //! ordered, by steps in their order up to the first that is refused, and ends if the journal is
-//! full; it runs each action that it takes and answers it done, up to four, or until none is ready;
-//! it answers a page as its acknowledgement says, and counts that answer if it was accepted; what
+//! full; if its actions end well, it ran each that it took and answered it done, up to four; it answers a page as its acknowledgement says, and counts that answer if it was accepted; what
 //! nobody acknowledged it counts as failed. Its turns end when they are over, or when one of them
 //! failed. A page reported as written was let through by the gate and copied, and its image was
 //! written; a page reported as clean was swept. No clause says that a thread gets on, what a

@@ -27,7 +27,8 @@
 //! `holders` and `frame_of` take no rider and note nothing: each is answered at some list.
 //!
 //! `look`, `store`, `load`, `fetch_add`, `compare_exchange`, `copy_page` and `sweep` take no lock, and their clauses are
-//! exact in the pass, the broom and the rider; `keep_up` takes the lock only if anything is new. `close` hands on the rule
+//! exact in the pass, the broom and the rider; `keep_up` takes the lock only if anything is new, or the pass has no
+//! room for a touch. `close` hands on the rule
 //! of the words too, of exactly what these riders stored and loaded: a load found its rider's own last store there, or
 //! another rider's store, or a 0 where the rider had seen nothing else; a look found an address to which a raise or a
 //! shift of the list moved, or 0.

@@ -9,6 +9,8 @@
 //! | `refusals` | riders that are missing |
 //! | `journals` | how many steps a journal holds |
 //! | `protected` | a thread that settles and cuts with a pass in its hands, and asks who holds it up |
+//! | `keeps_up` | when a pass that is kept up refreshes, and when it doesn't |
+//! | `turns` | two threads that bump a new domain |
 //! | `limits` | the greatest sizes, stamps and journals, and a chain of jobs |
 //! | `follow`, `play` | plays an example; what is asked, with the values that the calls use |
 //! | `call`, `ending` | reads a call, and prints what is left at the end |

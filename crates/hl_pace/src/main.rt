@@ -1,9 +1,11 @@
-//! Makes calls of a domain in some threads, for `measure/threads` to time: `hl_pace KIND THREADS CALLS`.
+//! Makes calls of a domain in some threads, for `measure/threads`, `measure/journal` and `./hl bench domains` to time:
+//! `hl_pace KIND THREADS CALLS`.
 //!
 //! The kinds are `refresh`, `allocate`, `store`, `load`, `look`, `add` (an add to a word in one step), `lease` (a record of
 //! one word from a lease), `keep_up` where nothing is new, `load_beside` (loads of all threads but one, which
 //! refreshes meanwhile), and `lock`, which adds to a number under a lock and so shows what the lock itself costs. Each
-//! thread has a slot of its own and makes as many calls. Nothing is printed; the status is 1 if a call was refused.
+//! thread has a slot of its own and makes CALLS calls. The journal has room for 2^21 steps, and is cut when it is full.
+//! Nothing is printed; the status is 1 if a call was refused.
 //!
 //! `hl_pace idle SECONDS` makes no call: a thread sleeps that long in its slot, beside a crew that
 //! serves and has nothing to do. What the process uses meanwhile is what such a crew costs.

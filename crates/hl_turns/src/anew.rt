@@ -15,7 +15,7 @@ use std::thread::Threads;
 const JOURNAL: u64 = 2;
 
 /// The domain's stamp.
-const STAMP: u64 = 1000;
+const STAMP: u64 = 2000;
 
 /// Opens a small domain, and lets each of two threads end an epoch there, as [`bump_in_turn`] tells. That neither is
 /// refused is not proved: a test sees it.
@@ -35,7 +35,7 @@ where
     R: Threads + Wait + Sync,
     L: Realm + Send + Sync,
     requires seed { IsSeedOf L.name L.parts L.table seed }
-    requires named { (seed.sizes ≡ L.sizes) × (1000 ≡ L.stamp) × (2 ≡ L.limit) }
+    requires named { (seed.sizes ≡ L.sizes) × (2000 ≡ L.stamp) × (2 ≡ L.limit) }
     ensures { IfSome result IsInTurn }
 {
     let (domain, mut riders) = Domain::<CountTable, NoJob, AnyAnswer, L>::open(

@@ -7,8 +7,8 @@
 //! sentences nothing follows about both: each may have met a list with no step, and both would be answered 1. Closing
 //! the domain says what joins them: there is ONE list, it begins with what each call of each rider met and then made,
 //! and each of its steps was made by exactly one of these calls. So the two calls stand in that list one behind the
-//! other, and nothing else stands there. All that the proof knows of a domain is the contracts of `Domain::bare` and
-//! `Domain::close`.
+//! other, and nothing else stands there. All that the proof knows of a domain is the contracts of `Domain::open`,
+//! `Domain::bare` and `Domain::close`.
 #![tactic(auto)]
 
 mod anew;

@@ -1,7 +1,7 @@
 //! Shared words: cells, which many threads load and store with no lock, and three words that one stores and all load.
 //!
-//! A `Seed` becomes `Words`, which threads share by a `&`, one `Master` and some `Rider`s. A rider stores into cells and
-//! loads any word. The master alone stores its three words, the two offset words and the last epoch that ended: they
+//! A `Seed` becomes `Words`, which threads share by a `&`, one `Master` and some `Rider`s. A rider stores into cells,
+//! changes one in one step, and loads any word. The master alone stores its three words, the two offset words and the last epoch that ended: they
 //! never fall. It also counts the journal steps that riders enter. At the end `Words::close` takes them all back, and
 //! gives the `LastWords`, to be read alone.
 //!
@@ -26,7 +26,8 @@
 //! rider's last store there; a load is of the rider's last store before it, or of a value that another rider stores, or
 //! of 0 if the rider had seen nothing else there; a word of the master's is its last store and never falls, and each
 //! that a rider loaded is one of the master's stores, or 0, and at most the last. `close` says it of exactly what the
-//! riders stored and loaded that are handed in, and of what the words hold then, which `LastWords` tells.
+//! riders stored and loaded that are handed in, and of what the words hold then, which `LastWords` tells. What a change
+//! found counts as a load, and what it left as a store.
 //!
 //! Only the types keep the following, and no contract says it: that the rule holds while threads still run (the contract
 //! of one load says just that the rider noted it); that a rider is used by one thread at a time; that values of two
