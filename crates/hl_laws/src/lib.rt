@@ -8,8 +8,8 @@
 //!   of an accepted list is in its type, which is why it stands here;
 //! - `proofs/`: lemmas on the definitions, which the crates above cite.
 //!
-//! The parts of an allocator (table, drain list, offsets, frames, words, lines) stand on `hl_model` alone, and are not
-//! checked again where a law changes.
+//! The parts of an allocator (table, drain list, offsets, frames, words, lines) cite no law, and are not checked again
+//! where one changes.
 #![tactic(auto)]
 
 mod base;

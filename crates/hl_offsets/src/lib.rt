@@ -30,7 +30,8 @@
 //! callers settle and close, and of a core the law `hl_laws::laws::headline`.
 //!
 //! These are FASTER's offsets (Chandramouli, Prasaad, Kossmann, Levandoski, Hunter, Barnett, SIGMOD 2018, the
-//! section on the HybridLog), but for the closed one.
+//! section on the HybridLog), but for the closed one, which the paper doesn't name (FASTER's code does:
+//! `SafeHeadAddress`).
 //!
 //! # How they move
 //!

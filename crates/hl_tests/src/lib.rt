@@ -4,8 +4,9 @@
 //! of epochs, `report` that of `hl_monitor`. What a clause says is tested nowhere; that the clauses mean what
 //! was meant is shown by the examples that the built program is run on.
 //!
-//! This crate has no code beside its tests: a crate with tests is proved twice, so only this one and
-//! `hl_run_tests` have any. It stands on every part that the program needs, and on nothing above them.
+//! This crate has no code beside its tests: a crate with tests is proved twice, so only this one,
+//! `hl_run_tests`, `hl_domain_tests` and `hl_crew_tests` have any. It stands on every part that the program needs, and
+//! on nothing above them.
 #![tactic(auto)]
 
 #[cfg(test)]
