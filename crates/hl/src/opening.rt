@@ -4,7 +4,7 @@ ghost use Rattle.hl.specs.Openings.{can_open, IsInRange};
 use hl_model::Params;
 
 /// How many riders a log has at most.
-const RIDERS_MOST: u64 = 128;
+const RIDERS_MOST: u64 = 2048;
 
 /// The greatest length of a journal, and the greatest stamp.
 const STEPS_MOST: u64 = 1 << 62;
@@ -14,7 +14,7 @@ const STEPS_MOST: u64 = 1 << 62;
 pub struct Opening {
     /// Words a page, frames, slots, and places for actions.
     pub params: Params,
-    /// How many riders, 1 to 128: one for each thread that is to act at a time, and four for a crew.
+    /// How many riders, 1 to 2,048: one for each thread that is to act at a time, and four for a crew.
     pub riders: u64,
     /// How many steps the journal may keep between two cuts, at most 2^62. Its memory is taken at the opening.
     pub journal: u64,

@@ -1,4 +1,4 @@
-ghost use Rattle.std.specs.Prelude.{◌≡◌, ◌<◌, ◌≤◌, List, IfSome};
+ghost use Rattle.std.specs.Prelude.{◌≡◌, ◌<◌, ◌≤◌, List, IfSome, slice_get};
 ghost use Rattle.hl_model.specs.declared.step.Step.{Step};
 ghost use Rattle.hl_model.specs.Actions.{pending};
 ghost use Rattle.hl_model.specs.Views.{slot_view};
@@ -46,8 +46,16 @@ impl<E: Epochs, F: Task, P: Promise> Engine<E, F, P> {
         self.core.snapshot()
     }
 
-    /// The pending actions, oldest first.
+    /// The n-th pending action, oldest first, counted from 0; None if fewer are pending.
+    pub fn pending_at(&self, n: u64) -> Option<Waiting>
+        ensures { (A : List Step) → EngineStands self.now A → result ≡ slice_get (pending A) n }
+    {
+        self.core.pending_at(n)
+    }
+
+    /// The pending actions, oldest first. At most 64 actions may be stored.
     pub fn pending(&self) -> ArrayVec<Waiting, 64>
+        requires narrow { self.now.core.sizes.drain ≤ 64 }
         ensures { (A : List Step) → EngineStands self.now A → result.items ≡ pending A }
     {
         self.core.pending()

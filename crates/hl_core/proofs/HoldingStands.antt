@@ -1,9 +1,9 @@
 -- Who holds an action up, told by a core that stands at a list.
-use Rattle.std.proofs.Common.{◌≡◌, ℕ, ◌+◌, ◌<◌, ◌≤◌, cond, is_none, List, [], ◌∷◌, ◌++◌, map, refl, sym, ap, ◌∙◌, zero-add}
-use Rattle.std.specs.Prelude.{Option, Some, None, slice_get, unwrap_or}
+use Rattle.std.proofs.Common.{◌≡◌, ℕ, ◌+◌, ◌<◌, ◌≤◌, cond, is_none, List, [], ◌∷◌, ◌++◌, length, take, map, refl, sym, ap, ◌∙◌, arith, inl, inr, length-append, length-take, zero-add}
+use Rattle.std.specs.Prelude.{Option, Some, None, option_map, slice_get, unwrap_or}
 use Rattle.std.specs.List.{filter_map, position, range_with_len}
-use Rattle.std.proofs.lemmas.Bool.{le-leb, lt-leb}
-use Rattle.std.proofs.lemmas.List.{append-nil}
+use Rattle.std.proofs.lemmas.Bool.{le-leb, lt-leb, cases_lt}
+use Rattle.std.proofs.lemmas.List.{append-nil, take_all, take-append-le}
 use Rattle.std.proofs.lemmas.List.Elements.{filter_map-append}
 use Rattle.std.proofs.lemmas.List.FromFn.{map-range_with_len_more}
 use Rattle.hl_model.specs.declared.action.Waiting.{Waiting}
@@ -15,7 +15,9 @@ use Rattle.hl_epoch.specs.Table.{epoch_at}
 use Rattle.hl_core.specs.declared.holders.Holder.{Holder}
 use Rattle.hl_core.specs.Standing.{State, Stands}
 use Rattle.hl_core.specs.Holding.{holding, holders_of, oldest, holders, least_free}
+use Rattle.hl_drain.specs.Actions.{waiting_of}
 use Rattle.hl_core.proofs.BaseStands.{epoch_is}
+use Rattle.hl_core.proofs.TakeStands.{first_front}
 
 -- of no slots none holds anything up
 pub holders_of-none : (c : ℕ) (A : List Step) → [] ≡ holders_of 0 c A
@@ -29,17 +31,32 @@ holders_of-next n c A =
     ap (filter_map (λ holder. holder)) (map-range_with_len_more (λ t. holding c t (slot_epoch t A)) 0 n n (zero-add n))
     ∙ filter_map-append (λ holder. holder) (map (λ t. holding c t (slot_epoch t A)) (range_with_len 0 n)) (holding c n (slot_epoch n A) ∷ [])
 
+-- the first elements with one more: where fewer are there, it is one of them
+pub pushed_within : (most : ℕ) (all row : List Holder) (holder : Holder) → length row < most → row ≡ take most all → row ++ holder ∷ [] ≡ take most (all ++ holder ∷ [])
+pushed_within most all row holder room h =
+    let few : length all < most = elim (cases_lt (length all) most) [
+      | inl less ↦ less
+      | inr more ↦ absurd (omega (arith, room, ap length h, length-take most all))
+    ] in
+    let same : row ≡ all = h ∙ take_all most all (omega arith) in
+    ap (λ xs. xs ++ holder ∷ []) same ∙ sym (take_all most (all ++ holder ∷ []) (simp length-append (omega arith)))
+
+pub pushed_past : (most : ℕ) (all row : List Holder) (holder : Holder) → length row ≡ most → row ≡ take most all → row ≡ take most (all ++ holder ∷ [])
+pushed_past most all row holder full h =
+    let many : most ≤ length all = omega (arith, full, ap length h, length-take most all) in
+    h ∙ sym (take-append-le most all (holder ∷ []) many)
+
 -- a list without a first element
-pub nothing_first : {X : Type 0} (xs : List X) → None ≡ slice_get xs 0 → xs ≡ []
-nothing_first [] h = refl
-nothing_first (x ∷ xs) h = cc
+nothing_first : {X Y : Type 0} (f : X → Y) (xs : List X) → None ≡ option_map f (slice_get xs 0) → xs ≡ []
+nothing_first f [] h = refl
+nothing_first f (x ∷ xs) h = cc
 
 -- the oldest action and who holds it up, told the pending actions
-pub none_pending : (n : ℕ) (A : List Step) (ws : List Waiting) → ws ≡ pending A → ws ≡ [] → (None ≡ oldest A) × ([] ≡ holders n A)
+none_pending : (n : ℕ) (A : List Step) (ws : List Waiting) → ws ≡ pending A → ws ≡ [] → (None ≡ oldest A) × ([] ≡ holders n A)
 unfolding oldest holders
 none_pending n A ws is e = rw (sym is ∙ e) (refl, refl)
 
-pub first_pending : (n : ℕ) (A : List Step) (w : Waiting) (ws vs : List Waiting) → ws ≡ pending A → ws ≡ w ∷ vs → (Some w.ticket ≡ oldest A) × (holders_of n w.ticket A ≡ holders n A)
+first_pending : (n : ℕ) (A : List Step) (w : Waiting) (ws vs : List Waiting) → ws ≡ pending A → ws ≡ w ∷ vs → (Some w.ticket ≡ oldest A) × (holders_of n w.ticket A ≡ holders n A)
 unfolding oldest holders
 first_pending n A w ws vs is e = rw (sym is ∙ e) (refl, refl)
 
@@ -59,16 +76,27 @@ module _ {J : Type 0} (tag : J → ℕ) (core : State J) where
       sym (ap (λ b. cond b (Some at) None) (lt-leb epoch c gt)) ∙ ap (holding c t) (h ∙ epoch_is tag core t A st lt)
 
   -- the row of holders with one slot more
-  abbrev pub HoldersTo : ℕ → List Holder → ℕ → Type 0
-  HoldersTo c row n = (A : List Step) → Stands tag core A → row ≡ holders_of n c A
+  abbrev pub HoldersTo : ℕ → ℕ → List Holder → ℕ → Type 0
+  HoldersTo most c row n = (A : List Step) → Stands tag core A → row ≡ take most (holders_of n c A)
 
-  pub holders_more : (c t : ℕ) (row : List Holder) (holder : Holder) → HoldersTo c row t → ((A : List Step) → Stands tag core A → Some holder ≡ holding c t (slot_epoch t A)) → HoldersTo c (row ++ holder ∷ []) (t + 1)
-  holders_more c t row holder h k A st =
-      ap (λ xs. xs ++ holder ∷ []) (h A st) ∙ ap (λ o. holders_of t c A ++ filter_map (λ holder. holder) (o ∷ [])) (k A st) ∙ sym (holders_of-next t c A)
+  pub holders_more : (most c t : ℕ) (row after : List Holder) (holder : Holder) → HoldersTo most c row t → ((all : List Holder) → row ≡ take most all → after ≡ take most (all ++ holder ∷ [])) → ((A : List Step) → Stands tag core A → Some holder ≡ holding c t (slot_epoch t A)) → HoldersTo most c after (t + 1)
+  holders_more most c t row after holder h pushed k A st =
+      pushed (holders_of t c A) (h A st) ∙ ap (take most) (ap (λ o. holders_of t c A ++ filter_map (λ holder. holder) (o ∷ [])) (k A st) ∙ sym (holders_of-next t c A))
 
-  pub holders_same : (c t : ℕ) (row : List Holder) → HoldersTo c row t → ((A : List Step) → Stands tag core A → None ≡ holding c t (slot_epoch t A)) → HoldersTo c row (t + 1)
-  holders_same c t row h k A st =
-      h A st ∙ sym (append-nil (holders_of t c A)) ∙ ap (λ o. holders_of t c A ++ filter_map (λ holder. holder) (o ∷ [])) (k A st) ∙ sym (holders_of-next t c A)
+  pub holders_same : (most c t : ℕ) (row : List Holder) → HoldersTo most c row t → ((A : List Step) → Stands tag core A → None ≡ holding c t (slot_epoch t A)) → HoldersTo most c row (t + 1)
+  holders_same most c t row h k A st =
+      h A st ∙ ap (take most) (sym (append-nil (holders_of t c A)) ∙ ap (λ o. holders_of t c A ++ filter_map (λ holder. holder) (o ∷ [])) (k A st) ∙ sym (holders_of-next t c A))
+
+  -- the oldest action and who holds it up, told the front by the drain list
+  pub oldest_none : None ≡ option_map (λ entry. entry.0) (slice_get core.drain.pending 0) → (A : List Step) → Stands tag core A → (None ≡ oldest A) × ([] ≡ holders core.sizes.slots A)
+  oldest_none h A st =
+      none_pending core.sizes.slots A (map (waiting_of tag) core.drain.pending) st.pending_is (ap (map (waiting_of tag)) (nothing_first (λ entry. entry.0) core.drain.pending h))
+
+  pub oldest_some : (n : ℕ) → Some n ≡ option_map (λ entry. entry.0) (slice_get core.drain.pending 0) → (A : List Step) → Stands tag core A → (Some n ≡ oldest A) × (holders_of core.sizes.slots n A ≡ holders core.sizes.slots A)
+  oldest_some n h A st =
+      let first = first_front tag core.drain.pending n h in
+      let told = first_pending core.sizes.slots A first.0 (map (waiting_of tag) core.drain.pending) first.1 st.pending_is first.2 in
+      (ap (λ m. Some m) first.3 ∙ told.0, ap (λ m. holders_of core.sizes.slots m A) first.3 ∙ told.1)
 
   -- the least free slot
   pub free_told : (views : List (Option View)) (o : Option ℕ) → views ≡ core.views → o ≡ position is_none views → (A : List Step) → Stands tag core A → unwrap_or o core.sizes.slots ≡ least_free core.sizes A

@@ -29,8 +29,8 @@ one_digit_divides (suc k) n one h =
     let found : (m : ℕ) × (m * n ≡ 2 ^ k * 2) = halved n (2 ^ k) one (λ half. one_digit_divides k (n / 2) half (omega (arith, pow-suc 2 k))) (cases_eq (n % 2) 0) in
     (found.0, found.1 ∙ sym (pow-suc 2 k))
 
--- pages of a power of two words, up to 4,096, end at 2^48
-pub whole_pages : (page_size : ℕ) → 0 < page_size → page_size ≤ 4096 → IsTrue (is_power_of_two page_size) → 2 ^ 48 / page_size * page_size ≡ 2 ^ 48
+-- pages of a power of two words, up to 2^20, end at 2^48
+pub whole_pages : (page_size : ℕ) → 0 < page_size → page_size ≤ 2 ^ 20 → IsTrue (is_power_of_two page_size) → 2 ^ 48 / page_size * page_size ≡ 2 ^ 48
 whole_pages page_size some most power =
     let whole : (m : ℕ) × (m * page_size ≡ 2 ^ 48) = one_digit_divides 48 page_size (eqb-true (count_ones page_size) 1 power) (omega arith) in
     let count : 2 ^ 48 / page_size ≡ whole.0 = ap (λ n. n / page_size) (sym whole.1) ∙ mul-div_cancel whole.0 some in

@@ -1,6 +1,6 @@
 -- Where a core stands after a take.
 use Rattle.std.proofs.Common.{◌≡◌, ℕ, ◌<◌, ◌≤◌, Bool, true, false, cond, eqb, leb, ltb, List, [], ◌∷◌, ◌++◌, length, map, drop, get_or, refl, sym, ap, ap₂, ◌∙◌, subst, arith, eq-eqb, ne_eqb}
-use Rattle.std.specs.Prelude.{Some, None, Ok, Err}
+use Rattle.std.specs.Prelude.{Some, None, Ok, Err, option_map, slice_get}
 use Rattle.std.proofs.lemmas.Bool.{leb-true, leb-false, le-ltb, lt-ltb}
 use Rattle.hl_model.specs.declared.action.Waiting.{Waiting}
 use Rattle.hl_model.specs.declared.fault.Fault.{Fault}
@@ -148,3 +148,19 @@ module _ {J : Type 0} (tag : J → ℕ) where
       let named : w.ticket ≡ front A = ticket-front A w rest first in
       let same : safe ≡ safe_epoch core.sizes.slots A = s ∙ safe_is core A st in
       sym (ap (λ o. unless_fault o (tt {0})) (fault_ready (length (pending A)) (front A) (safe_epoch core.sizes.slots A) (omega (arith, ap length first)) (omega (arith, ready, named, same))))
+
+  -- the first of some actions, told its ticket
+  pub first_front : (ps : List (ℕ × Action J)) (n : ℕ) → Some n ≡ option_map (λ entry. entry.0) (slice_get ps 0) → (w : Waiting) × (rest : List Waiting) × (map (waiting_of tag) ps ≡ w ∷ rest) × (n ≡ w.ticket)
+  first_front [] n h = absurd cc
+  first_front (p ∷ ps) n h = (waiting_of tag p, map (waiting_of tag) ps, refl, cc)
+
+  -- what a take finds, told the front by the drain list
+  pub early_front : (core : State J) (n safe : ℕ) → Some n ≡ option_map (λ entry. entry.0) (slice_get core.drain.pending 0) → safe ≡ safe_of core.table → safe < n → (A : List Step) → Stands tag core A → Err (NotReady n safe) ≡ unless_fault (take_fault core.sizes A) (tt {0})
+  early_front core n safe h s early A st =
+      let first = first_front core.drain.pending n h in
+      ap (λ m. Err (NotReady m safe)) first.3 ∙ early_told core (map (waiting_of tag) core.drain.pending) first.1 first.0 safe refl first.2 s (omega (arith, early, first.3)) A st
+
+  pub ready_front : (core : State J) (n safe : ℕ) → Some n ≡ option_map (λ entry. entry.0) (slice_get core.drain.pending 0) → safe ≡ safe_of core.table → n ≤ safe → (A : List Step) → Stands tag core A → Ok (tt {0}) ≡ unless_fault (take_fault core.sizes A) (tt {0})
+  ready_front core n safe h s ready A st =
+      let first = first_front core.drain.pending n h in
+      ready_told core (map (waiting_of tag) core.drain.pending) first.1 first.0 safe refl first.2 s (omega (arith, ready, first.3)) A st

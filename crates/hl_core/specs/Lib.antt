@@ -2,6 +2,7 @@ pub mod Holding
 pub mod Rise
 pub mod Standing
 pub mod Steps
+pub mod Telling
 pub use Rattle.hl_model.specs.Actions
 pub use Rattle.hl_model.specs.Bases
 pub use Rattle.hl_model.specs.Frames

@@ -69,11 +69,9 @@ impl<E: Epochs, J: Tagged> Core<E, J> {
         ensures { (A : List STEP) → Stands J.tag self.now A
             → result ≡ unless_fault (fault_of self.now.sizes A TAKE) tt }
     {
-        let pending = self.drain.pending();
-        let Some(oldest) = pending.first() else {
+        let Some(front) = self.drain.front() else {
             return Err(Fault::Empty);
         };
-        let front = oldest.ticket;
         let safe = self.table.safe();
         if front > safe {
             return Err(Fault::NotReady { front, safe });
@@ -85,7 +83,7 @@ impl<E: Epochs, J: Tagged> Core<E, J> {
         ensures { (A : List STEP) → Stands J.tag self.now A
             → result ≡ unless_fault (fault_of self.now.sizes A (DONE ticket)) tt }
     {
-        if has_ticket(&self.drain.taken(), ticket) {
+        if has_ticket(self.drain.taken_row(), ticket) {
             Ok(())
         } else {
             Err(Fault::NotTaken)

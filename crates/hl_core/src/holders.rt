@@ -1,8 +1,9 @@
 //! Who holds the oldest action up, and the least free slot.
-ghost use Rattle.std.specs.Prelude.{◌≡◌, ◌<◌, is_none, List, []};
+ghost use Rattle.std.specs.Prelude.{◌≡◌, ◌<◌, is_none, take, List, [], ◌∷◌, ◌++◌};
 ghost use Rattle.std.specs.List.{position};
 ghost use Rattle.hl_model.specs.declared.step.Step.{Step};
 ghost use Rattle.hl_model.specs.Epochs.{slot_epoch};
+ghost use Rattle.hl_core.specs.declared.holders.Holder.{Holder};
 ghost use Rattle.hl_core.specs.Standing.{Stands};
 ghost use Rattle.hl_core.specs.Holding.{holding, holders_of, oldest, holders, least_free};
 
@@ -21,18 +22,18 @@ pub struct Holder {
 }
 
 impl<E: Epochs, J: Tagged> Core<E, J> {
-    /// The ticket of the oldest pending action, and into the row the slots that hold it up, least first. Each of them
-    /// has to refresh or to leave before a take gives that action; where the row is empty, the next take does.
+    /// The ticket of the oldest pending action, and into the row the slots that hold it up, least first: the first N of
+    /// them, where there are more. Each of them has to refresh or to leave before a take gives that action; where the
+    /// row is empty, the next take does.
     ///
     /// None, and no slot, where no action is pending.
-    pub fn holders(&self, row: &mut ArrayVec<Holder, 64>) -> Option<u64>
+    pub fn holders<const N: usize>(&self, row: &mut ArrayVec<Holder, N>) -> Option<u64>
         ensures ticket { (A : List Step) → Stands J.tag self.now A → result ≡ oldest A }
         ensures row { (A : List Step) → Stands J.tag self.now A
-            → row.new.items ≡ holders self.now.sizes.slots A }
+            → row.new.items ≡ take N (holders self.now.sizes.slots A) }
     {
         row.clear();
-        let pending = self.drain.pending();
-        let ticket = pending.first()?.ticket;
+        let ticket = self.drain.front()?;
         self.hold(ticket, row);
         Some(ticket)
     }
@@ -47,15 +48,15 @@ impl<E: Epochs, J: Tagged> Core<E, J> {
         }
     }
 
-    /// Puts the slots that hold up the action of this ticket into a row that has none.
-    fn hold(&self, ticket: u64, row: &mut ArrayVec<Holder, 64>)
+    /// Puts the slots that hold up the action of this ticket into a row that has none, as far as there is room.
+    fn hold<const N: usize>(&self, ticket: u64, row: &mut ArrayVec<Holder, N>)
         requires { row.old.items ≡ [] }
         ensures { (A : List Step) → Stands J.tag self.now A
-            → row.new.items ≡ holders_of self.now.sizes.slots ticket A }
+            → row.new.items ≡ take N (holders_of self.now.sizes.slots ticket A) }
     {
         for t in 0..self.params.slots() {
             if let Some(holder) = self.holder(ticket, t) {
-                row.push(holder);
+                push_within(row, holder);
             }
         }
     }
@@ -71,6 +72,16 @@ impl<E: Epochs, J: Tagged> Core<E, J> {
         } else {
             None
         }
+    }
+}
+
+// Puts a holder behind a row, if there is room: so a row of the first N holders stays one.
+fn push_within<const N: usize>(row: &mut ArrayVec<Holder, N>, holder: Holder)
+    ensures { (all : List Holder) → row.old.items ≡ take N all
+        → row.new.items ≡ take N (all ++ holder ∷ []) }
+{
+    if !row.is_full() {
+        row.push(holder);
     }
 }
 

@@ -1,4 +1,4 @@
-ghost use Rattle.std.specs.Prelude.{◌≡◌, ◌<◌, ◌≤◌, List, IfSome, count_by, is_some};
+ghost use Rattle.std.specs.Prelude.{◌≡◌, ◌<◌, ◌≤◌, List, IfSome, count_by, is_some, length, slice_get};
 ghost use Rattle.hl_model.specs.declared.step.Step.{Step};
 ghost use Rattle.hl_model.specs.Actions.{pending};
 ghost use Rattle.hl_model.specs.Views.{slot_view};
@@ -44,15 +44,30 @@ impl<E: Epochs, J: Tagged> Core<E, J> {
             epoch: self.table.current(),
             safe: self.table.safe(),
             protected: self.protected(),
-            pending: self.drain.pending().len() as u64,
-            taken: self.drain.taken().len() as u64,
+            pending: self.drain.pending_count(),
+            taken: self.drain.taken_row().len() as u64,
             six: self.six(),
             frames: self.frame_counts(),
         }
     }
 
-    /// The pending actions, oldest first.
+    /// How many actions are pending.
+    pub fn pending_count(&self) -> u64
+        ensures { (A : List Step) → Stands J.tag self.now A → result ≡ length (pending A) }
+    {
+        self.drain.pending_count()
+    }
+
+    /// The n-th pending action, oldest first, counted from 0; None if fewer are pending.
+    pub fn pending_at(&self, n: u64) -> Option<Waiting>
+        ensures { (A : List Step) → Stands J.tag self.now A → result ≡ slice_get (pending A) n }
+    {
+        self.drain.pending_at(n)
+    }
+
+    /// The pending actions, oldest first. At most 64 actions may be stored.
     pub fn pending(&self) -> ArrayVec<Waiting, 64>
+        requires narrow { self.now.sizes.drain ≤ 64 }
         ensures { (A : List Step) → Stands J.tag self.now A → result.items ≡ pending A }
     {
         self.drain.pending()

@@ -11,7 +11,7 @@ use std::marker::Model;
 #[derive(Drop)]
 pub struct Ring {
     // It has no room beside its places.
-    counts: Vec<u8>,
+    counts: Vec<u16>,
     turns: u64,
 }
 
@@ -81,7 +81,7 @@ impl Ring {
     pub fn add(&mut self, at: Placed)
         requires few { self.old.turns < 2 ^ 32 }
         requires placed { HasPlace at self.old.counts }
-        requires room { count_at at.epoch self.old.counts < 255 }
+        requires room { count_at at.epoch self.old.counts < 65535 }
         ensures counts { self.new.counts ≡ added at.epoch self.old.counts }
         ensures turns { self.new.turns ≡ self.old.turns + 1 }
     {

@@ -41,7 +41,7 @@ module _ {J : Type 0} where
   -- what is true of each drain list
   pub record IsDrain (lists : Lists J) : Type 0 where
     pub limit_least : 1 ≤ lists.limit
-    pub limit_most : lists.limit ≤ 64
+    pub limit_most : lists.limit ≤ 4096
     pub within_limit : count_of lists ≤ lists.limit
     pub rising : AllPairs (λ earlier later. earlier < later) (tickets lists)
 

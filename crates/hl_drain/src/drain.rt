@@ -1,4 +1,4 @@
-ghost use Rattle.std.specs.Prelude.{◌≡◌, ◌↔◌, ◌<◌, ◌≤◌, ◌==◌, [], map, position, slice_get, All, IsTrue, IfOk, IfErr, OnErr, IfNone};
+ghost use Rattle.std.specs.Prelude.{◌≡◌, ◌↔◌, ◌<◌, ◌≤◌, ◌==◌, [], length, map, option_map, position, slice_get, All, IsTrue, IfOk, IfErr, OnErr, IfNone};
 
 use crate::action::Action;
 use crate::pending::Pending;
@@ -33,12 +33,12 @@ impl<J> Model for Drain<J> {
 impl<J> Drain<J> {
     ghost use Rattle.hl_drain.specs.Lists.{IsDrain, count_of, tickets, put_answer, after_put, after_give_up, has_ticket, done_answer, after_done};
 
-    /// An empty list for at most `d` actions, 1 to 64.
+    /// An empty list for at most `d` actions, 1 to 4,096.
     ///
     /// `OutOfMemory` where memory for them was refused.
     pub fn open(alloc: Global, d: u64) -> Result<Drain<J>, Fault>
         requires least { 1 ≤ d }
-        requires most { d ≤ 64 }
+        requires most { d ≤ 4096 }
         ensures ok { IfOk result (λ drain.
             drain ≡ record { limit = d; pending = []; taken = []; turns = 0 }) }
         ensures err { IfErr result (λ fault. fault ≡ Fault.OutOfMemory) }
@@ -108,8 +108,33 @@ impl<J> Drain<J> {
         self.last_take.count()
     }
 
-    /// The taken actions that aren't done, oldest first.
+    /// The ticket of the oldest pending action.
+    pub fn front(&self) -> Option<u64>
+        ensures ticket { result ≡ option_map (λ entry. entry.0) (slice_get self.now.pending 0) }
+        ensures valid { IsDrain self.now }
+    {
+        self.pending.front()
+    }
+
+    /// How many actions are pending.
+    pub fn pending_count(&self) -> u64
+        ensures count { result ≡ length self.now.pending }
+        ensures valid { IsDrain self.now }
+    {
+        self.pending.len() as u64
+    }
+
+    /// The taken actions that aren't done, oldest first, where they lie.
+    pub fn taken_row(&self) -> &[Waiting]
+        ensures list { result.now ≡ self.now.taken }
+        ensures valid { IsDrain self.now }
+    {
+        &self.taken
+    }
+
+    /// The taken actions that aren't done, oldest first. The limit is at most 64.
     pub fn taken(&self) -> ArrayVec<Waiting, 64>
+        requires narrow { self.now.limit ≤ 64 }
         ensures list { result.items ≡ self.now.taken }
         ensures valid { IsDrain self.now }
     {
@@ -164,8 +189,18 @@ impl<J: Tagged> Drain<J> {
         Ok((ticket, action))
     }
 
-    /// The pending actions, oldest first.
+    /// The n-th pending action, oldest first, counted from 0; `None` if fewer are pending.
+    pub fn pending_at(&self, n: u64) -> Option<Waiting>
+        ensures value { result ≡ option_map (waiting_of J.tag) (slice_get self.now.pending n) }
+        ensures valid { IsDrain self.now }
+    {
+        let (ticket, action) = self.pending.at(n as usize)?;
+        Some(action.waiting(*ticket))
+    }
+
+    /// The pending actions, oldest first. The limit is at most 64.
     pub fn pending(&self) -> ArrayVec<Waiting, 64>
+        requires narrow { self.now.limit ≤ 64 }
         ensures list { result.items ≡ map (waiting_of J.tag) self.now.pending }
         ensures valid { IsDrain self.now }
     {

@@ -19,7 +19,7 @@
 //! Taking an action and its being done are two steps, so that an action may be carried out outside the lock under
 //! which the list stands. Takes come in the order of the tickets; dones may come in any order.
 //!
-//! A list has a limit, 1 to 64, on the actions that are pending and taken together. A full list refuses a put, and
+//! A list has a limit, 1 to 4,096, on the actions that are pending and taken together. A full list refuses a put, and
 //! so its bump; only a done makes room.
 //!
 //! # What a call costs
@@ -28,7 +28,8 @@
 //! the ring goes round as actions come and go. A put and a take visit one place of it each, and move no other
 //! action; [`Drain::turns`] counts it for a take, and contracts see that it is one. A take appends to the row of taken
 //! actions; a done walks that row, and closes it up. [`Drain::has_room`] compares two lengths; [`Drain::pending`] and
-//! [`Drain::taken`] walk their rows.
+//! [`Drain::taken`] copy their rows where the limit is at most 64; [`Drain::pending_at`] and [`Drain::taken_row`]
+//! copy none.
 //!
 //! No call after [`Drain::open`] takes memory: neither row ever has more or fewer places than it was opened with.
 #![tactic(auto)]

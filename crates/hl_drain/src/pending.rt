@@ -1,4 +1,4 @@
-ghost use Rattle.std.specs.Prelude.{◌≡◌, ◌+◌, ◌^◌, ◌<◌, [], ◌∷◌, ◌++◌, length, drop, slice_get, option_map, IfOk, IfErr, IsOk, OnOk, ◌↔◌};
+ghost use Rattle.std.specs.Prelude.{◌≡◌, ◌+◌, ◌^◌, ◌<◌, [], ◌∷◌, ◌++◌, length, drop, slice_get, option_copied, option_map, IfOk, IfErr, IsOk, OnOk, ◌↔◌};
 ghost use Rattle.circular_buffer.specs.Buffer.{buffer};
 
 use crate::action::Action;
@@ -35,6 +35,13 @@ impl<J> Pending<J> {
         ensures { result ≡ option_map (λ entry. entry.0) (slice_get self.now.ring.items 0) }
     {
         self.ring.front().map(|entry| entry.0)
+    }
+
+    /// The n-th one, counted from 0, with its ticket.
+    pub(crate) fn at(&self, n: usize) -> Option<&(u64, Action<J>)>
+        ensures { option_copied result ≡ slice_get self.now.ring.items n }
+    {
+        self.ring.get(n)
     }
 
     /// Each one, oldest first.

@@ -50,7 +50,7 @@ unfolding safe_among
 below_current T in_range least = omega (arith, least_or-most T.current T.epochs (λ t epoch e. (in_range t epoch e).1))
 
 -- a table, from ranges of its parts
-IsTable-from_range : (T : Table) → 1 ≤ T.current → T.current ≤ 2 ^ 62 → 1 ≤ length T.epochs → length T.epochs ≤ 64 → 1 ≤ T.window → T.window ≤ 4096 → AreInRange T → T.current - 1 - safe_of T ≤ T.window → IsTable T
+IsTable-from_range : (T : Table) → 1 ≤ T.current → T.current ≤ 2 ^ 62 → 1 ≤ length T.epochs → length T.epochs ≤ 1024 → 1 ≤ T.window → T.window ≤ 4096 → AreInRange T → T.current - 1 - safe_of T ≤ T.window → IsTable T
 IsTable-from_range T current_least current_most slots_least slots_most window_least window_most in_range lag_most = record {
   current_least = current_least;
   current_most = current_most;
@@ -106,7 +106,7 @@ unfolding safe_among least_or
 safe_of-opened slots window current = ap (λ epochs. least_or current epochs - 1) (protected-nobody slots)
 
 -- a table in which nobody is protected
-pub IsTable-opened : (slots window current : ℕ) → 1 ≤ slots → slots ≤ 64 → 1 ≤ window → window ≤ 4096 → 1 ≤ current → current ≤ 2 ^ 62 → IsTable (opened slots window current)
+pub IsTable-opened : (slots window current : ℕ) → 1 ≤ slots → slots ≤ 1024 → 1 ≤ window → window ≤ 4096 → 1 ≤ current → current ≤ 2 ^ 62 → IsTable (opened slots window current)
 IsTable-opened slots window current slots_least slots_most window_least window_most current_least current_most =
     IsTable-from_range (opened slots window current) current_least current_most (simp length-replicate slots_least) (simp length-replicate slots_most) window_least window_most
     (λ t epoch e. absurd (cc (get_or-nobody slots t)))

@@ -35,7 +35,7 @@ pub record IsTable (T : Table) : Type 0 where
   pub current_least : 1 ≤ T.current
   pub current_most : T.current ≤ 2 ^ 62
   pub slots_least : 1 ≤ length T.epochs
-  pub slots_most : length T.epochs ≤ 64
+  pub slots_most : length T.epochs ≤ 1024
   pub window_least : 1 ≤ T.window
   pub window_most : T.window ≤ 4096
   pub safe_most : safe_of T < T.current

@@ -14,12 +14,12 @@ pub trait Epochs: Sized {
     /// What the table knows.
     ghost table: { Self → Table };
 
-    /// A table at epoch 1 with this many slots, 1 to 64, none protected, and this window, 1 to 4,096.
+    /// A table at epoch 1 with this many slots, 1 to 1,024, none protected, and this window, 1 to 4,096.
     ///
     /// Fault: `OutOfMemory` where memory is refused.
     fn make(alloc: Global, slots: u64, window: u64) -> Result<Self, Fault>
         requires slots_least { 1 ≤ slots }
-        requires slots_most { slots ≤ 64 }
+        requires slots_most { slots ≤ 1024 }
         requires window_least { 1 ≤ window }
         requires window_most { window ≤ 4096 }
         ensures ok { IfOk result (λ made. table made ≡ opened slots window 1) }

@@ -29,13 +29,13 @@ impl Model for ScanTable {
 }
 
 impl ScanTable {
-    /// A table that goes on at this current epoch, 1 to 2^62, with this many slots, 1 to 64, none
+    /// A table that goes on at this current epoch, 1 to 2^62, with this many slots, 1 to 1,024, none
     /// protected, and this window, 1 to 4,096. At epoch 1 it is what `make` gives.
     ///
     /// Fault: `OutOfMemory` where memory is refused.
     pub fn resume(alloc: Global, slots: u64, window: u64, current: u64) -> Result<ScanTable, Fault>
         requires slots_least { 1 ≤ slots }
-        requires slots_most { slots ≤ 64 }
+        requires slots_most { slots ≤ 1024 }
         requires window_least { 1 ≤ window }
         requires window_most { window ≤ 4096 }
         requires current_least { 1 ≤ current }

@@ -109,11 +109,11 @@ least-found T waits q offset is least =
     ]
 
 -- the end of a page at or below the next one is an address
-pub end_fits : (T : Pages) (q : ℕ) → IsFrames T → q ≤ T.entered → (q + 1) * T.page_size ≤ 2 ^ 48 + 4096
+pub end_fits : (T : Pages) (q : ℕ) → IsFrames T → q ≤ T.entered → (q + 1) * T.page_size ≤ 2 ^ 48 + 2 ^ 20
 end_fits T q is most = omega (arith, mul-le-mul_right T.page_size most, is.within_space, is.page_size_most)
 
 -- and so is its number
-pub number_fits : (T : Pages) (q : ℕ) → IsFrames T → q ≤ T.entered → q + 1 ≤ 2 ^ 48 + 4096
+pub number_fits : (T : Pages) (q : ℕ) → IsFrames T → q ≤ T.entered → q + 1 ≤ 2 ^ 48 + 2 ^ 20
 number_fits T q is most = omega (arith, end_fits T q is most, mul-le-mul_left (q + 1) is.page_size_least)
 
 -- the flushed run is of flushed pages

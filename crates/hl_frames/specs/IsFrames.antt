@@ -23,9 +23,9 @@ HasLeft q (Some held) = q < held.page
 -- what is true of all frames
 pub record IsFrames (T : Pages) : Type 0 where
   pub page_size_least : 4 ≤ T.page_size
-  pub page_size_most : T.page_size ≤ 4096
+  pub page_size_most : T.page_size ≤ 2 ^ 20
   pub frames_least : 2 ≤ length T.frames
-  pub frames_most : length T.frames ≤ 256
+  pub frames_most : length T.frames ≤ 2 ^ 16
   pub within_space : T.entered * T.page_size ≤ 2 ^ 48
   -- the pages that end at or below an offset are those below their number
   pub ends : (q offset : ℕ) → (q < pages_below offset T) ↔ ((q + 1) * T.page_size ≤ offset)

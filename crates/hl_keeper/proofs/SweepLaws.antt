@@ -45,6 +45,6 @@ page_fits page_size frames p some =
     omega (arith, mul-le-mul_right page_size lt, add-mul (p % frames) 1 page_size)
 
 -- and there are few of them
-pub page_few : (page_size frames p : ℕ) → 2 ≤ frames → frames ≤ 256 → page_size ≤ 4096 → p % frames * page_size + page_size ≤ 2 ^ 20
+pub page_few : (page_size frames p : ℕ) → 2 ≤ frames → frames ≤ 2 ^ 16 → page_size ≤ 2 ^ 20 → p % frames * page_size + page_size ≤ 2 ^ 36
 page_few page_size frames p some f g =
-    omega (arith, page_fits page_size frames p (omega arith), mul-le-mul_right page_size f, mul-le-mul_left 256 g)
+    omega (arith, page_fits page_size frames p (omega arith), mul-le-mul_right page_size f, mul-le-mul_left (2 ^ 16) g)

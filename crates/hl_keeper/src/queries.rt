@@ -1,4 +1,4 @@
-ghost use Rattle.std.specs.Prelude.{◌≡◌, ◌%◌, List, length};
+ghost use Rattle.std.specs.Prelude.{◌≡◌, ◌%◌, List, length, take};
 ghost use Rattle.hl_model.specs.declared.step.Step.{Step as STEP};
 ghost use Rattle.hl_model.specs.Frames.{frame_of};
 ghost use Rattle.hl_model.specs.Snapshots.{snapshot_of};
@@ -46,14 +46,14 @@ impl<E: Epochs, F: Task, P: Promise, L: Realm> Keeper<E, F, P, L> {
 
     /// Returns the ticket of the oldest pending action, and makes the row that of the slots that
     /// hold it up, least first, each with its epoch: those protected at an epoch that isn't above
-    /// the ticket. Each of them has to refresh or to leave before a take gives that action; if the
-    /// row is empty, the next take gives it.
+    /// the ticket, the first N of them if there are more. Each of them has to refresh or to leave
+    /// before a take gives that action; if the row is empty, the next take gives it.
     ///
     /// `None`, and an empty row, if no action is pending.
-    pub fn holders(&self, row: &mut ArrayVec<Holder, 64>) -> Option<u64>
+    pub fn holders<const N: usize>(&self, row: &mut ArrayVec<Holder, N>) -> Option<u64>
         ensures ticket { (A : List STEP) → KeeperStands self.now A → result ≡ oldest A }
         ensures row { (A : List STEP) → KeeperStands self.now A
-            → row.new.items ≡ holders self.now.core.sizes.slots A }
+            → row.new.items ≡ take N (holders self.now.core.sizes.slots A) }
     {
         self.core.holders(row)
     }

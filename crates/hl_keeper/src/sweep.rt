@@ -68,7 +68,7 @@ pub fn sweep<L: Realm>(
 fn first_cell(params: Params, page: u64) -> u64
     ensures value { result ≡ first_cell params page }
     ensures room { result + params.page_size ≤ params.frames * params.page_size }
-    ensures few { result + params.page_size ≤ 2 ^ 20 }
+    ensures few { result + params.page_size ≤ 2 ^ 36 }
 {
     page % params.frames() * params.page_size()
 }
@@ -76,7 +76,7 @@ fn first_cell(params: Params, page: u64) -> u64
 // Loads as many cells as there are places.
 fn copy_cells<L: Realm>(words: &Words<L>, rider: &mut Rider<L>, first: u64, out: &mut [u64])
     requires cells { first + length out.old ≤ words.now.cells }
-    requires few { first + length out.old ≤ 2 ^ 20 }
+    requires few { first + length out.old ≤ 2 ^ 36 }
     ensures { rider.new ≡ with_view (loaded_all first out.new rider.old.view) rider.old }
 {
     for k in 0..out.len() {
@@ -87,7 +87,7 @@ fn copy_cells<L: Realm>(words: &Words<L>, rider: &mut Rider<L>, first: u64, out:
 // Stores 0 into n cells.
 fn zero_cells<L: Realm>(words: &Words<L>, rider: &mut Rider<L>, first: u64, n: u64)
     requires cells { first + n ≤ words.now.cells }
-    requires few { first + n ≤ 2 ^ 20 }
+    requires few { first + n ≤ 2 ^ 36 }
     ensures { rider.new ≡ with_view (zeroed first n rider.old.view) rider.old }
 {
     for k in 0..n {

@@ -2,7 +2,6 @@ pub mod BaseLaws
 pub mod BaseRows
 pub mod Follows
 pub mod Laws
-pub mod Lent
 pub mod Worked
 pub mod WorkedBases
 pub mod WorkedBorders

@@ -1,6 +1,5 @@
-ghost use Rattle.std.specs.Prelude.{◌≡◌, ◌≤◌, [], length, vec_capacity, IfOk, IfErr};
-ghost use Rattle.hl_model.specs.Bases.{IsBase, base_of};
-ghost use Rattle.hl_laws.specs.Lent.{lent};
+ghost use Rattle.std.specs.Prelude.{◌≡◌, ◌<◌, ◌≤◌, None, [], length, slice_get, slice_index_or, vec_capacity, IfOk, IfErr};
+ghost use Rattle.hl_model.specs.Bases.{Base as BaseRecord, IsBase, base_of};
 
 use hl_model::{Fault, Held, Params, Six, Slot, Waiting, filled, with_room};
 use std::alloc::Global;
@@ -35,21 +34,40 @@ impl Model for Base {
     ghost invariant = { HasRows };
 }
 
-/// Quantities to renew a base with: as [`Base`]'s, the rows lent.
-#[derive(Clone, Copy)]
-pub struct Quantities<'a> {
+/// Where the quantities of a base come from. They are asked for one by one, so that no row of them has to be made.
+pub trait Quantities {
+    /// All of them.
+    ghost tells: { Self → BaseRecord };
+
     /// The current epoch.
-    pub epoch: u64,
-    /// What each slot has, if it is protected.
-    pub slots: &'a [Option<Slot>],
-    /// The pending actions, oldest first.
-    pub waiting: &'a [Waiting],
+    fn epoch(&self) -> u64
+        ensures { result ≡ (tells self.now).epoch };
+
+    /// What slot t has, below S, if it is protected.
+    fn slot(&self, t: u64) -> Option<Slot>
+        requires { t < (tells self.now).sizes.slots }
+        ensures { result ≡ slice_index_or (tells self.now).slots t None };
+
+    /// How many actions are pending.
+    fn waiting_count(&self) -> u64
+        ensures { result ≡ length (tells self.now).waiting };
+
+    /// The n-th pending action, oldest first; None if fewer are pending.
+    fn waiting_at(&self, n: u64) -> Option<Waiting>
+        ensures { result ≡ slice_get (tells self.now).waiting n };
+
     /// The actions taken and not done, oldest first.
-    pub taken: &'a [Waiting],
+    fn taken_row(&self) -> &[Waiting]
+        ensures { result.now ≡ (tells self.now).taken };
+
     /// The six offsets.
-    pub six: Six,
-    /// What each frame holds.
-    pub frames: &'a [Option<Held>],
+    fn offsets(&self) -> Six
+        ensures { result ≡ (tells self.now).six };
+
+    /// What frame f holds, below F.
+    fn held(&self, f: u64) -> Option<Held>
+        requires { f < (tells self.now).sizes.frames }
+        ensures { result ≡ slice_index_or (tells self.now).frames f None };
 }
 
 impl Base {
@@ -76,16 +94,17 @@ impl Base {
     }
 
     /// Puts other quantities in place of these: those of some accepted list, of the same sizes.
-    pub fn renew(&mut self, now: Quantities)
-        requires { IsBase (lent self.old.sizes now) }
-        ensures { self.new ≡ lent self.old.sizes now.entry }
+    pub fn renew<Q: Quantities>(&mut self, quantities: &Q)
+        requires base { IsBase (Q.tells quantities.now) }
+        requires sizes { (Q.tells quantities.now).sizes ≡ self.old.sizes }
+        ensures { self.new ≡ Q.tells quantities.now }
     {
-        self.epoch = now.epoch;
-        self.slots.copy_from_slice(now.slots);
-        refill(&mut self.waiting, now.waiting);
-        refill(&mut self.taken, now.taken);
-        self.six = now.six;
-        self.frames.copy_from_slice(now.frames);
+        self.epoch = quantities.epoch();
+        refill_slots(&mut self.slots, quantities, self.params.slots());
+        refill_waiting(&mut self.waiting, quantities);
+        refill(&mut self.taken, quantities.taken_row());
+        self.six = quantities.offsets();
+        refill_frames(&mut self.frames, quantities, self.params.frames());
     }
 
     /// Another base of the same quantities, in rows of its own.
@@ -97,14 +116,7 @@ impl Base {
         ensures err { IfErr result (λ fault. fault ≡ Fault.OutOfMemory) }
     {
         let mut base = Base::opening(alloc, self.params)?;
-        base.renew(Quantities {
-            epoch: self.epoch,
-            slots: &self.slots,
-            waiting: &self.waiting,
-            taken: &self.taken,
-            six: self.six,
-            frames: &self.frames,
-        });
+        base.renew(self);
         Ok(base)
     }
 
@@ -155,6 +167,80 @@ impl Base {
         ensures { result.now ≡ self.now.frames }
     {
         &self.frames
+    }
+}
+
+impl Quantities for Base {
+    ghost tells = { λ base. base };
+
+    fn epoch(&self) -> u64 {
+        self.epoch
+    }
+
+    fn slot(&self, t: u64) -> Option<Slot> {
+        self.slots[t as usize]
+    }
+
+    fn waiting_count(&self) -> u64 {
+        self.waiting.len() as u64
+    }
+
+    fn waiting_at(&self, n: u64) -> Option<Waiting> {
+        self.waiting.get(n as usize).copied()
+    }
+
+    fn taken_row(&self) -> &[Waiting] {
+        &self.taken
+    }
+
+    fn offsets(&self) -> Six {
+        self.six
+    }
+
+    fn held(&self, f: u64) -> Option<Held> {
+        self.frames[f as usize]
+    }
+}
+
+// Puts what each of the slots has in place of what is in a row that has room for it.
+fn refill_slots<Q: Quantities>(row: &mut Vec<Option<Slot>>, quantities: &Q, slots: u64)
+    requires sizes { slots ≡ (Q.tells quantities.now).sizes.slots }
+    requires told { length (Q.tells quantities.now).slots ≡ slots }
+    requires room { vec_capacity row.old ≡ slots }
+    ensures items { row.new.items ≡ (Q.tells quantities.now).slots }
+    ensures room { vec_capacity row.new ≡ vec_capacity row.old }
+{
+    row.clear();
+    for t in 0..slots {
+        row.push_reserved(quantities.slot(t));
+    }
+}
+
+// Puts the pending actions in place of those in a row that has room for them.
+fn refill_waiting<Q: Quantities>(row: &mut Vec<Waiting>, quantities: &Q)
+    requires { length (Q.tells quantities.now).waiting ≤ vec_capacity row.old }
+    ensures items { row.new.items ≡ (Q.tells quantities.now).waiting }
+    ensures room { vec_capacity row.new ≡ vec_capacity row.old }
+{
+    row.clear();
+    for n in 0..quantities.waiting_count() {
+        if let Some(waiting) = quantities.waiting_at(n) {
+            row.push_reserved(waiting);
+        }
+    }
+}
+
+// Puts what each of the frames holds in place of what is in a row that has room for it.
+fn refill_frames<Q: Quantities>(row: &mut Vec<Option<Held>>, quantities: &Q, frames: u64)
+    requires sizes { frames ≡ (Q.tells quantities.now).sizes.frames }
+    requires told { length (Q.tells quantities.now).frames ≡ frames }
+    requires room { vec_capacity row.old ≡ frames }
+    ensures items { row.new.items ≡ (Q.tells quantities.now).frames }
+    ensures room { vec_capacity row.new ≡ vec_capacity row.old }
+{
+    row.clear();
+    for f in 0..frames {
+        row.push_reserved(quantities.held(f));
     }
 }
 

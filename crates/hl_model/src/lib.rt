@@ -7,11 +7,17 @@
 //!
 //! # Limits
 //!
-//! The ranges of the four sizes are constants, [`PAGE_SIZE_LEAST`] to [`DRAIN_MOST`], which [`Params::checked`]
-//! compares with. What follows from them: the frames have at most [`FRAMES_MOST`] times [`PAGE_SIZE_MOST`] words,
-//! 2^20, which are 8 MiB; at most [`SLOTS_MOST`] threads are protected at once, and at most [`DRAIN_MOST`] actions wait
-//! or are taken. Two numbers end: epochs at [`EPOCH_LAST`], addresses at [`TAIL_MOST`]. At most [`EPOCH_WINDOW`] epochs
-//! have ended and are not safe. A step that would pass one of these is refused.
+//! | | Narrow ([`Params::checked`]) | Wide ([`Params::wide`]) |
+//! |---|---|---|
+//! | words of a page, a power of two | 4 to 4,096 | 4 to 2^20 |
+//! | frames | 2 to 256 | 2 to 2^16 |
+//! | thread slots | 1 to 64 | 1 to 1,024 |
+//! | actions that wait or are taken | 1 to 64 | 1 to 4,096 |
+//! | words in all frames | 2^20: 8 MiB | 2^36: 512 GiB |
+//!
+//! Scripts and their slow form take narrow sizes, since a line of an answer has room for no more; all else takes both.
+//! Two numbers end: epochs at [`EPOCH_LAST`], addresses at [`TAIL_MOST`]. At most [`EPOCH_WINDOW`] epochs have ended
+//! and are not safe. A step that would pass one of these is refused.
 #![tactic(auto)]
 
 mod action;
@@ -31,8 +37,9 @@ pub use address::{cell_of, page_of};
 pub use fault::Fault;
 pub use frame::{FrameState, Held};
 pub use limits::{
-    DRAIN_MOST, EPOCH_LAST, EPOCH_WINDOW, FRAMES_LEAST, FRAMES_MOST, PAGE_SIZE_LEAST,
-    PAGE_SIZE_MOST, SLOTS_MOST, TAIL_MOST,
+    DRAIN_MOST, DRAIN_WIDE_MOST, EPOCH_LAST, EPOCH_WINDOW, FRAMES_LEAST, FRAMES_MOST,
+    FRAMES_WIDE_MOST, PAGE_SIZE_LEAST, PAGE_SIZE_MOST, PAGE_SIZE_WIDE_MOST, SLOTS_MOST,
+    SLOTS_WIDE_MOST, TAIL_MOST,
 };
 pub use params::Params;
 pub use rows::{filled, with_room};

@@ -16,7 +16,7 @@ pub record Log : Type 0 where
 -- what is true of every log
 pub record IsLog (log : Log) : Type 0 where
   pub page_size_least : 4 ≤ log.page_size
-  pub page_size_most : log.page_size ≤ 4096
+  pub page_size_most : log.page_size ≤ 2 ^ 20
   pub page_size_power : IsTrue (is_power_of_two log.page_size)
   pub closed_whole : log.closed % log.page_size ≡ 0
   pub head_whole : log.head % log.page_size ≡ 0

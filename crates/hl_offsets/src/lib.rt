@@ -3,7 +3,7 @@
 //! # Addresses
 //!
 //! The log is one row of 64-bit words. An address is the number of a word, below 2^48, and all offsets are
-//! addresses. The words are cut into pages of P words, P being a power of two from 4 to 4,096: page p holds
+//! addresses. The words are cut into pages of P words, P being a power of two from 4 to 2^20: page p holds
 //! the addresses from `p * P` up to `(p + 1) * P`. This crate keeps numbers alone. It has no words, no frames
 //! and no threads.
 //!

@@ -30,7 +30,7 @@ pub fn agrees_from_the_start<F: Task, P: Promise>(
 /// Whether the slow form, from the base of the steps that were cut, takes all steps since, and is then at the closing
 /// snapshot, and riders entered as many steps as were cut and kept.
 ///
-/// `OutOfMemory` if memory was refused.
+/// `OutOfMemory` if memory was refused; `Size` if the domain's sizes aren't narrow: the slow form takes no others.
 pub fn agrees_from_the_base<F: Task, P: Promise>(
     alloc: Global,
     ending: &Ending<F, P>,

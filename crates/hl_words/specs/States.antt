@@ -75,9 +75,9 @@ pub record IsTableOf (room : Room) (key : Room) (table : TableId) : Type 0 where
   pub key_is : key ≡ room
   pub words_are : table.words ≡ room.cells + 19
   pub no_slot : table.slots ≡ 0
-  pub few : room.cells ≤ 2 ^ 20
+  pub few : room.cells ≤ 2 ^ 36
   pub some : 1 ≤ room.riders
-  pub at_most : room.riders ≤ 128
+  pub at_most : room.riders ≤ 2048
 
 -- the master's seat, which is the table's first and has no slot
 pub record IsMasterSeat (last : OffsetWords) (riders : List RiderView) (id : ℕ)

@@ -24,7 +24,7 @@ impl Model for LastWords {
     ghost view = { λ l. record { cells = l.cells; words = slots_items l.closed.words } };
 
     ghost invariant = { λ l. IsFull l.closed.words × (slots_len l.closed.words ≡ l.cells + 19)
-        × (slots_len l.closed.slots ≡ 0) × (l.cells ≤ 2 ^ 20) };
+        × (slots_len l.closed.slots ≡ 0) × (l.cells ≤ 2 ^ 36) };
 }
 
 impl Drop for LastWords {
@@ -40,7 +40,7 @@ impl LastWords {
         requires full { IsFull closed.words }
         requires words { slots_len closed.words ≡ cells + 19 }
         requires no_slot { slots_len closed.slots ≡ 0 }
-        requires few { cells ≤ 2 ^ 20 }
+        requires few { cells ≤ 2 ^ 36 }
         ensures { result ≡ record { cells = cells; words = slots_items closed.words } }
     {
         LastWords { closed, cells }

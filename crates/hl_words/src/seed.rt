@@ -92,12 +92,12 @@ impl Model for Seed {
 }
 
 impl Seed {
-    /// Makes the words of an allocator of these sizes: F * P cells and the master's three words, all 0, for 1 to 128
+    /// Makes the words of an allocator of these sizes: F * P cells and the master's three words, all 0, for 1 to 2,048
     /// riders.
     ///
     /// `OutOfMemory` if memory was refused; then nothing is made.
     pub fn make(alloc: Global, params: Params, riders: usize) -> Result<Seed, Fault>
-        requires { (1 ≤ riders) × (riders ≤ 128) }
+        requires { (1 ≤ riders) × (riders ≤ 2048) }
         ensures sizes { IfOk result (λ seed. seed.sizes ≡ params) }
         ensures cells { IfOk result (λ seed. seed.cells ≡ params.frames * params.page_size) }
         ensures riders { IfOk result (λ seed. seed.riders ≡ riders) }
@@ -132,7 +132,7 @@ impl Seed {
 
 // The table, all 0, and its first seat.
 fn laid(alloc: Global, room: Room) -> Result<(WordTable, WordSeat), AllocError>
-    requires { room.cells ≤ 2 ^ 20 }
+    requires { room.cells ≤ 2 ^ 36 }
     ensures table { IfOk result
         (λ t. (t.0.shared.key ≡ room) × (t.0.shared.table_id.words ≡ room.cells + 19)
         × (t.0.shared.table_id.slots ≡ 0)) }

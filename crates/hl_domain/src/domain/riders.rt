@@ -1,5 +1,5 @@
 //! The locked calls of a rider: bumps, takes and dones, the two offsets, the cut, and the snapshot.
-ghost use Rattle.std.specs.Prelude.{◌≡◌, ◌+◌, ◌%◌, List, [], ◌∷◌, ◌++◌, length, OnErr, IfOk, IfErr};
+ghost use Rattle.std.specs.Prelude.{◌≡◌, ◌+◌, ◌%◌, List, [], ◌∷◌, ◌++◌, length, take, OnErr, IfOk, IfErr};
 ghost use Rattle.hl_model.specs.declared.step.Step.{Step as STEP};
 ghost use Rattle.hl_model.specs.declared.step.Step.TheVariants.{Bare as BARE, Take as TAKE, Done as DONE, Raise as RAISE, Shift as SHIFT};
 ghost use Rattle.hl_model.specs.Actions.{bumps};
@@ -179,13 +179,17 @@ impl<E: Epochs + Drop, F: Task, P: Promise, L: Realm> Domain<E, F, P, L> {
     }
 
     /// The ticket of the oldest pending action, and into the row the slots that hold it up, least first, each with its
-    /// epoch: those protected at an epoch that isn't above the ticket. Each of them has to refresh or to leave before
-    /// a take gives that action; where the row is empty, the next take does.
+    /// epoch: those protected at an epoch that isn't above the ticket, the first N of them where there are more. Each
+    /// of them has to refresh or to leave before a take gives that action; where the row is empty, the next take does.
     ///
     /// None, and no slot, where no action is pending.
-    pub fn holders(&self, rt: &impl Wait, row: &mut ArrayVec<Holder, 64>) -> Option<u64>
+    pub fn holders<const N: usize>(
+        &self,
+        rt: &impl Wait,
+        row: &mut ArrayVec<Holder, N>,
+    ) -> Option<u64>
         ensures met { UnderLock F self.now (λ k A. (result ≡ oldest A)
-            × (row.new.items ≡ holders k.core.sizes.slots A)) }
+            × (row.new.items ≡ take N (holders k.core.sizes.slots A))) }
     {
         self.lock(rt).keeper.holders(row)
     }

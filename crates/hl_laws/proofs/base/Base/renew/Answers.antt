@@ -1,22 +1,24 @@
-use Rattle.std.proofs.Common.{sym, ap, ◌∙◌, arith}
-use Rattle.hl_laws.specs.declared.base.Base.{Base}
-use Rattle.hl_laws.specs.Lent.{lent}
-use Rattle.hl_laws.specs.BaseRows.{base_in}
+use Rattle.std.proofs.Common.{length, sym, ap, ◌∙◌, arith}
+use Rattle.hl_model.specs.Bases.{Base}
+use Rattle.hl_model.specs.Sizes.{Sizes}
 use Rattle.hl_laws.proofs.BaseRooms.{length-slots, length-frames, actions-fit}
 use Rattle.hl_laws.proofs.base.Base.renew.Goals as goal
 
-pub copy_from_slice-requires : goal.copy_from_slice-requires
-copy_from_slice-requires c =
-    let here = c.self.inside in
-    here.slots.ok.0 ∙ length-slots (base_in here) c.self.invariant.base ∙ ap (λ (b : Base). b.sizes.slots) c.self.view_is ∙ sym (length-slots (lent c.args.self.now.sizes c.args.now) c.requires)
+pub refill_slots-requires-clause-told : goal.refill_slots-requires-clause-told
+refill_slots-requires-clause-told g c =
+    let told = g.Q.Quantities.tells c.args.quantities.now in
+    length-slots told c.requires.base ∙ ap (λ (s : Sizes). s.slots) c.requires.sizes ∙ sym (ap (λ (b : Base). b.sizes.slots) c.self.view_is) ∙ sym c.slots.ensures.value
+
+pub refill_waiting-requires : goal.refill_waiting-requires
+refill_waiting-requires g c =
+    omega (arith, actions-fit (g.Q.Quantities.tells c.args.quantities.now) c.requires.base, ap (λ (s : Sizes). s.drain) c.requires.sizes, ap (λ (b : Base). b.sizes.drain) c.self.view_is, c.self.invariant.waiting_room)
 
 pub refill-requires : goal.refill-requires
-refill-requires c = omega (arith, actions-fit (lent c.args.self.now.sizes c.args.now) c.requires, ap (λ (b : Base). b.sizes.drain) c.self.view_is, c.self.invariant.waiting_room)
+refill-requires g c =
+    let told = g.Q.Quantities.tells c.args.quantities.now in
+    omega (arith, ap length c.taken_row.ensures, actions-fit told c.requires.base, ap (λ (s : Sizes). s.drain) c.requires.sizes, ap (λ (b : Base). b.sizes.drain) c.self.view_is, c.self.invariant.taken_room)
 
-pub refill-requires-2 : goal.refill-requires-2
-refill-requires-2 c = omega (arith, actions-fit (lent c.args.self.now.sizes c.args.now) c.requires, ap (λ (b : Base). b.sizes.drain) c.self.view_is, c.self.invariant.taken_room)
-
-pub copy_from_slice-requires-2 : goal.copy_from_slice-requires-2
-copy_from_slice-requires-2 c =
-    let here = c.self.inside in
-    here.frames.ok.0 ∙ length-frames (base_in here) c.self.invariant.base ∙ ap (λ (b : Base). b.sizes.frames) c.self.view_is ∙ sym (length-frames (lent c.args.self.now.sizes c.args.now) c.requires)
+pub refill_frames-requires-clause-told : goal.refill_frames-requires-clause-told
+refill_frames-requires-clause-told g c =
+    let told = g.Q.Quantities.tells c.args.quantities.now in
+    length-frames told c.requires.base ∙ ap (λ (s : Sizes). s.frames) c.requires.sizes ∙ sym (ap (λ (b : Base). b.sizes.frames) c.self.view_is) ∙ sym c.frames.ensures.value
