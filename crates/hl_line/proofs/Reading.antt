@@ -3,7 +3,7 @@ use Rattle.std.proofs.Common.{◌≡◌, ℕ, ◌^◌, ◌<◌, true, false, con
 use Rattle.std.proofs.lemmas.Bool.{cond-true}
 use Rattle.std.proofs.lemmas.List.{append-nil}
 use Rattle.std.proofs.lemmas.Slice.Eq.{bytes_eq-Decides}
-use Rattle.hl_model.specs.Sizes.{Sizes, AreInRange}
+use Rattle.hl_model.specs.Sizes.{Sizes, AreNarrow}
 use Rattle.hl_model.specs.declared.step.Step.{Step}
 use Rattle.hl_model.specs.declared.step.Step.TheVariants.{Acquire, Refresh, Release, Bump, Settle, Close, Bare, Take, Done, Raise, Shift, Allocate, Look, Write, Read, FlushTake, FlushDone, CleanTake, CleanDone}
 use Rattle.hl_line.specs.declared.line.Line.{Line}
@@ -12,14 +12,14 @@ use Rattle.hl_line.specs.Lines.{worded, step_spelling, spelling, StepFits, Fits}
 use Rattle.hl_line.specs.Reading.{first_word, other_words, number_in, config_of, step_with, line_with, guess_of, line_of}
 use Rattle.hl_line.proofs.Texts.{spelling_short}
 use Rattle.hl_line.proofs.Words.{first_number, after_number, last_number, kept_if}
-use Rattle.hl_line.proofs.Fitting.{config_of-in_range, guess_fits}
+use Rattle.hl_line.proofs.Fitting.{config_of-narrow, guess_fits}
 
 -- sizes that are equal, number by number
 config_same : (a b c d : ℕ) (s : Sizes) → a ≡ s.page_size → b ≡ s.frames → c ≡ s.slots → d ≡ s.drain → config_of (record { page_size = a; frames = b; slots = c; drain = d }) ≡ config_of s
 config_same a b c d s p f t e = rw (p, f, t, e) refl
 
 -- the spelling of a config looks like this config
-guess_of-config : (s : Sizes) → AreInRange s → guess_of (spelling (Config s)) ≡ Some (Config s)
+guess_of-config : (s : Sizes) → AreNarrow s → guess_of (spelling (Config s)) ≡ Some (Config s)
 unfolding guess_of line_with worded
 guess_of-config s h =
     let p : s.page_size < 2 ^ 64 = omega arith in
@@ -37,7 +37,7 @@ guess_of-config s h =
     let n1 : number_in (first_word (other_words rest0)) ≡ s.frames = ap (λ r. number_in (first_word r)) e1 ∙ first_number s.frames rest2 f in
     let n2 : number_in (first_word (other_words (other_words rest0))) ≡ s.slots = ap (λ r. number_in (first_word r)) e2 ∙ first_number s.slots rest3 t in
     let n3 : number_in (first_word (other_words (other_words (other_words rest0)))) ≡ s.drain = ap (λ r. number_in (first_word r)) e3 ∙ last_number s.drain d in
-    config_same _ _ _ _ s n0 n1 n2 n3 ∙ config_of-in_range s h
+    config_same _ _ _ _ s n0 n1 n2 n3 ∙ config_of-narrow s h
 
 -- what is made of two numbers, one after the other
 of_two : (make : ℕ → ℕ → Step) (a b : ℕ) → (a < 2 ^ 64) × (b < 2 ^ 64) → let rest = decimal a ++ (32 ∷ (decimal b ++ [])) in Some (Makes (make (number_in (first_word rest)) (number_in (first_word (other_words rest))))) ≡ Some (Makes (make a b))

@@ -45,12 +45,12 @@ triple_length word a b c ha hb hc =
     let dc = decimal_short c hc in
     omega (arith, length-append word (flat_map spaced (a ∷ b ∷ c ∷ [])), length-append (decimal a) (flat_map spaced (b ∷ c ∷ [])), length-append (decimal b) (flat_map spaced (c ∷ [])), length-append (decimal c) [])
 
--- the sizes of a `config`, of at most four digits each
-pub config_length : (word : List ℕ) (s : Sizes) → AreInRange s → length (worded word (s.page_size ∷ s.frames ∷ s.slots ∷ s.drain ∷ [])) ≤ length word + 20
+-- the sizes of a `config`: at most seven digits, five, four and four
+pub config_length : (word : List ℕ) (s : Sizes) → AreInRange s → length (worded word (s.page_size ∷ s.frames ∷ s.slots ∷ s.drain ∷ [])) ≤ length word + 24
 unfolding worded
 config_length word s h =
-    let dp = length-decimal-le 4 s.page_size (lit< tt) (omega arith) (omega arith) in
-    let df = length-decimal-le 4 s.frames (lit< tt) (omega arith) (omega arith) in
+    let dp = length-decimal-le 7 s.page_size (lit< tt) (omega arith) (omega arith) in
+    let df = length-decimal-le 5 s.frames (lit< tt) (omega arith) (omega arith) in
     let ds = length-decimal-le 4 s.slots (lit< tt) (omega arith) (omega arith) in
     let dd = length-decimal-le 4 s.drain (lit< tt) (omega arith) (omega arith) in
     omega (arith, length-append word (flat_map spaced (s.page_size ∷ s.frames ∷ s.slots ∷ s.drain ∷ [])), length-append (decimal s.page_size) (flat_map spaced (s.frames ∷ s.slots ∷ s.drain ∷ [])), length-append (decimal s.frames) (flat_map spaced (s.slots ∷ s.drain ∷ [])), length-append (decimal s.slots) (flat_map spaced (s.drain ∷ [])), length-append (decimal s.drain) [])
@@ -85,7 +85,7 @@ step_short (CleanDone page) h = omega (arith, number_length (codes "clean done")
 
 -- a spelling has at most 80 bytes
 pub spelling_short : (l : Line) → Fits l → length (spelling l) ≤ 80
-spelling_short (Config sizes) h = omega (arith, config_length (codes "config") sizes h)
+spelling_short (Config sizes) h = omega (arith, config_length (codes "config") sizes h.in_range)
 spelling_short (Makes step) h = step_short step h
 spelling_short Status h = omega (arith, word_length (codes "status"))
 spelling_short Pending h = omega (arith, word_length (codes "pending"))
@@ -190,7 +190,7 @@ config_free s h =
 
 -- no byte of a spelling is an LF
 pub spelling_free : (l : Line) → Fits l → All (λ b. b ≢ 10) (spelling l)
-spelling_free (Config sizes) h = config_free sizes h
+spelling_free (Config sizes) h = config_free sizes h.in_range
 spelling_free (Makes step) h = step_free step h
 spelling_free Status h = worded_free (codes "status") [] refl none_fit
 spelling_free Pending h = worded_free (codes "pending") [] refl none_fit

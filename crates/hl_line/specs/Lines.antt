@@ -3,7 +3,7 @@ use Rattle.std.specs.Prelude.{ℕ, ◌^◌, ◌<◌, Bool, true, false, List, []
 use Rattle.std.specs.List.{flat_map}
 use Rattle.hl_model.specs.declared.step.Step.{Step}
 use Rattle.hl_model.specs.declared.step.Step.TheVariants.{Acquire, Refresh, Release, Bump, Settle, Close, Bare, Take, Done, Raise, Shift, Allocate, Look, Write, Read, FlushTake, FlushDone, CleanTake, CleanDone}
-use Rattle.hl_model.specs.Sizes.{AreInRange}
+use Rattle.hl_model.specs.Sizes.{AreNarrow}
 use Rattle.hl_line.specs.declared.line.Line.{Line}
 use Rattle.hl_line.specs.declared.line.Line.TheVariants.{Config, Step as Makes, Status, Pending, Frames}
 
@@ -73,9 +73,9 @@ StepFits (FlushDone page ok) = page < 2 ^ 64
 StepFits CleanTake = Unit {0}
 StepFits (CleanDone page) = page < 2 ^ 64
 
--- each number of the line is below 2^64, and sizes are in range
+-- each number of the line is below 2^64, and sizes are narrow
 abbrev pub Fits : Line → Type 0
-Fits (Config sizes) = AreInRange sizes
+Fits (Config sizes) = AreNarrow sizes
 Fits (Makes step) = StepFits step
 Fits Status = Unit {0}
 Fits Pending = Unit {0}

@@ -27,17 +27,17 @@ with_digit n digit = min (n * 10 + (digit - 48)) (2 ^ 64 - 1)
 unfoldable pub number_in : List ℕ → ℕ
 number_in word = fold with_digit 0 word
 
--- the sizes are in range
-abbrev pub are_in_range : Sizes → Bool
-are_in_range s =
+-- the sizes are narrow
+abbrev pub are_narrow : Sizes → Bool
+are_narrow s =
     nat_le 4 s.page_size && nat_le s.page_size 4096 && is_power_of_two s.page_size
     && nat_le 2 s.frames && nat_le s.frames 256
     && nat_le 1 s.slots && nat_le s.slots 64
     && nat_le 1 s.drain && nat_le s.drain 64
 
--- the line that opens with these sizes, if they are in range
+-- the line that opens with these sizes, if they are narrow
 unfoldable pub config_of : Sizes → Option Line
-config_of sizes = if are_in_range sizes then Some (Config sizes) else None
+config_of sizes = if are_narrow sizes then Some (Config sizes) else None
 
 -- what stands beside a word in a table
 abbrev pub beside : {A : Type 0} → List ℕ → List (List ℕ × A) → Option A

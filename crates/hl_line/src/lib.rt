@@ -5,7 +5,7 @@
 //!
 //! | Line | Meaning |
 //! |---|---|
-//! | `config P F S D` | opens with these sizes: words a page, frames, thread slots, places of the drain list |
+//! | `config P F S D` | opens with these narrow sizes: words a page, frames, thread slots, places of the drain list |
 //! | `acquire t` | the thread of slot t becomes protected |
 //! | `refresh t` | it moves on to the current epoch |
 //! | `release t` | it is protected no longer |

@@ -65,7 +65,7 @@ fn line_with(
     }
 }
 
-/// The line that opens with these sizes, if they are in range.
+/// The line that opens with these sizes, if they are narrow.
 fn config(page_size: u64, frames: u64, slots: u64, drain: u64) -> Option<Line>
     ensures { result ≡ config_of
         (record { page_size = page_size; frames = frames; slots = slots; drain = drain }) }

@@ -4,7 +4,7 @@ use Rattle.std.specs.Prelude.{Option, Some, None}
 use Rattle.std.proofs.lemmas.List.{length-map}
 use Rattle.hl_plain.specs.declared.pages.Mark.{Mark as Made}
 use Rattle.hl_model.specs.declared.step.Step.{Step}
-use Rattle.hl_model.specs.Sizes.{Sizes, AreInRange}
+use Rattle.hl_model.specs.Sizes.{Sizes, AreNarrow}
 use Rattle.hl_model.specs.Lists.{unroll, unroll_after}
 use Rattle.hl_model.specs.Pages.{Mark, Out, Back, mark_if}
 use Rattle.hl_model.specs.Snapshots.{six, AreInOrder}
@@ -41,7 +41,7 @@ Follows-push h A s B f none grown = record {
 
 pub IsHistory-push : (h : History) (s : Step) (B : List Step) → IsHistory h → fault_after h.base h.steps s ≡ None → B ≡ h.steps ++ s ∷ [] → IsHistory (record h { steps = B })
 IsHistory-push h s B k none grown = record {
-  in_range = k.in_range;
+  narrow = k.narrow;
   before = k.before;
   follows = Follows-push h k.before s B k.follows none grown;
   opened = λ w. Follows-push h [] s B (k.opened w) none grown;
@@ -54,15 +54,15 @@ bounded h k =
     let b = h.base in
     let B = k.before ++ h.steps in
     let is = present_is h k.before k.follows in
-    let some : 0 < b.sizes.page_size = omega (arith, k.in_range.page_size_least) in
+    let some : 0 < b.sizes.page_size = omega (arith, k.narrow.in_range.page_size_least) in
     let order : AreInOrder b.sizes.page_size (six b.sizes B) = offsets_are_in_order b.sizes B some k.follows.accepted in
     let holds = drain_list_holds_them b.sizes B k.follows.accepted in
     record {
       epoch_most = omega (arith, ap (λ (x : Base). x.epoch) k.follows.base_is, current_is_at_most_last b.sizes k.before (beginnings_are_accepted b.sizes k.before h.steps k.follows.accepted));
       tail = record { page_size_least = some; tail_most = omega (arith, ap (λ (x : Base). x.six.tail) is, order.tail_most) };
       flushed_most = omega (arith, ap (λ (x : Base). x.six.flushed) is, order.flushed_most, order.safe_read_only_most, order.read_only_most, order.tail_most);
-      waiting_most = omega (arith, ap (λ (x : Base). length x.waiting) is, holds.1, k.in_range.drain_most);
-      taken_most = omega (arith, ap (λ (x : Base). length x.taken) is, holds.1, k.in_range.drain_most);
+      waiting_most = omega (arith, ap (λ (x : Base). length x.waiting) is, holds.1, k.narrow.drain_few);
+      taken_most = omega (arith, ap (λ (x : Base). length x.taken) is, holds.1, k.narrow.drain_few);
     }
 
 -- so what is kept is present
@@ -70,18 +70,18 @@ pub present : (h : History) (flushes cleans : List Made) → AreKept h flushes c
 present h flushes cleans k = record { bounded = bounded h k.history; flushes_are = k.flushes_are; cleans_are = k.cleans_are }
 
 -- a base of some list, before any step
-pub IsHistory-base : (b : Base) → AreInRange b.sizes → IsBase b → IsHistory (begun b false)
+pub IsHistory-base : (b : Base) → AreNarrow b.sizes → IsBase b → IsHistory (begun b false)
 IsHistory-base b r h = record {
-  in_range = r;
+  narrow = r;
   before = h.steps;
   follows = record { accepted = subst (IsAccepted b.sizes) (sym (append-nil h.steps)) h.accepted; base_is = h.is };
   opened = λ w. cc;
 }
 
 -- the base of no steps
-pub IsHistory-opening : (sizes : Sizes) → AreInRange sizes → IsHistory (begun (base_of sizes []) true)
+pub IsHistory-opening : (sizes : Sizes) → AreNarrow sizes → IsHistory (begun (base_of sizes []) true)
 unfolding base_of
-IsHistory-opening sizes r = record { in_range = r; before = []; follows = none; opened = λ w. none }
+IsHistory-opening sizes r = record { narrow = r; before = []; follows = none; opened = λ w. none }
   where
     none : Follows (begun (base_of sizes []) true) []
     none = record { accepted = good-nil sizes; base_is = refl }

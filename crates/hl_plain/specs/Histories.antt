@@ -1,10 +1,10 @@
 -- What an allocator in the slow form keeps: a base and the accepted steps since.
 use Rattle.std.specs.Prelude.{◌≡◌, ◌⊎◌, Bool, true, false, Option, None, is_none, if◌then◌else◌, Result, Err, List, [], ◌∷◌, ◌++◌}
 use Rattle.hl_model.specs.declared.fault.Fault.{Fault}
-use Rattle.hl_model.specs.declared.fault.Fault.TheVariants.{OutOfMemory}
+use Rattle.hl_model.specs.declared.fault.Fault.TheVariants.{Size, OutOfMemory}
 use Rattle.hl_model.specs.declared.step.Reply.{Reply}
 use Rattle.hl_model.specs.declared.step.Step.{Step}
-use Rattle.hl_model.specs.Sizes.{AreInRange}
+use Rattle.hl_model.specs.Sizes.{Sizes, AreNarrow}
 use Rattle.hl_model.specs.Replies.{fault_of, answer_of, with_word, unless_fault, IsAccepted}
 use Rattle.hl_model.specs.Bases.{Base, base_of}
 use Rattle.hl_model.specs.AfterReplies.{base_after, fault_after, answer_at}
@@ -24,12 +24,18 @@ pub record Follows (h : History) (A : List Step) : Type 0 where
   pub accepted : IsAccepted h.base.sizes (A ++ h.steps)
   pub base_is : h.base ≡ base_of h.base.sizes A
 
--- the sizes are in range, it goes on from some list, and from none where it has words
+-- the sizes are narrow, it goes on from some list, and from none where it has words
 pub record IsHistory (h : History) : Type 0 where
-  pub in_range : AreInRange h.base.sizes
+  pub narrow : AreNarrow h.base.sizes
   pub before : List Step
   pub follows : Follows h before
   pub opened : h.has_words ≡ true → Follows h []
+
+-- why none is opened with these sizes: they are not narrow, or they are and memory was refused
+abbrev pub IsRefusal : Sizes → Fault → Type 0
+IsRefusal sizes Size = ¬ AreNarrow sizes
+IsRefusal sizes OutOfMemory = AreNarrow sizes
+IsRefusal sizes _ = ⊥
 
 -- where there are words, a read is answered with the word
 abbrev pub worded : Bool → List Step → Step → Reply → Reply

@@ -15,6 +15,9 @@
 //! A base holds no words, so an allocator that goes on from one answers a read with `Readable`. One that was
 //! opened answers it with the word.
 //!
+//! It takes narrow sizes only, those that a script may ask for: others are refused as `Size`, before any memory
+//! is taken. So its rows of actions lie on the stack.
+//!
 //! # How it answers
 //!
 //! Each quantity is looked up in the steps by a function of its own, in a file for its subject: a count

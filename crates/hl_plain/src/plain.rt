@@ -1,13 +1,14 @@
-ghost use Rattle.std.specs.Prelude.{◌≡◌, ◌∷◌, [], ◌++◌, ◌<◌, ◌≤◌, None, true, false, List, IfOk, IfErr, OnOk, OnErr, map, option_map, length, take, ℕ, vec_len};
+ghost use Rattle.std.specs.Prelude.{◌≡◌, ◌∷◌, [], ◌++◌, ◌<◌, ◌≤◌, None, true, false, Err, List, IfOk, IfErr, OnOk, OnErr, map, option_map, length, take, ℕ, vec_len};
 ghost use Rattle.std.specs.Vec.{vec_capacity};
 ghost use Rattle.hl_model.specs.declared.step.Step.{Step};
 ghost use Rattle.hl_model.specs.Actions.{pending};
 ghost use Rattle.hl_model.specs.Frames.{frame_of};
+ghost use Rattle.hl_model.specs.Sizes.{AreNarrow};
 ghost use Rattle.hl_model.specs.Snapshots.{snapshot_of};
 ghost use Rattle.hl_model.specs.Views.{slot_view};
 ghost use Rattle.hl_model.specs.Bases.{IsBase, base_of, slot_in};
 ghost use Rattle.hl_model.specs.AfterReplies.{base_after, fault_after, answer_at};
-ghost use Rattle.hl_plain.specs.Histories.{History, begun, Follows, IsHistory, worded, answer_told, told, Answers, AnswersBehind};
+ghost use Rattle.hl_plain.specs.Histories.{History, begun, Follows, IsHistory, IsRefusal, worded, answer_told, told, Answers, AnswersBehind};
 ghost use Rattle.hl_plain.specs.Kept.{AreKept};
 ghost use Rattle.hl_plain.specs.Shown.{frame_at, snapshot_at};
 ghost use Rattle.hl_plain.specs.Works.{as_mark, marks_in};
@@ -51,12 +52,16 @@ impl Model for Plain {
 impl Plain {
     /// An allocator of these sizes, before any step. It answers a read with the word.
     ///
-    /// `OutOfMemory` where memory was refused.
+    /// `Size` where the sizes are not narrow, and only there; `OutOfMemory` where memory was refused.
     pub fn open(alloc: Global, params: Params) -> Result<Plain, Fault>
         ensures ok { IfOk result (λ made. made ≡ begun (base_of params []) true) }
-        ensures err { IfErr result (λ fault. fault ≡ Fault.OutOfMemory) }
+        ensures err { IfErr result (IsRefusal params) }
+        ensures wide { ¬ AreNarrow params → result ≡ Err Fault.Size }
         ensures valid { IfOk result IsHistory }
     {
+        if !params.is_narrow() {
+            return Err(Fault::Size);
+        }
         let room = params.frames();
         let base = Base::opening(alloc, params)?;
         Plain::begin(alloc, base, room, true)
@@ -65,12 +70,17 @@ impl Plain {
     /// An allocator that goes on from a base, which it copies. It answers a read with `Readable`, since a
     /// base holds no words.
     ///
-    /// `OutOfMemory` where memory was refused.
+    /// `Size` where the base has sizes that are not narrow, and only there; `OutOfMemory` where memory was
+    /// refused.
     pub fn from_base(alloc: Global, base: &Base) -> Result<Plain, Fault>
         ensures ok { IfOk result (λ made. made ≡ begun base.now false) }
-        ensures err { IfErr result (λ fault. fault ≡ Fault.OutOfMemory) }
+        ensures err { IfErr result (IsRefusal base.now.sizes) }
+        ensures wide { ¬ AreNarrow base.now.sizes → result ≡ Err Fault.Size }
         ensures valid { IfOk result IsHistory }
     {
+        if !base.params().is_narrow() {
+            return Err(Fault::Size);
+        }
         let room = base.params().frames();
         let base = base.copied(alloc)?;
         Plain::begin(alloc, base, room, false)

@@ -11,7 +11,7 @@ use Rattle.hl_model.specs.declared.step.Reply.{Reply}
 use Rattle.hl_model.specs.declared.step.Reply.TheVariants.{Ran, Answer, Ticket}
 use Rattle.hl_model.specs.declared.step.Step.{Step}
 use Rattle.hl_model.specs.declared.step.Step.TheVariants.{Bump, Done}
-use Rattle.hl_model.specs.Sizes.{Sizes}
+use Rattle.hl_model.specs.Sizes.{Sizes, AreNarrow}
 use Rattle.hl_model.specs.Replies.{fault_of, answer_of, unless_fault, extended, with_word, word_reply_of}
 use Rattle.hl_line.specs.declared.line.Line.TheVariants.{Step as Makes}
 use Rattle.hl_cells.specs.TakenActions.{is_of, firings, firing_at}
@@ -83,6 +83,7 @@ fast_made shelf after old new has sizes A step result sh lacks moved left = (
   reply_is ∙ sym (ap (λ o. unless_fault o (line_answer sizes A step)) same),
   record {
     sizes_is = moved.sizes ∙ sh.sizes_is;
+    narrow = sh.narrow;
     standing = subst (EngineStands new) (ap (λ z. extended z A step) sh.sizes_is ∙ sym (ap (λ o. cond (is_none o) (A ++ step ∷ []) A) same)) moved.standing;
     left = left;
   },
@@ -123,6 +124,7 @@ fast_lacks shelf after now has sizes A tag sh none e = (
   sym (ap (λ o. unless_fault o (line_answer sizes A (Bump tag))) fault_is),
   record {
     sizes_is = sh.sizes_is;
+    narrow = sh.narrow;
     standing = subst (EngineStands now) (sym stays) sh.standing;
     left = subst (λ B. AreLeft has B after) (sym stays) (λ t. ap (λ z. tags_on z t) e ∙ left_missed tag shelf none t ∙ sh.left t);
   },
@@ -176,9 +178,10 @@ fast_refuses shelf after old new has sizes A tag f kept back sh there own same e
         ∙ sym (ap (λ o. unless_fault o (line_answer sizes A (Bump tag))) (fault_kept has sizes A (Bump tag) lacks)))
 
 -- all jobs are on the shelf before the first step
-pub fast_begins : {F : Type 0} (shelf : List (Option (KeptRecord F))) (now : Whole F) (has : ℕ → Bool) (sizes : Sizes) → has ≡ tags_on shelf → EngineStands now [] → now.core.sizes ≡ sizes → IsFast shelf now has sizes []
-fast_begins shelf now has sizes known standing e = record {
+pub fast_begins : {F : Type 0} (shelf : List (Option (KeptRecord F))) (now : Whole F) (has : ℕ → Bool) (sizes : Sizes) → has ≡ tags_on shelf → EngineStands now [] → now.core.sizes ≡ sizes → AreNarrow sizes → IsFast shelf now has sizes []
+fast_begins shelf now has sizes known standing e narrow = record {
   sizes_is = e;
+  narrow = narrow;
   standing = standing;
   left = λ tag. sym (ap (λ f. f tag) known) ∙ by_test (has tag);
 }

@@ -13,7 +13,7 @@ use Rattle.hl_model.specs.declared.step.Reply.{Reply}
 use Rattle.hl_model.specs.declared.step.Reply.TheVariants.{Ran}
 use Rattle.hl_model.specs.declared.step.Step.{Step}
 use Rattle.hl_model.specs.declared.step.Step.TheVariants.{Bump, Settle, Close, Done}
-use Rattle.hl_model.specs.Sizes.{Sizes}
+use Rattle.hl_model.specs.Sizes.{Sizes, AreNarrow}
 use Rattle.hl_model.specs.Epochs.{current_epoch, safe_epoch}
 use Rattle.hl_model.specs.Actions.{action_of, actions, action_at}
 use Rattle.hl_model.specs.Replies.{fault_of, answer_of, done_answer, kind_or_job_0, unless_fault, with_word, word_reply_of, IsAccepted}
@@ -115,6 +115,7 @@ slow_accepts tags h after has sizes A step reply told sh lacks answer follows is
     opened = follows;
     has_words = w.has_words;
     sizes_is = w.sizes_is;
+    narrow = sh.narrow;
     steps_is = w.steps_is;
     most = sh.most;
     tags_below = ap (list_all (tag_is_below tags)) (actions-push A step) ∙ list_all-append (tag_is_below tags) (actions A) (action_of A step)
@@ -138,6 +139,7 @@ slow_refuses tags h after has sizes A step f sh lacks (inl a) follows memory = (
     opened = follows;
     has_words = ap (λ (z : History). z.has_words) made ∙ sh.has_words;
     sizes_is = ap (λ (z : History). z.base.sizes) made ∙ sh.sizes_is;
+    narrow = sh.narrow;
     steps_is = ap (λ (z : History). z.steps) made ∙ sh.steps_is;
     most = sh.most;
     tags_below = sh.tags_below;
@@ -183,6 +185,7 @@ slow_begins tags h has sizes known most e k =
       opened = k.opened words;
       has_words = words;
       sizes_is = ap (λ (z : History). z.base.sizes) e;
+      narrow = subst AreNarrow (ap (λ (z : History). z.base.sizes) e) k.narrow;
       steps_is = ap (λ (z : History). z.steps) e;
       most = most;
       tags_below = ap (list_all (tag_is_below tags)) actions-nil;

@@ -2,7 +2,7 @@
 use Rattle.std.specs.Prelude.{◌≡◌, ℕ, ◌+◌, Bool, not, Option, List}
 use Rattle.hl_model.specs.declared.step.Step.{Step}
 use Rattle.hl_model.specs.declared.step.Step.TheVariants.{Bump}
-use Rattle.hl_model.specs.Sizes.{Sizes}
+use Rattle.hl_model.specs.Sizes.{Sizes, AreNarrow}
 use Rattle.hl_cells.specs.Engines.{Whole, EngineStands}
 use Rattle.hl_action.specs.Firings.{FiringRecord}
 use Rattle.hl_action.specs.Jobs.{KeptRecord}
@@ -17,9 +17,10 @@ adds tag firing answer = answer ≡ tag + firing.ticket
 abbrev pub AreLeft : {F : Type 0} → (ℕ → Bool) → List Step → List (Option (KeptRecord F)) → Type 0
 AreLeft has A shelf = (tag : ℕ) → tags_on shelf tag ≡ not (lacks_job has A (Bump tag))
 
--- the engine stands at the steps, and the shelf has the jobs that are left
+-- the engine of narrow sizes stands at the steps, and the shelf has the jobs that are left
 pub record IsFast {F : Type 0} (shelf : List (Option (KeptRecord F))) (engine : Whole F) (has : ℕ → Bool)
     (sizes : Sizes) (A : List Step) : Type 0 where
   pub sizes_is : engine.core.sizes ≡ sizes
+  pub narrow : AreNarrow sizes
   pub standing : EngineStands engine A
   pub left : AreLeft has A shelf

@@ -8,7 +8,7 @@ use Rattle.hl_model.specs.declared.step.Reply.{Reply}
 use Rattle.hl_model.specs.declared.step.Reply.TheVariants.{Ran}
 use Rattle.hl_model.specs.declared.step.Step.{Step}
 use Rattle.hl_model.specs.declared.step.Step.TheVariants.{Done}
-use Rattle.hl_model.specs.Sizes.{Sizes}
+use Rattle.hl_model.specs.Sizes.{Sizes, AreNarrow}
 use Rattle.hl_model.specs.Actions.{actions}
 use Rattle.hl_plain.specs.Histories.{History, Follows}
 use Rattle.hl_script.specs.Text.{below}
@@ -22,13 +22,15 @@ kind_is_below tags _ = true
 abbrev pub tag_is_below : ℕ → Waiting → Bool
 tag_is_below tags w = kind_is_below tags w.kind
 
--- it was opened and has the steps, and the tags stored are below the number, which leaves room for a ticket
+-- it was opened with narrow sizes and has the steps, and the tags stored are below the number, which leaves
+-- room for a ticket
 pub record IsSlow (tags : ℕ) (history : History) (has : ℕ → Bool) (sizes : Sizes) (A : List Step)
     : Type 0 where
   pub has_is : has ≡ below tags
   pub opened : Follows history []
   pub has_words : history.has_words ≡ true
   pub sizes_is : history.base.sizes ≡ sizes
+  pub narrow : AreNarrow sizes
   pub steps_is : history.steps ≡ A
   pub most : tags ≤ 2 ^ 62
   pub tags_below : list_all (tag_is_below tags) (actions A) ≡ true

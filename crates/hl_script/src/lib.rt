@@ -1,10 +1,11 @@
 //! A script of steps in, its text out.
 //!
-//! A script is a list of bytes, cut into lines at each LF. Its first line is a config, which gives the sizes; each
-//! later one is a step or a query. Each line is answered by one line. At the first line that is none of these the
-//! text ends with a line that tells its number. So the text is a function of the script's bytes and of the tags
-//! that have a job: `text` of `specs/Text.antt`, by the definitions of hl_model. It is read in this order: how a
-//! script is cut (`Cut`), which lines are good (`Lines`), what each is answered (`Answers`), the text (`Text`).
+//! A script is a list of bytes, cut into lines at each LF. Its first line is a config, which gives the sizes, and
+//! these are narrow: a line of an answer has room for no more actions or frames. Each later line is a step or a
+//! query. Each line is answered by one line. At the first line that is none of these the text ends with a line that
+//! tells its number. So the text is a function of the script's bytes and of the tags that have a job: `text` of
+//! `specs/Text.antt`, by the definitions of hl_model. It is read in this order: how a script is cut (`Cut`), which
+//! lines are good (`Lines`), what each is answered (`Answers`), the text (`Text`).
 //!
 //! [`run_text`] writes the text over an engine. It is handed the jobs on a shelf, one for a tag. An accepted bump
 //! takes the job of its tag from the shelf, so a second bump of that tag is refused with `NoJob`, and a refused bump

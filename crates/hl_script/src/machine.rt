@@ -1,5 +1,6 @@
 ghost use Rattle.std.specs.Prelude.{◌≡◌, ℕ, Bool, true, List};
 ghost use Rattle.hl_line.specs.declared.line.Line.{Line};
+ghost use Rattle.hl_line.specs.Lines.{Fits};
 ghost use Rattle.hl_script.specs.Lines.{may_stand};
 ghost use Rattle.hl_script.specs.Interpreter.{Answers};
 
@@ -16,13 +17,14 @@ pub(crate) trait Machine {
     ghost lacks: { Line → Bool };
 
     /// Writes the answer to a line, with an LF, and tells whether the line was a step and accepted. The line
-    /// may stand where it does: it is a config if it is the first, and else none.
+    /// may stand where it does: it is a config if it is the first, and else none. The sizes of a config are narrow.
     ///
     /// `OutOfMemory` where memory was refused; nothing was written. `Stream` where a write failed or took no
     /// byte; the first bytes of the answer were written.
     fn answer<W: Write>(&mut self, line: &Line, out: &mut W) -> Result<bool, Fault>
-        requires { (has : ℕ → Bool) × (before : List Line)
+        requires standing { (has : ℕ → Bool) × (before : List Line)
             × stands self.old has before × (may_stand before line.now ≡ true) }
+        requires fits { Fits line.now }
         ensures { (has : ℕ → Bool) (before : List Line)
             → stands self.old has before → may_stand before line.now ≡ true
             → Answers (stands self.new) lacks has before line.now (W.contents out.old) (W.contents out.new)

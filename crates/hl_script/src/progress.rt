@@ -1,5 +1,6 @@
-ghost use Rattle.std.specs.Prelude.{◌≡◌, ℕ, Bool, List, [], length};
+ghost use Rattle.std.specs.Prelude.{◌≡◌, ℕ, Bool, List, [], length, IfSome};
 ghost use Rattle.hl_line.specs.declared.line.Line.{Line};
+ghost use Rattle.hl_line.specs.Lines.{Fits};
 ghost use Rattle.hl_line.specs.Reading.{line_of};
 ghost use Rattle.hl_script.specs.Lines.{allowed};
 ghost use Rattle.hl_script.specs.Answers.{accepted};
@@ -35,8 +36,9 @@ impl Progress {
 
     /// The line that the bytes so far spell, where it may stand here: a config is the first line, and no other.
     pub(crate) fn ended_line(&self) -> Option<Line>
-        ensures { (before : List Line) → self.now.lines ≡ length before
+        ensures allowed { (before : List Line) → self.now.lines ≡ length before
             → result ≡ allowed before (line_of self.now.line.items) }
+        ensures fits { IfSome result Fits }
     {
         let line = read_line(self.line.as_slice())?;
         let is_config = matches!(line, Line::Config(_));

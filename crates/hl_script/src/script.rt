@@ -1,4 +1,5 @@
 ghost use Rattle.std.specs.Prelude.{◌≡◌, ℕ, Bool, true, List};
+ghost use Rattle.hl_model.specs.Sizes.{AreNarrow};
 ghost use Rattle.hl_line.specs.declared.line.Line.{Line};
 ghost use Rattle.hl_line.specs.declared.line.Line.TheVariants.{Config};
 ghost use Rattle.hl_script.specs.Lines.{may_stand, takes_memory};
@@ -57,9 +58,10 @@ impl<O: Opening<S> + Drop, S: Stepping + Drop> Script<O, S> {
     /// clear the room for it.
     #[inline(never)]
     fn answer_config<W: Write>(&mut self, sizes: Params, out: &mut W) -> Result<bool, Fault>
-        requires { (has : ℕ → Bool) × (before : List Line)
+        requires standing { (has : ℕ → Bool) × (before : List Line)
             × Stands O.begins S.stands self.old.opening self.old.opened has before
             × (may_stand before (Config sizes) ≡ true) }
+        requires narrow { AreNarrow sizes }
         ensures { (has : ℕ → Bool) (before : List Line)
             → Stands O.begins S.stands self.old.opening self.old.opened has before
             → may_stand before (Config sizes) ≡ true

@@ -1,6 +1,6 @@
 ghost use Rattle.std.specs.Prelude.{◌≡◌, ℕ, ◌<◌, ◌≤◌, Bool, List, [], IfSome};
 ghost use Rattle.hl_model.specs.declared.step.Step.{Step};
-ghost use Rattle.hl_model.specs.Sizes.{Sizes};
+ghost use Rattle.hl_model.specs.Sizes.{Sizes, AreNarrow};
 ghost use Rattle.hl_model.specs.Actions.{pending};
 ghost use Rattle.hl_model.specs.Frames.{frame_of};
 ghost use Rattle.hl_model.specs.Snapshots.{snapshot_of};
@@ -57,8 +57,9 @@ pub(crate) trait Opening<S: Stepping> {
     // The tags that have jobs.
     ghost begins: { Self → (ℕ → Bool) → Type 0 };
 
-    /// No step was made yet. None where memory was refused.
+    /// No step was made yet. None where memory was refused. The sizes are narrow.
     fn open(self, params: Params) -> Option<S>
+        requires narrow { AreNarrow params }
         ensures { (has : ℕ → Bool) → begins self has
             → IfSome result (λ opened. S.stands opened has params []) };
 }
