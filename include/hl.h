@@ -8,8 +8,8 @@
  * copies of one.
  *
  * Threads: a handle may go from thread to thread, but one call at a time may use it, so keep it under a lock of your
- * own. No call waits, and none but hl_open takes memory (by the program's malloc). No call is made from a signal
- * handler, or from the forked child of a process with threads.
+ * own. No call waits, and none but hl_open and hl_open_wide takes memory (by the program's malloc). No call is made from
+ * a signal handler, or from the forked child of a process with threads.
  *
  * The core keeps no words and runs no jobs: the words of the frames are yours, and a done tells the tag of its job.
  */
@@ -76,7 +76,7 @@ enum hl_fault {
     HL_WINDOW_FULL = 32,
     /* no fault of the rules: */
     HL_OUT_OF_RANGE = 254, /* a size, a frame, a place in a list or a number of pages */
-    HL_NO_CORE = 255       /* no core is open at the handle; for hl_open: one is */
+    HL_NO_CORE = 255       /* no core is open at the handle; for an opening: one is */
 };
 
 /* What a done did, in b, and an action's kind, in b of hl_pending. */
@@ -129,12 +129,15 @@ typedef struct hl_lag_steps {
     hl_lag_step steps[4];
 } hl_lag_steps;
 
-/* ---- A core. Every call below but hl_open answers HL_NO_CORE, and changes nothing, where none is open. ---- */
+/* ---- A core. Every call below but the two that open answers HL_NO_CORE, and changes nothing, where none is open. ---- */
 
 /* Opens a core at the empty list: page_size words a page, a power of two from 4 to 4,096; 2 to 256 frames; 1 to 64
  * slots; 1 to 64 places in the drain list. 0 where it did. HL_NO_CORE where one is open already, which stays;
  * HL_OUT_OF_RANGE where a size is; HL_OUT_OF_MEMORY where malloc refused. */
 uint64_t hl_open(hl_core *core, uint64_t page_size, uint64_t frames, uint64_t slots, uint64_t drain_places);
+
+/* The same for wide sizes: a page of up to 2^20 words, up to 2^16 frames, 1,024 slots and 4,096 places. */
+uint64_t hl_open_wide(hl_core *core, uint64_t page_size, uint64_t frames, uint64_t slots, uint64_t drain_places);
 
 /* Frees the core; the handle is then all zero, and may be opened again. 0, or HL_NO_CORE where none was open. */
 uint64_t hl_free(hl_core *core);

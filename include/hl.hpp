@@ -123,17 +123,17 @@ struct Snapshot {
     std::array<Word, 5> frames;
 };
 
-/// Sizes in their ranges: words a page (a power of two from 4 to 4,096), frames (2 to 256), slots (1 to 64), and places
-/// in the drain list (1 to 64).
+/// Sizes in their ranges: words a page (a power of two), frames, slots, and places in the drain list.
 class Sizes {
   public:
-    /// OutOfRange: one of them is.
+    /// Narrow sizes: a page of 4 to 4,096 words, 2 to 256 frames, 1 to 64 slots and places. OutOfRange: one of them is.
     static Result<Sizes> checked(Word page_size, Word frames, Word slots, Word drain_places) {
-        bool is_power = page_size != 0 && (page_size & (page_size - 1)) == 0;
-        if (!is_power || page_size < 4 || page_size > 4096 || frames < 2 || frames > 256 || slots < 1 || slots > 64 ||
-            drain_places < 1 || drain_places > 64)
-            return Refused(Refusal{Fault::OutOfRange});
-        return Sizes(Exact{}, page_size, frames, slots, drain_places);
+        return within({4096, 256, 64, 64}, page_size, frames, slots, drain_places);
+    }
+    /// Sizes for an engine: a page of 4 to 2^20 words, 2 to 2^16 frames, 1 to 1,024 slots, 1 to 4,096 places.
+    /// OutOfRange: one of them is.
+    static Result<Sizes> wide(Word page_size, Word frames, Word slots, Word drain_places) {
+        return within({Word(1) << 20, Word(1) << 16, 1024, 4096}, page_size, frames, slots, drain_places);
     }
 
 #if defined(HL_EXCEPTIONS)
@@ -154,6 +154,16 @@ class Sizes {
 
   private:
     struct Exact {};
+    struct Most {
+        Word page_size, frames, slots, drain_places;
+    };
+    static Result<Sizes> within(Most most, Word page_size, Word frames, Word slots, Word drain_places) {
+        bool is_power = page_size != 0 && (page_size & (page_size - 1)) == 0;
+        if (!is_power || page_size < 4 || page_size > most.page_size || frames < 2 || frames > most.frames ||
+            slots < 1 || slots > most.slots || drain_places < 1 || drain_places > most.drain_places)
+            return Refused(Refusal{Fault::OutOfRange});
+        return Sizes(Exact{}, page_size, frames, slots, drain_places);
+    }
     constexpr Sizes(Exact, Word page_size, Word frames, Word slots, Word drain_places) noexcept
         : page_size_(page_size), frames_(frames), slots_(slots), drain_places_(drain_places) {
         while (page_size >> page_bits_ > 1)
@@ -283,7 +293,7 @@ class Core {
         Core core;
         core.at_.reset(new (std::nothrow) hl_core{});
         if (!core.at_) return Refused(Refusal{Fault::OutOfMemory});
-        Word number = hl_open(core.at_.get(), sizes.page_size(), sizes.frames(), sizes.slots(), sizes.drain_places());
+        Word number = hl_open_wide(core.at_.get(), sizes.page_size(), sizes.frames(), sizes.slots(), sizes.drain_places());
         if (number != 0) return detail::refused(number);
         return core;
     }

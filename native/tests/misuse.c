@@ -40,10 +40,23 @@ static void sizes(void) {
                                                {4, 2, 1, 0},
                                                {4, 2, 1, 65},
                                                {UINT64_MAX, UINT64_MAX, 1, 1}};
+    static const uint64_t out_of_wide_range[][4] = {{0, 2, 1, 1},
+                                                    {2, 2, 1, 1},
+                                                    {6, 2, 1, 1},
+                                                    {1 << 21, 2, 1, 1},
+                                                    {4, 1, 1, 1},
+                                                    {4, 65537, 1, 1},
+                                                    {4, 2, 0, 1},
+                                                    {4, 2, 1025, 1},
+                                                    {4, 2, 1, 0},
+                                                    {4, 2, 1, 4097},
+                                                    {UINT64_MAX, UINT64_MAX, 1, 1}};
     hl_core core = {0};
     for (unsigned i = 0; i < sizeof out_of_range / sizeof out_of_range[0]; i++) {
         const uint64_t *row = out_of_range[i];
         wants("sizes out of range", hl_open(&core, row[0], row[1], row[2], row[3]), HL_OUT_OF_RANGE);
+        row = out_of_wide_range[i];
+        wants("wide sizes out of range", hl_open_wide(&core, row[0], row[1], row[2], row[3]), HL_OUT_OF_RANGE);
     }
 }
 
@@ -79,23 +92,30 @@ static void out_of_place(void) {
     wants("the end", hl_free(&core), 0);
 }
 
-/* The greatest core has all its slots, frames and places, and no more. */
+/* A core of the greatest sizes has all its slots, frames and places, and no more. */
+static void is_full(hl_core *core, uint64_t page_size, uint64_t frames, uint64_t slots, uint64_t places) {
+    for (uint64_t i = 0; i < slots; i++) {
+        wants("each slot", hl_acquire(core, i).number, 0);
+    }
+    wants("a slot too many", hl_acquire(core, slots).number, HL_NO_SLOT);
+    for (uint64_t i = 0; i < frames; i++) {
+        wants("each page", hl_allocate(core, slots - 1, page_size).number, 0);
+    }
+    wants("a page too many", hl_allocate(core, slots - 1, 1).number, HL_BUSY);
+    for (uint64_t i = 0; i < places; i++) {
+        wants("each place", hl_bump(core, UINT64_MAX).number, 0);
+    }
+    wants("an action too many", hl_bump(core, 0).number, HL_DRAIN_FULL);
+    wants("the last action's place", hl_pending(core, places - 1).number, 0);
+    wants("the greatest core's end", hl_free(core), 0);
+}
+
 static void greatest(void) {
     hl_core core = {0};
-    wants("the greatest sizes", hl_open(&core, 4096, 256, 64, 64), 0);
-    for (uint64_t i = 0; i < 64; i++) {
-        wants("each slot", hl_acquire(&core, i).number, 0);
-    }
-    wants("a slot too many", hl_acquire(&core, 64).number, HL_NO_SLOT);
-    for (uint64_t i = 0; i < 256; i++) {
-        wants("each page", hl_allocate(&core, 63, 4096).number, 0);
-    }
-    wants("a page too many", hl_allocate(&core, 63, 1).number, HL_BUSY);
-    for (uint64_t i = 0; i < 64; i++) {
-        wants("each place", hl_bump(&core, UINT64_MAX).number, 0);
-    }
-    wants("an action too many", hl_bump(&core, 0).number, HL_DRAIN_FULL);
-    wants("the greatest core's end", hl_free(&core), 0);
+    wants("the greatest narrow sizes", hl_open(&core, 4096, 256, 64, 64), 0);
+    is_full(&core, 4096, 256, 64, 64);
+    wants("the greatest wide sizes", hl_open_wide(&core, 1 << 20, 1 << 16, 1024, 4096), 0);
+    is_full(&core, 1 << 20, 1 << 16, 1024, 4096);
 }
 
 int main(void) {

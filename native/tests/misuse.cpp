@@ -35,6 +35,11 @@ static void sizes() {
         wants("sizes out of range", hl::Sizes::checked(row[0], row[1], row[2], row[3]), hl::Fault::OutOfRange);
     is("the least sizes", hl::Sizes::checked(4, 2, 1, 1).has_value());
     is("the greatest sizes", hl::Sizes::checked(4096, 256, 64, 64).has_value());
+    static const hl::Word out_of_wide_range[][4] = {
+        {1 << 21, 2, 1, 1}, {4, 65537, 1, 1}, {4, 2, 1025, 1}, {4, 2, 1, 4097}};
+    for (auto &row : out_of_wide_range)
+        wants("wide sizes out of range", hl::Sizes::wide(row[0], row[1], row[2], row[3]), hl::Fault::OutOfRange);
+    is("the greatest wide sizes", hl::Sizes::wide(1 << 20, 1 << 16, 1024, 4096).has_value());
 }
 
 static void no_core() {

@@ -1,6 +1,6 @@
 -- What an export's calls come to.
-use Rattle.std.proofs.Common.{◌≡◌, ℕ, List, ◌∷◌, map, refl, sym, ap, ◌∙◌, subst}
-use Rattle.std.specs.Prelude.{Option, Some, Result, Ok, Err, IfOk}
+use Rattle.std.proofs.Common.{◌≡◌, ℕ, List, ◌∷◌, length, map, refl, sym, ap, ap₂, ◌∙◌, subst}
+use Rattle.std.specs.Prelude.{Option, Some, Result, Ok, Err, IfOk, option_map, slice_get, unwrap_or}
 use Rattle.hl_model.specs.declared.action.Tag.{Tag}
 use Rattle.hl_model.specs.declared.action.Waiting.{Waiting}
 use Rattle.hl_model.specs.declared.step.Step.TheVariants.{Take}
@@ -15,8 +15,8 @@ use Rattle.hl_model.specs.declared.step.Reply.{Reply}
 use Rattle.hl_model.specs.declared.step.Step.{Step}
 use Rattle.hl_core.specs.Steps.{Made, job_in, take_told as core_told, CameOut}
 use Rattle.hl_c.specs.declared.outcome.Outcome.{Outcome}
-use Rattle.hl_c.specs.Outcomes.{told_of, take_told, taken_told}
-use Rattle.hl_c.specs.Doors.{Answers, Takes, StandsAt}
+use Rattle.hl_c.specs.Outcomes.{told_of, take_told, taken_told, action_told, pending_told, no_core, out_of_range}
+use Rattle.hl_c.specs.Doors.{Answers, Takes, Tells, StandsAt}
 use Rattle.hl_c.specs.Slots.{DoorRow}
 
 -- a core that was taken out, made the step and was put back
@@ -54,3 +54,14 @@ take_answers v w old new outcome result was made out is told = subst (λ (u : Op
     standing = m.standing;
   },
 )
+
+-- a pending action is told by itself and how many are pending
+pending_is : (place count : ℕ) (found : Option Waiting) (ws : List Waiting) → found ≡ slice_get ws place → count ≡ length ws → unwrap_or (option_map (action_told count) found) out_of_range ≡ pending_told place ws
+unfolding pending_told
+pending_is place count found ws f c = ap₂ (λ n o. unwrap_or (option_map (action_told n) o) out_of_range) c f
+
+pub pending_tells : (v w : Option DoorRow.Denot) (core : DoorRow.Denot) (outcome : Outcome) (place count : ℕ) (found : Option Waiting)
+    → v ≡ Some core → ((A : List Step) → StandsAt core A → found ≡ slice_get (pending A) place) → ((A : List Step) → StandsAt core A → count ≡ length (pending A))
+    → w ≡ Some core → outcome ≡ unwrap_or (option_map (action_told count) found) out_of_range → Tells v (λ sizes A. pending_told place (pending A)) no_core w outcome
+pending_tells v w core outcome place count found was f c is told = subst (λ (u : Option DoorRow.Denot). Tells u (λ sizes A. pending_told place (pending A)) no_core w outcome) (sym was)
+    (is, λ A stands. told ∙ pending_is place count found (pending A) (f A stands) (c A stands))

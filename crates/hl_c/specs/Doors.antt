@@ -5,7 +5,7 @@ use Rattle.hl_model.specs.declared.step.Reply.{Reply}
 use Rattle.hl_model.specs.declared.step.Step.{Step}
 use Rattle.hl_model.specs.declared.step.Step.TheVariants.{Take}
 use Rattle.hl_model.specs.Actions.{pending}
-use Rattle.hl_model.specs.Sizes.{Sizes, AreInRange}
+use Rattle.hl_model.specs.Sizes.{Sizes}
 use Rattle.hl_model.specs.Replies.{reply_of, extended}
 use Rattle.hl_core.specs.Standing.{Stands}
 use Rattle.hl_core.specs.Steps.{Made}
@@ -52,13 +52,20 @@ Tells None answer none new outcome = (outcome ≡ none) × (new ≡ None)
 Tells (Some core) answer none new outcome = (new ≡ Some core)
     × ((A : List Step) → StandsAt core A → outcome ≡ answer core.sizes A)
 
--- an open: 255 where a core is open, 254 where a size is out of range, 29 where memory was refused, and
--- nothing is changed; else 0, and a core of these sizes is open at the empty list
-abbrev pub Opens : Option DoorRow.Denot → Sizes → Option DoorRow.Denot → ℕ → Type 0
-Opens (Some core) sizes new number = (number ≡ 255) × (new ≡ Some core)
-Opens None sizes (Some core) number =
-    (number ≡ 0) × (core.sizes ≡ sizes) × AreInRange sizes × StandsAt core []
-Opens None sizes None number = (AreInRange sizes × (number ≡ 29)) ⊎ (¬ AreInRange sizes × (number ≡ 254))
+-- an open of sizes in this range: 255 where a core is open, 254 where a size is out of range, 29 where memory
+-- was refused, and nothing is changed; else 0, and a core of these sizes is open at the empty list
+abbrev pub Opens : (Sizes → Type 0) → Option DoorRow.Denot → Sizes → Option DoorRow.Denot → ℕ → Type 0
+Opens InRange (Some core) sizes new number = (number ≡ 255) × (new ≡ Some core)
+Opens InRange None sizes (Some core) number =
+    (number ≡ 0) × (core.sizes ≡ sizes) × InRange sizes × StandsAt core []
+Opens InRange None sizes None number = (InRange sizes × (number ≡ 29)) ⊎ (¬ InRange sizes × (number ≡ 254))
+
+-- the same, told the sizes if they are in range
+abbrev pub OpensWith : Option DoorRow.Denot → Option Sizes → Option DoorRow.Denot → ℕ → Type 0
+OpensWith (Some core) params new number = (number ≡ 255) × (new ≡ Some core)
+OpensWith None (Some sizes) (Some core) number = (number ≡ 0) × (core.sizes ≡ sizes) × StandsAt core []
+OpensWith None (Some sizes) None number = number ≡ 29
+OpensWith None None new number = (number ≡ 254) × (new ≡ None)
 
 -- giving a core back: 255 where none is open
 abbrev pub free_number : Option DoorRow.Denot → ℕ

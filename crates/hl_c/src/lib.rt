@@ -1,8 +1,8 @@
 //! The door for C and C++: the core behind an opaque handle, a call for each step and each query.
 //!
 //! `include/hl.h` declares the calls, with what each answers. A handle is two words that C keeps and never
-//! reads. All bytes zero means that no core is open; [`open::hl_open`] opens one, [`open::hl_free`] gives it
-//! back.
+//! reads. All bytes zero means that no core is open; [`open::hl_open`] opens one of narrow sizes,
+//! [`open::hl_open_wide`] one of wide sizes, [`open::hl_free`] gives it back.
 //!
 //! # What is promised
 //!
@@ -17,8 +17,8 @@
 //! # Threads
 //!
 //! A core may go to another thread (`Send` is proved), and one call at a time may use it: the caller keeps it
-//! under a lock of its own. No call waits. None but [`open::hl_open`] has an answer for want of memory: the core's rows
-//! stay as it made them, by the core's type.
+//! under a lock of its own. No call waits. None but the two that open has an answer for want of memory: the core's rows
+//! stay as they made them, by the core's type.
 //!
 //! # How a call goes
 //!
@@ -49,7 +49,7 @@ pub use door::Door;
 pub use handle::Handle;
 pub use lag::{LagOutcome, LagStep};
 pub use log::{hl_allocate, hl_look, hl_raise, hl_read, hl_shift, hl_write};
-pub use open::{hl_free, hl_open};
+pub use open::{hl_free, hl_open, hl_open_wide};
 pub use outcome::{Brief, Outcome};
 pub use pages::{hl_clean_done, hl_clean_take, hl_flush_done, hl_flush_take};
 pub use quantities::{SixOutcome, SnapshotOutcome};

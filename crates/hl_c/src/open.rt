@@ -1,14 +1,14 @@
 ghost use Rattle.std.specs.Prelude.{◌≡◌, None, [], IfSome};
-ghost use Rattle.hl_c.specs.Doors.{Opens, StandsAt, free_number};
+ghost use Rattle.hl_model.specs.Sizes.{AreInRange, AreNarrow};
+ghost use Rattle.hl_c.specs.Doors.{Opens, OpensWith, StandsAt, free_number};
 
 use crate::door::Door;
 use crate::handle::Handle;
 use hl_model::Params;
 use std::alloc::Global;
 
-/// Opens a core: so many words a page, frames, slots, places in the drain list. 0 where it did; 29 where
-/// memory was refused, 254 where a size is out of range, 255 where a core is open already, which stays as it
-/// was.
+/// Opens a core: so many words a page, frames, slots, places in the drain list, narrow sizes. 0 where it did; 29 where
+/// memory was refused, 254 where a size is out of range, 255 where a core is open already, which stays as it was.
 #[unsafe(no_mangle)]
 pub extern "C" fn hl_open(
     alloc: Global,
@@ -18,14 +18,39 @@ pub extern "C" fn hl_open(
     slots: u64,
     drain: u64,
 ) -> u64
-    ensures { Opens handle.old.slot.value
+    ensures { Opens AreNarrow handle.old.slot.value
         (record { page_size = page_size; frames = frames; slots = slots; drain = drain })
         handle.new.slot.value result }
+{
+    open_with(alloc, handle, Params::checked(page_size, frames, slots, drain))
+}
+
+/// Opens a core of wide sizes: a page of up to 2^20 words, up to 2^16 frames, 1,024 slots and 4,096 places in the drain
+/// list. It answers as `hl_open` does.
+#[unsafe(no_mangle)]
+pub extern "C" fn hl_open_wide(
+    alloc: Global,
+    handle: &mut Handle,
+    page_size: u64,
+    frames: u64,
+    slots: u64,
+    drain: u64,
+) -> u64
+    ensures { Opens AreInRange handle.old.slot.value
+        (record { page_size = page_size; frames = frames; slots = slots; drain = drain })
+        handle.new.slot.value result }
+{
+    open_with(alloc, handle, Params::wide(page_size, frames, slots, drain))
+}
+
+/// Opens a core of these sizes, if they are in range.
+fn open_with(alloc: Global, handle: &mut Handle, params: Option<Params>) -> u64
+    ensures { OpensWith handle.old.slot.value params handle.new.slot.value result }
 {
     if handle.live != 0 {
         return 255;
     }
-    let Some(params) = Params::checked(page_size, frames, slots, drain) else {
+    let Some(params) = params else {
         return 254;
     };
     match boxed(alloc, params) {

@@ -1,5 +1,5 @@
-ghost use Rattle.std.specs.Prelude.{◌≡◌, Ok};
-ghost use Rattle.hl_c.specs.Outcomes.{told_of, fault_told, taken_told, frame_told, view_told, pending_told, action_told, accepted, brief_of, no_core, out_of_range};
+ghost use Rattle.std.specs.Prelude.{◌≡◌, Ok, option_map, unwrap_or};
+ghost use Rattle.hl_c.specs.Outcomes.{told_of, fault_told, taken_told, frame_told, view_told, action_told, accepted, brief_of, no_core, out_of_range};
 
 use hl_action::Firing;
 use hl_model::{Fault, FrameState, Kind, Reply, Tag, View, Waiting};
@@ -185,13 +185,12 @@ impl Outcome {
         }
     }
 
-    /// The one at a place of the pending actions, if there is one.
-    #[tactic(auto, unfolding(crate::specs::Outcomes::pending_told))]
-    pub(crate) fn of_pending(pending: &[Waiting], place: u64) -> Outcome
-        ensures { result ≡ pending_told place pending.now }
+    /// A pending action, if there is one, of so many.
+    pub(crate) fn of_pending(found: Option<Waiting>, count: u64) -> Outcome
+        ensures { result ≡ unwrap_or (option_map (action_told count) found) out_of_range }
     {
-        match pending.get(place as usize) {
-            Some(action) => Outcome::of_action(action, pending.len() as u64),
+        match found {
+            Some(action) => Outcome::of_action(&action, count),
             None => Outcome::out_of_range(),
         }
     }

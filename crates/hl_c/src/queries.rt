@@ -71,7 +71,7 @@ pub extern "C" fn hl_pending(handle: &mut Handle, place: u64) -> Outcome
 {
     match handle.take_core() {
         Some(core) => {
-            let outcome = Outcome::of_pending(&core.pending(), place);
+            let outcome = Outcome::of_pending(core.pending_at(place), core.pending_count());
             handle.put_core(core);
             outcome
         }

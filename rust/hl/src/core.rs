@@ -65,7 +65,7 @@ impl Core {
         let (pages, frames) = (sizes.page_size(), sizes.frames());
         // SAFETY: the handle is all zero, and nobody else has it.
         match unsafe {
-            raw::hl_open(
+            raw::hl_open_wide(
                 core.handle.get(),
                 pages,
                 frames,

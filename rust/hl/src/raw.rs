@@ -83,7 +83,7 @@ pub(crate) struct LagSteps {
 }
 
 extern "C" {
-    pub(crate) fn hl_open(
+    pub(crate) fn hl_open_wide(
         core: *mut Handle,
         page_size: u64,
         frames: u64,

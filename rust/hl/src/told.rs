@@ -12,22 +12,53 @@ pub struct Sizes {
 }
 
 impl Sizes {
-    /// Words a page, a power of two from 4 to 4,096; 2 to 256 frames; 1 to 64 slots; 1 to 64 places in the drain list.
+    /// Narrow sizes: words a page, a power of two from 4 to 4,096; 2 to 256 frames; 1 to 64 slots; 1 to 64 places in the
+    /// drain list.
     ///
     /// [`Fault::OutOfRange`] where one is out of its range.
     pub fn checked(page_size: u64, frames: u64, slots: u64, drain_places: u64) -> Result<Sizes, Fault> {
-        let fit = page_size.is_power_of_two()
-            && (4..=4096).contains(&page_size)
-            && (2..=256).contains(&frames)
-            && (1..=64).contains(&slots)
-            && (1..=64).contains(&drain_places);
+        let most = Sizes {
+            page_size: 4096,
+            frames: 256,
+            slots: 64,
+            drain_places: 64,
+        };
         let sizes = Sizes {
             page_size,
             frames,
             slots,
             drain_places,
         };
-        fit.then_some(sizes).ok_or(Fault::OutOfRange)
+        sizes.within(most)
+    }
+
+    /// Sizes for an engine: words a page, a power of two from 4 to 2^20; 2 to 2^16 frames; 1 to 1,024 slots; 1 to 4,096
+    /// places in the drain list.
+    ///
+    /// [`Fault::OutOfRange`] where one is out of its range.
+    pub fn wide(page_size: u64, frames: u64, slots: u64, drain_places: u64) -> Result<Sizes, Fault> {
+        let most = Sizes {
+            page_size: 1 << 20,
+            frames: 1 << 16,
+            slots: 1024,
+            drain_places: 4096,
+        };
+        let sizes = Sizes {
+            page_size,
+            frames,
+            slots,
+            drain_places,
+        };
+        sizes.within(most)
+    }
+
+    fn within(self, most: Sizes) -> Result<Sizes, Fault> {
+        let fit = self.page_size.is_power_of_two()
+            && (4..=most.page_size).contains(&self.page_size)
+            && (2..=most.frames).contains(&self.frames)
+            && (1..=most.slots).contains(&self.slots)
+            && (1..=most.drain_places).contains(&self.drain_places);
+        fit.then_some(self).ok_or(Fault::OutOfRange)
     }
 
     /// Words a page.

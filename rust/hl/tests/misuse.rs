@@ -30,6 +30,20 @@ fn sizes_out_of_range() {
         );
     }
     assert!(Sizes::checked(4, 2, 1, 1).is_ok() && Sizes::checked(4096, 256, 64, 64).is_ok());
+    let wide = [
+        ("a page of 2^21 words", [1 << 21, 2, 1, 1]),
+        ("65537 frames", [4, 65537, 1, 1]),
+        ("1025 slots", [4, 2, 1025, 1]),
+        ("4097 places", [4, 2, 1, 4097]),
+    ];
+    for (name, [page_size, frames, slots, drain]) in wide {
+        assert_eq!(
+            Sizes::wide(page_size, frames, slots, drain),
+            Err(Fault::OutOfRange),
+            "{name}"
+        );
+    }
+    assert!(Sizes::wide(1 << 20, 1 << 16, 1024, 4096).is_ok());
 }
 
 #[test]
