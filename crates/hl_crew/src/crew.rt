@@ -1,4 +1,4 @@
-ghost use Rattle.std.specs.Prelude.{◌≡◌, IfErr};
+ghost use Rattle.std.specs.Prelude.{◌≡◌, IfOk, IfErr};
 ghost use Rattle.hl_crew.specs.Lags.{IsLag};
 ghost use Rattle.hl_model.specs.declared.fault.Fault.TheVariants.{OutOfMemory};
 
@@ -11,11 +11,12 @@ use crate::shared::Shared;
 use crate::stop::Stop;
 use crate::term::{Term, Turns};
 use crate::threads::run_threads;
+use crate::writer::Buffers;
 use hl_action::{Promise, Task};
 use hl_domain::Domain;
 use hl_epoch::Epochs;
 use hl_image::PageWriter;
-use hl_model::Fault;
+use hl_model::{Fault, Params};
 use hl_words::{Realm, Rider};
 use std::alloc::Global;
 use std::sync::Wait;
@@ -138,10 +139,24 @@ where
     requires { IsLag domain.now.sizes.frames orders.mutable orders.resident }
     ensures { IfErr result (λ back. back.0 ≡ OutOfMemory) }
 {
-    let Ok(channels) = Channels::open(alloc) else {
+    let Ok((channels, first, second)) = open_rows(alloc, domain.params()) else {
         return hands.hand_back(None);
     };
     let shared = Shared::of(channels, hands);
-    let whole = run_threads(rt, domain, gate, &shared, orders, term);
+    let whole = run_threads(rt, domain, gate, &shared, first, second, orders, term);
     shared.end().hand_back(whole)
+}
+
+// All memory that a crew takes itself: the channels, and for each writer its buffers.
+//
+// `OutOfMemory` if memory was refused.
+fn open_rows(alloc: Global, params: Params) -> Result<(Channels, Buffers, Buffers), Fault>
+    ensures first { IfOk result (λ rows. rows.1 ≡ params.page_size) }
+    ensures second { IfOk result (λ rows. rows.2 ≡ params.page_size) }
+    ensures err { IfErr result (λ fault. fault ≡ OutOfMemory) }
+{
+    let channels = Channels::open(alloc).map_err(|_| Fault::OutOfMemory)?;
+    let first = Buffers::open(alloc, params)?;
+    let second = Buffers::open(alloc, params)?;
+    Ok((channels, first, second))
 }

@@ -8,7 +8,7 @@
 //! | Thread | What it does in a turn |
 //! |---|---|
 //! | the flusher | makes the lag's steps if no action waits, runs safe actions, sends sealed pages, answers each |
-//! | two writers | copy a page's words without the lock, make its image, hand it to their `PageWriter` |
+//! | two writers | copy a page's words without the lock, make its image in buffers of their own, write it |
 //! | the cleaner | sweeps a closed page without the lock, and frees its frame |
 //!
 //! # What an acknowledgement can do
@@ -61,7 +61,7 @@
 //! | `duty`, `stop` | what a crew that serves is told; what ends it |
 //! | `orders`, `term` | what the flusher is told; for how long it runs |
 //! | `flusher`, and in it `lag`, `actions`, `pages`, `acknowledgements` | the flusher's turn, a part each |
-//! | `writer`, and in it `write`; `cleaner` | the other threads |
+//! | `writer`, and in it `buffers` and `write`; `cleaner` | the other threads |
 //! | `pouch` | the pages that wait for their acknowledgement |
 //! | `gate`, `messages`, `counts` | when a page may be written; what the channels carry; what is counted |
 #![tactic(auto)]

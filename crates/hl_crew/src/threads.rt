@@ -9,7 +9,7 @@ use crate::messages::{Channels, Message};
 use crate::orders::Orders;
 use crate::shared::Shared;
 use crate::term::Term;
-use crate::writer::{Writer, WriterState};
+use crate::writer::{Buffers, Writer, WriterState};
 use hl_action::{Promise, Task};
 use hl_domain::Domain;
 use hl_epoch::Epochs;
@@ -38,13 +38,15 @@ fn whole_of(first: bool, second: bool, cleaner: bool, flusher: bool) -> Option<W
     }
 }
 
-/// Runs the threads until all have ended. `None` if one of them couldn't be made: those made are
-/// stopped.
+/// Runs the threads until all have ended; each writer has buffers of its own. `None` if a thread couldn't be made:
+/// those made are stopped.
 pub(crate) fn run_threads<'x, R, E, F, P, L, W, G, T>(
     rt: &'x R,
     domain: &'x Domain<E, F, P, L>,
     gate: &'x G,
     shared: &'x Shared<L, W>,
+    first: Buffers,
+    second: Buffers,
     orders: Orders,
     term: &'x T,
 ) -> Option<Whole>
@@ -57,7 +59,9 @@ where
     W: PageWriter + Send,
     G: Gate + Sync,
     T: Term<R> + Sync,
-    requires { IsLag domain.now.sizes.frames orders.mutable orders.resident }
+    requires first { first ≡ domain.now.sizes.page_size }
+    requires second { second ≡ domain.now.sizes.page_size }
+    requires lag { IsLag domain.now.sizes.frames orders.mutable orders.resident }
 {
     thread::scope(
         thread::scope_env(),
@@ -71,13 +75,23 @@ where
             requires page_writer { IsSend W.row }
             requires gate_shared { IsSync G.row }
             requires term_shared { IsSync T.row }
+            requires first { first ≡ domain.now.sizes.page_size }
+            requires second { second ≡ domain.now.sizes.page_size }
             requires lag { IsLag domain.now.sizes.frames orders.mutable orders.resident }
         {
             let first = scope
-                .spawn(move || write_pages(rt, domain, gate, &shared.channels, &shared.first))
+                .spawn(
+                    move ||
+                        requires { first ≡ domain.now.sizes.page_size }
+                    { write_pages(rt, domain, gate, &shared.channels, &shared.first, first) },
+                )
                 .is_ok();
             let second = scope
-                .spawn(move || write_pages(rt, domain, gate, &shared.channels, &shared.second))
+                .spawn(
+                    move ||
+                        requires { second ≡ domain.now.sizes.page_size }
+                    { write_pages(rt, domain, gate, &shared.channels, &shared.second, second) },
+                )
                 .is_ok();
             let cleaner = scope
                 .spawn(move || clean_pages(rt, domain, shared, orders, term))
@@ -133,6 +147,7 @@ fn write_pages<R, E, F, P, L, W, G>(
     gate: &G,
     channels: &Channels,
     own: &Mutex<WriterState<L, W>>,
+    buffers: Buffers,
 )
 where
     R: Wait,
@@ -142,6 +157,7 @@ where
     L: Realm,
     W: PageWriter,
     G: Gate,
+    requires { buffers ≡ domain.now.sizes.page_size }
 {
     let writer = Writer {
         rt,
@@ -149,7 +165,7 @@ where
         gate,
         channels,
     };
-    writer.run(own);
+    writer.run(own, buffers);
 }
 
 // What the cleaner's thread does.

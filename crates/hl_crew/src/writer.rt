@@ -11,8 +11,10 @@ use hl_words::{Realm, Rider};
 use std::sync::{Mutex, Wait};
 use std::thread;
 
+mod buffers;
 mod write;
 
+pub(crate) use buffers::Buffers;
 pub(crate) use write::Written;
 
 /// How often a writer asks whether it may write a page.
@@ -43,14 +45,16 @@ where
     G: Gate,
 {
     /// Writes the pages that are sent, and acknowledges each, until it is told to stop or a channel fails.
-    pub(crate) fn run<W: PageWriter>(&self, own: &Mutex<WriterState<L, W>>) {
+    pub(crate) fn run<W: PageWriter>(&self, own: &Mutex<WriterState<L, W>>, mut buffers: Buffers)
+        requires { buffers ≡ self.now.domain.now.sizes.page_size }
+    {
         let mut own = own.lock(self.rt);
         let own = &mut *own;
         for _ in self.rt.forever() {
             let Ok(Message::Write(job)) = self.channels.jobs_sent.recv(self.rt) else {
                 return;
             };
-            let told = self.acknowledge(own, job);
+            let told = self.acknowledge(own, &mut buffers, job);
             if self.channels.acknowledgements.send(self.rt, told).is_err() {
                 return;
             }
@@ -61,8 +65,11 @@ where
     fn acknowledge<W: PageWriter>(
         &self,
         own: &mut WriterState<L, W>,
+        buffers: &mut Buffers,
         job: PageJob,
     ) -> Acknowledgement
+        requires { buffers.old ≡ self.now.domain.now.sizes.page_size }
+        ensures buffers { buffers.new ≡ buffers.old }
         ensures page { result.page ≡ job.page }
         ensures gate { result.ok ≡ true → G.lets self.now.gate.now job.page }
         ensures written { let sizes = self.now.domain.now.sizes
@@ -72,7 +79,7 @@ where
         if !self.may_write(job.page) {
             return Acknowledgement::failed(job.page);
         }
-        match self.write(own, job) {
+        match self.write(own, buffers, job) {
             Some(written) => Acknowledgement::written(written),
             None => Acknowledgement::failed(job.page),
         }

@@ -2,20 +2,13 @@ ghost use Rattle.std.specs.Prelude.{◌≡◌, IfSome};
 ghost use Rattle.hl_crew.specs.Writes.{IsWritten};
 
 use crate::gate::Gate;
-use crate::writer::{Writer, WriterState};
+use crate::writer::{Buffers, Writer, WriterState};
 use hl_action::{Promise, Task};
 use hl_domain::PageJob;
 use hl_epoch::Epochs;
 use hl_image::{PageWriter, image_of};
-use hl_model::PAGE_SIZE_MOST;
 use hl_words::Realm;
 use std::sync::Wait;
-
-/// The most words that a page has.
-const WORDS: usize = PAGE_SIZE_MOST as usize;
-
-/// How many bytes the image of that many words has.
-const BYTES: usize = 8 + 8 * WORDS;
 
 /// That the image of a page was written. Only `Writer::write` makes one, so nobody else can report
 /// a page as written.
@@ -46,23 +39,24 @@ where
     pub(crate) fn write<W: PageWriter>(
         &self,
         own: &mut WriterState<L, W>,
+        buffers: &mut Buffers,
         job: PageJob,
     ) -> Option<Written>
+        requires { buffers.old ≡ self.now.domain.now.sizes.page_size }
+        ensures buffers { buffers.new ≡ buffers.old }
         ensures page { IfSome result (λ written. written.page ≡ job.page) }
         ensures written { let sizes = self.now.domain.now.sizes
             in IfSome result (λ written. IsWritten W.wrote sizes job
             own.old.rider own.new.rider own.old.pages own.new.pages) }
     {
-        let mut words = [0; WORDS];
-        let mut image = [0; BYTES];
-        let places = self.domain.params().page_size() as usize;
-        let words = &mut words[..places];
-        let image = &mut image[..8 + 8 * places];
-        if self.domain.copy_page(job, &mut own.rider, words).is_err() {
+        let copied = self
+            .domain
+            .copy_page(job, &mut own.rider, &mut buffers.words);
+        if copied.is_err() {
             return None;
         }
-        image_of(job.page, words, image);
-        match own.pages.write_page(job.page, image) {
+        image_of(job.page, &buffers.words, &mut buffers.image);
+        match own.pages.write_page(job.page, &buffers.image) {
             Ok(()) => Some(Written { page: job.page }),
             Err(_) => None,
         }
