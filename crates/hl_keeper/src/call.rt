@@ -72,6 +72,23 @@ impl<E: Epochs + Drop, F: Task, P: Promise, L: Realm> Keeper<E, F, P, L> {
             // The core judges the step as it makes it: once is enough.
             return self.one(&mut pass.rider, step);
         }
+        self.call_touched(pass, step)
+    }
+
+    // The same, with touches or without: the core judges the step before any touch enters. Not inlined, so that the
+    // other way is short enough to be.
+    #[inline(never)]
+    fn call_touched(&mut self, pass: &mut Pass<L>, step: &Step) -> Result<Reply, Fault>
+        requires kind { is_call step.now ≡ true }
+        requires known { Knows self.old pass.old }
+        ensures made { (A : List STEP) → KeeperStands self.old A
+            → Called self.old A pass.old step.now self.new result }
+        ensures keeps { Keeps self.old self.new result }
+        ensures stamps { SameStamps self.old self.new }
+        ensures pass { MatchResult result (λ _. pass.new ≡ entered_by pass.old) (λ _. pass.new ≡ pass.old) }
+        ensures valid { IsKeeper self.old }
+    {
+        let touches = pass.touches.len() as u64;
         let count = touches + 1;
         self.room(count)?;
         self.core.check(step)?;

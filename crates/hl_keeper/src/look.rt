@@ -29,9 +29,10 @@ pub fn look<L: Realm>(words: &Words<L>, pass: &mut Pass<L>) -> Result<View, Faul
         }) }
 {
     pass.may_touch()?;
-    let seen = pass.view;
     let read_only = words.load_offset(&mut pass.rider, Which::ReadOnly);
     let head = words.load_offset(&mut pass.rider, Which::Head);
+    // After the loads, which nothing is moved past: the compiler then reads of the view only what is used.
+    let seen = pass.view;
     if !rises(seen, read_only, head) {
         return Ok(seen);
     }

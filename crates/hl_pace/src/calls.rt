@@ -29,10 +29,18 @@ struct Seat<L: Realm> {
     sum: u64,
 }
 
+/// What a thread's calls go through.
+#[derive(Drop)]
+struct Caller<'x, R, E: Epochs, F: Task, P: Promise, L: Realm> {
+    rt: &'x R,
+    domain: &'x Domain<E, F, P, L>,
+    shared: &'x Shared,
+}
+
 /// Acquires a slot, makes the calls of the work there, and releases it. A full journal is cut. No rider comes back if a
 /// call was refused.
-pub(crate) fn call_all<E: Epochs + Drop, F: Task, P: Promise, L: Realm>(
-    rt: &impl Wait,
+pub(crate) fn call_all<R: Wait, E: Epochs + Drop, F: Task, P: Promise, L: Realm>(
+    rt: &R,
     domain: &Domain<E, F, P, L>,
     shared: &Shared,
     rider: Rider<L>,
@@ -44,21 +52,16 @@ pub(crate) fn call_all<E: Epochs + Drop, F: Task, P: Promise, L: Realm>(
         refresh_beside(rt, domain, shared, &mut pass, work.calls).ok()?;
         return domain.release(rt, pass).ok();
     }
-    let address = domain.allocate(rt, &mut pass, PIECE).ok()?;
+    let piece = PIECE.min(work.params.page_size());
+    let address = domain.allocate(rt, &mut pass, piece).ok()?;
     let mut seat = Seat {
         pass,
         lease: Lease::of(address, 0),
         address,
         sum: 0,
     };
-    for _ in 0..work.calls {
-        match call(rt, domain, shared, &mut seat, work.kind) {
-            Err(Fault::JournalFull) => {
-                domain.cut(rt, seat.pass.rider_mut());
-            }
-            called => called.ok()?,
-        }
-    }
+    let caller = Caller { rt, domain, shared };
+    caller.call(&mut seat, work)?;
     shared.working.fetch_sub(1, Ordering::SeqCst);
     let Seat { pass, sum, .. } = seat;
     add_to(rt, &shared.floor, sum);
@@ -95,49 +98,136 @@ fn refresh_beside<E: Epochs + Drop, F: Task, P: Promise, L: Realm>(
     Ok(())
 }
 
-// One call.
-fn call<E: Epochs + Drop, F: Task, P: Promise, L: Realm>(
-    rt: &impl Wait,
-    domain: &Domain<E, F, P, L>,
-    shared: &Shared,
-    seat: &mut Seat<L>,
-    kind: Kind,
-) -> Result<(), Fault> {
-    match kind {
-        Kind::Lock => add_to(rt, &shared.floor, 1),
-        Kind::Refresh => {
-            domain.refresh(rt, &mut seat.pass)?;
-        }
-        Kind::Allocate => {
-            domain.allocate(rt, &mut seat.pass, 1)?;
-        }
-        Kind::Store => {
-            if let Err(Fault::TouchesFull) = domain.store(&mut seat.pass, seat.address, 1) {
-                domain.refresh(rt, &mut seat.pass)?;
-            }
-        }
-        Kind::Add => {
-            if let Err(Fault::TouchesFull) = domain.fetch_add(&mut seat.pass, seat.address, 1) {
-                domain.refresh(rt, &mut seat.pass)?;
-            }
-        }
-        Kind::Lease => match seat.lease.take(1) {
-            Some(record) => seat.sum = seat.sum.wrapping_add(record),
-            None => {
-                // A log has no words for so many records: a locked call, as an allocation is, and the log's first piece again.
-                domain.refresh(rt, &mut seat.pass)?;
-                seat.lease = Lease::of(0, PIECE);
-            }
-        },
-        Kind::Load | Kind::LoadBeside => {
-            domain.load(&mut seat.pass, seat.address)?;
-        }
-        Kind::Look => {
-            domain.look(&mut seat.pass)?;
-        }
-        Kind::KeepUp => {
-            domain.keep_up(rt, &mut seat.pass)?;
+// Each kind has a loop of its own, in a function of its own, as a call has in a program. In one loop for all kinds each
+// call would also choose its kind, and clear the places through which the other kinds are answered.
+impl<R: Wait, E: Epochs + Drop, F: Task, P: Promise, L: Realm> Caller<'_, R, E, F, P, L> {
+    // Makes the calls. `None` if one was refused.
+    fn call(&self, seat: &mut Seat<L>, work: Work) -> Option<()> {
+        let calls = work.calls;
+        match work.kind {
+            Kind::Lock => self.lock(calls),
+            Kind::Refresh => self.refresh(seat, calls),
+            Kind::Allocate => self.allocate(seat, calls),
+            Kind::Store => self.store(seat, calls),
+            Kind::Add => self.add(seat, calls),
+            Kind::Lease => self.lease(seat, calls),
+            Kind::Load | Kind::LoadBeside => self.load(seat, calls),
+            Kind::Look => self.look(seat, calls),
+            Kind::KeepUp => self.keep_up(seat, calls),
+            Kind::Cut => self.cut(seat, calls),
         }
     }
-    Ok(())
+
+    // Cuts the journal, if a call was refused since it is full. `None` if it was refused for another reason.
+    fn go_on(&self, seat: &mut Seat<L>, fault: Fault) -> Option<()> {
+        if fault != Fault::JournalFull {
+            return None;
+        }
+        self.domain.cut(self.rt, seat.pass.rider_mut());
+        Some(())
+    }
+
+    #[inline(never)]
+    fn lock(&self, calls: u64) -> Option<()> {
+        for _ in 0..calls {
+            add_to(self.rt, &self.shared.floor, 1);
+        }
+        Some(())
+    }
+
+    #[inline(never)]
+    fn refresh(&self, seat: &mut Seat<L>, calls: u64) -> Option<()> {
+        for _ in 0..calls {
+            if let Err(fault) = self.domain.refresh(self.rt, &mut seat.pass) {
+                self.go_on(seat, fault)?;
+            }
+        }
+        Some(())
+    }
+
+    #[inline(never)]
+    fn allocate(&self, seat: &mut Seat<L>, calls: u64) -> Option<()> {
+        for _ in 0..calls {
+            if let Err(fault) = self.domain.allocate(self.rt, &mut seat.pass, 1) {
+                self.go_on(seat, fault)?;
+            }
+        }
+        Some(())
+    }
+
+    #[inline(never)]
+    fn store(&self, seat: &mut Seat<L>, calls: u64) -> Option<()> {
+        let domain = self.domain;
+        for _ in 0..calls {
+            if let Err(Fault::TouchesFull) = domain.store(&mut seat.pass, seat.address, 1) {
+                self.refresh(seat, 1)?;
+            }
+        }
+        Some(())
+    }
+
+    #[inline(never)]
+    fn add(&self, seat: &mut Seat<L>, calls: u64) -> Option<()> {
+        for _ in 0..calls {
+            if let Err(Fault::TouchesFull) = self
+                .domain
+                .fetch_add(&mut seat.pass, seat.address, 1)
+            {
+                self.refresh(seat, 1)?;
+            }
+        }
+        Some(())
+    }
+
+    #[inline(never)]
+    fn lease(&self, seat: &mut Seat<L>, calls: u64) -> Option<()> {
+        for _ in 0..calls {
+            match seat.lease.take(1) {
+                Some(record) => seat.sum = seat.sum.wrapping_add(record),
+                None => {
+                    // A log has no words for so many records: a locked call, as an allocation is, and the log's first piece again.
+                    self.refresh(seat, 1)?;
+                    seat.lease = Lease::of(0, PIECE);
+                }
+            }
+        }
+        Some(())
+    }
+
+    #[inline(never)]
+    fn load(&self, seat: &mut Seat<L>, calls: u64) -> Option<()> {
+        let domain = self.domain;
+        for _ in 0..calls {
+            domain.load(&mut seat.pass, seat.address).ok()?;
+        }
+        Some(())
+    }
+
+    #[inline(never)]
+    fn look(&self, seat: &mut Seat<L>, calls: u64) -> Option<()> {
+        let domain = self.domain;
+        for _ in 0..calls {
+            domain.look(&mut seat.pass).ok()?;
+        }
+        Some(())
+    }
+
+    #[inline(never)]
+    fn cut(&self, seat: &mut Seat<L>, calls: u64) -> Option<()> {
+        for _ in 0..calls {
+            self.domain.cut(self.rt, seat.pass.rider_mut());
+        }
+        Some(())
+    }
+
+    #[inline(never)]
+    fn keep_up(&self, seat: &mut Seat<L>, calls: u64) -> Option<()> {
+        let domain = self.domain;
+        for _ in 0..calls {
+            if let Err(fault) = domain.keep_up(self.rt, &mut seat.pass) {
+                self.go_on(seat, fault)?;
+            }
+        }
+        Some(())
+    }
 }

@@ -7,7 +7,7 @@ use crate::work::Work;
 use hl_action::{AnyAnswer, NoJob};
 use hl_counts::CountTable;
 use hl_domain::Domain;
-use hl_model::{Fault, Params, with_room};
+use hl_model::{Fault, with_room};
 use hl_words::{Realm, Rider, Seed};
 use std::alloc::Global;
 use std::marker::Brand;
@@ -32,8 +32,7 @@ pub(crate) fn run<R: Threads + Wait + Sync>(
 ) -> Result<bool, Fault>
     requires { (1 ≤ work.threads) × (work.threads ≤ 8) }
 {
-    let params = Params::checked(4096, 256, 8, 64).ok_or(Fault::Size)?;
-    let seed = Seed::make(alloc, params, work.threads as usize)?;
+    let seed = Seed::make(alloc, work.params, work.threads as usize)?;
     run_over::<Brand, R>(rt, alloc, seed, work)
 }
 

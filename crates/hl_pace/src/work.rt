@@ -1,5 +1,7 @@
 ghost use Rattle.std.specs.Prelude.{◌≤◌, IfSome};
 
+use hl_model::Params;
+
 /// What each thread does.
 #[derive(Clone, Copy, PartialEq, Eq)]
 pub(crate) enum Kind {
@@ -13,9 +15,10 @@ pub(crate) enum Kind {
     Lease,
     KeepUp,
     LoadBeside,
+    Cut,
 }
 
-/// What is to be done.
+/// What is to be done, and the sizes of the domain.
 #[derive(Clone, Copy)]
 pub(crate) struct Work {
     pub(crate) kind: Kind,
@@ -23,18 +26,17 @@ pub(crate) struct Work {
     pub(crate) threads: u64,
     /// How many calls each makes.
     pub(crate) calls: u64,
+    pub(crate) params: Params,
 }
 
 /// The work that the program's words name; `None` if they name none.
 pub(crate) fn read(words: &[String]) -> Option<Work>
     ensures { IfSome result (λ work. (1 ≤ work.threads) × (work.threads ≤ 8)) }
 {
-    let [_, kind, threads, calls] = words else {
-        return None;
-    };
-    let threads = threads.parse().ok()?;
-    let calls = calls.parse().ok()?;
-    let kind = kind_of(kind)?;
+    let kind = kind_of(words.get(1)?)?;
+    let threads = words.get(2)?.parse().ok()?;
+    let calls = words.get(3)?.parse().ok()?;
+    let params = sizes_of(words.get(4..)?)?;
     if !(1..=8).contains(&threads) {
         return None;
     }
@@ -42,7 +44,21 @@ pub(crate) fn read(words: &[String]) -> Option<Work>
         kind,
         threads,
         calls,
+        params,
     })
+}
+
+// The sizes that the last words name; those of a domain of 8 MiB if there are no such words.
+fn sizes_of(words: &[String]) -> Option<Params> {
+    if words.is_empty() {
+        return Params::checked(4096, 256, 8, 64);
+    }
+    let [page_size, frames, slots, drain] = words else {
+        return None;
+    };
+    let (page_size, frames) = (page_size.parse().ok()?, frames.parse().ok()?);
+    let (slots, drain) = (slots.parse().ok()?, drain.parse().ok()?);
+    Params::wide(page_size, frames, slots, drain)
 }
 
 // The kind of this name.
@@ -58,6 +74,7 @@ fn kind_of(name: &str) -> Option<Kind> {
         "lease" => Kind::Lease,
         "keep_up" => Kind::KeepUp,
         "load_beside" => Kind::LoadBeside,
+        "cut" => Kind::Cut,
         _ => return None,
     })
 }
