@@ -21,3 +21,5 @@ mod serves;
 mod uses;
 #[cfg(test)]
 mod waits;
+#[cfg(test)]
+mod wide;

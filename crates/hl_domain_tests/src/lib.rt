@@ -12,6 +12,7 @@
 //! | `keeps_up` | when a pass that is kept up refreshes, and when it doesn't |
 //! | `turns` | two threads that bump a new domain |
 //! | `limits` | the greatest sizes, stamps and journals, and a chain of jobs |
+//! | `wide` | sizes that an engine wants |
 //! | `follow`, `play` | plays an example; what is asked, with the values that the calls use |
 //! | `call`, `ending` | reads a call, and prints what is left at the end |
 //! | `asked`, `alone`, `shared` | what is asked; a keeper, and a domain |
@@ -55,5 +56,7 @@ mod shared;
 mod strangers;
 #[cfg(test)]
 mod turns;
+#[cfg(test)]
+mod wide;
 #[cfg(test)]
 mod work;

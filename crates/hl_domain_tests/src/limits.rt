@@ -21,17 +21,19 @@ use std::test::Fail;
 // Every slot is acquired, and every frame filled by one record; then the log is full, and is left.
 fn greatest_sizes<L: Realm>(rt: &(impl Wait + Abort), alloc: Global, seed: Seed) -> Result<(), Fail>
     requires seed { IsSeedOf L.name L.parts L.table seed }
-    requires named { (seed.sizes ≡ L.sizes) × (1000 ≡ L.stamp) × (1000 ≡ L.limit) }
+    requires named { (seed.sizes ≡ L.sizes) × (1000 ≡ L.stamp) × (70_000 ≡ L.limit) }
 {
-    let (domain, mut riders) = Pages::<CountTable, L>::open(alloc, seed, 1000, 1000)?;
+    let params = seed.params();
+    let (slots, frames) = (params.slots(), params.frames());
+    let (domain, mut riders) = Pages::<CountTable, L>::open(alloc, seed, 70_000, 1000)?;
     let mut passes = acquire_all(rt, alloc, &domain, &mut riders)?;
     fill_all(rt, &domain, &mut passes)?;
     release_all(rt, &domain, passes, &mut riders)?;
     let Ok(ending) = domain.close(riders) else {
         panic!(rt; "all riders are there")
     };
-    assert!(rt; ending.journal.len() == 64 + 256 + 1 + 64);
-    assert_eq!(rt; ending.snapshot.frames, [256, 0, 0, 0, 0]);
+    assert_eq!(rt; ending.journal.len() as u64, slots + frames + 1 + slots);
+    assert_eq!(rt; ending.snapshot.frames, [frames, 0, 0, 0, 0]);
     Ok(())
 }
 
@@ -42,8 +44,8 @@ fn acquire_all<L: Realm>(
     riders: &mut Vec<Rider<L>>,
 ) -> Result<Vec<Pass<L>>, Fail> {
     let mut passes = Vec::new(alloc);
-    for t in 0..64 {
-        let rider = riders.pop().ok_or("128 riders")?;
+    for t in 0..domain.params().slots() {
+        let rider = riders.pop().ok_or("a rider for each slot")?;
         passes.push(passed(domain.acquire(rt, t, rider))?)?;
     }
     Ok(passes)
@@ -55,16 +57,19 @@ fn fill_all<L: Realm>(
     domain: &Pages<CountTable, L>,
     passes: &mut Vec<Pass<L>>,
 ) -> Result<(), Fail> {
-    let pass = passes.last_mut().ok_or("64 passes")?;
-    for page in 0..256 {
-        assert_eq!(rt; domain.allocate(rt, pass, 4096), Ok(page * 4096));
+    let pass = passes.last_mut().ok_or("a pass of each slot")?;
+    let params = domain.params();
+    let (words, frames) = (params.page_size(), params.frames());
+    for page in 0..frames {
+        assert_eq!(rt; domain.allocate(rt, pass, words), Ok(page * words));
     }
     assert_eq!(rt;
         domain.allocate(rt, pass, 1),
-        Err(Fault::Busy { page: 256 })
+        Err(Fault::Busy { page: frames })
     );
-    assert_eq!(rt; domain.store(pass, (1 << 20) - 1, 7), Ok(()));
-    assert_eq!(rt; domain.load(pass, (1 << 20) - 1), Ok(7));
+    let last = frames * words - 1;
+    assert_eq!(rt; domain.store(pass, last, 7), Ok(()));
+    assert_eq!(rt; domain.load(pass, last), Ok(7));
     Ok(())
 }
 
@@ -82,8 +87,15 @@ fn release_all<L: Realm>(
 
 #[test]
 fn the_greatest_sizes(rt: HostRuntime) -> Result<(), Fail> {
-    let params = Params::checked(4096, 256, 64, 64).ok_or("sizes in range")?;
-    greatest_sizes::<Brand>(&rt, rt.alloc(), Seed::make(rt.alloc(), params, 128)?)
+    let narrow = Params::checked(4096, 256, 64, 64).ok_or("narrow sizes")?;
+    greatest_sizes::<Brand>(&rt, rt.alloc(), Seed::make(rt.alloc(), narrow, 64)?)?;
+    // Of each wide size the greatest, where not all of them fit a machine.
+    let slots = Params::wide(4096, 256, 1024, 4096).ok_or("wide sizes")?;
+    greatest_sizes::<Brand>(&rt, rt.alloc(), Seed::make(rt.alloc(), slots, 2048)?)?;
+    let frames = Params::wide(4, 1 << 16, 1, 1).ok_or("wide sizes")?;
+    greatest_sizes::<Brand>(&rt, rt.alloc(), Seed::make(rt.alloc(), frames, 1)?)?;
+    let page = Params::wide(1 << 20, 4, 1, 1).ok_or("wide sizes")?;
+    greatest_sizes::<Brand>(&rt, rt.alloc(), Seed::make(rt.alloc(), page, 1)?)
 }
 
 // A pass and an action of the domain with the last stamp. The stamps of its passes are above that of the domain.

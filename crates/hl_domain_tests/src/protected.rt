@@ -69,7 +69,7 @@ fn settle<L: Realm>(
 
 // The oldest action is that of ticket 1, and these hold it up.
 fn held_by<L: Realm>(rt: &(impl Wait + Abort), domain: &Pages<CountTable, L>, holders: &[Holder]) {
-    let mut row = ArrayVec::new();
+    let mut row = ArrayVec::<Holder, 64>::new();
     assert_eq!(rt; domain.holders(rt, &mut row), Some(1));
     assert!(rt; *row == *holders);
 }
@@ -91,7 +91,7 @@ fn cut_and_take<L: Realm>(
         }
     }
     assert_eq!(rt; domain.frame_of(rt, 2), (FrameState::Sealed, Some(0)));
-    let mut row = ArrayVec::new();
+    let mut row = ArrayVec::<Holder, 64>::new();
     assert!(rt; domain.holders(rt, &mut row).is_none() && row.is_empty());
     Ok(())
 }

@@ -19,4 +19,6 @@ mod jobs;
 #[cfg(test)]
 mod script;
 #[cfg(test)]
+mod wide;
+#[cfg(test)]
 mod words;
