@@ -26,6 +26,7 @@ pub struct Keeper {
 pub struct Domain {
     sizes: Sizes,
     keeper: Mutex<Keeper>,
+    epoch: AtomicU64,
     read_only: AtomicU64,
     head: AtomicU64,
     cells: Vec<AtomicU64>,
@@ -74,6 +75,7 @@ impl Domain {
         let domain = Domain {
             sizes,
             keeper: Mutex::new(keeper),
+            epoch: AtomicU64::new(1),
             read_only: AtomicU64::new(0),
             head: AtomicU64::new(0),
             cells: (0..sizes.page_size * sizes.frames)
@@ -96,6 +98,16 @@ impl Domain {
         (self.read_only.load(SeqCst), self.head.load(SeqCst))
     }
 
+    /// The current epoch, without the lock.
+    pub fn epoch(&self) -> u64 {
+        self.epoch.load(SeqCst)
+    }
+
+    /// All quantities.
+    pub fn snapshot(&self) -> Snapshot {
+        self.lock().core.snapshot()
+    }
+
     /// Protects a slot; where that is refused, the rider comes back.
     pub fn acquire(&self, slot: u64, mut rider: Rider) -> Result<Pass<'_>, (Fault, Rider)> {
         let step = Step::Acquire { slot };
@@ -103,22 +115,22 @@ impl Domain {
             .lock()
             .enter(&mut rider, &mut Vec::new(), step, |core| core.acquire(slot));
         match entered {
-            Ok(entered) => Ok(Pass::new(self, rider, slot, entered.view)),
+            Ok(entered) => Ok(Pass::new(self, rider, slot, entered)),
             Err(fault) => Err((fault, rider)),
         }
     }
 }
 
-// What is timed needs none of these: tests make them.
-#[cfg_attr(not(test), allow(dead_code))]
 impl Domain {
-    /// Makes a step that is of no slot. A raise or a shift also stores its offset for those without the lock.
+    /// Makes a step that is of no slot. A raise or a shift also stores its offset, and a bump its epoch, for those without
+    /// the lock.
     pub fn make(&self, rider: &mut Rider, step: Step) -> Result<Reply, Fault> {
         let mut keeper = self.lock();
         let reply = keeper.enter(rider, &mut Vec::new(), step, |core| core.step(&step))?;
         match reply {
             Reply::Raised(to) => self.read_only.store(to, SeqCst),
             Reply::Shifted(to) => self.head.store(to, SeqCst),
+            Reply::Ticket(ended) => self.epoch.store(ended + 1, SeqCst),
             _ => {}
         }
         Ok(reply)
@@ -142,6 +154,8 @@ impl Domain {
     }
 
     /// Ends the domain, where the steps are as many as these riders entered; else a rider is missing.
+    // What is timed doesn't need it.
+    #[cfg_attr(not(test), allow(dead_code))]
     pub fn close(self, riders: &[Rider]) -> Option<Ending> {
         let keeper = self.keeper.into_inner().expect("nobody panics under it");
         let steps = keeper.steps_cut + keeper.journal.len() as u64;

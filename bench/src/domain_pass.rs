@@ -2,6 +2,7 @@
 
 use crate::domain::{Domain, Rider};
 use crate::rules::{Fault, Step, View};
+use crate::twin::Entered;
 use std::sync::atomic::Ordering::SeqCst;
 
 /// How many touches a pass has room for.
@@ -12,6 +13,7 @@ pub struct Pass<'a> {
     domain: &'a Domain,
     rider: Rider,
     slot: u64,
+    epoch: u64,
     view: View,
     touches: Vec<Step>,
     /// Whether a look is among the touches.
@@ -19,12 +21,13 @@ pub struct Pass<'a> {
 }
 
 impl<'a> Pass<'a> {
-    pub fn new(domain: &'a Domain, rider: Rider, slot: u64, view: View) -> Pass<'a> {
+    pub fn new(domain: &'a Domain, rider: Rider, slot: u64, entered: Entered) -> Pass<'a> {
         Pass {
             domain,
             rider,
             slot,
-            view,
+            epoch: entered.epoch,
+            view: entered.view,
             touches: Vec::with_capacity(TOUCHES_MOST),
             has_looked: false,
         }
@@ -44,9 +47,31 @@ impl<'a> Pass<'a> {
         let entered = keeper.enter(&mut self.rider, &mut self.touches, step, |core| {
             core.refresh(slot)
         })?;
+        self.epoch = entered.epoch;
         self.view = entered.view;
         self.has_looked = false;
         Ok(entered.view)
+    }
+
+    /// A refresh, unless nothing is new and there is room for a touch.
+    pub fn keep_up(&mut self) -> Result<(), Fault> {
+        let (read_only, head) = self.domain.offsets();
+        let is_new =
+            read_only > self.view.read_only || head > self.view.head || self.domain.epoch() > self.epoch;
+        if is_new || self.touches.len() == TOUCHES_MOST {
+            self.refresh()?;
+        }
+        Ok(())
+    }
+
+    /// The domain that it is of.
+    pub fn domain(&self) -> &'a Domain {
+        self.domain
+    }
+
+    /// The right to act for no slot.
+    pub fn rider(&mut self) -> &mut Rider {
+        &mut self.rider
     }
 
     /// Places a record of so many words: its address.
@@ -102,8 +127,7 @@ impl<'a> Pass<'a> {
         }
     }
 
-    /// Stores a word: Below, Beyond, TouchesFull.
-    pub fn store(&mut self, address: u64, value: u64) -> Result<(), Fault> {
+    fn may_write(&self, address: u64) -> Result<(), Fault> {
         let View { read_only, tail, .. } = self.view;
         if address < read_only {
             return Err(Fault::Below { read_only });
@@ -111,11 +135,25 @@ impl<'a> Pass<'a> {
         if address >= tail {
             return Err(Fault::Beyond { tail });
         }
-        self.has_room()?;
+        self.has_room()
+    }
+
+    /// Stores a word: Below, Beyond, TouchesFull.
+    pub fn store(&mut self, address: u64, value: u64) -> Result<(), Fault> {
+        self.may_write(address)?;
         self.domain.cell(address).store(value, SeqCst);
         let slot = self.slot;
         self.touches.push(Step::Write { slot, address, value });
         Ok(())
+    }
+
+    /// Adds to a word in one step: Below, Beyond, TouchesFull.
+    pub fn fetch_add(&mut self, address: u64, more: u64) -> Result<u64, Fault> {
+        self.may_write(address)?;
+        let found = self.domain.cell(address).fetch_add(more, SeqCst);
+        let (slot, value) = (self.slot, found.wrapping_add(more));
+        self.touches.push(Step::Write { slot, address, value });
+        Ok(found)
     }
 
     /// Loads a word: Evicted, Beyond. It is no touch.

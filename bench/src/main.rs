@@ -10,6 +10,7 @@ mod domains;
 mod door;
 mod drain;
 mod epochs;
+mod kv;
 mod log;
 mod logs;
 mod pace;
@@ -17,6 +18,7 @@ mod pages;
 mod random;
 mod rules;
 mod speed;
+mod store;
 mod told;
 mod twin;
 mod twin_log;
@@ -25,6 +27,7 @@ use std::path::Path;
 use std::process::ExitCode;
 
 const USAGE: &str = "usage: hl_bench diff STEPS [SEED] | hl_bench speed | hl_bench logs < ROWS
+       hl_bench kv THREADS SECONDS [--reads PERCENT] [--zipf] [--keys N] [--frames F]
        hl_bench domains PROVED [PIN] | hl_bench pace lock|refresh|allocate|store|load|look THREADS CALLS";
 
 fn main() -> ExitCode {
@@ -51,6 +54,7 @@ fn done(words: &[&str]) -> Option<ExitCode> {
             true
         }
         ["pace", kind, threads, calls] => pace::run(kind, threads.parse().ok()?, calls.parse().ok()?)?,
+        ["kv", ref words @ ..] => kv::run(words)?,
         ["domains", proved, ref pin @ ..] if pin.len() < 2 => {
             let pin = pin.first().map(Path::new);
             let ran = domains::run(Path::new(proved), pin);

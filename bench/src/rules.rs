@@ -34,8 +34,13 @@ impl Sizes {
 
     /// Where the word of an address lies among those of all frames.
     pub fn cell_of(self, address: u64) -> usize {
-        let frame = address / self.page_size % self.frames;
-        (frame * self.page_size + address % self.page_size) as usize
+        let cells = self.page_size * self.frames;
+        let cell = if cells.is_power_of_two() {
+            address & (cells - 1)
+        } else {
+            address % cells
+        };
+        cell as usize
     }
 }
 

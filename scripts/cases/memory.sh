@@ -157,3 +157,12 @@ if has_all "memory refused to a race, call by call" cc; then
     check "each call for memory refused in a race with cuts" each_call_refused --cut
     check "each thread refused in a race" each_thread_refused
 fi
+
+# A domain of the greatest sizes wants 512 GiB for its words. The bound is for systems that promise more than they have.
+widest_domain() {
+    local status=0
+    (ulimit -v 16000000 && exec "$pace" load 1 1 1048576 65536 1024 4096) > "$room/text" 2> "$room/errors" || status=$?
+    [ "$status" = 1 ] && [ ! -s "$room/text" ] && [ "$(cat "$room/errors")" = "fault 29 OutOfMemory" ]
+}
+
+check "a domain of the greatest sizes" widest_domain

@@ -168,6 +168,13 @@ impl<'a, R: Wait, L: Realm, F: Task, P: Promise, E: Epochs + Drop> Session<'a, R
         pass.abandon()
     }
 
+    /// Its log: for what needs no slot, as a snapshot, or who holds up the oldest action.
+    pub fn log(&self) -> &'a Log<L, F, P, E>
+        ensures { result.now ≡ self.now.log }
+    {
+        self.log
+    }
+
     /// What it has seen: the view of its last locked call, after its looks since.
     pub fn view(&self) -> View
         ensures { result ≡ seen self.now.pass }

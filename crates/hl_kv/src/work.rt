@@ -1,0 +1,270 @@
+//! The threads that use the store, and what they check.
+use crate::device::{PAGE_SIZE, zeros};
+use crate::store::{Operation, Outcome, Seat, Store, Trouble};
+use hl::{
+    ArrayVec, Duty, Fault, Lease, NoJob, Opening, Params, Realm, Session, Work, with_threads,
+};
+use std::alloc::Global;
+use std::num::{nearest_u64_to_f64, saturating_f64_to_u64};
+use std::sync::Wait;
+use std::sync::atomic::AtomicU64;
+use std::sync::atomic::Ordering::SeqCst;
+use std::thread::Threads;
+use std::time::{Clock, Instant};
+
+/// How many operations a thread makes before it looks at the clock.
+const BATCH: u64 = 4096;
+
+/// How many keys are drawn by Zipf's law before the threads start, and then used over and over.
+const DRAWS: u64 = 1 << 20;
+
+/// What the program is to do.
+#[derive(Clone, Copy)]
+pub(crate) struct Plan {
+    pub(crate) threads: u64,
+    pub(crate) seconds: u64,
+    /// How many of a hundred operations are reads.
+    pub(crate) reads: u64,
+    pub(crate) by_zipf: bool,
+    pub(crate) keys: u64,
+    pub(crate) frames: u64,
+    /// Whether the thread, if it is alone, upserts too, and compares all that it reads with a row of its own.
+    pub(crate) compares: bool,
+}
+
+// What the threads share. The keys below `plan.keys` are counters; those above are marks, one of each thread.
+#[derive(Drop)]
+struct Shared {
+    alloc: Global,
+    plan: Plan,
+    store: Store,
+    // Keys by Zipf's law; none if each is drawn as often.
+    drawn: Vec<u64>,
+    // What the threads that have ended added to each counter, by their own account; and how many haven't ended.
+    sums: Vec<AtomicU64>,
+    working: AtomicU64,
+    operations: AtomicU64,
+    copies: AtomicU64,
+}
+
+/// Runs the plan.
+pub(crate) fn run<R: Threads + Wait + Clock + Print + Sync>(
+    rt: &R,
+    alloc: Global,
+    plan: Plan,
+) -> Outcome<()> {
+    let params = Params::checked(PAGE_SIZE, plan.frames, plan.threads, 16).ok_or(Fault::Size)?;
+    let opening = Opening {
+        params,
+        riders: plan.threads.saturating_add(4),
+        journal: 1 << 15,
+        stamp: 1,
+    };
+    // A quarter of the frames is for what is placed while the crew works or sleeps.
+    let resident = plan.frames - plan.frames / 4;
+    let duty = Duty::checked(params, resident - resident / 4, resident).ok_or(Fault::Size)?;
+    let shared = Shared {
+        alloc,
+        plan,
+        store: Store::open(alloc, plan.keys)?,
+        drawn: zipf_row(alloc, if plan.by_zipf { plan.keys } else { 0 })?,
+        sums: zeros(alloc, plan.keys)?,
+        working: AtomicU64::new(plan.threads),
+        operations: AtomicU64::new(0),
+        copies: AtomicU64::new(0),
+    };
+    let closed = with_threads(rt, alloc, opening, duty.cutting_above(1 << 14), &shared)?;
+    for ended in closed.out? {
+        ended??;
+    }
+    closed.ending?;
+    Ok(())
+}
+
+impl<R: Wait + Clock + Print> Work<R> for Shared {
+    type Job = NoJob;
+
+    type Out = Outcome<()>;
+
+    fn run<L: Realm + Send + Sync>(
+        &self,
+        rt: &R,
+        session: &mut Session<R, L>,
+        number: u64,
+    ) -> Outcome<()> {
+        let mut seat = Seat {
+            rt,
+            session,
+            store: &self.store,
+            lease: Lease::of(0, 0),
+            safe_read_only: 0,
+            copies: 0,
+        };
+        seat.work(self, number)?;
+        if self.working.fetch_sub(1, SeqCst) == 1 {
+            // The last to end reads what all have left.
+            for (key, sum) in self.sums.iter().enumerate() {
+                seat.expect(key as u64, sum.load(SeqCst))?;
+            }
+            self.tell_end(rt).map_err(|_| Fault::Stream)?;
+        }
+        // A session that finds no room in the journal when it is left loses its slot.
+        seat.session.cut();
+        Ok(())
+    }
+
+    fn write_page(&self, _rt: &R, page: u64, image: &[u8]) -> bool {
+        self.store.device.write(page, image).is_some()
+    }
+}
+
+impl Shared {
+    // Prints that all was right, and how many operations a second the threads made.
+    fn tell_end(&self, rt: &impl Print) -> std::io::Result<()> {
+        println!(rt; "checked {} counters", self.plan.keys)?;
+        match self.operations.load(SeqCst).checked_div(self.plan.seconds) {
+            Some(pace) => println!(rt; "operations a second {pace}"),
+            None => Ok(()),
+        }
+    }
+}
+
+impl<'a, 'b, R: Wait + Clock + Print, L: Realm> Seat<'a, 'b, R, L> {
+    // What a thread does until its time is over.
+    fn work(&mut self, shared: &Shared, number: u64) -> Outcome<()> {
+        let sums = vec![in shared.alloc; 0; shared.sums.len()];
+        let mut sums = sums.map_err(|_| Fault::OutOfMemory)?;
+        let start = Instant::now(self.rt).map_err(|_| Fault::Stream)?;
+        let mut random = Random::of(number);
+        let mark = shared.plan.keys.saturating_add(number);
+        let mut told = 0;
+        for batch in 1..u64::MAX {
+            self.batch(shared, &mut random, &mut sums)?;
+            self.apply(mark, Operation::Upsert(batch))?;
+            self.expect(mark, batch)?;
+            let elapsed = start.elapsed(self.rt).map_err(|_| Fault::Stream)?;
+            let second = elapsed.as_secs();
+            if told < second && number == 0 {
+                self.report(shared, second).map_err(|_| Fault::Stream)?;
+            }
+            told = second;
+            if shared.plan.seconds <= second {
+                break;
+            }
+        }
+        for (all, own) in shared.sums.iter().zip(sums.iter()) {
+            all.fetch_add(*own, SeqCst);
+        }
+        Ok(())
+    }
+
+    // Reads counters, and adds to them. Only a thread that is alone may upsert one: the others sum up what they added.
+    fn batch(&mut self, shared: &Shared, random: &mut Random, sums: &mut [u64]) -> Outcome<()> {
+        let plan = &shared.plan;
+        let copied = self.copies;
+        for _ in 0..BATCH {
+            self.make_room()?;
+            let key = random.key(&shared.drawn, plan.keys);
+            let value = random.below(1000);
+            let sum = sums.get_mut(key as usize).ok_or(Fault::Size)?;
+            if plan.reads <= random.below(100) {
+                let is_upsert = plan.compares && value < 500;
+                let operation = if is_upsert {
+                    Operation::Upsert(value)
+                } else {
+                    Operation::Add(value)
+                };
+                self.apply(key, operation)?;
+                *sum = if is_upsert {
+                    value
+                } else {
+                    sum.wrapping_add(value)
+                };
+            } else if plan.compares {
+                self.expect(key, *sum)?;
+            } else {
+                self.apply(key, Operation::Read)?;
+            }
+        }
+        shared.operations.fetch_add(BATCH, SeqCst);
+        let copies = self.copies.saturating_sub(copied);
+        shared.copies.fetch_add(copies, SeqCst);
+        Ok(())
+    }
+
+    // Reads a key, which has to hold what is due. A key without a value holds 0.
+    fn expect(&mut self, key: u64, due: u64) -> Outcome<()> {
+        let held = self.apply(key, Operation::Read)?.unwrap_or(0);
+        if held == due {
+            return Ok(());
+        }
+        Err(Trouble::Differs { key, held, due })
+    }
+
+    // Prints what the threads have done so far, how many frames are free, and which slots hold up the oldest action.
+    fn report(&self, shared: &Shared, second: u64) -> std::io::Result<()> {
+        let rt = self.rt;
+        let operations = shared.operations.load(SeqCst);
+        let copies = shared.copies.load(SeqCst);
+        let written = self.store.device.written.load(SeqCst);
+        let free = self.session.log().snapshot(rt).0.frames[4];
+        print!(rt; "{second} operations {operations} copies {copies}")?;
+        print!(rt; " written {written} free {free}")?;
+        let mut holders = ArrayVec::new();
+        if let Some(ticket) = self.session.log().holders(rt, &mut holders) {
+            print!(rt; " action {ticket}")?;
+            for holder in holders.as_slice() {
+                print!(rt; " held by {}", holder.slot)?;
+            }
+        }
+        println!(rt)
+    }
+}
+
+// Keys below `count`, at most 2^20, by Zipf's law: key k has the weight 1 / (k + 1)^0.99. None if `count` is 0.
+fn zipf_row(alloc: Global, count: u64) -> Result<Vec<u64>, Fault> {
+    let (mut sums, mut drawn) = (Vec::new(alloc), Vec::new(alloc));
+    let mut sum = 0u64;
+    for key in 0..count {
+        // In units by which the sum of all stays below 2^32.
+        let weight = 134_217_728.0 / nearest_u64_to_f64(key + 1).powf(0.99);
+        sum = sum.saturating_add(saturating_f64_to_u64(weight));
+        sums.push(sum).map_err(|_| Fault::OutOfMemory)?;
+    }
+    let mut random = Random::of(count);
+    for _ in 0..DRAWS.min(sum) {
+        let at = random.below(sum);
+        let key = sums.partition_point(|sum| *sum <= at) as u64;
+        drawn.push(key).map_err(|_| Fault::OutOfMemory)?;
+    }
+    Ok(drawn)
+}
+
+// Numbers that look drawn at random: xorshift64* (Marsaglia; Vigna).
+#[derive(Clone, Copy)]
+struct Random(u64);
+
+impl Random {
+    // Begins with a state of its own for each number, which isn't 0.
+    fn of(number: u64) -> Random {
+        let odd = number.wrapping_mul(2).wrapping_add(1);
+        Random(odd.wrapping_mul(0x9E37_79B9_7F4A_7C15))
+    }
+
+    // A number below `end`, which is at most 2^32.
+    fn below(&mut self, end: u64) -> u64 {
+        self.0 ^= self.0 >> 12;
+        self.0 ^= self.0 << 25;
+        self.0 ^= self.0 >> 27;
+        let drawn = self.0.wrapping_mul(0x2545_F491_4F6C_DD1D) >> 32;
+        drawn.wrapping_mul(end) >> 32
+    }
+
+    // A key of the row; if that is empty, one below `count`.
+    fn key(&mut self, row: &[u64], count: u64) -> u64 {
+        match row.get(self.below(DRAWS) as usize) {
+            Some(key) => *key,
+            None => self.below(count),
+        }
+    }
+}

@@ -1,0 +1,34 @@
+# The store of crates/hl_kv, whose records are many times what its frames hold: threads add in place, by copies and from
+# the device, and each counter holds at the end what they added.
+
+# stores WORDS..
+stores() {
+    local status=0
+    timeout 60 "$kv" "$@" > "$room/text" 2> "$room/errors" || status=$?
+    cat "$room/errors" "$room/text"
+    [ "$status" = 0 ] && [ ! -s "$room/errors" ] && grep -q '^checked 100000 counters$' "$room/text" || return 1
+    # Records were copied, and more pages written than the frames hold.
+    awk '/ copies / { copies = $5; written = $7 } END { exit !(copies > 1000 && written > 8) }' "$room/text"
+}
+
+# Words that it doesn't take: the line of its usage, and status 2.
+store_refused() {
+    local status=0
+    "$kv" "$@" > "$room/text" 2> "$room/errors" || status=$?
+    [ "$status" = 2 ] && [ ! -s "$room/text" ] && grep -q '^usage: hl_kv' "$room/errors"
+}
+
+# A size out of range: the log's fault, and status 1.
+store_out_of_range() {
+    local status=0
+    "$kv" "$@" > "$room/text" 2> "$room/errors" || status=$?
+    [ "$status" = 1 ] && [ ! -s "$room/errors" ] && [ "$(cat "$room/text")" = "Log(Size)" ]
+}
+
+check "a store that is evicted, each read compared" stores 1 2 --frames 8 --compare
+check "a store that is evicted, four threads" stores 4 2 --frames 8
+check "a store that is evicted, by Zipf" stores 4 2 --frames 8 --zipf --reads 20
+check "a store without words" store_refused
+check "a store of an unknown option" store_refused 1 1 --key 5
+check "a store of too many threads" store_out_of_range 65 1
+check "a store of too few frames" store_out_of_range 1 1 --frames 3
