@@ -101,6 +101,7 @@ fn compare_frames(rt: &impl Abort, core: &Core<CountTable, Tag>, plain: &Plain, 
 fn compare(rt: &impl Abort, core: &Core<CountTable, Tag>, plain: &Plain, at: usize) {
     let slow = (plain.snapshot(), plain.params());
     assert_eq!(rt; slow, (core.snapshot(), core.params()), "after step {at}");
+    assert!(rt; core.params().is_narrow());
     assert_eq!(rt; plain.pending(), core.pending(), "after step {at}");
     compare_views(rt, core, plain, at);
     compare_frames(rt, core, plain, at);
