@@ -44,6 +44,19 @@ fn enter_one<E: Epochs, J: Tagged + Drop>(core: &mut Core<E, J>, step: &Step)
     if let Step::Write { .. } = *step {
         return;
     }
+    act_one(core, step);
+}
+
+// Makes a step that isn't refused. Not inlined: most touches are writes, and a loop over them is short without it.
+#[inline(never)]
+fn act_one<E: Epochs, J: Tagged + Drop>(core: &mut Core<E, J>, step: &Step)
+    requires acted { is_acted step.now ≡ true }
+    requires may { MayTake J.tag core.old step.now }
+    ensures core { (A : List STEP) → Stands J.tag core.old A → fault_of core.old.sizes A step.now ≡ None
+        → Stands J.tag core.new (A ++ step.now ∷ []) }
+    ensures sizes { core.new.sizes ≡ core.old.sizes }
+    ensures jobs { core.new.drain.pending ≡ core.old.drain.pending }
+{
     match core.act(step) {
         Ok(_) => {}
         Err(_) => unreachable!(),
