@@ -22,7 +22,11 @@ pub extern "C" fn hl_open(
         (record { page_size = page_size; frames = frames; slots = slots; drain = drain })
         handle.new.slot.value result }
 {
-    open_with(alloc, handle, Params::checked(page_size, frames, slots, drain))
+    open_with(
+        alloc,
+        handle,
+        Params::checked(page_size, frames, slots, drain),
+    )
 }
 
 /// Opens a core of wide sizes: a page of up to 2^20 words, up to 2^16 frames, 1,024 slots and 4,096 places in the drain

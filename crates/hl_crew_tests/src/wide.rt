@@ -16,6 +16,7 @@ use std::thread::Threads;
 
 /// Words of a page, and how many pages are filled.
 const WORDS: u64 = 1 << 14;
+
 const PAGES: u64 = 16;
 
 /// A slot fills so many pages, the first word of each page is its number and one more, and leaves.
@@ -66,7 +67,9 @@ where
     let one = MemoryWriter::open(alloc, PAGES, bytes)?;
     let two = MemoryWriter::open(alloc, PAGES, bytes)?;
     let crew = four(&mut riders)?;
-    let Ok(end) = run_crew(rt, alloc, &domain, crew, one, two, &OpenGate, 1, 2, 50_000, false) else {
+    let Ok(end) = run_crew(
+        rt, alloc, &domain, crew, one, two, &OpenGate, 1, 2, 50_000, false,
+    ) else {
         panic!(rt; "a crew was refused")
     };
     assert!(rt; end.written == 15 && end.failed == 0 && end.strangers == 0);

@@ -134,7 +134,7 @@ fn wide_sizes(rt: HostRuntime) -> Result<(), Fail> {
     act(&rt, &mut core);
     settle_and_close(&rt, &mut core);
     free(&rt, &mut core);
-    let mut base = Base::opening(rt.alloc(), params)?;
+    let mut base = Base::opening(rt.alloc(), core.params())?;
     core.base_into(&mut base);
     assert!(rt; base.slots().len() == 128 && base.frames().len() == 256);
     assert!(rt; base.slots().iter().all(|slot| slot.is_some()) && base.six() == core.six());
@@ -155,7 +155,7 @@ fn the_widest_base(rt: HostRuntime) -> Result<(), Fail> {
             Reply::Ticket(ended + 1),
         );
     }
-    let mut base = Base::opening(rt.alloc(), params)?;
+    let mut base = Base::opening(rt.alloc(), core.params())?;
     core.base_into(&mut base);
     let waiting = base.waiting();
     assert!(rt; waiting.len() == 4096 && waiting.last().is_some_and(|last| last.ticket == 4096));

@@ -9,9 +9,10 @@ loop-n-preserved g c =
     let n = c.loop-n.n in
     elim c.match-waiting_at.branch [
       | in-Some w ↦
-          let here = sym c.waiting_at.ensures ∙ w.in-Some.is in
-          (ap (λ row. row.items) w.row-is ∙ w.push_reserved.ensures.items ∙ ap (λ xs. xs ++ w.in-Some.waiting ∷ []) c.loop-n.invariant.0 ∙ take_more told n w.in-Some.waiting here,
-          ap vec_capacity w.row-is ∙ w.push_reserved.ensures.capacity ∙ c.loop-n.invariant.1)
+          let here = sym c.waiting_at.ensures ∙ w.in-Some.is in (
+            ap (λ row. row.items) w.row-is ∙ w.push_reserved.ensures.items ∙ ap (λ xs. xs ++ w.in-Some.waiting ∷ []) c.loop-n.invariant.0 ∙ take_more told n w.in-Some.waiting here,
+            ap vec_capacity w.row-is ∙ w.push_reserved.ensures.capacity ∙ c.loop-n.invariant.1,
+          )
       | in_default w ↦
           absurd (never_none told n (omega (arith, c.loop-n-test.true, c.waiting_count-n-end.ensures)) (sym c.waiting_at.ensures ∙ w.in_default.is))
     ]
