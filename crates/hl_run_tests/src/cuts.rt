@@ -119,12 +119,17 @@ fn core_behind(
     Ok(core)
 }
 
-// The slow form that goes on from the base of a core.
+/// The base of a core.
 #[tactic(auto, unfolding(hl_model::specs::Bases::base_of))]
-fn plain_behind(alloc: Global, core: &Core<CountTable, Tag>) -> Result<Plain, Fault> {
+pub(crate) fn base_behind(alloc: Global, core: &Core<CountTable, Tag>) -> Result<Base, Fault> {
     let mut base = Base::opening(alloc, core.params())?;
     core.base_into(&mut base);
-    Plain::from_base(alloc, &base)
+    Ok(base)
+}
+
+// The slow form that goes on from the base of a core.
+fn plain_behind(alloc: Global, core: &Core<CountTable, Tag>) -> Result<Plain, Fault> {
+    Plain::from_base(alloc, &base_behind(alloc, core)?)
 }
 
 // A core behind these steps, and the slow form that goes on from its base.

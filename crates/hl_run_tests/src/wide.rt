@@ -1,8 +1,8 @@
 //! Sizes that an engine wants, in a core: all slots protected, all frames on their whole way, all places for actions
 //! used; and a base of the greatest sizes.
+use crate::cuts::base_behind;
 use hl_core::Core;
 use hl_counts::CountTable;
-use hl_laws::Base;
 use hl_model::{Fault, Params, Reply, Step, Tag};
 use std::process::Abort;
 use std::test::Fail;
@@ -134,8 +134,7 @@ fn wide_sizes(rt: HostRuntime) -> Result<(), Fail> {
     act(&rt, &mut core);
     settle_and_close(&rt, &mut core);
     free(&rt, &mut core);
-    let mut base = Base::opening(rt.alloc(), core.params())?;
-    core.base_into(&mut base);
+    let base = base_behind(rt.alloc(), &core)?;
     assert!(rt; base.slots().len() == 128 && base.frames().len() == 256);
     assert!(rt; base.slots().iter().all(|slot| slot.is_some()) && base.six() == core.six());
     Ok(())
@@ -155,8 +154,7 @@ fn the_widest_base(rt: HostRuntime) -> Result<(), Fail> {
             Reply::Ticket(ended + 1),
         );
     }
-    let mut base = Base::opening(rt.alloc(), core.params())?;
-    core.base_into(&mut base);
+    let base = base_behind(rt.alloc(), &core)?;
     let waiting = base.waiting();
     assert!(rt; waiting.len() == 4096 && waiting.last().is_some_and(|last| last.ticket == 4096));
     assert!(rt; base.slots().len() == 1024 && base.frames().len() == 65536);
