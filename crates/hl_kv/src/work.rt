@@ -2,7 +2,8 @@
 use crate::device::{PAGE_SIZE, zeros};
 use crate::store::{Operation, Outcome, Seat, Store, Trouble};
 use hl::{
-    ArrayVec, Duty, Fault, Lease, NoJob, Opening, Params, Realm, Session, Work, with_threads,
+    ArrayVec, Duty, Fault, Holder, Lease, NoJob, Opening, Params, Realm, Session, Work,
+    with_threads,
 };
 use std::alloc::Global;
 use std::num::{nearest_u64_to_f64, saturating_f64_to_u64};
@@ -210,7 +211,7 @@ impl<'a, 'b, R: Wait + Clock + Print, L: Realm> Seat<'a, 'b, R, L> {
         let free = self.session.log().snapshot(rt).0.frames[4];
         print!(rt; "{second} operations {operations} copies {copies}")?;
         print!(rt; " written {written} free {free}")?;
-        let mut holders = ArrayVec::new();
+        let mut holders = ArrayVec::<Holder, 64>::new();
         if let Some(ticket) = self.session.log().holders(rt, &mut holders) {
             print!(rt; " action {ticket}")?;
             for holder in holders.as_slice() {
