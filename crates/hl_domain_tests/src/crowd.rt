@@ -133,7 +133,7 @@ fn check_counts(rt: &impl Abort, ending: &Ending<Tells, Anything>, cut: u64, sha
     let steps = ending.journal.len() as u64;
     assert_eq!(rt; ending.cut, cut);
     assert_eq!(rt; ending.cut.wrapping_add(steps), shares);
-    assert_eq!(rt; ending.left.pending().len(), 0);
+    assert_eq!(rt; ending.left.pending_count(), 0);
 }
 
 // The sum of the shares of all riders. No worker met a fault, and each job that was stored was run once.

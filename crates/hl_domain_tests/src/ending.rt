@@ -40,7 +40,10 @@ pub(crate) fn put_ending(
 ) -> Result<(), AllocError> {
     put(text, "cut", &[ending.cut])?;
     put_base(text, &ending.base)?;
-    for it in ending.left.pending().iter() {
+    for _ in 0..ending.left.pending_count() {
+        let Some(it) = ending.left.pending_at(0) else {
+            break;
+        };
         match it.kind {
             Kind::User(tag) => put(text, "\nleft user", &[it.ticket, tag])?,
             Kind::Settle(x) => put(text, "\nleft settle", &[it.ticket, x])?,
