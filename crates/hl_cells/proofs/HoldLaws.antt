@@ -4,6 +4,7 @@ use Rattle.std.specs.Prelude.{◌==◌, Option, Some, option_map}
 use Rattle.std.specs.List.{find, filter, position_or_len}
 use Rattle.std.proofs.lemmas.Bool.{eqb-true, eqb-false}
 use Rattle.std.proofs.lemmas.List.{map-append, length-map}
+use Rattle.std.proofs.lemmas.Simd.{map-map}
 use Rattle.hl_model.specs.declared.action.Waiting.{Waiting}
 use Rattle.hl_model.specs.declared.step.Step.{Step}
 use Rattle.hl_model.specs.declared.step.Step.TheVariants.{Take, Done}
@@ -14,10 +15,11 @@ use Rattle.hl_model.specs.Replies.{IsAccepted}
 use Rattle.hl_laws.proofs.ActionLaws.{taken-done, taken-stores, taken-nil}
 use Rattle.hl_laws.proofs.DrainLaws.{taken-next, takes-le-actions, is_taken-parts, Rising-taken, length-both, actions-dones}
 use Rattle.hl_laws.proofs.SettledLaws.{action_at-taken}
-use Rattle.hl_laws.proofs.TicketLaws.{Rising}
+use Rattle.hl_laws.proofs.TicketLaws.{Rising, tickets-rising}
 use Rattle.hl_action.specs.Firings.{FiringRecord}
 use Rattle.hl_action.specs.Jobs.{ReadyRecord}
-use Rattle.hl_cells.specs.TakenActions.{Row, Holds, firings, undone_firings, firing_at, is_of, fires, tag_held, tag_of}
+use Rattle.hl_drain.specs.Taken.{Rises}
+use Rattle.hl_cells.specs.TakenActions.{Row, Holds, firings, undone_firings, firing_at, is_of, fires, tickets_held, tag_held, tag_of}
 use Rattle.hl_cells.proofs.FiringLaws.{undone-nil, undone-stay, undone-take, undone-done, tickets-undone}
 use Rattle.hl_cells.proofs.TakenRows.{map_remove}
 
@@ -214,3 +216,9 @@ holds-done {F = F} sizes A c held held_new acc e holds = record {
 
     undone_place : position_or_len (λ (f : FiringRecord). f.ticket == c) (undone_firings sizes A) ≡ position_or_len (λ n. n == c) keys
     undone_place = place_by_keys (λ (f : FiringRecord). f.ticket) c (undone_firings sizes A) ∙ ap (position_or_len (λ n. n == c)) (tickets-undone sizes A acc)
+
+-- the tickets of the actions that it holds rise
+pub holds-rising : {F : Type 0} (sizes : Sizes) (A : List Step) (held : Row F) → IsAccepted sizes A → Holds sizes A held → Rises (tickets_held held.actions)
+holds-rising sizes A held acc holds =
+    let same : tickets_held held.actions ≡ map (λ w. w.ticket) (taken A) = sym (map-map (λ f. f.ticket) (λ ready. ready.firing) held.actions) ∙ ap (map (λ f. f.ticket)) holds.firings_is ∙ tickets-undone sizes A acc in
+    subst Rises (sym same) (tickets-rising 0 (taken A) (Rising-taken A))

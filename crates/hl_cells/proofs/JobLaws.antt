@@ -21,7 +21,8 @@ use Rattle.hl_drain.specs.declared.action.Action.{Action}
 use Rattle.hl_drain.specs.declared.action.Action.TheVariants.{User}
 use Rattle.hl_drain.specs.Actions.{waiting_of}
 use Rattle.hl_drain.specs.Lists.{tickets}
-use Rattle.hl_drain.proofs.Rising.{Rises, rises_head, rises_tail}
+use Rattle.hl_drain.specs.Taken.{Rises}
+use Rattle.hl_drain.proofs.Rising.{rises_head, rises_tail}
 use Rattle.hl_core.specs.Standing.{State}
 use Rattle.hl_core.specs.Steps.{Stepped, CameOut, job_in}
 use Rattle.hl_cells.specs.TakenActions.{Row, fires, firing_at}

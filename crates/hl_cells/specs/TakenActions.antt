@@ -25,6 +25,10 @@ module _ {F : Type 0} where
   abbrev pub fires : ℕ → ReadyRecord F → Bool
   fires ticket ready = is_of ticket ready.firing
 
+  -- the tickets of actions
+  abbrev pub tickets_held : List (ReadyRecord F) → List ℕ
+  tickets_held actions = map (λ ready. ready.firing.ticket) actions
+
   -- the tag of an action's job, if it has one
   abbrev pub tag_held : ReadyRecord F → Option ℕ
   tag_held ready = option_map (λ kept. kept.tag) ready.kept

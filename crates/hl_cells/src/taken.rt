@@ -1,25 +1,27 @@
-ghost use Rattle.std.specs.Prelude.{◌≡◌, ◌<◌, position, is_some, option_and_then, IfSome, IsSomeAnd, IfOk, IfErr, [], ◌∷◌, ◌++◌, length, remove};
+ghost use Rattle.std.specs.Prelude.{◌≡◌, ◌<◌, nat_lt, position, is_some, option_and_then, IfSome, IsSomeAnd, IfOk, IfErr, [], ◌∷◌, ◌++◌, length, remove};
 ghost use Rattle.std.specs.List.{find, position_or_len};
-ghost use Rattle.hl_cells.specs.TakenActions.{fires};
+ghost use Rattle.hl_drain.specs.Taken.{Rises};
+ghost use Rattle.hl_cells.specs.TakenActions.{fires, tickets_held};
 
 use crate::undone::Undone;
 use hl_action::{Promise, Ready, Task};
-use hl_model::{Fault, with_room};
+use hl_model::Fault;
 use std::alloc::Global;
+use std::collections::VecDeque;
 use std::marker::Model;
 
-/// The taken actions that aren't done, in the order of their takes.
+/// The taken actions that aren't done, in the order of their takes. What leaves them is closed up from the shorter side.
 pub(crate) struct TakenActions<F: Task, P: Promise> {
-    row: Vec<Undone<F, P>>,
+    row: VecDeque<Undone<F, P>>,
 }
 
 impl<F: Task, P: Promise> Model for TakenActions<F, P> {
-    ghost use Rattle.std.specs.Prelude.{vec_capacity};
+    ghost use Rattle.std.specs.VecDeque.{deque_capacity};
     ghost use Rattle.hl_cells.specs.TakenActions.{Row};
 
     ghost Value = { Row F };
 
-    ghost view = { λ a. record { room = vec_capacity a.row; actions = a.row.items } };
+    ghost view = { λ a. record { room = deque_capacity a.row; actions = a.row.items } };
 }
 
 impl<F: Task, P: Promise> Drop for TakenActions<F, P> {
@@ -36,7 +38,7 @@ impl<F: Task, P: Promise> TakenActions<F, P> {
         ensures ok { IfOk result (λ held. held ≡ record { room = places; actions = [] }) }
         ensures err { IfErr result (λ fault. fault ≡ Fault.OutOfMemory) }
     {
-        let row = with_room(alloc, places)?;
+        let row = VecDeque::with_capacity(alloc, places as usize).map_err(|_| Fault::OutOfMemory)?;
         Ok(TakenActions { row })
     }
 
@@ -45,12 +47,13 @@ impl<F: Task, P: Promise> TakenActions<F, P> {
         requires { length self.old.actions < self.old.room }
         ensures { self.new ≡ record { room = self.old.room; actions = self.old.actions ++ ready ∷ [] } }
     {
-        self.row.push_reserved(Undone::of(ready));
+        self.row.push_back_reserved(Undone::of(ready));
     }
 
-    /// Runs the first action of this ticket, an epoch, and holds it no longer. The answer is its job's under its
+    /// Runs the action of this ticket, an epoch, and holds it no longer. Tickets rise. The answer is its job's under its
     /// firing, and keeps the promise for its tag. None where it has no job, or there is no such action.
     pub(crate) fn run(&mut self, ticket: u64) -> Option<u64>
+        requires rising { Rises (tickets_held self.old.actions) }
         ensures answered { is_some result
             ≡ is_some (option_and_then (λ ready. ready.kept) (find (fires ticket) self.old.actions)) }
         ensures gives { IfSome (find (fires ticket) self.old.actions) (λ ready.
@@ -63,13 +66,26 @@ impl<F: Task, P: Promise> TakenActions<F, P> {
         } }
     {
         let place = self.place_of(ticket)?;
-        self.row.remove(place).run()
+        let undone = self.row.remove(place)?;
+        undone.run()
     }
 
-    /// The place of the first action of this ticket, if there is one.
+    /// The place of the action of this ticket, if there is one.
     fn place_of(&self, ticket: u64) -> Option<usize>
+        requires rising { Rises (tickets_held self.now.actions) }
         ensures { result ≡ position (fires ticket) self.now.actions }
     {
-        self.row.iter().position(|undone| undone.ticket() == ticket)
+        let place = self.row.partition_point(
+            |undone: &Undone<F, P>| -> bool
+                ensures { result ≡ nat_lt undone.now.firing.ticket ticket }
+            { undone.ticket() < ticket },
+        );
+        if place == self.row.len() {
+            return None;
+        }
+        if self.row[place].ticket() != ticket {
+            return None;
+        }
+        Some(place)
     }
 }

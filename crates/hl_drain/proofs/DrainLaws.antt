@@ -9,7 +9,8 @@ use Rattle.hl_model.specs.declared.action.Waiting.{Waiting}
 use Rattle.hl_drain.specs.declared.action.Action.{Action}
 use Rattle.hl_drain.specs.Actions.{waiting_of}
 use Rattle.hl_drain.specs.Lists.{Lists, IsDrain, count_of, tickets, has_ticket, after_give_up, after_done}
-use Rattle.hl_drain.proofs.Rising.{Rises, tickets_of, rises_head, rises_tail}
+use Rattle.hl_drain.specs.Taken.{Rises, tickets_of}
+use Rattle.hl_drain.proofs.Rising.{rises_head, rises_tail}
 
 -- what is true of the tickets of a list, and of later ones, stays true where some leave the list
 all_filter : (P : ℕ → Type 0) (p : Waiting → Bool) (xs : List Waiting) (later : List ℕ) → All P (tickets_of xs ++ later) → All P (tickets_of (filter p xs) ++ later)

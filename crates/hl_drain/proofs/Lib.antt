@@ -1,3 +1,4 @@
 pub mod DrainLaws
 pub mod Rising
+pub mod TakenLaws
 pub mod Places

@@ -12,7 +12,8 @@ use Rattle.std.proofs.lemmas.Option.{slice_get-get_or, slice_get_past}
 use Rattle.hl_model.specs.declared.action.Waiting.{Waiting}
 use Rattle.hl_model.specs.declared.fault.Fault.TheVariants.{NotTaken}
 use Rattle.hl_drain.specs.Lists.{Lists, IsDrain, has_ticket, done_answer, after_done}
-use Rattle.hl_drain.proofs.Rising.{Rises, tickets_of, rises_head, rises_tail}
+use Rattle.hl_drain.specs.Taken.{Rises, tickets_of}
+use Rattle.hl_drain.proofs.Rising.{rises_head, rises_tail}
 
 -- the first element of a list, and the list without it, are the list
 pub split_front : {X E : Type 0} (xs : List X) (x : X) (e : E) (o : Option X) → ok_or o e ≡ Ok x → o ≡ slice_get xs 0 → xs ≡ x ∷ drop 1 xs

@@ -1,15 +1,7 @@
 -- Rising tickets.
-use Rattle.std.proofs.Common.{ℕ, ◌<◌, List, ◌∷◌, map, All, arith, suc}
-use Rattle.std.specs.List.{AllPairs}
-use Rattle.hl_model.specs.declared.action.Waiting.{Waiting}
-
--- each number is below all later ones
-abbrev pub Rises : List ℕ → Type 0
-Rises xs = AllPairs (λ earlier later. earlier < later) xs
-
--- the tickets of taken actions
-abbrev pub tickets_of : List Waiting → List ℕ
-tickets_of xs = map (λ waiting. waiting.ticket) xs
+use Rattle.std.proofs.Common.{ℕ, ◌<◌, List, ◌∷◌, ◌++◌, All, arith, suc, length-append}
+use Rattle.std.proofs.lemmas.List.{get_or_append_left}
+use Rattle.hl_drain.specs.Taken.{Rises}
 
 -- the first number is below all others
 pub rises_head : (x : ℕ) (xs : List ℕ) → Rises (x ∷ xs) → All (λ y. x < y) xs
@@ -18,3 +10,9 @@ rises_head x xs rises = λ k d within. rises 0 (suc k) d (omega arith) (omega ar
 -- the others rise
 pub rises_tail : (x : ℕ) (xs : List ℕ) → Rises (x ∷ xs) → Rises xs
 rises_tail x xs rises = λ i j d before within. rises (suc i) (suc j) d (omega arith) (omega arith)
+
+-- the first numbers rise
+pub rises_front : (xs ys : List ℕ) → Rises (xs ++ ys) → Rises xs
+rises_front xs ys rises = λ i j d before within.
+    let h = rises i j d before (omega (arith, within, length-append xs ys)) in
+    omega (arith, h, get_or_append_left xs ys d i (omega (arith, before, within)), get_or_append_left xs ys d j within)

@@ -1,3 +1,4 @@
 pub mod Actions
 pub mod Lists
 pub mod Rows
+pub mod Taken

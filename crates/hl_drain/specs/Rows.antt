@@ -1,5 +1,5 @@
 -- The lists that two rows hold.
-use Rattle.std.specs.Prelude.{◌≡◌, ◌≤◌, vec_capacity}
+use Rattle.std.specs.Prelude.{◌≡◌, ◌≤◌}
 use Rattle.hl_drain.specs.declared.drain.Drain.TheInside.{Inside}
 use Rattle.hl_drain.specs.Lists.{Lists, IsDrain}
 
@@ -17,5 +17,5 @@ module _ {J : Type 0} where
   pub record IsKept (a : Inside J) : Type 0 where
     pub lists : IsDrain (lists_of a)
     pub places_pending : a.pending.ring.capacity ≡ a.limit
-    pub places_taken : vec_capacity a.taken ≡ a.limit
+    pub places_taken : a.taken.places ≡ a.limit
     pub turns : a.last_take ≤ 1

@@ -2,9 +2,10 @@ ghost use Rattle.std.specs.Prelude.{◌≡◌, ◌↔◌, ◌<◌, ◌≤◌, �
 
 use crate::action::Action;
 use crate::pending::Pending;
+use crate::taken::Taken;
 use crate::visits::Visits;
 use arrayvec::ArrayVec;
-use hl_model::{Fault, Kind, Tagged, Waiting, with_room};
+use hl_model::{Fault, Kind, Tagged, Waiting};
 use std::alloc::Global;
 use std::marker::Model;
 
@@ -14,7 +15,7 @@ pub struct Drain<J> {
     limit: usize,
     // Both rows have `limit` places from the start, and keep them.
     pending: Pending<J>,
-    taken: Vec<Waiting>,
+    taken: Taken,
     last_take: Visits,
 }
 
@@ -45,7 +46,7 @@ impl<J> Drain<J> {
     {
         let limit = d as usize;
         // The row of actions comes last: where it is refused, none is left to be dropped, and `J` may forbid that.
-        let taken = with_room(alloc, d)?;
+        let taken = Taken::open(alloc, limit)?;
         let pending = Pending::open(alloc, limit).map_err(|_| Fault::OutOfMemory)?;
         Ok(Drain {
             limit,
@@ -129,7 +130,7 @@ impl<J> Drain<J> {
         ensures list { result.now ≡ self.now.taken }
         ensures valid { IsDrain self.now }
     {
-        &self.taken
+        self.taken.as_slice()
     }
 
     /// The taken actions that aren't done, oldest first. The limit is at most 64.
@@ -139,7 +140,7 @@ impl<J> Drain<J> {
         ensures valid { IsDrain self.now }
     {
         let mut row = ArrayVec::new();
-        for waiting in &self.taken {
+        for waiting in self.taken.as_slice() {
             row.push(*waiting);
         }
         row
@@ -158,9 +159,7 @@ impl<J> Drain<J> {
         ensures place { result ≡ position (has_ticket ticket) self.now.taken }
         ensures valid { IsDrain self.now }
     {
-        self.taken
-            .iter()
-            .position(|waiting| waiting.ticket == ticket)
+        self.taken.place_of(ticket)
     }
 }
 
@@ -184,7 +183,7 @@ impl<J: Tagged> Drain<J> {
         }
         let mut visits = Visits::none();
         let (ticket, action) = self.pending.pop(&mut visits).ok_or(Fault::Empty)?;
-        self.taken.push_reserved(action.waiting(ticket));
+        self.taken.push(action.waiting(ticket));
         self.last_take = visits;
         Ok((ticket, action))
     }

@@ -1,9 +1,15 @@
 use Rattle.std.proofs.Common.{◌≡◌, sym, ap, ◌∙◌}
 use Rattle.hl_model.specs.declared.step.Step.TheVariants.{Done as DONE}
 use Rattle.hl_cells.proofs.EngineMoves.{moved_done, answer_or, stands_after}
+use Rattle.hl_cells.proofs.HoldLaws.{holds-rising}
 use Rattle.hl_cells.proofs.JobLaws.{done_job, done_ran}
 use Rattle.hl_cells.proofs.engine.Engine.done.Goals.{in-Some, in-None, Joined-run}
 use Rattle.hl_cells.proofs.engine.Engine.done.Goals as goal
+
+pub run-requires : goal.run-requires
+run-requires g c =
+    let at = c.self.invariant in
+    record { rising = holds-rising c.self.inside.core.sizes at.0 c.self.inside.held at.1.core_stands.accepted at.1.held_is }
 
 pub invariant_of-self-2 : goal.invariant_of-self-2
 invariant_of-self-2 g c =

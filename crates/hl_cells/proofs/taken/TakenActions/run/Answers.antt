@@ -12,11 +12,12 @@ nowhere : (g : _) (c : After-from_residual g) → find (fires c.args.ticket) c.a
 nowhere g c = (found_nowhere (fires c.args.ticket) c.args.self.now.actions (sym c.in_err-place.was ∙ c.place_of.ensures)).0
 
 -- the action that leaves the row is the first that has it
-found : (g : _) (c : After-run g) → find (fires c.args.ticket) c.args.self.now.actions ≡ Some c.remove.result
+found : (g : _) (c : After-run g) → find (fires c.args.ticket) c.args.self.now.actions ≡ Some c.in_ok-undone.undone
 found g c =
-    let value : c.remove.result ≡ get_or c.args.self.now.actions c.in_ok-place.place c.remove.result =
-    c.remove.ensures.value ∙ ap (λ (z : Row g.row.F.Denot). get_or z.actions c.in_ok-place.place c.remove.result) c.self.view_is in
-    (found_at_place (fires c.args.ticket) c.args.self.now.actions c.in_ok-place.place c.remove.result (sym c.in_ok-place.was ∙ c.place_of.ensures) value).0
+    let undone = c.in_ok-undone.undone in
+    let value : undone ≡ get_or c.args.self.now.actions c.in_ok-place.place undone =
+    c.in_ok-undone.ensures.value ∙ ap (λ (z : Row g.row.F.Denot). get_or z.actions c.in_ok-place.place undone) c.self.view_is in
+    (found_at_place (fires c.args.ticket) c.args.self.now.actions c.in_ok-place.place undone (sym c.in_ok-place.was ∙ c.place_of.ensures) value).0
 
 pub returns-in_err-place-clause-answered : goal.returns-in_err-place-clause-answered
 returns-in_err-place-clause-answered g c = ap is_some c.from_residual.ensures ∙ sym (ap (λ o. is_some (option_and_then (λ (r : ReadyRecord g.row.F.Denot). r.kept) o)) (nowhere g c))
@@ -31,7 +32,7 @@ pub returns-clause-answered : goal.returns-clause-answered
 returns-clause-answered g c = c.run.ensures.answered ∙ sym (ap (λ o. is_some (option_and_then (λ (r : ReadyRecord g.row.F.Denot). r.kept) o)) (found g c))
 
 pub returns-clause-gives : goal.returns-clause-gives
-returns-clause-gives g c = if_some _ _ c.remove.result (found g c) c.run.ensures.gives
+returns-clause-gives g c = if_some _ _ c.in_ok-undone.undone (found g c) c.run.ensures.gives
 
 pub returns-clause-keeps : goal.returns-clause-keeps
-returns-clause-keeps g c = if_some _ _ c.remove.result (found g c) c.run.ensures.keeps
+returns-clause-keeps g c = if_some _ _ c.in_ok-undone.undone (found g c) c.run.ensures.keeps

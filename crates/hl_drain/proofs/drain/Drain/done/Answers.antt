@@ -13,9 +13,9 @@ pub invariant_of-self : goal.invariant_of-self
 invariant_of-self g c =
     let at = done_found _ _ _ _ _ c.self.view_is c.self.invariant.lists c.in-Some.ensures.place c.remove.ensures.value in
     record {
-      lists = rw (c.remove.ensures.items, ← at.1) (IsDrain-done c.args.self.now c.args.ticket c.place_of.ensures.valid);
+      lists = rw (c.remove.ensures.others, ← at.1) (IsDrain-done c.args.self.now c.args.ticket c.place_of.ensures.valid);
       places_pending = c.self.invariant.places_pending;
-      places_taken = c.remove.ensures.capacity ∙ c.self.invariant.places_taken;
+      places_taken = c.remove.ensures.places ∙ c.self.invariant.places_taken;
       turns = c.self.invariant.turns;
     }
 
@@ -25,7 +25,7 @@ returns-clause-answer g c =
 
 pub returns-clause-lists : goal.returns-clause-lists
 returns-clause-lists g c =
-    rw (c.remove.ensures.items) (sym (done_found _ _ _ _ _ c.self.view_is c.self.invariant.lists c.in-Some.ensures.place c.remove.ensures.value).1)
+    rw (c.remove.ensures.others) (sym (done_found _ _ _ _ _ c.self.view_is c.self.invariant.lists c.in-Some.ensures.place c.remove.ensures.value).1)
 
 pub returns-clause-valid : goal.returns-clause-valid
 returns-clause-valid g c = (invariant_of-self g c).lists

@@ -10,10 +10,10 @@ invariant_of-self-2 g c =
     let oldest : ℕ × Action g.row.J.Denot = (c.in_ok-ticket.ticket, c.in_ok-ticket.action) in
     let front = split_front c.self.inside.pending.ring.items oldest _ _ (sym c.ok_or-2.ensures.value ∙ c.in_ok-ticket.was) c.pop.ensures.value in
     record {
-      lists = rw (c.pop.ensures.rest, c.push_reserved.ensures.items, c.waiting.ensures)
+      lists = rw (c.pop.ensures.rest, c.push.ensures.items, c.waiting.ensures)
           (IsDrain-take g.J.Tagged.tag (lists_of c.self.inside) oldest (drop 1 c.self.inside.pending.ring.items) c.pop.new.visits front c.self.invariant.lists);
       places_pending = rw c.pop.ensures.rest c.self.invariant.places_pending;
-      places_taken = c.push_reserved.ensures.capacity ∙ c.self.invariant.places_taken;
+      places_taken = c.push.ensures.places ∙ c.self.invariant.places_taken;
       turns = omega arith;
     }
 
