@@ -1,6 +1,7 @@
 -- A number in decimal is read back.
-use Rattle.std.proofs.Common.{◌≡◌, ℕ, ◌+◌, ◌/◌, ◌%◌, ◌^◌, ◌<◌, List, [], ◌∷◌, decimal, ap, ◌∙◌, fold, arith, lit<}
-use Rattle.std.proofs.lemmas.Fmt.{decimal_by_steps}
+use Rattle.std.proofs.Common.{◌≡◌, ℕ, suc, ◌+◌, ◌*◌, ◌/◌, ◌%◌, ◌^◌, ◌<◌, List, [], ◌∷◌, ◌++◌, length, take, slice_index_or, decimal, refl, sym, ap, ◌∙◌, fold, arith, lit<}
+use Rattle.std.proofs.Math.Seq.{take-suc}
+use Rattle.std.proofs.lemmas.Fmt.{decimal_by_steps, decimal_digit, decimal_step}
 use Rattle.std.proofs.lemmas.Grind.{fold-append}
 use Rattle.hl_line.specs.Reading.{with_digit, number_in}
 
@@ -36,3 +37,24 @@ fold_fits n (digit ∷ digits) h = fold_fits (with_digit n digit) digits (with_d
 pub number_in_fits : (word : List ℕ) → number_in word < 2 ^ 64
 unfolding number_in
 number_in_fits word = fold_fits 0 word (lit< tt)
+
+-- a first digit, as a number in decimal
+pub first_digit : (bytes : List ℕ) (n : ℕ) → 0 < length bytes → n < 10 → slice_index_or bytes 0 0 ≡ 48 + n → decimal n ≡ take 1 bytes
+first_digit bytes n some low here =
+    decimal_digit n low ∙ sym (take-suc bytes 0 0 some ∙ ap (λ b. b ∷ []) here)
+
+-- a number with one more digit behind it
+one_more : (n d : ℕ) → 0 < n → d < 10 → n * 10 + d < 2 ^ 64 → decimal (n * 10 + d) ≡ decimal n ++ ((48 + d) ∷ [])
+one_more n d some low fits =
+    let step = decimal_step (n * 10 + d) (omega arith) fits in
+    let high : (n * 10 + d) / 10 ≡ n = omega arith in
+    let rest : (n * 10 + d) % 10 ≡ d = omega arith in
+    step ∙ rw (high, rest) refl
+
+-- the digits of a number so far, and the next one
+pub next_in : (bytes : List ℕ) (i n d : ℕ) → i < length bytes → 0 < n → d < 10 → n * 10 + d < 2 ^ 64 → slice_index_or bytes i 0 ≡ 48 + d → decimal n ≡ take i bytes → decimal (n * 10 + d) ≡ take (i + 1) bytes
+next_in bytes i n d within some low fits here so_far =
+    let up : i + 1 ≡ suc i = omega arith in
+    let taken = ap (λ k. take k bytes) up ∙ take-suc bytes i 0 within in
+    one_more n d some low fits
+    ∙ (ap (λ ds. ds ++ ((48 + d) ∷ [])) so_far ∙ sym (taken ∙ ap (λ b. take i bytes ++ (b ∷ [])) here))

@@ -1,5 +1,6 @@
 pub mod Digits
 pub mod Fitting
+pub mod Fronts
 pub mod Reading
 pub mod Tables
 pub mod Texts

@@ -32,6 +32,8 @@
 //! One space stands between two words, and none at either end. A number is decimal ASCII: `0`, or a digit 1 to 9
 //! and digits, at most 18446744073709551615. Anything else is no line.
 //!
+//! [`read_front`] reads the lines that scripts have most of faster, from the front of what follows.
+//!
 //! [`print_reply`] and [`print_fault`] give the line that answers an accepted step and a refused one;
 //! [`append_reply`] and [`append_fault`] put it on a row of the caller's.
 #![tactic(auto)]
@@ -44,6 +46,7 @@ mod read;
 mod reply;
 mod steps;
 mod text;
+mod usual;
 mod word;
 
 pub use fault::{append_fault, print_fault};
@@ -51,3 +54,4 @@ pub use line::Line;
 pub use print::print_line;
 pub use read::read_line;
 pub use reply::{append_reply, print_reply};
+pub use usual::read_front;

@@ -1,25 +1,30 @@
 -- What the parts of a run make of where it stands.
-use Rattle.std.proofs.Common.{◌≡◌, ◌≢◌, ◌<◌, ◌≤◌, ◌⊎◌, inl, inr, ℕ, ◌+◌, ◌*◌, Bool, true, false, cond, eqb, List, [], ◌∷◌, ◌++◌, length, take, refl, sym, ap, ◌∙◌, subst, append_assoc, append-nil, arith, length-append, length-take}
+use Rattle.std.proofs.Common.{◌≡◌, ◌≢◌, ◌<◌, ◌≤◌, ◌⊎◌, inl, inr, ℕ, ◌+◌, ◌-◌, ◌*◌, Bool, true, false, cond, eqb, ne_eqb, get_or, List, [], ◌∷◌, ◌++◌, length, take, drop, refl, sym, ap, ◌∙◌, subst, append_assoc, append-nil, arith, length-append, length-take}
 use Rattle.std.specs.Prelude.{Option, Some, None, Result, Ok, Err}
 use Rattle.std.specs.Io.KnownBytes.{Appends, Consumes, Keeps, IsAtEnd}
+use Rattle.std.proofs.Math.Seq.{take-append_seam}
 use Rattle.std.proofs.lemmas.Bool.{eqb-true, false≢true}
-use Rattle.std.proofs.lemmas.List.{length_push}
+use Rattle.std.specs.List.{list_any}
+use Rattle.std.proofs.lemmas.List.Folds.{list_any_none}
+use Rattle.std.proofs.lemmas.List.{length_push, take-append-drop}
 use Rattle.hl_model.specs.declared.fault.Fault.{Fault}
 use Rattle.hl_model.specs.declared.fault.Fault.TheVariants.{BadLine, OutOfMemory, Stream}
 use Rattle.hl_image.specs.Streams.{BreaksOff}
 use Rattle.hl_line.specs.declared.line.Line.{Line}
+use Rattle.hl_line.specs.Lines.{Fits, spelling}
 use Rattle.hl_line.specs.Reading.{line_of}
+use Rattle.hl_line.proofs.Texts.{spelling_free}
 use Rattle.hl_script.specs.declared.progress.Progress.{Progress}
 use Rattle.hl_script.specs.Cut.{whole_lines, unfinished_line}
 use Rattle.hl_script.specs.Lines.{script, bad_line, allowed, may_stand}
 use Rattle.hl_script.specs.Answers.{accepted, accepted_after}
 use Rattle.hl_script.specs.Text.{answers, bad_text, text, count_of}
 use Rattle.hl_script.specs.Outcomes.{ReadWithin, ReadToEnd, WroteWholeLines, WroteAll, WroteUpTo, WroteFront}
-use Rattle.hl_script.specs.Interpreter.{answered, Answered, Answers, Refuses, Stopped, BrokeOff, Judges, Reached, Faces, At, JudgedGood, Judged, Fed, Ended, RunStopped, Ran}
+use Rattle.hl_script.specs.Interpreter.{is_end, answered, Answered, Answers, Refuses, Stopped, BrokeOff, Judges, Reached, Faces, At, JudgedGood, Judged, Fed, WentOn, Ended, RunStopped, Ran}
 use Rattle.hl_script.proofs.KnownLaws.{Appends-nothing, Appends-more, Appends-kept, Consumes-more, front-more, front-longer, at_end_left}
 use Rattle.hl_script.proofs.CutLaws.{whole-front, long-front}
 use Rattle.hl_script.proofs.LineLaws.{IsBad, faces_bad, faces_good}
-use Rattle.hl_script.proofs.ReachLaws.{IsGood, reached_start, reached_byte, reached_end, reached_long, reached_last, reached_line, reached_unfinished, reached_whole, reached_done, reached_last_line, whole-end}
+use Rattle.hl_script.proofs.ReachLaws.{IsGood, reached_start, reached_byte, reached_bytes, reached_end, reached_long, reached_last, reached_line, reached_unfinished, reached_whole, reached_done, reached_last_line, whole-end}
 use Rattle.hl_script.proofs.TextLaws.{answers-nil, answers-push, answers-front, accepted-length}
 
 -- the text of bytes with a bad line
@@ -129,13 +134,13 @@ judges_more has from to Stream bytes more j = record {
 judges_more has from to stop bytes more j = tt
 
 -- a line ended at an LF
-pub fed_end : (old stands : (ℕ → Bool) → List Line → Type 0) (lacks : Line → Bool) (has : ℕ → Bool) (done : List ℕ) (before : List Line) (from mid to : Option (List ℕ)) (p q : Progress) (result : Result Unit Fault) → At old has done before from mid p → Judged stands lacks has before p.line.items from to q result → Fed stands lacks has (done ++ 10 ∷ []) from to q result
-fed_end old stands lacks has done before from mid to p q (Ok fed) at j = (
+fed_line : (stands : (ℕ → Bool) → List Line → Type 0) (lacks : Line → Bool) (has : ℕ → Bool) (done : List ℕ) (before : List Line) (raw : List ℕ) (from to : Option (List ℕ)) (q : Progress) (result : Result Unit Fault) → Reached done before raw → Judged stands lacks has before raw from to q result → Fed stands lacks has (done ++ 10 ∷ []) from to q result
+fed_line stands lacks has done before raw from to q (Ok fed) reached j = (
   before ++ j.line ∷ [],
   record {
     standing = j.standing;
     stood = record {
-      reached = subst (Reached (done ++ 10 ∷ []) (before ++ j.line ∷ [])) (sym j.next) (reached_line done before p.line.items j.line at.stood.reached j.allows);
+      reached = subst (Reached (done ++ 10 ∷ []) (before ++ j.line ∷ [])) (sym j.next) (reached_line done before raw j.line reached j.allows);
       short = omega (arith, ap length j.next);
       lines = j.lines;
       steps = j.steps;
@@ -143,12 +148,35 @@ fed_end old stands lacks has done before from mid to p q (Ok fed) at j = (
     wrote = j.wrote;
   },
 )
-fed_end old stands lacks has done before from mid to p q (Err stop) at j = (
-  λ more. j ((done ++ 10 ∷ []) ++ more) (subst (λ z. Faces z before p.line.items) (sym (append_assoc done (10 ∷ []) more)) (reached_end done before p.line.items more at.stood.reached)),
+fed_line stands lacks has done before raw from to q (Err stop) reached j = (
+  λ more. j ((done ++ 10 ∷ []) ++ more) (subst (λ z. Faces z before raw) (sym (append_assoc done (10 ∷ []) more)) (reached_end done before raw more reached)),
   judges has lacks from to stop (done ++ 10 ∷ [])
-      (λ more. j ((done ++ 10 ∷ []) ++ more) (subst (λ z. Faces z before p.line.items) (sym (append_assoc done (10 ∷ []) more)) (reached_end done before p.line.items more at.stood.reached)))
+      (λ more. j ((done ++ 10 ∷ []) ++ more) (subst (λ z. Faces z before raw) (sym (append_assoc done (10 ∷ []) more)) (reached_end done before raw more reached)))
       (inl (whole-end done)),
 )
+
+-- the line that had begun ended
+pub fed_end : (old stands : (ℕ → Bool) → List Line → Type 0) (lacks : Line → Bool) (has : ℕ → Bool) (done : List ℕ) (before : List Line) (from mid to : Option (List ℕ)) (p q : Progress) (result : Result Unit Fault) → At old has done before from mid p → Judged stands lacks has before p.line.items from to q result → Fed stands lacks has (done ++ 10 ∷ []) from to q result
+fed_end old stands lacks has done before from mid to p q result at j =
+    fed_line stands lacks has done before p.line.items from to q result at.stood.reached j
+
+-- a whole line was read at once
+pub fed_whole : (old stands : (ℕ → Bool) → List Line → Type 0) (lacks : Line → Bool) (has : ℕ → Bool) (done : List ℕ) (before : List Line) (raw : List ℕ) (from mid to : Option (List ℕ)) (p q : Progress) (result : Result Unit Fault) → At old has done before from mid p → p.line.items ≡ [] → list_any is_end raw ≡ false → Judged stands lacks has before raw from to q result → Fed stands lacks has (done ++ (raw ++ 10 ∷ [])) from to q result
+fed_whole old stands lacks has done before raw from mid to p q result at none no_end j =
+    subst (λ z. Fed stands lacks has z from to q result) (append_assoc done raw (10 ∷ []))
+    (fed_line stands lacks has (done ++ raw) before raw from to q result (reached_bytes done before p.line.items raw at.stood.reached none no_end) j)
+
+-- so many bytes are what stands in front of the rest
+pub front_is : (front rest bytes : List ℕ) → front ++ rest ≡ bytes → take (length bytes - length rest) bytes ≡ front
+front_is front rest bytes e =
+    let count : length (front ++ rest) - length rest ≡ length front = omega (arith, length-append front rest) in
+    ap (λ z. take (length z - length rest) z) (sym e) ∙ (ap (λ n. take n (front ++ rest)) count ∙ take-append_seam front rest)
+
+-- no LF stands in the spelling of a line
+pub spelling-no_end : (line : Line) → Fits line → list_any is_end (spelling line) ≡ false
+spelling-no_end line fits =
+    let free = spelling_free line fits in
+    list_any_none is_end (spelling line) (λ k d within. ne_eqb (get_or (spelling line) k d) 10 (free k d within))
 
 -- the 81st byte of a line
 stopped_long : (stands : (ℕ → Bool) → List Line → Type 0) (lacks : Line → Bool) (has : ℕ → Bool) (done : List ℕ) (before : List Line) (b : ℕ) (from mid to : Option (List ℕ)) (p : Progress) (stop : Fault) → At stands has done before from mid p → length p.line.items ≡ 80 → b ≢ 10 → Refuses mid to (p.lines + 1) stop → (more : List ℕ) → Stopped has lacks from to stop ((done ++ b ∷ []) ++ more)
@@ -186,6 +214,18 @@ fed_stop has lacks from to stop done all rest e h = (
   λ more. subst (Stopped has lacks from to stop) (sym (append_assoc done rest more) ∙ ap (λ z. z ++ more) (sym e)) (h.0 (rest ++ more)),
   subst (Judges has from to stop) (sym e) (judges_more has from to stop done rest h.1),
 )
+
+-- the first of some bytes were taken
+pub went_on : (stands : (ℕ → Bool) → List Line → Type 0) (lacks : Line → Bool) (has : ℕ → Bool) (done front bytes : List ℕ) (n : ℕ) (from to : Option (List ℕ)) (q : Progress) → take n bytes ≡ front → Fed stands lacks has (done ++ front) from to q (Ok tt) → WentOn stands lacks has done bytes from to q (Ok n)
+went_on stands lacks has done front bytes n from to q e h =
+    subst (λ z. Fed stands lacks has (done ++ z) from to q (Ok tt)) (sym e) h
+
+-- it stopped in the first of some bytes
+pub went_wrong : (stands : (ℕ → Bool) → List Line → Type 0) (lacks : Line → Bool) (has : ℕ → Bool) (done front bytes : List ℕ) (n : ℕ) (from to : Option (List ℕ)) (q : Progress) (stop : Fault) → take n bytes ≡ front → Fed stands lacks has (done ++ front) from to q (Err stop) → WentOn stands lacks has done bytes from to q (Err stop)
+went_wrong stands lacks has done front bytes n from to q stop e h =
+    let all : done ++ bytes ≡ (done ++ front) ++ drop n bytes =
+    ap (λ z. done ++ z) (sym (take-append-drop n bytes)) ∙ sym (append_assoc done (take n bytes) (drop n bytes)) ∙ ap (λ z. (done ++ z) ++ drop n bytes) e in
+    fed_stop has lacks from to stop (done ++ front) (done ++ bytes) (drop n bytes) all h
 
 -- the input ended behind an LF, or before its first byte
 pub ended_done : (stands : (ℕ → Bool) → List Line → Type 0) (has : ℕ → Bool) (done : List ℕ) (before : List Line) (from to : Option (List ℕ)) (p : Progress) (count : Option ℕ) → At stands has done before from to p → p.line.items ≡ [] → count ≡ count_of has before → stands has (script done) × WroteAll has from to done × (count ≡ count_of has (script done))

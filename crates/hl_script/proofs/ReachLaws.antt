@@ -37,6 +37,18 @@ reached_byte done before line b r ne = record {
   no_end = list_any-push is_end line b ∙ ap (λ z. z || is_end b) r.no_end ∙ ne_eqb b 10 ne;
 }
 
+-- some bytes of a line that none was begun of
+pub reached_bytes : (done : List ℕ) (before : List Line) (line bytes : List ℕ) → Reached done before line → line ≡ [] → list_any is_end bytes ≡ false → Reached (done ++ bytes) before bytes
+reached_bytes done before line bytes r none h = record {
+  whole = r.whole;
+  parts = ap (λ z. z ++ bytes) (r.parts ∙ ap (λ z. r.whole ++ z) none ∙ append-nil r.whole);
+  closed = r.closed;
+  good = r.good;
+  all = r.all;
+  ended = r.ended;
+  no_end = h;
+}
+
 -- the line so far, with what follows it
 reached_cut : (done : List ℕ) (before : List Line) (line more : List ℕ) → (r : Reached done before line) → cut (done ++ more) ≡ cut r.whole ++ cut (line ++ more)
 reached_cut done before line more r =

@@ -1,5 +1,5 @@
 -- Where a run stands in its input, and how its parts leave it. No definition of the text rests on these.
-use Rattle.std.specs.Prelude.{◌≡◌, ◌<◌, ◌≤◌, ◌⊎◌, ℕ, ◌==◌, Bool, true, false, Option, Some, Result, Ok, Err, List, [], ◌∷◌, ◌++◌, length}
+use Rattle.std.specs.Prelude.{◌≡◌, ◌<◌, ◌≤◌, ◌⊎◌, ℕ, ◌==◌, Bool, true, false, Option, Some, Result, Ok, Err, List, [], ◌∷◌, ◌++◌, length, take}
 use Rattle.std.specs.List.{list_any}
 use Rattle.std.specs.Io.KnownBytes.{Appends}
 use Rattle.hl_model.specs.Lists.{until_last}
@@ -107,6 +107,10 @@ pub record IsUnderWay (stands : (ℕ → Bool) → List Line → Type 0) (to : O
   pub from : Option (List ℕ)
   pub here : At stands has done before from to progress
 
+-- behind so many lines, what may stand there of the line that these bytes spell
+abbrev pub IsReadOf : ℕ → List ℕ → Option Line → Type 0
+IsReadOf lines raw found = (before : List Line) → lines ≡ length before → found ≡ allowed before (line_of raw)
+
 -- a whole line was answered, and the next begins
 pub record JudgedGood (stands : (ℕ → Bool) → List Line → Type 0) (has : ℕ → Bool) (before : List Line)
     (bytes : List ℕ) (from to : Option (List ℕ)) (progress : Progress) : Type 0 where
@@ -133,6 +137,14 @@ Fed stands lacks has done from to progress (Ok fed) =
     (before : List Line) × At stands has done before from to progress
 Fed stands lacks has done from to progress (Err fault) =
     ((more : List ℕ) → Stopped has lacks from to fault (done ++ more)) × Judges has from to fault done
+
+-- what the first of further bytes led to: so many of them were taken, or it stopped in them
+abbrev pub WentOn : ((ℕ → Bool) → List Line → Type 0) → (Line → Bool) → (ℕ → Bool) → List ℕ → List ℕ
+    → Option (List ℕ) → Option (List ℕ) → Progress → Result ℕ Fault → Type 0
+WentOn stands lacks has done bytes from to progress (Ok n) =
+    Fed stands lacks has (done ++ take n bytes) from to progress (Ok tt)
+WentOn stands lacks has done bytes from to progress (Err fault) =
+    Fed stands lacks has (done ++ bytes) from to progress (Err fault)
 
 -- what the end of the input led to
 abbrev pub Ended : ((ℕ → Bool) → List Line → Type 0) → (Line → Bool) → (ℕ → Bool) → List ℕ

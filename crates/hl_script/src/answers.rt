@@ -69,20 +69,25 @@ pub fn print_bad_line(n: u64) -> ArrayString<64>
     text
 }
 
-/// Writes an answer to a step, or the fault, with an LF.
+/// Writes an answer to a step, or the fault, with an LF. The row is for its text, whatever was in it: a new one for each
+/// line would be cleared for each.
 ///
 /// Fault: `Stream` as for a text.
-pub(crate) fn put_result<W: Write>(out: &mut W, given: &Result<Reply, Fault>) -> Result<(), Fault>
+pub(crate) fn put_result<W: Write>(
+    out: &mut W,
+    text: &mut ArrayString<160>,
+    given: &Result<Reply, Fault>,
+) -> Result<(), Fault>
     ensures ok { OnOk result (Appends (W.contents out.old) (W.contents out.new)
         (result_text given.now ++ 10 ∷ [])) }
     ensures err { IfErr result (λ fault. fault ≡ Fault.Stream) }
     ensures left { OnErr result (BreaksOff (W.contents out.old) (W.contents out.new)
         (result_text given.now ++ 10 ∷ [])) }
 {
-    let mut text = ArrayString::new();
+    text.clear();
     match given {
-        Ok(reply) => append_reply(&mut text, reply),
-        Err(fault) => append_fault(&mut text, fault),
+        Ok(reply) => append_reply(text, reply),
+        Err(fault) => append_fault(text, fault),
     }
     text.push_str("\n");
     put(out, text.as_str().as_bytes())

@@ -1,17 +1,23 @@
-ghost use Rattle.std.specs.Prelude.{◌≡◌, ℕ, ◌+◌, ◌^◌, ◌<◌, ◌≤◌, Bool, Option, List, [], ◌∷◌, ◌++◌, length};
-ghost use Rattle.hl_line.specs.declared.line.Line.{Line};
-ghost use Rattle.hl_script.specs.Interpreter.{Refuses, At, IsUnderWay, Judged, Fed, Ended, Ran};
+ghost use Rattle.std.specs.Prelude.{◌≡◌, ℕ, ◌+◌, ◌^◌, ◌<◌, ◌≤◌, Bool, false, Option, List, [], ◌∷◌, ◌++◌, length, take, slice_index_or, IfSome, IfOk};
+ghost use Rattle.std.specs.List.{list_any};
+ghost use Rattle.hl_line.specs.declared.line.Line.{Line as LINE};
+ghost use Rattle.hl_line.specs.Lines.{Fits, spelling};
+ghost use Rattle.hl_script.specs.Interpreter.{is_end, Refuses, At, IsUnderWay, IsReadOf, Judged, Fed, WentOn, Ended, Ran};
 
 use crate::answers::print_bad_line;
 use crate::machine::Machine;
 use crate::progress::Progress;
 use crate::reads::Reads;
 use hl_image::put;
+use hl_line::{Line, read_front};
 use hl_model::Fault;
 use std::io::{Read, Write};
 
 /// How many bytes a read may give.
 const CHUNK: usize = 16384;
+
+/// How many bytes a line has at most.
+const LONGEST: usize = 80;
 
 /// Tells that line n is no step. The answer is `BadLine` with this number, or `Stream` where a write failed.
 fn refuse<W: Write>(n: u64, out: &mut W) -> Fault
@@ -23,23 +29,27 @@ fn refuse<W: Write>(n: u64, out: &mut W) -> Fault
     }
 }
 
-/// Has the machine answer the line so far, which has ended here, and begins the next.
+/// Has the machine answer a line, which has ended here, and begins the next. The line is that of some bytes, if it may
+/// stand behind the lines so far.
 fn judge<M: Machine, W: Write>(
     machine: &mut M,
     progress: &mut Progress,
+    line: Option<Line>,
     out: &mut W,
 ) -> Result<(), Fault>
     requires standing { IsUnderWay (M.stands machine.old) (W.contents out.old) progress.old }
+    requires read { (raw : List ℕ) × IsReadOf progress.old.lines raw line }
+    requires fits { IfSome line Fits }
     requires lines { progress.old.lines < 2 ^ 63 }
     requires steps { progress.old.steps < 2 ^ 63 }
-    ensures judged { (has : ℕ → Bool) (done : List ℕ) (before : List Line) (from : Option (List ℕ))
+    ensures judged { (raw : List ℕ) → IsReadOf progress.old.lines raw line
+        → (has : ℕ → Bool) (done : List ℕ) (before : List LINE) (from : Option (List ℕ))
         → At (M.stands machine.old) has done before from (W.contents out.old) progress.old
-        → Judged (M.stands machine.new) M.lacks has before progress.old.line.items from (W.contents out.new)
-        progress.new result }
+        → Judged (M.stands machine.new) M.lacks has before raw from (W.contents out.new) progress.new result }
     ensures lines { progress.new.lines ≤ progress.old.lines + 1 }
     ensures steps { progress.new.steps ≤ progress.old.steps + 1 }
 {
-    let Some(line) = progress.ended_line() else {
+    let Some(line) = line else {
         return Err(refuse(progress.lines + 1, out));
     };
     let accepted = machine.answer(&line, out)?;
@@ -50,6 +60,7 @@ fn judge<M: Machine, W: Write>(
 }
 
 /// Goes on by one byte. A line is judged at its LF, and refused at its 81st byte.
+#[inline(never)]
 fn take_byte<M: Machine, W: Write>(
     machine: &mut M,
     progress: &mut Progress,
@@ -59,7 +70,7 @@ fn take_byte<M: Machine, W: Write>(
     requires standing { IsUnderWay (M.stands machine.old) (W.contents out.old) progress.old }
     requires lines { progress.old.lines < 2 ^ 63 }
     requires steps { progress.old.steps < 2 ^ 63 }
-    ensures fed { (has : ℕ → Bool) (done : List ℕ) (before : List Line) (from : Option (List ℕ))
+    ensures fed { (has : ℕ → Bool) (done : List ℕ) (before : List LINE) (from : Option (List ℕ))
         → At (M.stands machine.old) has done before from (W.contents out.old) progress.old
         → Fed (M.stands machine.new) M.lacks has (done ++ byte ∷ []) from (W.contents out.new) progress.new
         result }
@@ -67,13 +78,113 @@ fn take_byte<M: Machine, W: Write>(
     ensures steps { progress.new.steps ≤ progress.old.steps + 1 }
 {
     if byte == b'\n' {
-        return judge(machine, progress, out);
+        let line = progress.ended_line();
+        return judge(machine, progress, line, out);
     }
     if progress.line.is_full() {
         return Err(refuse(progress.lines + 1, out));
     }
     progress.line.push(byte);
     Ok(())
+}
+
+/// Goes on by a line that lies whole in what was read, where none was begun before, with its LF.
+#[inline(always)]
+fn take_line<M: Machine, W: Write>(
+    machine: &mut M,
+    progress: &mut Progress,
+    bytes: &[u8],
+    out: &mut W,
+) -> Result<(), Fault>
+    requires standing { IsUnderWay (M.stands machine.old) (W.contents out.old) progress.old }
+    requires none_begun { progress.old.line.items ≡ [] }
+    requires no_end { list_any is_end bytes.now ≡ false }
+    requires lines { progress.old.lines < 2 ^ 63 }
+    requires steps { progress.old.steps < 2 ^ 63 }
+    ensures fed { (has : ℕ → Bool) (done : List ℕ) (before : List LINE) (from : Option (List ℕ))
+        → At (M.stands machine.old) has done before from (W.contents out.old) progress.old
+        → Fed (M.stands machine.new) M.lacks has (done ++ (bytes.now ++ 10 ∷ [])) from (W.contents out.new)
+        progress.new result }
+    ensures lines { progress.new.lines ≤ progress.old.lines + 1 }
+    ensures steps { progress.new.steps ≤ progress.old.steps + 1 }
+{
+    let line = progress.allowed_line(bytes);
+    judge(machine, progress, line, out)
+}
+
+/// Goes on by a line that was read, where none was begun before, and by its LF.
+#[inline(always)]
+fn take_read<M: Machine, W: Write>(
+    machine: &mut M,
+    progress: &mut Progress,
+    line: Line,
+    out: &mut W,
+) -> Result<(), Fault>
+    requires standing { IsUnderWay (M.stands machine.old) (W.contents out.old) progress.old }
+    requires none_begun { progress.old.line.items ≡ [] }
+    requires fits { Fits line }
+    requires lines { progress.old.lines < 2 ^ 63 }
+    requires steps { progress.old.steps < 2 ^ 63 }
+    ensures fed { (has : ℕ → Bool) (done : List ℕ) (before : List LINE) (from : Option (List ℕ))
+        → At (M.stands machine.old) has done before from (W.contents out.old) progress.old
+        → Fed (M.stands machine.new) M.lacks has (done ++ (spelling line ++ 10 ∷ [])) from (W.contents out.new)
+        progress.new result }
+    ensures lines { progress.new.lines ≤ progress.old.lines + 1 }
+    ensures steps { progress.new.steps ≤ progress.old.steps + 1 }
+{
+    let placed = progress.placed(line);
+    judge(machine, progress, placed, out)
+}
+
+/// Goes on by the next line, where it lies whole in these bytes, or else by the next byte; the answer is by how many
+/// bytes.
+#[inline(always)]
+fn take_next<M: Machine, W: Write>(
+    machine: &mut M,
+    progress: &mut Progress,
+    bytes: &[u8],
+    out: &mut W,
+) -> Result<usize, Fault>
+    requires standing { IsUnderWay (M.stands machine.old) (W.contents out.old) progress.old }
+    requires some { 0 < length bytes.now }
+    requires lines { progress.old.lines < 2 ^ 63 }
+    requires steps { progress.old.steps < 2 ^ 63 }
+    ensures some { IfOk result (λ n. 0 < n) }
+    ensures most { IfOk result (λ n. n ≤ length bytes.now) }
+    ensures fed { (has : ℕ → Bool) (done : List ℕ) (before : List LINE) (from : Option (List ℕ))
+        → At (M.stands machine.old) has done before from (W.contents out.old) progress.old
+        → WentOn (M.stands machine.new) M.lacks has done bytes.now from (W.contents out.new) progress.new
+        result }
+    ensures lines { progress.new.lines ≤ progress.old.lines + 1 }
+    ensures steps { progress.new.steps ≤ progress.old.steps + 1 }
+{
+    if progress.line.is_empty() {
+        if let Some((line, rest)) = read_front(bytes) {
+            take_read(machine, progress, line, out)?;
+            return Ok(bytes.len() - rest.len());
+        }
+        if let Some(end) = line_end(bytes) {
+            take_line(machine, progress, &bytes[..end], out)?;
+            return Ok(end + 1);
+        }
+    }
+    take_byte(machine, progress, bytes[0], out)?;
+    Ok(1)
+}
+
+/// Where the first LF stands, if no more than 80 bytes stand before it.
+#[inline(always)]
+fn line_end(bytes: &[u8]) -> Option<usize>
+    ensures { IfSome result (λ k. (k < length bytes.now) × (list_any is_end (take k bytes.now) ≡ false)
+        × (slice_index_or bytes.now k 0 ≡ 10)) }
+{
+    let most = bytes.len().min(LONGEST + 1);
+    for end in 0..most {
+        if bytes[end] == b'\n' {
+            return Some(end);
+        }
+    }
+    None
 }
 
 /// Goes on by the bytes of one read.
@@ -86,15 +197,16 @@ fn take_bytes<M: Machine, W: Write>(
     requires standing { IsUnderWay (M.stands machine.old) (W.contents out.old) progress.old }
     requires lines { progress.old.lines + length bytes.now < 2 ^ 63 }
     requires steps { progress.old.steps + length bytes.now < 2 ^ 63 }
-    ensures fed { (has : ℕ → Bool) (done : List ℕ) (before : List Line) (from : Option (List ℕ))
+    ensures fed { (has : ℕ → Bool) (done : List ℕ) (before : List LINE) (from : Option (List ℕ))
         → At (M.stands machine.old) has done before from (W.contents out.old) progress.old
         → Fed (M.stands machine.new) M.lacks has (done ++ bytes.now) from (W.contents out.new) progress.new
         result }
     ensures lines { progress.new.lines ≤ progress.old.lines + length bytes.now }
     ensures steps { progress.new.steps ≤ progress.old.steps + length bytes.now }
 {
-    for byte in bytes {
-        take_byte(machine, progress, *byte, out)?;
+    let mut taken = 0;
+    while taken < bytes.len() {
+        taken += take_next(machine, progress, &bytes[taken..], out)?;
     }
     Ok(())
 }
@@ -109,14 +221,15 @@ fn finish<M: Machine, W: Write>(
     requires standing { IsUnderWay (M.stands machine.old) (W.contents out.old) progress.old }
     requires lines { progress.old.lines < 2 ^ 63 }
     requires steps { progress.old.steps < 2 ^ 63 }
-    ensures { (has : ℕ → Bool) (done : List ℕ) (before : List Line) (from : Option (List ℕ))
+    ensures { (has : ℕ → Bool) (done : List ℕ) (before : List LINE) (from : Option (List ℕ))
         → At (M.stands machine.old) has done before from (W.contents out.old) progress.old
         → Ended (M.stands machine.new) M.lacks has done from (W.contents out.new) result }
 {
     if progress.line.is_empty() {
         return Ok(progress.count());
     }
-    judge(machine, progress, out)?;
+    let line = progress.ended_line();
+    judge(machine, progress, line, out)?;
     Ok(progress.count())
 }
 

@@ -25,7 +25,7 @@
 //! |---|---|
 //! | `interpreter` | cuts, judges, has each line answered, and stops: at a bad line, at the end, at a fault of a stream |
 //! | `reads` | counts the reads, which end a run that would go on |
-//! | `progress` | what is kept between two bytes: two counts, and a line of at most 80 bytes |
+//! | `progress` | what is kept between two reads: two counts, and the beginning of a line, at most 80 bytes |
 //! | `machine` | the trait of what answers a line; a machine need not keep the lines that it answered |
 //! | `script` | the machine: it opens at the config, and has what was opened make the steps |
 //! | `stepping` | the traits of what makes steps and answers queries, and of what opens it |

@@ -11,13 +11,15 @@ use arrayvec::ArrayString;
 use hl_model::{Fault, Step};
 use std::io::Write;
 
-/// Makes a step and writes its answer, with an LF. The answer tells whether the step was accepted.
+/// Makes a step and writes its answer, with an LF, whose text is made in the row. The answer tells whether the step was
+/// accepted.
 ///
 /// `OutOfMemory` where memory was refused; nothing was written. `Stream` where a write failed or took no byte; the
 /// first bytes of the answer were written.
 pub(crate) fn answer_step<S: Stepping, W: Write>(
     stepping: &mut S,
     step: &Step,
+    text: &mut ArrayString<160>,
     out: &mut W,
 ) -> Result<bool, Fault>
     requires { IsStanding (S.stands stepping.old) }
@@ -28,7 +30,7 @@ pub(crate) fn answer_step<S: Stepping, W: Write>(
     let Some(result) = stepping.step(step) else {
         return Err(Fault::OutOfMemory);
     };
-    put_result(out, &result)?;
+    put_result(out, text, &result)?;
     Ok(result.is_ok())
 }
 

@@ -10,9 +10,9 @@ returns-then-is_empty g c = λ has done before from at.
 pub returns-in_err-judge : goal.returns-in_err-judge
 returns-in_err-judge g c = λ has done before from at.
     let p = err_from_is_err_and c.from_residual.result c.from_residual.ensures.1 in
-    rw (p.1, p.2) (ended_stop (g.M.Machine.stands c.args.machine.now) (g.M.Machine.stands c.judge.new.machine) g.M.Machine.lacks has done before from (g.W.Write.contents c.args.out.now) (g.W.Write.contents c.judge.new.out) c.args.progress.now c.judge.new.progress c.in_err-judge.field-0.0 at (some_line c.args.progress.now.line.items (sym c.if-is_empty.ensures)) (c.in_err-judge.ensures.judged has done before from at))
+    rw (p.1, p.2) (ended_stop (g.M.Machine.stands c.args.machine.now) (g.M.Machine.stands c.judge.new.machine) g.M.Machine.lacks has done before from (g.W.Write.contents c.args.out.now) (g.W.Write.contents c.judge.new.out) c.args.progress.now c.judge.new.progress c.in_err-judge.field-0.0 at (some_line c.args.progress.now.line.items (sym c.if-is_empty.ensures)) (c.in_err-judge.ensures.judged c.args.progress.now.line.items c.ended_line-line.ensures.allowed has done before from at))
 
 pub returns : goal.returns
 returns g c = λ has done before from at.
-    let j = c.in_ok-judge.ensures.judged has done before from at in
+    let j = c.in_ok-judge.ensures.judged c.args.progress.now.line.items c.ended_line-line.ensures.allowed has done before from at in
     ended_line (g.M.Machine.stands c.args.machine.now) (g.M.Machine.stands c.judge.new.machine) has done before from (g.W.Write.contents c.args.out.now) (g.W.Write.contents c.judge.new.out) c.args.progress.now c.judge.new.progress c.count-2.result at (some_line c.args.progress.now.line.items (sym c.if-is_empty.ensures)) j (c.count-2.ensures has (before ++ j.line ∷ []) j.lines j.steps)
