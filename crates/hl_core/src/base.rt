@@ -53,4 +53,8 @@ impl<E: Epochs, J: Tagged> Quantities for Core<E, J> {
     fn held(&self, f: u64) -> Option<Held> {
         self.frames.marks(f)
     }
+
+    fn held_row(&self) -> Option<&[Option<Held>]> {
+        Some(self.frames.row())
+    }
 }

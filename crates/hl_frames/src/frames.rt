@@ -201,6 +201,14 @@ impl Frames {
         self.held[frame as usize]
     }
 
+    /// What each of the F frames holds, from frame 0 on: as `marks` tells it, in a row that can be copied at once.
+    pub fn row(&self) -> &[Option<Held>]
+        ensures held { result.now ≡ self.now.pages.frames }
+        ensures valid { IsFrames self.now.pages }
+    {
+        &self.held
+    }
+
     /// The state of a frame, below F, and its last entered page; None where it is free. `sro` is the safe read-only
     /// offset and `closed` the closed offset, words' addresses: the pages below the first are entered, and the
     /// second is at most the flushed offset.

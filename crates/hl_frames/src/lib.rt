@@ -50,7 +50,7 @@
 //! | call | turns |
 //! |---|---|
 //! | `enter`, `clean_take`, `clean_done`, `marks`, `state`, each question of one page | 1 |
-//! | `is_entered_at`, `flushed_until`, `next_to_flush`, `next_to_clean` | none |
+//! | `is_entered_at`, `flushed_until`, `next_to_flush`, `next_to_clean`; `row`, which only lends it | none |
 //! | `flush_done` | at most F + 2: one for the page, and one for each page that the run is moved over, with the one at which it stops |
 //! | `flush_take` | at most F: one for the page, and one for each page up to the next that waits |
 //!

@@ -1,4 +1,4 @@
-ghost use Rattle.std.specs.Prelude.{◌≡◌, ◌<◌, ◌≤◌, None, [], length, slice_get, slice_index_or, vec_capacity, IfOk, IfErr};
+ghost use Rattle.std.specs.Prelude.{◌≡◌, ◌<◌, ◌≤◌, None, [], length, slice_get, slice_index_or, vec_capacity, IfOk, IfErr, IfSome};
 ghost use Rattle.hl_model.specs.Bases.{Base as BaseRecord, IsBase, base_of};
 
 use hl_model::{Fault, Held, Params, Six, Slot, Waiting, filled, with_room};
@@ -34,7 +34,8 @@ impl Model for Base {
     ghost invariant = { HasRows };
 }
 
-/// Where the quantities of a base come from. They are asked for one by one, so that no row of them has to be made.
+/// Where the quantities of a base come from. They are asked for one by one, so that no row of them has to be made; one
+/// that has the row of its frames may lend it.
 pub trait Quantities {
     /// All of them.
     ghost tells: { Self → BaseRecord };
@@ -68,6 +69,13 @@ pub trait Quantities {
     fn held(&self, f: u64) -> Option<Held>
         requires { f < (tells self.now).sizes.frames }
         ensures { result ≡ slice_index_or (tells self.now).frames f None };
+
+    /// What all frames hold, from frame 0 on, where this is kept in such a row: then a base copies the row at once.
+    fn held_row(&self) -> Option<&[Option<Held>]>
+        ensures { IfSome result (λ row. row.now ≡ (tells self.now).frames) }
+    {
+        None
+    }
 }
 
 impl Base {
@@ -200,6 +208,10 @@ impl Quantities for Base {
     fn held(&self, f: u64) -> Option<Held> {
         self.frames[f as usize]
     }
+
+    fn held_row(&self) -> Option<&[Option<Held>]> {
+        Some(&self.frames)
+    }
 }
 
 // Puts what each of the slots has in place of what is in a row that has room for it.
@@ -230,14 +242,20 @@ fn refill_waiting<Q: Quantities>(row: &mut Vec<Waiting>, quantities: &Q)
     }
 }
 
-// Puts what each of the frames holds in place of what is in a row that has room for it.
+// Puts what each of the frames holds in place of what is in a row of as many. A row that is lent is copied at once: a
+// base is renewed under its owner's lock, and there may be 65,536 frames.
 fn refill_frames<Q: Quantities>(row: &mut Vec<Option<Held>>, quantities: &Q, frames: u64)
     requires sizes { frames ≡ (Q.tells quantities.now).sizes.frames }
     requires told { length (Q.tells quantities.now).frames ≡ frames }
+    requires filled { length row.old.items ≡ frames }
     requires room { vec_capacity row.old ≡ frames }
     ensures items { row.new.items ≡ (Q.tells quantities.now).frames }
     ensures room { vec_capacity row.new ≡ vec_capacity row.old }
 {
+    if let Some(held) = quantities.held_row() {
+        row.copy_from_slice(held);
+        return;
+    }
     row.clear();
     for f in 0..frames {
         row.push_reserved(quantities.held(f));

@@ -1,6 +1,7 @@
 use Rattle.std.proofs.Common.{length, sym, ap, ◌∙◌, arith}
 use Rattle.hl_model.specs.Bases.{Base}
 use Rattle.hl_model.specs.Sizes.{Sizes}
+use Rattle.hl_laws.specs.BaseRows.{base_in}
 use Rattle.hl_laws.proofs.BaseRooms.{length-slots, length-frames, actions-fit}
 use Rattle.hl_laws.proofs.base.Base.renew.Goals as goal
 
@@ -22,3 +23,6 @@ pub refill_frames-requires-clause-told : goal.refill_frames-requires-clause-told
 refill_frames-requires-clause-told g c =
     let told = g.Q.Quantities.tells c.args.quantities.now in
     length-frames told c.requires.base ∙ ap (λ (s : Sizes). s.frames) c.requires.sizes ∙ sym (ap (λ (b : Base). b.sizes.frames) c.self.view_is) ∙ sym c.frames.ensures.value
+
+pub refill_frames-requires-clause-filled : goal.refill_frames-requires-clause-filled
+refill_frames-requires-clause-filled g c = length-frames (base_in c.self.inside) c.self.invariant.base ∙ sym c.frames.ensures.value
