@@ -93,17 +93,7 @@ impl<E: Epochs, J: Tagged> Core<E, J> {
     fn frame_counts(&self) -> [u64; 5]
         ensures { (A : List Step) → Stands J.tag self.now A → result ≡ (snapshot_of self.now.sizes A).frames }
     {
-        let mut counts = [0; 5];
-        for f in 0..self.params.frames() {
-            let place = match self.frame(f).0 {
-                FrameState::Opened => 0,
-                FrameState::Sealed => 1,
-                FrameState::Flushed => 2,
-                FrameState::Closed => 3,
-                FrameState::Free => 4,
-            };
-            counts[place] += 1;
-        }
-        counts
+        self.frames
+            .counts(self.offsets.safe_read_only(), self.offsets.closed())
     }
 }

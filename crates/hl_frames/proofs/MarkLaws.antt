@@ -13,12 +13,12 @@ use Rattle.hl_frames.specs.IsFrames.{AreMarks, page_in, IsFrames}
 use Rattle.hl_frames.proofs.PageLaws.{within, page-at, marked-at}
 
 -- a page that lies in its frame is held there
-lying : (q : ℕ) (o : Option Held) → page_in o ≡ Some q → (held : Held) × ((o ≡ Some held) × (held.page ≡ q))
+pub lying : (q : ℕ) (o : Option Held) → page_in o ≡ Some q → (held : Held) × ((o ≡ Some held) × (held.page ≡ q))
 lying q None lies = absurd cc
 lying q (Some held) lies = (held, (refl, cc))
 
 -- a page whose mark counts lies in its frame
-marked-lies : (mark : Held → Bool) (q : ℕ) (o : Option Held) → is_marked mark q o ≡ true → page_in o ≡ Some q
+pub marked-lies : (mark : Held → Bool) (q : ℕ) (o : Option Held) → is_marked mark q o ≡ true → page_in o ≡ Some q
 marked-lies mark q None e = absurd cc
 marked-lies mark q (Some held) e =
     elim (eqb_tells q held.page) [
@@ -27,7 +27,7 @@ marked-lies mark q (Some held) e =
     ]
 
 -- where a frame holds a page, its mark tells
-left_or_marked-own : (mark : Held → Bool) (q : ℕ) (held : Held) → held.page ≡ q → left_or_marked mark q (Some held) ≡ mark held
+pub left_or_marked-own : (mark : Held → Bool) (q : ℕ) (held : Held) → held.page ≡ q → left_or_marked mark q (Some held) ≡ mark held
 left_or_marked-own mark q held lies = rw (le-ltb q held.page (omega arith), eq-eqb q held.page (sym lies)) refl
 
 is_marked-own : (mark : Held → Bool) (q : ℕ) (held : Held) → held.page ≡ q → is_marked mark q (Some held) ≡ mark held
@@ -64,7 +64,7 @@ same-option test change None same = refl
 same-option test change (Some held) same = same held refl
 
 -- a test of any page's frame is as it was, where it is as it was for what is changed
-changed-same : (test : Option Held → Bool) (T : Pages) (q k : ℕ) (change : Held → Held) → IsFrames T → ((held : Held) → held_for q T ≡ Some held → test (Some (change held)) ≡ test (Some held)) → test (held_for k (changed q change T)) ≡ test (held_for k T)
+pub changed-same : (test : Option Held → Bool) (T : Pages) (q k : ℕ) (change : Held → Held) → IsFrames T → ((held : Held) → held_for q T ≡ Some held → test (Some (change held)) ≡ test (Some held)) → test (held_for k (changed q change T)) ≡ test (held_for k T)
 changed-same test T q k change is same =
     let place : ℕ = q % length T.frames in
     let v : Option Held = option_map change (get_or T.frames place None) in
@@ -75,7 +75,7 @@ changed-same test T q k change is same =
     ])
 
 -- marks of other pages stay
-changed-left_or_marked : (mark : Held → Bool) (T : Pages) (q k : ℕ) (change : Held → Held) → IsFrames T → ((held : Held) → (change held).page ≡ held.page) → page_in (held_for q T) ≡ Some q → (k ≡ q → ⊥) → left_or_marked mark k (held_for k (changed q change T)) ≡ left_or_marked mark k (held_for k T)
+pub changed-left_or_marked : (mark : Held → Bool) (T : Pages) (q k : ℕ) (change : Held → Held) → IsFrames T → ((held : Held) → (change held).page ≡ held.page) → page_in (held_for q T) ≡ Some q → (k ≡ q → ⊥) → left_or_marked mark k (held_for k (changed q change T)) ≡ left_or_marked mark k (held_for k T)
 changed-left_or_marked mark T q k change is keeps lies other =
     changed-same (left_or_marked mark k) T q k change is
     (λ held e.
@@ -90,7 +90,7 @@ changed-is_marked mark T q k change is keeps lies other =
     is_marked-other mark k (change held) (λ at. other (at ∙ keeps held ∙ page)) ∙ sym (is_marked-other mark k held (λ at. other (at ∙ page))))
 
 -- the marks of the page itself
-changed-own : (mark : Held → Bool) (T : Pages) (q : ℕ) (change : Held → Held) (held : Held) → IsFrames T → ((held : Held) → (change held).page ≡ held.page) → held.page ≡ q → held_for q T ≡ Some held → left_or_marked mark q (held_for q (changed q change T)) ≡ mark (change held)
+pub changed-own : (mark : Held → Bool) (T : Pages) (q : ℕ) (change : Held → Held) (held : Held) → IsFrames T → ((held : Held) → (change held).page ≡ held.page) → held.page ≡ q → held_for q T ≡ Some held → left_or_marked mark q (held_for q (changed q change T)) ≡ mark (change held)
 changed-own mark T q change held is keeps lies e =
     rw (changed-here T q change is, e) (left_or_marked-own mark q (change held) (keeps held ∙ lies))
 
@@ -137,11 +137,11 @@ uncleaned-begun T q k is =
     (changed-same (is_marked (λ held. held.cleaning) k) T q k change is (λ held e. refl))
 
 -- where the flush of a page ends, it is flushed or waits again, and others as before
-flushed-ended : (T : Pages) (q k : ℕ) (ok : Bool) → IsFrames T → is_in_flight q T ≡ true → (k ≡ q → ⊥) → is_flushed k (flush_ended q ok T) ≡ is_flushed k T
+pub flushed-ended : (T : Pages) (q k : ℕ) (ok : Bool) → IsFrames T → is_in_flight q T ≡ true → (k ≡ q → ⊥) → is_flushed k (flush_ended q ok T) ≡ is_flushed k T
 flushed-ended T q k ok is flies other =
     changed-left_or_marked (λ held. held.flushed) T q k (λ held. record held { in_flight = false; flushed = ok }) is (λ held. refl) (marked-lies (λ held. held.in_flight) q (held_for q T) flies) other
 
-flushed-ended_own : (T : Pages) (q : ℕ) (ok : Bool) → IsFrames T → is_in_flight q T ≡ true → is_flushed q (flush_ended q ok T) ≡ ok
+pub flushed-ended_own : (T : Pages) (q : ℕ) (ok : Bool) → IsFrames T → is_in_flight q T ≡ true → is_flushed q (flush_ended q ok T) ≡ ok
 flushed-ended_own T q ok is flies =
     let at = lying q (held_for q T) (marked-lies (λ held. held.in_flight) q (held_for q T) flies) in
     changed-own (λ held. held.flushed) T q (λ held. record held { in_flight = false; flushed = ok }) at.0 is (λ held. refl) at.1.1 at.1.0
@@ -153,7 +153,7 @@ unflushed-ended T q k ok is flies other =
     (changed-is_marked (λ held. held.in_flight) T q k (λ held. record held { in_flight = false; flushed = ok }) is (λ held. refl) (marked-lies (λ held. held.in_flight) q (held_for q T) flies) other)
 
 -- a page in flight isn't flushed
-flies-unflushed : (T : Pages) (q : ℕ) → IsFrames T → is_in_flight q T ≡ true → is_flushed q T ≡ false
+pub flies-unflushed : (T : Pages) (q : ℕ) → IsFrames T → is_in_flight q T ≡ true → is_flushed q T ≡ false
 flies-unflushed T q is flies =
     let at = lying q (held_for q T) (marked-lies (λ held. held.in_flight) q (held_for q T) flies) in
     let marks = is.marks (q % length T.frames) at.0 at.1.0 in
@@ -305,7 +305,7 @@ before-marked mark k held before e =
     ]
 
 -- where the next page is entered, each page is flushed and freed as before
-entered-left_or_marked : (mark : Held → Bool) (T : Pages) (k : ℕ) → IsFrames T → may_enter T.entered T ≡ true → ((held : Held) → AreMarks held → held.freed ≡ true → mark held ≡ true) → mark (unmarked T.entered) ≡ false → left_or_marked mark k (held_for k (entered T.entered T)) ≡ left_or_marked mark k (held_for k T)
+pub entered-left_or_marked : (mark : Held → Bool) (T : Pages) (k : ℕ) → IsFrames T → may_enter T.entered T ≡ true → ((held : Held) → AreMarks held → held.freed ≡ true → mark held ≡ true) → mark (unmarked T.entered) ≡ false → left_or_marked mark k (held_for k (entered T.entered T)) ≡ left_or_marked mark k (held_for k T)
 entered-left_or_marked mark T k is may left bare =
     let F : ℕ = length T.frames in
     let q : ℕ = T.entered in

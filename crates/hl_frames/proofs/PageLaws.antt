@@ -24,7 +24,7 @@ pub left-flushed : (T : Pages) (q : ℕ) → IsFrames T → q < T.entered - leng
 left-flushed T q is before = left-marked (λ held. held.flushed) q (held_for q T) (is.left q (omega arith))
 
 -- pages that left their frames are freed
-left-freed : (T : Pages) (q : ℕ) → IsFrames T → q < T.entered - length T.frames → is_freed q T ≡ true
+pub left-freed : (T : Pages) (q : ℕ) → IsFrames T → q < T.entered - length T.frames → is_freed q T ≡ true
 left-freed T q is before = left-marked (λ held. held.freed) q (held_for q T) (is.left q (omega arith))
 
 -- a page lies in a frame

@@ -1,11 +1,13 @@
 -- What each call answers, and what it makes of the pages.
-use Rattle.std.specs.Prelude.{ℕ, ◌+◌, ◌%◌, nat_lt, Bool, true, false, if◌then◌else◌, Option, Some, None, Result, Ok, Err, length, replicate, slice_index_or, slice_set}
+use Rattle.std.specs.Prelude.{ℕ, ◌+◌, ◌%◌, nat_lt, Bool, true, false, if◌then◌else◌, Option, Some, None, Result, Ok, Err, List, length, map, replicate, slice_index_or, slice_set}
+use Rattle.std.specs.List.{range_with_len}
 use Rattle.std.specs.Option.{option_map}
 use Rattle.hl_model.specs.declared.fault.Fault.{Fault}
 use Rattle.hl_model.specs.declared.fault.Fault.TheVariants.{Busy, NotInFlight, NotCleaning}
 use Rattle.hl_model.specs.declared.frame.Held.{Held}
 use Rattle.hl_model.specs.declared.frame.FrameState.{FrameState}
 use Rattle.hl_model.specs.declared.frame.FrameState.TheVariants.{Opened, Sealed, Flushed, Closed, Free}
+use Rattle.hl_model.specs.Snapshots.{state_counts}
 use Rattle.hl_frames.specs.Pages.{Pages, held_for, may_enter, is_in_flight, is_cleaning, pages_below, flushed_offset}
 
 -- no page was entered
@@ -89,3 +91,11 @@ state_in sealed closed (Some held) =
 -- the state of frame f, and its last entered page where it isn't free
 abbrev pub state_of : ℕ → ℕ → ℕ → Pages → FrameState × Option ℕ
 state_of f sro closed T = state_in (pages_below sro T) (pages_below closed T) (slice_index_or T.frames f None)
+
+-- what each frame is at
+unfoldable pub states : ℕ → ℕ → Pages → List FrameState
+states sro closed T = map (λ f. (state_of f sro closed T).0) (range_with_len 0 (length T.frames))
+
+-- how many frames are open, sealed, flushed, closed and free
+abbrev pub counts_of : ℕ → ℕ → Pages → List ℕ
+counts_of sro closed T = state_counts (states sro closed T)

@@ -1,6 +1,6 @@
-ghost use Rattle.std.specs.Prelude.{◌≡◌, ◌+◌, ◌/◌, ◌%◌, ◌^◌, ◌<◌, ◌≤◌, nat_lt, length, slice_index_or, IfOk, IfErr, OnErr};
-ghost use Rattle.hl_frames.specs.Pages.{held_for, is_in_flight, is_cleaning, may_enter, pages_below, next_to_flush, next_to_clean, flushed_offset};
-ghost use Rattle.hl_frames.specs.Answers.{opened, page_or, after_take, enter_answer, after_enter, flush_begun, flush_done_answer, after_flush_done, clean_begun, clean_done_answer, after_clean_done, state_of};
+ghost use Rattle.std.specs.Prelude.{◌≡◌, ℕ, ◌+◌, ◌/◌, ◌%◌, ◌^◌, ◌<◌, ◌≤◌, nat_lt, true, length, slice_index_or, IfOk, IfErr, OnErr};
+ghost use Rattle.hl_frames.specs.Pages.{held_for, is_flushed, is_in_flight, is_freed, is_cleaning, may_enter, pages_below, next_to_flush, next_to_clean, flushed_offset};
+ghost use Rattle.hl_frames.specs.Answers.{opened, page_or, after_take, enter_answer, after_enter, flush_begun, flush_done_answer, after_flush_done, clean_begun, clean_done_answer, after_clean_done, state_of, counts_of};
 ghost use Rattle.hl_frames.specs.Counted.{none_yet, enter_turns, flush_done_turns, clean_done_turns};
 ghost use Rattle.hl_frames.specs.IsFrames.{IsFrames};
 
@@ -24,6 +24,10 @@ pub struct Frames {
     to_flush: Placed,
     // The least page that is neither freed nor being cleaned; nor is any above it.
     to_clean: Placed,
+    // How many pages are flushed, and how many are freed, with those that left their frames. By these `counts` tells
+    // how many frames are at each state, and visits none.
+    flushed: u64,
+    freed: u64,
     turns: Turns,
 }
 
@@ -57,6 +61,8 @@ impl Frames {
             run: first,
             to_flush: first,
             to_clean: first,
+            flushed: 0,
+            freed: 0,
             turns: Turns {
                 enter: 0,
                 flush_done: 0,
@@ -138,6 +144,7 @@ impl Frames {
             return Err(Fault::NotInFlight);
         }
         end_flush(&mut self.held[frame], ok);
+        self.flushed += u64::from(ok);
         let walk = skip_flushed(&self.held, self.run, self.entered);
         self.run = walk.at;
         self.turns.flush_done = 1 + walk.turns;
@@ -188,6 +195,7 @@ impl Frames {
         }
         let mut turns = 0;
         end_cleaning(&mut self.held[frame], &mut turns);
+        self.freed += 1;
         self.turns.clean_done = turns;
         Ok(())
     }
@@ -234,6 +242,32 @@ impl Frames {
         } else {
             (FrameState::Opened, Some(page))
         }
+    }
+
+    /// How many frames are open, sealed, flushed, closed and free, as `state` tells of each; none is visited. `sro` and
+    /// `closed` are words' addresses, as there, and besides the flushed pages are below the first offset, and the
+    /// freed ones below the second: so it is where no take was given a greater one.
+    pub fn counts(&self, sro: u64, closed: u64) -> [u64; 5]
+        requires sealed_entered { pages_below sro self.now.pages ≤ self.now.pages.entered }
+        requires closed_flushed { closed ≤ flushed_offset self.now.pages }
+        requires flushed_sealed { let pages = self.now.pages
+            in (q : ℕ) → is_flushed q pages ≡ true → q < pages_below sro pages }
+        requires freed_closed { let pages = self.now.pages
+            in (q : ℕ) → is_freed q pages ≡ true → q < pages_below closed pages }
+        ensures counts { result ≡ counts_of sro closed self.now.pages }
+        ensures valid { IsFrames self.now.pages }
+    {
+        let sealed = sro / self.page_size;
+        let closed = closed / self.page_size;
+        // Freed pages are closed, closed ones flushed, flushed ones sealed and sealed ones entered, and each that isn't
+        // freed has a frame of its own.
+        [
+            self.entered - sealed,
+            sealed - self.flushed,
+            self.flushed - closed,
+            closed - self.freed,
+            self.held.len() as u64 + self.freed - self.entered,
+        ]
     }
 
     /// The flushed offset, a word's address: the words of the longest run 0, 1, 2, .. of flushed pages.

@@ -43,6 +43,14 @@
 //! Beside each of the three stored pages stands its frame, which moves with it from the last frame to the first. So no
 //! take divides, and an enter or a done divides once, for the frame of the page that it names.
 //!
+//! # How many frames are at each state
+//!
+//! Freed pages are closed, closed ones flushed, flushed ones sealed and sealed ones entered, and each page that isn't
+//! freed has a frame of its own. So as many frames are open as pages are entered and not sealed, and so on down to the
+//! closed ones that aren't freed; the other frames are free. Two numbers are stored for that: how many pages are
+//! flushed, and how many are freed, with those that left their frames. A flush done that is ok and a clean done each
+//! add one, and no other call changes them.
+//!
 //! # What a call costs
 //!
 //! A turn is a visit of one frame in the row.
@@ -50,7 +58,7 @@
 //! | call | turns |
 //! |---|---|
 //! | `enter`, `clean_take`, `clean_done`, `marks`, `state`, each question of one page | 1 |
-//! | `is_entered_at`, `flushed_until`, `next_to_flush`, `next_to_clean`; `row`, which only lends it | none |
+//! | `is_entered_at`, `flushed_until`, `next_to_flush`, `next_to_clean`, `counts`; `row`, which only lends it | none |
 //! | `flush_done` | at most F + 2: one for the page, and one for each page that the run is moved over, with the one at which it stops |
 //! | `flush_take` | at most F: one for the page, and one for each page up to the next that waits |
 //!

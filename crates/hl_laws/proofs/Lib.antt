@@ -32,7 +32,6 @@ pub mod ReuseLaws
 pub mod RowLaws
 pub mod RunLaws
 pub mod SettledLaws
-pub mod StateCounts
 pub mod TicketLaws
 pub mod UnpagedLaws
 pub mod ViewLaws

@@ -7,6 +7,7 @@ use Rattle.hl_frames.specs.Answers.{clean_begun}
 use Rattle.hl_frames.specs.Kept.{pages_of, AreStored}
 use Rattle.hl_frames.proofs.PageLaws.{within, IsFrames-clean_begun, next_to_clean-found, closed-flushed, unfreed-lies}
 use Rattle.hl_frames.proofs.KeptLaws.{row-changed, still-placed, stored-clean_begun, found-least, first-least, number_fits}
+use Rattle.hl_frames.proofs.CounterLaws.{counts-clean_begun}
 use Rattle.hl_frames.proofs.frames.Frames.clean_take.Goals as goal
 
 -- the page is found
@@ -72,6 +73,7 @@ invariant_of-self c =
     record {
       pages = rw (row here) (known here);
       stored = rw (row here) (subst (λ (n : ℕ). AreStored (clean_begun c.in-Some.page (pages_of a)) a.run.page a.to_flush.page n) is begun);
+      counts = rw (row here) (counts-clean_begun (pages_of a) c.in-Some.page a.flushed a.freed kept.pages kept.counts);
       run_placed = still-placed a.run a.held.items _ kept.run_placed (length-set _ _ _);
       to_flush_placed = still-placed a.to_flush a.held.items _ kept.to_flush_placed (length-set _ _ _);
       to_clean_placed = still-placed c.next-self-inside.result a.held.items _ (next.frame ∙ ap (λ n. (a.to_clean.page + 1) % n) len ∙ ap (λ q. q % length a.held.items) (sym next.page)) (length-set _ _ _);

@@ -6,6 +6,7 @@ use Rattle.hl_frames.specs.Answers.{entered}
 use Rattle.hl_frames.specs.Kept.{pages_of}
 use Rattle.hl_frames.proofs.PageLaws.{IsFrames-entered}
 use Rattle.hl_frames.proofs.KeptLaws.{still-placed, stored-entered}
+use Rattle.hl_frames.proofs.CounterLaws.{counts-entered}
 use Rattle.hl_frames.proofs.frames.Frames.enter.Goals as goal
 
 -- the page may be entered
@@ -33,6 +34,7 @@ invariant_of-self c =
     record {
       pages = rw (row c) (known c);
       stored = rw (row c) (stored-entered (pages_of a) c.args.page a.run.page a.to_flush.page a.to_clean.page kept.pages next (free c) (known c) kept.stored);
+      counts = rw (row c) (counts-entered (pages_of a) c.args.page a.flushed a.freed kept.pages next (free c) kept.counts);
       run_placed = still-placed a.run a.held.items _ kept.run_placed (length-set _ _ _);
       to_flush_placed = still-placed a.to_flush a.held.items _ kept.to_flush_placed (length-set _ _ _);
       to_clean_placed = still-placed a.to_clean a.held.items _ kept.to_clean_placed (length-set _ _ _);

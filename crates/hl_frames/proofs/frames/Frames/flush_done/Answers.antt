@@ -1,4 +1,5 @@
-use Rattle.std.proofs.Common.{rules, ◌≡◌, ◌∙◌, ◌+◌, ◌-◌, cond, ltb, ap₂, subst, length, ◌*◌, ℕ, Ok, arith, true, false, sym, ap, length-set}
+use mir.Val.{bool_byte}
+use Rattle.std.proofs.Common.{rules, refl, Bool, ◌≡◌, ◌∙◌, ◌+◌, ◌-◌, cond, ltb, ap₂, subst, length, ◌*◌, ◌≤◌, ℕ, Ok, arith, true, false, sym, ap, length-set}
 use Rattle.std.specs.Prelude.{slice_set}
 use Rattle.hl_model.specs.declared.frame.Held.{Held}
 use Rattle.hl_frames.specs.Pages.{is_in_flight, flushed_run, flushed_offset}
@@ -13,7 +14,8 @@ use Rattle.hl_frames.specs.declared.turns.Turns.{Turns}
 use Rattle.hl_frames.specs.Kept.{pages_of, AreStored, IsKept}
 use Rattle.hl_frames.proofs.PageLaws.{IsFrames-flush_ended, run_within}
 use Rattle.hl_frames.proofs.MarkLaws.{flushed-ended_kept}
-use Rattle.hl_frames.proofs.KeptLaws.{held-read, still-placed, row-changed, run-walked, run-recent, stored-ended_ok, stored-ended_failed}
+use Rattle.hl_frames.proofs.KeptLaws.{number_fits, held-read, still-placed, row-changed, run-walked, run-recent, stored-ended_ok, stored-ended_failed}
+use Rattle.hl_frames.proofs.CounterLaws.{counts-fit, counts-ended}
 use Rattle.hl_frames.proofs.frames.Frames.flush_done.Goals as goal
 use Rattle.hl_frames.proofs.frames.Frames.flush_done.Goals.{then-not-ok, else-not-ok}
 
@@ -69,14 +71,24 @@ turns_are c =
     let each : c.skip_flushed-walk.result.turns ≡ (at - c.self.inside.run.page) + cond (ltb at end) 1 0 = omega (arith, walk.each_once, walk.least) in
     each ∙ ap₂ (λ (r s : ℕ). (r - s) + cond (ltb r end) 1 0) (moved c) c.self.invariant.stored.flushed
 
+-- a flush that ended well counts once
+one-where : (ok : Bool) → bool_byte ok ≡ cond ok 1 0
+one-where true = refl
+one-where false = refl
+
+at_most : (ok : Bool) → bool_byte ok ≤ 1
+at_most true = omega arith
+at_most false = omega arith
+
 -- what is true of the fields with this page to be flushed next
-kept_with : (c : goal.Joined-not-ok) (to_flush : Placed) → AreStored (flush_ended c.args.page c.args.ok (pages_of c.self.inside)) c.skip_flushed-walk.result.at.page to_flush.page c.self.inside.to_clean.page → HasFrame to_flush c.self.inside.held.items → IsKept (record { page_size = c.self.inside.page_size; entered = c.self.inside.entered; held = with_item c.self.inside.held c.frame_of-frame.result c.end_flush.new.held; run = c.skip_flushed-walk.result.at; to_flush = to_flush; to_clean = c.self.inside.to_clean; turns = record { enter = c.self.inside.turns.enter; flush_done = 1 + c.skip_flushed-walk.result.turns; clean_done = c.self.inside.turns.clean_done } })
+kept_with : (c : goal.Joined-not-ok) (to_flush : Placed) → AreStored (flush_ended c.args.page c.args.ok (pages_of c.self.inside)) c.skip_flushed-walk.result.at.page to_flush.page c.self.inside.to_clean.page → HasFrame to_flush c.self.inside.held.items → IsKept (record { page_size = c.self.inside.page_size; entered = c.self.inside.entered; held = with_item c.self.inside.held c.frame_of-frame.result c.end_flush.new.held; run = c.skip_flushed-walk.result.at; to_flush = to_flush; to_clean = c.self.inside.to_clean; flushed = c.self.inside.flushed + c.from.result; freed = c.self.inside.freed; turns = record { enter = c.self.inside.turns.enter; flush_done = 1 + c.skip_flushed-walk.result.turns; clean_done = c.self.inside.turns.clean_done } })
 kept_with c to_flush stored placed =
     let here = at_deref c in
     let kept = c.self.invariant in
     record {
       pages = rw (row here) (known here);
       stored = rw (row here) stored;
+      counts = rw (row here) (counts-ended (pages_of c.self.inside) c.args.page c.args.ok c.self.inside.flushed c.from.result c.self.inside.freed kept.pages (flies here) (c.from.ensures ∙ one-where c.args.ok) kept.counts);
       run_placed = rw here.deref.ensures.value at c.skip_flushed-walk.ensures.placed;
       to_flush_placed = still-placed to_flush c.self.inside.held.items _ placed (length-set _ _ _);
       to_clean_placed = still-placed c.self.inside.to_clean c.self.inside.held.items _ kept.to_clean_placed (length-set _ _ _);
@@ -133,3 +145,9 @@ returns-clause-turns c =
       | then-not-ok w ↦ rw w.self-inside-is told
       | else-not-ok w ↦ rw w.self-inside-is told
     ]))
+
+pub overflow_add-self : goal.overflow_add-self
+overflow_add-self c =
+    let a = c.self.inside in
+    let kept = c.self.invariant in
+    omega (arith, c.from.ensures, at_most c.args.ok, number_fits (pages_of a) a.flushed kept.pages (counts-fit (pages_of a) a.flushed a.freed kept.counts).0)

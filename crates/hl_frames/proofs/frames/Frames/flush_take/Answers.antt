@@ -9,6 +9,7 @@ use Rattle.hl_frames.specs.Kept.{pages_of, AreStored}
 use Rattle.hl_frames.proofs.PageLaws.{within, IsFrames-flush_begun, next_to_flush-found, unflushed-lies}
 use Rattle.hl_frames.proofs.MarkLaws.{next-unflushed}
 use Rattle.hl_frames.proofs.KeptLaws.{row-changed, still-placed, stored-begun, found-least, number_fits}
+use Rattle.hl_frames.proofs.CounterLaws.{counts-begun}
 use Rattle.hl_frames.proofs.frames.Frames.flush_take.Goals as goal
 
 -- the page is found
@@ -88,6 +89,7 @@ invariant_of-self c =
     record {
       pages = rw (row here) (known here);
       stored = rw (row here) (stored-begun T a.run.page page next.page a.to_clean.page kept.pages first (lies here) between waits);
+      counts = rw (row here) (counts-begun T page a.flushed a.freed kept.pages kept.counts);
       run_placed = still-placed a.run a.held.items _ kept.run_placed (length-set _ _ _);
       to_flush_placed = rw c.deref.ensures.value at walk.placed;
       to_clean_placed = still-placed a.to_clean a.held.items _ kept.to_clean_placed (length-set _ _ _);
