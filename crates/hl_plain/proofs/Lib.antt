@@ -4,6 +4,7 @@ pub mod FoldLaws
 pub mod FrameLaws
 pub mod HistoryLaws
 pub mod LeastLaws
+pub mod NearLaws
 pub mod PresentLaws
 pub mod RunLaws
 pub mod StateLaws

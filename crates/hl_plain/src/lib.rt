@@ -8,9 +8,12 @@
 //!
 //! A base of its own, and the steps accepted since, oldest first. [`Plain::open`] takes the base of no steps,
 //! and then these are all steps; [`Plain::from_base`] takes whatever base it is given, and the steps that led
-//! there need not be kept. Beside them are only the marks of pages: which went out to be flushed or cleaned
-//! since, and which came back. They say what the steps say, so that a page that is out needn't be found anew
-//! from all that came before.
+//! there need not be kept.
+//!
+//! Beside them is a second base, the near one (`near`): that after all of these steps but the last few. Fewer
+//! than 16 lie behind it. With it are marks of pages: which the steps behind it took to flush or clean,
+//! and which they brought back. They say what these steps say, so that a page that is out needn't be found
+//! anew.
 //!
 //! A base holds no words, so an allocator that goes on from one answers a read with `Readable`. One that was
 //! opened answers it with the word.
@@ -20,19 +23,31 @@
 //!
 //! # How it answers
 //!
+//! The base after some steps, and then after more, is the base after all of them. So each answer is computed
+//! from the near base and the steps behind it, and is that from the first base and all steps: this is proved by
+//! the law of hl_laws that a list may be cut anywhere.
+//!
 //! Each quantity is looked up in the steps by a function of its own, in a file for its subject: a count
 //! (`epochs`), the last step of a kind (`epochs`, `views`, `words`), the greatest address (`offsets`,
 //! `settled`), the first so many of what was stored (`actions`), the longest run (`flushed`). Where a step
-//! before the base would be looked for, the base tells it. No quantity is renewed from step to step.
+//! before the base would be looked for, the base tells it. No quantity is renewed from step to step: when 16
+//! steps lie behind the near base, the quantities after them are computed once (`gathered`), as the next one.
 //!
 //! `present` has them all by name, as the base after the steps. `faults` and `replies` say by it alone what a
-//! step meets and what it is answered. After n steps a step looks at about n² of them at most.
+//! step meets and what it is answered.
+//!
+//! # What it costs
+//!
+//! To find a quantity, a step looks at the at most 16 steps behind the near base, however many were accepted
+//! before it. It may do so for each slot, where the safe epoch is wanted, and for each page below the tail,
+//! where the flushed pages are counted or the next page to take is looked for. Each sixteenth step does so for
+//! each slot and each frame. Only the word of a read is looked for in all steps.
 //!
 //! # Memory
 //!
-//! [`Plain::open`] and [`Plain::from_base`] take room for a base and for as many steps as there are frames,
-//! F; a step behind the first F may take memory for itself, and is refused as `OutOfMemory` where there is
-//! none. No query takes memory.
+//! [`Plain::open`] and [`Plain::from_base`] take room for three bases (the third is where the next near one is
+//! put) and the marks, and for as many steps as there are frames, F; a step behind the first F may take memory
+//! for itself, and is refused as `OutOfMemory` where there is none. No query takes memory.
 #![tactic(auto)]
 
 mod actions;
@@ -40,7 +55,9 @@ mod epochs;
 mod faults;
 mod flushed;
 mod frames;
+mod gathered;
 mod lists;
+mod near;
 mod offsets;
 mod pages;
 mod plain;

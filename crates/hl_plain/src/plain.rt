@@ -1,4 +1,4 @@
-ghost use Rattle.std.specs.Prelude.{◌≡◌, ◌∷◌, [], ◌++◌, ◌<◌, ◌≤◌, None, true, false, Err, List, IfOk, IfErr, OnOk, OnErr, map, option_map, length, take, ℕ, vec_len};
+ghost use Rattle.std.specs.Prelude.{◌≡◌, [], ◌++◌, ◌<◌, ◌≤◌, None, true, false, Err, List, IfOk, IfErr, OnOk, OnErr, option_map, length, vec_len};
 ghost use Rattle.std.specs.Vec.{vec_capacity};
 ghost use Rattle.hl_model.specs.declared.step.Step.{Step};
 ghost use Rattle.hl_model.specs.Actions.{pending};
@@ -6,17 +6,15 @@ ghost use Rattle.hl_model.specs.Frames.{frame_of};
 ghost use Rattle.hl_model.specs.Sizes.{AreNarrow};
 ghost use Rattle.hl_model.specs.Snapshots.{snapshot_of};
 ghost use Rattle.hl_model.specs.Views.{slot_view};
-ghost use Rattle.hl_model.specs.Bases.{IsBase, base_of, slot_in};
-ghost use Rattle.hl_model.specs.AfterReplies.{base_after, fault_after, answer_at};
-ghost use Rattle.hl_plain.specs.Histories.{History, begun, Follows, IsHistory, IsRefusal, worded, answer_told, told, Answers, AnswersBehind};
-ghost use Rattle.hl_plain.specs.Kept.{AreKept};
+ghost use Rattle.hl_model.specs.Bases.{base_of, slot_in};
+ghost use Rattle.hl_model.specs.AfterReplies.{base_after};
+ghost use Rattle.hl_plain.specs.Histories.{History, begun, Follows, IsHistory, IsRefusal, worded, told, Answers, AnswersBehind};
 ghost use Rattle.hl_plain.specs.Shown.{frame_at, snapshot_at};
-ghost use Rattle.hl_plain.specs.Works.{as_mark, marks_in};
 
-use crate::pages::{Mark, Work};
+use crate::near::Near;
 use crate::present::Present;
 use crate::words::word;
-use crate::{faults, replies, snapshots};
+use crate::{faults, snapshots};
 use arrayvec::ArrayVec;
 use hl_laws::Base;
 use hl_model::{Fault, FrameState, Params, Reply, Snapshot, Step, View, Waiting, with_room};
@@ -26,14 +24,15 @@ use std::marker::Model;
 /// An allocator in the slow form: a base and the accepted steps since, from which each answer is computed by
 /// the definitions.
 ///
-/// A contract sees the base, those steps, and whether it has words.
+/// A contract sees the base, those steps, and whether it has words. The base after all but the last of these
+/// steps is kept beside them, so that a step looks at few steps of them; a read's word alone is looked for in
+/// all.
 #[derive(Drop)]
 pub struct Plain {
     base: Base,
     steps: Vec<Step>,
-    // Which pages the steps took to flush and brought back, and the same of cleaning.
-    flushes: Vec<Mark>,
-    cleans: Vec<Mark>,
+    // A base near the last of the steps, which is that after those before it.
+    near: Near,
     has_words: bool,
 }
 
@@ -94,13 +93,11 @@ impl Plain {
         ensures err { IfErr result (λ fault. fault ≡ Fault.OutOfMemory) }
     {
         let steps = with_room(alloc, room)?;
-        let flushes = with_room(alloc, room)?;
-        let cleans = with_room(alloc, room)?;
+        let near = Near::at(alloc, &base)?;
         Ok(Plain {
             base,
             steps,
-            flushes,
-            cleans,
+            near,
             has_words,
         })
     }
@@ -120,7 +117,7 @@ impl Plain {
         self.make(step)
     }
 
-    // Makes a step by the definitions from the base.
+    // Makes a step by the definitions from the base, told by the near one.
     fn make(&mut self, step: &Step) -> Result<Reply, Fault>
         ensures answer { Answers self.old step.now result self.new }
         ensures room { length self.old.steps < self.old.base.sizes.frames → result ≡ told self.old step.now }
@@ -130,16 +127,11 @@ impl Plain {
             return Err(fault);
         }
         reserve(&mut self.steps)?;
-        reserve(&mut self.flushes)?;
-        reserve(&mut self.cleans)?;
-        Ok(accept(
-            &self.base,
-            self.has_words,
-            &mut self.steps,
-            &mut self.flushes,
-            &mut self.cleans,
-            step,
-        ))
+        let before = self.steps.len();
+        let reply = self.near.accept(&mut self.steps, step);
+        let reply = worded(self.has_words, &self.steps[..before], step, reply);
+        self.near.keep_near(&self.steps);
+        Ok(reply)
     }
 
     /// The view of slot t: None where there is no such slot, or it isn't protected.
@@ -199,7 +191,7 @@ impl Plain {
     fn present(&self) -> Present<'_>
         ensures { result ≡ base_after self.now.base self.now.steps }
     {
-        Present::after(&self.base, &self.steps, &self.flushes, &self.cleans)
+        self.near.present(&self.steps)
     }
 }
 
@@ -212,72 +204,6 @@ fn reserve<T>(row: &mut Vec<T>) -> Result<(), Fault>
     ensures err { IfErr result (λ fault. fault ≡ Fault.OutOfMemory) }
 {
     row.try_reserve(1).map_err(|_| Fault::OutOfMemory)
-}
-
-// Puts an accepted step behind the steps, and its marks behind theirs. The rows have room. The answer is the
-// step's.
-fn accept(
-    base: &Base,
-    has_words: bool,
-    steps: &mut Vec<Step>,
-    flushes: &mut Vec<Mark>,
-    cleans: &mut Vec<Mark>,
-    step: &Step,
-) -> Reply
-    requires kept { let history : History = record {
-      base = base.now;
-      steps = steps.old.items;
-      has_words = has_words;
-    }
-        in AreKept history flushes.old.items cleans.old.items }
-    requires accepted { fault_after base.now steps.old.items step.now ≡ None }
-    requires steps_room { vec_len steps.old < vec_capacity steps.old }
-    requires flushes_room { vec_len flushes.old < vec_capacity flushes.old }
-    requires cleans_room { vec_len cleans.old < vec_capacity cleans.old }
-    ensures reply { let history : History = record {
-      base = base.now;
-      steps = steps.old.items;
-      has_words = has_words;
-    }
-        in result ≡ answer_told history step.now }
-    ensures steps { steps.new.items ≡ steps.old.items ++ step.now ∷ [] }
-    ensures kept { let history : History = record {
-      base = base.now;
-      steps = steps.new.items;
-      has_words = has_words;
-    }
-        in AreKept history flushes.new.items cleans.new.items }
-    ensures steps_room { vec_capacity steps.new ≡ vec_capacity steps.old }
-    ensures flushes_room { vec_capacity flushes.new ≡ vec_capacity flushes.old }
-    ensures cleans_room { vec_capacity cleans.new ≡ vec_capacity cleans.old }
-{
-    let flush = Work::Flushing.mark_of(base, steps, flushes, step);
-    let clean = Work::Cleaning.mark_of(base, steps, cleans, step);
-    let (count, flushed, cleaned) = (steps.len(), flushes.len(), cleans.len());
-    steps.push_reserved(*step);
-    push(flushes, flush);
-    push(cleans, clean);
-    let listed = &steps[..count];
-    let before = Present::after(base, listed, &flushes[..flushed], &cleans[..cleaned]);
-    let after = Present::after(base, steps, flushes, cleans);
-    worded(
-        has_words,
-        listed,
-        step,
-        replies::answer_at(&before, &after, step),
-    )
-}
-
-// Puts a mark, if there is one, behind a row that has room for it.
-fn push(row: &mut Vec<Mark>, mark: Option<Mark>)
-    requires { vec_len row.old < vec_capacity row.old }
-    ensures marks { map as_mark row.new.items ≡ map as_mark row.old.items ++ marks_in mark }
-    ensures items { (taken : ℕ) → taken ≡ length row.old.items → take taken row.new.items ≡ row.old.items }
-    ensures room { vec_capacity row.new ≡ vec_capacity row.old }
-{
-    if let Some(mark) = mark {
-        row.push_reserved(mark);
-    }
 }
 
 // An answer, a read's with the word where there are words.

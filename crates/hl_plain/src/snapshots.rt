@@ -30,8 +30,8 @@ fn protected(present: &Present) -> u64
     count
 }
 
-// The six offsets.
-fn six(present: &Present) -> Six
+/// The six offsets.
+pub fn six(present: &Present) -> Six
     ensures { result ≡ present.now.six }
 {
     Six {

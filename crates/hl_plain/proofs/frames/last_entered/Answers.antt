@@ -1,25 +1,25 @@
-use Rattle.std.proofs.Common.{arith, ◌≡◌, ap, ap₂, sym, ◌∙◌, ◌/◌, ◌+◌}
-use Rattle.hl_model.specs.Lists.{greatest_below}
+use Rattle.std.proofs.Common.{◌≡◌, ◌-◌, ◌/◌, ◌%◌, ap, ap₂, ◌∙◌, arith}
 use Rattle.hl_model.specs.AfterOffsets.{tail_after}
-use Rattle.std.proofs.lemmas.Bool.Decides.{nat_tests}
-use Rattle.hl_model.specs.AfterPages.{last_entered_after}
-use Rattle.hl_model.proofs.SearchLaws.{greatest_below-next, greatest_below-zero}
-use Rattle.hl_plain.proofs.FrameLaws.{is_entered_in}
+use Rattle.hl_plain.proofs.FrameLaws.{entered-last, entered-empty, entered-few}
 use Rattle.hl_plain.proofs.frames.last_entered.Goals as goal
 
-pub loop-p-init : goal.loop-p-init
-loop-p-init c = record { page = sym (greatest_below-zero (is_entered_in c.args.base.now c.args.f c.args.steps.now)); within = tt }
+pub returns-in_err-last-clause-page : goal.returns-in_err-last-clause-page
+returns-in_err-last-clause-page c =
+    c.from_residual.ensures ∙ entered-empty c.args.base.now c.args.f c.args.steps.now (omega (arith, c.in_err-last.ensures, c.tail.ensures))
 
-pub loop-p-preserved : goal.loop-p-preserved
-loop-p-preserved c =
-    let page_size : c.page_size-page_size.result ≡ c.args.base.now.sizes.page_size = c.page_size-page_size.ensures.value ∙ ap (λ s. s.page_size) c.params.ensures in
-    let e = greatest_below-next (is_entered_in c.args.base.now c.args.f c.args.steps.now) c.loop-p.p in
-    grind (arith, nat_tests)
+pub returns-in_err-back-clause-page : goal.returns-in_err-back-clause-page
+returns-in_err-back-clause-page c =
+    let b = c.args.base.now in
+    let page_size : c.page_size.result ≡ b.sizes.page_size = c.page_size.ensures.value ∙ ap (λ s. s.page_size) c.params-params.ensures in
+    let last : c.in_ok-last.field-0 / c.page_size.result ≡ (tail_after b c.args.steps.now - 1) / b.sizes.page_size = ap₂ (λ x y. x / y) (omega (arith, c.in_ok-last.ensures, c.tail.ensures)) page_size in
+    c.from_residual-in_err-back.ensures ∙ entered-few b c.args.f c.args.steps.now c.requires.tail.page_size_least (omega (arith, last, c.in_err-back.ensures))
 
 pub returns-clause-page : goal.returns-clause-page
-unfolding last_entered_after
 returns-clause-page c =
     let b = c.args.base.now in
-    let page_size : c.page_size-page_size.result ≡ b.sizes.page_size = c.page_size-page_size.ensures.value ∙ ap (λ s. s.page_size) c.params.ensures in
-    let all : c.loop-p.p ≡ tail_after b c.args.steps.now / b.sizes.page_size + 1 = omega (arith, ap₂ (λ a b. a / b) c.tail-end.ensures page_size) in
-    c.loop-p.invariant.page ∙ ap (greatest_below (is_entered_in b c.args.f c.args.steps.now)) all
+    let page_size : c.page_size.result ≡ b.sizes.page_size = c.page_size.ensures.value ∙ ap (λ s. s.page_size) c.params-params.ensures in
+    let frames : c.frames.result ≡ b.sizes.frames = c.frames.ensures.value ∙ ap (λ s. s.frames) c.params-params.ensures in
+    let last : c.in_ok-last.field-0 / c.page_size.result ≡ (tail_after b c.args.steps.now - 1) / b.sizes.page_size = ap₂ (λ x y. x / y) (omega (arith, c.in_ok-last.ensures, c.tail.ensures)) page_size in
+    let back : c.in_ok-back.field-0 % c.frames.result ≡ (c.in_ok-last.field-0 / c.page_size.result - c.args.f) % b.sizes.frames = ap₂ (λ x y. x % y) (omega (arith, c.in_ok-back.ensures)) frames in
+    entered-last b c.args.f c.args.steps.now (c.in_ok-last.field-0 / c.page_size.result) _ c.requires.tail.page_size_least c.requires.frame (omega (arith, c.in_ok-last.ensures, c.tail.ensures)) last (omega (arith, c.in_ok-back.ensures))
+    (ap (λ x. c.in_ok-last.field-0 / c.page_size.result - x) back)

@@ -1,8 +1,13 @@
-use Rattle.hl_plain.specs.Kept.{history_of}
-use Rattle.hl_plain.proofs.HistoryLaws.{present}
+use Rattle.std.proofs.Common.{◌∙◌, ap}
+use Rattle.hl_plain.specs.Histories.{History}
+use Rattle.hl_plain.specs.Kept.{history_of, present_by}
+use Rattle.hl_model.specs.AfterReplies.{base_after}
+use Rattle.hl_plain.proofs.NearLaws.{present_by_is}
 use Rattle.hl_plain.proofs.plain.Plain.present.Goals as goal
 
-pub after-requires : goal.after-requires
-after-requires c =
-    rw (c.deref.ensures.value, c.deref-2.ensures.value, c.deref-3.ensures.value)
-    (present (history_of c.self.inside) c.self.inside.flushes.items c.self.inside.cleans.items c.self.invariant.kept)
+pub returns : goal.returns
+returns c =
+    let near = c.self.inside.near in
+    c.present.ensures ∙ ap (present_by near) c.deref.ensures.value
+    ∙ present_by_is (history_of c.self.inside) near c.self.invariant.history c.self.invariant.at
+    ∙ ap (λ (h : History). base_after h.base h.steps) c.self.view_is
