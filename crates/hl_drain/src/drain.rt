@@ -13,7 +13,7 @@ use std::marker::Model;
 #[derive(Drop)]
 pub struct Drain<J> {
     limit: usize,
-    // Both rows have `limit` places from the start, and keep them.
+    // The first has `limit` places from the start, the second twice as many; both keep them.
     pending: Pending<J>,
     taken: Taken,
     last_take: Visits,

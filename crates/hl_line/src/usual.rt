@@ -5,9 +5,10 @@ ghost use Rattle.hl_line.specs.Lines.{Fits, StepFits, spelling, step_spelling};
 use crate::line::Line;
 use hl_model::Step;
 
-/// The line at the front of these bytes, and what stands behind its LF, if the line is found at first sight: it is an
-/// `alloc`, `write`, `read`, `refresh`, `look`, `take`, `done`, `flush` or `clean`, and its numbers are below 10^18. None
-/// says nothing: [`read_line`](crate::read_line) reads any line.
+/// The line at the front of these bytes, and what stands behind its LF, if the line is found at first sight: an `alloc`,
+/// `write`, `read`, `refresh`, `look`, `take`, `done`, `flush take`, `flush done` that is `ok`, `clean take` or
+/// `clean done` whose numbers are below 10^18. None says nothing, and no clause says when there is a line: it is for speed
+/// alone, and [`read_line`](crate::read_line) reads any line.
 #[inline(always)]
 pub fn read_front(bytes: &[u8]) -> Option<(Line, &[u8])>
     ensures { IfSome result (λ found. Fits found.0 × (spelling found.0 ++ (10 ∷ found.1.now) ≡ bytes.now)) }
