@@ -16,6 +16,11 @@ use Rattle.hl_line.specs.Lines.{spaced, worded, ending, step_spelling, spelling,
 pub decimal_short : (n : ℕ) → n < 2 ^ 64 → length (decimal n) ≤ 20
 decimal_short n h = length-decimal-le 20 n (lit< tt) (omega arith) h
 
+-- a word without numbers is the word
+pub worded_alone : (word : List ℕ) → worded word [] ≡ word
+unfolding worded
+worded_alone word = append-nil word
+
 -- a word alone
 pub word_length : (word : List ℕ) → length (worded word []) ≡ length word
 unfolding worded

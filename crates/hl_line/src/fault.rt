@@ -7,7 +7,7 @@ use arrayvec::ArrayString;
 use hl_model::Fault;
 
 /// The name of a fault, as its line shows it.
-fn name(fault: Fault) -> &'static str
+pub(crate) fn name(fault: Fault) -> &'static str
     ensures value { result.now ≡ name_of fault }
     ensures short { length result.now ≤ 12 }
 {

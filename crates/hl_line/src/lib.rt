@@ -35,9 +35,11 @@
 //! [`read_front`] reads the lines that scripts have most of faster, from the front of what follows.
 //!
 //! [`print_reply`] and [`print_fault`] give the line that answers an accepted step and a refused one;
-//! [`append_reply`] and [`append_fault`] put it on a row of the caller's.
+//! [`append_reply`] and [`append_fault`] put it on a row of the caller's, and an [`AnswerLine`] makes it with its LF from its
+//! end on, which is faster.
 #![tactic(auto)]
 
+mod answer;
 mod fault;
 pub mod laws;
 mod line;
@@ -49,6 +51,7 @@ mod text;
 mod usual;
 mod word;
 
+pub use answer::AnswerLine;
 pub use fault::{append_fault, print_fault};
 pub use line::Line;
 pub use print::print_line;

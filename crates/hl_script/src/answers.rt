@@ -7,7 +7,7 @@ ghost use Rattle.hl_script.specs.Text.{bad_text};
 
 use arrayvec::ArrayString;
 use hl_image::put;
-use hl_line::{append_fault, append_reply};
+use hl_line::AnswerLine;
 use hl_model::{Fault, FrameState, Kind, Reply, Snapshot, Waiting};
 use itoa::Buffer;
 use std::io::Write;
@@ -69,13 +69,13 @@ pub fn print_bad_line(n: u64) -> ArrayString<64>
     text
 }
 
-/// Writes an answer to a step, or the fault, with an LF. The row is for its text, whatever was in it: a new one for each
-/// line would be cleared for each.
+/// Writes an answer to a step, or the fault, with an LF. The line is made anew, whatever it was: one of its own for each
+/// answer would be cleared for each.
 ///
 /// Fault: `Stream` as for a text.
 pub(crate) fn put_result<W: Write>(
     out: &mut W,
-    text: &mut ArrayString<160>,
+    line: &mut AnswerLine,
     given: &Result<Reply, Fault>,
 ) -> Result<(), Fault>
     ensures ok { OnOk result (Appends (W.contents out.old) (W.contents out.new)
@@ -84,13 +84,11 @@ pub(crate) fn put_result<W: Write>(
     ensures left { OnErr result (BreaksOff (W.contents out.old) (W.contents out.new)
         (result_text given.now ++ 10 ∷ [])) }
 {
-    text.clear();
     match given {
-        Ok(reply) => append_reply(text, reply),
-        Err(fault) => append_fault(text, fault),
+        Ok(reply) => line.set_reply(reply),
+        Err(fault) => line.set_fault(fault),
     }
-    text.push_str("\n");
-    put(out, text.as_str().as_bytes())
+    put(out, line.as_bytes())
 }
 
 /// Appends a space, an action's ticket, and what it does.

@@ -8,18 +8,18 @@ ghost use Rattle.hl_script.specs.Stepping.{IsStanding, StepAnswers, QueryAnswers
 use crate::answers::{add_frame, print_pending, print_quantities, put_line, put_result};
 use crate::stepping::Stepping;
 use arrayvec::ArrayString;
+use hl_line::AnswerLine;
 use hl_model::{Fault, Step};
 use std::io::Write;
 
-/// Makes a step and writes its answer, with an LF, whose text is made in the row. The answer tells whether the step was
-/// accepted.
+/// Makes a step and writes the line that answers it. The answer tells whether the step was accepted.
 ///
 /// `OutOfMemory` where memory was refused; nothing was written. `Stream` where a write failed or took no byte; the
 /// first bytes of the answer were written.
 pub(crate) fn answer_step<S: Stepping, W: Write>(
     stepping: &mut S,
     step: &Step,
-    text: &mut ArrayString<160>,
+    line: &mut AnswerLine,
     out: &mut W,
 ) -> Result<bool, Fault>
     requires { IsStanding (S.stands stepping.old) }
@@ -30,7 +30,7 @@ pub(crate) fn answer_step<S: Stepping, W: Write>(
     let Some(result) = stepping.step(step) else {
         return Err(Fault::OutOfMemory);
     };
-    put_result(out, text, &result)?;
+    put_result(out, line, &result)?;
     Ok(result.is_ok())
 }
 

@@ -12,8 +12,7 @@ use crate::lines::{answer_frames, answer_pending, answer_status, answer_step};
 use crate::machine::Machine;
 use crate::reads::Reads;
 use crate::stepping::{Opening, Stepping};
-use arrayvec::ArrayString;
-use hl_line::Line;
+use hl_line::{AnswerLine, Line};
 use hl_model::{Fault, Params};
 use std::io::{Read, Write};
 
@@ -24,8 +23,8 @@ pub(crate) struct Script<O, S> {
     pub(crate) opening: Option<O>,
     /// None before the config.
     pub(crate) opened: Option<S>,
-    // A row for the text of an answer.
-    text: ArrayString<160>,
+    // What the answer to a step is made in.
+    line: AnswerLine,
 }
 
 impl<O: Opening<S> + Drop, S: Stepping + Drop> Machine for Script<O, S> {
@@ -37,7 +36,7 @@ impl<O: Opening<S> + Drop, S: Stepping + Drop> Machine for Script<O, S> {
         match *line {
             Line::Config(sizes) => self.answer_config(sizes, out),
             Line::Step(step) => match &mut self.opened {
-                Some(opened) => answer_step(opened, &step, &mut self.text, out),
+                Some(opened) => answer_step(opened, &step, &mut self.line, out),
                 None => unreachable!(),
             },
             Line::Status => match &self.opened {
@@ -102,7 +101,7 @@ pub(crate) fn run_script<O: Opening<S> + Drop, S: Stepping + Drop, R: Read, W: W
     let mut script = Script {
         opening: Some(opening),
         opened: None,
-        text: ArrayString::new(),
+        line: AnswerLine::new(),
     };
     let count = run(&mut script, &mut Reads::up_to(reads), reader, out)?;
     Ok(script.opened.zip(count))
