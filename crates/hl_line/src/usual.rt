@@ -1,20 +1,24 @@
 //! The lines that scripts have most of, read in one pass from the front of what is to be read.
-ghost use Rattle.std.specs.Prelude.{◌≡◌, ◌+◌, ◌<◌, ◌≤◌, ◌^◌, ◌++◌, ◌∷◌, length, take, slice_index_or, decimal, IfSome};
+ghost use Rattle.std.specs.Prelude.{[], ◌≡◌, ◌+◌, ◌<◌, ◌≤◌, ◌^◌, ◌++◌, ◌∷◌, length, take, slice_index_or, decimal, IfSome};
 ghost use Rattle.hl_line.specs.Lines.{Fits, StepFits, spelling, step_spelling};
 
 use crate::line::Line;
 use hl_model::Step;
 
-/// The line at the front of these bytes, and what stands behind its LF, if the line is found at first sight: an `alloc`,
-/// `write`, `read`, `refresh`, `look`, `take`, `done`, `flush take`, `flush done` that is `ok`, `clean take` or
-/// `clean done` whose numbers are below 10^18. None says nothing, and no clause says when there is a line: it is for speed
-/// alone, and [`read_line`](crate::read_line) reads any line.
-#[inline(always)]
-pub fn read_front(bytes: &[u8]) -> Option<(Line, &[u8])>
-    ensures { IfSome result (λ found. Fits found.0 × (spelling found.0 ++ (10 ∷ found.1.now) ≡ bytes.now)) }
+/// Reads the line at the front of these bytes, if it is found at first sight: an `alloc`, `write`, `read`, `refresh`,
+/// `look`, `take`, `done`, `flush take`, `flush done` that is `ok`, `clean take` or `clean done` whose numbers are below
+/// 10^18. The answer is how many bytes it has with its LF. None says nothing, and no clause says when there is a line: it
+/// is for speed alone, and [`read_line`](crate::read_line) reads any line.
+///
+/// It leaves the line in its caller's row: where a line goes in an answer, each way out that has none must clear that.
+#[inline(never)]
+pub fn read_front(bytes: &[u8], line: &mut Line) -> Option<usize>
+    ensures most { IfSome result (λ n. (0 < n) × (n ≤ length bytes.now)) }
+    ensures line { IfSome result (λ n. Fits line.new × (spelling line.new ++ 10 ∷ [] ≡ take n bytes.now)) }
 {
     let (step, rest) = usual_step(bytes)?;
-    Some((Line::Step(step), rest))
+    *line = Line::Step(step);
+    Some(bytes.len() - rest.len())
 }
 
 // The step whose line stands at the front.

@@ -1,8 +1,7 @@
 -- What the parts of a run make of where it stands.
-use Rattle.std.proofs.Common.{◌≡◌, ◌≢◌, ◌<◌, ◌≤◌, ◌⊎◌, inl, inr, ℕ, ◌+◌, ◌-◌, ◌*◌, Bool, true, false, cond, eqb, ne_eqb, get_or, List, [], ◌∷◌, ◌++◌, length, take, drop, refl, sym, ap, ◌∙◌, subst, append_assoc, append-nil, arith, length-append, length-take}
+use Rattle.std.proofs.Common.{◌≡◌, ◌≢◌, ◌<◌, ◌≤◌, ◌⊎◌, inl, inr, ℕ, ◌+◌, ◌*◌, Bool, true, false, cond, eqb, ne_eqb, get_or, List, [], ◌∷◌, ◌++◌, length, take, drop, refl, sym, ap, ◌∙◌, subst, append_assoc, append-nil, arith, length-append, length-take}
 use Rattle.std.specs.Prelude.{Option, Some, None, Result, Ok, Err}
 use Rattle.std.specs.Io.KnownBytes.{Appends, Consumes, Keeps, IsAtEnd}
-use Rattle.std.proofs.Math.Seq.{take-append_seam}
 use Rattle.std.proofs.lemmas.Bool.{eqb-true, false≢true}
 use Rattle.std.specs.List.{list_any}
 use Rattle.std.proofs.lemmas.List.Folds.{list_any_none}
@@ -45,7 +44,7 @@ text_front has bytes lines others e =
     (front.0 ++ bad_text (bad_line bytes), ap (λ z. answers has z ++ bad_text (bad_line bytes)) e ∙ ap (λ z. z ++ bad_text (bad_line bytes)) front.1 ∙ append_assoc (answers has lines) front.0 (bad_text (bad_line bytes)))
 
 -- a line that was allowed may stand there
-pub allowed_stands : (before : List Line) (found : Option Line) (line : Line) → allowed before found ≡ Some line → may_stand before line ≡ true
+allowed_stands : (before : List Line) (found : Option Line) (line : Line) → allowed before found ≡ Some line → may_stand before line ≡ true
 allowed_stands before None line h = cc
 allowed_stands before (Some other) line h = by_test (may_stand before other) refl h
   where
@@ -165,12 +164,6 @@ pub fed_whole : (old stands : (ℕ → Bool) → List Line → Type 0) (lacks : 
 fed_whole old stands lacks has done before raw from mid to p q result at none no_end j =
     subst (λ z. Fed stands lacks has z from to q result) (append_assoc done raw (10 ∷ []))
     (fed_line stands lacks has (done ++ raw) before raw from to q result (reached_bytes done before p.line.items raw at.stood.reached none no_end) j)
-
--- so many bytes are what stands in front of the rest
-pub front_is : (front rest bytes : List ℕ) → front ++ rest ≡ bytes → take (length bytes - length rest) bytes ≡ front
-front_is front rest bytes e =
-    let count : length (front ++ rest) - length rest ≡ length front = omega (arith, length-append front rest) in
-    ap (λ z. take (length z - length rest) z) (sym e) ∙ (ap (λ n. take n (front ++ rest)) count ∙ take-append_seam front rest)
 
 -- no LF stands in the spelling of a line
 pub spelling-no_end : (line : Line) → Fits line → list_any is_end (spelling line) ≡ false

@@ -107,10 +107,6 @@ pub record IsUnderWay (stands : (ℕ → Bool) → List Line → Type 0) (to : O
   pub from : Option (List ℕ)
   pub here : At stands has done before from to progress
 
--- behind so many lines, what may stand there of the line that these bytes spell
-abbrev pub IsReadOf : ℕ → List ℕ → Option Line → Type 0
-IsReadOf lines raw found = (before : List Line) → lines ≡ length before → found ≡ allowed before (line_of raw)
-
 -- a whole line was answered, and the next begins
 pub record JudgedGood (stands : (ℕ → Bool) → List Line → Type 0) (has : ℕ → Bool) (before : List Line)
     (bytes : List ℕ) (from to : Option (List ℕ)) (progress : Progress) : Type 0 where

@@ -1,15 +1,16 @@
-ghost use Rattle.std.specs.Prelude.{◌≡◌, ℕ, ◌+◌, ◌^◌, ◌<◌, ◌≤◌, Bool, false, Option, List, [], ◌∷◌, ◌++◌, length, take, slice_index_or, IfSome, IfOk};
+ghost use Rattle.std.specs.Prelude.{◌≡◌, ℕ, ◌+◌, ◌^◌, ◌<◌, ◌≤◌, Bool, false, Option, Some, List, [], ◌∷◌, ◌++◌, length, take, slice_index_or, IfSome, IfOk};
 ghost use Rattle.std.specs.List.{list_any};
 ghost use Rattle.hl_line.specs.declared.line.Line.{Line as LINE};
 ghost use Rattle.hl_line.specs.Lines.{Fits, spelling};
-ghost use Rattle.hl_script.specs.Interpreter.{is_end, Refuses, At, IsUnderWay, IsReadOf, Judged, Fed, WentOn, Ended, Ran};
+ghost use Rattle.hl_line.specs.Reading.{line_of};
+ghost use Rattle.hl_script.specs.Interpreter.{is_end, Refuses, At, IsUnderWay, Judged, Fed, WentOn, Ended, Ran};
 
 use crate::answers::print_bad_line;
 use crate::machine::Machine;
 use crate::progress::Progress;
 use crate::reads::Reads;
 use hl_image::put;
-use hl_line::{Line, read_front};
+use hl_line::{Line, read_front, read_line};
 use hl_model::Fault;
 use std::io::{Read, Write};
 
@@ -29,34 +30,59 @@ fn refuse<W: Write>(n: u64, out: &mut W) -> Fault
     }
 }
 
-/// Has the machine answer a line, which has ended here, and begins the next. The line is that of some bytes, if it may
-/// stand behind the lines so far.
+/// Has the machine answer a line, which has ended here, and begins the next. The line is that of some bytes.
 fn judge<M: Machine, W: Write>(
     machine: &mut M,
     progress: &mut Progress,
-    line: Option<Line>,
+    line: &Line,
     out: &mut W,
 ) -> Result<(), Fault>
     requires standing { IsUnderWay (M.stands machine.old) (W.contents out.old) progress.old }
-    requires read { (raw : List ℕ) × IsReadOf progress.old.lines raw line }
-    requires fits { IfSome line Fits }
+    requires read { (raw : List ℕ) × (line_of raw ≡ Some line.now) }
+    requires fits { Fits line.now }
     requires lines { progress.old.lines < 2 ^ 63 }
     requires steps { progress.old.steps < 2 ^ 63 }
-    ensures judged { (raw : List ℕ) → IsReadOf progress.old.lines raw line
+    ensures judged { (raw : List ℕ) → line_of raw ≡ Some line.now
         → (has : ℕ → Bool) (done : List ℕ) (before : List LINE) (from : Option (List ℕ))
         → At (M.stands machine.old) has done before from (W.contents out.old) progress.old
         → Judged (M.stands machine.new) M.lacks has before raw from (W.contents out.new) progress.new result }
     ensures lines { progress.new.lines ≤ progress.old.lines + 1 }
     ensures steps { progress.new.steps ≤ progress.old.steps + 1 }
 {
-    let Some(line) = line else {
+    if !progress.allows(line) {
         return Err(refuse(progress.lines + 1, out));
-    };
-    let accepted = machine.answer(&line, out)?;
+    }
+    let accepted = machine.answer(line, out)?;
     progress.lines += 1;
     progress.steps += u64::from(accepted);
     progress.line.clear();
     Ok(())
+}
+
+/// The same for what was read of some bytes, which may be no line.
+#[inline(never)]
+fn judge_found<M: Machine, W: Write>(
+    machine: &mut M,
+    progress: &mut Progress,
+    found: Option<Line>,
+    out: &mut W,
+) -> Result<(), Fault>
+    requires standing { IsUnderWay (M.stands machine.old) (W.contents out.old) progress.old }
+    requires read { (raw : List ℕ) × (line_of raw ≡ found) }
+    requires fits { IfSome found Fits }
+    requires lines { progress.old.lines < 2 ^ 63 }
+    requires steps { progress.old.steps < 2 ^ 63 }
+    ensures judged { (raw : List ℕ) → line_of raw ≡ found
+        → (has : ℕ → Bool) (done : List ℕ) (before : List LINE) (from : Option (List ℕ))
+        → At (M.stands machine.old) has done before from (W.contents out.old) progress.old
+        → Judged (M.stands machine.new) M.lacks has before raw from (W.contents out.new) progress.new result }
+    ensures lines { progress.new.lines ≤ progress.old.lines + 1 }
+    ensures steps { progress.new.steps ≤ progress.old.steps + 1 }
+{
+    match found {
+        Some(line) => judge(machine, progress, &line, out),
+        None => Err(refuse(progress.lines + 1, out)),
+    }
 }
 
 /// Goes on by one byte. A line is judged at its LF, and refused at its 81st byte.
@@ -78,8 +104,8 @@ fn take_byte<M: Machine, W: Write>(
     ensures steps { progress.new.steps ≤ progress.old.steps + 1 }
 {
     if byte == b'\n' {
-        let line = progress.ended_line();
-        return judge(machine, progress, line, out);
+        let found = read_line(progress.line.as_slice());
+        return judge_found(machine, progress, found, out);
     }
     if progress.line.is_full() {
         return Err(refuse(progress.lines + 1, out));
@@ -108,8 +134,7 @@ fn take_line<M: Machine, W: Write>(
     ensures lines { progress.new.lines ≤ progress.old.lines + 1 }
     ensures steps { progress.new.steps ≤ progress.old.steps + 1 }
 {
-    let line = progress.allowed_line(bytes);
-    judge(machine, progress, line, out)
+    judge_found(machine, progress, read_line(bytes), out)
 }
 
 /// Goes on by a line that was read, where none was begun before, and by its LF.
@@ -117,23 +142,22 @@ fn take_line<M: Machine, W: Write>(
 fn take_read<M: Machine, W: Write>(
     machine: &mut M,
     progress: &mut Progress,
-    line: Line,
+    line: &Line,
     out: &mut W,
 ) -> Result<(), Fault>
     requires standing { IsUnderWay (M.stands machine.old) (W.contents out.old) progress.old }
     requires none_begun { progress.old.line.items ≡ [] }
-    requires fits { Fits line }
+    requires fits { Fits line.now }
     requires lines { progress.old.lines < 2 ^ 63 }
     requires steps { progress.old.steps < 2 ^ 63 }
     ensures fed { (has : ℕ → Bool) (done : List ℕ) (before : List LINE) (from : Option (List ℕ))
         → At (M.stands machine.old) has done before from (W.contents out.old) progress.old
-        → Fed (M.stands machine.new) M.lacks has (done ++ (spelling line ++ 10 ∷ [])) from (W.contents out.new)
-        progress.new result }
+        → Fed (M.stands machine.new) M.lacks has (done ++ (spelling line.now ++ 10 ∷ [])) from
+        (W.contents out.new) progress.new result }
     ensures lines { progress.new.lines ≤ progress.old.lines + 1 }
     ensures steps { progress.new.steps ≤ progress.old.steps + 1 }
 {
-    let placed = progress.placed(line);
-    judge(machine, progress, placed, out)
+    judge(machine, progress, line, out)
 }
 
 /// Goes on by the next line, where it lies whole in these bytes, or else by the next byte; the answer is by how many
@@ -159,9 +183,10 @@ fn take_next<M: Machine, W: Write>(
     ensures steps { progress.new.steps ≤ progress.old.steps + 1 }
 {
     if progress.line.is_empty() {
-        if let Some((line, rest)) = read_front(bytes) {
-            take_read(machine, progress, line, out)?;
-            return Ok(bytes.len() - rest.len());
+        let mut line = Line::Status;
+        if let Some(count) = read_front(bytes, &mut line) {
+            take_read(machine, progress, &line, out)?;
+            return Ok(count);
         }
         if let Some(end) = line_end(bytes) {
             take_line(machine, progress, &bytes[..end], out)?;
@@ -228,8 +253,8 @@ fn finish<M: Machine, W: Write>(
     if progress.line.is_empty() {
         return Ok(progress.count());
     }
-    let line = progress.ended_line();
-    judge(machine, progress, line, out)?;
+    let found = read_line(progress.line.as_slice());
+    judge_found(machine, progress, found, out)?;
     Ok(progress.count())
 }
 

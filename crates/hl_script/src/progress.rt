@@ -1,13 +1,11 @@
-ghost use Rattle.std.specs.Prelude.{◌≡◌, ℕ, Bool, Some, List, [], length, IfSome};
+ghost use Rattle.std.specs.Prelude.{◌≡◌, ℕ, Bool, List, [], length};
 ghost use Rattle.hl_line.specs.declared.line.Line.{Line};
-ghost use Rattle.hl_line.specs.Lines.{Fits};
-ghost use Rattle.hl_line.specs.Reading.{line_of};
-ghost use Rattle.hl_script.specs.Interpreter.{IsReadOf};
+ghost use Rattle.hl_script.specs.Lines.{may_stand};
 ghost use Rattle.hl_script.specs.Answers.{accepted};
 ghost use Rattle.hl_script.specs.Text.{count_of};
 
 use arrayvec::ArrayVec;
-use hl_line::{Line, read_line};
+use hl_line::Line;
 
 /// What a run keeps of its input.
 #[derive(Drop)]
@@ -34,37 +32,14 @@ impl Progress {
         }
     }
 
-    /// The line that the bytes so far spell, where it may stand here: a config is the first line, and no other.
-    #[inline(never)]
-    pub(crate) fn ended_line(&self) -> Option<Line>
-        ensures allowed { IsReadOf self.now.lines self.now.line.items result }
-        ensures fits { IfSome result Fits }
-    {
-        self.allowed_line(self.line.as_slice())
-    }
-
-    /// The line that these bytes spell, where it may stand here.
+    /// Whether this line may stand here: a config is the first line, and no other.
     #[inline(always)]
-    pub(crate) fn allowed_line(&self, bytes: &[u8]) -> Option<Line>
-        ensures allowed { IsReadOf self.now.lines bytes.now result }
-        ensures fits { IfSome result Fits }
-    {
-        let line = read_line(bytes)?;
-        self.placed(line)
-    }
-
-    /// The line, where it may stand here.
-    #[inline(always)]
-    pub(crate) fn placed(&self, line: Line) -> Option<Line>
-        ensures placed { (raw : List ℕ) → line_of raw ≡ Some line → IsReadOf self.now.lines raw result }
-        ensures same { IfSome result (λ found. found ≡ line) }
+    pub(crate) fn allows(&self, line: &Line) -> bool
+        ensures { (before : List Line)
+            → self.now.lines ≡ length before → result ≡ may_stand before line.now }
     {
         let is_config = matches!(line, Line::Config(_));
-        if is_config == (self.lines == 0) {
-            Some(line)
-        } else {
-            None
-        }
+        is_config == (self.lines == 0)
     }
 
     /// How many steps were accepted. None where there was no line.

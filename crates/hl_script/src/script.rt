@@ -33,10 +33,10 @@ impl<O: Opening<S> + Drop, S: Stepping + Drop> Machine for Script<O, S> {
     ghost lacks = { takes_memory S.may_lack };
 
     fn answer<W: Write>(&mut self, line: &Line, out: &mut W) -> Result<bool, Fault> {
-        match *line {
-            Line::Config(sizes) => self.answer_config(sizes, out),
+        match line {
+            Line::Config(sizes) => self.answer_config(*sizes, out),
             Line::Step(step) => match &mut self.opened {
-                Some(opened) => answer_step(opened, &step, &mut self.line, out),
+                Some(opened) => answer_step(opened, step, &mut self.line, out),
                 None => unreachable!(),
             },
             Line::Status => match &self.opened {

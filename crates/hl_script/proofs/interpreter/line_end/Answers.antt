@@ -1,4 +1,4 @@
-use Rattle.std.proofs.Common.{◌≡◌, ◌<◌, ◌∙◌, ◌||◌, ap, arith, length, rules, ne_eqb, get_or}
+use Rattle.std.proofs.Common.{◌<◌, ◌∙◌, ◌||◌, ap, length, rules, ne_eqb, get_or}
 use Rattle.std.proofs.lemmas.List.Folds.{list_any_more}
 use Rattle.hl_script.specs.Interpreter.{is_end}
 use Rattle.hl_script.proofs.interpreter.line_end.Goals as goal

@@ -1,27 +1,25 @@
-use Rattle.std.proofs.Common.{◌≡◌, ◌+◌, ◌-◌, length, append_assoc, [], ◌∷◌, ◌++◌, take, get_or, sym, ap, ◌∙◌, arith, rules}
+use Rattle.std.proofs.Common.{◌≡◌, ◌+◌, [], ◌∷◌, ◌++◌, take, get_or, sym, ap, ◌∙◌}
 use Rattle.std.proofs.lemmas.List.{take_more}
 use Rattle.std.proofs.lemmas.Result.{err_from_is_err_and}
 use Rattle.hl_line.specs.Lines.{spelling}
-use Rattle.hl_script.proofs.InterpreterLaws.{front_is, went_on, went_wrong}
+use Rattle.hl_script.proofs.InterpreterLaws.{went_on, went_wrong}
 use Rattle.hl_script.proofs.interpreter.take_next.Goals as goal
 
 pub returns-in_err-take_read-clause-fed : goal.returns-in_err-take_read-clause-fed
 returns-in_err-take_read-clause-fed g c = λ has done before from at.
     let p = err_from_is_err_and c.from_residual.result c.from_residual.ensures.1 in
     let bytes = c.args.bytes.now in
-    let rest = c.in-Some.rest.now in
-    let raw = spelling c.in-Some.line ++ 10 ∷ [] in
-    let parts : raw ++ rest ≡ bytes = append_assoc (spelling c.in-Some.line) (10 ∷ []) rest ∙ c.in-Some.ensures.1 in
-    rw (p.1, p.2) (went_wrong (g.M.Machine.stands c.take_read.new.machine) g.M.Machine.lacks has done raw bytes (length bytes - length rest) from (g.W.Write.contents c.take_read.new.out) c.take_read.new.progress c.in_err-take_read.field-0.0 (front_is raw rest bytes parts)
+    let n = c.in-Some.count in
+    let raw = spelling c.read_front.new.line ++ 10 ∷ [] in
+    rw (p.1, p.2) (went_wrong (g.M.Machine.stands c.take_read.new.machine) g.M.Machine.lacks has done raw bytes n from (g.W.Write.contents c.take_read.new.out) c.take_read.new.progress c.in_err-take_read.field-0.0 (sym c.in-Some.ensures.line.1)
     (c.in_err-take_read.ensures.fed has done before from at))
 
 pub returns-in-Some-clause-fed : goal.returns-in-Some-clause-fed
 returns-in-Some-clause-fed g c = λ has done before from at.
     let bytes = c.args.bytes.now in
-    let rest = c.in-Some.rest.now in
-    let raw = spelling c.in-Some.line ++ 10 ∷ [] in
-    let parts : raw ++ rest ≡ bytes = append_assoc (spelling c.in-Some.line) (10 ∷ []) rest ∙ c.in-Some.ensures.1 in
-    went_on (g.M.Machine.stands c.take_read.new.machine) g.M.Machine.lacks has done raw bytes (length bytes - length rest) from (g.W.Write.contents c.take_read.new.out) c.take_read.new.progress (front_is raw rest bytes parts)
+    let n = c.in-Some.count in
+    let raw = spelling c.read_front.new.line ++ 10 ∷ [] in
+    went_on (g.M.Machine.stands c.take_read.new.machine) g.M.Machine.lacks has done raw bytes n from (g.W.Write.contents c.take_read.new.out) c.take_read.new.progress (sym c.in-Some.ensures.line.1)
     (c.in_ok-take_read.ensures.fed has done before from at)
 
 pub returns-in_err-take_line-clause-fed : goal.returns-in_err-take_line-clause-fed
