@@ -98,6 +98,7 @@ impl<'a, R: Wait, L: Realm, F: Task, P: Promise, E: Epochs + Drop> Session<'a, R
     /// has not ended, and it has room for a touch. Returns what the session sees.
     ///
     /// Faults, those of a refresh: `Stranger`, `JournalFull`.
+    #[inline(always)]
     pub fn keep_up(&mut self) -> Result<View, Fault>
         ensures kept { let new = self.new.pass
             in let old = self.old.pass

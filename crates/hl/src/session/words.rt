@@ -15,6 +15,7 @@ impl<'a, R: Wait, L: Realm, F: Task, P: Promise, E: Epochs + Drop> Session<'a, R
     /// Looks at both offset words, without the lock; returns what the session then sees.
     ///
     /// `TouchesFull` if it has 32 touches.
+    #[inline(always)]
     pub fn look(&mut self) -> Result<View, Fault>
         ensures answer { result ≡ unless_fault (touch_fault self.old.pass) (seen self.new.pass) }
         ensures pass { let new = self.new.pass
@@ -30,6 +31,7 @@ impl<'a, R: Wait, L: Realm, F: Task, P: Promise, E: Epochs + Drop> Session<'a, R
     ///
     /// Faults: `Below` if the address is below the read-only offset that the session saw, `Beyond`
     /// if it isn't below the tail that it saw, `TouchesFull` if it has 32 touches.
+    #[inline(always)]
     pub fn store(&mut self, a: u64, v: u64) -> Result<(), Fault>
         ensures answer { result ≡ unless_fault (store_fault self.old.pass a) tt }
         ensures pass { let old = self.old.pass
@@ -43,6 +45,7 @@ impl<'a, R: Wait, L: Realm, F: Task, P: Promise, E: Epochs + Drop> Session<'a, R
     ///
     /// Faults: `Evicted` if the address is below the head that the session saw, `Beyond` if it
     /// isn't below the tail that it saw.
+    #[inline(always)]
     pub fn load(&mut self, a: u64) -> Result<u64, Fault>
         ensures answer { let met = load_fault self.old.pass a
             in MatchResult result (λ _. met ≡ None) (λ fault. met ≡ Some fault) }
