@@ -1,7 +1,7 @@
 //! Texts of scripts: of sixteen threads that place, write and read records, while pages go their whole way.
 use crate::random::Random;
 use hl::Fault;
-use itoa::Buffer;
+use itoa::write_digits;
 use std::alloc::Global;
 
 /// Words a page, frames, slots, and places for actions.
@@ -20,6 +20,9 @@ const RESIDENT: u64 = 32;
 
 /// The most pages at a time that are out to be flushed.
 const OUT: u64 = 4;
+
+/// How many bytes the row for a line has: a word, four numbers and an LF have at most 100.
+const ROW: usize = 128;
 
 /// What a slot has seen.
 #[derive(Clone, Copy)]
@@ -78,19 +81,26 @@ pub(crate) fn text(alloc: Global, seed: u64, stream: u64, lines: u64) -> Result<
 }
 
 impl Script {
-    // A word, and numbers behind it.
+    // A word, numbers behind it, and an LF. It is made from its end, where the digits of a number come out, so that making
+    // the text takes little of the job's time.
     fn line(&mut self, word: &str, numbers: &[u64]) -> Result<(), Fault> {
-        self.put(word.as_bytes())?;
-        for number in numbers {
-            self.put(b" ")?;
-            self.put(Buffer::new().format(*number).as_bytes())?;
-        }
-        self.put(b"\n")
+        self.line_with(word, numbers, "\n")
     }
 
-    fn put(&mut self, bytes: &[u8]) -> Result<(), Fault> {
+    // The same with this end.
+    #[tactic(auto, using(crate::proofs::Digits::decimal_short))]
+    fn line_with(&mut self, word: &str, numbers: &[u64], end: &str) -> Result<(), Fault> {
+        let mut row = [b' '; ROW];
+        let mut from = put_before(&mut row, ROW, end)?;
+        for number in numbers.iter().rev() {
+            if !(21..=ROW).contains(&from) {
+                return Err(Fault::Size);
+            }
+            from = write_digits(*number, &mut row, from).saturating_sub(1);
+        }
+        from = put_before(&mut row, from, word)?;
         self.text
-            .extend_from_slice(bytes)
+            .extend_from_slice(row.get(from..).unwrap_or(&[]))
             .map_err(|_| Fault::OutOfMemory)
     }
 
@@ -208,20 +218,22 @@ impl Script {
             }
             for page in (self.flushed..end).rev() {
                 if self.random.below(16) == 0 {
-                    self.flush_done(page, "failed")?;
+                    self.line_with("flush done", &[page], " failed\n")?;
                     self.line("flush take", &[])?;
                 }
-                self.flush_done(page, "ok")?;
+                self.line_with("flush done", &[page], " ok\n")?;
             }
             self.flushed = end;
         }
         Ok(())
     }
+}
 
-    fn flush_done(&mut self, page: u64, how: &str) -> Result<(), Fault> {
-        self.put(b"flush done ")?;
-        self.put(Buffer::new().format(page).as_bytes())?;
-        self.put(b" ")?;
-        self.line(how, &[])
+// Puts a word before this place of a row. The answer is where it begins.
+fn put_before(row: &mut [u8; ROW], end: usize, word: &str) -> Result<usize, Fault> {
+    let from = end.checked_sub(word.len()).ok_or(Fault::Size)?;
+    if let Some(place) = row.get_mut(from..end) {
+        place.copy_from_slice(word.as_bytes());
     }
+    Ok(from)
 }
