@@ -1,9 +1,9 @@
 -- Who holds an action up, told by a core that stands at a list.
-use Rattle.std.proofs.Common.{◌≡◌, ℕ, ◌+◌, ◌<◌, ◌≤◌, cond, is_none, List, [], ◌∷◌, ◌++◌, length, take, map, refl, sym, ap, ◌∙◌, arith, inl, inr, length-append, length-take, zero-add}
+use Rattle.std.proofs.Common.{◌≡◌, ℕ, ◌+◌, ◌<◌, ◌≤◌, cond, is_none, List, [], ◌∷◌, ◌++◌, take, map, refl, sym, ap, ◌∙◌, zero-add}
 use Rattle.std.specs.Prelude.{Option, Some, None, option_map, slice_get, unwrap_or}
 use Rattle.std.specs.List.{filter_map, position, range_with_len}
-use Rattle.std.proofs.lemmas.Bool.{le-leb, lt-leb, cases_lt}
-use Rattle.std.proofs.lemmas.List.{append-nil, take_all, take-append-le}
+use Rattle.std.proofs.lemmas.Bool.{le-leb, lt-leb}
+use Rattle.std.proofs.lemmas.List.{append-nil}
 use Rattle.std.proofs.lemmas.List.Elements.{filter_map-append}
 use Rattle.std.proofs.lemmas.List.FromFn.{map-range_with_len_more}
 use Rattle.hl_model.specs.declared.action.Waiting.{Waiting}
@@ -30,21 +30,6 @@ unfolding holders_of
 holders_of-next n c A =
     ap (filter_map (λ holder. holder)) (map-range_with_len_more (λ t. holding c t (slot_epoch t A)) 0 n n (zero-add n))
     ∙ filter_map-append (λ holder. holder) (map (λ t. holding c t (slot_epoch t A)) (range_with_len 0 n)) (holding c n (slot_epoch n A) ∷ [])
-
--- the first elements with one more: where fewer are there, it is one of them
-pub pushed_within : (most : ℕ) (all row : List Holder) (holder : Holder) → length row < most → row ≡ take most all → row ++ holder ∷ [] ≡ take most (all ++ holder ∷ [])
-pushed_within most all row holder room h =
-    let few : length all < most = elim (cases_lt (length all) most) [
-      | inl less ↦ less
-      | inr more ↦ absurd (omega (arith, room, ap length h, length-take most all))
-    ] in
-    let same : row ≡ all = h ∙ take_all most all (omega arith) in
-    ap (λ xs. xs ++ holder ∷ []) same ∙ sym (take_all most (all ++ holder ∷ []) (simp length-append (omega arith)))
-
-pub pushed_past : (most : ℕ) (all row : List Holder) (holder : Holder) → length row ≡ most → row ≡ take most all → row ≡ take most (all ++ holder ∷ [])
-pushed_past most all row holder full h =
-    let many : most ≤ length all = omega (arith, full, ap length h, length-take most all) in
-    h ∙ sym (take-append-le most all (holder ∷ []) many)
 
 -- a list without a first element
 nothing_first : {X Y : Type 0} (f : X → Y) (xs : List X) → None ≡ option_map f (slice_get xs 0) → xs ≡ []

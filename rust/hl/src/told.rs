@@ -17,19 +17,7 @@ impl Sizes {
     ///
     /// [`Fault::OutOfRange`] where one is out of its range.
     pub fn checked(page_size: u64, frames: u64, slots: u64, drain_places: u64) -> Result<Sizes, Fault> {
-        let most = Sizes {
-            page_size: 4096,
-            frames: 256,
-            slots: 64,
-            drain_places: 64,
-        };
-        let sizes = Sizes {
-            page_size,
-            frames,
-            slots,
-            drain_places,
-        };
-        sizes.within(most)
+        Sizes::within([page_size, frames, slots, drain_places], [4096, 256, 64, 64])
     }
 
     /// Sizes for an engine: words a page, a power of two from 4 to 2^20; 2 to 2^16 frames; 1 to 1,024 slots; 1 to 4,096
@@ -37,28 +25,29 @@ impl Sizes {
     ///
     /// [`Fault::OutOfRange`] where one is out of its range.
     pub fn wide(page_size: u64, frames: u64, slots: u64, drain_places: u64) -> Result<Sizes, Fault> {
-        let most = Sizes {
-            page_size: 1 << 20,
-            frames: 1 << 16,
-            slots: 1024,
-            drain_places: 4096,
-        };
-        let sizes = Sizes {
+        Sizes::within(
+            [page_size, frames, slots, drain_places],
+            [1 << 20, 1 << 16, 1024, 4096],
+        )
+    }
+
+    /// These numbers as sizes, in the order of [`Sizes::checked`], if none is above the greatest.
+    fn within(given: [u64; 4], greatest: [u64; 4]) -> Result<Sizes, Fault> {
+        let [page_size, frames, slots, drain_places] = given;
+        let ranges = [4, 2, 1, 1].into_iter().zip(greatest);
+        let fit = given
+            .iter()
+            .zip(ranges)
+            .all(|(size, (least, most))| (least..=most).contains(size));
+        if !fit || !page_size.is_power_of_two() {
+            return Err(Fault::OutOfRange);
+        }
+        Ok(Sizes {
             page_size,
             frames,
             slots,
             drain_places,
-        };
-        sizes.within(most)
-    }
-
-    fn within(self, most: Sizes) -> Result<Sizes, Fault> {
-        let fit = self.page_size.is_power_of_two()
-            && (4..=most.page_size).contains(&self.page_size)
-            && (2..=most.frames).contains(&self.frames)
-            && (1..=most.slots).contains(&self.slots)
-            && (1..=most.drain_places).contains(&self.drain_places);
-        fit.then_some(self).ok_or(Fault::OutOfRange)
+        })
     }
 
     /// Words a page.
