@@ -32,6 +32,11 @@ impl<E: Epochs + Drop, F: Task, P: Promise, L: Realm> Domain<E, F, P, L> {
         if unlocked::keeps_up(&self.words, pass) {
             return Ok(pass.view());
         }
-        self.refresh(rt, pass)
+        // Taken apart: the answer of a call lies in memory, and where it went there with no call, too, whoever reads it
+        // would wait for it.
+        match self.refresh(rt, pass) {
+            Ok(view) => Ok(view),
+            Err(fault) => Err(fault),
+        }
     }
 }
