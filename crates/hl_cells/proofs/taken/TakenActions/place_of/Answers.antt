@@ -1,4 +1,4 @@
-use Rattle.std.proofs.Common.{rules, of_calls, ◌≡◌, ◌∙◌, ltb, position, sym, ap, subst, arith}
+use Rattle.std.proofs.Common.{rules, of_calls, ◌≡◌, ◌∙◌, ltb, position, sym, ap, subst}
 use Rattle.std.proofs.lemmas.Fn.{always_returns_same}
 use Rattle.std.proofs.lemmas.List.Sorted.{IsPartitionedBy-ltb}
 use Rattle.hl_action.specs.Jobs.{ReadyRecord}
