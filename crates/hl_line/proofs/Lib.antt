@@ -1,7 +1,10 @@
+pub mod Arms
 pub mod Digits
 pub mod Fitting
 pub mod Fronts
 pub mod Reading
+pub mod Sights
 pub mod Tables
 pub mod Texts
+pub mod Whole
 pub mod Words

@@ -1,20 +1,27 @@
 //! The lines that scripts have most of, read in one pass from the front of what is to be read.
-ghost use Rattle.std.specs.Prelude.{[], ◌≡◌, ◌+◌, ◌<◌, ◌≤◌, ◌^◌, ◌++◌, ◌∷◌, length, take, slice_index_or, decimal, IfSome};
-ghost use Rattle.hl_line.specs.Lines.{Fits, StepFits, spelling, step_spelling};
+ghost use Rattle.std.specs.Prelude.{ℕ, List, Some, codes, [], ◌≡◌, ◌+◌, ◌<◌, ◌≤◌, ◌^◌, ◌++◌, ◌∷◌, length, take, slice_index_or, decimal, IfSome, IfNone};
+ghost use Rattle.hl_line.specs.declared.line.Line.{Line as LINE};
+ghost use Rattle.hl_line.specs.Lines.{Fits, spelling};
+ghost use Rattle.hl_line.specs.Usual.{IsUsual, IsNoDigit, NoDigitFirst, LacksNumber, LacksTwo, LacksThree, LacksWord, LacksFlush, Behind, StandsFirst, LacksStep};
 
 use crate::line::Line;
 use hl_model::Step;
 
-/// Reads the line at the front of these bytes, if it is found at first sight: an `alloc`, `write`, `read`, `refresh`,
-/// `look`, `take`, `done`, `flush take`, `flush done` that is `ok`, `clean take` or `clean done` whose numbers are below
-/// 10^18. The answer is how many bytes it has with its LF. None says nothing, and no clause says when there is a line: it
-/// is for speed alone, and [`read_line`](crate::read_line) reads any line.
+/// Reads the line at the front of these bytes, if it is a usual one: an `alloc`, `write`, `read`, `refresh`, `look`,
+/// `take`, `done`, `flush take`, `flush done` that is `ok`, `clean take` or `clean done` whose numbers are below 10^18.
+/// The answer is how many bytes it has with its LF.
+///
+/// Such a line is always found where there are at least 7 bytes: only a `take` has fewer with its LF, and it is found if
+/// enough of what follows is there too. Any other line may give None: this is for speed alone, and
+/// [`read_line`](crate::read_line) reads any line.
 ///
 /// It leaves the line in its caller's row: where a line goes in an answer, each way out that has none must clear that.
 #[inline(never)]
 pub fn read_front(bytes: &[u8], line: &mut Line) -> Option<usize>
     ensures most { IfSome result (λ n. (0 < n) × (n ≤ length bytes.now)) }
     ensures line { IfSome result (λ n. Fits line.new × (spelling line.new ++ 10 ∷ [] ≡ take n bytes.now)) }
+    ensures usual { (l : LINE) (rest : List ℕ) → IsUsual l → bytes.now ≡ spelling l ++ (10 ∷ rest)
+        → 7 ≤ length bytes.now → result ≡ Some (length (spelling l) + 1) }
 {
     let (step, rest) = usual_step(bytes)?;
     *line = Line::Step(step);
@@ -24,8 +31,8 @@ pub fn read_front(bytes: &[u8], line: &mut Line) -> Option<usize>
 // The step whose line stands at the front.
 #[inline(always)]
 fn usual_step(bytes: &[u8]) -> Option<(Step, &[u8])>
-    ensures { IfSome result (λ found. StepFits found.0
-        × (step_spelling found.0 ++ (10 ∷ found.1.now) ≡ bytes.now)) }
+    ensures some { IfSome result (λ found. StandsFirst found.0 found.1.now bytes.now) }
+    ensures none { IfNone result (7 ≤ length bytes.now → LacksStep bytes.now) }
 {
     if bytes.len() < 7 {
         return None;
@@ -49,8 +56,8 @@ fn usual_step(bytes: &[u8]) -> Option<(Step, &[u8])>
 #[tactic(auto, unfolding(crate::specs::Lines::worded))]
 #[inline(always)]
 fn allocate(bytes: &[u8]) -> Option<(Step, &[u8])>
-    ensures { IfSome result (λ found. StepFits found.0
-        × (step_spelling found.0 ++ (10 ∷ found.1.now) ≡ bytes.now)) }
+    ensures some { IfSome result (λ found. StandsFirst found.0 found.1.now bytes.now) }
+    ensures none { IfNone result (Behind (codes "alloc ") LacksTwo bytes.now) }
 {
     let [b'a', b'l', b'l', b'o', b'c', b' ', words @ ..] = bytes else {
         return None;
@@ -62,8 +69,8 @@ fn allocate(bytes: &[u8]) -> Option<(Step, &[u8])>
 
 #[inline(always)]
 fn write(bytes: &[u8]) -> Option<(Step, &[u8])>
-    ensures { IfSome result (λ found. StepFits found.0
-        × (step_spelling found.0 ++ (10 ∷ found.1.now) ≡ bytes.now)) }
+    ensures some { IfSome result (λ found. StandsFirst found.0 found.1.now bytes.now) }
+    ensures none { IfNone result (Behind (codes "write ") LacksThree bytes.now) }
 {
     let words = behind_write(bytes)?;
     let (t, a, v, rest) = three_numbers(words)?;
@@ -73,8 +80,8 @@ fn write(bytes: &[u8]) -> Option<(Step, &[u8])>
 #[tactic(auto, unfolding(crate::specs::Lines::worded))]
 #[inline(always)]
 fn read(bytes: &[u8]) -> Option<(Step, &[u8])>
-    ensures { IfSome result (λ found. StepFits found.0
-        × (step_spelling found.0 ++ (10 ∷ found.1.now) ≡ bytes.now)) }
+    ensures some { IfSome result (λ found. StandsFirst found.0 found.1.now bytes.now) }
+    ensures none { IfNone result (Behind (codes "read ") LacksTwo bytes.now) }
 {
     let [b'r', b'e', b'a', b'd', b' ', words @ ..] = bytes else {
         return None;
@@ -87,8 +94,8 @@ fn read(bytes: &[u8]) -> Option<(Step, &[u8])>
 #[tactic(auto, unfolding(crate::specs::Lines::worded))]
 #[inline(always)]
 fn refresh(bytes: &[u8]) -> Option<(Step, &[u8])>
-    ensures { IfSome result (λ found. StepFits found.0
-        × (step_spelling found.0 ++ (10 ∷ found.1.now) ≡ bytes.now)) }
+    ensures some { IfSome result (λ found. StandsFirst found.0 found.1.now bytes.now) }
+    ensures none { IfNone result (Behind (codes "refresh ") (LacksNumber 10) bytes.now) }
 {
     let [b'r', b'e', b'f', b'r', b'e', b's', b'h', b' ', words @ ..] = bytes else {
         return None;
@@ -100,8 +107,8 @@ fn refresh(bytes: &[u8]) -> Option<(Step, &[u8])>
 #[tactic(auto, unfolding(crate::specs::Lines::worded), using(crate::proofs::Fronts::three_in_line))]
 #[inline(always)]
 fn look(bytes: &[u8]) -> Option<(Step, &[u8])>
-    ensures { IfSome result (λ found. StepFits found.0
-        × (step_spelling found.0 ++ (10 ∷ found.1.now) ≡ bytes.now)) }
+    ensures some { IfSome result (λ found. StandsFirst found.0 found.1.now bytes.now) }
+    ensures none { IfNone result (Behind (codes "look ") LacksThree bytes.now) }
 {
     let [b'l', b'o', b'o', b'k', b' ', words @ ..] = bytes else {
         return None;
@@ -113,8 +120,8 @@ fn look(bytes: &[u8]) -> Option<(Step, &[u8])>
 #[tactic(auto, unfolding(crate::specs::Lines::worded))]
 #[inline(always)]
 fn done(bytes: &[u8]) -> Option<(Step, &[u8])>
-    ensures { IfSome result (λ found. StepFits found.0
-        × (step_spelling found.0 ++ (10 ∷ found.1.now) ≡ bytes.now)) }
+    ensures some { IfSome result (λ found. StandsFirst found.0 found.1.now bytes.now) }
+    ensures none { IfNone result (Behind (codes "done ") (LacksNumber 10) bytes.now) }
 {
     let [b'd', b'o', b'n', b'e', b' ', words @ ..] = bytes else {
         return None;
@@ -126,8 +133,8 @@ fn done(bytes: &[u8]) -> Option<(Step, &[u8])>
 #[tactic(auto, unfolding(crate::specs::Lines::worded))]
 #[inline(always)]
 fn clean_done(bytes: &[u8]) -> Option<(Step, &[u8])>
-    ensures { IfSome result (λ found. StepFits found.0
-        × (step_spelling found.0 ++ (10 ∷ found.1.now) ≡ bytes.now)) }
+    ensures some { IfSome result (λ found. StandsFirst found.0 found.1.now bytes.now) }
+    ensures none { IfNone result (Behind (codes "clean done ") (LacksNumber 10) bytes.now) }
 {
     let [
         b'c',
@@ -153,8 +160,8 @@ fn clean_done(bytes: &[u8]) -> Option<(Step, &[u8])>
 #[tactic(auto, unfolding(crate::specs::Lines::worded))]
 #[inline(always)]
 fn take(bytes: &[u8]) -> Option<(Step, &[u8])>
-    ensures { IfSome result (λ found. StepFits found.0
-        × (step_spelling found.0 ++ (10 ∷ found.1.now) ≡ bytes.now)) }
+    ensures some { IfSome result (λ found. StandsFirst found.0 found.1.now bytes.now) }
+    ensures none { IfNone result (LacksWord (codes "take\n") bytes.now) }
 {
     match bytes {
         [b't', b'a', b'k', b'e', b'\n', rest @ ..] => Some((Step::Take, rest)),
@@ -165,8 +172,8 @@ fn take(bytes: &[u8]) -> Option<(Step, &[u8])>
 #[tactic(auto, unfolding(crate::specs::Lines::worded))]
 #[inline(always)]
 fn flush_take(bytes: &[u8]) -> Option<(Step, &[u8])>
-    ensures { IfSome result (λ found. StepFits found.0
-        × (step_spelling found.0 ++ (10 ∷ found.1.now) ≡ bytes.now)) }
+    ensures some { IfSome result (λ found. StandsFirst found.0 found.1.now bytes.now) }
+    ensures none { IfNone result (LacksWord (codes "flush take\n") bytes.now) }
 {
     match bytes {
         [
@@ -190,8 +197,8 @@ fn flush_take(bytes: &[u8]) -> Option<(Step, &[u8])>
 #[tactic(auto, unfolding(crate::specs::Lines::worded))]
 #[inline(always)]
 fn clean_take(bytes: &[u8]) -> Option<(Step, &[u8])>
-    ensures { IfSome result (λ found. StepFits found.0
-        × (step_spelling found.0 ++ (10 ∷ found.1.now) ≡ bytes.now)) }
+    ensures some { IfSome result (λ found. StandsFirst found.0 found.1.now bytes.now) }
+    ensures none { IfNone result (LacksWord (codes "clean take\n") bytes.now) }
 {
     match bytes {
         [
@@ -214,8 +221,8 @@ fn clean_take(bytes: &[u8]) -> Option<(Step, &[u8])>
 
 #[inline(always)]
 fn flush_done(bytes: &[u8]) -> Option<(Step, &[u8])>
-    ensures { IfSome result (λ found. StepFits found.0
-        × (step_spelling found.0 ++ (10 ∷ found.1.now) ≡ bytes.now)) }
+    ensures some { IfSome result (λ found. StandsFirst found.0 found.1.now bytes.now) }
+    ensures none { IfNone result (Behind (codes "flush done ") LacksFlush bytes.now) }
 {
     let words = behind_flush_done(bytes)?;
     let (page, words) = number_before(words)?;
@@ -226,8 +233,8 @@ fn flush_done(bytes: &[u8]) -> Option<(Step, &[u8])>
 // What stands behind `write `.
 #[inline(always)]
 fn behind_write(bytes: &[u8]) -> Option<&[u8]>
-    ensures { IfSome result (λ words.
-        119 ∷ 114 ∷ 105 ∷ 116 ∷ 101 ∷ 32 ∷ words.now ≡ bytes.now) }
+    ensures some { IfSome result (λ words. codes "write " ++ words.now ≡ bytes.now) }
+    ensures none { IfNone result (LacksWord (codes "write ") bytes.now) }
 {
     match bytes {
         [b'w', b'r', b'i', b't', b'e', b' ', words @ ..] => Some(words),
@@ -238,8 +245,8 @@ fn behind_write(bytes: &[u8]) -> Option<&[u8]>
 // What stands behind `flush done `.
 #[inline(always)]
 fn behind_flush_done(bytes: &[u8]) -> Option<&[u8]>
-    ensures { IfSome result (λ words.
-        102 ∷ 108 ∷ 117 ∷ 115 ∷ 104 ∷ 32 ∷ 100 ∷ 111 ∷ 110 ∷ 101 ∷ 32 ∷ words.now ≡ bytes.now) }
+    ensures some { IfSome result (λ words. codes "flush done " ++ words.now ≡ bytes.now) }
+    ensures none { IfNone result (LacksWord (codes "flush done ") bytes.now) }
 {
     match bytes {
         [
@@ -263,7 +270,8 @@ fn behind_flush_done(bytes: &[u8]) -> Option<&[u8]>
 // That a flush went well, up to an LF, and what stands behind that.
 #[inline(always)]
 fn well(bytes: &[u8]) -> Option<&[u8]>
-    ensures { IfSome result (λ rest. 111 ∷ 107 ∷ 10 ∷ rest.now ≡ bytes.now) }
+    ensures some { IfSome result (λ rest. codes "ok\n" ++ rest.now ≡ bytes.now) }
+    ensures none { IfNone result (LacksWord (codes "ok\n") bytes.now) }
 {
     match bytes {
         [b'o', b'k', b'\n', rest @ ..] => Some(rest),
@@ -278,6 +286,7 @@ fn three_numbers(bytes: &[u8]) -> Option<(u64, u64, u64, &[u8])>
     ensures bytes { IfSome result (λ found.
         decimal found.0 ++ (32 ∷ (decimal found.1 ++ (32 ∷ (decimal found.2 ++ (10 ∷ found.3.now)))))
         ≡ bytes.now) }
+    ensures none { IfNone result (LacksThree bytes.now) }
 {
     let (first, words) = number_before(bytes)?;
     let (second, words) = number_before(words)?;
@@ -288,8 +297,9 @@ fn three_numbers(bytes: &[u8]) -> Option<(u64, u64, u64, &[u8])>
 // A number in decimal up to a space, and what stands behind that.
 #[inline(always)]
 fn number_before(bytes: &[u8]) -> Option<(u64, &[u8])>
-    ensures { IfSome result (λ found. (found.0 < 2 ^ 64)
+    ensures some { IfSome result (λ found. (found.0 < 2 ^ 64)
         × (decimal found.0 ++ (32 ∷ found.1.now) ≡ bytes.now)) }
+    ensures none { IfNone result (LacksNumber 32 bytes.now) }
 {
     let (number, rest) = number(bytes)?;
     match rest {
@@ -301,8 +311,9 @@ fn number_before(bytes: &[u8]) -> Option<(u64, &[u8])>
 // A number in decimal up to an LF, and what stands behind that.
 #[inline(always)]
 fn last_number(bytes: &[u8]) -> Option<(u64, &[u8])>
-    ensures { IfSome result (λ found. (found.0 < 2 ^ 64)
+    ensures some { IfSome result (λ found. (found.0 < 2 ^ 64)
         × (decimal found.0 ++ (10 ∷ found.1.now) ≡ bytes.now)) }
+    ensures none { IfNone result (LacksNumber 10 bytes.now) }
 {
     let (number, rest) = number(bytes)?;
     match rest {
@@ -315,7 +326,10 @@ fn last_number(bytes: &[u8]) -> Option<(u64, &[u8])>
 // first ones.
 #[inline(always)]
 fn number(bytes: &[u8]) -> Option<(u64, &[u8])>
-    ensures { IfSome result (λ found. (found.0 < 2 ^ 64) × (decimal found.0 ++ found.1.now ≡ bytes.now)) }
+    ensures some { IfSome result (λ found. (found.0 < 2 ^ 64)
+        × (decimal found.0 ++ found.1.now ≡ bytes.now)) }
+    ensures stop { IfSome result (λ found. 0 < found.0 → found.0 < 2 ^ 59 → NoDigitFirst found.1.now) }
+    ensures none { IfNone result (NoDigitFirst bytes.now) }
 {
     if bytes.is_empty() {
         return None;
@@ -334,6 +348,8 @@ fn numeral(first: u64, bytes: &[u8]) -> (u64, usize)
     ensures fits { result.0 < 2 ^ 64 }
     ensures count { result.1 ≤ length bytes.now }
     ensures value { decimal result.0 ≡ take result.1 bytes.now }
+    ensures stop { 0 < result.0 → result.0 < 2 ^ 59 → result.1 < length bytes.now
+        → IsNoDigit (slice_index_or bytes.now result.1 0) }
 {
     // No number of more digits begins with 0.
     if first == 0 {
@@ -352,6 +368,8 @@ fn digits(first: u64, bytes: &[u8]) -> (u64, usize)
     ensures fits { result.0 < 2 ^ 64 }
     ensures count { result.1 ≤ length bytes.now }
     ensures value { decimal result.0 ≡ take result.1 bytes.now }
+    ensures stop { result.0 < 2 ^ 59 → result.1 < length bytes.now
+        → IsNoDigit (slice_index_or bytes.now result.1 0) }
 {
     let mut number = first;
     let mut count = 1;
@@ -368,7 +386,8 @@ fn digits(first: u64, bytes: &[u8]) -> (u64, usize)
 // What a byte is as a digit.
 #[inline(always)]
 fn digit(byte: u8) -> Option<u64>
-    ensures { IfSome result (λ digit. (digit < 10) × (byte ≡ 48 + digit)) }
+    ensures some { IfSome result (λ digit. (digit < 10) × (byte ≡ 48 + digit)) }
+    ensures none { IfNone result (IsNoDigit byte) }
 {
     match byte {
         b'0'..=b'9' => Some(u64::from(byte - b'0')),

@@ -12,7 +12,7 @@ loop-count-init c = record {
 
 pub loop-count-preserved : goal.loop-count-preserved
 loop-count-preserved c =
-    let here = c.in-Some.ensures in
+    let here = c.in-Some.ensures.some in
     let n = c.loop-count.number in
     let fits : n * 10 + c.in-Some.low < 2 ^ 64 = omega (arith, here.0) in
     record {

@@ -1,0 +1,11 @@
+use Rattle.std.proofs.Common.{length, codes, arith, ap, rules}
+use Rattle.hl_line.specs.Usual.{LacksNumber}
+use Rattle.hl_line.proofs.Whole.{behind, at_each}
+use Rattle.hl_line.proofs.usual.done.Goals as goal
+
+pub returns-in_default-clause-none : goal.returns-in_default-clause-none
+returns-in_default-clause-none c rest e = absurd (grind (arith, ap length e, at_each _ _ e))
+
+pub returns-in_err-ticket-clause-none : goal.returns-in_err-ticket-clause-none
+returns-in_err-ticket-clause-none c =
+    search (rules, behind (codes "done ") c.args.bytes.now (LacksNumber 10) c.in_err-ticket.ensures.none)
