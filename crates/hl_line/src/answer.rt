@@ -8,7 +8,7 @@ use hl_model::{Fault, Reply};
 use itoa::write_digits;
 use std::marker::Model;
 
-/// How many bytes an answer's line has at most; none has so many.
+/// The room for a line; every answer is shorter.
 const ROOM: usize = 160;
 
 /// The line that answers a step, with its LF. It is made from its end: the digits of a number, which come out last first,

@@ -15,11 +15,13 @@ use hl_model::Step;
 /// enough of what follows is there too. Any other line may give None: this is for speed alone, and
 /// [`read_line`](crate::read_line) reads any line.
 ///
-/// It leaves the line in its caller's row: where a line goes in an answer, each way out that has none must clear that.
+/// What is found goes into the caller's `line`, which stays as it was where nothing is: with the line in the answer, each
+/// way out without one would have to clear it.
 #[inline(never)]
 pub fn read_front(bytes: &[u8], line: &mut Line) -> Option<usize>
     ensures most { IfSome result (λ n. (0 < n) × (n ≤ length bytes.now)) }
     ensures line { IfSome result (λ n. Fits line.new × (spelling line.new ++ 10 ∷ [] ≡ take n bytes.now)) }
+    ensures stays { IfNone result (line.new ≡ line.old) }
     ensures usual { (l : LINE) (rest : List ℕ) → IsUsual l → bytes.now ≡ spelling l ++ (10 ∷ rest)
         → 7 ≤ length bytes.now → result ≡ Some (length (spelling l) + 1) }
 {

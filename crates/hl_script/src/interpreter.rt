@@ -183,6 +183,7 @@ fn take_next<M: Machine, W: Write>(
     ensures steps { progress.new.steps ≤ progress.old.steps + 1 }
 {
     if progress.line.is_empty() {
+        // A row for what is found, whatever is in it.
         let mut line = Line::Status;
         if let Some(count) = read_front(bytes, &mut line) {
             take_read(machine, progress, &line, out)?;

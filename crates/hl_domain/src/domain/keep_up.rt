@@ -32,8 +32,8 @@ impl<E: Epochs + Drop, F: Task, P: Promise, L: Realm> Domain<E, F, P, L> {
         if unlocked::keeps_up(&self.words, pass) {
             return Ok(pass.view());
         }
-        // Taken apart: the answer of a call lies in memory, and where it went there with no call, too, whoever reads it
-        // would wait for it.
+        // Taken apart, so that only a refresh's answer goes by way of memory: the other one, written there as well, would
+        // be read at once and waited for.
         match self.refresh(rt, pass) {
             Ok(view) => Ok(view),
             Err(fault) => Err(fault),
