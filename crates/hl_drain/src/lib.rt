@@ -27,11 +27,11 @@
 //! The pending actions lie in a ring of as many places as the limit: behind the last place comes the first again, so
 //! the ring goes round as actions come and go. A put and a take visit one place of it each, and move no other
 //! action; [`Drain::turns`] counts it for a take, and contracts see that it is one. A take appends to the row of taken
-//! actions, which has places for twice as many: a done finds its action there by halves, since tickets rise, and closes
-//! the row up from the side where fewer stand. So a done of the oldest or the newest moves none, and once for as many takes
-//! as the limit all are moved to the row's front. [`Drain::has_room`] compares two lengths; [`Drain::pending`] and
-//! [`Drain::taken`] copy their rows where the limit is at most 64; [`Drain::pending_at`] and [`Drain::taken_row`]
-//! copy none.
+//! actions, which has places for twice as many, and moves none: a done finds its action there by halves, since tickets
+//! rise, and closes the row up from the side where fewer stand. So a done of the oldest or the newest moves none, but
+//! for one in as many dones as the limit, which may move all to the row's front. [`Drain::has_room`] compares two
+//! lengths; [`Drain::pending`] and [`Drain::taken`] copy their rows where the limit is at most 64;
+//! [`Drain::pending_at`] and [`Drain::taken_row`] copy none.
 //!
 //! No call after [`Drain::open`] takes memory: neither row ever has more or fewer places than it was opened with.
 #![tactic(auto)]

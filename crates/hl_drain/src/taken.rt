@@ -7,7 +7,7 @@ use std::alloc::Global;
 use std::marker::Model;
 
 /// The taken actions, oldest first, in one row. What leaves it is closed up from the shorter side: so the row begins behind
-/// a gap, and has twice the places that its actions may take.
+/// a gap, which is as wide as the actions may be many at most, and has twice the places that these may take.
 #[derive(Drop)]
 pub(crate) struct Taken {
     places: usize,
@@ -59,32 +59,13 @@ impl Taken {
         &self.row.as_slice()[self.first..]
     }
 
-    /// Puts one more behind the others. There is room for it.
+    /// Puts one more behind the others. There is room for it, and no other one is moved.
     pub(crate) fn push(&mut self, waiting: Waiting)
         requires { length self.old.items < self.old.places }
         ensures items { self.new.items ≡ self.old.items ++ waiting ∷ [] }
         ensures places { self.new.places ≡ self.old.places }
     {
-        self.make_room();
         self.row.push_reserved(waiting);
-    }
-
-    // Moves all to the front of the row, where that has no place behind them: at most once for as many pushes as there is
-    // room for actions.
-    fn make_room(&mut self)
-        requires { length self.old.items < self.old.places }
-        ensures items { self.new.items ≡ self.old.items }
-        ensures places { self.new.places ≡ self.old.places }
-        ensures room { self.new.used < 2 * self.new.places }
-    {
-        let len = self.row.len();
-        if len < 2 * self.places {
-            return;
-        }
-        let count = self.len();
-        self.row.copy_within(self.first..len, 0);
-        self.row.truncate(count);
-        self.first = 0;
     }
 
     /// The place of the action of this ticket, if there is one. Tickets rise.
@@ -114,14 +95,32 @@ impl Taken {
         ensures others { self.new.items ≡ remove self.old.items place }
         ensures places { self.new.places ≡ self.old.places }
     {
+        if place >= self.len() / 2 {
+            return self.row.remove(self.first + place);
+        }
+        self.close_gap();
         let first = self.first;
         let at = first + place;
-        if place >= self.len() / 2 {
-            return self.row.remove(at);
-        }
         let waiting = self.row[at];
         self.row.copy_within(first..at, first + 1);
         self.first = first + 1;
         waiting
+    }
+
+    // Moves all to the front of the row, where the gap is as wide as there is room for actions. A removal widens it by
+    // one, so that this moves an action for each removal since the last time at most; and a push finds its place.
+    fn close_gap(&mut self)
+        requires { 0 < self.old.places }
+        ensures items { self.new.items ≡ self.old.items }
+        ensures places { self.new.places ≡ self.old.places }
+        ensures gap { self.new.gap < self.new.places }
+    {
+        if self.first < self.places {
+            return;
+        }
+        let count = self.len();
+        self.row.copy_within(self.first.., 0);
+        self.row.truncate(count);
+        self.first = 0;
     }
 }
