@@ -40,8 +40,9 @@
 //!
 //! To find a quantity, a step looks at the at most 16 steps behind the near base, however many were accepted
 //! before it. It may do so for each slot, where the safe epoch is wanted, and for each page below the tail,
-//! where the flushed pages are counted or the next page to take is looked for. Each sixteenth step does so for
-//! each slot and each frame. Only the word of a read is looked for in all steps.
+//! where the next page to take is looked for. The run of flushed pages is looked for from the near base's
+//! flushed offset on: the pages below are flushed there. Each sixteenth step does so for each slot and each
+//! frame. Only the word of a read is looked for in all steps.
 //!
 //! # Memory
 //!
