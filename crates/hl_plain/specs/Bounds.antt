@@ -11,7 +11,7 @@ pub record TailFits (b : Base) (L : List Step) : Type 0 where
   pub page_size_least : 0 < b.sizes.page_size
   pub tail_most : tail_after b L ≤ 2 ^ 48
 
--- the epoch is one that there may be, the offsets are within the space, the flushed offset hasn't fallen since
+-- the epoch is one that there may be, the offsets are within the space, the flushed one hasn't fallen since
 -- the base, and the drain list holds its actions
 pub record AreBounded (b : Base) (L : List Step) : Type 0 where
   pub epoch_most : b.epoch ≤ 2 ^ 62
