@@ -14,6 +14,7 @@ use Rattle.hl_model.specs.AfterPages.{Begun, next_page_after, marks_after_step, 
 use Rattle.hl_model.specs.AfterReplies.{base_after, fault_after}
 use Rattle.hl_model.proofs.ListLaws.{by_pushing, unroll-push}
 use Rattle.hl_laws.proofs.OrderLaws.{offsets_are_in_order}
+use Rattle.hl_laws.proofs.RunLaws.{flushed-append}
 use Rattle.hl_laws.proofs.AcceptedLaws.{good-nil, IsAccepted-push}
 use Rattle.hl_laws.proofs.LawProofs.{beginnings_are_accepted, current_is_at_most_last, drain_list_holds_them}
 use Rattle.hl_laws.proofs.CutLaws.{cuts_anywhere}
@@ -60,6 +61,7 @@ bounded h k =
     record {
       epoch_most = omega (arith, ap (λ (x : Base). x.epoch) k.follows.base_is, current_is_at_most_last b.sizes k.before (beginnings_are_accepted b.sizes k.before h.steps k.follows.accepted));
       tail = record { page_size_least = some; tail_most = omega (arith, ap (λ (x : Base). x.six.tail) is, order.tail_most) };
+      flushed_least = omega (arith, ap (λ (x : Base). x.six.flushed) k.follows.base_is, ap (λ (x : Base). x.six.flushed) is, flushed-append b.sizes k.before h.steps);
       flushed_most = omega (arith, ap (λ (x : Base). x.six.flushed) is, order.flushed_most, order.safe_read_only_most, order.read_only_most, order.tail_most);
       waiting_most = omega (arith, ap (λ (x : Base). length x.waiting) is, holds.1, k.narrow.drain_few);
       taken_most = omega (arith, ap (λ (x : Base). length x.taken) is, holds.1, k.narrow.drain_few);

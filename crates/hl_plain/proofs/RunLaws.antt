@@ -1,14 +1,16 @@
 -- The run of flushed pages, as far as it is looked for.
-use Rattle.std.proofs.Common.{◌≡◌, ◌⊎◌, ℕ, ◌/◌, ◌<◌, ◌≤◌, ◌^◌, true, false, ltb, ◌&&◌, ◌||◌, max, List, [], ◌∷◌, inl, inr, sym, ap, ◌∙◌, arith, get_or, zero-add}
+use Rattle.std.proofs.Common.{◌≡◌, ◌⊎◌, ℕ, ◌+◌, ◌*◌, ◌/◌, ◌<◌, ◌≤◌, ◌^◌, true, false, ltb, ◌&&◌, ◌||◌, max, List, [], ◌∷◌, inl, inr, sym, ap, ap₂, ◌∙◌, arith, get_or, zero-add}
 use Rattle.std.specs.List.{list_any, prefix_len, range_with_len}
+use Rattle.std.proofs.Math.Nat.{mul-le-mul_left}
 use Rattle.std.proofs.lemmas.Bool.{cases_lt, both_ways, and_parts, ltb-true, lt-ltb, le-ltb}
 use Rattle.std.proofs.lemmas.List.FromFn.{length-range_with_len, get_or-range_with_len}
-use Rattle.std.proofs.lemmas.List.Sums.{prefix_len_stops}
+use Rattle.std.proofs.lemmas.List.Sums.{prefix_len-le-length, prefix_len_stops}
 use Rattle.hl_model.specs.declared.step.Step.{Step}
 use Rattle.hl_model.specs.Lists.{greatest}
 use Rattle.hl_model.specs.Bases.{Base}
 use Rattle.hl_model.specs.AfterPages.{is_complete_after, flushing_after, flushed_run_after, flushed_after}
 use Rattle.hl_model.proofs.SearchLaws.{prefix_len-first, le-div}
+use Rattle.hl_laws.proofs.RunLaws.{run_passes}
 use Rattle.hl_plain.specs.Works.{run_end, runs_at}
 
 -- below one of two numbers, or below the greater
@@ -69,3 +71,20 @@ below_first p m n lt = lt-ltb p m lt ∙ sym (lt-ltb p (max m n) (omega (arith, 
 
 pub below_second : (p m n : ℕ) → m ≤ p → ltb p n ≡ ltb p (max m n)
 below_second p m n le = ap (λ b. b || ltb p n) (sym (le-ltb p m le)) ∙ max_ltb p m n
+
+-- the pages of the run are flushed
+pub run-passes : (b : Base) (L : List Step) (q : ℕ) → q < flushed_run_after b L → runs_at b L q ≡ true
+unfolding flushed_run_after
+run-passes b L q h =
+    ap₂ (λ x y. x && y)
+    (lt-ltb q (run_end b L) (omega (arith, h, prefix_len-le-length (λ p. is_complete_after (flushing_after b) p L) (range_with_len 0 (run_end b L)), length-range_with_len 0 (run_end b L))))
+    (run_passes (λ p. is_complete_after (flushing_after b) p L) (run_end b L) q h)
+
+-- where the flushed offset isn't below the base's, the run has the pages that are below that
+pub run-begun : (b : Base) (L : List Step) → 0 < b.sizes.page_size → b.six.flushed ≤ flushed_after b L → b.six.flushed / b.sizes.page_size ≤ flushed_run_after b L
+run-begun b L some least = elim (cases_lt (flushed_run_after b L) (b.six.flushed / b.sizes.page_size)) [
+  | inl more ↦
+      let past : b.sizes.page_size * (flushed_run_after b L + 1) ≤ b.sizes.page_size * (b.six.flushed / b.sizes.page_size) = mul-le-mul_left b.sizes.page_size (omega (arith, more)) in
+      absurd (omega (arith, past, some, least))
+  | inr most ↦ most
+]

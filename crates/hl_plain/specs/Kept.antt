@@ -1,5 +1,5 @@
 -- What a history is kept with.
-use Rattle.std.specs.Prelude.{◌≡◌, ◌+◌, ◌<◌, ◌≤◌, false, List, length, map, take, drop}
+use Rattle.std.specs.Prelude.{◌≡◌, ℕ, ◌+◌, ◌<◌, ◌≤◌, false, List, length, map, take, drop}
 use Rattle.std.specs.Vec.{vec_capacity}
 use Rattle.hl_plain.specs.declared.near.Near.{Near}
 use Rattle.hl_plain.specs.declared.near.TheConstants.{REACH}
@@ -7,6 +7,7 @@ use Rattle.hl_plain.specs.declared.plain.Plain.TheInside.{Inside}
 use Rattle.hl_plain.specs.declared.pages.Mark.{Mark as Made}
 use Rattle.hl_model.specs.declared.step.Step.{Step}
 use Rattle.hl_model.specs.Bases.{Base}
+use Rattle.hl_model.specs.Sizes.{Sizes}
 use Rattle.hl_model.specs.AfterPages.{marks_after, flushing_after, cleaning_after}
 use Rattle.hl_model.specs.AfterReplies.{base_after}
 use Rattle.hl_plain.specs.Histories.{History, IsHistory}
@@ -17,6 +18,10 @@ pub record AreKept (h : History) (flushes cleans : List Made) : Type 0 where
   pub history : IsHistory h
   pub flushes_are : map as_mark flushes ≡ marks_after (flushing_after h.base) h.steps
   pub cleans_are : map as_mark cleans ≡ marks_after (cleaning_after h.base) h.steps
+
+-- how many slots, frames and places for actions there are, together
+abbrev pub entries_of : Sizes → ℕ
+entries_of sizes = sizes.slots + sizes.frames + sizes.drain
 
 -- the near base, and those of the steps that lie behind it
 abbrev pub behind : Near → List Step → History

@@ -42,13 +42,17 @@ fn runs_at(base: &Base, p: u64, steps: &[Step]) -> bool
     may_be_flushed(base, p, steps) && Work::Flushing.is_complete(base, p, steps)
 }
 
-// How many pages 0, 1, 2 and so on are flushed, none left out.
+// How many pages 0, 1, 2 and so on are flushed, none left out. The pages below the base's flushed offset are
+// flushed in the base, so the first that isn't flushed is looked for from there on.
 fn flushed_run(base: &Base, steps: &[Step]) -> u64
-    requires { flushed_after base.now steps.now ≤ 2 ^ 48 }
+    requires least { base.now.six.flushed ≤ flushed_after base.now steps.now }
+    requires most { flushed_after base.now steps.now ≤ 2 ^ 48 }
     ensures { result ≡ flushed_run_after base.now steps.now }
 {
-    let pages = TAIL_MOST / base.params().page_size();
-    for p in 0..pages {
+    let page_size = base.params().page_size();
+    let begun = base.six().flushed / page_size;
+    let pages = TAIL_MOST / page_size;
+    for p in begun..pages {
         if !runs_at(base, p, steps) {
             return p;
         }
@@ -56,9 +60,10 @@ fn flushed_run(base: &Base, steps: &[Step]) -> u64
     pages
 }
 
-/// The flushed offset, which is within the space.
+/// The flushed offset, which is within the space, and not below the base's.
 pub fn flushed(base: &Base, steps: &[Step]) -> u64
-    requires { flushed_after base.now steps.now ≤ 2 ^ 48 }
+    requires least { base.now.six.flushed ≤ flushed_after base.now steps.now }
+    requires most { flushed_after base.now steps.now ≤ 2 ^ 48 }
     ensures { result ≡ flushed_after base.now steps.now }
 {
     base.params().page_size() * flushed_run(base, steps)

@@ -10,10 +10,10 @@
 //! and then these are all steps; [`Plain::from_base`] takes whatever base it is given, and the steps that led
 //! there need not be kept.
 //!
-//! Beside them is a second base, the near one (`near`): that after all of these steps but the last few. Fewer
-//! than 16 lie behind it. With it are marks of pages: which the steps behind it took to flush or clean,
-//! and which they brought back. They say what these steps say, so that a page that is out needn't be found
-//! anew.
+//! Beside them is a second base, the near one (`near`): that after all of these steps but the last. Fewer
+//! than 384 lie behind it, and fewer than 16 once as many were accepted as there are slots, frames and places
+//! for actions together. With it are marks of pages: which the steps behind it took to flush or clean, and
+//! which they brought back. They say what these steps say, so that a page that is out needn't be found anew.
 //!
 //! A base holds no words, so an allocator that goes on from one answers a read with `Readable`. One that was
 //! opened answers it with the word.
@@ -30,24 +30,31 @@
 //! Each quantity is looked up in the steps by a function of its own, in a file for its subject: a count
 //! (`epochs`), the last step of a kind (`epochs`, `views`, `words`), the greatest address (`offsets`,
 //! `settled`), the first so many of what was stored (`actions`), the longest run (`flushed`). Where a step
-//! before the base would be looked for, the base tells it. No quantity is renewed from step to step: when 16
-//! steps lie behind the near base, the quantities after them are computed once (`gathered`), as the next one.
+//! before the base would be looked for, the base tells it. No quantity is renewed from step to step: when too
+//! many steps lie behind the near base, the quantities after them are computed once (`gathered`), as the next
+//! one.
 //!
 //! `present` has them all by name, as the base after the steps. `faults` and `replies` say by it alone what a
 //! step meets and what it is answered.
 //!
 //! # What it costs
 //!
-//! To find a quantity, a step looks at the at most 16 steps behind the near base, however many were accepted
-//! before it. It may do so for each slot, where the safe epoch is wanted, and for each page below the tail,
-//! where the flushed pages are counted or the next page to take is looked for. Each sixteenth step does so for
-//! each slot and each frame. Only the word of a read is looked for in all steps.
+//! To find a quantity, a step looks at the steps behind the near base: at most 384, and at most 16 where as
+//! many were accepted before it as there are slots, frames and places for actions together. It may do so for
+//! each slot, where the safe epoch is wanted, and for each page below the tail, where the next page to take
+//! is looked for. The run of flushed pages is looked for from the near base's flushed offset on: the pages
+//! below are flushed there. Only the word of a read is looked for in all steps.
+//!
+//! The next near base is computed by looking at these steps for each slot and each frame. Spread over these
+//! steps, that is a pass over the slots, frames and actions for each: no more than a look through all steps,
+//! once there are as many of them. With fewer it is cheaper to look through all, so the first near base stays
+//! until then. From then on each sixteenth step computes the next one.
 //!
 //! # Memory
 //!
-//! [`Plain::open`] and [`Plain::from_base`] take room for three bases (the third is where the next near one is
-//! put) and the marks, and for as many steps as there are frames, F; a step behind the first F may take memory
-//! for itself, and is refused as `OutOfMemory` where there is none. No query takes memory.
+//! [`Plain::open`] and [`Plain::from_base`] take room for three bases (the third is where the next near one
+//! is put), for the marks of 384 steps, and for as many steps as there are frames, F; a step behind the first
+//! F may take memory for itself, and is refused as `OutOfMemory` where there is none. No query takes memory.
 #![tactic(auto)]
 
 mod actions;

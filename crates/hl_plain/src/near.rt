@@ -1,12 +1,12 @@
 //! A base near the last steps, by which the steps behind it are answered.
 
-ghost use Rattle.std.specs.Prelude.{◌≡◌, ◌∷◌, [], ◌++◌, ◌+◌, ◌<◌, ℕ, None, IfOk, IfErr, map, length, take, vec_len};
+ghost use Rattle.std.specs.Prelude.{◌≡◌, ◌∷◌, [], ◌++◌, ◌+◌, ◌<◌, ◌≤◌, ℕ, None, IfOk, IfErr, map, length, take, vec_len};
 ghost use Rattle.std.specs.Vec.{vec_capacity};
 ghost use Rattle.hl_model.specs.Bases.{Base as BaseRecord};
 ghost use Rattle.hl_model.specs.Sizes.{AreNarrow};
 ghost use Rattle.hl_model.specs.AfterReplies.{base_after, fault_at, answer_at};
-ghost use Rattle.hl_plain.specs.declared.near.TheConstants.{REACH};
-ghost use Rattle.hl_plain.specs.Kept.{present_by, IsAt, IsNear};
+ghost use Rattle.hl_plain.specs.declared.near.TheConstants.{FEW, REACH};
+ghost use Rattle.hl_plain.specs.Kept.{entries_of, present_by, IsAt, IsNear};
 ghost use Rattle.hl_plain.specs.Works.{as_mark, marks_in};
 
 use crate::gathered::Gathered;
@@ -14,12 +14,16 @@ use crate::pages::{Mark, Work};
 use crate::present::Present;
 use crate::replies;
 use hl_laws::Base;
-use hl_model::{Fault, Reply, Step, with_room};
+use hl_model::{DRAIN_MOST, FRAMES_MOST, Fault, Reply, SLOTS_MOST, Step, with_room};
 use std::alloc::Global;
 use std::mem::swap;
 
-/// So many steps behind a near base are too many: it goes on to the base after them.
-pub const REACH: u64 = 16;
+/// Fewer steps than this lie behind a near base, and its rows of marks have room for so many. It is 384: as
+/// many slots, frames and places for actions as narrow sizes allow, together.
+pub const REACH: u64 = SLOTS_MOST + FRAMES_MOST + DRAIN_MOST;
+
+// With so many steps behind it, a near base goes on to the base after them, unless few were accepted in all.
+const FEW: usize = 16;
 
 /// The base after the first of a list of steps, and the marks of pages that the steps behind it made.
 #[derive(Drop)]
@@ -103,16 +107,26 @@ impl Near {
         replies::answer_at(&before, &after, step)
     }
 
-    /// Goes on to the base after all steps, where too many lie behind it.
+    /// Goes on to the base after all steps, where 16 or more lie behind it and there are as many in all as
+    /// there are slots, frames and places for actions together.
+    ///
+    /// Spread over the steps behind it, that costs each a pass over the slots, frames and actions: no more
+    /// than a look through all steps, once there are as many of them. With fewer it is cheaper to look
+    /// through all.
     pub fn keep_near(&mut self, steps: &[Step])
         requires { IsNear steps.now self.old }
         ensures near { IsNear steps.now self.new }
         ensures few { length steps.now < self.new.since + REACH }
+        ensures soon { entries_of self.old.base.sizes ≤ length steps.now
+            → length steps.now < self.new.since + FEW }
+        ensures stays { length steps.now < entries_of self.old.base.sizes → self.new.since ≡ self.old.since }
         ensures at { (b : BaseRecord)
             → present_by self.old steps.now ≡ base_after b steps.now
             → IsAt b steps.now self.old → IsAt b steps.now self.new }
     {
-        if (steps.len() - self.since) as u64 >= REACH {
+        let params = self.base.params();
+        let entries = params.slots() + params.frames() + params.drain();
+        if steps.len() - self.since >= FEW && steps.len() as u64 >= entries {
             self.renew(steps);
         }
     }
