@@ -1,9 +1,8 @@
 -- Searches among numbers that count up.
-use Rattle.std.proofs.Common.{◌≡◌, ℕ, zero, suc, ◌+◌, ◌*◌, ◌/◌, ◌<◌, ◌≤◌, Bool, true, false, cond, Some, None, find, refl, arith, inl, inr, add-one}
+use Rattle.std.proofs.Common.{◌≡◌, ℕ, zero, suc, ◌+◌, ◌*◌, ◌/◌, ◌<◌, ◌≤◌, Bool, true, false, Some, None, find, refl, arith, inl, inr}
 use Rattle.std.specs.List.{range_with_len, prefix_len}
 use Rattle.std.proofs.lemmas.Bool.{cases_eq, cases_lt}
 use Rattle.std.proofs.Math.Nat.{mul-le-mul_left}
-use Rattle.hl_model.specs.Lists.{greatest_below}
 
 -- where no number passes, none is found
 pub find-missing : (p : ℕ → Bool) (a n : ℕ) → ((q : ℕ) → a ≤ q → q < a + n → p q ≡ false) → find p (range_with_len a n) ≡ None
@@ -31,15 +30,6 @@ prefix_len-first p a (suc n) i passes from to fails =
           let later = prefix_len-first p (a + 1) n i (λ q above below. passes q (omega arith) below) (omega arith) (omega arith) (λ below. fails (omega arith)) in
           rw first (omega (arith, later))
     ]
-
--- one number more
-pub greatest_below-next : (p : ℕ → Bool) (n : ℕ) → greatest_below p (n + 1) ≡ cond (p n) (Some n) (greatest_below p n)
-unfolding greatest_below
-greatest_below-next p n = rw (add-one n) refl
-
-pub greatest_below-zero : (p : ℕ → Bool) → greatest_below p 0 ≡ None
-unfolding greatest_below
-greatest_below-zero p = refl
 
 -- what times n is at most x is at most x / n
 pub le-div : (n k x : ℕ) → 0 < n → n * k ≤ x → k ≤ x / n

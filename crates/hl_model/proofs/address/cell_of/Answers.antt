@@ -1,5 +1,4 @@
-use Rattle.std.proofs.Common.{◌≡◌, ◌-◌, ◌*◌, ◌%◌, sym, ap, ap₂, ◌∙◌, arith}
-use Rattle.std.specs.Prelude.{bit_and}
+use Rattle.std.proofs.Common.{◌≡◌, ◌*◌, ◌%◌, sym, ap, ap₂, ◌∙◌, arith}
 use Rattle.hl_model.proofs.Masks.{remainder_is, place_is}
 use Rattle.hl_model.proofs.address.cell_of.Goals as goal
 
