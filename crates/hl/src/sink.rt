@@ -29,7 +29,7 @@ impl<'a, R: Wait, P: Work<R>> Sink<'a, R, P> {
 }
 
 impl<'a, R: Wait, P: Work<R>> PageWriter for Sink<'a, R, P> {
-    ghost wrote = { λ old page bytes new. new ≡ old };
+    ghost wrote = { λ old page bytes new. (new ≡ old) × P.took old.work.now page bytes };
 
     ghost failed = { λ old page bytes new. new.work ≡ old.work };
 

@@ -1,5 +1,5 @@
 //! A log that threads use beside a crew, opened and closed by one call.
-ghost use Rattle.std.specs.Prelude.{◌≡◌, true, false, Err, IfOk, IfErr};
+ghost use Rattle.std.specs.Prelude.{◌≡◌, ℕ, List, true, false, Err, IfOk, IfErr, ⊤};
 ghost use Rattle.hl_model.specs.declared.fault.Fault.TheVariants.{OutOfMemory, Size};
 ghost use Rattle.hl_words.specs.States.{IsSeedOf};
 ghost use Rattle.hl.specs.Openings.{IsInRange};
@@ -31,6 +31,9 @@ pub trait Work<R: Wait> {
     /// What a thread returns.
     type Out: Send + Drop;
 
+    /// What holds of a page whose image the device took; nothing, unless a program says so.
+    ghost took: { Self → ℕ → List ℕ → Type 0 } = { λ _ _ _. ⊤ };
+
     /// What the thread of this number does in its session; threads are counted from 0.
     fn run<L: Realm + Send + Sync>(
         &self,
@@ -39,8 +42,10 @@ pub trait Work<R: Wait> {
         number: u64,
     ) -> Self::Out;
 
-    /// Writes the image of a page to the program's device: whether it did. Two writers of the crew call it.
-    fn write_page(&self, rt: &R, page: u64, image: &[u8]) -> bool;
+    /// Writes the image of a page to the program's device: whether it did, and then what `took` says holds. Two writers of the
+    /// crew call it.
+    fn write_page(&self, rt: &R, page: u64, image: &[u8]) -> bool
+        ensures { result ≡ true → took self.now page image.now };
 }
 
 /// What each thread returned, or why it got no session, or couldn't leave its own.
