@@ -3,3 +3,5 @@ pub mod Steps
 pub mod LagLaws
 pub mod GoesLaws
 pub mod WaitLaws
+pub mod CountLaws
+pub mod RunLaws

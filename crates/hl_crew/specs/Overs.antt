@@ -1,4 +1,5 @@
 -- Why turns are over.
+use Rattle.std.specs.Prelude.{Bool, true, false}
 use Rattle.hl_model.specs.declared.fault.Fault.{Fault}
 use Rattle.hl_model.specs.declared.fault.Fault.TheVariants.{JournalFull}
 use Rattle.hl_crew.specs.declared.messages.Over.{Over}
@@ -8,3 +9,8 @@ use Rattle.hl_crew.specs.declared.messages.Over.TheVariants.{Full, Lost}
 abbrev pub over_of : Fault → Over
 over_of JournalFull = Full
 over_of _ = Lost
+
+-- whether a call was refused since the journal is full
+abbrev pub is_full : Fault → Bool
+is_full JournalFull = true
+is_full _ = false

@@ -1,5 +1,5 @@
 -- What the parts of a turn did.
-use Rattle.std.specs.Prelude.{ℕ, Bool, true, false, Result, Ok, Err, List, [], ◌∷◌, ◌++◌}
+use Rattle.std.specs.Prelude.{◌≡◌, ◌⊎◌, ℕ, Bool, true, false, Result, Ok, Err, List, [], ◌∷◌, ◌++◌}
 use Rattle.hl_model.specs.declared.fault.Fault.{Fault}
 use Rattle.hl_model.specs.declared.fault.Fault.TheVariants.{NoneClosed}
 use Rattle.hl_model.specs.declared.step.Reply.{Reply}
@@ -15,7 +15,9 @@ use Rattle.hl_domain.specs.Domains.{DomainState, call_of, answered, LeavesUnderL
 use Rattle.hl_keeper.specs.Pages.{BroomRecord, to_flush, to_clean, first_cell, zeroed}
 use Rattle.hl_keeper.specs.Taking.{taken_from, ready_told}
 use Rattle.hl_crew.specs.declared.messages.Over.{Over}
-use Rattle.hl_crew.specs.Waits.{Waits}
+use Rattle.hl_crew.specs.declared.orders.Cuts.{Cuts}
+use Rattle.hl_crew.specs.Lags.{makes_room}
+use Rattle.hl_crew.specs.Waits.{Waits, CutsJournal}
 
 -- a page whose cells were all swept, in this domain
 abbrev pub swept : DomainState → BroomRecord → BroomRecord
@@ -89,3 +91,17 @@ module _ (F : Type 0) (domain : DomainState) where
   Cleans (Ok true) old new = CleansOne old new
   Cleans (Ok false) old new = Brooms (Err NoneClosed) old new
   Cleans (Err over) old new = Unit {0}
+
+  -- a page was cleaned, or the journal, which may be cut, was cut after that had failed; or none is closed
+  abbrev pub Finds : Cuts → Result Bool Over → RiderState → RiderState → Type 0
+  Finds cuts (Ok true) old new =
+      CleansOne old new
+      ⊎ ((mid : RiderState) × (makes_room cuts ≡ true) × CutsJournal F domain mid new)
+  Finds cuts (Ok false) old new = Brooms (Err NoneClosed) old new
+  Finds cuts (Err over) old new = Unit {0}
+
+  -- a look for a closed page: the last one was in vain
+  abbrev pub Looks : Cuts → Result Bool Over → RiderState → RiderState → Type 0
+  Looks cuts (Ok true) old new = Finds cuts (Ok false) old new
+  Looks cuts (Ok false) old new = (found : Bool) × Finds cuts (Ok found) old new
+  Looks cuts (Err over) old new = Unit {0}

@@ -1,5 +1,5 @@
 ghost use Rattle.std.specs.Prelude.{◌≡◌};
-ghost use Rattle.hl_crew.specs.Turns.{Cleans, Frees};
+ghost use Rattle.hl_crew.specs.Turns.{Looks, Finds, Cleans, Frees};
 
 use crate::messages::Over;
 use crate::orders::{ATTEMPTS, Orders, make_room};
@@ -35,20 +35,41 @@ impl<R: Wait, E: Epochs + Drop, F: Task, P: Promise, L: Realm> Cleaner<'_, R, E,
             if !term.cleans_on(looks, is_last) {
                 return;
             }
-            let has_ended = self.has_ended.load(Ordering::SeqCst);
-            let found = match self.clean(rider) {
-                Ok(found) => found,
-                Err(Over::Full) if self.orders.makes_room() => {
-                    self.domain.cut(self.rt, rider);
-                    true
-                }
+            is_last = match self.look(rider) {
+                Ok(is_last) => is_last,
                 Err(_) => return,
             };
-            if !found && !has_ended {
-                self.sleeper.park(self.rt);
-            }
-            is_last = has_ended && !found;
             looks = looks.saturating_add(1);
+        }
+    }
+
+    // Looks for a closed page. If none is closed, it sleeps until the flusher has made another turn, unless the
+    // flusher has ended. True if the look was in vain, and was begun once the flusher had ended.
+    fn look(&self, rider: &mut Rider<L>) -> Result<bool, Over>
+        ensures { Looks F self.now.domain.now self.now.orders.cuts result rider.old rider.new }
+    {
+        let has_ended = self.has_ended.load(Ordering::SeqCst);
+        let found = match self.find(rider) {
+            Ok(found) => found,
+            Err(over) => return Err(over),
+        };
+        if !found && !has_ended {
+            self.sleeper.park(self.rt);
+        }
+        Ok(has_ended && !found)
+    }
+
+    // Cleans a page. If the journal is full and may be cut, it is cut, and that counts as a page. False if none is
+    // closed.
+    fn find(&self, rider: &mut Rider<L>) -> Result<bool, Over>
+        ensures { Finds F self.now.domain.now self.now.orders.cuts result rider.old rider.new }
+    {
+        match self.clean(rider) {
+            Err(Over::Full) if self.orders.makes_room() => {
+                self.domain.cut(self.rt, rider);
+                Ok(true)
+            }
+            cleaned => cleaned,
         }
     }
 

@@ -1,7 +1,8 @@
 ghost use Rattle.std.specs.Prelude.{◌≡◌, OnOk};
+ghost use Rattle.hl_crew.specs.Counting.{AreFlushed};
 ghost use Rattle.hl_crew.specs.Lags.{IsLag};
 ghost use Rattle.hl_crew.specs.Pouches.{load_count};
-ghost use Rattle.hl_crew.specs.Runs.{MakesTurn, MakesAny, MakesTurns};
+ghost use Rattle.hl_crew.specs.Runs.{own_of, MakesTurn, MakesOne, MakesTurns};
 ghost use Rattle.hl_crew.specs.Waits.{EndsTurn};
 
 use crate::counts::Counts;
@@ -59,7 +60,7 @@ impl<R: Wait, E: Epochs + Drop, F: Task, P: Promise, L: Realm> Flusher<'_, R, E,
         requires { let orders = self.now.orders
             in IsLag self.now.domain.now.sizes.frames orders.mutable orders.resident }
         ensures { MakesTurns F self.now.domain.now self.now.orders (T.is_over term.now) result
-            own.old.rider own.new.rider }
+            (own_of own.old.rider own.old.counts) (own_of own.new.rider own.new.counts) }
     {
         let mut made = 0u64;
         let mut vain = 0u64;
@@ -101,7 +102,8 @@ impl<R: Wait, E: Epochs + Drop, F: Task, P: Promise, L: Realm> Flusher<'_, R, E,
     fn make_turn(&self, own: &mut FlusherState<L>, cleaner: &Parker) -> Result<bool, Over>
         requires { let orders = self.now.orders
             in IsLag self.now.domain.now.sizes.frames orders.mutable orders.resident }
-        ensures { MakesAny F self.now.domain.now self.now.orders 0 result own.old.rider own.new.rider }
+        ensures { MakesOne F self.now.domain.now self.now.orders result
+            (own_of own.old.rider own.old.counts) (own_of own.new.rider own.new.counts) }
     {
         let share = own.rider.share();
         let failed = own.counts.failed;
@@ -121,7 +123,8 @@ impl<R: Wait, E: Epochs + Drop, F: Task, P: Promise, L: Realm> Flusher<'_, R, E,
     fn turn(&self, own: &mut FlusherState<L>) -> Result<(), Over>
         requires { let orders = self.now.orders
             in IsLag self.now.domain.now.sizes.frames orders.mutable orders.resident }
-        ensures { MakesTurn F self.now.domain.now self.now.orders result own.old.rider own.new.rider }
+        ensures { MakesTurn F self.now.domain.now self.now.orders result
+            (own_of own.old.rider own.old.counts) (own_of own.new.rider own.new.counts) }
     {
         self.keep_lag(&mut own.rider)?;
         self.run_actions(&mut own.rider)?;
@@ -137,7 +140,8 @@ impl<R: Wait, E: Epochs + Drop, F: Task, P: Promise, L: Realm> Flusher<'_, R, E,
     // of the domain or a channel failed, what is left there can't be answered.
     fn flush(&self, own: &mut FlusherState<L>, pouch: &mut Pouch) -> Result<(), Over>
         requires { load_count pouch.old ≡ 0 }
-        ensures { OnOk result (load_count pouch.new ≡ 0) }
+        ensures none { OnOk result (load_count pouch.new ≡ 0) }
+        ensures counts { OnOk result (AreFlushed own.old.counts own.new.counts) }
     {
         let mut sent = 0;
         let all_sent = self.send_pages(&mut own.rider, pouch, &mut sent);

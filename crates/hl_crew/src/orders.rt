@@ -1,5 +1,6 @@
-ghost use Rattle.std.specs.Prelude.{◌≡◌, ℕ, Some, None};
+ghost use Rattle.std.specs.Prelude.{◌≡◌, ◌&&◌, ℕ, Some, None};
 ghost use Rattle.hl_crew.specs.Lags.{makes_room};
+ghost use Rattle.hl_crew.specs.Overs.{is_full};
 ghost use Rattle.hl_crew.specs.Waits.{MakesRoom};
 
 use crate::duty::Duty;
@@ -66,7 +67,8 @@ pub(crate) fn make_room<R: Wait, E: Epochs + Drop, F: Task, P: Promise, L: Realm
     rider: &mut Rider<L>,
     fault: &Fault,
 ) -> bool
-    ensures { MakesRoom F domain.now result rider.old rider.new }
+    ensures room { MakesRoom F domain.now result rider.old rider.new }
+    ensures answer { result ≡ (makes_room orders.cuts && is_full fault.now) }
 {
     let is_cut = orders.makes_room() && matches!(fault, Fault::JournalFull);
     if is_cut {

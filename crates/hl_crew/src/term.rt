@@ -1,4 +1,4 @@
-ghost use Rattle.std.specs.Prelude.{◌≡◌, ℕ, ◌≤◌, false, ⊤};
+ghost use Rattle.std.specs.Prelude.{◌≡◌, ℕ, ◌≤◌, ◌&&◌, nat_lt, not, true, false, ⊤};
 
 use std::sync::Wait;
 
@@ -14,7 +14,8 @@ pub(crate) trait Term<R> {
 
     /// Whether the cleaner looks for a closed page once more, after `looks`. If `is_last` is true,
     /// the last look was in vain, and was begun once the flusher had ended.
-    fn cleans_on(&self, looks: u64, is_last: bool) -> bool;
+    fn cleans_on(&self, looks: u64, is_last: bool) -> bool
+        ensures { is_last ≡ true → result ≡ false };
 
     /// Rests after a turn that got nowhere, with `vain` such turns in a row before it.
     fn rest(&self, rt: &R, vain: u64);
@@ -36,7 +37,10 @@ impl<R: Wait> Term<R> for Turns {
         made < self.most
     }
 
-    fn cleans_on(&self, looks: u64, is_last: bool) -> bool {
+    fn cleans_on(&self, looks: u64, is_last: bool) -> bool
+        ensures last { is_last ≡ true → result ≡ false }
+        ensures value { result ≡ (nat_lt looks self.now.most && not is_last) }
+    {
         looks < self.most && !is_last
     }
 

@@ -1,5 +1,5 @@
-ghost use Rattle.std.specs.Prelude.{◌≡◌, true};
-ghost use Rattle.hl_crew.specs.Writes.{IsWritten};
+ghost use Rattle.std.specs.Prelude.{◌≡◌, true, false};
+ghost use Rattle.hl_crew.specs.Writes.{IsWritten, IsNotWritten};
 
 use crate::gate::Gate;
 use crate::messages::{Acknowledgement, Channels, Message};
@@ -75,6 +75,9 @@ where
         ensures written { let sizes = self.now.domain.now.sizes
             in result.ok ≡ true
             → IsWritten W.wrote sizes job own.old.rider own.new.rider own.old.pages own.new.pages }
+        ensures failed { let sizes = self.now.domain.now.sizes
+            in result.ok ≡ false → IsNotWritten W.failed W.failures sizes job
+            own.old.rider own.new.rider own.old.pages own.new.pages }
     {
         if !self.may_write(job.page) {
             return Acknowledgement::failed(job.page);

@@ -2,7 +2,7 @@ ghost use Rattle.std.specs.Prelude.{◌≡◌, ◌+◌, ℕ, Some, None, Ok, pos
 ghost use Rattle.hl_words.specs.States.{RiderState};
 ghost use Rattle.hl_crew.specs.Pouches.{is_of, load_count, PageAnswer, Answers};
 ghost use Rattle.hl_crew.specs.Waits.{Waits};
-ghost use Rattle.hl_crew.specs.Counting.{counted, one_stranger, failed_more, AnswersAndCounts};
+ghost use Rattle.hl_crew.specs.Counting.{counted, one_stranger, failed_more, AnswersAndCounts, IsAcknowledged, AreAcknowledged};
 
 use crate::flusher::{Flusher, FlusherState};
 use crate::messages::{Acknowledgement, Over};
@@ -22,7 +22,10 @@ impl<R: Wait, E: Epochs + Drop, F: Task, P: Promise, L: Realm> Flusher<'_, R, E,
         own: &mut FlusherState<L>,
         pouch: &mut Pouch,
         sent: u64,
-    ) -> Result<(), Over> {
+    ) -> Result<(), Over>
+        ensures { OnOk result (AreAcknowledged sent (load_count pouch.old) (load_count pouch.new)
+            own.old.counts own.new.counts) }
+    {
         for _ in 0..sent {
             let Ok(told) = self.channels.acknowledged.recv(self.rt) else {
                 return Err(Over::Lost);
@@ -52,6 +55,8 @@ impl<R: Wait, E: Epochs + Drop, F: Task, P: Promise, L: Realm> Flusher<'_, R, E,
             }
             in AnswersAndCounts F self.now.domain.now answer at pouch.old pouch.new
             own.old.counts own.new.counts result }
+        ensures once { OnOk result (IsAcknowledged (load_count pouch.old) (load_count pouch.new)
+            own.old.counts own.new.counts) }
     {
         if !pouch.holds(told.page()) {
             own.counts.count_stranger();

@@ -1,5 +1,5 @@
-ghost use Rattle.std.specs.Prelude.{◌≡◌, IfSome};
-ghost use Rattle.hl_crew.specs.Writes.{IsWritten};
+ghost use Rattle.std.specs.Prelude.{◌≡◌, IfSome, IfNone};
+ghost use Rattle.hl_crew.specs.Writes.{IsWritten, IsNotWritten};
 
 use crate::gate::Gate;
 use crate::writer::{Buffers, Writer, WriterState};
@@ -47,6 +47,9 @@ where
         ensures page { IfSome result (λ written. written.page ≡ job.page) }
         ensures written { let sizes = self.now.domain.now.sizes
             in IfSome result (λ written. IsWritten W.wrote sizes job
+            own.old.rider own.new.rider own.old.pages own.new.pages) }
+        ensures refused { let sizes = self.now.domain.now.sizes
+            in IfNone result (IsNotWritten W.failed W.failures sizes job
             own.old.rider own.new.rider own.old.pages own.new.pages) }
     {
         let copied = self

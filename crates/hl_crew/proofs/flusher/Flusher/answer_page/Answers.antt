@@ -8,7 +8,7 @@ loop-init g c = (refl, waits_same refl)
 pub loop-preserved : goal.loop-preserved
 loop-preserved g c = (
   c.in-Err.ensures.refused ∙ c.loop.invariant.0,
-  waits_on c.loop.invariant.1 (waits_on c.in-Err.ensures.waits (waits_room g.row.F.Denot c.args.self.now.domain.now _ c.make_room.ensures)),
+  waits_on c.loop.invariant.1 (waits_on c.in-Err.ensures.waits (waits_room g.row.F.Denot c.args.self.now.domain.now _ c.make_room.ensures.room)),
 )
 
 pub returns-clause-waits : goal.returns-clause-waits

@@ -8,5 +8,6 @@ loop-preserved g c =
     let before = c.loop.invariant in (
       before.0 + 1,
       omega (arith, before.1, c.saturating_add-made.ensures),
-      followed_more (MakesAny g.row.F.Denot c.args.self.now.domain.now c.args.self.now.orders) _ _ _ _ before.2 c.in-Ok.ensures,
+      followed_more (MakesAny g.row.F.Denot c.args.self.now.domain.now c.args.self.now.orders) _ _ _ _ before.2
+      (c.in-Ok.moved, c.in-Ok.ensures),
     )

@@ -1,10 +1,11 @@
 use Rattle.std.proofs.Common.{ℕ, ◌≤◌}
 use Rattle.hl_crew.specs.Goes.{Followed}
-use Rattle.hl_crew.specs.Runs.{MakesAny}
+use Rattle.hl_crew.specs.Runs.{own_of, MakesAny}
 use Rattle.hl_crew.proofs.flusher.Flusher.make_turns.Given as goal
 
 -- at least as many turns were made as are counted
 abbrev pub invariant-loop : goal.invariant-loop
 invariant-loop g l =
     (count : ℕ) × (l.made ≤ count)
-    × Followed (MakesAny g.row.F.Denot l.self.domain.now l.self.orders) count l.initial.own.rider l.own.rider
+    × Followed (MakesAny g.row.F.Denot l.self.domain.now l.self.orders) count
+    (own_of l.initial.own.rider l.initial.own.counts) (own_of l.own.rider l.own.counts)
