@@ -53,8 +53,8 @@ abbrev pub has_moved : OwnState → OwnState → Bool
 has_moved old new =
     not (new.rider.share == old.rider.share) && new.counts.failed == old.counts.failed
 
--- a turn was made, and it is told whether it got somewhere; where it failed since the journal was full, and the
--- orders make room, the journal was cut then
+-- a turn was made, and it is told whether it got somewhere; where it failed since the journal was full, and
+-- the orders make room, the journal was cut then
 abbrev pub MakesOne : (F : Type 0) → DomainState → Orders
     → Result Bool Over → OwnState → OwnState → Type 0
 MakesOne F domain orders (Ok moved) old new =

@@ -48,10 +48,15 @@
 //! other than `OutOfMemory` a clause. Inside, of each function that does a step: what it made under
 //! the domain's lock, in what order, and what it counted. A flusher's turn keeps the lag that was
 //! ordered, by steps in their order up to the first that is refused, and ends if the journal is
-//! full; if its actions end well, it ran each that it took and answered it done, up to four; it answers a page as its acknowledgement says, and counts that answer if it was accepted; what
-//! nobody acknowledged it counts as failed. Its turns end when they are over, or when one of them
-//! failed. A page reported as written was let through by the gate and copied, and its image was
-//! written; a page reported as clean was swept. No clause says that a thread gets on, what a
+//! full; if its actions end well, it ran each that it took and answered it done, up to four; it
+//! answers a page as its acknowledgement says. If its pages were flushed well, each acknowledgement
+//! was counted once, and each page that none of them named once as failed. A turn that ended well
+//! ended by the cut that was ordered; where a part failed, so did the turn. It got somewhere
+//! exactly if it entered a step and no write failed. A full journal is cut only if that was
+//! ordered. The turns end when they are over, or when one of them failed. A page reported as
+//! written was let through by the gate and copied, and its image was written; of one reported as
+//! failed nothing was written, or its write failed and was counted so; a page reported as clean was
+//! swept, and a cleaner's last look was in vain. No clause says that a thread gets on, what a
 //! channel delivers, or what [`CrewEnd`] counts in all: what lies under a lock or comes from a
 //! channel is known by its type alone.
 //!

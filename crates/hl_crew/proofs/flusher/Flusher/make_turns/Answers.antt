@@ -9,5 +9,5 @@ loop-preserved g c =
       before.0 + 1,
       omega (arith, before.1, c.saturating_add-made.ensures),
       followed_more (MakesAny g.row.F.Denot c.args.self.now.domain.now c.args.self.now.orders) _ _ _ _ before.2
-      (c.in-Ok.moved, c.in-Ok.ensures),
+          (c.in-Ok.moved, c.in-Ok.ensures),
     )
