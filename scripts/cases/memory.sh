@@ -87,14 +87,14 @@ race_within_ever_more_pages() {
         GLIBC_TUNABLES=glibc.malloc.mmap_threshold=0 prlimit --as="$((held + more * 4096))" \
             "$program" race 1 1 > "$room/text" 2> "$room/errors" || status=$?
         [ "$status" != 0 ] || break
-        is_refused_race "with $more pages more" || return
+        is_told_refused "with $more pages more" || return
     done
     [ "$more" -gt "$((4 * 2064))" ] || { echo "it ended well within $more pages more"; return 1; }
     [ "$(cat "$room/text")" = "race 1 1 ok" ]
 }
 
-# Whether the race ended with status 1 and the fault's line alone: is_refused_race WHEN
-is_refused_race() {
+# Whether the program ended with status 1 and the fault's line alone: is_told_refused WHEN
+is_told_refused() {
     if [ "$status" != 1 ] || [ -s "$room/text" ] || [ "$(cat "$room/errors")" != "fault 29 OutOfMemory" ]; then
         echo "$1 it ended with status $status"
         cat "$room/text" "$room/errors"
@@ -104,13 +104,20 @@ is_refused_race() {
 
 check "memory for stacks refused in a race" race_within_ever_more_pages
 
-# Runs a race of one rider and one round that is refused a call, and sets status: with_refusal NAME=NUMBER WORDS..
-with_refusal() {
+# Runs a program that is refused a call, and sets status: refused NAME=NUMBER PROGRAM WORDS..
+refused() {
     local refusal="$1"
     shift
     status=0
     timeout 20 env "$refusal" COUNTED="$room/counted" LD_PRELOAD="$room/refuse.so" \
-        "$program" race 1 1 "$@" > "$room/text" 2> "$room/errors" || status=$?
+        "$@" > "$room/text" 2> "$room/errors" || status=$?
+}
+
+# The same of a race of one rider and one round: with_refusal NAME=NUMBER WORDS..
+with_refusal() {
+    local refusal="$1"
+    shift
+    refused "$refusal" "$program" race 1 1 "$@"
 }
 
 # Each call for memory is refused in turn; of the images that the writers of the crew keep, which take nearly all, one
@@ -127,7 +134,7 @@ each_call_refused() {
         if [ "$status" = 0 ] && [ "$(cat "$room/text")" = "race 1 1 ok" ]; then
             done_without="$((done_without + 1))"
         else
-            is_refused_race "without call $call" || return
+            is_told_refused "without call $call" || return
         fi
     done
     [ "$done_without" -le 8 ] || { echo "it did without $done_without of its calls"; return 1; }
@@ -143,11 +150,26 @@ each_thread_refused() {
     done
     for thread in 2 3 4 5; do
         with_refusal "REFUSED_THREAD=$thread"
-        is_refused_race "without thread $thread" || return
+        is_told_refused "without thread $thread" || return
     done
     with_refusal REFUSED_THREAD=0
     read -r _ threads < "$room/counted"
     [ "$threads" = 6 ] || { echo "it made $threads threads"; return 1; }
+}
+
+# The first thread of a log with one thread of work is its crew's, which serves after that one for want of it. Without
+# any other the crew isn't whole, and the log is closed with the riders that came back.
+each_thread_refused_to_a_log() {
+    local status thread threads _
+    refused REFUSED_THREAD=1 "$pace" idle 0
+    [ "$status" = 0 ] || { echo "without thread 1 it ended with status $status"; return 1; }
+    for thread in 2 3 4 5; do
+        refused "REFUSED_THREAD=$thread" "$pace" idle 0
+        is_told_refused "without thread $thread" || return
+    done
+    refused REFUSED_THREAD=0 "$pace" idle 0
+    read -r _ threads < "$room/counted"
+    [ "$status" = 0 ] && [ "$threads" = 5 ] || { echo "it made $threads threads"; return 1; }
 }
 
 if has_all "memory refused to a race, call by call" cc; then
@@ -156,6 +178,7 @@ if has_all "memory refused to a race, call by call" cc; then
     check "each call for memory refused in a race" each_call_refused
     check "each call for memory refused in a race with cuts" each_call_refused --cut
     check "each thread refused in a race" each_thread_refused
+    check "each thread refused to a log" each_thread_refused_to_a_log
 fi
 
 # A domain of the greatest sizes wants 512 GiB for its words. The bound is for systems that promise more than they have.

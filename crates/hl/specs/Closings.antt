@@ -1,5 +1,6 @@
 -- What is left of a log that was opened and closed by one call.
-use Rattle.std.specs.Prelude.{◌≡◌, ◌≢◌, MatchResult, List, length}
+use Rattle.std.specs.Prelude.{◌≡◌, ◌≢◌, ◌<◌, ◌+◌, ℕ, Result, MatchResult, IfOk, List, length, slice_index_or}
+use Rattle.hl_model.specs.declared.fault.Fault.{Fault}
 use Rattle.hl_model.specs.declared.fault.Fault.TheVariants.{Stranger}
 use Rattle.hl_words.specs.States.{RiderState}
 use Rattle.hl_domain.specs.Domains.{IsEnding}
@@ -16,6 +17,15 @@ pub record IsClosed {Out F : Type 0} (o : Opening) (Leaves : Out → List RiderS
       (λ ending. (length riders ≡ o.riders) × IsEnding o.params riders ending)
       (λ fault. (fault ≡ Stranger o.stamp) × (length riders ≢ o.riders))
 
--- nothing is said of what was handed out
-abbrev pub Anything : {Out : Type 0} → Out → List RiderState → Type 0
-Anything out riders = Unit {0}
+-- each of these results is a fault, or a value of which so much holds of its place
+abbrev pub AreReturned : {Out : Type 0} → (ℕ → Out → Type 0) → List (Result Out Fault) → Type 0
+AreReturned {Out} Returns outs =
+    (number : ℕ) (other : Result Out Fault) → number < length outs
+    → IfOk (slice_index_or outs number other) (Returns number)
+
+-- a thread for each of so many riders, but the crew's four, has returned such a result, and all riders came back
+pub record AllReturned {Out : Type 0} (Returns : ℕ → Out → Type 0) (count : ℕ)
+    (outs : List (Result Out Fault)) (riders : List RiderState) : Type 0 where
+  pub back : length riders ≡ count
+  pub threads : length outs + 4 ≡ count
+  pub each : AreReturned Returns outs

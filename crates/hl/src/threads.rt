@@ -1,10 +1,10 @@
 //! A log that threads use beside a crew, opened and closed by one call.
-ghost use Rattle.std.specs.Prelude.{◌≡◌, ℕ, List, true, false, Err, IfOk, IfErr, ⊤};
+ghost use Rattle.std.specs.Prelude.{◌≡◌, ◌+◌, ℕ, List, map, length, true, false, Err, IfOk, IfErr, ⊤};
 ghost use Rattle.hl_model.specs.declared.fault.Fault.TheVariants.{OutOfMemory, Size};
 ghost use Rattle.hl_words.specs.States.{IsSeedOf};
 ghost use Rattle.hl.specs.Openings.{IsInRange};
 ghost use Rattle.hl.specs.Crews.{can_run};
-ghost use Rattle.hl.specs.Closings.{IsClosed, Anything};
+ghost use Rattle.hl.specs.Closings.{IsClosed, AreReturned, AllReturned};
 
 use crate::crew::{Crew, CrewReport, CrewRiders, is_for};
 use crate::log::Log;
@@ -34,13 +34,17 @@ pub trait Work<R: Wait> {
     /// What holds of a page whose image the device took; nothing, unless a program says so.
     ghost took: { Self → ℕ → List ℕ → Type 0 } = { λ _ _ _. ⊤ };
 
+    /// What holds of what a thread of this number returns; nothing, unless a program says so.
+    ghost returns: { Self → ℕ → Self.Out → Type 0 } = { λ _ _ _. ⊤ };
+
     /// What the thread of this number does in its session; threads are counted from 0.
     fn run<L: Realm + Send + Sync>(
         &self,
         rt: &R,
         session: &mut Session<R, L, Self::Job>,
         number: u64,
-    ) -> Self::Out;
+    ) -> Self::Out
+        ensures { returns self.now number result };
 
     /// Writes the image of a page to the program's device: whether it did, and then what `took` says holds. Two writers of the
     /// crew call it.
@@ -50,6 +54,9 @@ pub trait Work<R: Wait> {
 
 /// What each thread returned, or why it got no session, or couldn't leave its own.
 pub type Outs<T> = Vec<Result<T, Fault>>;
+
+// The same of one thread, with its rider.
+type Worked<L, T> = (Result<T, Fault>, Rider<L>);
 
 /// Opens a log, runs a thread for each rider but four, and a crew with those four, and closes the
 /// log. Each thread is in a session while it works, and the crew serves until all have ended. A
@@ -71,7 +78,8 @@ pub fn with_threads<R: Threads + Wait + Sync, P: Work<R> + Sync>(
 ) -> Result<Closed<Result<Outs<P::Out>, Fault>, P::Job>, Fault>
     ensures size { can_run opening duty ≡ false → result ≡ Err Size }
     ensures memory { can_run opening duty ≡ true → IfErr result (λ fault. fault ≡ OutOfMemory) }
-    ensures closed { IfOk result (IsClosed opening Anything) }
+    ensures closed { IfOk result (IsClosed opening (λ out riders. IfOk out
+        (λ outs. AllReturned (P.returns work.now) opening.riders outs.items riders))) }
 {
     if !has_room(&opening, duty) {
         return Err(Fault::Size);
@@ -103,7 +111,8 @@ fn threads_over<L: Realm + Send + Sync, R: Threads + Wait + Sync, P: Work<R> + S
     requires named { (seed.sizes ≡ L.sizes) × (opening.stamp ≡ L.stamp) × (opening.journal ≡ L.limit) }
     requires range { IsInRange opening }
     ensures memory { IfErr result (λ fault. fault ≡ OutOfMemory) }
-    ensures closed { IfOk result (IsClosed opening Anything) }
+    ensures closed { IfOk result (IsClosed opening (λ out riders. IfOk out
+        (λ outs. AllReturned (P.returns work.now) opening.riders outs.items riders))) }
 {
     let (log, riders) = Log::<L, P::Job>::open(alloc, seed, opening.journal, opening.stamp)?;
     let (out, riders) = run_all(rt, alloc, &log, riders, duty, work);
@@ -122,7 +131,10 @@ fn run_all<L: Realm + Send + Sync, R: Threads + Wait + Sync, P: Work<R> + Sync>(
     mut riders: Vec<Rider<L>>,
     duty: Duty,
     work: &P,
-) -> (Result<Outs<P::Out>, Fault>, Vec<Rider<L>>) {
+) -> (Result<Outs<P::Out>, Fault>, Vec<Rider<L>>)
+    ensures { IfOk result.0 (λ outs. AllReturned (P.returns work.now) (length riders.items) outs.items
+        result.1.items) }
+{
     let Some(crew) = CrewRiders::take_from(&mut riders) else {
         return (Err(Fault::Size), riders);
     };
@@ -131,7 +143,10 @@ fn run_all<L: Realm + Send + Sync, R: Threads + Wait + Sync, P: Work<R> + Sync>(
     let ((crew, ended), worked) = thread::join(
         rt,
         || serve_behind(rt, alloc, log, crew, duty, work, &stop),
-        || work_to_the_stop(rt, alloc, log, riders, work, &stop),
+        || -> Result<Vec<Worked<L, P::Out>>, AllocError>
+            ensures { IfOk result (λ worked. (length worked.items ≡ length riders.items)
+                × AreReturned (P.returns work.entry.now) (map (λ one. one.0) worked.items)) }
+        { work_to_the_stop(rt, alloc, log, riders, work, &stop) },
     );
     let Ok(worked) = worked else {
         return (Err(Fault::OutOfMemory), Vec::new(alloc));
@@ -145,15 +160,16 @@ fn run_all<L: Realm + Send + Sync, R: Threads + Wait + Sync, P: Work<R> + Sync>(
 // What each thread returned, and all riders.
 fn gather<L: Realm, T: Drop>(
     alloc: Global,
-    worked: Vec<(Result<T, Fault>, Rider<L>)>,
+    worked: Vec<Worked<L, T>>,
     crew: CrewRiders<L>,
-) -> Result<(Outs<T>, Vec<Rider<L>>), Fault> {
-    let mut outs = Vec::new(alloc);
-    let mut riders = Vec::new(alloc);
-    for (out, rider) in worked {
-        outs.push(out).map_err(|_| Fault::OutOfMemory)?;
-        riders.push(rider).map_err(|_| Fault::OutOfMemory)?;
-    }
+) -> Result<(Outs<T>, Vec<Rider<L>>), Fault>
+    ensures outs { IfOk result (λ all. all.0.items ≡ map (λ one. one.0) worked.items) }
+    ensures riders { IfOk result (λ all. length all.1.items ≡ length worked.items + 4) }
+{
+    let parted: Result<(Outs<T>, Vec<Rider<L>>), AllocError> = worked.into_iter().unzip(alloc);
+    let Ok((outs, mut riders)) = parted else {
+        return Err(Fault::OutOfMemory);
+    };
     crew.put_back(&mut riders)?;
     Ok((outs, riders))
 }
@@ -166,7 +182,10 @@ fn work_to_the_stop<L: Realm + Send + Sync, R: Threads + Wait + Sync, P: Work<R>
     riders: Vec<Rider<L>>,
     work: &P,
     stop: &Stop,
-) -> Result<Vec<(Result<P::Out, Fault>, Rider<L>)>, AllocError> {
+) -> Result<Vec<Worked<L, P::Out>>, AllocError>
+    ensures { IfOk result (λ worked. (length worked.items ≡ length riders.items)
+        × AreReturned (P.returns work.now) (map (λ one. one.0) worked.items)) }
+{
     let worked = work_all(rt, alloc, log, riders, work);
     stop.give();
     worked
@@ -179,12 +198,17 @@ fn work_all<L: Realm + Send + Sync, R: Threads + Wait + Sync, P: Work<R> + Sync>
     log: &Log<L, P::Job>,
     riders: Vec<Rider<L>>,
     work: &P,
-) -> Result<Vec<(Result<P::Out, Fault>, Rider<L>)>, AllocError> {
+) -> Result<Vec<Worked<L, P::Out>>, AllocError>
+    ensures { IfOk result (λ worked. (length worked.items ≡ length riders.items)
+        × AreReturned (P.returns work.now) (map (λ one. one.0) worked.items)) }
+{
     let jobs = riders.into_iter().enumerate().collect::<Vec<_>>(alloc)?;
     thread::map_vec(
         rt,
         jobs,
-        &|(number, rider)| work_one(rt, log, rider, number as u64, work),
+        &|job: (usize, Rider<L>)| -> Worked<L, P::Out>
+            ensures { IfOk result.0 (P.returns work.entry.now job.0) }
+        { work_one(rt, log, job.1, job.0 as u64, work) },
     )
 }
 
@@ -195,7 +219,9 @@ fn work_one<L: Realm + Send + Sync, R: Wait, P: Work<R>>(
     rider: Rider<L>,
     number: u64,
     work: &P,
-) -> (Result<P::Out, Fault>, Rider<L>) {
+) -> Worked<L, P::Out>
+    ensures { IfOk result.0 (P.returns work.now number) }
+{
     let mut session = match Session::enter(rt, log, rider) {
         Ok(session) => session,
         Err(Refused { fault, back }) => return (Err(fault), back),

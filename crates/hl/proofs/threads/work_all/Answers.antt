@@ -1,0 +1,23 @@
+use Rattle.std.proofs.Common.{rules, arith, ◌≡◌, ◌<◌, length, slice_index_or, ap, sym, ◌∙◌, subst, Some, option_map}
+use Rattle.std.specs.Vec.Iter.{into_iter_items}
+use Rattle.hl.proofs.OutLaws.{work_returned, read_at}
+use Rattle.hl.proofs.threads.work_all.Goals as goal
+
+pub returns : goal.returns
+returns g c =
+    let run = c.in_ok-jobs.ensures.runs tt in
+    let numbers = c.enumerate.ensures.runs run.0 run.0.seen run.1 in
+    let source = numbers.1 in
+    let whole = source.2.1 ∙ run.2 in
+    let from = ap into_iter_items source.1 ∙ c.into_iter.ensures.rest in
+    let all = (c.into_iter.ensures.runs source.0 source.0.seen).1 whole in
+    let long : length c.in_ok-jobs.jobs.items ≡ length c.args.riders.items =
+    ap length run.3.0 ∙ sym run.0.long ∙ sym source.2.0.0 ∙ all ∙ ap length from in
+    work_returned (g.P.Work.returns c.args.work.now) _ _ c.in_ok-jobs.jobs (length c.args.riders.items) c.map_vec.result
+    long
+    (λ i job within.
+    let inside : i < run.0.len = omega (arith, within, run.0.long, ap length run.3.0) in
+    let reads = subst (λ xs. option_map (λ y. y) (run.0.at i) ≡ Some (slice_index_or xs i job)) (sym run.3.0) (run.0.reads i job inside) in
+    read_at (λ x. x.0 ≡ i) (run.0.at i) (slice_index_or c.in_ok-jobs.jobs.items i job) reads (numbers.0 i))
+    (λ job one call. search rules)
+    c.map_vec.ensures.len c.map_vec.ensures.each
