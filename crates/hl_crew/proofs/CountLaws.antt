@@ -1,29 +1,46 @@
--- What acknowledgements counted.
-use Rattle.std.proofs.Common.{◌≡◌, ℕ, ◌+◌, Bool, ◌∷◌, ◌∙◌, ap, arith}
-use Rattle.std.specs.Prelude.{Some, Result, Ok, Err, OnOk}
+-- What answers counted.
+use Rattle.std.proofs.Common.{◌≡◌, ℕ, ◌+◌, Bool, true, List, refl, sym, ap, subst}
+use Rattle.std.specs.Prelude.{Option, Some, None, Result, Ok, Err, MatchResult, OnOk, is_some, slice_set}
+use Rattle.std.specs.Result.{result_and}
+use Rattle.hl_model.specs.declared.fault.Fault.{Fault}
+use Rattle.hl_keeper.specs.declared.load.PageJob.{PageJob}
+use Rattle.hl_domain.specs.Domains.{DomainState}
 use Rattle.hl_crew.specs.declared.counts.Counts.{Counts}
-use Rattle.hl_crew.specs.Counting.{counted, told_one, failed_more, IsAcknowledged, AreAcknowledged, AreFlushed}
+use Rattle.hl_crew.specs.declared.messages.Over.{Over}
+use Rattle.hl_crew.specs.Overs.{over_of}
+use Rattle.hl_crew.specs.Pouches.{load_count, PageAnswer}
+use Rattle.hl_crew.specs.Counting.{counted, AnswersAndCounts}
+use Rattle.hl_crew.specs.Flushes.{hold_of, AnswersPage}
 
--- an answer of a page was counted, where it was accepted
-pub answered_once : {X Y : Type 0} (held left : ℕ) (before after : Counts) (ok : Bool) (result : Result X Y) → OnOk result (left + 1 ≡ held) → OnOk result (after ≡ counted ok before) → OnOk result (IsAcknowledged held left before after)
-answered_once held left before after ok (Ok x) fewer counts = record { told = Some ok; fewer = fewer; counts = counts }
-answered_once held left before after ok (Err error) fewer counts = tt
+-- how many pages are held after an answer
+held_after : (answer : Result ℕ Fault) (result : Result (Unit {0}) Over) (before after : Counts) (ok : Bool) (at : ℕ) (old new : List (Option PageJob))
+    → MatchResult answer (λ _. (result ≡ Ok tt) × (after ≡ counted ok before)) (λ fault. (result ≡ Err (over_of fault)) × (after ≡ before))
+    → MatchResult answer (λ _. new ≡ slice_set old at None) (λ _. new ≡ old)
+    → OnOk result (load_count new + 1 ≡ load_count old)
+    → MatchResult answer (λ _. (result ≡ Ok tt) × (after ≡ counted ok before) × (load_count new + 1 ≡ load_count old)) (λ fault. (result ≡ Err (over_of fault)) × (after ≡ before) × (load_count new ≡ load_count old))
+held_after (Ok offset) result before after ok at old new counts left fewer =
+    (counts.0, counts.1, subst (λ (r : Result (Unit {0}) Over). OnOk r (load_count new + 1 ≡ load_count old)) counts.0 fewer)
+held_after (Err fault) result before after ok at old new counts left fewer = (counts.0, counts.1, ap load_count left)
 
--- one more was counted
-pub one_acknowledged_more : {sent held mid left : ℕ} {before between after : Counts} → AreAcknowledged sent held mid before between → IsAcknowledged mid left between after → AreAcknowledged (sent + 1) held left before after
-one_acknowledged_more so_far one = record {
-  told = one.told ∷ so_far.told;
-  each = omega (arith, so_far.each);
-  fewer = omega (arith, so_far.fewer, one.fewer);
-  counts = one.counts ∙ ap (told_one one.told) so_far.counts;
+-- an answer through a pouch is one of a page that is held
+pub answers_page : (F : Type 0) (domain : DomainState) (told : PageAnswer) (at : ℕ) (old new : List (Option PageJob)) (before after : Counts) (result : Result (Unit {0}) Over)
+    → AnswersAndCounts F domain told at old new before after result
+    → OnOk result (load_count new + 1 ≡ load_count old)
+    → AnswersPage F domain told.ok result (hold_of told.from before (load_count old)) (hold_of told.to after (load_count new))
+answers_page F domain told at old new before after result answered fewer = record {
+  page = told.page;
+  stamp = answered.answers.job.stamp;
+  answer = answered.answer;
+  ends = (answered.mid, answered.waits, answered.answers.met);
+  counts = held_after answered.answer result before after told.ok at old new answered.counts answered.answers.left fewer;
 }
 
--- each page that was left is counted as failed
-pub flushed_of : {X Y : Type 0} (sent held left : ℕ) (before between after : Counts) (result : Result X Y) → sent ≡ held → AreAcknowledged sent held left before between → OnOk result (after ≡ failed_more left between) → OnOk result (AreFlushed before after)
-flushed_of sent held left before between after (Ok x) sent_is so_far failed = record {
-  told = so_far.told;
-  left = left;
-  each = omega (arith, sent_is, so_far.each, so_far.fewer);
-  counts = failed ∙ ap (failed_more left) so_far.counts;
-}
-flushed_of sent held left before between after (Err error) sent_is so_far failed = tt
+-- a place that was found
+pub place_found : (found : Option ℕ) → true ≡ is_some found → (at : ℕ) × (found ≡ Some at)
+place_found (Some at) is = (at, refl)
+place_found None is = absurd cc
+
+-- where all parts ended well, so did the last
+pub last_part : (P : Type 0) (first last result : Result (Unit {0}) Over) → result ≡ result_and first last → OnOk last P → OnOk result P
+last_part P (Ok done) last result is holds = subst (λ (r : Result (Unit {0}) Over). OnOk r P) (sym is) holds
+last_part P (Err over) last result is holds = subst (λ (r : Result (Unit {0}) Over). OnOk r P) (sym is) tt

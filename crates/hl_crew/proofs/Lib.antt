@@ -5,3 +5,4 @@ pub mod GoesLaws
 pub mod WaitLaws
 pub mod CountLaws
 pub mod RunLaws
+pub mod OverLaws

@@ -7,7 +7,8 @@ use Rattle.hl_crew.specs.declared.messages.Over.{Over}
 use Rattle.hl_crew.specs.declared.messages.Over.TheVariants.{Full}
 use Rattle.hl_crew.specs.declared.orders.Orders.{Orders}
 use Rattle.hl_crew.specs.Lags.{makes_room}
-use Rattle.hl_crew.specs.Runs.{OwnState, own_of, has_moved, MakesTurn, MakesOne}
+use Rattle.hl_crew.specs.Flushes.{OwnState, own_of}
+use Rattle.hl_crew.specs.Runs.{has_moved, MakesTurn, MakesOne}
 use Rattle.hl_crew.specs.Waits.{CutsJournal}
 
 -- a turn that ended well

@@ -1,10 +1,12 @@
 -- What a call left under the lock, said by less.
-use Rattle.std.proofs.Common.{◌≡◌, ℕ, Ok, List, subst}
+use Rattle.std.proofs.Common.{◌≡◌, ℕ, Result, List, subst}
 use Rattle.hl_model.specs.declared.step.Step.{Step}
 use Rattle.hl_words.specs.States.{RiderState}
 use Rattle.hl_domain.specs.Domains.{DomainState, Call, UnderLock, LeavesUnderLock}
 use Rattle.hl_keeper.specs.Keepers.{KeeperState}
-use Rattle.hl_crew.specs.Turns.{Finishes}
+use Rattle.hl_crew.specs.declared.messages.Over.{Over}
+use Rattle.hl_keeper.specs.Pages.{BroomRecord}
+use Rattle.hl_crew.specs.Turns.{Finishes, Frees}
 
 -- a call left what is said by less
 pub leaves : {F : Type 0} {domain : DomainState} {call : Call} {H K : KeeperState F → KeeperState F → Type 0} → ((before after : KeeperState F) → H before after → K before after) → LeavesUnderLock F domain call H → LeavesUnderLock F domain call K
@@ -19,11 +21,11 @@ leaves f left = record {
   holds = f left.before left.after left.holds;
 }
 
--- an action that was accepted as done, under other names
-pub finishes_of : (F : Type 0) (domain : DomainState) (origin origin' ticket ticket' : ℕ) (old new : RiderState) → origin ≡ origin' → ticket ≡ ticket' → Finishes F domain origin ticket (Ok tt) old new → Finishes F domain origin' ticket' (Ok tt) old new
-finishes_of F domain origin origin' ticket ticket' old new same_origin same_ticket done =
-    subst (λ origin. Finishes F domain origin ticket' (Ok tt) old new) same_origin
-    (subst (λ ticket. Finishes F domain origin ticket (Ok tt) old new) same_ticket done)
+-- how an action that was run was answered, under other names
+pub finishes_of : (F : Type 0) (domain : DomainState) (origin origin' ticket ticket' : ℕ) (result : Result (Unit {0}) Over) (old new : RiderState) → origin ≡ origin' → ticket ≡ ticket' → Finishes F domain origin ticket result old new → Finishes F domain origin' ticket' result old new
+finishes_of F domain origin origin' ticket ticket' result old new same_origin same_ticket done =
+    subst (λ origin. Finishes F domain origin ticket' result old new) same_origin
+    (subst (λ ticket. Finishes F domain origin ticket result old new) same_ticket done)
 
 -- what a call without a rider met is said by less
 pub sees : {F : Type 0} {domain : DomainState} {H K : KeeperState F → List Step → Type 0} → ((keeper : KeeperState F) (A : List Step) → H keeper A → K keeper A) → UnderLock F domain H → UnderLock F domain K
@@ -33,3 +35,7 @@ sees f under = record {
   met = under.met;
   holds = f under.keeper under.list under.holds;
 }
+
+-- how a page that was swept was answered, under another name
+pub frees_of : (F : Type 0) (domain : DomainState) (broom broom' : BroomRecord) (result : Result (Unit {0}) Over) (old new : RiderState) → broom ≡ broom' → Frees F domain broom result old new → Frees F domain broom' result old new
+frees_of F domain broom broom' result old new same done = subst (λ broom. Frees F domain broom result old new) same done

@@ -1,6 +1,8 @@
 pub mod Counting
+pub mod Flushes
 pub mod Goes
 pub mod Lags
+pub mod Looks
 pub mod Overs
 pub mod Pouches
 pub mod Runs

@@ -1,7 +1,7 @@
 -- What the parts of a turn did.
-use Rattle.std.specs.Prelude.{◌≡◌, ◌⊎◌, ℕ, Bool, true, false, Result, Ok, Err, List, [], ◌∷◌, ◌++◌}
+use Rattle.std.specs.Prelude.{◌≡◌, ◌⊎◌, ℕ, ◌+◌, Bool, true, false, Result, Ok, Err, List, [], ◌∷◌, ◌++◌}
 use Rattle.hl_model.specs.declared.fault.Fault.{Fault}
-use Rattle.hl_model.specs.declared.fault.Fault.TheVariants.{NoneClosed}
+use Rattle.hl_model.specs.declared.fault.Fault.TheVariants.{NoneClosed, NoneSealed}
 use Rattle.hl_model.specs.declared.step.Reply.{Reply}
 use Rattle.hl_model.specs.declared.step.Step.{Step}
 use Rattle.hl_model.specs.declared.step.Step.TheVariants.{Take, Done, FlushTake, CleanTake, CleanDone}
@@ -15,8 +15,10 @@ use Rattle.hl_domain.specs.Domains.{DomainState, call_of, answered, LeavesUnderL
 use Rattle.hl_keeper.specs.Pages.{BroomRecord, to_flush, to_clean, first_cell, zeroed}
 use Rattle.hl_keeper.specs.Taking.{taken_from, ready_told}
 use Rattle.hl_crew.specs.declared.messages.Over.{Over}
+use Rattle.hl_crew.specs.declared.messages.Over.TheVariants.{Full, Lost}
 use Rattle.hl_crew.specs.declared.orders.Cuts.{Cuts}
 use Rattle.hl_crew.specs.Lags.{makes_room}
+use Rattle.hl_crew.specs.Overs.{over_of}
 use Rattle.hl_crew.specs.Waits.{Waits, CutsJournal}
 
 -- a page whose cells were all swept, in this domain
@@ -27,6 +29,15 @@ swept domain broom = record { stamp = broom.stamp; page = broom.page; swept = do
 abbrev pub swept_by : DomainState → BroomRecord → RiderState → RiderState
 swept_by domain broom r =
     with_view (zeroed (first_cell domain.sizes broom.page) domain.sizes.page_size r.view) r
+
+-- a rider that sends pages to the writers, and how many it sent
+pub record SendState : Type 0 where
+  pub rider : RiderState
+  pub sent : ℕ
+
+-- one of these
+abbrev pub send_of : RiderState → ℕ → SendState
+send_of rider sent = record { rider = rider; sent = sent }
 
 module _ (F : Type 0) (domain : DomainState) where
   -- a take was answered so
@@ -45,20 +56,34 @@ module _ (F : Type 0) (domain : DomainState) where
   Brooms answer old new = MakesUnderLock F domain (call_of CleanTake old new) answer
       (λ before. Makes before CleanTake (to_clean before.core.sizes before.stamp))
 
-  -- after calls that entered nothing, a step that ends something of this origin was accepted so
-  abbrev pub EndsOne : {X : Type 0}
-      → Step → ℕ → (KeeperState F → List Step → X) → X → RiderState → RiderState → Type 0
-  EndsOne step origin answer x old new =
+  -- after calls that entered nothing, a step that ends something of this origin was answered so
+  abbrev pub EndsSo : {X : Type 0}
+      → Step → ℕ → (KeeperState F → List Step → X) → Result X Fault → RiderState → RiderState → Type 0
+  EndsSo step origin answer result old new =
       (mid : RiderState) × Waits old mid
-      × MakesUnderLock F domain (call_of step mid new) (Ok x)
+      × MakesUnderLock F domain (call_of step mid new) result
       (λ before. Ends before origin step (answer before))
 
-  -- the domain accepted an action as done. Else no step was made
+  -- it was accepted so
+  abbrev pub EndsOne : {X : Type 0}
+      → Step → ℕ → (KeeperState F → List Step → X) → X → RiderState → RiderState → Type 0
+  EndsOne step origin answer x old new = EndsSo step origin answer (Ok x) old new
+
+  -- it was refused, which means this for the turns, and was followed by calls that entered nothing
+  abbrev pub EndsNone : {X : Type 0}
+      → Step → ℕ → (KeeperState F → List Step → X) → Over → RiderState → RiderState → Type 0
+  EndsNone step origin answer over old new =
+      (fault : Fault) × (last : RiderState) × (over ≡ over_of fault)
+      × EndsSo step origin answer (Err fault) old last × Waits last new
+
+  -- the domain accepted an action as done. Else no step was made, and the last refusal is told
   abbrev pub Finishes : ℕ → ℕ → Result (Unit {0}) Over → RiderState → RiderState → Type 0
   Finishes origin ticket (Ok done) old new =
       (reply : Reply) × EndsOne (Done ticket) origin
       (λ before A. answer_of before.core.sizes A (A ++ Done ticket ∷ []) (Done ticket)) reply old new
-  Finishes origin ticket (Err over) old new = Waits old new
+  Finishes origin ticket (Err over) old new =
+      EndsNone (Done ticket) origin
+      (λ before A. answer_of before.core.sizes A (A ++ Done ticket ∷ []) (Done ticket)) over old new
 
   -- an action was taken, and once it was run it was answered done
   pub record RunsOne (old new : RiderState) : Type 0 where
@@ -67,17 +92,40 @@ module _ (F : Type 0) (domain : DomainState) where
     pub taken : Takes (Ok ready) old mid
     pub done : Finishes ready.origin ready.firing.ticket (Ok tt) mid new
 
-  -- an action was run; or the domain had none to be run
+  -- a take of an action was refused, or an action was taken and then not accepted as done: that is what it
+  -- means for the turns
+  abbrev pub FailsAction : Over → RiderState → RiderState → Type 0
+  FailsAction over old new =
+      ((fault : Fault) × (over ≡ over_of fault) × Takes (Err fault) old new)
+      ⊎ ((ready : ReadyRecord F) × (mid : RiderState) × Takes (Ok ready) old mid
+      × Finishes ready.origin ready.firing.ticket (Err over) mid new)
+
+  -- an action was run; or the domain had none to be run; or that failed
   abbrev pub RunsAction : ℕ → Result Bool Over → RiderState → RiderState → Type 0
   RunsAction i (Ok true) old new = RunsOne old new
   RunsAction i (Ok false) old new = (fault : Fault) × Takes (Err fault) old new
-  RunsAction i (Err over) old new = Unit {0}
+  RunsAction i (Err over) old new = FailsAction over old new
 
-  -- a page that was swept was accepted as clean. Else no step was made
+  -- a take of a page was refused for another reason than that none is sealed, and that is what it means for
+  -- the turns; or a page was taken, and the channel failed
+  abbrev pub FailsSend : Over → RiderState → RiderState → Type 0
+  FailsSend over old new =
+      ((fault : Fault) × (fault ≡ NoneSealed → ⊥) × (over ≡ over_of fault) × Loads (Err fault) old new)
+      ⊎ ((load : PageJob) × (over ≡ Lost) × Loads (Ok load) old new)
+
+  -- a page was taken and sent; or none is sealed; or that failed
+  abbrev pub SendsPage : ℕ → Result Bool Over → SendState → SendState → Type 0
+  SendsPage i (Ok true) old new =
+      (load : PageJob) × Loads (Ok load) old.rider new.rider × (new.sent ≡ old.sent + 1)
+  SendsPage i (Ok false) old new = Loads (Err NoneSealed) old.rider new.rider × (new.sent ≡ old.sent)
+  SendsPage i (Err over) old new = FailsSend over old.rider new.rider × (new.sent ≡ old.sent)
+
+  -- a page that was swept was accepted as clean. Else no step was made, and the last refusal is told
   abbrev pub Frees : BroomRecord → Result (Unit {0}) Over → RiderState → RiderState → Type 0
   Frees broom (Ok done) old new =
       (freed : ℕ) × EndsOne (CleanDone broom.page) broom.stamp (λ before A. broom.page) freed old new
-  Frees broom (Err over) old new = Waits old new
+  Frees broom (Err over) old new =
+      EndsNone (CleanDone broom.page) broom.stamp (λ before A. broom.page) over old new
 
   -- a page was taken, all its cells swept, and it was accepted as clean
   pub record CleansOne (old new : RiderState) : Type 0 where
@@ -86,22 +134,39 @@ module _ (F : Type 0) (domain : DomainState) where
     pub taken : Brooms (Ok broom) old taker
     pub done : Frees (swept domain broom) (Ok tt) (swept_by domain broom taker) new
 
-  -- a page was cleaned; or none is closed
+  -- a page that was taken is of another domain; or it was swept, and not accepted as clean
+  abbrev pub FailsBroom : Over → BroomRecord → RiderState → RiderState → Type 0
+  FailsBroom over broom taker new =
+      ((broom.stamp ≡ domain.stamp → ⊥) × (over ≡ Lost) × (new ≡ taker))
+      ⊎ Frees (swept domain broom) (Err over) (swept_by domain broom taker) new
+
+  -- a take of a page was refused for another reason than that none is closed, and that is what it means for
+  -- the turns; or a page was taken, and that failed
+  abbrev pub FailsClean : Over → RiderState → RiderState → Type 0
+  FailsClean over old new =
+      ((fault : Fault) × (fault ≡ NoneClosed → ⊥) × (over ≡ over_of fault) × Brooms (Err fault) old new)
+      ⊎ ((broom : BroomRecord) × (taker : RiderState) × Brooms (Ok broom) old taker
+      × FailsBroom over broom taker new)
+
+  -- a page was cleaned; or none is closed; or that failed
   abbrev pub Cleans : Result Bool Over → RiderState → RiderState → Type 0
   Cleans (Ok true) old new = CleansOne old new
   Cleans (Ok false) old new = Brooms (Err NoneClosed) old new
-  Cleans (Err over) old new = Unit {0}
+  Cleans (Err over) old new = FailsClean over old new
 
-  -- a page was cleaned, or the journal, which may be cut, was cut after that had failed; or none is closed
+  -- a page was cleaned, or the journal was cut after that had failed since it was full; or none is closed; or
+  -- that failed for another reason, or the orders make no room
   abbrev pub Finds : Cuts → Result Bool Over → RiderState → RiderState → Type 0
   Finds cuts (Ok true) old new =
       CleansOne old new
-      ⊎ ((mid : RiderState) × (makes_room cuts ≡ true) × CutsJournal F domain mid new)
+      ⊎ ((mid : RiderState) × FailsClean Full old mid × (makes_room cuts ≡ true)
+      × CutsJournal F domain mid new)
   Finds cuts (Ok false) old new = Brooms (Err NoneClosed) old new
-  Finds cuts (Err over) old new = Unit {0}
+  Finds cuts (Err over) old new =
+      FailsClean over old new × (over ≡ Full → makes_room cuts ≡ false)
 
-  -- a look for a closed page: the last one was in vain
+  -- a look for a closed page: the last one was in vain; or it failed
   abbrev pub Looks : Cuts → Result Bool Over → RiderState → RiderState → Type 0
   Looks cuts (Ok true) old new = Finds cuts (Ok false) old new
   Looks cuts (Ok false) old new = (found : Bool) × Finds cuts (Ok found) old new
-  Looks cuts (Err over) old new = Unit {0}
+  Looks cuts (Err over) old new = Finds cuts (Err over) old new

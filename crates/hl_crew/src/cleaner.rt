@@ -1,4 +1,5 @@
 ghost use Rattle.std.specs.Prelude.{◌≡◌};
+ghost use Rattle.hl_crew.specs.Looks.{LooksOn};
 ghost use Rattle.hl_crew.specs.Turns.{Looks, Finds, Cleans, Frees};
 
 use crate::messages::Over;
@@ -29,18 +30,27 @@ impl<R: Wait, E: Epochs + Drop, F: Task, P: Promise, L: Realm> Cleaner<'_, R, E,
     pub(crate) fn run<T: Term<R>>(&self, rider: &Mutex<Rider<L>>, term: &T) {
         let mut rider = rider.lock(self.rt);
         let rider = &mut *rider;
+        let _ = self.look_on(rider, term);
+    }
+
+    // Looks for a closed page again and again, as long as the term says, or until a look fails.
+    fn look_on<T: Term<R>>(&self, rider: &mut Rider<L>, term: &T) -> Result<(), Over>
+        ensures { LooksOn F self.now.domain.now self.now.orders.cuts (T.ends_looks term.now) result
+            rider.old rider.new }
+    {
         let mut looks = 0u64;
         let mut is_last = false;
         for _ in self.rt.forever() {
             if !term.cleans_on(looks, is_last) {
-                return;
+                return Ok(());
             }
             is_last = match self.look(rider) {
                 Ok(is_last) => is_last,
-                Err(_) => return,
+                Err(over) => return Err(over),
             };
             looks = looks.saturating_add(1);
         }
+        unreachable!()
     }
 
     // Looks for a closed page. If none is closed, it sleeps until the flusher has made another turn, unless the
@@ -79,8 +89,10 @@ impl<R: Wait, E: Epochs + Drop, F: Task, P: Promise, L: Realm> Cleaner<'_, R, E,
     {
         let mut broom = match self.domain.clean_take(self.rt, rider) {
             Ok(broom) => broom,
-            Err(Fault::NoneClosed) => return Ok(false),
-            Err(fault) => return Err(Over::of(&fault)),
+            Err(fault) => match fault {
+                Fault::NoneClosed => return Ok(false),
+                _ => return Err(Over::of(&fault)),
+            },
         };
         if self.domain.sweep(&mut broom, rider).is_err() {
             broom.forsake();

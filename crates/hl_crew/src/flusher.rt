@@ -1,8 +1,9 @@
 ghost use Rattle.std.specs.Prelude.{◌≡◌, OnOk};
-ghost use Rattle.hl_crew.specs.Counting.{AreFlushed};
+ghost use Rattle.hl_crew.specs.Flushes.{own_of, AreFlushed};
+ghost use Rattle.hl_crew.specs.Goes.{UpTo};
 ghost use Rattle.hl_crew.specs.Lags.{IsLag};
 ghost use Rattle.hl_crew.specs.Pouches.{load_count};
-ghost use Rattle.hl_crew.specs.Runs.{own_of, MakesTurn, MakesOne, MakesTurns};
+ghost use Rattle.hl_crew.specs.Runs.{MakesTurn, MakesOne, MakesTurns, MakesLast, MakesAll};
 ghost use Rattle.hl_crew.specs.Waits.{EndsTurn};
 
 use crate::counts::Counts;
@@ -45,9 +46,24 @@ impl<R: Wait, E: Epochs + Drop, F: Task, P: Promise, L: Realm> Flusher<'_, R, E,
     {
         let mut own = own.lock(self.rt);
         let own = &mut *own;
-        if self.make_turns(own, term, cleaner).is_ok() {
-            self.make_last_turns(own, cleaner, term.last_turns());
-        }
+        let _ = self.make_all_turns(own, term, cleaner);
+    }
+
+    // Makes turns until they are over, and then the last ones, unless one of the former has failed.
+    fn make_all_turns<T: Term<R>>(
+        &self,
+        own: &mut FlusherState<L>,
+        term: &T,
+        cleaner: &Parker,
+    ) -> Result<(), Over>
+        requires { let orders = self.now.orders
+            in IsLag self.now.domain.now.sizes.frames orders.mutable orders.resident }
+        ensures { MakesAll F self.now.domain.now self.now.orders
+            (T.is_over term.now) (T.most_last term.now) result
+            (own_of own.old.rider own.old.counts) (own_of own.new.rider own.new.counts) }
+    {
+        self.make_turns(own, term, cleaner)?;
+        self.make_last_turns(own, cleaner, term.last_turns())
     }
 
     // Makes turns until they are over, or the first after which it can't go on. After a turn that got nowhere it rests.
@@ -84,16 +100,25 @@ impl<R: Wait, E: Epochs + Drop, F: Task, P: Promise, L: Realm> Flusher<'_, R, E,
     }
 
     // Makes at most this many turns, up to the first that got nowhere.
-    fn make_last_turns(&self, own: &mut FlusherState<L>, cleaner: &Parker, most: u64)
+    fn make_last_turns(
+        &self,
+        own: &mut FlusherState<L>,
+        cleaner: &Parker,
+        most: u64,
+    ) -> Result<(), Over>
         requires { let orders = self.now.orders
             in IsLag self.now.domain.now.sizes.frames orders.mutable orders.resident }
+        ensures { UpTo (MakesLast F self.now.domain.now self.now.orders) most result
+            (own_of own.old.rider own.old.counts) (own_of own.new.rider own.new.counts) }
     {
         for _ in 0..most {
             match self.make_turn(own, cleaner) {
                 Ok(true) => {}
-                _ => return,
+                Ok(false) => return Ok(()),
+                Err(over) => return Err(over),
             }
         }
+        Ok(())
     }
 
     // Makes a turn, and wakes the cleaner. True if the turn entered a step and no write of a page
@@ -141,15 +166,14 @@ impl<R: Wait, E: Epochs + Drop, F: Task, P: Promise, L: Realm> Flusher<'_, R, E,
     fn flush(&self, own: &mut FlusherState<L>, pouch: &mut Pouch) -> Result<(), Over>
         requires { load_count pouch.old ≡ 0 }
         ensures none { OnOk result (load_count pouch.new ≡ 0) }
-        ensures counts { OnOk result (AreFlushed own.old.counts own.new.counts) }
+        ensures flushes { AreFlushed F self.now.domain.now result
+            (own_of own.old.rider own.old.counts) (own_of own.new.rider own.new.counts) }
     {
         let mut sent = 0;
         let all_sent = self.send_pages(&mut own.rider, pouch, &mut sent);
         let received = self.answer_acknowledged(own, pouch, sent);
         let answered = self.answer_others(own, pouch);
-        all_sent?;
-        received?;
-        answered
+        all_sent.and(received).and(answered)
     }
 
     // Cuts the journal, if the orders say so for this turn's end.

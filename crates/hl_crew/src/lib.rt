@@ -49,16 +49,19 @@
 //! the domain's lock, in what order, and what it counted. A flusher's turn keeps the lag that was
 //! ordered, by steps in their order up to the first that is refused, and ends if the journal is
 //! full; if its actions end well, it ran each that it took and answered it done, up to four; it
-//! answers a page as its acknowledgement says. If its pages were flushed well, each acknowledgement
-//! was counted once, and each page that none of them named once as failed. A turn that ended well
-//! ended by the cut that was ordered; where a part failed, so did the turn. It got somewhere
-//! exactly if it entered a step and no write failed. A full journal is cut only if that was
-//! ordered. The turns end when they are over, or when one of them failed. A page reported as
-//! written was let through by the gate and copied, and its image was written; of one reported as
-//! failed nothing was written, or its write failed and was counted so; a page reported as clean was
-//! swept, and a cleaner's last look was in vain. No clause says that a thread gets on, what a
-//! channel delivers, or what [`CrewEnd`] counts in all: what lies under a lock or comes from a
-//! channel is known by its type alone.
+//! takes sealed pages, up to four, or to the first take that finds none; it answers a page as its
+//! acknowledgement says. If its pages were flushed well, as many acknowledgements as it sent pages
+//! were answered and counted once each, and each page that none of them named once as failed; its
+//! rider made no other call meanwhile. A turn that ended well ended by the cut that was ordered;
+//! where a part failed, the turn failed for the same reason. It got somewhere exactly if it entered
+//! a step and no write failed. A full journal is cut only if that was ordered. The turns end when
+//! they are over, and the last ones follow, up to the first that got nowhere; or one of them failed,
+//! and not by a full journal that may be cut. A page reported as written was let through by the gate
+//! and copied, and its image was written; of one reported as failed nothing was written, or its
+//! write failed and was counted so; a page reported as clean was swept. A cleaner looks as long as
+//! its term says or until a look fails, and its last look was in vain. No clause says that a thread
+//! gets on, what a channel delivers, or what [`CrewEnd`] counts in all: what lies under a lock or
+//! comes from a channel is known by its type alone.
 //!
 //! | Module | What it has |
 //! |---|---|

@@ -49,6 +49,13 @@ impl Stop {
 }
 
 impl<R: Wait> Term<R> for Stop {
+    ghost use Rattle.std.specs.Prelude.{◌≡◌, true};
+    ghost use Rattle.hl_crew.specs.declared.stop.TheConstants.{LAST_TURNS};
+
+    ghost most_last = { λ _. LAST_TURNS };
+
+    ghost ends_looks = { λ _ _ is_last. is_last ≡ true };
+
     fn goes_on(&self, _made: u64) -> bool {
         !self.is_given()
     }

@@ -1,8 +1,10 @@
 ghost use Rattle.std.specs.Prelude.{◌≡◌, ◌+◌, ℕ, Some, None, Ok, position, OnOk, OnErr};
+ghost use Rattle.hl_crew.specs.Goes.{UpTo};
 ghost use Rattle.hl_words.specs.States.{RiderState};
 ghost use Rattle.hl_crew.specs.Pouches.{is_of, load_count, PageAnswer, Answers};
 ghost use Rattle.hl_crew.specs.Waits.{Waits};
-ghost use Rattle.hl_crew.specs.Counting.{counted, one_stranger, failed_more, AnswersAndCounts, IsAcknowledged, AreAcknowledged};
+ghost use Rattle.hl_crew.specs.Counting.{counted, one_stranger, AnswersAndCounts};
+ghost use Rattle.hl_crew.specs.Flushes.{hold_of, Tells, TellsNext, FailsNext};
 
 use crate::flusher::{Flusher, FlusherState};
 use crate::messages::{Acknowledgement, Over};
@@ -23,8 +25,9 @@ impl<R: Wait, E: Epochs + Drop, F: Task, P: Promise, L: Realm> Flusher<'_, R, E,
         pouch: &mut Pouch,
         sent: u64,
     ) -> Result<(), Over>
-        ensures { OnOk result (AreAcknowledged sent (load_count pouch.old) (load_count pouch.new)
-            own.old.counts own.new.counts) }
+        ensures { UpTo (TellsNext F self.now.domain.now) sent result
+            (hold_of own.old.rider own.old.counts (load_count pouch.old))
+            (hold_of own.new.rider own.new.counts (load_count pouch.new)) }
     {
         for _ in 0..sent {
             let Ok(told) = self.channels.acknowledged.recv(self.rt) else {
@@ -55,8 +58,9 @@ impl<R: Wait, E: Epochs + Drop, F: Task, P: Promise, L: Realm> Flusher<'_, R, E,
             }
             in AnswersAndCounts F self.now.domain.now answer at pouch.old pouch.new
             own.old.counts own.new.counts result }
-        ensures once { OnOk result (IsAcknowledged (load_count pouch.old) (load_count pouch.new)
-            own.old.counts own.new.counts) }
+        ensures tells { Tells F self.now.domain.now result
+            (hold_of own.old.rider own.old.counts (load_count pouch.old))
+            (hold_of own.new.rider own.new.counts (load_count pouch.new)) }
     {
         if !pouch.holds(told.page()) {
             own.counts.count_stranger();
@@ -72,7 +76,9 @@ impl<R: Wait, E: Epochs + Drop, F: Task, P: Promise, L: Realm> Flusher<'_, R, E,
         pouch: &mut Pouch,
     ) -> Result<(), Over>
         ensures none { OnOk result (load_count pouch.new ≡ 0) }
-        ensures failed { OnOk result (own.new.counts ≡ failed_more (load_count pouch.old) own.old.counts) }
+        ensures fails { UpTo (FailsNext F self.now.domain.now) (load_count pouch.old) result
+            (hold_of own.old.rider own.old.counts (load_count pouch.old))
+            (hold_of own.new.rider own.new.counts (load_count pouch.new)) }
     {
         while let Some(page) = pouch.first() {
             self.answer_held(own, pouch, page, false)?;

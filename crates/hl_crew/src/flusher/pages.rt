@@ -1,5 +1,7 @@
-ghost use Rattle.std.specs.Prelude.{◌≡◌, OnOk};
+ghost use Rattle.std.specs.Prelude.{◌≡◌, ◌<◌, OnOk};
+ghost use Rattle.hl_crew.specs.Goes.{UpTo};
 ghost use Rattle.hl_crew.specs.Pouches.{load_count};
+ghost use Rattle.hl_crew.specs.Turns.{send_of, SendsPage};
 
 use crate::flusher::Flusher;
 use crate::messages::{Message, Over};
@@ -24,26 +26,51 @@ impl<R: Wait, E: Epochs + Drop, F: Task, P: Promise, L: Realm> Flusher<'_, R, E,
     ) -> Result<(), Over>
         requires empty { load_count pouch.old ≡ 0 }
         requires none { sent.old ≡ 0 }
-        ensures { OnOk result (sent.new ≡ load_count pouch.new) }
+        ensures sends { UpTo (SendsPage F self.now.domain.now) 4 result
+            (send_of rider.old sent.old) (send_of rider.new sent.new) }
+        ensures held { OnOk result (sent.new ≡ load_count pouch.new) }
     {
         for _ in 0..PAGES {
-            let load = match self.domain.flush_take(self.rt, rider) {
-                Ok(load) => load,
-                Err(Fault::NoneSealed) => return Ok(()),
-                Err(fault) => return Err(Over::of(&fault)),
-            };
-            let job = load.job();
-            pouch.put(load);
-            if self
-                .channels
-                .jobs
-                .send(self.rt, Message::Write(job))
-                .is_err()
-            {
-                return Err(Over::Lost);
+            match self.send_page(rider, pouch, sent) {
+                Ok(true) => {}
+                Ok(false) => return Ok(()),
+                Err(over) => return Err(over),
             }
-            *sent += 1;
         }
         Ok(())
+    }
+
+    // Takes a page to flush, puts it into the pouch, and sends it. False if none is sealed.
+    fn send_page(
+        &self,
+        rider: &mut Rider<L>,
+        pouch: &mut Pouch,
+        sent: &mut u64,
+    ) -> Result<bool, Over>
+        requires room { sent.old < 4 }
+        requires held { sent.old ≡ load_count pouch.old }
+        ensures sends { SendsPage F self.now.domain.now 0 result
+            (send_of rider.old sent.old) (send_of rider.new sent.new) }
+        ensures held { OnOk result (sent.new ≡ load_count pouch.new) }
+    {
+        let load = match self.domain.flush_take(self.rt, rider) {
+            Ok(load) => load,
+            Err(fault) => match fault {
+                Fault::NoneSealed => return Ok(false),
+                _ => return Err(Over::of(&fault)),
+            },
+        };
+        let job = load.job();
+        pouch.put(load);
+        if self
+            .channels
+            .jobs
+            .send(self.rt, Message::Write(job))
+            .is_err()
+        {
+            return Err(Over::Lost);
+        }
+        *sent += 1;
+        Ok(true)
     }
 }

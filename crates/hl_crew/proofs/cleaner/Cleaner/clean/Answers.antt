@@ -1,5 +1,6 @@
-use Rattle.std.proofs.Common.{◌≡◌, false}
+use Rattle.std.proofs.Common.{◌≡◌, false, inr}
 use Rattle.std.specs.Prelude.{Result, Ok, Err, OnOk, is_err}
+use Rattle.std.proofs.lemmas.Result.{err_from_is_err_and}
 use Rattle.hl_crew.proofs.cleaner.Cleaner.clean.Goals as goal
 
 -- what holds of a call that was accepted
@@ -18,5 +19,17 @@ returns g c =
       done = rw (broom_is, rider_is) at c.in_ok-finish.ensures;
     }
 
-pub returns-in-Err-NoneClosed : goal.returns-in-Err-NoneClosed
-returns-in-Err-NoneClosed g c = let refused = rw c.in-Err-NoneClosed.field-0-is at c.in-Err-NoneClosed.ensures in refused.met
+pub returns-in_err-finish : goal.returns-in_err-finish
+returns-in_err-finish g c =
+    let broom_is = accepted c.sweep.result _ c.if-is_err.ensures.value c.sweep.ensures.broom in
+    let rider_is = accepted c.sweep.result _ c.if-is_err.ensures.value c.sweep.ensures.stores in
+    let p = err_from_is_err_and c.from_residual.result c.from_residual.ensures.1 in
+    rw (p.1, p.2) (inr (
+      c.in-Ok.broom,
+      c.clean_take.new.rider,
+      c.in-Ok.ensures.met,
+      inr (rw (broom_is, rider_is) at c.in_err-finish.ensures),
+    ))
+
+pub returns-in-NoneClosed : goal.returns-in-NoneClosed
+returns-in-NoneClosed g c = rw c.in-NoneClosed.is at c.in-Err.ensures.met

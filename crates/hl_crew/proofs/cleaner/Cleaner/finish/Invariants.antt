@@ -1,7 +1,12 @@
-use Rattle.std.proofs.Common.{◌≡◌}
+use Rattle.std.proofs.Common.{◌≡◌, Err}
+use Rattle.std.specs.Prelude.{◌⊎◌}
+use Rattle.hl_crew.specs.declared.messages.Over.TheVariants.{Full}
+use Rattle.hl_crew.specs.Turns.{Frees}
 use Rattle.hl_crew.specs.Waits.{Waits}
 use Rattle.hl_crew.proofs.cleaner.Cleaner.finish.Given as goal
 
--- the page is as it was, and the rider waits
+-- the page is as it was, and the rider waits; each try was refused since the journal is full
 abbrev pub invariant-loop : goal.invariant-loop
-invariant-loop g l = (l.broom ≡ l.initial.broom) × Waits l.initial.rider l.rider
+invariant-loop g l =
+    (l.broom ≡ l.initial.broom) × Waits l.initial.rider l.rider
+    × ((l.counter ≡ 0) ⊎ Frees g.row.F.Denot l.self.domain.now l.initial.broom (Err Full) l.initial.rider l.rider)

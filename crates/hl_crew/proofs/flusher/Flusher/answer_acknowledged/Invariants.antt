@@ -1,8 +1,11 @@
-use Rattle.hl_crew.specs.Counting.{AreAcknowledged}
+use Rattle.hl_crew.specs.Flushes.{hold_of, TellsNext}
+use Rattle.hl_crew.specs.Goes.{Followed}
 use Rattle.hl_crew.specs.Pouches.{load_count}
 use Rattle.hl_crew.proofs.flusher.Flusher.answer_acknowledged.Given as goal
 
--- as many acknowledgements were counted as there were turns
+-- as many acknowledgements were answered as there were turns
 abbrev pub invariant-loop : goal.invariant-loop
 invariant-loop g l =
-    AreAcknowledged l.counter (load_count l.initial.pouch) (load_count l.pouch) l.initial.own.counts l.own.counts
+    Followed (TellsNext g.row.F.Denot l.self.domain.now) l.counter
+    (hold_of l.initial.own.rider l.initial.own.counts (load_count l.initial.pouch))
+    (hold_of l.own.rider l.own.counts (load_count l.pouch))

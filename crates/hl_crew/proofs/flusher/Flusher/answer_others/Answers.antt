@@ -1,6 +1,9 @@
-use Rattle.std.proofs.Common.{◌≡◌, suc, ◌∙◌, ap, refl, arith, false}
-use Rattle.hl_crew.specs.Counting.{counted, failed_more}
+use Rattle.std.proofs.Common.{◌≡◌, ◌+◌, refl, arith}
+use Rattle.std.proofs.lemmas.Result.{err_from_is_err_and}
+use Rattle.hl_crew.specs.Flushes.{FailsNext}
 use Rattle.hl_crew.specs.Pouches.{load_count}
+use Rattle.hl_crew.proofs.CountLaws.{answers_page}
+use Rattle.hl_crew.proofs.GoesLaws.{followed_more, up_to_all, up_to_failed}
 use Rattle.hl_crew.proofs.flusher.Flusher.answer_others.Goals as goal
 
 pub loop-page-init : goal.loop-page-init
@@ -10,11 +13,24 @@ pub loop-page-preserved : goal.loop-page-preserved
 loop-page-preserved g c =
     let before = c.loop-page.invariant in
     let told = c.in_ok-answer_held.ensures in
-    (suc before.0, omega (arith, before.1, told.fewer), told.counts ∙ ap (counted false) before.2)
+    let place = c.in-Some.ensures.held in (
+      before.0 + 1,
+      omega (arith, before.1, told.fewer),
+      followed_more (FailsNext g.row.F.Denot c.args.self.now.domain.now) _ _ _ _ before.2
+          (answers_page _ _ _ _ _ _ _ _ _ (told.held place.0 place.1) told.fewer),
+    )
+
+pub returns-in_err-answer_held-clause-fails : goal.returns-in_err-answer_held-clause-fails
+returns-in_err-answer_held-clause-fails g c =
+    let p = err_from_is_err_and c.from_residual.result c.from_residual.ensures.1 in
+    let place = c.in-Some.ensures.held in
+    let told = c.in_err-answer_held.ensures in
+    rw (p.1, p.2) (up_to_failed (FailsNext g.row.F.Denot c.args.self.now.domain.now) _ _ _ _ _ _ c.loop-page.invariant.2
+    (answers_page _ _ _ _ _ _ _ _ _ (told.held place.0 place.1) told.fewer))
 
 pub returns : goal.returns
 returns g c =
     let before = c.loop-page.invariant in
     let none = c.in_default.ensures.none in
     let all : before.0 ≡ load_count c.args.pouch.now = omega (arith, before.1, none) in
-    record { none = none; failed = before.2 ∙ ap (λ n. failed_more n c.args.own.now.counts) all }
+    record { none = none; fails = up_to_all _ _ _ _ _ all before.2 }

@@ -1,13 +1,16 @@
 use Rattle.std.proofs.Common.{◌≡◌, ℕ, ◌+◌}
-use Rattle.hl_crew.specs.Counting.{failed_more}
+use Rattle.hl_crew.specs.Flushes.{hold_of, FailsNext}
+use Rattle.hl_crew.specs.Goes.{Followed}
 use Rattle.hl_crew.specs.Pouches.{load_count}
 use Rattle.hl_crew.proofs.flusher.Flusher.answer_others.Given as goal
 
--- those that were answered are counted as failed
+-- those that are held no longer were answered as failed
 abbrev pub invariant-loop-page : goal.invariant-loop-page
 invariant-loop-page g l =
     (answered : ℕ) × (load_count l.pouch + answered ≡ load_count l.initial.pouch)
-    × (l.own.counts ≡ failed_more answered l.initial.own.counts)
+    × Followed (FailsNext g.row.F.Denot l.self.domain.now) answered
+    (hold_of l.initial.own.rider l.initial.own.counts (load_count l.initial.pouch))
+    (hold_of l.own.rider l.own.counts (load_count l.pouch))
 
 -- each turn answers one of the pages that are left
 abbrev pub decreases-loop-page : goal.decreases-loop-page

@@ -1,6 +1,7 @@
 use Rattle.std.proofs.Common.{ℕ, ◌≤◌}
 use Rattle.hl_crew.specs.Goes.{Followed}
-use Rattle.hl_crew.specs.Runs.{own_of, MakesAny}
+use Rattle.hl_crew.specs.Flushes.{own_of}
+use Rattle.hl_crew.specs.Runs.{MakesAny}
 use Rattle.hl_crew.proofs.flusher.Flusher.make_turns.Given as goal
 
 -- at least as many turns were made as are counted

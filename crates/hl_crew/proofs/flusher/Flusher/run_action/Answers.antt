@@ -1,13 +1,28 @@
+use Rattle.std.proofs.Common.{Ok, Err, inl, inr}
+use Rattle.std.proofs.lemmas.Result.{err_from_is_err_and}
 use Rattle.hl_crew.proofs.Steps.{leaves, finishes_of}
 use Rattle.hl_crew.proofs.flusher.Flusher.run_action.Goals as goal
+
+pub returns-in_err-finish-in-Ok : goal.returns-in_err-finish-in-Ok
+returns-in_err-finish-in-Ok g c =
+    let p = err_from_is_err_and c.from_residual.result c.from_residual.ensures.1 in
+    rw (p.1, p.2) (inr (
+      c.in-Ok.ready,
+      c.take.new.rider,
+      leaves (λ before after h. h.0) c.in-Ok.ensures.met,
+      finishes_of g.row.F.Denot c.args.self.now.domain.now _ _ _ _ (Err c.in_err-finish-in-Ok.field-0.0) c.take.new.rider c.finish.new.rider c.run.ensures.origin c.run.ensures.ticket c.in_err-finish-in-Ok.ensures,
+    ))
 
 pub returns-in_ok-finish-in-Ok : goal.returns-in_ok-finish-in-Ok
 returns-in_ok-finish-in-Ok g c = record {
   ready = c.in-Ok.ready;
   mid = c.take.new.rider;
   taken = leaves (λ before after h. h.0) c.in-Ok.ensures.met;
-  done = finishes_of g.row.F.Denot c.args.self.now.domain.now _ _ _ _ _ _ c.run.ensures.origin c.run.ensures.ticket c.in_ok-finish-in-Ok.ensures;
+  done = finishes_of g.row.F.Denot c.args.self.now.domain.now _ _ _ _ (Ok tt) c.take.new.rider c.finish.new.rider c.run.ensures.origin c.run.ensures.ticket c.in_ok-finish-in-Ok.ensures;
 }
 
 pub returns-in-Err-Empty : goal.returns-in-Err-Empty
 returns-in-Err-Empty g c = (c.in-Err-Empty.field-0, leaves (λ before after h. h.0) c.in-Err-Empty.ensures.met)
+
+pub returns-in-Err : goal.returns-in-Err
+returns-in-Err g c = inl (c.in-Err.fault, c.of.ensures, leaves (λ before after h. h.0) c.in-Err.ensures.met)

@@ -15,7 +15,7 @@ returns-in-Ok-false g c =
 
 pub returns-in-Err : goal.returns-in-Err
 returns-in-Err g c =
-    up_to_failed (RunsAction g.row.F.Denot c.args.self.now.domain.now) _ _ _ _ _ _ c.loop.invariant tt
+    up_to_failed (RunsAction g.row.F.Denot c.args.self.now.domain.now) _ _ _ _ _ _ c.loop.invariant c.in-Err.ensures
 
 pub returns : goal.returns
 returns g c = up_to_all _ _ _ _ _ (omega arith) c.loop.invariant

@@ -1,7 +1,11 @@
 use Rattle.std.proofs.Common.{◌≡◌}
+use Rattle.hl_crew.specs.Goes.{Followed}
 use Rattle.hl_crew.specs.Pouches.{load_count}
+use Rattle.hl_crew.specs.Turns.{send_of, SendsPage}
 use Rattle.hl_crew.proofs.flusher.Flusher.send_pages.Given as goal
 
--- it holds one page for each turn, and each was sent
+-- a page was sent in each turn, and these are the pages that it holds
 abbrev pub invariant-loop : goal.invariant-loop
-invariant-loop g l = (load_count l.pouch ≡ l.counter) × (l.sent ≡ l.counter)
+invariant-loop g l =
+    Followed (SendsPage g.row.F.Denot l.self.domain.now) l.counter (send_of l.initial.rider l.initial.sent) (send_of l.rider l.sent)
+    × (l.sent ≡ load_count l.pouch) × (l.sent ≡ l.counter)

@@ -1,0 +1,18 @@
+-- What refusals mean for the turns.
+use Rattle.std.proofs.Common.{◌≡◌, ℕ, ◌<◌, Bool, true, false, refl, inl, inr, arith}
+use Rattle.std.specs.Prelude.{◌&&◌, ◌⊎◌}
+use Rattle.hl_model.specs.declared.fault.Fault.{Fault}
+use Rattle.hl_model.specs.declared.fault.Fault.TheVariants.{JournalFull}
+use Rattle.hl_crew.specs.declared.messages.Over.TheVariants.{Full}
+use Rattle.hl_crew.specs.Overs.{over_of, is_full}
+
+-- a refusal after which room was made means that the journal is full
+pub full_over : (fault : Fault) (room : Bool) → true ≡ (room && is_full fault) → Full ≡ over_of fault
+full_over JournalFull room is = refl
+full_over _ true is = absurd cc
+full_over _ false is = absurd cc
+
+-- what was tried at least once has been refused
+pub has_tried : {A : Type 0} {n : ℕ} → (n ≡ 0) ⊎ A → 0 < n → A
+has_tried (inl none) some = absurd (omega (arith, none, some))
+has_tried (inr tried) some = tried

@@ -1,0 +1,22 @@
+use Rattle.std.proofs.Common.{arith}
+use Rattle.hl_crew.specs.Runs.{MakesLast}
+use Rattle.hl_crew.proofs.GoesLaws.{followed_more, up_to_all, up_to_none, up_to_failed}
+use Rattle.hl_crew.proofs.flusher.Flusher.make_last_turns.Goals as goal
+
+pub loop-preserved : goal.loop-preserved
+loop-preserved g c =
+    followed_more (MakesLast g.row.F.Denot c.args.self.now.domain.now c.args.self.now.orders) _ _ _ _ c.loop.invariant
+    (rw c.in-Ok-true.field-0-test at c.in-Ok-true.ensures)
+
+pub returns-in-Ok-false : goal.returns-in-Ok-false
+returns-in-Ok-false g c =
+    up_to_none (MakesLast g.row.F.Denot c.args.self.now.domain.now c.args.self.now.orders) _ _ _ _ _ c.loop.invariant
+    (rw c.in-Ok-false.field-0-test at c.in-Ok-false.ensures)
+
+pub returns-in-Err : goal.returns-in-Err
+returns-in-Err g c =
+    up_to_failed (MakesLast g.row.F.Denot c.args.self.now.domain.now c.args.self.now.orders) _ _ _ _ _ _ c.loop.invariant
+    c.in-Err.ensures
+
+pub returns : goal.returns
+returns g c = up_to_all _ _ _ _ _ (omega arith) c.loop.invariant
