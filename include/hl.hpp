@@ -306,8 +306,10 @@ class Core {
     /// Its handle, for calls of hl.h; null where it was moved from.
     hl_core *handle() noexcept { return at_.get(); }
 
-    /// Protects a slot until what this answers goes out of scope.
-    Result<Slot> acquire(Word slot) {
+    /// Protects a slot until what this answers goes out of scope. A core that goes away at once has none: it must outlive
+    /// what it gives.
+    Result<Slot> acquire(Word slot) && = delete;
+    Result<Slot> acquire(Word slot) & {
         auto entered = detail::entered(detail::ask(hl_acquire, at_.get(), slot));
         if (!entered) return Refused(entered.error());
         return Slot(at_.get(), slot, *entered);

@@ -140,7 +140,8 @@ class Refused {
 }
 
 /// A value, or a refusal, with the calls of std::expected that are used most. value() throws BadAccess, or ends the
-/// program where exceptions are off; `*` and `->` want an answer that has a value.
+/// program where exceptions are off; `*` and `->` want an answer that has a value. Of an answer that goes away at once
+/// both give the value itself, where std::expected gives a reference into it.
 template <class T> class [[nodiscard]] Result {
   public:
     Result(T value) : held_(std::in_place_index<0>, std::move(value)) {}
@@ -150,13 +151,13 @@ template <class T> class [[nodiscard]] Result {
     explicit operator bool() const noexcept { return has_value(); }
     T &operator*() &noexcept { return *std::get_if<0>(&held_); }
     const T &operator*() const &noexcept { return *std::get_if<0>(&held_); }
-    T &&operator*() &&noexcept { return std::move(*std::get_if<0>(&held_)); }
+    T operator*() && { return std::move(*std::get_if<0>(&held_)); }
     T *operator->() noexcept { return std::get_if<0>(&held_); }
     const T *operator->() const noexcept { return std::get_if<0>(&held_); }
     const Refusal &error() const noexcept { return *std::get_if<1>(&held_); }
     T &value() & { return check(), **this; }
     const T &value() const & { return check(), **this; }
-    T &&value() && { return check(), *std::move(*this); }
+    T value() && { return check(), *std::move(*this); }
     T value_or(T other) const & { return has_value() ? **this : std::move(other); }
 
   private:

@@ -316,8 +316,10 @@ class Log {
 
     Sizes sizes() const noexcept { return shared_->sizes; }
 
-    /// Protects a slot until the pass goes out of scope. NoSlot, Occupied.
-    Result<Pass> acquire(Word slot) {
+    /// Protects a slot until the pass goes out of scope. NoSlot, Occupied. A log that goes away at once has no pass: it
+    /// must outlive what it gives.
+    Result<Pass> acquire(Word slot) && = delete;
+    Result<Pass> acquire(Word slot) & {
         auto entered = detail::entered(make({Call::Acquire, slot}));
         if (!entered) return Refused(entered.error());
         return Pass(shared_.get(), slot, entered->view);
@@ -334,13 +336,15 @@ class Log {
     Result<Word> shift(Word address) { return one({Call::Shift, address}); }
 
     /// Takes the least sealed page that is neither flushed nor in flight, to be copied. NoneSealed.
-    Result<Flush> flush_take() {
+    Result<Flush> flush_take() && = delete;
+    Result<Flush> flush_take() & {
         auto page = one({Call::FlushTake});
         if (!page) return Refused(page.error());
         return Flush(shared_.get(), *page);
     }
     /// Takes the least closed page that is neither freed nor being cleaned, to be swept. NoneClosed.
-    Result<Clean> clean_take() {
+    Result<Clean> clean_take() && = delete;
+    Result<Clean> clean_take() & {
         auto page = one({Call::CleanTake});
         if (!page) return Refused(page.error());
         return Clean(shared_.get(), *page);
@@ -354,7 +358,7 @@ class Log {
         std::lock_guard<std::mutex> lock(shared_->mutex);
         return *shared_->core.snapshot();
     }
-    /// As that of a core.
+    /// As that of a core: give the answer a name before a `for` goes through it.
     Result<Lag> lag(Word mutable_pages, Word resident_pages) {
         if (!shared_) return detail::refused(HL_NO_CORE);
         std::lock_guard<std::mutex> lock(shared_->mutex);

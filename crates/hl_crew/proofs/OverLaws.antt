@@ -1,10 +1,10 @@
 -- What refusals mean for the turns.
-use Rattle.std.proofs.Common.{◌≡◌, ℕ, ◌<◌, Bool, true, false, refl, inl, inr, arith}
+use Rattle.std.proofs.Common.{◌≡◌, ℕ, ◌<◌, Bool, true, false, refl, ap, inl, inr, arith}
 use Rattle.std.specs.Prelude.{◌&&◌, ◌⊎◌}
 use Rattle.hl_model.specs.declared.fault.Fault.{Fault}
-use Rattle.hl_model.specs.declared.fault.Fault.TheVariants.{JournalFull}
+use Rattle.hl_model.specs.declared.fault.Fault.TheVariants.{Empty, JournalFull, NotReady}
 use Rattle.hl_crew.specs.declared.messages.Over.TheVariants.{Full}
-use Rattle.hl_crew.specs.Overs.{over_of, is_full}
+use Rattle.hl_crew.specs.Overs.{over_of, is_full, is_none_ready}
 
 -- a refusal after which room was made means that the journal is full
 pub full_over : (fault : Fault) (room : Bool) → true ≡ (room && is_full fault) → Full ≡ over_of fault
@@ -16,3 +16,8 @@ full_over _ false is = absurd cc
 pub has_tried : {A : Type 0} {n : ℕ} → (n ≡ 0) ⊎ A → 0 < n → A
 has_tried (inl none) some = absurd (omega (arith, none, some))
 has_tried (inr tried) some = tried
+
+-- these are the refusals of a take for want of an action that is ready
+pub none_is_ready : (fault : Fault) → ((fault ≡ Empty) ⊎ ((front : ℕ) × (safe : ℕ) × (fault ≡ NotReady front safe))) → is_none_ready fault ≡ true
+none_is_ready fault (inl is) = ap is_none_ready is
+none_is_ready fault (inr told) = ap is_none_ready told.2

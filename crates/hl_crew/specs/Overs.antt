@@ -1,7 +1,7 @@
 -- Why turns are over.
 use Rattle.std.specs.Prelude.{Bool, true, false}
 use Rattle.hl_model.specs.declared.fault.Fault.{Fault}
-use Rattle.hl_model.specs.declared.fault.Fault.TheVariants.{JournalFull}
+use Rattle.hl_model.specs.declared.fault.Fault.TheVariants.{Empty, JournalFull, NotReady}
 use Rattle.hl_crew.specs.declared.messages.Over.{Over}
 use Rattle.hl_crew.specs.declared.messages.Over.TheVariants.{Full, Lost}
 
@@ -14,3 +14,9 @@ over_of _ = Lost
 abbrev pub is_full : Fault → Bool
 is_full JournalFull = true
 is_full _ = false
+
+-- whether a take was refused since no action is ready
+abbrev pub is_none_ready : Fault → Bool
+is_none_ready Empty = true
+is_none_ready (NotReady front safe) = true
+is_none_ready _ = false

@@ -18,7 +18,7 @@ use Rattle.hl_crew.specs.declared.messages.Over.{Over}
 use Rattle.hl_crew.specs.declared.messages.Over.TheVariants.{Full, Lost}
 use Rattle.hl_crew.specs.declared.orders.Cuts.{Cuts}
 use Rattle.hl_crew.specs.Lags.{makes_room}
-use Rattle.hl_crew.specs.Overs.{over_of}
+use Rattle.hl_crew.specs.Overs.{over_of, is_none_ready}
 use Rattle.hl_crew.specs.Waits.{Waits, CutsJournal}
 
 -- a page whose cells were all swept, in this domain
@@ -92,18 +92,19 @@ module _ (F : Type 0) (domain : DomainState) where
     pub taken : Takes (Ok ready) old mid
     pub done : Finishes ready.origin ready.firing.ticket (Ok tt) mid new
 
-  -- a take of an action was refused, or an action was taken and then not accepted as done: that is what it
-  -- means for the turns
+  -- a take of an action was refused for another reason than that none is ready, or an action was taken and
+  -- then not accepted as done: that is what it means for the turns
   abbrev pub FailsAction : Over → RiderState → RiderState → Type 0
   FailsAction over old new =
-      ((fault : Fault) × (over ≡ over_of fault) × Takes (Err fault) old new)
+      ((fault : Fault) × (is_none_ready fault ≡ false) × (over ≡ over_of fault) × Takes (Err fault) old new)
       ⊎ ((ready : ReadyRecord F) × (mid : RiderState) × Takes (Ok ready) old mid
       × Finishes ready.origin ready.firing.ticket (Err over) mid new)
 
-  -- an action was run; or the domain had none to be run; or that failed
+  -- an action was run; or none is ready; or that failed
   abbrev pub RunsAction : ℕ → Result Bool Over → RiderState → RiderState → Type 0
   RunsAction i (Ok true) old new = RunsOne old new
-  RunsAction i (Ok false) old new = (fault : Fault) × Takes (Err fault) old new
+  RunsAction i (Ok false) old new =
+      (fault : Fault) × (is_none_ready fault ≡ true) × Takes (Err fault) old new
   RunsAction i (Err over) old new = FailsAction over old new
 
   -- a take of a page was refused for another reason than that none is sealed, and that is what it means for

@@ -109,7 +109,7 @@ fn run_words<'a>(alloc: Global) -> Result<Command<'a>, AllocError> {
 fn slow_words<'a>(alloc: Global) -> Command<'a> {
     Command::new(alloc, "slow")
         .about(
-            "The same text, computed from the list of steps: 1000 lines are quick, 10000 are not",
+            "The same text, computed from the list of steps: its time grows as the square of the lines",
         )
         .override_usage("hl_tool slow < SCRIPT")
 }

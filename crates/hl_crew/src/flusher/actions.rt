@@ -38,8 +38,10 @@ impl<R: Wait, E: Epochs + Drop, F: Task, P: Promise, L: Realm> Flusher<'_, R, E,
                 self.finish(rider, ready.run())?;
                 Ok(true)
             }
-            Err(Fault::Empty | Fault::NotReady { .. }) => Ok(false),
-            Err(fault) => Err(Over::of(&fault)),
+            Err(fault) => match fault {
+                Fault::Empty | Fault::NotReady { .. } => Ok(false),
+                _ => Err(Over::of(&fault)),
+            },
         }
     }
 

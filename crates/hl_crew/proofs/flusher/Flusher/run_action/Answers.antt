@@ -1,5 +1,6 @@
-use Rattle.std.proofs.Common.{Ok, Err, inl, inr}
+use Rattle.std.proofs.Common.{rules, Ok, Err, inl, inr}
 use Rattle.std.proofs.lemmas.Result.{err_from_is_err_and}
+use Rattle.hl_crew.proofs.OverLaws.{none_is_ready}
 use Rattle.hl_crew.proofs.Steps.{leaves, finishes_of}
 use Rattle.hl_crew.proofs.flusher.Flusher.run_action.Goals as goal
 
@@ -21,8 +22,8 @@ returns-in_ok-finish-in-Ok g c = record {
   done = finishes_of g.row.F.Denot c.args.self.now.domain.now _ _ _ _ (Ok tt) c.take.new.rider c.finish.new.rider c.run.ensures.origin c.run.ensures.ticket c.in_ok-finish-in-Ok.ensures;
 }
 
-pub returns-in-Err-Empty : goal.returns-in-Err-Empty
-returns-in-Err-Empty g c = (c.in-Err-Empty.field-0, leaves (λ before after h. h.0) c.in-Err-Empty.ensures.met)
+pub returns-in-Empty : goal.returns-in-Empty
+returns-in-Empty g c = (c.in-Err.fault, none_is_ready c.in-Err.fault c.in-Empty.is, leaves (λ before after h. h.0) c.in-Err.ensures.met)
 
-pub returns-in-Err : goal.returns-in-Err
-returns-in-Err g c = inl (c.in-Err.fault, c.of.ensures, leaves (λ before after h. h.0) c.in-Err.ensures.met)
+pub returns-in_default : goal.returns-in_default
+returns-in_default g c = inl (c.in-Err.fault, search rules, c.of.ensures, leaves (λ before after h. h.0) c.in-Err.ensures.met)
