@@ -5,7 +5,7 @@
  *
  * A handle that is all zero has no core: `hl_core core = {0};`. Its fields are the library's: never read or write them,
  * and keep the handle where it is while a call uses it. Each handle that was opened is freed once, so never use two
- * copies of one.
+ * copies of one: no answer would tell.
  *
  * Threads: a handle may go from thread to thread, but one call at a time may use it, so keep it under a lock of your
  * own. No call waits, and none but hl_open and hl_open_wide takes memory (by the program's malloc). No call is made from
