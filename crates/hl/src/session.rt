@@ -14,6 +14,7 @@ use crate::log::Log;
 use crate::refused::Refused;
 use hl_action::{AnyAnswer, NoJob, Promise, Task};
 use hl_counts::CountTable;
+use hl_crew::Stop;
 use hl_domain::Pass;
 use hl_epoch::Epochs;
 use hl_model::{Fault, View};
@@ -37,6 +38,8 @@ pub struct Session<
     rt: &'a R,
     log: &'a Log<L, F, P, E>,
     pass: Pass<L>,
+    // What wakes the crew of a log that `with_threads` opened.
+    bell: Option<&'a Stop>,
 }
 
 impl<'a, R: Wait, L: Realm, F: Task, P: Promise, E: Epochs> Model for Session<'a, R, L, F, P, E> {
@@ -60,7 +63,12 @@ impl<'a, R: Wait, L: Realm, F: Task, P: Promise, E: Epochs + Drop> Session<'a, R
         ensures log { IfOk result (λ session. session.log ≡ log.now) }
     {
         match log.enter(rt, rider) {
-            Ok(pass) => Ok(Session { rt, log, pass }),
+            Ok(pass) => Ok(Session {
+                rt,
+                log,
+                pass,
+                bell: None,
+            }),
             Err((fault, back)) => Err(Refused { fault, back }),
         }
     }
@@ -78,7 +86,12 @@ impl<'a, R: Wait, L: Realm, F: Task, P: Promise, E: Epochs + Drop> Session<'a, R
         ensures log { IfOk result (λ session. session.log ≡ log.now) }
     {
         match log.acquire(rt, slot, rider) {
-            Ok(pass) => Ok(Session { rt, log, pass }),
+            Ok(pass) => Ok(Session {
+                rt,
+                log,
+                pass,
+                bell: None,
+            }),
             Err((fault, back)) => Err(Refused { fault, back }),
         }
     }
@@ -146,12 +159,22 @@ impl<'a, R: Wait, L: Realm, F: Task, P: Promise, E: Epochs + Drop> Session<'a, R
         ensures back { IfErr result (λ refused. refused.back
             ≡ with_pass (with_rider refused.back.pass.rider self.entry.pass) self.entry) }
     {
-        let Session { rt, log, pass } = self;
+        let Session {
+            rt,
+            log,
+            pass,
+            bell,
+        } = self;
         match log.release(rt, pass) {
             Ok(rider) => Ok(rider),
             Err((fault, pass)) => Err(Refused {
                 fault,
-                back: Session { rt, log, pass },
+                back: Session {
+                    rt,
+                    log,
+                    pass,
+                    bell,
+                },
             }),
         }
     }
@@ -165,8 +188,36 @@ impl<'a, R: Wait, L: Realm, F: Task, P: Promise, E: Epochs + Drop> Session<'a, R
             rt: _,
             log: _,
             pass,
+            bell: _,
         } = self;
         pass.abandon()
+    }
+
+    /// Wakes the crew of [`with_threads`](crate::with_threads) if it sleeps, and takes no lock: for a thread whose
+    /// allocation was `Busy`. It does nothing in a session that was entered otherwise, whose crew has a
+    /// [`Stop`](Stop::ring) at hand.
+    pub fn ring(&self) {
+        if let Some(bell) = self.bell {
+            bell.ring();
+        }
+    }
+
+    // The same session, which wakes this crew.
+    pub(crate) fn beside(self, bell: &'a Stop) -> Session<'a, R, L, F, P, E>
+        ensures { result ≡ self.entry }
+    {
+        let Session {
+            rt,
+            log,
+            pass,
+            bell: _,
+        } = self;
+        Session {
+            rt,
+            log,
+            pass,
+            bell: Some(bell),
+        }
     }
 
     /// Its log: for what needs no slot, as a snapshot, or who holds up the oldest action.

@@ -186,7 +186,7 @@ fn work_to_the_stop<L: Realm + Send + Sync, R: Threads + Wait + Sync, P: Work<R>
     ensures { IfOk result (λ worked. (length worked.items ≡ length riders.items)
         × AreReturned (P.returns work.now) (map (λ one. one.0) worked.items)) }
 {
-    let worked = work_all(rt, alloc, log, riders, work);
+    let worked = work_all(rt, alloc, log, riders, work, stop);
     stop.give();
     worked
 }
@@ -198,6 +198,7 @@ fn work_all<L: Realm + Send + Sync, R: Threads + Wait + Sync, P: Work<R> + Sync>
     log: &Log<L, P::Job>,
     riders: Vec<Rider<L>>,
     work: &P,
+    stop: &Stop,
 ) -> Result<Vec<Worked<L, P::Out>>, AllocError>
     ensures { IfOk result (λ worked. (length worked.items ≡ length riders.items)
         × AreReturned (P.returns work.now) (map (λ one. one.0) worked.items)) }
@@ -208,7 +209,7 @@ fn work_all<L: Realm + Send + Sync, R: Threads + Wait + Sync, P: Work<R> + Sync>
         jobs,
         &|job: (usize, Rider<L>)| -> Worked<L, P::Out>
             ensures { IfOk result.0 (P.returns work.entry.now job.0) }
-        { work_one(rt, log, job.1, job.0 as u64, work) },
+        { work_one(rt, log, job.1, job.0 as u64, work, stop) },
     )
 }
 
@@ -219,11 +220,12 @@ fn work_one<L: Realm + Send + Sync, R: Wait, P: Work<R>>(
     rider: Rider<L>,
     number: u64,
     work: &P,
+    stop: &Stop,
 ) -> Worked<L, P::Out>
     ensures { IfOk result.0 (P.returns work.now number) }
 {
     let mut session = match Session::enter(rt, log, rider) {
-        Ok(session) => session,
+        Ok(session) => session.beside(stop),
         Err(Refused { fault, back }) => return (Err(fault), back),
     };
     let out = work.run(rt, &mut session, number);

@@ -73,6 +73,7 @@ impl Store {
                 // The bucket is let go of first: a thread that waits for it can't refresh, and while it doesn't, no
                 // frame comes free.
                 Err(Fault::Busy { .. } | Fault::TouchesFull) => {
+                    session.ring();
                     session.refresh()?;
                     thread::yield_now();
                 }
