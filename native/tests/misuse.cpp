@@ -2,8 +2,17 @@
 #include "hl_log.hpp"
 
 #include <cstdio>
+#include <type_traits>
+#include <utility>
 
 static int wrong;
+
+// Whether a slot of such a log or core can be acquired: not of one that goes away at once.
+template <class T, class = void> struct gives_slots : std::false_type {};
+template <class T>
+struct gives_slots<T, std::void_t<decltype(std::declval<T>().acquire(hl::Word{0}))>> : std::true_type {};
+static_assert(gives_slots<hl::Log &>::value && !gives_slots<hl::Log>::value, "a pass of a log that goes away");
+static_assert(gives_slots<hl::Core &>::value && !gives_slots<hl::Core>::value, "a slot of a core that goes away");
 
 /// An answer is to be this fault.
 template <class T> static void wants(const char *name, const hl::Result<T> &told, hl::Fault fault) {
