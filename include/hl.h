@@ -8,8 +8,8 @@
  * copies of one: no answer would tell.
  *
  * Threads: a handle may go from thread to thread, but one call at a time may use it, so keep it under a lock of your
- * own. No call waits, and none but hl_open and hl_open_wide takes memory (by the program's malloc). No call is made from
- * a signal handler, or from the forked child of a process with threads.
+ * own. No call waits, and none but hl_open and hl_open_wide takes memory (by the program's malloc). No call is made
+ * from a signal handler, or from the forked child of a process with threads.
  *
  * The core keeps no words and runs no jobs: the words of the frames are yours, and a done tells the tag of its job.
  */
@@ -79,6 +79,41 @@ enum hl_fault {
     HL_NO_CORE = 255       /* no core is open at the handle; for an opening: one is */
 };
 
+/* The name of a fault, as docs/RULES.md has it, or of a code; "accepted" for 0, and "unknown" for others. */
+static inline const char *hl_fault_name(uint64_t number) {
+    switch (number) {
+    case 0: return "accepted";
+    case HL_NO_SLOT: return "NoSlot";
+    case HL_OCCUPIED: return "Occupied";
+    case HL_NOT_PROTECTED: return "NotProtected";
+    case HL_STALE: return "Stale";
+    case HL_DRAIN_FULL: return "DrainFull";
+    case HL_EPOCHS_SPENT: return "EpochsSpent";
+    case HL_EMPTY: return "Empty";
+    case HL_NOT_READY: return "NotReady";
+    case HL_NOT_TAKEN: return "NotTaken";
+    case HL_NOT_ABOVE: return "NotAbove";
+    case HL_ABOVE_TAIL: return "AboveTail";
+    case HL_NOT_PAGE: return "NotPage";
+    case HL_ABOVE_FLUSHED: return "AboveFlushed";
+    case HL_SIZE: return "Size";
+    case HL_BUSY: return "Busy";
+    case HL_SPACE_SPENT: return "SpaceSpent";
+    case HL_BELOW: return "Below";
+    case HL_BEYOND: return "Beyond";
+    case HL_EVICTED: return "Evicted";
+    case HL_NONE_SEALED: return "NoneSealed";
+    case HL_NOT_IN_FLIGHT: return "NotInFlight";
+    case HL_NONE_CLOSED: return "NoneClosed";
+    case HL_NOT_CLEANING: return "NotCleaning";
+    case HL_OUT_OF_MEMORY: return "OutOfMemory";
+    case HL_WINDOW_FULL: return "WindowFull";
+    case HL_OUT_OF_RANGE: return "OutOfRange";
+    case HL_NO_CORE: return "NoCore";
+    default: return "unknown";
+    }
+}
+
 /* What a done did, in b, and an action's kind, in b of hl_pending. */
 enum hl_kind { HL_JOB = 1, HL_SETTLES = 2, HL_CLOSES = 3 };
 
@@ -129,7 +164,8 @@ typedef struct hl_lag_steps {
     hl_lag_step steps[4];
 } hl_lag_steps;
 
-/* ---- A core. Every call below but the two that open answers HL_NO_CORE, and changes nothing, where none is open. ---- */
+/* ---- A core. Every call below but the two that open answers HL_NO_CORE, and changes nothing, where none is open. ----
+ */
 
 /* Opens a core at the empty list: page_size words a page, a power of two from 4 to 4,096; 2 to 256 frames; 1 to 64
  * slots; 1 to 64 places in the drain list. 0 where it did. HL_NO_CORE where one is open already, which stays;

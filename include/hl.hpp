@@ -127,12 +127,12 @@ struct Snapshot {
 class Sizes {
   public:
     /// Narrow sizes: a page of 4 to 4,096 words, 2 to 256 frames, 1 to 64 slots and places. OutOfRange: one of them is.
-    static Result<Sizes> checked(Word page_size, Word frames, Word slots, Word drain_places) {
+    [[nodiscard]] static Result<Sizes> checked(Word page_size, Word frames, Word slots, Word drain_places) {
         return within({4096, 256, 64, 64}, page_size, frames, slots, drain_places);
     }
     /// Sizes for an engine: a page of 4 to 2^20 words, 2 to 2^16 frames, 1 to 1,024 slots, 1 to 4,096 places.
     /// OutOfRange: one of them is.
-    static Result<Sizes> wide(Word page_size, Word frames, Word slots, Word drain_places) {
+    [[nodiscard]] static Result<Sizes> wide(Word page_size, Word frames, Word slots, Word drain_places) {
         return within({Word(1) << 20, Word(1) << 16, 1024, 4096}, page_size, frames, slots, drain_places);
     }
 
@@ -157,7 +157,7 @@ class Sizes {
     struct Most {
         Word page_size, frames, slots, drain_places;
     };
-    static Result<Sizes> within(Most most, Word page_size, Word frames, Word slots, Word drain_places) {
+    [[nodiscard]] static Result<Sizes> within(Most most, Word page_size, Word frames, Word slots, Word drain_places) {
         bool is_power = page_size != 0 && (page_size & (page_size - 1)) == 0;
         if (!is_power || page_size < 4 || page_size > most.page_size || frames < 2 || frames > most.frames ||
             slots < 1 || slots > most.slots || drain_places < 1 || drain_places > most.drain_places)
@@ -246,24 +246,28 @@ class Slot {
     /// What it learned by its acquire, or by its last refresh.
     const Entered &entered() const noexcept { return entered_; }
 
-    Result<Entered> refresh() {
+    [[nodiscard]] Result<Entered> refresh() {
         auto now = detail::entered(detail::ask(hl_refresh, core_, number_));
         if (now) entered_ = *now;
         return now;
     }
-    Result<Word> allocate(Word words) { return detail::one(detail::ask(hl_allocate, core_, number_, words)); }
-    Result<View> look(Word read_only, Word head) {
+    [[nodiscard]] Result<Word> allocate(Word words) {
+        return detail::one(detail::ask(hl_allocate, core_, number_, words));
+    }
+    [[nodiscard]] Result<View> look(Word read_only, Word head) {
         return detail::made(detail::ask(hl_look, core_, number_, read_only, head), detail::view_of);
     }
     /// Whether it may write the word at an address. The word is yours to write.
-    Result<void> may_write(Word address) {
+    [[nodiscard]] Result<void> may_write(Word address) {
         return detail::nothing(detail::ask(hl_write, core_, number_, address, Word{0}));
     }
     /// Whether it may read the word at an address.
-    Result<void> may_read(Word address) { return detail::nothing(detail::ask(hl_read, core_, number_, address)); }
+    [[nodiscard]] Result<void> may_read(Word address) {
+        return detail::nothing(detail::ask(hl_read, core_, number_, address));
+    }
 
     /// Releases it now.
-    Result<void> release() {
+    [[nodiscard]] Result<void> release() {
         auto told = detail::nothing(detail::ask(hl_release, core_, number_));
         core_ = nullptr;
         return told;
@@ -289,11 +293,12 @@ class Slot {
 class Core {
   public:
     /// A core at the empty list. OutOfMemory: malloc refused.
-    static Result<Core> open(Sizes sizes) {
+    [[nodiscard]] static Result<Core> open(Sizes sizes) {
         Core core;
         core.at_.reset(new (std::nothrow) hl_core{});
         if (!core.at_) return Refused(Refusal{Fault::OutOfMemory});
-        Word number = hl_open_wide(core.at_.get(), sizes.page_size(), sizes.frames(), sizes.slots(), sizes.drain_places());
+        Word number =
+            hl_open_wide(core.at_.get(), sizes.page_size(), sizes.frames(), sizes.slots(), sizes.drain_places());
         if (number != 0) return detail::refused(number);
         return core;
     }
@@ -306,49 +311,55 @@ class Core {
     /// Its handle, for calls of hl.h; null where it was moved from.
     hl_core *handle() noexcept { return at_.get(); }
 
-    /// Protects a slot until what this answers goes out of scope. A core that goes away at once has none: it must outlive
-    /// what it gives.
-    Result<Slot> acquire(Word slot) && = delete;
-    Result<Slot> acquire(Word slot) & {
+    /// Protects a slot until what this answers goes out of scope. A core that goes away at once has none: it must
+    /// outlive what it gives.
+    [[nodiscard]] Result<Slot> acquire(Word slot) && = delete;
+    [[nodiscard]] Result<Slot> acquire(Word slot) & {
         auto entered = detail::entered(detail::ask(hl_acquire, at_.get(), slot));
         if (!entered) return Refused(entered.error());
         return Slot(at_.get(), slot, *entered);
     }
-    Result<Entered> refresh(Word slot) { return detail::entered(detail::ask(hl_refresh, at_.get(), slot)); }
-    Result<void> release(Word slot) { return detail::nothing(detail::ask(hl_release, at_.get(), slot)); }
-    Result<Word> allocate(Word slot, Word words) {
+    [[nodiscard]] Result<Entered> refresh(Word slot) {
+        return detail::entered(detail::ask(hl_refresh, at_.get(), slot));
+    }
+    [[nodiscard]] Result<void> release(Word slot) { return detail::nothing(detail::ask(hl_release, at_.get(), slot)); }
+    [[nodiscard]] Result<Word> allocate(Word slot, Word words) {
         return detail::one(detail::ask(hl_allocate, at_.get(), slot, words));
     }
-    Result<View> look(Word slot, Word read_only, Word head) {
+    [[nodiscard]] Result<View> look(Word slot, Word read_only, Word head) {
         return detail::made(detail::ask(hl_look, at_.get(), slot, read_only, head), detail::view_of);
     }
-    Result<void> may_write(Word slot, Word address) {
+    [[nodiscard]] Result<void> may_write(Word slot, Word address) {
         return detail::nothing(detail::ask(hl_write, at_.get(), slot, address, Word{0}));
     }
-    Result<void> may_read(Word slot, Word address) {
+    [[nodiscard]] Result<void> may_read(Word slot, Word address) {
         return detail::nothing(detail::ask(hl_read, at_.get(), slot, address));
     }
 
-    Result<Word> bump(Word tag) { return detail::one(detail::ask(hl_bump, at_.get(), tag)); }
-    Result<Word> settle() { return detail::one(detail::ask(hl_settle, at_.get())); }
-    Result<Word> close() { return detail::one(detail::ask(hl_close, at_.get())); }
-    Result<Word> bare() { return detail::one(detail::ask(hl_bare, at_.get())); }
-    Result<Action> take() { return detail::action(detail::ask(hl_take, at_.get())); }
-    Result<Done> done(Word ticket) { return detail::done(detail::ask(hl_done, at_.get(), ticket)); }
+    [[nodiscard]] Result<Word> bump(Word tag) { return detail::one(detail::ask(hl_bump, at_.get(), tag)); }
+    [[nodiscard]] Result<Word> settle() { return detail::one(detail::ask(hl_settle, at_.get())); }
+    [[nodiscard]] Result<Word> close() { return detail::one(detail::ask(hl_close, at_.get())); }
+    [[nodiscard]] Result<Word> bare() { return detail::one(detail::ask(hl_bare, at_.get())); }
+    [[nodiscard]] Result<Action> take() { return detail::action(detail::ask(hl_take, at_.get())); }
+    [[nodiscard]] Result<Done> done(Word ticket) { return detail::done(detail::ask(hl_done, at_.get(), ticket)); }
 
-    Result<Word> raise(Word address) { return detail::one(detail::ask(hl_raise, at_.get(), address)); }
-    Result<Word> shift(Word address) { return detail::one(detail::ask(hl_shift, at_.get(), address)); }
-    Result<Word> flush_take() { return detail::one(detail::ask(hl_flush_take, at_.get())); }
-    Result<Word> flush_done(Word page, bool ok) { return detail::one(detail::ask(hl_flush_done, at_.get(), page, ok)); }
-    Result<Word> clean_take() { return detail::one(detail::ask(hl_clean_take, at_.get())); }
-    Result<Word> clean_done(Word page) { return detail::one(detail::ask(hl_clean_done, at_.get(), page)); }
+    [[nodiscard]] Result<Word> raise(Word address) { return detail::one(detail::ask(hl_raise, at_.get(), address)); }
+    [[nodiscard]] Result<Word> shift(Word address) { return detail::one(detail::ask(hl_shift, at_.get(), address)); }
+    [[nodiscard]] Result<Word> flush_take() { return detail::one(detail::ask(hl_flush_take, at_.get())); }
+    [[nodiscard]] Result<Word> flush_done(Word page, bool ok) {
+        return detail::one(detail::ask(hl_flush_done, at_.get(), page, ok));
+    }
+    [[nodiscard]] Result<Word> clean_take() { return detail::one(detail::ask(hl_clean_take, at_.get())); }
+    [[nodiscard]] Result<Word> clean_done(Word page) {
+        return detail::one(detail::ask(hl_clean_done, at_.get(), page));
+    }
 
-    Result<Offsets> six() {
+    [[nodiscard]] Result<Offsets> six() {
         hl_offsets six = detail::ask(hl_six, at_.get());
         if (six.number != 0) return detail::refused(six.number);
         return detail::offsets_of(six);
     }
-    Result<Snapshot> snapshot() {
+    [[nodiscard]] Result<Snapshot> snapshot() {
         hl_quantities all = detail::ask(hl_snapshot, at_.get());
         if (all.number != 0) return detail::refused(all.number);
         const Word *frames = all.frames;
@@ -362,23 +373,23 @@ class Core {
     }
     /// The steps that a flusher makes next, for whoever wants about so many pages at the tail to be written and about
     /// so many to be read; hl_lag says more. OutOfRange: not 1 <= mutable_pages <= resident_pages < frames.
-    Result<Lag> lag(Word mutable_pages, Word resident_pages) {
+    [[nodiscard]] Result<Lag> lag(Word mutable_pages, Word resident_pages) {
         hl_lag_steps told = detail::ask(hl_lag, at_.get(), mutable_pages, resident_pages);
         if (told.number != 0) return detail::refused(told.number);
         return Lag(told);
     }
-    Result<Pending> pending(Word place) {
+    [[nodiscard]] Result<Pending> pending(Word place) {
         return detail::made(detail::ask(hl_pending, at_.get(), place), [](const hl_outcome &it) {
             return Pending{it.a, static_cast<Kind>(it.b), it.c, it.d};
         });
     }
-    Result<Frame> frame(Word frame) {
+    [[nodiscard]] Result<Frame> frame(Word frame) {
         return detail::made(detail::ask(hl_frame, at_.get(), frame), [](const hl_outcome &it) {
             return Frame{static_cast<FrameState>(it.a), it.b == 1 ? std::optional<Word>(it.c) : std::nullopt};
         });
     }
     /// None where the slot isn't protected, or there is no such slot.
-    Result<std::optional<View>> view(Word slot) {
+    [[nodiscard]] Result<std::optional<View>> view(Word slot) {
         return detail::made(detail::ask(hl_view, at_.get(), slot), [](const hl_outcome &it) {
             return it.a == 1 ? std::optional<View>(detail::view_of(it)) : std::nullopt;
         });

@@ -151,13 +151,13 @@ class Pass {
     View view() const noexcept { return view_; }
 
     /// Moves on to the current epoch, and sees the offsets as they are. NoCore where the pass was moved from.
-    Result<Entered> refresh() {
+    [[nodiscard]] Result<Entered> refresh() {
         auto now = detail::entered(make({Call::Refresh, slot_}));
         if (now) view_ = now->view;
         return now;
     }
     /// Places a record of so many words, and sees the tail behind it: its address. Size, SpaceSpent, Busy.
-    Result<Word> allocate(Word words) {
+    [[nodiscard]] Result<Word> allocate(Word words) {
         auto address = detail::one(detail::brief(make({Call::Allocate, slot_, words})));
         if (address) view_.tail = *address + words;
         return address;
@@ -179,14 +179,14 @@ class Pass {
         return view_;
     }
     /// Stores a word, without the lock. Below, Beyond.
-    Result<void> store(Word address, Word word) {
+    [[nodiscard]] Result<void> store(Word address, Word word) {
         hl_brief judged = judge(address, view_.read_only, HL_BELOW);
         if (judged.number == 0) shared_->cell(address)->store(word, std::memory_order_release);
         if (is_noted()) touches_.push_back({{Call::Store, slot_, address, word}, detail::whole(judged)});
         return detail::nothing(judged);
     }
     /// Loads a word, without the lock; one that was never stored is 0. Evicted, Beyond.
-    Result<Word> load(Word address) {
+    [[nodiscard]] Result<Word> load(Word address) {
         hl_brief judged = judge(address, view_.head, HL_EVICTED);
         if (judged.number == 0) judged.a = shared_->cell(address)->load(std::memory_order_acquire);
         if (is_noted()) touches_.push_back({{Call::Load, slot_, address}, detail::whole(judged)});
@@ -254,7 +254,7 @@ class Flush {
     }
 
     /// It is on the device: the flushed offset. NoCore where it was done before, or moved from.
-    Result<Word> done() {
+    [[nodiscard]] Result<Word> done() {
         if (!shared_) return detail::refused(HL_NO_CORE);
         return detail::one(detail::brief(std::exchange(shared_, nullptr)->make({Call::FlushDone, page_, 1})));
     }
@@ -284,7 +284,7 @@ class Clean {
     Word page() const noexcept { return page_; }
 
     /// Zeroes its words, without the lock, and frees its frame: the page. NoCore where it was swept before.
-    Result<Word> sweep() {
+    [[nodiscard]] Result<Word> sweep() {
         if (!shared_) return detail::refused(HL_NO_CORE);
         detail::Shared *shared = std::exchange(shared_, nullptr);
         std::atomic<Word> *cells = shared->page(page_);
@@ -308,43 +308,43 @@ class Clean {
 class Log {
   public:
     /// A log where nothing was done yet. OutOfMemory: memory was refused.
-    static Result<Log> open(Sizes sizes) { return open(sizes, false); }
+    [[nodiscard]] static Result<Log> open(Sizes sizes) { return open(sizes, false); }
 
     /// The same with a journal of all calls and their answers, which grows until it is taken. It is for tests: a pass
     /// then keeps each of its stores, loads and looks until its next call that takes the lock.
-    static Result<Log> with_journal(Sizes sizes) { return open(sizes, true); }
+    [[nodiscard]] static Result<Log> with_journal(Sizes sizes) { return open(sizes, true); }
 
     Sizes sizes() const noexcept { return shared_->sizes; }
 
     /// Protects a slot until the pass goes out of scope. NoSlot, Occupied. A log that goes away at once has no pass: it
     /// must outlive what it gives.
-    Result<Pass> acquire(Word slot) && = delete;
-    Result<Pass> acquire(Word slot) & {
+    [[nodiscard]] Result<Pass> acquire(Word slot) && = delete;
+    [[nodiscard]] Result<Pass> acquire(Word slot) & {
         auto entered = detail::entered(make({Call::Acquire, slot}));
         if (!entered) return Refused(entered.error());
         return Pass(shared_.get(), slot, entered->view);
     }
 
     // The calls of a core, under the lock.
-    Result<Word> bump(Word tag) { return one({Call::Bump, tag}); }
-    Result<Word> settle() { return one({Call::Settle}); }
-    Result<Word> close() { return one({Call::Close}); }
-    Result<Word> bare() { return one({Call::Bare}); }
-    Result<Action> take() { return detail::action(make({Call::Take})); }
-    Result<Done> done(Word ticket) { return detail::done(make({Call::Done, ticket})); }
-    Result<Word> raise(Word address) { return one({Call::Raise, address}); }
-    Result<Word> shift(Word address) { return one({Call::Shift, address}); }
+    [[nodiscard]] Result<Word> bump(Word tag) { return one({Call::Bump, tag}); }
+    [[nodiscard]] Result<Word> settle() { return one({Call::Settle}); }
+    [[nodiscard]] Result<Word> close() { return one({Call::Close}); }
+    [[nodiscard]] Result<Word> bare() { return one({Call::Bare}); }
+    [[nodiscard]] Result<Action> take() { return detail::action(make({Call::Take})); }
+    [[nodiscard]] Result<Done> done(Word ticket) { return detail::done(make({Call::Done, ticket})); }
+    [[nodiscard]] Result<Word> raise(Word address) { return one({Call::Raise, address}); }
+    [[nodiscard]] Result<Word> shift(Word address) { return one({Call::Shift, address}); }
 
     /// Takes the least sealed page that is neither flushed nor in flight, to be copied. NoneSealed.
-    Result<Flush> flush_take() && = delete;
-    Result<Flush> flush_take() & {
+    [[nodiscard]] Result<Flush> flush_take() && = delete;
+    [[nodiscard]] Result<Flush> flush_take() & {
         auto page = one({Call::FlushTake});
         if (!page) return Refused(page.error());
         return Flush(shared_.get(), *page);
     }
     /// Takes the least closed page that is neither freed nor being cleaned, to be swept. NoneClosed.
-    Result<Clean> clean_take() && = delete;
-    Result<Clean> clean_take() & {
+    [[nodiscard]] Result<Clean> clean_take() && = delete;
+    [[nodiscard]] Result<Clean> clean_take() & {
         auto page = one({Call::CleanTake});
         if (!page) return Refused(page.error());
         return Clean(shared_.get(), *page);
@@ -359,7 +359,7 @@ class Log {
         return *shared_->core.snapshot();
     }
     /// As that of a core: give the answer a name before a `for` goes through it.
-    Result<Lag> lag(Word mutable_pages, Word resident_pages) {
+    [[nodiscard]] Result<Lag> lag(Word mutable_pages, Word resident_pages) {
         if (!shared_) return detail::refused(HL_NO_CORE);
         std::lock_guard<std::mutex> lock(shared_->mutex);
         return shared_->core.lag(mutable_pages, resident_pages);
@@ -373,7 +373,7 @@ class Log {
     }
 
   private:
-    static Result<Log> open(Sizes sizes, bool has_journal) {
+    [[nodiscard]] static Result<Log> open(Sizes sizes, bool has_journal) {
         auto core = Core::open(sizes);
         if (!core) return Refused(core.error());
         Log log;
@@ -390,7 +390,7 @@ class Log {
         if (!shared_) return {HL_NO_CORE, 0, 0, 0, 0};
         return shared_->make(step);
     }
-    Result<Word> one(const Step &step) { return detail::one(detail::brief(make(step))); }
+    [[nodiscard]] Result<Word> one(const Step &step) { return detail::one(detail::brief(make(step))); }
 
     std::unique_ptr<detail::Shared> shared_;
 };

@@ -2,6 +2,7 @@
 #include "hl.h"
 
 #include <stdio.h>
+#include <string.h>
 
 static int wrong;
 
@@ -10,6 +11,21 @@ static void wants(const char *name, uint64_t told, uint64_t wanted) {
         printf("%s: %llu and not %llu\n", name, (unsigned long long)told, (unsigned long long)wanted);
         wrong++;
     }
+}
+
+static void is_named(uint64_t number, const char *wanted) {
+    if (strcmp(hl_fault_name(number), wanted) != 0) {
+        printf("%llu: %s and not %s\n", (unsigned long long)number, hl_fault_name(number), wanted);
+        wrong++;
+    }
+}
+
+static void names(void) {
+    is_named(0, "accepted");
+    is_named(1, "NoSlot");
+    is_named(15, "Busy");
+    is_named(24, "unknown");
+    is_named(255, "NoCore");
 }
 
 static void no_core(void) {
@@ -119,6 +135,7 @@ static void greatest(void) {
 }
 
 int main(void) {
+    names();
     no_core();
     sizes();
     out_of_place();

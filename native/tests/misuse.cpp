@@ -2,6 +2,7 @@
 #include "hl_log.hpp"
 
 #include <cstdio>
+#include <cstring>
 #include <type_traits>
 #include <utility>
 
@@ -24,6 +25,12 @@ template <class T> static void wants(const char *name, const hl::Result<T> &told
 static void is(const char *name, bool holds) {
     if (!holds) std::printf("%s\n", name);
     wrong += !holds;
+}
+
+// Each fault has the same name in C.
+static void names() {
+    for (hl::Word number = 1; number < 256; number++)
+        is("a fault's name in C", std::strcmp(hl::name(static_cast<hl::Fault>(number)), hl_fault_name(number)) == 0);
 }
 
 static hl::Core core() { return hl::Core::open(hl::Sizes::checked(4, 2, 2, 1).value()).value(); }
@@ -134,6 +141,7 @@ static void thrown() {
 }
 
 int main() {
+    names();
     sizes();
     no_core();
     slots();
