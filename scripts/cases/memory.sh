@@ -158,14 +158,14 @@ each_thread_refused() {
 }
 
 # The first thread of a log with one thread of work is its crew's, which serves after that one for want of it. Without
-# any other the crew isn't whole, and the log is closed with the riders that came back.
+# any other the crew isn't whole, and the program, which prints nothing, ends with status 1.
 each_thread_refused_to_a_log() {
     local status thread threads _
     refused REFUSED_THREAD=1 "$pace" idle 0
     [ "$status" = 0 ] || { echo "without thread 1 it ended with status $status"; return 1; }
     for thread in 2 3 4 5; do
         refused "REFUSED_THREAD=$thread" "$pace" idle 0
-        is_told_refused "without thread $thread" || return
+        [ "$status" = 1 ] || { echo "without thread $thread it ended with status $status"; return 1; }
     done
     refused REFUSED_THREAD=0 "$pace" idle 0
     read -r _ threads < "$room/counted"
