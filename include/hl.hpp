@@ -354,7 +354,7 @@ class Core {
         return detail::one(detail::ask(hl_clean_done, at_.get(), page));
     }
 
-    [[nodiscard]] Result<Offsets> six() {
+    [[nodiscard]] Result<Offsets> offsets() {
         hl_offsets six = detail::ask(hl_six, at_.get());
         if (six.number != 0) return detail::refused(six.number);
         return detail::offsets_of(six);

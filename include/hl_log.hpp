@@ -304,7 +304,7 @@ class Clean {
 // ---- A log ----
 
 /// A log that threads share by a reference. It moves, and frees itself. Where it was moved from its calls answer
-/// NoCore; sizes(), six(), snapshot() and take_journal() then have no answer, and may not be called.
+/// NoCore; sizes(), offsets(), snapshot() and take_journal() then have no answer, and may not be called.
 class Log {
   public:
     /// A log where nothing was done yet. OutOfMemory: memory was refused.
@@ -350,9 +350,9 @@ class Log {
         return Clean(shared_.get(), *page);
     }
 
-    Offsets six() {
+    Offsets offsets() {
         std::lock_guard<std::mutex> lock(shared_->mutex);
-        return *shared_->core.six();
+        return *shared_->core.offsets();
     }
     Snapshot snapshot() {
         std::lock_guard<std::mutex> lock(shared_->mutex);

@@ -71,7 +71,7 @@ static void write_log(std::fstream &file) {
     std::atomic<bool> ended{false};
     std::thread flusher([&] {
         while (!ended) {
-            serve(log, file, log.six().tail / PAGE_SIZE * PAGE_SIZE);
+            serve(log, file, log.offsets().tail / PAGE_SIZE * PAGE_SIZE);
             std::this_thread::yield();
         }
     });
@@ -91,8 +91,8 @@ static void write_log(std::fstream &file) {
     }
     ended = true;
     flusher.join();
-    while (log.six().flushed < log.six().tail)
-        serve(log, file, log.six().tail);
+    while (log.offsets().flushed < log.offsets().tail)
+        serve(log, file, log.offsets().tail);
 }
 
 /// Whether the file has each thread's records in their order, and nothing else.

@@ -47,7 +47,7 @@ static void the_way_of_a_page() {
     hl::Snapshot all = core.snapshot().value();
     is("quantities", all.epoch == 5 && all.safe == 4 && all.protected_slots == 1 && all.pending == 0 && all.taken == 0);
     is("frames", all.frames == std::array<hl::Word, 5>{0, 0, 0, 0, 2});
-    is("offsets", all.offsets.closed == 4 && core.six().value().tail == 4);
+    is("offsets", all.offsets.closed == 4 && core.offsets().value().tail == 4);
 }
 
 static bool is_lag(hl::Core &core, std::initializer_list<hl::LagStep> wanted) {

@@ -49,7 +49,7 @@ struct Hands {
 
 /// Makes a step by which the pages go on, where one is due.
 static bool go_on(hl::Log &log, Hands &hands) {
-    hl::Offsets six = log.six();
+    hl::Offsets six = log.offsets();
     Word page_size = log.sizes().page_size(), page_start = six.tail / page_size * page_size;
     bool waits = log.snapshot().pending > 0;
     if (!hands.tickets.empty()) {
@@ -81,7 +81,7 @@ static void end_flush(hl::Log &log, Hands &hands, Random &random) {
 /// A random step of the actions, the offsets or the pages. Refusals are steps as others.
 static void serve(hl::Log &log, Hands &hands, Random &random) {
     if (random.below(2) == 0 && go_on(log, hands)) return;
-    hl::Offsets six = log.six();
+    hl::Offsets six = log.offsets();
     switch (random.below(20)) {
     case 0:
         // The program has 1,000 jobs.

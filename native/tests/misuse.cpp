@@ -63,7 +63,7 @@ static void no_core() {
     hl::Slot slot = first.acquire(0).value();
     hl::Core second = std::move(first);
     wants("a step of a core that was moved", first.take(), hl::Fault::NoCore);
-    wants("offsets of a core that was moved", first.six(), hl::Fault::NoCore);
+    wants("offsets of a core that was moved", first.offsets(), hl::Fault::NoCore);
     wants("a lag of a core that was moved", first.lag(1, 1), hl::Fault::NoCore);
     is("a slot of a core that was moved", slot.refresh().has_value());
     hl::Slot other = std::move(slot);

@@ -1,11 +1,13 @@
 ghost use Rattle.std.specs.Prelude.{◌≡◌};
 
 use hl_model::Fault;
-use std::error::Error;
 use std::fmt;
+use thiserror::Error;
 
-/// A refused call's fault, and the value that the call was handed.
-#[derive(Drop)]
+/// A refused call's fault, and the value that the call was handed. It is displayed as its fault.
+#[derive(Drop, Error)]
+#[error_bound(T: Drop)]
+#[error("{fault}")]
 pub struct Refused<T> {
     /// Why it was refused.
     pub fault: Fault,
@@ -18,14 +20,6 @@ impl<T> fmt::Debug for Refused<T> {
         write!(f, "{:?}", self.fault)
     }
 }
-
-impl<T> fmt::Display for Refused<T> {
-    fn fmt<W: fmt::Write>(&self, f: &mut fmt::Formatter<W>) -> fmt::Result {
-        write!(f, "{}", self.fault)
-    }
-}
-
-impl<T: Drop> Error for Refused<T> {}
 
 /// The fault alone; the value is dropped.
 impl<T: Drop> From<Refused<T>> for Fault {

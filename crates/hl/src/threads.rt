@@ -62,6 +62,9 @@ type Worked<L, T> = (Result<T, Fault>, Rider<L>);
 /// log. Each thread is in a session while it works, and the crew serves until all have ended. A
 /// rider whose thread can't be made works after another, in that one's thread.
 ///
+/// Where `out` is `Ok`, its places are the threads' numbers: each holds what that thread returned,
+/// of which `Work::returns` holds, or its fault; and no rider is missing.
+///
 /// If the crew's own thread can't be made, the riders work without a crew, and it serves after them: a rider that waits
 /// for a frame then waits for good.
 ///

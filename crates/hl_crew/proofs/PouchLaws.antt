@@ -1,6 +1,6 @@
 -- The places of a pouch.
 use Rattle.std.proofs.Common.{◌≡◌, ℕ, zero, suc, ◌+◌, ◌<◌, ◌≤◌, Bool, true, false, cond, List, [], ◌∷◌, ◌++◌, length, get_or, set, refl, sym, ap, ◌∙◌, subst, arith}
-use Rattle.std.specs.Prelude.{Option, Some, None, Result, MatchResult, position, is_none, is_some, nat_lt, slice_get}
+use Rattle.std.specs.Prelude.{Option, Some, None, Result, Err, MatchResult, position, is_none, is_some, nat_lt, slice_get}
 use Rattle.std.specs.List.{position_or_len}
 use Rattle.std.proofs.lemmas.Bool.{ltb-false}
 use Rattle.std.proofs.lemmas.List.Quantifiers.{position-Some}
@@ -8,12 +8,15 @@ use Rattle.std.proofs.lemmas.Bool.{eqb-true}
 use Rattle.std.proofs.lemmas.List.{set-set, set-get_or}
 use Rattle.std.proofs.lemmas.Option.{get_or_from_slice_get}
 use Rattle.hl_model.specs.declared.fault.Fault.{Fault}
+use Rattle.hl_model.specs.declared.fault.Fault.TheVariants.{JournalFull, NotInFlight}
 use Rattle.hl_model.specs.declared.step.Step.TheVariants.{FlushDone}
 use Rattle.hl_model.specs.Pages.{flushed}
 use Rattle.hl_keeper.specs.declared.load.PageJob.{PageJob}
 use Rattle.hl_keeper.specs.Calls.{Ends}
 use Rattle.hl_domain.specs.Domains.{DomainState, call_of, MakesUnderLock}
 use Rattle.hl_crew.specs.Pouches.{is_of, load_count, PageAnswer, Answers}
+use Rattle.hl_crew.specs.Waits.{CallsMore}
+use Rattle.hl_crew.proofs.WaitLaws.{calls_one}
 
 -- where no place is free, as many loads are held as there are places
 all_taken : (places : List (Option PageJob)) → length places ≤ position_or_len is_none places → load_count places ≡ length places
@@ -103,3 +106,8 @@ taken_out places at job within held = one_less places at job within (get_or_from
 -- no test both passes and fails
 pub not_none : true ≡ false → ⊥
 not_none e = cc
+
+-- an answer that was refused since the journal is full was a call: the page is held
+pub full_is_called : (F : Type 0) (domain : DomainState) (answer : PageAnswer) (old new : List (Option PageJob)) (result : Result ℕ Fault) (place : Option ℕ) → (place ≡ None → result ≡ Err NotInFlight) → ((at : ℕ) → place ≡ Some at → Answers F domain answer at old new result) → result ≡ Err JournalFull → CallsMore 1 answer.from answer.to
+full_is_called F domain answer old new result None none held full = absurd (cc (none refl))
+full_is_called F domain answer old new result (Some at) none held full = calls_one (held at refl).met

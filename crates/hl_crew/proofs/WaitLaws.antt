@@ -1,5 +1,5 @@
 -- Calls that entered nothing.
-use Rattle.std.proofs.Common.{◌≡◌, ℕ, ◌+◌, Bool, true, false, List, [], ◌∷◌, ◌++◌, refl, sym, ap, ◌∙◌, arith, append_assoc}
+use Rattle.std.proofs.Common.{◌≡◌, ℕ, ◌+◌, Bool, true, false, List, [], ◌∷◌, ◌++◌, length, refl, sym, ap, ◌∙◌, arith, append_assoc}
 use Rattle.std.specs.Prelude.{Result, Ok, Err, OnErr}
 use Rattle.hl_model.specs.declared.fault.Fault.{Fault}
 use Rattle.hl_model.proofs.ListLaws.{all-append}
@@ -7,8 +7,8 @@ use Rattle.hl_history.specs.declared.view.Entry.{Entry}
 use Rattle.hl_history.specs.Lists.{entry}
 use Rattle.hl_words.specs.States.{RiderState}
 use Rattle.hl_keeper.specs.Keepers.{KeeperState}
-use Rattle.hl_domain.specs.Domains.{DomainState, LeavesUnderLock, no_step}
-use Rattle.hl_crew.specs.Waits.{with_calls, Waits, MakesRoom}
+use Rattle.hl_domain.specs.Domains.{DomainState, Call, LeavesUnderLock, no_step}
+use Rattle.hl_crew.specs.Waits.{with_calls, Waits, CallsMore, MakesRoom}
 
 -- a rider that made no call
 pub waits_same : {old new : RiderState} → new ≡ old → Waits old new
@@ -43,3 +43,7 @@ waits_room F domain false same = waits_same same
 pub waits_refused : {X : Type 0} {old mid : RiderState} (new : RiderState) (result : Result X Fault) → Waits old mid → OnErr result (Waits mid new) → OnErr result (Waits old new)
 waits_refused new (Ok x) before after = after
 waits_refused new (Err fault) before after = waits_on before after
+
+-- a call that was made under the lock
+pub calls_one : {F : Type 0} {domain : DomainState} {call : Call} {H : KeeperState F → KeeperState F → Type 0} → LeavesUnderLock F domain call H → CallsMore 1 call.old call.new
+calls_one left = let is = ap (λ (r : RiderState). length r.calls) left.entered in omega (arith, is)

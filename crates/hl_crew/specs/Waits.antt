@@ -1,5 +1,5 @@
 -- Calls of a rider that entered nothing.
-use Rattle.std.specs.Prelude.{◌≡◌, ◌+◌, Bool, true, false, List, [], ◌++◌, length, nat_lt}
+use Rattle.std.specs.Prelude.{◌≡◌, ℕ, ◌+◌, Bool, true, false, List, [], ◌++◌, length, nat_lt}
 use Rattle.std.specs.List.{AllByRecursion}
 use Rattle.hl_history.specs.declared.view.Entry.{Entry}
 use Rattle.hl_words.specs.States.{RiderState}
@@ -16,6 +16,10 @@ pub record Waits (old new : RiderState) : Type 0 where
   pub more : List Entry
   pub empty : AllByRecursion (λ e. e.steps ≡ []) more
   pub is : new ≡ with_calls more old
+
+-- a rider made so many calls more
+abbrev pub CallsMore : ℕ → RiderState → RiderState → Type 0
+CallsMore n old new = length new.calls ≡ length old.calls + n
 
 module _ (F : Type 0) (domain : DomainState) where
   -- the journal was cut by a rider

@@ -1,6 +1,9 @@
-ghost use Rattle.std.specs.Prelude.{◌≡◌};
+ghost use Rattle.std.specs.Prelude.{◌≡◌, true, Err};
 ghost use Rattle.hl_crew.specs.Looks.{LooksOn};
+ghost use Rattle.hl_crew.specs.declared.messages.Over.TheVariants.{Full};
+ghost use Rattle.hl_crew.specs.Lags.{makes_room};
 ghost use Rattle.hl_crew.specs.Turns.{Looks, Finds, Cleans, Frees};
+ghost use Rattle.hl_crew.specs.Waits.{CallsMore};
 
 use crate::messages::Over;
 use crate::orders::{ATTEMPTS, Orders, make_room};
@@ -102,10 +105,13 @@ impl<R: Wait, E: Epochs + Drop, F: Task, P: Promise, L: Realm> Cleaner<'_, R, E,
         Ok(true)
     }
 
-    // Answers a page that was swept. If the journal is full and may be cut, it is cut first.
+    // Answers a page that was swept. If the journal is full and may be cut, it is cut, and the answer tried again,
+    // up to a thousand times.
     fn finish(&self, rider: &mut Rider<L>, broom: Broom) -> Result<(), Over>
         requires { broom.swept ≡ self.now.domain.now.sizes.page_size }
-        ensures { Frees F self.now.domain.now broom result rider.old rider.new }
+        ensures frees { Frees F self.now.domain.now broom result rider.old rider.new }
+        ensures tries { result ≡ Err Full → makes_room self.now.orders.cuts ≡ true
+            → CallsMore 2000 rider.old rider.new }
     {
         let mut broom = broom;
         for _ in 0..ATTEMPTS {

@@ -1,8 +1,10 @@
-ghost use Rattle.std.specs.Prelude.{◌≡◌, ◌+◌, ℕ, Some, None, Ok, position, OnOk, OnErr};
+ghost use Rattle.std.specs.Prelude.{◌≡◌, ◌+◌, ℕ, true, Some, None, Ok, Err, position, OnOk, OnErr};
+ghost use Rattle.hl_model.specs.declared.fault.Fault.TheVariants.{JournalFull};
 ghost use Rattle.hl_crew.specs.Goes.{UpTo};
 ghost use Rattle.hl_words.specs.States.{RiderState};
 ghost use Rattle.hl_crew.specs.Pouches.{is_of, load_count, PageAnswer, Answers};
-ghost use Rattle.hl_crew.specs.Waits.{Waits};
+ghost use Rattle.hl_crew.specs.Lags.{makes_room};
+ghost use Rattle.hl_crew.specs.Waits.{Waits, CallsMore};
 ghost use Rattle.hl_crew.specs.Counting.{counted, one_stranger, AnswersAndCounts};
 ghost use Rattle.hl_crew.specs.Flushes.{hold_of, Tells, TellsNext, FailsNext};
 
@@ -115,7 +117,8 @@ impl<R: Wait, E: Epochs + Drop, F: Task, P: Promise, L: Realm> Flusher<'_, R, E,
         }
     }
 
-    // As `Pouch::answer`. If the journal is full and may be cut, it is cut first.
+    // As `Pouch::answer`. If the journal is full and may be cut, it is cut, and the answer tried again, up to a
+    // thousand times.
     fn answer_page(
         &self,
         rider: &mut Rider<L>,
@@ -129,6 +132,8 @@ impl<R: Wait, E: Epochs + Drop, F: Task, P: Promise, L: Realm> Flusher<'_, R, E,
             in Answers F self.now.domain.now answer at pouch.old pouch.new result }
         ensures fewer { OnOk result (load_count pouch.new + 1 ≡ load_count pouch.old) }
         ensures waits { OnErr result (Waits rider.old rider.new) }
+        ensures tries { result ≡ Err JournalFull → makes_room self.now.orders.cuts ≡ true
+            → CallsMore 2001 rider.old rider.new }
     {
         for _ in 0..ATTEMPTS {
             match pouch.answer(self.rt, self.domain, rider, page, ok) {

@@ -1,6 +1,9 @@
-ghost use Rattle.std.specs.Prelude.{◌≡◌};
+ghost use Rattle.std.specs.Prelude.{◌≡◌, true, Err};
+ghost use Rattle.hl_crew.specs.declared.messages.Over.TheVariants.{Full};
 ghost use Rattle.hl_crew.specs.Goes.{UpTo};
+ghost use Rattle.hl_crew.specs.Lags.{makes_room};
 ghost use Rattle.hl_crew.specs.Turns.{Finishes, RunsAction};
+ghost use Rattle.hl_crew.specs.Waits.{CallsMore};
 
 use crate::flusher::Flusher;
 use crate::messages::Over;
@@ -45,9 +48,12 @@ impl<R: Wait, E: Epochs + Drop, F: Task, P: Promise, L: Realm> Flusher<'_, R, E,
         }
     }
 
-    // Answers an action that was run. If the journal is full and may be cut, it is cut first.
+    // Answers an action that was run. If the journal is full and may be cut, it is cut, and the answer tried again,
+    // up to a thousand times.
     fn finish(&self, rider: &mut Rider<L>, ran: Ran) -> Result<(), Over>
-        ensures { Finishes F self.now.domain.now ran.origin ran.ticket result rider.old rider.new }
+        ensures finishes { Finishes F self.now.domain.now ran.origin ran.ticket result rider.old rider.new }
+        ensures tries { result ≡ Err Full → makes_room self.now.orders.cuts ≡ true
+            → CallsMore 2000 rider.old rider.new }
     {
         let mut ran = ran;
         for _ in 0..ATTEMPTS {

@@ -1,12 +1,13 @@
-use Rattle.std.proofs.Common.{◌≡◌, Err}
+use Rattle.std.proofs.Common.{◌≡◌, ◌*◌, Err}
 use Rattle.std.specs.Prelude.{◌⊎◌}
 use Rattle.hl_crew.specs.declared.messages.Over.TheVariants.{Full}
 use Rattle.hl_crew.specs.Turns.{Frees}
-use Rattle.hl_crew.specs.Waits.{Waits}
+use Rattle.hl_crew.specs.Waits.{Waits, CallsMore}
 use Rattle.hl_crew.proofs.cleaner.Cleaner.finish.Given as goal
 
--- the page is as it was, and the rider waits; each try was refused since the journal is full
+-- the page is as it was, and the rider waits; each try was refused since the journal is full, and a
+-- cut followed it
 abbrev pub invariant-loop : goal.invariant-loop
 invariant-loop g l =
-    (l.broom ≡ l.initial.broom) × Waits l.initial.rider l.rider
+    (l.broom ≡ l.initial.broom) × Waits l.initial.rider l.rider × CallsMore (2 * l.counter) l.initial.rider l.rider
     × ((l.counter ≡ 0) ⊎ Frees g.row.F.Denot l.self.domain.now l.initial.broom (Err Full) l.initial.rider l.rider)
