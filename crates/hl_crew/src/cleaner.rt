@@ -1,4 +1,4 @@
-ghost use Rattle.std.specs.Prelude.{◌≡◌, true, Err};
+ghost use Rattle.std.specs.Prelude.{◌≡◌, true, false, Ok, Err, IfOk};
 ghost use Rattle.hl_crew.specs.Looks.{LooksOn};
 ghost use Rattle.hl_crew.specs.declared.messages.Over.TheVariants.{Full};
 ghost use Rattle.hl_crew.specs.Lags.{makes_room};
@@ -47,7 +47,8 @@ impl<R: Wait, E: Epochs + Drop, F: Task, P: Promise, L: Realm> Cleaner<'_, R, E,
             if !term.cleans_on(looks, is_last) {
                 return Ok(());
             }
-            is_last = match self.look(rider) {
+            let has_ended = self.has_ended.load(Ordering::SeqCst);
+            is_last = match self.look(rider, has_ended) {
                 Ok(is_last) => is_last,
                 Err(over) => return Err(over),
             };
@@ -56,12 +57,15 @@ impl<R: Wait, E: Epochs + Drop, F: Task, P: Promise, L: Realm> Cleaner<'_, R, E,
         unreachable!()
     }
 
-    // Looks for a closed page. If none is closed, it sleeps until the flusher has made another turn, unless the
-    // flusher has ended. True if the look was in vain, and was begun once the flusher had ended.
-    fn look(&self, rider: &mut Rider<L>) -> Result<bool, Over>
-        ensures { Looks F self.now.domain.now self.now.orders.cuts result rider.old rider.new }
+    // Looks for a closed page, once it is known whether the flusher has ended: what is closed after such a look is
+    // found by the next. If none is closed, it sleeps until the flusher has made another turn, unless the flusher had
+    // ended. True if the look was in vain, and the flusher had ended before it.
+    fn look(&self, rider: &mut Rider<L>, has_ended: bool) -> Result<bool, Over>
+        ensures looks { Looks F self.now.domain.now self.now.orders.cuts result rider.old rider.new }
+        ensures last { IfOk result (λ is_last. is_last ≡ true → has_ended ≡ true) }
+        ensures found { IfOk result (λ is_last. has_ended ≡ true → is_last ≡ false
+            → Finds F self.now.domain.now self.now.orders.cuts (Ok true) rider.old rider.new) }
     {
-        let has_ended = self.has_ended.load(Ordering::SeqCst);
         let found = match self.find(rider) {
             Ok(found) => found,
             Err(over) => return Err(over),

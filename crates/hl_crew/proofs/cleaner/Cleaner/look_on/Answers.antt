@@ -17,7 +17,7 @@ loop-preserved g c =
       before.0 + 1,
       omega (arith, before.1, c.saturating_add-looks.ensures),
       followed_more (LooksNext g.row.F.Denot c.args.self.now.domain.now c.args.self.now.orders.cuts) _ _ _ _ before.2
-          (goes_on _ true c.if-not-cleans_on.ensures.last refl, c.in-Ok.ensures),
+          (goes_on _ true c.if-not-cleans_on.ensures.last refl, c.in-Ok.ensures.looks),
     )
 
 pub returns-then-not-cleans_on : goal.returns-then-not-cleans_on
@@ -28,4 +28,4 @@ returns-then-not-cleans_on g c =
 pub returns-in-Err : goal.returns-in-Err
 returns-in-Err g c =
     let before = c.loop.invariant in
-    (before.0, look_of c.loop.rider c.loop.is_last, before.2, (goes_on _ true c.if-not-cleans_on.ensures.last refl, c.in-Err.ensures))
+    (before.0, look_of c.loop.rider c.loop.is_last, before.2, (goes_on _ true c.if-not-cleans_on.ensures.last refl, c.in-Err.ensures.looks))
