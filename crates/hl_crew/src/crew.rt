@@ -75,7 +75,7 @@ where
     let orders = Orders {
         mutable,
         resident,
-        cuts: if cut { Cuts::EachTurn } else { Cuts::Never },
+        cuts: Cuts::of_turns(cut),
     };
     let term = Turns { most: turns };
     let hands = Hands::of(riders, first, second);

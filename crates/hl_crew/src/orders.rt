@@ -1,4 +1,5 @@
-ghost use Rattle.std.specs.Prelude.{◌≡◌, ◌&&◌, ℕ, Some, None};
+ghost use Rattle.std.specs.Prelude.{◌≡◌, ◌&&◌, if◌then◌else◌, ℕ, Some, None};
+ghost use Rattle.hl_crew.specs.declared.orders.Cuts.TheVariants.{EachTurn, Never};
 ghost use Rattle.hl_crew.specs.Lags.{makes_room};
 ghost use Rattle.hl_crew.specs.Overs.{is_full};
 ghost use Rattle.hl_crew.specs.Waits.{MakesRoom};
@@ -23,6 +24,15 @@ pub(crate) enum Cuts {
     EachTurn,
     /// At the end of a turn that leaves more than this many steps, and whenever it is full.
     Above(u64),
+}
+
+impl Cuts {
+    /// At the end of each turn, or never.
+    pub(crate) fn of_turns(cut: bool) -> Cuts
+        ensures { result ≡ (if cut then EachTurn else Never) }
+    {
+        if cut { Cuts::EachTurn } else { Cuts::Never }
+    }
 }
 
 /// What the flusher is told: how many pages at the tail may be written and how many may be read, and when it cuts.
