@@ -2,7 +2,7 @@ pub mod PouchLaws
 pub mod Steps
 pub mod LagLaws
 pub mod GoesLaws
-pub mod WaitLaws
+pub mod TryLaws
 pub mod CountLaws
 pub mod RunLaws
 pub mod OverLaws

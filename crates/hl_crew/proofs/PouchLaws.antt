@@ -1,6 +1,6 @@
 -- The places of a pouch.
-use Rattle.std.proofs.Common.{◌≡◌, ℕ, zero, suc, ◌+◌, ◌<◌, ◌≤◌, Bool, true, false, cond, List, [], ◌∷◌, ◌++◌, length, get_or, set, refl, sym, ap, ◌∙◌, subst, arith}
-use Rattle.std.specs.Prelude.{Option, Some, None, Result, Err, MatchResult, position, is_none, is_some, nat_lt, slice_get}
+use Rattle.std.proofs.Common.{◌≡◌, ℕ, zero, suc, ◌+◌, ◌<◌, ◌≤◌, Bool, true, false, cond, List, [], ◌∷◌, length, get_or, set, refl, sym, ap, ◌∙◌, subst, arith}
+use Rattle.std.specs.Prelude.{Option, Some, None, Result, MatchResult, position, is_none, is_some, nat_lt, slice_get}
 use Rattle.std.specs.List.{position_or_len}
 use Rattle.std.proofs.lemmas.Bool.{ltb-false}
 use Rattle.std.proofs.lemmas.List.Quantifiers.{position-Some}
@@ -8,15 +8,11 @@ use Rattle.std.proofs.lemmas.Bool.{eqb-true}
 use Rattle.std.proofs.lemmas.List.{set-set, set-get_or}
 use Rattle.std.proofs.lemmas.Option.{get_or_from_slice_get}
 use Rattle.hl_model.specs.declared.fault.Fault.{Fault}
-use Rattle.hl_model.specs.declared.fault.Fault.TheVariants.{JournalFull, NotInFlight}
-use Rattle.hl_model.specs.declared.step.Step.TheVariants.{FlushDone}
-use Rattle.hl_model.specs.Pages.{flushed}
 use Rattle.hl_keeper.specs.declared.load.PageJob.{PageJob}
-use Rattle.hl_keeper.specs.Calls.{Ends}
-use Rattle.hl_domain.specs.Domains.{DomainState, call_of, MakesUnderLock}
-use Rattle.hl_crew.specs.Pouches.{is_of, load_count, PageAnswer, Answers}
-use Rattle.hl_crew.specs.Waits.{CallsMore}
-use Rattle.hl_crew.proofs.WaitLaws.{calls_one}
+use Rattle.hl_words.specs.States.{RiderState}
+use Rattle.hl_domain.specs.Domains.{DomainState}
+use Rattle.hl_crew.specs.Pouches.{is_of, load_count, Answers}
+use Rattle.hl_crew.specs.Tries.{EndsFlush}
 
 -- where no place is free, as many loads are held as there are places
 all_taken : (places : List (Option PageJob)) → length places ≤ position_or_len is_none places → load_count places ≡ length places
@@ -54,20 +50,20 @@ put_back places at job held =
     set-set places at None (Some job) ∙ ap (λ held. set places at held) (sym (get_or_from_slice_get places at (Some job) None held)) ∙ set-get_or places at None
 
 -- what an answer says of the place that was found
-pub told_at : (F : Type 0) (domain : DomainState) (told : PageAnswer) (at other : ℕ) (job : PageJob) (old new : List (Option PageJob)) (result : Result ℕ Fault)
-    → position (is_of told.page) old ≡ Some at → slice_get old at ≡ Some (Some job)
-    → MakesUnderLock F domain (call_of (FlushDone job.page told.ok) told.from told.to) result (λ before. Ends before job.stamp (FlushDone job.page told.ok) (λ A. flushed before.core.sizes (A ++ FlushDone job.page told.ok ∷ [])))
+pub told_at : (F : Type 0) (domain : DomainState) (page : ℕ) (ok : Bool) (from to : RiderState) (at other : ℕ) (job : PageJob) (old new : List (Option PageJob)) (result : Result ℕ Fault)
+    → position (is_of page) old ≡ Some at → slice_get old at ≡ Some (Some job)
+    → EndsFlush F domain job.page ok job.stamp result from to
     → MatchResult result (λ _. new ≡ set old at None) (λ _. new ≡ old)
-    → position (is_of told.page) old ≡ Some other → Answers F domain told other old new result
-told_at F domain told at other job old new result is held met left found =
+    → position (is_of page) old ≡ Some other → Answers page other old new result (λ stamp. EndsFlush F domain page ok stamp result from to)
+told_at F domain page ok from to at other job old new result is held met left found =
     let same : at ≡ other = cc in
-    let page_is = held_job told.page at old job is held in
-    subst (λ at. Answers F domain told at old new result) same
+    let page_is = held_job page at old job is held in
+    subst (λ at. Answers page at old new result (λ stamp. EndsFlush F domain page ok stamp result from to)) same
     (record {
       job = job;
       held = held;
       page_is = page_is;
-      met = subst (λ page. MakesUnderLock F domain (call_of (FlushDone page told.ok) told.from told.to) result (λ before. Ends before job.stamp (FlushDone page told.ok) (λ A. flushed before.core.sizes (A ++ FlushDone page told.ok ∷ [])))) page_is met;
+      met = subst (λ page. EndsFlush F domain page ok job.stamp result from to) page_is met;
       left = left;
     })
 
@@ -107,7 +103,16 @@ taken_out places at job within held = one_less places at job within (get_or_from
 pub not_none : true ≡ false → ⊥
 not_none e = cc
 
--- an answer that was refused since the journal is full was a call: the page is held
-pub full_is_called : (F : Type 0) (domain : DomainState) (answer : PageAnswer) (old new : List (Option PageJob)) (result : Result ℕ Fault) (place : Option ℕ) → (place ≡ None → result ≡ Err NotInFlight) → ((at : ℕ) → place ≡ Some at → Answers F domain answer at old new result) → result ≡ Err JournalFull → CallsMore 1 answer.from answer.to
-full_is_called F domain answer old new result None none held full = absurd (cc (none refl))
-full_is_called F domain answer old new result (Some at) none held full = calls_one (held at refl).met
+-- a place holds one load
+pub one_load : (places : List (Option PageJob)) (at : ℕ) (one other : PageJob) → slice_get places at ≡ Some (Some one) → slice_get places at ≡ Some (Some other) → one ≡ other
+one_load places at one other is also = cc
+
+-- a place that was found
+pub place_found : (found : Option ℕ) → true ≡ is_some found → (at : ℕ) × (found ≡ Some at)
+place_found (Some at) is = (at, refl)
+place_found None is = absurd cc
+
+-- or not
+pub place_missing : (found : Option ℕ) → false ≡ is_some found → found ≡ None
+place_missing None is = refl
+place_missing (Some at) is = absurd cc

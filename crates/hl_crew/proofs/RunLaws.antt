@@ -9,7 +9,7 @@ use Rattle.hl_crew.specs.declared.orders.Orders.{Orders}
 use Rattle.hl_crew.specs.Lags.{makes_room}
 use Rattle.hl_crew.specs.Flushes.{OwnState, own_of}
 use Rattle.hl_crew.specs.Runs.{has_moved, MakesTurn, MakesOne}
-use Rattle.hl_crew.specs.Waits.{CutsJournal}
+use Rattle.hl_crew.specs.Cutting.{CutsJournal}
 
 -- a turn that ended well
 pub made_well : (F : Type 0) (domain : DomainState) (orders : Orders) (made : Result (Unit {0}) Over) (done : Unit {0}) (moved : Bool) (old new : OwnState) → made ≡ Ok done → MakesTurn F domain orders made old new → moved ≡ has_moved old new → MakesOne F domain orders (Ok moved) old new

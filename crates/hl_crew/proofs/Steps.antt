@@ -5,8 +5,8 @@ use Rattle.hl_words.specs.States.{RiderState}
 use Rattle.hl_domain.specs.Domains.{DomainState, Call, UnderLock, LeavesUnderLock}
 use Rattle.hl_keeper.specs.Keepers.{KeeperState}
 use Rattle.hl_crew.specs.declared.messages.Over.{Over}
-use Rattle.hl_keeper.specs.Pages.{BroomRecord}
-use Rattle.hl_crew.specs.Turns.{Finishes, Frees}
+use Rattle.hl_crew.specs.declared.orders.Cuts.{Cuts}
+use Rattle.hl_crew.specs.Turns.{Finishes}
 
 -- a call left what is said by less
 pub leaves : {F : Type 0} {domain : DomainState} {call : Call} {H K : KeeperState F → KeeperState F → Type 0} → ((before after : KeeperState F) → H before after → K before after) → LeavesUnderLock F domain call H → LeavesUnderLock F domain call K
@@ -21,12 +21,6 @@ leaves f left = record {
   holds = f left.before left.after left.holds;
 }
 
--- how an action that was run was answered, under other names
-pub finishes_of : (F : Type 0) (domain : DomainState) (origin origin' ticket ticket' : ℕ) (result : Result (Unit {0}) Over) (old new : RiderState) → origin ≡ origin' → ticket ≡ ticket' → Finishes F domain origin ticket result old new → Finishes F domain origin' ticket' result old new
-finishes_of F domain origin origin' ticket ticket' result old new same_origin same_ticket done =
-    subst (λ origin. Finishes F domain origin ticket' result old new) same_origin
-    (subst (λ ticket. Finishes F domain origin ticket result old new) same_ticket done)
-
 -- what a call without a rider met is said by less
 pub sees : {F : Type 0} {domain : DomainState} {H K : KeeperState F → List Step → Type 0} → ((keeper : KeeperState F) (A : List Step) → H keeper A → K keeper A) → UnderLock F domain H → UnderLock F domain K
 sees f under = record {
@@ -36,6 +30,8 @@ sees f under = record {
   holds = f under.keeper under.list under.holds;
 }
 
--- how a page that was swept was answered, under another name
-pub frees_of : (F : Type 0) (domain : DomainState) (broom broom' : BroomRecord) (result : Result (Unit {0}) Over) (old new : RiderState) → broom ≡ broom' → Frees F domain broom result old new → Frees F domain broom' result old new
-frees_of F domain broom broom' result old new same done = subst (λ broom. Frees F domain broom result old new) same done
+-- how an action that was run was answered, under other names
+pub finishes_of : (F : Type 0) (domain : DomainState) (cuts : Cuts) (origin origin' ticket ticket' : ℕ) (result : Result (Unit {0}) Over) (old new : RiderState) → origin ≡ origin' → ticket ≡ ticket' → Finishes F domain cuts origin ticket result old new → Finishes F domain cuts origin' ticket' result old new
+finishes_of F domain cuts origin origin' ticket ticket' result old new same_origin same_ticket done =
+    subst (λ origin. Finishes F domain cuts origin ticket' result old new) same_origin
+    (subst (λ ticket. Finishes F domain cuts origin ticket result old new) same_ticket done)

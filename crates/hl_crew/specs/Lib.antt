@@ -1,4 +1,5 @@
 pub mod Counting
+pub mod Cutting
 pub mod Flushes
 pub mod Goes
 pub mod Lags
@@ -6,6 +7,6 @@ pub mod Looks
 pub mod Overs
 pub mod Pouches
 pub mod Runs
+pub mod Tries
 pub mod Turns
-pub mod Waits
 pub mod Writes

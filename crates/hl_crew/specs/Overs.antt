@@ -1,5 +1,5 @@
 -- Why turns are over.
-use Rattle.std.specs.Prelude.{Bool, true, false}
+use Rattle.std.specs.Prelude.{Bool, true, false, Result, Ok, Err}
 use Rattle.hl_model.specs.declared.fault.Fault.{Fault}
 use Rattle.hl_model.specs.declared.fault.Fault.TheVariants.{Empty, JournalFull, NotReady}
 use Rattle.hl_crew.specs.declared.messages.Over.{Over}
@@ -9,6 +9,11 @@ use Rattle.hl_crew.specs.declared.messages.Over.TheVariants.{Full, Lost}
 abbrev pub over_of : Fault → Over
 over_of JournalFull = Full
 over_of _ = Lost
+
+-- what the answer to one means for them
+abbrev pub over_if_refused : {X : Type 0} → Result X Fault → Result (Unit {0}) Over
+over_if_refused (Ok x) = Ok tt
+over_if_refused (Err fault) = Err (over_of fault)
 
 -- whether a call was refused since the journal is full
 abbrev pub is_full : Fault → Bool

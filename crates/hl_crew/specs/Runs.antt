@@ -9,7 +9,7 @@ use Rattle.hl_crew.specs.Flushes.{OwnState, own_of, AreFlushed}
 use Rattle.hl_crew.specs.Goes.{Followed, UpTo}
 use Rattle.hl_crew.specs.Lags.{KeepsLag, makes_room}
 use Rattle.hl_crew.specs.Turns.{RunsAction}
-use Rattle.hl_crew.specs.Waits.{CutsJournal, EndsTurn}
+use Rattle.hl_crew.specs.Cutting.{CutsJournal, EndsTurn}
 
 module _ (F : Type 0) (domain : DomainState) (orders : Orders) (result : Result (Unit {0}) Over) where
   -- a turn failed for this reason, and did no more
@@ -21,7 +21,7 @@ module _ (F : Type 0) (domain : DomainState) (orders : Orders) (result : Result 
   pub record Flushes (acted new : OwnState) : Type 0 where
     pub flushed : Result (Unit {0}) Over
     pub last : OwnState
-    pub flushes : AreFlushed F domain flushed acted last
+    pub flushes : AreFlushed F domain orders.cuts flushed acted last
     pub ends : MatchResult flushed
         (λ _. (result ≡ Ok tt) × EndsTurn F domain orders.cuts last.rider new.rider
         × (new.counts ≡ last.counts))
@@ -32,7 +32,7 @@ module _ (F : Type 0) (domain : DomainState) (orders : Orders) (result : Result 
   abbrev pub Acts : OwnState → OwnState → Type 0
   Acts lagged new =
       (ran : Result (Unit {0}) Over) × (acted : RiderState)
-      × UpTo (RunsAction F domain) 4 ran lagged.rider acted
+      × UpTo (RunsAction F domain orders.cuts) 4 ran lagged.rider acted
       × let own = own_of acted lagged.counts
       in MatchResult ran (λ _. Flushes own new) (λ over. Fails over own new)
 

@@ -1,25 +1,23 @@
 -- What the parts of a turn did.
-use Rattle.std.specs.Prelude.{◌≡◌, ◌⊎◌, ℕ, ◌+◌, Bool, true, false, Result, Ok, Err, List, [], ◌∷◌, ◌++◌}
+use Rattle.std.specs.Prelude.{◌≡◌, ◌⊎◌, ℕ, ◌+◌, Bool, true, false, Option, Result, Ok, Err, List}
 use Rattle.hl_model.specs.declared.fault.Fault.{Fault}
 use Rattle.hl_model.specs.declared.fault.Fault.TheVariants.{NoneClosed, NoneSealed}
-use Rattle.hl_model.specs.declared.step.Reply.{Reply}
-use Rattle.hl_model.specs.declared.step.Step.{Step}
-use Rattle.hl_model.specs.declared.step.Step.TheVariants.{Take, Done, FlushTake, CleanTake, CleanDone}
-use Rattle.hl_model.specs.Replies.{answer_of}
+use Rattle.hl_model.specs.declared.step.Step.TheVariants.{Take, FlushTake, CleanTake}
 use Rattle.hl_action.specs.Jobs.{ReadyRecord}
 use Rattle.hl_words.specs.States.{RiderState, with_view}
 use Rattle.hl_keeper.specs.declared.load.PageJob.{PageJob}
-use Rattle.hl_keeper.specs.Calls.{Makes, Ends}
-use Rattle.hl_keeper.specs.Keepers.{KeeperState}
+use Rattle.hl_keeper.specs.Calls.{Makes}
 use Rattle.hl_domain.specs.Domains.{DomainState, call_of, answered, LeavesUnderLock, MakesUnderLock}
 use Rattle.hl_keeper.specs.Pages.{BroomRecord, to_flush, to_clean, first_cell, zeroed}
 use Rattle.hl_keeper.specs.Taking.{taken_from, ready_told}
 use Rattle.hl_crew.specs.declared.messages.Over.{Over}
 use Rattle.hl_crew.specs.declared.messages.Over.TheVariants.{Full, Lost}
 use Rattle.hl_crew.specs.declared.orders.Cuts.{Cuts}
+use Rattle.hl_crew.specs.Cutting.{CutsJournal}
 use Rattle.hl_crew.specs.Lags.{makes_room}
 use Rattle.hl_crew.specs.Overs.{over_of, is_none_ready}
-use Rattle.hl_crew.specs.Waits.{Waits, CutsJournal}
+use Rattle.hl_crew.specs.Pouches.{Puts}
+use Rattle.hl_crew.specs.Tries.{EndsAction, EndsClean, TriesFor}
 
 -- a page whose cells were all swept, in this domain
 abbrev pub swept : DomainState → BroomRecord → BroomRecord
@@ -30,14 +28,15 @@ abbrev pub swept_by : DomainState → BroomRecord → RiderState → RiderState
 swept_by domain broom r =
     with_view (zeroed (first_cell domain.sizes broom.page) domain.sizes.page_size r.view) r
 
--- a rider that sends pages to the writers, and how many it sent
+-- a rider that sends pages to the writers, the pouch that holds them, and how many it sent
 pub record SendState : Type 0 where
   pub rider : RiderState
+  pub pouch : List (Option PageJob)
   pub sent : ℕ
 
 -- one of these
-abbrev pub send_of : RiderState → ℕ → SendState
-send_of rider sent = record { rider = rider; sent = sent }
+abbrev pub send_of : RiderState → List (Option PageJob) → ℕ → SendState
+send_of rider pouch sent = record { rider = rider; pouch = pouch; sent = sent }
 
 module _ (F : Type 0) (domain : DomainState) where
   -- a take was answered so
@@ -56,83 +55,66 @@ module _ (F : Type 0) (domain : DomainState) where
   Brooms answer old new = MakesUnderLock F domain (call_of CleanTake old new) answer
       (λ before. Makes before CleanTake (to_clean before.core.sizes before.stamp))
 
-  -- after calls that entered nothing, a step that ends something of this origin was answered so
-  abbrev pub EndsSo : {X : Type 0}
-      → Step → ℕ → (KeeperState F → List Step → X) → Result X Fault → RiderState → RiderState → Type 0
-  EndsSo step origin answer result old new =
-      (mid : RiderState) × Waits old mid
-      × MakesUnderLock F domain (call_of step mid new) result
-      (λ before. Ends before origin step (answer before))
+  -- a page was taken, and put into the pouch
+  abbrev pub Holds : SendState → SendState → Type 0
+  Holds old new =
+      (load : PageJob) × Loads (Ok load) old.rider new.rider × Puts load old.pouch new.pouch
 
-  -- it was accepted so
-  abbrev pub EndsOne : {X : Type 0}
-      → Step → ℕ → (KeeperState F → List Step → X) → X → RiderState → RiderState → Type 0
-  EndsOne step origin answer x old new = EndsSo step origin answer (Ok x) old new
+  -- a take of a page was refused so, and the pouch is as it was
+  abbrev pub HoldsNone : Fault → SendState → SendState → Type 0
+  HoldsNone fault old new = Loads (Err fault) old.rider new.rider × (new.pouch ≡ old.pouch)
 
-  -- it was refused, which means this for the turns, and was followed by calls that entered nothing
-  abbrev pub EndsNone : {X : Type 0}
-      → Step → ℕ → (KeeperState F → List Step → X) → Over → RiderState → RiderState → Type 0
-  EndsNone step origin answer over old new =
-      (fault : Fault) × (last : RiderState) × (over ≡ over_of fault)
-      × EndsSo step origin answer (Err fault) old last × Waits last new
+  -- a take of a page was refused for another reason than that none is sealed, and that is what it means for
+  -- the turns; or a page was taken, and the channel failed
+  abbrev pub FailsSend : Over → SendState → SendState → Type 0
+  FailsSend over old new =
+      ((fault : Fault) × (fault ≡ NoneSealed → ⊥) × (over ≡ over_of fault) × HoldsNone fault old new)
+      ⊎ ((over ≡ Lost) × Holds old new)
 
-  -- the domain accepted an action as done. Else no step was made, and the last refusal is told
+  -- a page was taken and sent; or none is sealed; or that failed
+  abbrev pub SendsPage : ℕ → Result Bool Over → SendState → SendState → Type 0
+  SendsPage i (Ok true) old new = Holds old new × (new.sent ≡ old.sent + 1)
+  SendsPage i (Ok false) old new = HoldsNone NoneSealed old new × (new.sent ≡ old.sent)
+  SendsPage i (Err over) old new = FailsSend over old new × (new.sent ≡ old.sent)
+
+module _ (F : Type 0) (domain : DomainState) (cuts : Cuts) where
+  -- the done of an action was answered so, by as many tries as that takes
   abbrev pub Finishes : ℕ → ℕ → Result (Unit {0}) Over → RiderState → RiderState → Type 0
-  Finishes origin ticket (Ok done) old new =
-      (reply : Reply) × EndsOne (Done ticket) origin
-      (λ before A. answer_of before.core.sizes A (A ++ Done ticket ∷ []) (Done ticket)) reply old new
-  Finishes origin ticket (Err over) old new =
-      EndsNone (Done ticket) origin
-      (λ before A. answer_of before.core.sizes A (A ++ Done ticket ∷ []) (Done ticket)) over old new
+  Finishes origin ticket result old new =
+      TriesFor F domain cuts (EndsAction F domain origin ticket) result old new
 
   -- an action was taken, and once it was run it was answered done
   pub record RunsOne (old new : RiderState) : Type 0 where
     pub ready : ReadyRecord F
     pub mid : RiderState
-    pub taken : Takes (Ok ready) old mid
+    pub taken : Takes F domain (Ok ready) old mid
     pub done : Finishes ready.origin ready.firing.ticket (Ok tt) mid new
 
   -- a take of an action was refused for another reason than that none is ready, or an action was taken and
   -- then not accepted as done: that is what it means for the turns
   abbrev pub FailsAction : Over → RiderState → RiderState → Type 0
   FailsAction over old new =
-      ((fault : Fault) × (is_none_ready fault ≡ false) × (over ≡ over_of fault) × Takes (Err fault) old new)
-      ⊎ ((ready : ReadyRecord F) × (mid : RiderState) × Takes (Ok ready) old mid
+      ((fault : Fault) × (is_none_ready fault ≡ false) × (over ≡ over_of fault)
+      × Takes F domain (Err fault) old new)
+      ⊎ ((ready : ReadyRecord F) × (mid : RiderState) × Takes F domain (Ok ready) old mid
       × Finishes ready.origin ready.firing.ticket (Err over) mid new)
 
   -- an action was run; or none is ready; or that failed
   abbrev pub RunsAction : ℕ → Result Bool Over → RiderState → RiderState → Type 0
   RunsAction i (Ok true) old new = RunsOne old new
   RunsAction i (Ok false) old new =
-      (fault : Fault) × (is_none_ready fault ≡ true) × Takes (Err fault) old new
+      (fault : Fault) × (is_none_ready fault ≡ true) × Takes F domain (Err fault) old new
   RunsAction i (Err over) old new = FailsAction over old new
 
-  -- a take of a page was refused for another reason than that none is sealed, and that is what it means for
-  -- the turns; or a page was taken, and the channel failed
-  abbrev pub FailsSend : Over → RiderState → RiderState → Type 0
-  FailsSend over old new =
-      ((fault : Fault) × (fault ≡ NoneSealed → ⊥) × (over ≡ over_of fault) × Loads (Err fault) old new)
-      ⊎ ((load : PageJob) × (over ≡ Lost) × Loads (Ok load) old new)
-
-  -- a page was taken and sent; or none is sealed; or that failed
-  abbrev pub SendsPage : ℕ → Result Bool Over → SendState → SendState → Type 0
-  SendsPage i (Ok true) old new =
-      (load : PageJob) × Loads (Ok load) old.rider new.rider × (new.sent ≡ old.sent + 1)
-  SendsPage i (Ok false) old new = Loads (Err NoneSealed) old.rider new.rider × (new.sent ≡ old.sent)
-  SendsPage i (Err over) old new = FailsSend over old.rider new.rider × (new.sent ≡ old.sent)
-
-  -- a page that was swept was accepted as clean. Else no step was made, and the last refusal is told
+  -- that of a page that was swept was answered so, by as many tries as that takes
   abbrev pub Frees : BroomRecord → Result (Unit {0}) Over → RiderState → RiderState → Type 0
-  Frees broom (Ok done) old new =
-      (freed : ℕ) × EndsOne (CleanDone broom.page) broom.stamp (λ before A. broom.page) freed old new
-  Frees broom (Err over) old new =
-      EndsNone (CleanDone broom.page) broom.stamp (λ before A. broom.page) over old new
+  Frees broom result old new = TriesFor F domain cuts (EndsClean F domain broom) result old new
 
   -- a page was taken, all its cells swept, and it was accepted as clean
   pub record CleansOne (old new : RiderState) : Type 0 where
     pub broom : BroomRecord
     pub taker : RiderState
-    pub taken : Brooms (Ok broom) old taker
+    pub taken : Brooms F domain (Ok broom) old taker
     pub done : Frees (swept domain broom) (Ok tt) (swept_by domain broom taker) new
 
   -- a page that was taken is of another domain; or it was swept, and not accepted as clean
@@ -145,29 +127,30 @@ module _ (F : Type 0) (domain : DomainState) where
   -- the turns; or a page was taken, and that failed
   abbrev pub FailsClean : Over → RiderState → RiderState → Type 0
   FailsClean over old new =
-      ((fault : Fault) × (fault ≡ NoneClosed → ⊥) × (over ≡ over_of fault) × Brooms (Err fault) old new)
-      ⊎ ((broom : BroomRecord) × (taker : RiderState) × Brooms (Ok broom) old taker
+      ((fault : Fault) × (fault ≡ NoneClosed → ⊥) × (over ≡ over_of fault)
+      × Brooms F domain (Err fault) old new)
+      ⊎ ((broom : BroomRecord) × (taker : RiderState) × Brooms F domain (Ok broom) old taker
       × FailsBroom over broom taker new)
 
   -- a page was cleaned; or none is closed; or that failed
   abbrev pub Cleans : Result Bool Over → RiderState → RiderState → Type 0
   Cleans (Ok true) old new = CleansOne old new
-  Cleans (Ok false) old new = Brooms (Err NoneClosed) old new
+  Cleans (Ok false) old new = Brooms F domain (Err NoneClosed) old new
   Cleans (Err over) old new = FailsClean over old new
 
   -- a page was cleaned, or the journal was cut after that had failed since it was full; or none is closed; or
   -- that failed for another reason, or the orders make no room
-  abbrev pub Finds : Cuts → Result Bool Over → RiderState → RiderState → Type 0
-  Finds cuts (Ok true) old new =
+  abbrev pub Finds : Result Bool Over → RiderState → RiderState → Type 0
+  Finds (Ok true) old new =
       CleansOne old new
       ⊎ ((mid : RiderState) × FailsClean Full old mid × (makes_room cuts ≡ true)
       × CutsJournal F domain mid new)
-  Finds cuts (Ok false) old new = Brooms (Err NoneClosed) old new
-  Finds cuts (Err over) old new =
+  Finds (Ok false) old new = Brooms F domain (Err NoneClosed) old new
+  Finds (Err over) old new =
       FailsClean over old new × (over ≡ Full → makes_room cuts ≡ false)
 
   -- a look for a closed page: the last one was in vain; or it failed
-  abbrev pub Looks : Cuts → Result Bool Over → RiderState → RiderState → Type 0
-  Looks cuts (Ok true) old new = Finds cuts (Ok false) old new
-  Looks cuts (Ok false) old new = (found : Bool) × Finds cuts (Ok found) old new
-  Looks cuts (Err over) old new = Finds cuts (Err over) old new
+  abbrev pub Looks : Result Bool Over → RiderState → RiderState → Type 0
+  Looks (Ok true) old new = Finds (Ok false) old new
+  Looks (Ok false) old new = (found : Bool) × Finds (Ok found) old new
+  Looks (Err over) old new = Finds (Err over) old new

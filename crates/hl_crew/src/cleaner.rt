@@ -1,9 +1,8 @@
-ghost use Rattle.std.specs.Prelude.{◌≡◌, true, false, Ok, Err, IfOk};
+ghost use Rattle.std.specs.Prelude.{◌≡◌, true, false, Ok, IfOk, IfErr};
+ghost use Rattle.hl_keeper.specs.Calls.{without_back};
 ghost use Rattle.hl_crew.specs.Looks.{LooksOn};
-ghost use Rattle.hl_crew.specs.declared.messages.Over.TheVariants.{Full};
-ghost use Rattle.hl_crew.specs.Lags.{makes_room};
+ghost use Rattle.hl_crew.specs.Tries.{EndsClean, Tries};
 ghost use Rattle.hl_crew.specs.Turns.{Looks, Finds, Cleans, Frees};
-ghost use Rattle.hl_crew.specs.Waits.{CallsMore};
 
 use crate::messages::Over;
 use crate::orders::{ATTEMPTS, Orders, make_room};
@@ -92,7 +91,7 @@ impl<R: Wait, E: Epochs + Drop, F: Task, P: Promise, L: Realm> Cleaner<'_, R, E,
 
     // Cleans a page: takes it, sweeps it, and answers it clean. False if none is closed.
     fn clean(&self, rider: &mut Rider<L>) -> Result<bool, Over>
-        ensures { Cleans F self.now.domain.now result rider.old rider.new }
+        ensures { Cleans F self.now.domain.now self.now.orders.cuts result rider.old rider.new }
     {
         let mut broom = match self.domain.clean_take(self.rt, rider) {
             Ok(broom) => broom,
@@ -109,28 +108,39 @@ impl<R: Wait, E: Epochs + Drop, F: Task, P: Promise, L: Realm> Cleaner<'_, R, E,
         Ok(true)
     }
 
-    // Answers a page that was swept. If the journal is full and may be cut, it is cut, and the answer tried again,
-    // up to a thousand times.
+    // Answers a page that was swept. What is refused is given up.
     fn finish(&self, rider: &mut Rider<L>, broom: Broom) -> Result<(), Over>
         requires { broom.swept ≡ self.now.domain.now.sizes.page_size }
-        ensures frees { Frees F self.now.domain.now broom result rider.old rider.new }
-        ensures tries { result ≡ Err Full → makes_room self.now.orders.cuts ≡ true
-            → CallsMore 2000 rider.old rider.new }
+        ensures { Frees F self.now.domain.now self.now.orders.cuts broom result rider.old rider.new }
+    {
+        match self.answer_clean(rider, broom) {
+            Ok(_) => Ok(()),
+            Err((fault, broom)) => {
+                broom.forsake();
+                Err(Over::of(&fault))
+            }
+        }
+    }
+
+    // As `Domain::clean_done`; and again, up to a thousand times, while the journal is full and may be cut.
+    fn answer_clean(&self, rider: &mut Rider<L>, broom: Broom) -> Result<u64, (Fault, Broom)>
+        requires { broom.swept ≡ self.now.domain.now.sizes.page_size }
+        ensures tries { Tries F self.now.domain.now self.now.orders.cuts
+            (EndsClean F self.now.domain.now broom) (without_back result) rider.old rider.new }
+        ensures refused { IfErr result (λ back. back.1 ≡ broom) }
     {
         let mut broom = broom;
         for _ in 0..ATTEMPTS {
             match self.domain.clean_done(self.rt, rider, broom) {
-                Ok(_) => return Ok(()),
+                Ok(freed) => return Ok(freed),
                 Err((fault, back)) => {
                     if !make_room(self.rt, self.domain, self.orders, rider, &fault) {
-                        back.forsake();
-                        return Err(Over::of(&fault));
+                        return Err((fault, back));
                     }
                     broom = back;
                 }
             }
         }
-        broom.forsake();
-        Err(Over::Full)
+        self.domain.clean_done(self.rt, rider, broom)
     }
 }

@@ -1,10 +1,10 @@
-ghost use Rattle.std.specs.Prelude.{◌≡◌, OnOk};
+ghost use Rattle.std.specs.Prelude.{◌≡◌, None, OnOk, replicate};
+ghost use Rattle.hl_crew.specs.Cutting.{EndsTurn};
 ghost use Rattle.hl_crew.specs.Flushes.{own_of, AreFlushed};
 ghost use Rattle.hl_crew.specs.Goes.{UpTo};
 ghost use Rattle.hl_crew.specs.Lags.{IsLag};
 ghost use Rattle.hl_crew.specs.Pouches.{load_count};
 ghost use Rattle.hl_crew.specs.Runs.{MakesTurn, MakesOne, MakesTurns, MakesLast, MakesAll};
-ghost use Rattle.hl_crew.specs.Waits.{EndsTurn};
 
 use crate::counts::Counts;
 use crate::messages::{Channels, Over};
@@ -164,9 +164,9 @@ impl<R: Wait, E: Epochs + Drop, F: Task, P: Promise, L: Realm> Flusher<'_, R, E,
     // Sends pages to the writers, and answers each of them: no page is left in the pouch. If a call
     // of the domain or a channel failed, what is left there can't be answered.
     fn flush(&self, own: &mut FlusherState<L>, pouch: &mut Pouch) -> Result<(), Over>
-        requires { load_count pouch.old ≡ 0 }
+        requires { pouch.old ≡ replicate 4 None }
         ensures none { OnOk result (load_count pouch.new ≡ 0) }
-        ensures flushes { AreFlushed F self.now.domain.now result
+        ensures flushes { AreFlushed F self.now.domain.now self.now.orders.cuts result
             (own_of own.old.rider own.old.counts) (own_of own.new.rider own.new.counts) }
     {
         let mut sent = 0;

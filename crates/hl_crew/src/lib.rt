@@ -49,12 +49,13 @@
 //! the domain's lock, in what order, and what it counted. A flusher's turn keeps the lag that was
 //! ordered, by steps in their order up to the first that is refused, and ends if the journal is
 //! full; if its actions end well, it ran each that it took and answered it done, up to four; it
-//! takes sealed pages, up to four, or to the first take that finds none; it answers a page as its
-//! acknowledgement says. If its pages were flushed well, as many acknowledgements as it sent pages
-//! were answered and counted once each, and each page that none of them named once as failed; its
-//! rider made no other call meanwhile. A turn that ended well ended by the cut that was ordered;
-//! where a part failed, the turn failed for the same reason. It got somewhere exactly if it entered
-//! a step and no write failed. A full journal is cut only if that was ordered. The turns end when
+//! takes sealed pages, up to four, or to the first take that finds none; it answers pages that it
+//! took in this turn, each as its acknowledgement says. If its pages were flushed well, as many
+//! acknowledgements as it sent pages were answered and counted once each, and each page that none of
+//! them named once as failed; its rider made no other call meanwhile. A turn that ended well ended by
+//! the cut that was ordered; where a part failed, the turn failed for the same reason. It got
+//! somewhere exactly if it entered a step and no write failed. A full journal is cut only if that was
+//! ordered, and what ends something is then tried again, up to a thousand times. The turns end when
 //! they are over, and the last ones follow, up to the first that got nowhere; or one of them failed,
 //! and not by a full journal that may be cut. A page reported as written was let through by the gate
 //! and copied, and its image was written; of one reported as failed nothing was written, or its

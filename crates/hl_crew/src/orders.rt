@@ -1,8 +1,8 @@
 ghost use Rattle.std.specs.Prelude.{◌≡◌, ◌&&◌, if◌then◌else◌, ℕ, Some, None};
 ghost use Rattle.hl_crew.specs.declared.orders.Cuts.TheVariants.{EachTurn, Never};
+ghost use Rattle.hl_crew.specs.Cutting.{MakesRoom};
 ghost use Rattle.hl_crew.specs.Lags.{makes_room};
 ghost use Rattle.hl_crew.specs.Overs.{is_full};
-ghost use Rattle.hl_crew.specs.Waits.{MakesRoom};
 
 use crate::duty::Duty;
 use hl_action::{Promise, Task};
@@ -12,7 +12,7 @@ use hl_model::Fault;
 use hl_words::{Realm, Rider};
 use std::sync::Wait;
 
-/// How often a step that ends something is tried while the journal is full and is cut.
+/// How often what ends something is tried again, while the journal is full and is cut.
 pub(crate) const ATTEMPTS: u64 = 1_000;
 
 /// When the flusher cuts the journal.

@@ -1,7 +1,7 @@
 ghost use Rattle.std.specs.Prelude.{◌≡◌, ℕ, ◌+◌, ◌<◌, Some, None, Err, replicate, position, is_none, is_some, length, IfSome, IfNone, OnOk, OnErr, false, slice_get, slice_set};
 ghost use Rattle.hl_model.specs.declared.fault.Fault.TheVariants.{NotInFlight};
-ghost use Rattle.hl_crew.specs.Pouches.{is_of, load_count, PageAnswer, Answers};
-ghost use Rattle.hl_crew.specs.Waits.{Waits};
+ghost use Rattle.hl_crew.specs.Pouches.{is_of, load_count, Puts, Answers};
+ghost use Rattle.hl_crew.specs.Tries.{EndsFlush};
 
 use hl_action::{Promise, Task};
 use hl_domain::{Domain, Load};
@@ -41,8 +41,7 @@ impl Pouch {
     /// Puts a page into the first place that is free. It holds fewer than four.
     pub fn put(&mut self, load: Load)
         requires { load_count self.old < 4 }
-        ensures held { (at : ℕ) × (position is_none self.old ≡ Some at)
-            × (self.new ≡ slice_set self.old at (Some load)) }
+        ensures held { Puts load self.old self.new }
         ensures more { load_count self.new ≡ load_count self.old + 1 }
     {
         match self.free_place() {
@@ -67,11 +66,10 @@ impl Pouch {
         ensures none { position (is_of page) self.old ≡ None
             → (result ≡ Err NotInFlight) × (self.new ≡ self.old) × (rider.new ≡ rider.old) }
         ensures held { (at : ℕ) → position (is_of page) self.old ≡ Some at
-            → let answer : PageAnswer = record { page = page; ok = ok; from = rider.old; to = rider.new }
-            in Answers F domain.now answer at self.old self.new result }
+            → Answers page at self.old self.new result
+            (λ stamp. EndsFlush F domain.now page ok stamp result rider.old rider.new) }
         ensures fewer { OnOk result (load_count self.new + 1 ≡ load_count self.old) }
         ensures refused { OnErr result (self.new ≡ self.old) }
-        ensures waits { OnErr result (Waits rider.old rider.new) }
     {
         let Some(at) = self.place_of(page) else {
             return Err(Fault::NotInFlight);

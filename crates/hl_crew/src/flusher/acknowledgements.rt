@@ -1,12 +1,10 @@
-ghost use Rattle.std.specs.Prelude.{◌≡◌, ◌+◌, ℕ, true, Some, None, Ok, Err, position, OnOk, OnErr};
-ghost use Rattle.hl_model.specs.declared.fault.Fault.TheVariants.{JournalFull};
+ghost use Rattle.std.specs.Prelude.{◌≡◌, ◌+◌, ℕ, Some, None, Ok, Err, position, OnOk};
+ghost use Rattle.hl_model.specs.declared.fault.Fault.TheVariants.{NotInFlight};
+ghost use Rattle.hl_crew.specs.Counting.{counted};
+ghost use Rattle.hl_crew.specs.Flushes.{hold_of, AnswersPage, Tells, TellsNext, FailsNext};
 ghost use Rattle.hl_crew.specs.Goes.{UpTo};
-ghost use Rattle.hl_words.specs.States.{RiderState};
-ghost use Rattle.hl_crew.specs.Pouches.{is_of, load_count, PageAnswer, Answers};
-ghost use Rattle.hl_crew.specs.Lags.{makes_room};
-ghost use Rattle.hl_crew.specs.Waits.{Waits, CallsMore};
-ghost use Rattle.hl_crew.specs.Counting.{counted, one_stranger, AnswersAndCounts};
-ghost use Rattle.hl_crew.specs.Flushes.{hold_of, Tells, TellsNext, FailsNext};
+ghost use Rattle.hl_crew.specs.Pouches.{is_of, load_count, Answers};
+ghost use Rattle.hl_crew.specs.Tries.{EndsFlush, Tries};
 
 use crate::flusher::{Flusher, FlusherState};
 use crate::messages::{Acknowledgement, Over};
@@ -27,9 +25,9 @@ impl<R: Wait, E: Epochs + Drop, F: Task, P: Promise, L: Realm> Flusher<'_, R, E,
         pouch: &mut Pouch,
         sent: u64,
     ) -> Result<(), Over>
-        ensures { UpTo (TellsNext F self.now.domain.now) sent result
-            (hold_of own.old.rider own.old.counts (load_count pouch.old))
-            (hold_of own.new.rider own.new.counts (load_count pouch.new)) }
+        ensures { UpTo (TellsNext F self.now.domain.now self.now.orders.cuts) sent result
+            (hold_of own.old.rider own.old.counts pouch.old)
+            (hold_of own.new.rider own.new.counts pouch.new) }
     {
         for _ in 0..sent {
             let Ok(told) = self.channels.acknowledged.recv(self.rt) else {
@@ -48,21 +46,9 @@ impl<R: Wait, E: Epochs + Drop, F: Task, P: Promise, L: Realm> Flusher<'_, R, E,
         pouch: &mut Pouch,
         told: Acknowledgement,
     ) -> Result<(), Over>
-        ensures stranger { position (is_of told.page) pouch.old ≡ None
-            → (result ≡ Ok tt) × (pouch.new ≡ pouch.old) × (own.new.rider ≡ own.old.rider)
-            × (own.new.counts ≡ one_stranger own.old.counts) }
-        ensures held { (at : ℕ) → position (is_of told.page) pouch.old ≡ Some at
-            → let answer : PageAnswer = record {
-              page = told.page;
-              ok = told.ok;
-              from = own.old.rider;
-              to = own.new.rider;
-            }
-            in AnswersAndCounts F self.now.domain.now answer at pouch.old pouch.new
-            own.old.counts own.new.counts result }
-        ensures tells { Tells F self.now.domain.now result
-            (hold_of own.old.rider own.old.counts (load_count pouch.old))
-            (hold_of own.new.rider own.new.counts (load_count pouch.new)) }
+        ensures { Tells F self.now.domain.now self.now.orders.cuts told.page told.ok result
+            (hold_of own.old.rider own.old.counts pouch.old)
+            (hold_of own.new.rider own.new.counts pouch.new) }
     {
         if !pouch.holds(told.page()) {
             own.counts.count_stranger();
@@ -78,9 +64,10 @@ impl<R: Wait, E: Epochs + Drop, F: Task, P: Promise, L: Realm> Flusher<'_, R, E,
         pouch: &mut Pouch,
     ) -> Result<(), Over>
         ensures none { OnOk result (load_count pouch.new ≡ 0) }
-        ensures fails { UpTo (FailsNext F self.now.domain.now) (load_count pouch.old) result
-            (hold_of own.old.rider own.old.counts (load_count pouch.old))
-            (hold_of own.new.rider own.new.counts (load_count pouch.new)) }
+        ensures fails { UpTo (FailsNext F self.now.domain.now self.now.orders.cuts)
+            (load_count pouch.old) result
+            (hold_of own.old.rider own.old.counts pouch.old)
+            (hold_of own.new.rider own.new.counts pouch.new) }
     {
         while let Some(page) = pouch.first() {
             self.answer_held(own, pouch, page, false)?;
@@ -97,14 +84,9 @@ impl<R: Wait, E: Epochs + Drop, F: Task, P: Promise, L: Realm> Flusher<'_, R, E,
         ok: bool,
     ) -> Result<(), Over>
         ensures held { (at : ℕ) → position (is_of page) pouch.old ≡ Some at
-            → let answer : PageAnswer = record {
-              page = page;
-              ok = ok;
-              from = own.old.rider;
-              to = own.new.rider;
-            }
-            in AnswersAndCounts F self.now.domain.now answer at pouch.old pouch.new
-            own.old.counts own.new.counts result }
+            → AnswersPage F self.now.domain.now self.now.orders.cuts page ok result
+            (hold_of own.old.rider own.old.counts pouch.old)
+            (hold_of own.new.rider own.new.counts pouch.new) }
         ensures fewer { OnOk result (load_count pouch.new + 1 ≡ load_count pouch.old) }
         ensures counts { OnOk result (own.new.counts ≡ counted ok own.old.counts) }
     {
@@ -117,8 +99,7 @@ impl<R: Wait, E: Epochs + Drop, F: Task, P: Promise, L: Realm> Flusher<'_, R, E,
         }
     }
 
-    // As `Pouch::answer`. If the journal is full and may be cut, it is cut, and the answer tried again, up to a
-    // thousand times.
+    // As `Pouch::answer`; and again, up to a thousand times, while the journal is full and may be cut.
     fn answer_page(
         &self,
         rider: &mut Rider<L>,
@@ -126,19 +107,22 @@ impl<R: Wait, E: Epochs + Drop, F: Task, P: Promise, L: Realm> Flusher<'_, R, E,
         page: u64,
         ok: bool,
     ) -> Result<u64, Fault>
+        ensures none { position (is_of page) pouch.old ≡ None
+            → (result ≡ Err NotInFlight) × (pouch.new ≡ pouch.old) × (rider.new ≡ rider.old) }
         ensures held { (at : ℕ) → position (is_of page) pouch.old ≡ Some at
-            → (mid : RiderState) × Waits rider.old mid
-            × let answer : PageAnswer = record { page = page; ok = ok; from = mid; to = rider.new }
-            in Answers F self.now.domain.now answer at pouch.old pouch.new result }
+            → Answers page at pouch.old pouch.new result (λ stamp.
+            Tries F self.now.domain.now self.now.orders.cuts
+            (EndsFlush F self.now.domain.now page ok stamp) result rider.old rider.new) }
         ensures fewer { OnOk result (load_count pouch.new + 1 ≡ load_count pouch.old) }
-        ensures waits { OnErr result (Waits rider.old rider.new) }
-        ensures tries { result ≡ Err JournalFull → makes_room self.now.orders.cuts ≡ true
-            → CallsMore 2001 rider.old rider.new }
     {
         for _ in 0..ATTEMPTS {
             match pouch.answer(self.rt, self.domain, rider, page, ok) {
-                Err(fault) if make_room(self.rt, self.domain, self.orders, rider, &fault) => {}
-                answered => return answered,
+                Ok(flushed) => return Ok(flushed),
+                Err(fault) => {
+                    if !make_room(self.rt, self.domain, self.orders, rider, &fault) {
+                        return Err(fault);
+                    }
+                }
             }
         }
         pouch.answer(self.rt, self.domain, rider, page, ok)

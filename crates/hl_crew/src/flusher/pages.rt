@@ -27,7 +27,7 @@ impl<R: Wait, E: Epochs + Drop, F: Task, P: Promise, L: Realm> Flusher<'_, R, E,
         requires empty { load_count pouch.old ≡ 0 }
         requires none { sent.old ≡ 0 }
         ensures sends { UpTo (SendsPage F self.now.domain.now) 4 result
-            (send_of rider.old sent.old) (send_of rider.new sent.new) }
+            (send_of rider.old pouch.old sent.old) (send_of rider.new pouch.new sent.new) }
         ensures held { OnOk result (sent.new ≡ load_count pouch.new) }
     {
         for _ in 0..PAGES {
@@ -50,7 +50,7 @@ impl<R: Wait, E: Epochs + Drop, F: Task, P: Promise, L: Realm> Flusher<'_, R, E,
         requires room { sent.old < 4 }
         requires held { sent.old ≡ load_count pouch.old }
         ensures sends { SendsPage F self.now.domain.now 0 result
-            (send_of rider.old sent.old) (send_of rider.new sent.new) }
+            (send_of rider.old pouch.old sent.old) (send_of rider.new pouch.new sent.new) }
         ensures held { OnOk result (sent.new ≡ load_count pouch.new) }
     {
         let load = match self.domain.flush_take(self.rt, rider) {

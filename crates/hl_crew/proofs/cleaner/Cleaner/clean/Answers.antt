@@ -16,7 +16,7 @@ returns g c =
       broom = c.in-Ok.broom;
       taker = c.clean_take.new.rider;
       taken = c.in-Ok.ensures.met;
-      done = rw (broom_is, rider_is) at c.in_ok-finish.ensures.frees;
+      done = rw (broom_is, rider_is) at c.in_ok-finish.ensures;
     }
 
 pub returns-in_err-finish : goal.returns-in_err-finish
@@ -28,7 +28,7 @@ returns-in_err-finish g c =
       c.in-Ok.broom,
       c.clean_take.new.rider,
       c.in-Ok.ensures.met,
-      inr (rw (broom_is, rider_is) at c.in_err-finish.ensures.frees),
+      inr (rw (broom_is, rider_is) at c.in_err-finish.ensures),
     ))
 
 pub returns-in-NoneClosed : goal.returns-in-NoneClosed

@@ -2,7 +2,6 @@ use Rattle.std.proofs.Common.{◌≡◌, ◌+◌, refl, arith}
 use Rattle.std.proofs.lemmas.Result.{err_from_is_err_and}
 use Rattle.hl_crew.specs.Flushes.{FailsNext}
 use Rattle.hl_crew.specs.Pouches.{load_count}
-use Rattle.hl_crew.proofs.CountLaws.{answers_page}
 use Rattle.hl_crew.proofs.GoesLaws.{followed_more, up_to_all, up_to_failed}
 use Rattle.hl_crew.proofs.flusher.Flusher.answer_others.Goals as goal
 
@@ -16,8 +15,8 @@ loop-page-preserved g c =
     let place = c.in-Some.ensures.held in (
       before.0 + 1,
       omega (arith, before.1, told.fewer),
-      followed_more (FailsNext g.row.F.Denot c.args.self.now.domain.now) _ _ _ _ before.2
-          (answers_page _ _ _ _ _ _ _ _ _ (told.held place.0 place.1) told.fewer),
+      followed_more (FailsNext g.row.F.Denot c.args.self.now.domain.now c.args.self.now.orders.cuts) _ _ _ _ before.2
+          (c.in-Some.page, told.held place.0 place.1),
     )
 
 pub returns-in_err-answer_held-clause-fails : goal.returns-in_err-answer_held-clause-fails
@@ -25,8 +24,8 @@ returns-in_err-answer_held-clause-fails g c =
     let p = err_from_is_err_and c.from_residual.result c.from_residual.ensures.1 in
     let place = c.in-Some.ensures.held in
     let told = c.in_err-answer_held.ensures in
-    rw (p.1, p.2) (up_to_failed (FailsNext g.row.F.Denot c.args.self.now.domain.now) _ _ _ _ _ _ c.loop-page.invariant.2
-    (answers_page _ _ _ _ _ _ _ _ _ (told.held place.0 place.1) told.fewer))
+    rw (p.1, p.2) (up_to_failed (FailsNext g.row.F.Denot c.args.self.now.domain.now c.args.self.now.orders.cuts) _ _ _ _ _ _ c.loop-page.invariant.2
+    (c.in-Some.page, told.held place.0 place.1))
 
 pub returns : goal.returns
 returns g c =

@@ -8,7 +8,7 @@ loop-preserved g c =
     let sends = rw c.in-Ok-true.field-0-test at c.in-Ok-true.ensures.sends in (
       followed_more (SendsPage g.row.F.Denot c.args.self.now.domain.now) _ _ _ _ c.loop.invariant.0 sends,
       c.in-Ok-true.ensures.held,
-      omega (arith, sends.2, c.loop.invariant.2),
+      omega (arith, sends.1, c.loop.invariant.2),
     )
 
 pub returns-in-Ok-false-clause-sends : goal.returns-in-Ok-false-clause-sends

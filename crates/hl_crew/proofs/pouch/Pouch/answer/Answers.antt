@@ -1,9 +1,8 @@
-use Rattle.std.proofs.Common.{◌+◌, ◌∙◌, refl, sym, ap, Some}
+use Rattle.std.proofs.Common.{◌+◌, ◌∙◌, sym, ap, Some}
 use Rattle.std.specs.Prelude.{None, slice_set}
 use Rattle.std.proofs.lemmas.List.Quantifiers.{position-Some}
 use Rattle.hl_crew.specs.Pouches.{load_count, is_of}
 use Rattle.hl_crew.proofs.PouchLaws.{told_at, put_back, not_free, taken_out}
-use Rattle.hl_crew.proofs.WaitLaws.{waits_one, waits_same}
 use Rattle.hl_crew.proofs.pouch.Pouch.answer.Goals as goal
 
 pub unreachable-requires : goal.unreachable-requires
@@ -12,7 +11,7 @@ unreachable-requires g c =
 
 pub returns-in-Ok-clause-held : goal.returns-in-Ok-clause-held
 returns-in-Ok-clause-held g c = λ other.
-    told_at _ _ _ c.in-Some.at other c.in-Some-take.load _ _ _ (sym c.in-Some.ensures.place)
+    told_at _ _ _ _ _ _ c.in-Some.at other c.in-Some-take.load _ _ _ (sym c.in-Some.ensures.place)
     c.in-Some-take.ensures.value c.in-Ok.ensures.met c.in-Some-take.ensures.after
 
 pub returns-in-Err-clause-held : goal.returns-in-Err-clause-held
@@ -23,7 +22,7 @@ returns-in-Err-clause-held g c = λ other.
     let put = ap (λ job. slice_set c.take.new.self at (Some job)) c.in-Err.ensures.refused in
     let taken = ap (λ places. slice_set places at (Some job)) c.in-Some-take.ensures.after in
     let back = put_back old at job c.in-Some-take.ensures.value in
-    told_at _ _ _ at other job old _ _ (sym c.in-Some.ensures.place) c.in-Some-take.ensures.value
+    told_at _ _ _ _ _ _ at other job old _ _ (sym c.in-Some.ensures.place) c.in-Some-take.ensures.value
     c.in-Err.ensures.met (c.set.ensures ∙ put ∙ taken ∙ back)
 
 pub returns-in-Ok-clause-fewer : goal.returns-in-Ok-clause-fewer
@@ -40,9 +39,3 @@ returns-in-Err-clause-refused g c =
     let put = ap (λ job. slice_set c.take.new.self at (Some job)) c.in-Err.ensures.refused in
     let taken = ap (λ places. slice_set places at (Some job)) c.in-Some-take.ensures.after in
     c.set.ensures ∙ put ∙ taken ∙ put_back c.args.self.now at job c.in-Some-take.ensures.value
-
-pub returns-in_default-clause-waits : goal.returns-in_default-clause-waits
-returns-in_default-clause-waits g c = waits_same refl
-
-pub returns-in-Err-clause-waits : goal.returns-in-Err-clause-waits
-returns-in-Err-clause-waits g c = waits_one c.in-Err.ensures.met

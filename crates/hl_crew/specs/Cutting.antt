@@ -1,25 +1,9 @@
--- Calls of a rider that entered nothing.
-use Rattle.std.specs.Prelude.{◌≡◌, ℕ, ◌+◌, Bool, true, false, List, [], ◌++◌, length, nat_lt}
-use Rattle.std.specs.List.{AllByRecursion}
-use Rattle.hl_history.specs.declared.view.Entry.{Entry}
+-- How a rider cuts the journal.
+use Rattle.std.specs.Prelude.{◌≡◌, ◌+◌, Bool, true, false, [], length, nat_lt}
 use Rattle.hl_words.specs.States.{RiderState}
 use Rattle.hl_domain.specs.Domains.{DomainState, UnderLock, LeavesUnderLock, no_step}
 use Rattle.hl_crew.specs.declared.orders.Cuts.{Cuts}
 use Rattle.hl_crew.specs.declared.orders.Cuts.TheVariants.{Never, EachTurn, Above}
-
--- a rider with these calls more, the newest first
-abbrev pub with_calls : List Entry → RiderState → RiderState
-with_calls more r = record { view = r.view; share = r.share; calls = more ++ r.calls }
-
--- a rider made some calls, and none of them entered a step: each was refused, or cut the journal
-pub record Waits (old new : RiderState) : Type 0 where
-  pub more : List Entry
-  pub empty : AllByRecursion (λ e. e.steps ≡ []) more
-  pub is : new ≡ with_calls more old
-
--- a rider made so many calls more
-abbrev pub CallsMore : ℕ → RiderState → RiderState → Type 0
-CallsMore n old new = length new.calls ≡ length old.calls + n
 
 module _ (F : Type 0) (domain : DomainState) where
   -- the journal was cut by a rider
