@@ -1,6 +1,11 @@
 -- What is done again and again.
-use Rattle.std.proofs.Common.{◌≡◌, ℕ, ◌+◌, Bool, true, false, Result, Ok, Err, refl, add-one, inl, inr}
-use Rattle.hl_crew.specs.Goes.{Followed, UpTo}
+use Rattle.std.specs.Prelude.{◌-◌, ◌^◌, min}
+use Rattle.std.proofs.Common.{◌≡◌, ◌<◌, ℕ, ◌+◌, Bool, true, false, Result, Ok, Err, refl, add-one, inl, inr, arith}
+use Rattle.hl_crew.specs.Goes.{told_count, Followed, UpTo}
+
+-- one more, and its count
+pub told_more : (n made next : ℕ) → made ≡ told_count n → next ≡ min (made + 1) (2 ^ 64 - 1) → next ≡ told_count (n + 1)
+told_more n made next before is = omega (arith, before, is)
 
 module _ {S X : Type 0} (One : ℕ → Result Bool X → S → S → Type 0) where
   -- once more
@@ -12,9 +17,9 @@ module _ {S X : Type 0} (One : ℕ → Result Bool X → S → S → Type 0) whe
   up_to_all most n old new all before = record { count = n; last = new; followed = before; ended = inl (all, refl) }
 
   -- none may follow
-  pub up_to_none : (most n : ℕ) (old mid new : S) → Followed One n old mid → One n (Ok false) mid new → UpTo One most (Ok tt) old new
-  up_to_none most n old mid new before one = record { count = n; last = mid; followed = before; ended = inr one }
+  pub up_to_none : (most n : ℕ) (old mid new : S) → n < most → Followed One n old mid → One n (Ok false) mid new → UpTo One most (Ok tt) old new
+  up_to_none most n old mid new fewer before one = record { count = n; last = mid; followed = before; ended = inr (fewer, one) }
 
   -- it failed
-  pub up_to_failed : (most n : ℕ) (error : X) (old mid new : S) → Followed One n old mid → One n (Err error) mid new → UpTo One most (Err error) old new
-  up_to_failed most n error old mid new before one = record { count = n; last = mid; followed = before; ended = one }
+  pub up_to_failed : (most n : ℕ) (error : X) (old mid new : S) → n < most → Followed One n old mid → One n (Err error) mid new → UpTo One most (Err error) old new
+  up_to_failed most n error old mid new fewer before one = record { count = n; last = mid; followed = before; ended = (fewer, one) }

@@ -116,3 +116,16 @@ place_found None is = absurd cc
 pub place_missing : (found : Option ℕ) → false ≡ is_some found → found ≡ None
 place_missing None is = refl
 place_missing (Some at) is = absurd cc
+
+-- where a place holds a load of a page, some load is held
+some_there : (page at : ℕ) (places : List (Option PageJob)) → at < length places → is_of page (get_or places at None) ≡ true → 1 ≤ load_count places
+some_there page at [] within is = absurd (omega arith)
+some_there page zero (None ∷ places) within is = absurd cc
+some_there page zero (Some job ∷ places) within is = omega arith
+some_there page (suc at) (None ∷ places) within is = some_there page at places (omega arith) is
+some_there page (suc at) (Some job ∷ places) within is = omega arith
+
+pub some_held : (page at : ℕ) (places : List (Option PageJob)) → position (is_of page) places ≡ Some at → 1 ≤ load_count places
+some_held page at places found =
+    let there = position-Some (is_of page) places at None found in
+    some_there page at places there.0 there.1

@@ -1,12 +1,12 @@
 -- The flusher's turns.
-use Rattle.std.specs.Prelude.{◌≡◌, ℕ, ◌≤◌, ◌==◌, ◌&&◌, not, Bool, true, false, Result, Ok, Err, MatchResult}
+use Rattle.std.specs.Prelude.{◌≡◌, ℕ, ◌==◌, ◌&&◌, not, Bool, true, false, Result, Ok, Err, MatchResult}
 use Rattle.hl_words.specs.States.{RiderState}
 use Rattle.hl_domain.specs.Domains.{DomainState}
 use Rattle.hl_crew.specs.declared.messages.Over.{Over}
 use Rattle.hl_crew.specs.declared.messages.Over.TheVariants.{Full}
 use Rattle.hl_crew.specs.declared.orders.Orders.{Orders}
 use Rattle.hl_crew.specs.Flushes.{OwnState, own_of, AreFlushed}
-use Rattle.hl_crew.specs.Goes.{Followed, UpTo}
+use Rattle.hl_crew.specs.Goes.{told_count, Followed, UpTo}
 use Rattle.hl_crew.specs.Lags.{KeepsLag, makes_room}
 use Rattle.hl_crew.specs.Turns.{RunsAction}
 use Rattle.hl_crew.specs.Cutting.{CutsJournal, EndsTurn}
@@ -64,21 +64,23 @@ MakesOne F domain orders (Ok moved) old new =
 MakesOne F domain orders (Err over) old new =
     MakesTurn F domain orders (Err over) old new × (over ≡ Full → makes_room orders.cuts ≡ false)
 
--- another turn may follow, whatever this one is told to have got; where it failed none may
-abbrev pub MakesAny : (F : Type 0) → DomainState → Orders
+-- a turn that the term has after so many: another may follow, whatever this one is told to have got; where it
+-- failed none may
+abbrev pub MakesAny : (F : Type 0) → DomainState → Orders → (ℕ → Type 0)
     → ℕ → Result Bool Over → OwnState → OwnState → Type 0
-MakesAny F domain orders i (Ok next) old new = (moved : Bool) × MakesOne F domain orders (Ok moved) old new
-MakesAny F domain orders i (Err over) old new = MakesOne F domain orders (Err over) old new
+MakesAny F domain orders HasTurn i (Ok next) old new =
+    HasTurn (told_count i) × (moved : Bool) × MakesOne F domain orders (Ok moved) old new
+MakesAny F domain orders HasTurn i (Err over) old new =
+    HasTurn (told_count i) × MakesOne F domain orders (Err over) old new
 
--- as many turns were made as it takes for them to be over, or one of them ended them
-abbrev pub MakesTurns : (F : Type 0) → DomainState → Orders → (ℕ → Type 0)
+-- turns were made as long as the term has one, until they are over, or one of them ended them
+abbrev pub MakesTurns : (F : Type 0) → DomainState → Orders → (ℕ → Type 0) → (ℕ → Type 0)
     → Result (Unit {0}) Over → OwnState → OwnState → Type 0
-MakesTurns F domain orders IsOver (Ok done) old new =
-    (count : ℕ) × (told : ℕ) × (told ≤ count) × IsOver told
-    × Followed (MakesAny F domain orders) count old new
-MakesTurns F domain orders IsOver (Err over) old new =
-    (count : ℕ) × (last : OwnState) × Followed (MakesAny F domain orders) count old last
-    × MakesOne F domain orders (Err over) last new
+MakesTurns F domain orders HasTurn IsOver (Ok done) old new =
+    (count : ℕ) × IsOver (told_count count) × Followed (MakesAny F domain orders HasTurn) count old new
+MakesTurns F domain orders HasTurn IsOver (Err over) old new =
+    (count : ℕ) × (last : OwnState) × Followed (MakesAny F domain orders HasTurn) count old last
+    × MakesAny F domain orders HasTurn count (Err over) last new
 
 -- another turn follows if this one got somewhere
 abbrev pub MakesLast : (F : Type 0) → DomainState → Orders
@@ -87,10 +89,11 @@ MakesLast F domain orders i result old new = MakesOne F domain orders result old
 
 -- turns were made until they were over, and then the last ones, at most so many, up to the first that got
 -- nowhere or failed; where the former ones failed, no last one was made
-abbrev pub MakesAll : (F : Type 0) → DomainState → Orders → (ℕ → Type 0) → ℕ
+abbrev pub MakesAll : (F : Type 0) → DomainState → Orders → (ℕ → Type 0) → (ℕ → Type 0) → ℕ
     → Result (Unit {0}) Over → OwnState → OwnState → Type 0
-MakesAll F domain orders IsOver most result old new =
-    (made : Result (Unit {0}) Over) × (mid : OwnState) × MakesTurns F domain orders IsOver made old mid
+MakesAll F domain orders HasTurn IsOver most result old new =
+    (made : Result (Unit {0}) Over) × (mid : OwnState)
+    × MakesTurns F domain orders HasTurn IsOver made old mid
     × MatchResult made
     (λ _. UpTo (MakesLast F domain orders) most result mid new)
     (λ over. (result ≡ Err over) × (new ≡ mid))

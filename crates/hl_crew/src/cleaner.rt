@@ -37,8 +37,8 @@ impl<R: Wait, E: Epochs + Drop, F: Task, P: Promise, L: Realm> Cleaner<'_, R, E,
 
     // Looks for a closed page again and again, as long as the term says, or until a look fails.
     fn look_on<T: Term<R>>(&self, rider: &mut Rider<L>, term: &T) -> Result<(), Over>
-        ensures { LooksOn F self.now.domain.now self.now.orders.cuts (T.ends_looks term.now) result
-            rider.old rider.new }
+        ensures { LooksOn F self.now.domain.now self.now.orders.cuts (T.has_look term.now)
+            (T.ends_looks term.now) result rider.old rider.new }
     {
         let mut looks = 0u64;
         let mut is_last = false;

@@ -58,7 +58,7 @@ impl<R: Wait, E: Epochs + Drop, F: Task, P: Promise, L: Realm> Flusher<'_, R, E,
     ) -> Result<(), Over>
         requires { let orders = self.now.orders
             in IsLag self.now.domain.now.sizes.frames orders.mutable orders.resident }
-        ensures { MakesAll F self.now.domain.now self.now.orders
+        ensures { MakesAll F self.now.domain.now self.now.orders (T.has_turn term.now)
             (T.is_over term.now) (T.most_last term.now) result
             (own_of own.old.rider own.old.counts) (own_of own.new.rider own.new.counts) }
     {
@@ -75,7 +75,8 @@ impl<R: Wait, E: Epochs + Drop, F: Task, P: Promise, L: Realm> Flusher<'_, R, E,
     ) -> Result<(), Over>
         requires { let orders = self.now.orders
             in IsLag self.now.domain.now.sizes.frames orders.mutable orders.resident }
-        ensures { MakesTurns F self.now.domain.now self.now.orders (T.is_over term.now) result
+        ensures { MakesTurns F self.now.domain.now self.now.orders (T.has_turn term.now)
+            (T.is_over term.now) result
             (own_of own.old.rider own.old.counts) (own_of own.new.rider own.new.counts) }
     {
         let mut made = 0u64;

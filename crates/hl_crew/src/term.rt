@@ -1,27 +1,34 @@
-ghost use Rattle.std.specs.Prelude.{◌≡◌, ℕ, ◌≤◌, ◌&&◌, nat_lt, not, Bool, true, false, ⊤};
+ghost use Rattle.std.specs.Prelude.{◌≡◌, ℕ, ◌<◌, ◌≤◌, ◌&&◌, nat_lt, not, Bool, true, false, ⊤};
 
 use std::sync::Wait;
 
 /// How long a crew runs, and how it rests.
 ///
-/// `is_over` is what holds of a number of turns after which the flusher makes no more, and
-/// `most_last` is how many it makes at most after these; `ends_looks` is what holds of a number of
-/// looks, and of whether the last one was in vain, after which the cleaner makes no more.
+/// `has_turn` is what holds of a number of turns after which the flusher makes another, `is_over` of
+/// one after which it makes no more, and `most_last` is how many it makes at most after these;
+/// `has_look` is what holds of a number of looks after which the cleaner makes another, and
+/// `ends_looks` of one, and of whether the last look was in vain, after which it makes no more.
 pub(crate) trait Term<R> {
+    ghost has_turn: { Self → ℕ → Type 0 } = { λ _ _. ⊤ };
+
     ghost is_over: { Self → ℕ → Type 0 } = { λ _ _. ⊤ };
 
     ghost most_last: { Self → ℕ };
+
+    ghost has_look: { Self → ℕ → Type 0 } = { λ _ _. ⊤ };
 
     ghost ends_looks: { Self → ℕ → Bool → Type 0 } = { λ _ _ _. ⊤ };
 
     /// Whether the flusher makes another turn, after `made`.
     fn goes_on(&self, made: u64) -> bool
-        ensures { result ≡ false → is_over self.now made };
+        ensures on { result ≡ true → has_turn self.now made }
+        ensures over { result ≡ false → is_over self.now made };
 
     /// Whether the cleaner looks for a closed page once more, after `looks`. If `is_last` is true,
     /// the last look was in vain, and was begun once the flusher had ended.
     fn cleans_on(&self, looks: u64, is_last: bool) -> bool
         ensures last { is_last ≡ true → result ≡ false }
+        ensures on { result ≡ true → has_look self.now looks }
         ensures over { result ≡ false → ends_looks self.now looks is_last };
 
     /// Rests after a turn that got nowhere, with `vain` such turns in a row before it.
@@ -39,9 +46,13 @@ pub(crate) struct Turns {
 }
 
 impl<R: Wait> Term<R> for Turns {
+    ghost has_turn = { λ turns made. made < turns.most };
+
     ghost is_over = { λ turns made. turns.most ≤ made };
 
     ghost most_last = { λ _. 0 };
+
+    ghost has_look = { λ turns looks. looks < turns.most };
 
     ghost ends_looks = { λ turns looks is_last. (nat_lt looks turns.most && not is_last) ≡ false };
 
@@ -51,6 +62,7 @@ impl<R: Wait> Term<R> for Turns {
 
     fn cleans_on(&self, looks: u64, is_last: bool) -> bool
         ensures last { is_last ≡ true → result ≡ false }
+        ensures on { result ≡ true → looks < self.now.most }
         ensures over { result ≡ false → (nat_lt looks self.now.most && not is_last) ≡ false }
         ensures value { result ≡ (nat_lt looks self.now.most && not is_last) }
     {

@@ -1,7 +1,8 @@
-use Rattle.std.proofs.Common.{◌≡◌, ◌+◌, refl, arith}
+use Rattle.std.proofs.Common.{◌≡◌, ◌<◌, ◌+◌, refl, arith}
 use Rattle.std.proofs.lemmas.Result.{err_from_is_err_and}
 use Rattle.hl_crew.specs.Flushes.{FailsNext}
 use Rattle.hl_crew.specs.Pouches.{load_count}
+use Rattle.hl_crew.proofs.PouchLaws.{some_held}
 use Rattle.hl_crew.proofs.GoesLaws.{followed_more, up_to_all, up_to_failed}
 use Rattle.hl_crew.proofs.flusher.Flusher.answer_others.Goals as goal
 
@@ -24,7 +25,9 @@ returns-in_err-answer_held-clause-fails g c =
     let p = err_from_is_err_and c.from_residual.result c.from_residual.ensures.1 in
     let place = c.in-Some.ensures.held in
     let told = c.in_err-answer_held.ensures in
-    rw (p.1, p.2) (up_to_failed (FailsNext g.row.F.Denot c.args.self.now.domain.now c.args.self.now.orders.cuts) _ _ _ _ _ _ c.loop-page.invariant.2
+    let some = some_held c.in-Some.page place.0 c.loop-page.pouch place.1 in
+    let fewer : c.loop-page.invariant.0 < load_count c.args.pouch.now = omega (arith, c.loop-page.invariant.1, some) in
+    rw (p.1, p.2) (up_to_failed (FailsNext g.row.F.Denot c.args.self.now.domain.now c.args.self.now.orders.cuts) _ _ _ _ _ _ fewer c.loop-page.invariant.2
     (c.in-Some.page, told.held place.0 place.1))
 
 pub returns : goal.returns

@@ -11,7 +11,7 @@ loop-step-preserved g c =
 
 pub returns-in-Err : goal.returns-in-Err
 returns-in-Err g c =
-    up_to_failed (MakesNext g.row.F.Denot c.args.self.now.domain.now c.args.steps.now) _ _ _ _ _ _ c.loop-step.invariant
+    up_to_failed (MakesNext g.row.F.Denot c.args.self.now.domain.now c.args.steps.now) _ _ _ _ _ _ (omega (arith, c.loop-step-test.true)) c.loop-step.invariant
     (_, slice_get-get_or _ _ _ c.loop-step-test.true, c.in-Err.ensures)
 
 pub returns : goal.returns

@@ -10,12 +10,12 @@ loop-preserved g c =
 
 pub returns-in-Ok-false : goal.returns-in-Ok-false
 returns-in-Ok-false g c =
-    up_to_none (RunsAction g.row.F.Denot c.args.self.now.domain.now c.args.self.now.orders.cuts) _ _ _ _ _ c.loop.invariant
+    up_to_none (RunsAction g.row.F.Denot c.args.self.now.domain.now c.args.self.now.orders.cuts) _ _ _ _ _ (omega arith) c.loop.invariant
     (rw c.in-Ok-false.field-0-test at c.in-Ok-false.ensures)
 
 pub returns-in-Err : goal.returns-in-Err
 returns-in-Err g c =
-    up_to_failed (RunsAction g.row.F.Denot c.args.self.now.domain.now c.args.self.now.orders.cuts) _ _ _ _ _ _ c.loop.invariant c.in-Err.ensures
+    up_to_failed (RunsAction g.row.F.Denot c.args.self.now.domain.now c.args.self.now.orders.cuts) _ _ _ _ _ _ (omega arith) c.loop.invariant c.in-Err.ensures
 
 pub returns : goal.returns
 returns g c = up_to_all _ _ _ _ _ (omega arith) c.loop.invariant

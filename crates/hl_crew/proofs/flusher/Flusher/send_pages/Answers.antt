@@ -13,12 +13,12 @@ loop-preserved g c =
 
 pub returns-in-Ok-false-clause-sends : goal.returns-in-Ok-false-clause-sends
 returns-in-Ok-false-clause-sends g c =
-    up_to_none (SendsPage g.row.F.Denot c.args.self.now.domain.now) _ _ _ _ _ c.loop.invariant.0
+    up_to_none (SendsPage g.row.F.Denot c.args.self.now.domain.now) _ _ _ _ _ (omega arith) c.loop.invariant.0
     (rw c.in-Ok-false.field-0-test at c.in-Ok-false.ensures.sends)
 
 pub returns-in-Err-clause-sends : goal.returns-in-Err-clause-sends
 returns-in-Err-clause-sends g c =
-    up_to_failed (SendsPage g.row.F.Denot c.args.self.now.domain.now) _ _ _ _ _ _ c.loop.invariant.0 c.in-Err.ensures.sends
+    up_to_failed (SendsPage g.row.F.Denot c.args.self.now.domain.now) _ _ _ _ _ _ (omega arith) c.loop.invariant.0 c.in-Err.ensures.sends
 
 pub returns-clause-sends : goal.returns-clause-sends
 returns-clause-sends g c = up_to_all _ _ _ _ _ (omega arith) c.loop.invariant.0
