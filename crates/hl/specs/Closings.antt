@@ -23,7 +23,8 @@ AreReturned {Out} Returns outs =
     (number : ℕ) (other : Result Out Fault) → number < length outs
     → IfOk (slice_index_or outs number other) (Returns number)
 
--- a thread for each of so many riders, but the crew's four, has returned such a result, and all riders came back
+-- a thread for each of so many riders, but the crew's four, has returned such a result, and all riders came
+-- back
 pub record AllReturned {Out : Type 0} (Returns : ℕ → Out → Type 0) (count : ℕ)
     (outs : List (Result Out Fault)) (riders : List RiderState) : Type 0 where
   pub back : length riders ≡ count

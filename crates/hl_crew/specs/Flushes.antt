@@ -36,9 +36,9 @@ abbrev pub hold_of : RiderState → Counts → List (Option PageJob) → HoldSta
 hold_of rider counts pouch = record { rider = rider; counts = counts; pouch = pouch }
 
 module _ (F : Type 0) (domain : DomainState) (cuts : Cuts) where
-  -- a page that is held was answered as written or as failed, by as many tries as that takes: where the domain
-  -- accepted that, it was counted, and the page is held no longer; where it refused it, that is told, and no
-  -- more was done
+  -- a page that is held was answered as written or as failed, by as many tries as that takes: where the
+  -- domain accepted that, it was counted, and the page is held no longer; where it refused it, that is told,
+  -- and no more was done
   pub record AnswersPage (page : ℕ) (ok : Bool) (result : Result (Unit {0}) Over) (old new : HoldState)
       : Type 0 where
     pub at : ℕ
@@ -50,8 +50,8 @@ module _ (F : Type 0) (domain : DomainState) (cuts : Cuts) where
         (λ _. (result ≡ Ok tt) × (new.counts ≡ counted ok old.counts))
         (λ fault. (result ≡ Err (over_of fault)) × (new.counts ≡ old.counts))
 
-  -- an acknowledgement of a page was answered: where no such page is held, a stranger was counted, and no more
-  -- was done; else the page was answered
+  -- an acknowledgement of a page was answered: where no such page is held, a stranger was counted, and no
+  -- more was done; else the page was answered
   abbrev pub Tells : ℕ → Bool → Result (Unit {0}) Over → HoldState → HoldState → Type 0
   Tells page ok result old new =
       ((position (is_of page) old.pouch ≡ None) × (result ≡ Ok tt)

@@ -22,8 +22,8 @@ tickets_of xs = map (λ waiting. waiting.ticket) xs
 abbrev pub actions_of : Inside → Actions
 actions_of a = record { items = drop a.first a.row.items; places = a.places; gap = a.first }
 
--- the gap is within the row and no wider than there is room for actions, no more of these lie behind it, and the
--- row has twice that room
+-- the gap is within the row and no wider than there is room for actions, no more of these lie behind it, and
+-- the row has twice that room
 pub record IsKept (a : Inside) : Type 0 where
   pub gap : a.first ≤ length a.row.items
   pub narrow : a.first ≤ a.places
