@@ -7,6 +7,6 @@ use Rattle.hl_crew.proofs.flusher.Flusher.send_pages.Given as goal
 -- a page was sent in each turn, and these are the pages that it holds
 abbrev pub invariant-loop : goal.invariant-loop
 invariant-loop g l =
-    Followed (SendsPage g.row.F.Denot l.self.domain.now) l.counter 
+    Followed (SendsPage g.row.F.Denot l.self.domain.now) l.counter
     (send_of l.initial.rider l.initial.pouch l.initial.sent) (send_of l.rider l.pouch l.sent)
     × (l.sent ≡ load_count l.pouch) × (l.sent ≡ l.counter)
