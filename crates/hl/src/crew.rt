@@ -166,17 +166,24 @@ impl<L: Realm, W> Crew<L, W> {
         let row = riders.into();
         match serve(rt, alloc, log, row, first, second, gate, duty, stop) {
             Ok(end) => Ok(end),
-            Err(handed_back) => {
-                let (fault, row, first, second) = handed_back;
-                let riders = row.into();
-                let back = Crew {
-                    riders,
-                    first,
-                    second,
-                };
-                Err(Refused { fault, back })
-            }
+            Err(handed_back) => Err(Refused::from(handed_back)),
         }
+    }
+}
+
+/// What `run_crew` and `serve` of `hl_crew` hand back beside their fault.
+impl<L: Realm, W> From<(Fault, [Rider<L>; 4], W, W)> for Refused<Crew<L, W>> {
+    ghost from_gives = { λ row refused. (refused.fault ≡ row.0) × (riders_of refused.back.riders ≡ row.1)
+        × (refused.back.first ≡ row.2) × (refused.back.second ≡ row.3) };
+
+    fn from(row: (Fault, [Rider<L>; 4], W, W)) -> Refused<Crew<L, W>> {
+        let (fault, riders, first, second) = row;
+        let back = Crew {
+            riders: riders.into(),
+            first,
+            second,
+        };
+        Refused { fault, back }
     }
 }
 

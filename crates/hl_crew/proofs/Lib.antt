@@ -3,6 +3,6 @@ pub mod Steps
 pub mod LagLaws
 pub mod GoesLaws
 pub mod TryLaws
-pub mod CountLaws
+pub mod FlushLaws
 pub mod RunLaws
 pub mod OverLaws

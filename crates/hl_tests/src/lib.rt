@@ -1,12 +1,12 @@
 //! The tests of the parts that the core and scripts are made of, of what no clause says: refused memory,
 //! devices that fail, no fault at the greatest numbers, drops, printed text, exact turns, and one happy path of
 //! what the built program doesn't call. Each module tries the crate that it is named after, `tables` both tables
-//! of epochs, `report` that of `hl_monitor`. What a clause says is tested nowhere; that the clauses mean what
-//! was meant is shown by the examples that the built program is run on.
+//! of epochs, `report` that of `hl_monitor`, `refused` the type of `hl` for refusals. What a clause says is tested
+//! nowhere; that the clauses mean what was meant is shown by the examples that the built program is run on.
 //!
 //! This crate has no code beside its tests: a crate with tests is proved twice, so only this one,
-//! `hl_run_tests`, `hl_domain_tests` and `hl_crew_tests` have any. It stands on every part that the program needs, and
-//! on nothing above them.
+//! `hl_run_tests`, `hl_domain_tests` and `hl_crew_tests` have any. It stands on every part that the program needs,
+//! and on `hl` for the text of a refusal.
 #![tactic(auto)]
 
 #[cfg(test)]
@@ -23,6 +23,8 @@ mod line;
 mod offsets;
 #[cfg(test)]
 mod plain;
+#[cfg(test)]
+mod refused;
 #[cfg(test)]
 mod report;
 #[cfg(test)]

@@ -2,7 +2,7 @@ use Rattle.std.proofs.Common.{◌∙◌, ap}
 use Rattle.std.specs.Result.{result_and}
 use Rattle.hl_crew.specs.Flushes.{hold_of}
 use Rattle.hl_crew.specs.Turns.{send_of}
-use Rattle.hl_crew.proofs.CountLaws.{last_part}
+use Rattle.hl_crew.proofs.FlushLaws.{last_part}
 use Rattle.hl_crew.proofs.flusher.Flusher.flush.Goals as goal
 
 pub returns-clause-none : goal.returns-clause-none

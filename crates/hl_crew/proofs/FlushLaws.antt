@@ -1,4 +1,4 @@
--- Where all parts of a flush ended well.
+-- What a flush's parts say of its end.
 use Rattle.std.proofs.Common.{◌≡◌, sym, subst}
 use Rattle.std.specs.Prelude.{Result, Ok, Err, OnOk}
 use Rattle.std.specs.Result.{result_and}
