@@ -5,7 +5,7 @@ use Rattle.std.specs.List.Sorted.{IsNonDecreasingBy, IsPartitionPoint}
 use Rattle.std.proofs.Math.ListN.{get_or-map}
 use Rattle.std.proofs.lemmas.Bool.{cases_lt, ltb-true, ltb-false}
 use Rattle.std.proofs.lemmas.List.{drop_at, drop-append-le, drop-drop, drop-take, length-map}
-use Rattle.std.proofs.lemmas.List.Edits.{take-paste}
+use Rattle.std.proofs.lemmas.List.Edits.{length-paste, take-paste, drop-paste}
 use Rattle.std.proofs.lemmas.List.Sums.{position_or_len_is}
 use Rattle.hl_drain.specs.Taken.{Rises}
 
@@ -93,11 +93,30 @@ removed_front xs first place within =
     ∙ ap (λ n. take place (drop first xs) ++ drop n xs) far
     ∙ ap (λ z. take place (drop first xs) ++ z) (sym (drop-drop (suc place) first xs))
 
--- the row without its gap
-pub closed : {X : Type 0} (xs : List X) (first : ℕ) → first ≤ length xs → take (length xs - first) (copy_within xs first (length xs) 0) ≡ drop first xs
-closed xs first within =
-    let n = length xs - first in
-    let front : n ≡ 0 + n = omega arith in
-    ap (λ k. take k (copy_within xs first (length xs) 0)) front
-    ∙ take-paste xs 0 (drop first xs) n (omega arith) (omega (arith, length-drop first xs))
-    ∙ take_all n (drop first xs) (omega (arith, length-drop first xs))
+-- the row without its gap, and without an action: those before it are moved to the front, and those behind it after them
+pub closed : {X : Type 0} (xs : List X) (first place : ℕ) → first + place < length xs → let front = copy_within xs first (first + place) 0 in take (length xs - first - 1) (copy_within front (first + place + 1) (length front) place) ≡ remove (drop first xs) place
+closed xs first place within =
+    let count : ℕ = first + place - first in
+    let front = copy_within xs first (first + place) 0 in
+    let long : length front ≡ length xs = length-paste xs 0 (drop first xs) count (omega (arith, within)) (omega (arith, within, length-drop first xs)) in
+    let behind : ℕ = length front - (first + place + 1) in
+    let left : length xs - first - 1 ≡ place + behind = omega (arith, within, long) in
+    let begun : take place front ≡ take place (drop first xs) =
+    let all : place ≡ 0 + count = omega arith in
+    ap (λ n. take n front) all
+    ∙ take-paste xs 0 (drop first xs) count (omega arith) (omega (arith, within, length-drop first xs))
+    ∙ ap (λ n. take n (drop first xs)) (omega arith) in
+    let next : first + place + 1 ≡ 0 + count + suc first = omega arith in
+    let far : 0 + count + suc first ≡ first + suc place = omega arith in
+    let rest : drop (first + place + 1) front ≡ drop (suc place) (drop first xs) =
+    ap (λ n. drop n front) next
+    ∙ sym (drop-drop (suc first) (0 + count) front)
+    ∙ ap (drop (suc first)) (drop-paste xs 0 (drop first xs) count (omega arith) (omega (arith, within, length-drop first xs)))
+    ∙ drop-drop (suc first) (0 + count) xs
+    ∙ ap (λ n. drop n xs) far
+    ∙ sym (drop-drop (suc place) first xs) in
+    ap (λ n. take n (copy_within front (first + place + 1) (length front) place)) left
+    ∙ take-paste front place (drop (first + place + 1) front) behind (omega (arith, within, long)) (omega (arith, length-drop (first + place + 1) front))
+    ∙ ap (λ z. take place front ++ z) (take_all behind (drop (first + place + 1) front) (omega (arith, length-drop (first + place + 1) front)))
+    ∙ ap (λ z. z ++ drop (first + place + 1) front) begun
+    ∙ ap (λ z. take place (drop first xs) ++ z) rest

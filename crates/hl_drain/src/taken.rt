@@ -95,32 +95,33 @@ impl Taken {
         ensures others { self.new.items ≡ remove self.old.items place }
         ensures places { self.new.places ≡ self.old.places }
     {
+        let at = self.first + place;
         if place >= self.len() / 2 {
-            return self.row.remove(self.first + place);
+            return self.row.remove(at);
         }
-        self.close_gap();
-        let first = self.first;
-        let at = first + place;
         let waiting = self.row[at];
-        self.row.copy_within(first..at, first + 1);
-        self.first = first + 1;
+        if self.first < self.places {
+            let first = self.first;
+            self.row.copy_within(first..at, first + 1);
+            self.first = first + 1;
+        } else {
+            self.close_gap(place);
+        }
         waiting
     }
 
-    // Moves all to the front of the row, where the gap is as wide as there is room for actions. A removal widens it by
-    // one, so that this moves an action for each removal since the last time at most; and a push finds its place.
-    fn close_gap(&mut self)
-        requires { 0 < self.old.places }
-        ensures items { self.new.items ≡ self.old.items }
+    // Moves all but the action at a place to the front of the row, each once. The gap is as wide then as there is room
+    // for actions: each removal widens it by one, so no more are moved than were removed since the last time.
+    fn close_gap(&mut self, place: usize)
+        requires { place < length self.old.items }
+        ensures others { self.new.items ≡ remove self.old.items place }
         ensures places { self.new.places ≡ self.old.places }
-        ensures gap { self.new.gap < self.new.places }
     {
-        if self.first < self.places {
-            return;
-        }
-        let count = self.len();
-        self.row.copy_within(self.first.., 0);
-        self.row.truncate(count);
+        let at = self.first + place;
+        let left = self.len() - 1;
+        self.row.copy_within(self.first..at, 0);
+        self.row.copy_within(at + 1.., place);
+        self.row.truncate(left);
         self.first = 0;
     }
 }

@@ -11,10 +11,10 @@ returns-then-place-len-clause-others c =
     let within : first + c.args.place < length xs = omega (arith, c.requires, ap length shown, length-drop first xs) in
     ap (drop first) c.remove.ensures.items ∙ removed_back xs first c.args.place (omega (arith, within)) ∙ ap (λ z. remove z c.args.place) shown
 
-pub returns-clause-others : goal.returns-clause-others
-returns-clause-others c =
-    let xs = c.self-2.inside.row.items in
-    let first = c.self-2.inside.first in
-    let shown : drop first xs ≡ c.args.self.now.items = ap (λ (z : Actions). z.items) c.self-2.view_is ∙ c.close_gap.ensures.items in
+pub returns-then-self-clause-others : goal.returns-then-self-clause-others
+returns-then-self-clause-others c =
+    let xs = c.self.inside.row.items in
+    let first = c.self.inside.first in
+    let shown : drop first xs ≡ c.args.self.now.items = ap (λ (z : Actions). z.items) c.self.view_is in
     let within : first + c.args.place < length xs = omega (arith, c.requires, ap length shown, length-drop first xs) in
     ap (drop (first + 1)) c.copy_within.ensures.items ∙ removed_front xs first c.args.place within ∙ ap (λ z. remove z c.args.place) shown
