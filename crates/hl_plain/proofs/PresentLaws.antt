@@ -1,11 +1,12 @@
 -- The rows of what is present.
-use Rattle.std.proofs.Common.{◌≡◌, ◌<◌, ◌≤◌, ℕ, List, length, map, get_or, sym, arith}
+use Rattle.std.proofs.Common.{◌≡◌, ◌<◌, ◌≤◌, ℕ, List, length, map, get_or, refl, sym, arith}
 use Rattle.std.specs.Prelude.{None, Option, slice_index_or}
 use Rattle.std.specs.List.{range_with_len}
 use Rattle.std.proofs.lemmas.List.{get_or_past}
 use Rattle.std.proofs.lemmas.List.FromFn.{length-map-range_with_len}
 use Rattle.hl_model.specs.declared.step.Step.{Step}
 use Rattle.hl_model.specs.Bases.{Base, slot_in}
+use Rattle.hl_model.specs.AfterOffsets.{tail_after}
 use Rattle.hl_model.specs.AfterViews.{slot_after}
 use Rattle.hl_model.specs.AfterPages.{held_after}
 use Rattle.hl_model.specs.AfterReplies.{base_after}
@@ -22,6 +23,11 @@ slots-length b L = length-map-range_with_len (λ t. slot_after b t L) 0 b.sizes.
 pub frames-length : (b : Base) (L : List Step) → length (base_after b L).frames ≡ (base_after b L).sizes.frames
 unfolding base_after
 frames-length b L = length-map-range_with_len (held_after b L) 0 b.sizes.frames
+
+-- the tail is that after the steps
+pub tail-at : (b : Base) (L : List Step) → (base_after b L).six.tail ≡ tail_after b L
+unfolding base_after
+tail-at b L = refl
 
 -- what a slot has, and what a frame holds
 pub slot-at : (b : Base) (L : List Step) (t : ℕ) → t < b.sizes.slots → slot_after b t L ≡ slot_in (base_after b L) t

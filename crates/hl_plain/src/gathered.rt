@@ -8,25 +8,29 @@ use arrayvec::ArrayVec;
 use hl_laws::Quantities;
 use hl_model::{Held, Six, Slot, Waiting};
 
-/// What is present, with its two rows of actions, each looked up once.
+/// What is present, with its offsets and its two rows of actions, each looked up once.
 #[derive(Drop)]
 pub struct Gathered<'a> {
     present: Present<'a>,
+    six: Six,
     waiting: ArrayVec<Waiting, 64>,
     taken: ArrayVec<Waiting, 64>,
+    ghost six_is: { six ≡ present.six },
     ghost waiting_is: { waiting.items ≡ present.waiting },
     ghost taken_is: { taken.items ≡ present.taken },
 }
 
 impl<'a> Gathered<'a> {
-    /// With the rows of what is present.
+    /// With the offsets and the rows of what is present.
     pub fn of(present: Present<'a>) -> Gathered<'a>
         ensures { result.present ≡ present.entry }
     {
+        let six = six(&present);
         let waiting = present.waiting();
         let taken = present.taken();
         Gathered {
             present,
+            six,
             waiting,
             taken,
         }
@@ -57,10 +61,10 @@ impl<'a> Quantities for Gathered<'a> {
     }
 
     fn offsets(&self) -> Six {
-        six(&self.present)
+        self.six
     }
 
     fn held(&self, f: u64) -> Option<Held> {
-        self.present.held(f)
+        self.present.held_below(self.six.tail, f)
     }
 }

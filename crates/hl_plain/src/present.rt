@@ -150,16 +150,26 @@ impl<'a> Present<'a> {
     }
 
     /// What frame f holds.
-    #[tactic(auto, unfolding(hl_model::specs::AfterReplies::base_after))]
     pub fn held(&self, f: u64) -> Option<Held>
         ensures held { result ≡ slice_index_or self.now.frames f None }
         ensures within { IfSome result (λ held. held.page * self.now.sizes.page_size < 2 ^ 48) }
     {
-        if f < self.base.params().frames() {
-            frames::held(self.base, self.steps, self.flushes, self.cleans, f)
-        } else {
-            None
+        self.held_below(self.tail(), f)
+    }
+
+    /// What frame f holds, told the tail: who asks for many frames computes that once.
+    #[tactic(auto, unfolding(hl_model::specs::AfterReplies::base_after))]
+    pub fn held_below(&self, tail: u64, f: u64) -> Option<Held>
+        requires { tail ≡ self.now.six.tail }
+        ensures held { result ≡ slice_index_or self.now.frames f None }
+        ensures within { IfSome result (λ held. held.page * self.now.sizes.page_size < 2 ^ 48) }
+    {
+        if f >= self.base.params().frames() {
+            return None;
         }
+        let page = frames::last_entered(self.base, tail, f)?;
+        let held = frames::marked(self.base, self.steps, self.flushes, self.cleans, page);
+        Some(held)
     }
 
     /// What the frame of page p holds.
