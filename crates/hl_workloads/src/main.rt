@@ -84,9 +84,9 @@ fn run<R: Threads + Wait + Clock + Sync>(
     match job {
         "script" => answer_all(alloc, seed, part(14), 500_000, Form::Fast),
         "slow" => answer_all(alloc, seed, part(3), 4000, Form::Slow),
-        "log" => hand::run(rt, alloc, log_plan(seed, part(500))?),
+        "log" => hand::run(rt, alloc, log_plan(seed, part(2500))?),
         "frames" => hand::run(rt, alloc, frames_plan(seed, part(2000))?),
-        "threads" => threads::run(rt, alloc, seed, part(16_000_000)),
+        "threads" => threads::run(rt, alloc, seed, part(48_000_000)),
         _ => actions::run(alloc, seed, part(120)),
     }
 }
