@@ -97,8 +97,7 @@ fn end_all(
         }
         // Somebody looks on.
         if left % 512 == 0 {
-            let now = store.snapshot();
-            digest.add(now.taken);
+            digest.add_snapshot(&store.snapshot());
         }
     }
     Ok(())

@@ -1,7 +1,8 @@
 //! Counters in a log: what one thread of an engine does with records of its own.
 use crate::digest::Digest;
+use crate::failure::Failure;
 use crate::random::Random;
-use hl::{Fault, Lease, Realm, Session, Task};
+use hl::{Fault, Lease, Realm, Session, Task, View};
 use std::alloc::Global;
 use std::sync::Wait;
 
@@ -58,18 +59,19 @@ impl Counters {
         })
     }
 
-    /// Reads a counter that is drawn at random, or adds to it; each as often.
+    /// Reads a counter that is drawn at random, or adds to it; each as often. The answer is what the thread has seen.
     pub(crate) fn operate<R: Wait, L: Realm, F: Task, P: Pause>(
         &mut self,
         session: &mut Session<R, L, F>,
         pause: &mut P,
-    ) -> Result<(), Fault> {
-        match session.keep_up() {
-            Err(Fault::JournalFull) => refresh(session)?,
-            kept => {
-                kept?;
+    ) -> Result<View, Fault> {
+        let seen = match session.keep_up() {
+            Err(Fault::JournalFull) => {
+                refresh(session)?;
+                session.view()
             }
-        }
+            kept => kept?,
+        };
         let key = self.random.below(self.places.len() as u64);
         let more = if self.random.below(2) == 0 {
             0
@@ -95,7 +97,7 @@ impl Counters {
         if let Some(sum) = self.sums.get_mut(key as usize) {
             *sum = due.wrapping_add(more);
         }
-        Ok(())
+        Ok(seen)
     }
 
     // A new record for a counter.
@@ -147,12 +149,15 @@ impl Counters {
         Ok(())
     }
 
-    /// Mixes in what each counter is by its own account, and whether any was found otherwise.
-    pub(crate) fn tell(&self, digest: &mut Digest) {
+    /// Mixes in what each counter is by its own account. `Unequal` if any was found otherwise.
+    pub(crate) fn tell(&self, digest: &mut Digest) -> Result<(), Failure> {
         for sum in &self.sums {
             digest.add(*sum);
         }
-        digest.add(self.wrong);
+        if self.wrong > 0 {
+            return Err(Failure::Unequal { words: self.wrong });
+        }
+        Ok(())
     }
 }
 

@@ -1,4 +1,4 @@
-use hl::Fault;
+use hl::{Fault, Snapshot, View};
 use std::alloc::Global;
 use std::io;
 use std::io::Write;
@@ -21,6 +21,28 @@ impl Digest {
         self.0 = (self.0 ^ word)
             .wrapping_mul(0x2545_F491_4F6C_DD1D)
             .rotate_left(29);
+    }
+
+    /// With what a thread has seen, folded into one word.
+    pub(crate) fn add_view(&mut self, view: View) {
+        self.add(view.read_only ^ view.head.rotate_left(21) ^ view.tail.rotate_left(42));
+    }
+
+    /// With all quantities of a log.
+    pub(crate) fn add_snapshot(&mut self, now: &Snapshot) {
+        for word in [now.epoch, now.safe, now.protected, now.pending, now.taken] {
+            self.add(word);
+        }
+        let six = now.six;
+        for offset in [six.closed, six.head, six.flushed] {
+            self.add(offset);
+        }
+        for offset in [six.safe_read_only, six.read_only, six.tail] {
+            self.add(offset);
+        }
+        for count in now.frames {
+            self.add(count);
+        }
     }
 
     /// The number.

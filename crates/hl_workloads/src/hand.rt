@@ -1,6 +1,7 @@
 //! A log of one thread, which is its own crew: between its operations it does what a crew's threads do.
 use crate::counters::{Counters, Pause};
 use crate::digest::Digest;
+use crate::failure::Failure;
 use hl::{Ask, Fault, Log, NoJob, Opening, Params, Part, Realm, Rider, Session, Step, with_log};
 use hl_lag::lag_steps;
 use std::alloc::Global;
@@ -19,8 +20,8 @@ pub(crate) struct Plan {
     pub(crate) operations: u64,
 }
 
-/// Makes the turns; the answer is the digest of what they left.
-pub(crate) fn run<R: Wait>(rt: &R, alloc: Global, plan: Plan) -> Result<u64, Fault> {
+/// Makes the turns; the answer is the digest of what was seen meanwhile, and of what they left.
+pub(crate) fn run<R: Wait>(rt: &R, alloc: Global, plan: Plan) -> Result<u64, Failure> {
     let opening = Opening {
         params: plan.params,
         riders: 2,
@@ -40,12 +41,10 @@ pub(crate) fn run<R: Wait>(rt: &R, alloc: Global, plan: Plan) -> Result<u64, Fau
         Ok(closed) => {
             let mut digest = closed.out?;
             let ending = closed.ending?;
-            digest.add(ending.snapshot.six.tail);
-            digest.add(ending.snapshot.six.closed);
-            digest.add(ending.snapshot.epoch);
+            digest.add_snapshot(&ending.snapshot);
             Ok(digest.value())
         }
-        Err(refused) => Err(refused.fault),
+        Err(refused) => Err(refused.fault.into()),
     }
 }
 
@@ -69,23 +68,23 @@ impl Pause for Alone {
 impl<R: Wait> Part<R> for Hand {
     type Job = NoJob;
 
-    type Out = Result<Digest, Fault>;
+    type Out = Result<Digest, Failure>;
 
     fn run<L: Realm + Send + Sync>(
         self,
         rt: &R,
         log: &Log<L, NoJob>,
         riders: Vec<Rider<L>>,
-    ) -> (Result<Digest, Fault>, Vec<Rider<L>>) {
+    ) -> (Result<Digest, Failure>, Vec<Rider<L>>) {
         let mut this = self;
         let mut riders = riders;
         let (Some(flusher), Some(rider)) = (riders.pop(), riders.pop()) else {
-            return (Err(Fault::Size), riders);
+            return (Err(Fault::Size.into()), riders);
         };
         let mut flusher = flusher;
         let mut session = match Session::enter(rt, log, rider) {
             Ok(session) => session,
-            Err(refused) => return (Err(refused.fault), riders),
+            Err(refused) => return (Err(refused.fault.into()), riders),
         };
         let made = this.make_turns(rt, log, &mut session, &mut flusher);
         session.cut();
@@ -95,8 +94,12 @@ impl<R: Wait> Part<R> for Hand {
         };
         let _ = riders.push(rider);
         let _ = riders.push(flusher);
-        this.counters.tell(&mut this.digest);
-        (made.map(|()| this.digest), riders)
+        let told = this.counters.tell(&mut this.digest);
+        let out = match made {
+            Ok(()) => told.map(|()| this.digest),
+            Err(fault) => Err(fault.into()),
+        };
+        (out, riders)
     }
 }
 
@@ -110,7 +113,8 @@ impl Hand {
     ) -> Result<(), Fault> {
         for _ in 0..self.plan.turns {
             for _ in 0..self.plan.operations {
-                self.counters.operate(session, &mut Alone)?;
+                let seen = self.counters.operate(session, &mut Alone)?;
+                self.digest.add_view(seen);
             }
             self.keep_lag(rt, log, flusher)?;
             session.refresh()?;
@@ -118,8 +122,7 @@ impl Hand {
             self.flush(rt, log, flusher)?;
             clean(rt, log, flusher)?;
             let (now, steps, _) = log.snapshot(rt);
-            self.digest.add(now.six.flushed);
-            self.digest.add(now.frames[4]);
+            self.digest.add_snapshot(&now);
             if steps > 1 << 14 {
                 self.digest.add(log.cut(rt, flusher));
             }
@@ -136,7 +139,7 @@ impl Hand {
         flusher: &mut Rider<L>,
     ) -> Result<(), Fault> {
         let (now, _, _) = log.snapshot(rt);
-        self.digest.add(now.six.tail);
+        self.digest.add_snapshot(&now);
         if now.pending > 0 || now.taken > 0 {
             return Ok(());
         }

@@ -11,18 +11,21 @@
 //! | `all` | each of them, a small part |
 //!
 //! Each seed below 2^32 gives another input of the same kind and size. A job is made in whole, or its first SHARE parts of
-//! a thousand. What is printed is a digest of all results.
+//! a thousand. What is printed is a digest of all results; or why there is none, and then the status is 1: a call was
+//! refused, a script's status wasn't 0, or a word wasn't what was due.
 #![tactic(auto)]
 
 mod actions;
 mod counters;
 mod digest;
+mod failure;
 mod hand;
 mod random;
 mod script;
 mod threads;
 
 use crate::digest::{Digest, DigestWriter};
+use crate::failure::Failure;
 use crate::hand::Plan;
 use hl::{Fault, Params};
 use std::alloc::Global;
@@ -55,8 +58,8 @@ fn main(rt: HostRuntime) -> io::Result<ExitCode> {
         }
         match run(&rt, rt.alloc(), name, seed, share) {
             Ok(digest) => println!(rt; "{name} {digest}")?,
-            Err(fault) => {
-                println!(rt; "{name} {fault}")?;
+            Err(failure) => {
+                println!(rt; "{name} {failure}")?;
                 return Ok(ExitCode::from(1));
             }
         }
@@ -79,7 +82,7 @@ fn run<R: Threads + Wait + Clock + Sync>(
     job: &str,
     seed: u64,
     share: u64,
-) -> Result<u64, Fault> {
+) -> Result<u64, Failure> {
     let part = |whole: u64| (whole.saturating_mul(share) / 1000).max(1);
     match job {
         "script" => answer_all(alloc, seed, part(14), 500_000, Form::Fast),
@@ -87,7 +90,7 @@ fn run<R: Threads + Wait + Clock + Sync>(
         "log" => hand::run(rt, alloc, log_plan(seed, part(2500))?),
         "frames" => hand::run(rt, alloc, frames_plan(seed, part(2000))?),
         "threads" => threads::run(rt, alloc, seed, part(48_000_000)),
-        _ => actions::run(alloc, seed, part(120)),
+        _ => Ok(actions::run(alloc, seed, part(120))?),
     }
 }
 
@@ -129,7 +132,7 @@ fn answer_all(
     scripts: u64,
     lines: u64,
     form: Form,
-) -> Result<u64, Fault> {
+) -> Result<u64, Failure> {
     let mut digest = Digest::new();
     for stream in 0..scripts {
         digest.add(answer(alloc, seed, stream, lines, form)?);
@@ -137,8 +140,8 @@ fn answer_all(
     Ok(digest.value())
 }
 
-// The digest of the answers to a script.
-fn answer(alloc: Global, seed: u64, stream: u64, lines: u64, form: Form) -> Result<u64, Fault> {
+// The digest of the answers to a script. `Status` where it doesn't end well.
+fn answer(alloc: Global, seed: u64, stream: u64, lines: u64, form: Form) -> Result<u64, Failure> {
     let text = script::text(alloc, seed, stream, lines)?;
     let mut writer = DigestWriter::new(alloc)?;
     let mut output = BufWriter::new(alloc, &mut writer).map_err(|_| Fault::OutOfMemory)?;
@@ -149,5 +152,8 @@ fn answer(alloc: Global, seed: u64, stream: u64, lines: u64, form: Form) -> Resu
         Form::Slow => hl_commands::slow(alloc, &mut reader, &mut output, &mut errors),
     };
     drop(output);
-    Ok(writer.finish().wrapping_add(u64::from(status)))
+    if status != 0 {
+        return Err(Failure::Status(status));
+    }
+    Ok(writer.finish())
 }

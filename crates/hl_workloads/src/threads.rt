@@ -1,6 +1,7 @@
 //! A log of two threads beside a crew, with fewer frames than their records want.
 use crate::counters::{Counters, Pause};
 use crate::digest::Digest;
+use crate::failure::Failure;
 use hl::{Duty, Fault, NoJob, Opening, Params, Realm, Session, Work, with_threads};
 use std::alloc::Global;
 use std::sync::Wait;
@@ -34,7 +35,7 @@ pub(crate) fn run<R: Threads + Wait + Clock + Sync>(
     alloc: Global,
     seed: u64,
     operations: u64,
-) -> Result<u64, Fault> {
+) -> Result<u64, Failure> {
     let params = Params::checked(4096, 64, THREADS, 16).ok_or(Fault::Size)?;
     let opening = Opening {
         params,
@@ -75,21 +76,22 @@ impl<R: Wait + Clock> Pause for Nap<'_, R> {
 impl<R: Wait + Clock> Work<R> for Counting {
     type Job = NoJob;
 
-    type Out = Result<u64, Fault>;
+    type Out = Result<u64, Failure>;
 
     fn run<L: Realm + Send + Sync>(
         &self,
         rt: &R,
         session: &mut Session<R, L>,
         number: u64,
-    ) -> Result<u64, Fault> {
+    ) -> Result<u64, Failure> {
         let mut counters = Counters::new(self.alloc, self.seed, number, COUNTERS, PIECE)?;
         let mut nap = Nap { rt };
         for _ in 0..self.operations {
+            // What it sees depends on the schedule, and isn't told.
             counters.operate(session, &mut nap)?;
         }
         let mut digest = Digest::new();
-        counters.tell(&mut digest);
+        counters.tell(&mut digest)?;
         session.cut();
         Ok(digest.value())
     }
