@@ -11,10 +11,14 @@
 //!
 //! `hl_pace idle SECONDS` makes no call: a thread sleeps that long in its slot, beside a crew that
 //! serves and has nothing to do. What the process uses meanwhile is what such a crew costs.
+//!
+//! `hl_pace rings ROUNDS` prints for how many microseconds in all a thread filled pages beside a crew that had been idle:
+//! with the crew woken at each `Busy`, and with the crew left to wake by itself. It does each so many times.
 #![tactic(auto)]
 
 mod calls;
 mod idle;
+mod rings;
 mod threads;
 mod work;
 
@@ -23,12 +27,23 @@ use std::process::ExitCode;
 use std::{env, io};
 
 const USAGE: &[u8] =
-    b"usage: hl_pace KIND THREADS CALLS [PAGE FRAMES SLOTS ACTIONS], with KIND lock|refresh|allocate|store|load|look|add|lease|keep_up|load_beside|cut\n       hl_pace idle SECONDS\n";
+    b"usage: hl_pace KIND THREADS CALLS [PAGE FRAMES SLOTS ACTIONS], with KIND lock|refresh|allocate|store|load|look|add|lease|keep_up|load_beside|cut\n       hl_pace idle SECONDS\n       hl_pace rings ROUNDS\n";
 
 fn main(rt: HostRuntime) -> io::Result<ExitCode> {
     let words = env::args(&rt)?.collect::<Vec<String>>(rt.alloc())?;
     let accepted = if let Some(seconds) = idle::read(&words) {
         idle::run(&rt, rt.alloc(), seconds).is_ok()
+    } else if let Some(rounds) = rings::read(&words) {
+        match rings::run(&rt, rt.alloc(), rounds) {
+            Ok(waited) => {
+                println!(rt; "{} {}", waited.rung, waited.left)?;
+                true
+            }
+            Err(fault) => {
+                eprintln!(rt; "{fault}")?;
+                false
+            }
+        }
     } else if let Some(work) = work::read(&words) {
         match threads::run(&rt, rt.alloc(), work) {
             Ok(accepted) => accepted,
