@@ -1,13 +1,12 @@
 ghost use Rattle.std.specs.Prelude.{◌≡◌};
 
 use hl_model::Fault;
+use std::error::Error;
 use std::fmt;
-use thiserror::Error;
 
-/// A refused call's fault, and the value that the call was handed. It is displayed as its fault.
-#[derive(Drop, Error)]
-#[error_bound(T: Drop)]
-#[error("{fault}")]
+/// A refused call's fault, and the value that the call was handed. It is displayed as its fault, whatever the value
+/// is: a session or a job that ran must not be dropped, and a refusal of one can be shown.
+#[derive(Drop)]
 pub struct Refused<T> {
     /// Why it was refused.
     pub fault: Fault,
@@ -20,6 +19,14 @@ impl<T> fmt::Debug for Refused<T> {
         write!(f, "{:?}", self.fault)
     }
 }
+
+impl<T> fmt::Display for Refused<T> {
+    fn fmt<W: fmt::Write>(&self, f: &mut fmt::Formatter<W>) -> fmt::Result {
+        write!(f, "{}", self.fault)
+    }
+}
+
+impl<T: Drop> Error for Refused<T> {}
 
 /// The fault alone; the value is dropped.
 impl<T: Drop> From<Refused<T>> for Fault {

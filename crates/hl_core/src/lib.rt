@@ -34,7 +34,8 @@
 //! [`Core::base_into`] writes the quantities into a [`Base`](hl_laws::Base): what is left of a list of steps when it
 //! is cut, without jobs. What a slot saw, a ticket that waits or is taken, a page's marks: each has its row there, and
 //! the base is the one that hl_model defines for the list at which the core stands. So later steps may be judged from
-//! the base, and the steps up to it need not be kept. The base asks for them one by one, and keeps its own rows.
+//! the base, and the steps up to it need not be kept. The base keeps rows of its own: slots and waiting actions are
+//! asked for one by one, and the rows of taken actions and of frames are lent to it and copied.
 //!
 //! # Standing at a list
 //!

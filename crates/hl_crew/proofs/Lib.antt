@@ -6,3 +6,4 @@ pub mod TryLaws
 pub mod FlushLaws
 pub mod RunLaws
 pub mod OverLaws
+pub mod WaitLaws

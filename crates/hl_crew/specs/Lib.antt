@@ -9,4 +9,5 @@ pub mod Pouches
 pub mod Runs
 pub mod Tries
 pub mod Turns
+pub mod Waits
 pub mod Writes

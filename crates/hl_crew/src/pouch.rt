@@ -2,6 +2,7 @@ ghost use Rattle.std.specs.Prelude.{◌≡◌, ℕ, ◌+◌, ◌<◌, Some, None
 ghost use Rattle.hl_model.specs.declared.fault.Fault.TheVariants.{NotInFlight};
 ghost use Rattle.hl_crew.specs.Pouches.{is_of, load_count, Puts, Answers};
 ghost use Rattle.hl_crew.specs.Tries.{EndsFlush};
+ghost use Rattle.hl_crew.specs.Waits.{Waits};
 
 use hl_action::{Promise, Task};
 use hl_domain::{Domain, Load};
@@ -70,6 +71,7 @@ impl Pouch {
             (λ stamp. EndsFlush F domain.now page ok stamp result rider.old rider.new) }
         ensures fewer { OnOk result (load_count self.new + 1 ≡ load_count self.old) }
         ensures refused { OnErr result (self.new ≡ self.old) }
+        ensures waits { OnErr result (Waits rider.old rider.new) }
     {
         let Some(at) = self.place_of(page) else {
             return Err(Fault::NotInFlight);

@@ -13,8 +13,9 @@
 //! Whatever code a job is, its type promises [`Sum`]: it answers its tag + its ticket. That is why the text is a
 //! function of the tags, and not of the jobs.
 //!
-//! [`slow_text`] writes the same text in the slow form: it keeps the list of accepted steps and computes each answer
-//! from it. It has no jobs: the tags below a number count as having one.
+//! [`slow_text`] writes the same text in the slow form, which keeps the list of accepted steps: it computes each answer
+//! from a base after all but the last of them and from those behind it. It has no jobs: the tags below a number count
+//! as having one.
 //!
 //! [`run_text_within`] and [`slow_text_within`] do so in at most so many reads as their caller allows, the others in
 //! 2^32.

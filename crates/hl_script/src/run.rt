@@ -106,9 +106,9 @@ pub fn run_text_within<E: Epochs + Drop, F: Task, R: Read, W: Write>(
     }))
 }
 
-/// Writes the text of the script that the reader gives, in the slow form: each answer is computed from the list of
-/// accepted steps. The tags below `tags`, which is at most 2^62, have a job. The answer is how many steps were
-/// accepted, None where there was no line.
+/// Writes the text of the script that the reader gives, in the slow form: each answer is computed from a base after
+/// all but the last accepted steps, and from those behind it. The tags below `tags`, which is at most 2^62, have a
+/// job. The answer is how many steps were accepted, None where there was no line.
 ///
 /// - `BadLine` and `Stream` as for [`run_text`].
 /// - `OutOfMemory` where memory was refused, at line 1 or at a step: the text of the lines before was written.

@@ -1,8 +1,9 @@
-use Rattle.std.proofs.Common.{◌+◌, ◌∙◌, sym, ap, Some}
+use Rattle.std.proofs.Common.{◌+◌, ◌∙◌, refl, sym, ap, Some}
 use Rattle.std.specs.Prelude.{None, slice_set}
 use Rattle.std.proofs.lemmas.List.Quantifiers.{position-Some}
 use Rattle.hl_crew.specs.Pouches.{load_count, is_of}
 use Rattle.hl_crew.proofs.PouchLaws.{told_at, put_back, not_free, taken_out}
+use Rattle.hl_crew.proofs.WaitLaws.{waits_one, waits_same}
 use Rattle.hl_crew.proofs.pouch.Pouch.answer.Goals as goal
 
 pub unreachable-requires : goal.unreachable-requires
@@ -39,3 +40,9 @@ returns-in-Err-clause-refused g c =
     let put = ap (λ job. slice_set c.take.new.self at (Some job)) c.in-Err.ensures.refused in
     let taken = ap (λ places. slice_set places at (Some job)) c.in-Some-take.ensures.after in
     c.set.ensures ∙ put ∙ taken ∙ put_back c.args.self.now at job c.in-Some-take.ensures.value
+
+pub returns-in_default-clause-waits : goal.returns-in_default-clause-waits
+returns-in_default-clause-waits g c = waits_same refl
+
+pub returns-in-Err-clause-waits : goal.returns-in-Err-clause-waits
+returns-in-Err-clause-waits g c = waits_one c.in-Err.ensures.met

@@ -1,0 +1,21 @@
+-- Calls that entered nothing.
+use Rattle.std.proofs.Common.{◌≡◌, ℕ, ◌+◌, [], ◌∷◌, refl, ap, ◌∙◌, arith}
+use Rattle.hl_history.specs.Lists.{entry}
+use Rattle.hl_words.specs.States.{RiderState}
+use Rattle.hl_keeper.specs.Keepers.{KeeperState}
+use Rattle.hl_domain.specs.Domains.{DomainState, LeavesUnderLock, no_step}
+use Rattle.hl_crew.specs.Waits.{Waits}
+
+-- a rider that made no call
+pub waits_same : {old new : RiderState} → new ≡ old → Waits old new
+waits_same same = record { more = []; empty = tt; is = same }
+
+-- a rider that made one
+pub waits_one : {F : Type 0} {domain : DomainState} {H : KeeperState F → KeeperState F → Type 0} {old new : RiderState} → LeavesUnderLock F domain (no_step old new) H → Waits old new
+waits_one {old} left =
+    let same : old.share + 0 ≡ old.share = omega arith in
+    record {
+      more = entry left.list [] ∷ [];
+      empty = (refl, tt);
+      is = left.entered ∙ ap (λ (n : ℕ). record { view = old.view; share = n; calls = entry left.list [] ∷ old.calls }) same;
+    }
