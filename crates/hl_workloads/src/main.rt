@@ -1,4 +1,4 @@
-//! Jobs that users of hl wait for, for `bench/run` to time: `hl_workloads JOB SEED [SHARE]`.
+//! Jobs that users of hl wait for, for `bench/run` to time: `hl_workloads JOB SEED [SHARE|small]`.
 //!
 //! | Job | What it is |
 //! |---|---|
@@ -11,7 +11,8 @@
 //! | `all` | each of them, a small part |
 //!
 //! Each seed below 2^32 gives another input of the same kind and size. A job is made in whole, or its first SHARE parts of
-//! a thousand. What is printed is a digest of all results; or why there is none, and then the status is 1: a call was
+//! a thousand: one script at least, of `script` and `slow`, and one turn or round of the others. `small` is less than that,
+//! for who counts a job's instructions: a shorter script, and turns and rounds of each kind. What is printed is a digest of all results; or why there is none, and then the status is 1: a call was
 //! refused, a script's status wasn't 0, or a word wasn't what was due.
 #![tactic(auto)]
 
@@ -37,7 +38,7 @@ use std::time::Clock;
 use std::{env, io};
 
 const USAGE: &[u8] =
-    b"usage: hl_workloads script|slow|log|frames|threads|actions|all SEED [SHARE]\n";
+    b"usage: hl_workloads script|slow|log|frames|threads|actions|all SEED [SHARE|small]\n";
 
 const JOBS: [&str; 6] = ["script", "slow", "log", "frames", "threads", "actions"];
 
@@ -45,10 +46,10 @@ fn main(rt: HostRuntime) -> io::Result<ExitCode> {
     let words = env::args(&rt)?.collect::<Vec<String>>(rt.alloc())?;
     let asked = (
         words.get(1),
-        number_of(words.get(2), None),
-        number_of(words.get(3), Some(1000)),
+        number_of(words.get(2)),
+        amount_of(words.get(3)),
     );
-    let (Some(job), Some(seed), Some(share)) = asked else {
+    let (Some(job), Some(seed), Some(amount)) = asked else {
         rt.stderr().write_all(USAGE)?;
         return Ok(ExitCode::from(2));
     };
@@ -56,7 +57,7 @@ fn main(rt: HostRuntime) -> io::Result<ExitCode> {
         if job.as_str() != "all" && job.as_str() != name {
             continue;
         }
-        match run(&rt, rt.alloc(), name, seed, share) {
+        match run(&rt, rt.alloc(), name, seed, amount) {
             Ok(digest) => println!(rt; "{name} {digest}")?,
             Err(failure) => {
                 println!(rt; "{name} {failure}")?;
@@ -67,30 +68,72 @@ fn main(rt: HostRuntime) -> io::Result<ExitCode> {
     Ok(ExitCode::from(0))
 }
 
-// The number that a word spells, or the one that is meant if there is no word.
-fn number_of(word: Option<&String>, left_out: Option<u64>) -> Option<u64> {
-    match word {
-        Some(word) => word.parse().ok(),
-        None => left_out,
+// The number that a word spells.
+fn number_of(word: Option<&String>) -> Option<u64> {
+    word?.parse().ok()
+}
+
+/// How much of a job is made.
+#[derive(Clone, Copy)]
+enum Amount {
+    /// So many parts of a thousand.
+    Parts(u64),
+    /// Less than one of them.
+    Small,
+}
+
+impl Amount {
+    // How many scripts, turns or rounds of a job that has this many in whole.
+    fn of(self, whole: u64, small: u64) -> u64 {
+        match self {
+            Amount::Parts(parts) => (whole.saturating_mul(parts) / 1000).max(1),
+            Amount::Small => small,
+        }
+    }
+
+    // How many lines each script has.
+    fn lines(self, whole: u64, small: u64) -> u64 {
+        match self {
+            Amount::Parts(_) => whole,
+            Amount::Small => small,
+        }
     }
 }
 
-// So many parts of a thousand of a job.
+// How much a word asks for: all, if there is none.
+fn amount_of(word: Option<&String>) -> Option<Amount> {
+    match word {
+        None => Some(Amount::Parts(1000)),
+        Some(word) if word.as_str() == "small" => Some(Amount::Small),
+        Some(word) => Some(Amount::Parts(word.parse().ok()?)),
+    }
+}
+
+// A job, or as much of it.
 fn run<R: Threads + Wait + Clock + Sync>(
     rt: &R,
     alloc: Global,
     job: &str,
     seed: u64,
-    share: u64,
+    amount: Amount,
 ) -> Result<u64, Failure> {
-    let part = |whole: u64| (whole.saturating_mul(share) / 1000).max(1);
+    let fast = Scripts {
+        count: amount.of(14, 1),
+        lines: amount.lines(500_000, 20_000),
+        form: Form::Fast,
+    };
+    let slow = Scripts {
+        count: amount.of(3, 1),
+        lines: amount.lines(4000, 2000),
+        form: Form::Slow,
+    };
     match job {
-        "script" => answer_all(alloc, seed, part(14), 500_000, Form::Fast),
-        "slow" => answer_all(alloc, seed, part(3), 4000, Form::Slow),
-        "log" => hand::run(rt, alloc, log_plan(seed, part(2500))?),
-        "frames" => hand::run(rt, alloc, frames_plan(seed, part(2000))?),
-        "threads" => threads::run(rt, alloc, seed, part(48_000_000)),
-        _ => Ok(actions::run(alloc, seed, part(120))?),
+        "script" => answer_all(alloc, seed, fast),
+        "slow" => answer_all(alloc, seed, slow),
+        "log" => hand::run(rt, alloc, log_plan(seed, amount.of(2500, 20))?),
+        "frames" => hand::run(rt, alloc, frames_plan(seed, amount.of(2000, 40))?),
+        "threads" => threads::run(rt, alloc, seed, amount.of(48_000_000, 20_000)),
+        _ => Ok(actions::run(alloc, seed, amount.of(120, 4))?),
     }
 }
 
@@ -125,27 +168,30 @@ enum Form {
     Slow,
 }
 
-// The digest of the answers to so many scripts, each of so many lines.
-fn answer_all(
-    alloc: Global,
-    seed: u64,
-    scripts: u64,
+/// Scripts to be answered.
+#[derive(Clone, Copy)]
+struct Scripts {
+    count: u64,
+    /// About how many lines each has.
     lines: u64,
     form: Form,
-) -> Result<u64, Failure> {
+}
+
+// The digest of the answers to all of them.
+fn answer_all(alloc: Global, seed: u64, scripts: Scripts) -> Result<u64, Failure> {
     let mut digest = Digest::new();
-    for stream in 0..scripts {
-        digest.add(answer(alloc, seed, stream, lines, form)?);
+    for stream in 0..scripts.count {
+        let text = script::text(alloc, seed, stream, scripts.lines)?;
+        digest.add(answer(alloc, text.as_slice(), scripts.form)?);
     }
     Ok(digest.value())
 }
 
 // The digest of the answers to a script. `Status` where it doesn't end well.
-fn answer(alloc: Global, seed: u64, stream: u64, lines: u64, form: Form) -> Result<u64, Failure> {
-    let text = script::text(alloc, seed, stream, lines)?;
+fn answer(alloc: Global, text: &[u8], form: Form) -> Result<u64, Failure> {
     let mut writer = DigestWriter::new(alloc)?;
     let mut output = BufWriter::new(alloc, &mut writer).map_err(|_| Fault::OutOfMemory)?;
-    let mut reader = text.as_slice();
+    let mut reader = text;
     let mut errors = Vec::new(alloc);
     let status = match form {
         Form::Fast => hl_commands::run(alloc, false, &mut reader, &mut output, &mut errors),
