@@ -35,6 +35,7 @@ struct Seen {
 #[derive(Drop)]
 pub(crate) struct Script {
     text: Vec<u8>,
+    row: [u8; ROW],
     random: Random,
     seen: [Seen; 16],
     tail: u64,
@@ -58,6 +59,7 @@ pub(crate) fn text(alloc: Global, seed: u64, stream: u64, lines: u64) -> Result<
     };
     let mut script = Script {
         text: Vec::with_capacity(alloc, room as usize).map_err(|_| Fault::OutOfMemory)?,
+        row: [b' '; ROW],
         random: Random::of(seed, stream),
         seen: [none; 16],
         tail: 0,
@@ -69,8 +71,8 @@ pub(crate) fn text(alloc: Global, seed: u64, stream: u64, lines: u64) -> Result<
         flushed: 0,
         cleaned: 0,
     };
-    script.line("config", &[PAGE, FRAMES, SLOTS, PLACES])?;
-    script.all("acquire")?;
+    script.line(b"config", [PAGE, FRAMES, SLOTS, PLACES])?;
+    script.all(b"acquire")?;
     for _ in 0..lines.saturating_mul(7) / 8 {
         script.one_line()?;
         if script.tail.saturating_sub(script.read_only) > 16 * PAGE {
@@ -81,33 +83,43 @@ pub(crate) fn text(alloc: Global, seed: u64, stream: u64, lines: u64) -> Result<
 }
 
 impl Script {
-    // A word, numbers behind it, and an LF. It is made from its end, where the digits of a number come out, so that making
-    // the text takes little of the job's time.
-    fn line(&mut self, word: &str, numbers: &[u64]) -> Result<(), Fault> {
-        self.line_with(word, numbers, "\n")
+    // A word, numbers behind it, and an LF. It is made in a row from its end, where the digits of a number come out, and
+    // words have lengths that the compiler knows, so that making the text takes little of the job's time.
+    fn line<const N: usize, const M: usize>(
+        &mut self,
+        word: &[u8; N],
+        numbers: [u64; M],
+    ) -> Result<(), Fault> {
+        self.line_with(word, numbers, b"\n")
     }
 
     // The same with this end.
+    #[inline(always)]
     #[tactic(auto, using(crate::proofs::Digits::decimal_short))]
-    fn line_with(&mut self, word: &str, numbers: &[u64], end: &str) -> Result<(), Fault> {
-        let mut row = [b' '; ROW];
-        let mut from = put_before(&mut row, ROW, end)?;
-        for number in numbers.iter().rev() {
+    fn line_with<const N: usize, const M: usize, const K: usize>(
+        &mut self,
+        word: &[u8; N],
+        numbers: [u64; M],
+        end: &[u8; K],
+    ) -> Result<(), Fault> {
+        let mut from = put_before(&mut self.row, ROW, end)?;
+        for number in numbers.as_slice().iter().rev() {
             if !(21..=ROW).contains(&from) {
                 return Err(Fault::Size);
             }
-            from = write_digits(*number, &mut row, from).saturating_sub(1);
+            from = write_digits(*number, &mut self.row, from);
+            from = put_before(&mut self.row, from, b" ")?;
         }
-        from = put_before(&mut row, from, word)?;
+        from = put_before(&mut self.row, from, word)?;
         self.text
-            .extend_from_slice(row.get(from..).unwrap_or(&[]))
+            .extend_from_slice(self.row.get(from..).unwrap_or(&[]))
             .map_err(|_| Fault::OutOfMemory)
     }
 
     // A line of each slot, which then has seen the offsets as they are.
-    fn all(&mut self, word: &str) -> Result<(), Fault> {
+    fn all<const N: usize>(&mut self, word: &[u8; N]) -> Result<(), Fault> {
         for slot in 0..SLOTS {
-            self.line(word, &[slot])?;
+            self.line(word, [slot])?;
             self.sees_all(slot);
         }
         Ok(())
@@ -129,22 +141,22 @@ impl Script {
             250..480 => {
                 let address = self.random.between(read_only, tail);
                 let word = self.random.next();
-                self.line("write", &[t, address, word])
+                self.line(b"write", [t, address, word])
             }
             480..760 => {
                 let address = self.random.between(self.head, tail);
-                self.line("read", &[t, address])
+                self.line(b"read", [t, address])
             }
             760..900 => {
                 self.sees_all(t);
-                self.line("refresh", &[t])
+                self.line(b"refresh", [t])
             }
-            900..950 => self.line("look", &[t, self.read_only, self.head]),
-            950..970 => self.line("take", &[]),
+            900..950 => self.line(b"look", [t, self.read_only, self.head]),
+            950..970 => self.line(b"take", []),
             970..980 => self.bump(),
-            980..995 => self.line("status", &[]),
-            995..999 => self.line("pending", &[]),
-            _ => self.line("frames", &[]),
+            980..995 => self.line(b"status", []),
+            995..999 => self.line(b"pending", []),
+            _ => self.line(b"frames", []),
         }
     }
 
@@ -161,7 +173,7 @@ impl Script {
         if let Some(seen) = self.seen.get_mut(t as usize) {
             seen.tail = self.tail;
         }
-        self.line("alloc", &[t, words])
+        self.line(b"alloc", [t, words])
     }
 
     // A bump with the next job; there are a thousand.
@@ -170,39 +182,39 @@ impl Script {
             self.epoch = self.epoch.saturating_add(1);
         }
         self.tag = self.tag.saturating_add(1);
-        self.line("bump", &[self.tag.saturating_sub(1)])
+        self.line(b"bump", [self.tag.saturating_sub(1)])
     }
 
     // The read-only offset and the head follow the tail; pages are flushed and cleaned behind them.
     fn keep_lag(&mut self) -> Result<(), Fault> {
         let pages = self.tail / PAGE;
         self.read_only = pages.saturating_sub(MUTABLE).saturating_mul(PAGE);
-        self.line("raise", &[self.read_only])?;
-        self.settle("settle")?;
+        self.line(b"raise", [self.read_only])?;
+        self.settle(b"settle")?;
         self.flush()?;
         let resident = pages.saturating_sub(RESIDENT);
         if resident <= self.cleaned {
             return Ok(());
         }
         self.head = resident.saturating_mul(PAGE);
-        self.line("shift", &[self.head])?;
-        self.settle("close")?;
+        self.line(b"shift", [self.head])?;
+        self.settle(b"close")?;
         for page in self.cleaned..resident {
-            self.line("clean take", &[])?;
-            self.line("clean done", &[page])?;
+            self.line(b"clean take", [])?;
+            self.line(b"clean done", [page])?;
         }
         self.cleaned = resident;
         Ok(())
     }
 
     // Bumps, lets all slots refresh, and carries out all that waits.
-    fn settle(&mut self, word: &str) -> Result<(), Fault> {
-        self.line(word, &[])?;
+    fn settle<const N: usize>(&mut self, word: &[u8; N]) -> Result<(), Fault> {
+        self.line(word, [])?;
         self.epoch = self.epoch.saturating_add(1);
-        self.all("refresh")?;
+        self.all(b"refresh")?;
         for ticket in self.oldest..self.epoch {
-            self.line("take", &[])?;
-            self.line("done", &[ticket])?;
+            self.line(b"take", [])?;
+            self.line(b"done", [ticket])?;
         }
         self.oldest = self.epoch;
         Ok(())
@@ -214,14 +226,14 @@ impl Script {
         for _ in self.flushed..sealed {
             let end = self.flushed.saturating_add(OUT).min(sealed);
             for _ in self.flushed..end {
-                self.line("flush take", &[])?;
+                self.line(b"flush take", [])?;
             }
             for page in (self.flushed..end).rev() {
                 if self.random.below(16) == 0 {
-                    self.line_with("flush done", &[page], " failed\n")?;
-                    self.line("flush take", &[])?;
+                    self.line_with(b"flush done", [page], b" failed\n")?;
+                    self.line(b"flush take", [])?;
                 }
-                self.line_with("flush done", &[page], " ok\n")?;
+                self.line_with(b"flush done", [page], b" ok\n")?;
             }
             self.flushed = end;
         }
@@ -229,11 +241,16 @@ impl Script {
     }
 }
 
-// Puts a word before this place of a row. The answer is where it begins.
-fn put_before(row: &mut [u8; ROW], end: usize, word: &str) -> Result<usize, Fault> {
-    let from = end.checked_sub(word.len()).ok_or(Fault::Size)?;
+// Puts some bytes before this place of a row. The answer is where they begin.
+#[inline(always)]
+fn put_before<const N: usize>(
+    row: &mut [u8; ROW],
+    end: usize,
+    bytes: &[u8; N],
+) -> Result<usize, Fault> {
+    let from = end.checked_sub(N).ok_or(Fault::Size)?;
     if let Some(place) = row.get_mut(from..end) {
-        place.copy_from_slice(word.as_bytes());
+        place.copy_from_slice(bytes);
     }
     Ok(from)
 }
