@@ -359,6 +359,8 @@ class Core {
         if (six.number != 0) return detail::refused(six.number);
         return detail::offsets_of(six);
     }
+    /// The old name of offsets().
+    [[nodiscard]] [[deprecated("use offsets()")]] Result<Offsets> six() { return offsets(); }
     [[nodiscard]] Result<Snapshot> snapshot() {
         hl_quantities all = detail::ask(hl_snapshot, at_.get());
         if (all.number != 0) return detail::refused(all.number);

@@ -8,6 +8,7 @@
 #include <cstdint>
 #include <exception>
 #include <optional>
+#include <type_traits>
 #include <utility>
 #include <variant>
 #if __has_include(<version>)
@@ -151,7 +152,9 @@ template <class T> class [[nodiscard]] Result {
     explicit operator bool() const noexcept { return has_value(); }
     T &operator*() &noexcept { return *std::get_if<0>(&held_); }
     const T &operator*() const &noexcept { return *std::get_if<0>(&held_); }
-    T operator*() && { return std::move(*std::get_if<0>(&held_)); }
+    T operator*() &&noexcept(std::is_nothrow_move_constructible<T>::value) {
+        return std::move(*std::get_if<0>(&held_));
+    }
     T *operator->() noexcept { return std::get_if<0>(&held_); }
     const T *operator->() const noexcept { return std::get_if<0>(&held_); }
     const Refusal &error() const noexcept { return *std::get_if<1>(&held_); }

@@ -354,6 +354,8 @@ class Log {
         std::lock_guard<std::mutex> lock(shared_->mutex);
         return *shared_->core.offsets();
     }
+    /// The old name of offsets().
+    [[deprecated("use offsets()")]] Offsets six() { return offsets(); }
     Snapshot snapshot() {
         std::lock_guard<std::mutex> lock(shared_->mutex);
         return *shared_->core.snapshot();

@@ -1,4 +1,4 @@
-// The error of each misuse by hl.hpp and hl_log.hpp.
+// The error of each misuse by hl.hpp and hl_log.hpp, and what a program that was written for older headers still finds.
 #include "hl_log.hpp"
 
 #include <cstdio>
@@ -14,6 +14,11 @@ template <class T>
 struct gives_slots<T, std::void_t<decltype(std::declval<T>().acquire(hl::Word{0}))>> : std::true_type {};
 static_assert(gives_slots<hl::Log &>::value && !gives_slots<hl::Log>::value, "a pass of a log that goes away");
 static_assert(gives_slots<hl::Core &>::value && !gives_slots<hl::Core>::value, "a slot of a core that goes away");
+
+// Whether the value of an answer that goes away at once is given without an exception.
+template <class... T> constexpr bool gives_quietly = (noexcept(*std::declval<hl::Result<T>>()) && ...);
+static_assert(gives_quietly<hl::Word, hl::Sizes, hl::Offsets, hl::Snapshot, hl::Lag>, "a plain value of an answer");
+static_assert(gives_quietly<hl::Core, hl::Slot, hl::Log, hl::Pass, hl::Flush, hl::Clean>, "a value that only moves");
 
 /// An answer is to be this fault.
 template <class T> static void wants(const char *name, const hl::Result<T> &told, hl::Fault fault) {
@@ -130,6 +135,27 @@ static void a_log() {
     is("the log that it was moved to", other.snapshot().epoch == 1);
 }
 
+static bool same(const hl::Offsets &x, const hl::Offsets &y) {
+    return x.closed == y.closed && x.head == y.head && x.flushed == y.flushed && x.safe_read_only == y.safe_read_only &&
+           x.read_only == y.read_only && x.tail == y.tail;
+}
+
+// The old name of offsets() answers as it does.
+#pragma GCC diagnostic push
+#pragma GCC diagnostic ignored "-Wdeprecated-declarations"
+static void old_name() {
+    hl::Core one = core();
+    is("a record and a raise", one.acquire(0)->allocate(3).value() == 0 && one.raise(2).value() == 2);
+    is("offsets of a core by the old name", same(one.six().value(), one.offsets().value()) && one.six()->tail == 3);
+    hl::Core other = std::move(one);
+    wants("the same of a core that was moved", one.six(), hl::Fault::NoCore);
+    hl::Log log = hl::Log::open(hl::Sizes::checked(4, 2, 1, 1).value()).value();
+    hl::Pass pass = log.acquire(0).value();
+    is("a record and a raise of a log", pass.allocate(3).value() == 0 && log.raise(2).value() == 2);
+    is("offsets of a log by the old name", same(log.six(), log.offsets()) && log.six().tail == 3);
+}
+#pragma GCC diagnostic pop
+
 static void thrown() {
     bool caught = false;
     try {
@@ -147,6 +173,7 @@ int main() {
     slots();
     out_of_place();
     a_log();
+    old_name();
     thrown();
     std::printf("misuse in C++: %d wrong\n", wrong);
     return wrong != 0;
