@@ -51,6 +51,7 @@ fn prints_each_fault_as_it_is_displayed(rt: HostRuntime) -> Result<(), Fail> {
         (Fault::OutOfMemory, "fault 29 OutOfMemory"),
         (Fault::BadLine { n: 2 }, "fault 30 BadLine n 2"),
         (Fault::Stream, "fault 31 Stream"),
+        (Fault::WindowFull, "fault 32 WindowFull"),
     ];
     for (fault, text) in faults {
         assert_eq!(rt; print_fault(&fault).as_str(), text);
