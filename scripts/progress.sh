@@ -1,4 +1,4 @@
-# How far a proof of many crates is, and about how many minutes are left: scripts/prove sources this. Each crate has a
+# How far a proof of many crates is, and about how many minutes are left: scripts/prove and scripts/check source this. Each crate has a
 # weight, the seconds that its proof took one core of one machine. What was proved so far tells how long this machine
 # takes for such a second; what is left takes as long as its work by all jobs, or as its longest chain of crates.
 

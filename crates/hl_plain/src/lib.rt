@@ -46,9 +46,10 @@
 //! below are flushed there. Only the word of a read is looked for in all steps.
 //!
 //! The next near base is computed by looking at these steps for each slot and each frame. Spread over these
-//! steps, that is a pass over the slots, frames and actions for each: no more than a look through all steps,
-//! once there are as many of them. With fewer it is cheaper to look through all, so the first near base stays
-//! until then. From then on each sixteenth step computes the next one.
+//! steps, that is a pass over the slots, frames and actions for each: in order of time a look through all
+//! steps, once there are as many of them. With fewer it is cheaper to look through all, so the first near
+//! base stays until then. The step that leaves it takes more than all before it together, if these were
+//! cheap. From then on each sixteenth step computes the next one.
 //!
 //! # Memory
 //!

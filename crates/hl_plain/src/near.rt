@@ -110,9 +110,9 @@ impl Near {
     /// Goes on to the base after all steps, where 16 or more lie behind it and there are as many in all as
     /// there are slots, frames and places for actions together.
     ///
-    /// Spread over the steps behind it, that costs each a pass over the slots, frames and actions: no more
-    /// than a look through all steps, once there are as many of them. With fewer it is cheaper to look
-    /// through all.
+    /// Spread over the steps behind it, that costs each a pass over the slots, frames and actions: in order of
+    /// time a look through all steps, once there are as many of them. With fewer it is cheaper to look through
+    /// all.
     pub fn keep_near(&mut self, steps: &[Step])
         requires { IsNear steps.now self.old }
         ensures near { IsNear steps.now self.new }
