@@ -27,7 +27,7 @@ use Rattle.hl_keeper.specs.Calls.{Replied, Stays, made, entered, without_back}
 use Rattle.hl_keeper.specs.Endings.{EndingState}
 use Rattle.hl_keeper.specs.Stores.{stores_of}
 use Rattle.hl_keeper.proofs.KeeperLaws.{counted}
-use Rattle.hl_domain.specs.Domains.{DomainState, Setup, setup_of, IsAt, HeldState, IsHeld, Call, LeavesUnderLock, IsEnding, no_step, answered, steps_if, with_held}
+use Rattle.hl_domain.specs.Domains.{DomainState, Setup, setup_of, IsAt, HeldState, IsHeld, Call, LeavesUnderLock, LeavesHeld, IsEnding, no_step, answered, steps_if, with_held}
 
 -- the list that a call leaves has the steps of its answer behind the one that it met
 list_of_made : {X : Type 0} (fault : Option Fault) (x : X) (result : Result X Fault) (A : List Step) (s : Step) → result ≡ unless_fault fault x → made fault A s ≡ A ++ steps_if result (s ∷ [])
@@ -212,6 +212,34 @@ call_left {A} {old} {new} {mid} call result m grows noted rises holds = record {
   entered = noted ∙ ap (λ z. with_call (entry A z) mid) (steps_behind m) ∙ ap (with_call (entry A (steps_if result (call.steps A)))) grows;
   rises = subst (λ (r : RiderState). IsOf A r.calls) grows rises;
   holds = holds;
+}
+
+-- likewise of what lies under the lock, where the list has the journal's new steps behind it
+pub call_held : {F X : Type 0} {setup : Setup} {A journal list : List Step} {old new : KeeperState F} {mid : RiderState} {Holds : KeeperState F → KeeperState F → Type 0} (call : Call) (result : Result X Fault)
+    → Moved setup A (steps_if result (call.steps A)) journal old new → mid ≡ with_share (length (steps_if result (call.steps A))) call.old
+    → list ≡ A ++ drop (length journal) new.journal
+    → call.new ≡ with_call (entry A (drop (length journal) new.journal)) mid → IsOf A mid.calls → Holds old new
+    → LeavesHeld setup (answered result call) Holds (record { keeper = old; list = A }) (record { keeper = new; list = list })
+call_held {A} {old} {new} {mid} call result m grows listed noted rises holds = record {
+  met = m.met;
+  left = stands_at m listed;
+  list_is = listed ∙ ap (λ z. A ++ z) (steps_behind m);
+  entered = noted ∙ ap (λ z. with_call (entry A z) mid) (steps_behind m) ∙ ap (with_call (entry A (steps_if result (call.steps A)))) grows;
+  rises = subst (λ (r : RiderState). IsOf A r.calls) grows rises;
+  holds = holds;
+}
+
+-- so a call under the lock left what it made of what lies there
+pub under_lock : {F : Type 0} {domain : DomainState} {call : Call} {Holds : KeeperState F → KeeperState F → Type 0} {old new : HeldState F} → LeavesHeld (setup_of domain) call Holds old new → LeavesUnderLock F domain call Holds
+under_lock {domain} {call} {old} {new} h = record {
+  list = old.list;
+  before = old.keeper;
+  after = new.keeper;
+  met = h.met;
+  left = subst (λ (z : List Step). IsAt (setup_of domain) z new.keeper) h.list_is h.left;
+  entered = h.entered;
+  rises = h.rises;
+  holds = h.holds;
 }
 
 -- it is a call that makes no step

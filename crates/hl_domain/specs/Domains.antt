@@ -112,6 +112,18 @@ pub record LeavesUnderLock
   pub rises : IsOf list call.old.calls
   pub holds : Holds before after
 
+-- what such a call makes of what lies under the lock: the list gets its steps, and of the keepers before and
+-- after it this holds
+pub record LeavesHeld
+    {F : Type 0} (setup : Setup) (call : Call) (Holds : KeeperState F → KeeperState F → Type 0)
+    (old new : HeldState F) : Type 0 where
+  pub met : IsHeld setup old
+  pub left : IsHeld setup new
+  pub list_is : new.list ≡ old.list ++ call.steps old.list
+  pub entered : call.new ≡ with_entry old.list (call.steps old.list) call.old
+  pub rises : IsOf old.list call.old.calls
+  pub holds : Holds old.keeper new.keeper
+
 -- likewise of a call that keeps what such a call of a keeper does
 abbrev pub MakesUnderLock : {X : Type 0} (F : Type 0) → DomainState → Call → Result X Fault
     → (KeeperState F → KeeperState F → Result X Fault → Type 0) → Type 0

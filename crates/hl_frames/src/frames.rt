@@ -143,11 +143,12 @@ impl Frames {
         if !is_in_flight(self.held[frame], page) {
             return Err(Fault::NotInFlight);
         }
-        end_flush(&mut self.held[frame], ok);
+        let mut turns = 0;
+        end_flush(&mut self.held[frame], ok, &mut turns);
         self.flushed += u64::from(ok);
         let walk = skip_flushed(&self.held, self.run, self.entered);
         self.run = walk.at;
-        self.turns.flush_done = 1 + walk.turns;
+        self.turns.flush_done = turns + walk.turns;
         if !ok {
             // The page waits again.
             self.to_flush = self.to_flush.min(Placed { page, frame });

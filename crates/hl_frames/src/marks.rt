@@ -35,11 +35,15 @@ pub(crate) fn begin_flush(held: &mut Option<Held>)
     }
 }
 
-/// The page's flush ended, well or not.
+/// The page's flush ended, well or not. One turn.
 #[inline(always)]
-pub(crate) fn end_flush(held: &mut Option<Held>, ok: bool)
-    ensures { held.new ≡ option_map (λ (h : HELD). record h { in_flight = false; flushed = ok }) held.old }
+pub(crate) fn end_flush(held: &mut Option<Held>, ok: bool, turns: &mut u64)
+    requires { turns.old < 2 ^ 32 }
+    ensures held { held.new
+        ≡ option_map (λ (h : HELD). record h { in_flight = false; flushed = ok }) held.old }
+    ensures turns { turns.new ≡ turns.old + 1 }
 {
+    *turns += 1;
     if let Some(held) = held {
         held.in_flight = false;
         held.flushed = ok;

@@ -1,10 +1,16 @@
-ghost use Rattle.std.specs.Prelude.{◌≡◌};
-ghost use Rattle.hl_domain.specs.Domains.{IsAt, IsHeld};
+ghost use Rattle.std.specs.Prelude.{◌≡◌, IfOk, OnErr};
+ghost use Rattle.hl_model.specs.declared.step.Step.TheVariants.{Take as TAKE};
+ghost use Rattle.hl_core.specs.Steps.{CameOut};
+ghost use Rattle.hl_keeper.specs.Keepers.{job_tag};
+ghost use Rattle.hl_keeper.specs.Calls.{Makes, Stays};
+ghost use Rattle.hl_keeper.specs.Taking.{taken_from, ready_told};
+ghost use Rattle.hl_domain.specs.Domains.{call_of, answered, Setup, IsAt, IsHeld, LeavesHeld};
 
-use hl_action::{Promise, Task};
+use hl_action::{Promise, Ready, Task};
 use hl_epoch::Epochs;
 use hl_keeper::Keeper;
-use hl_words::{Realm, Scribe};
+use hl_model::Fault;
+use hl_words::{Realm, Rider, Scribe, Words};
 use std::marker::Model;
 
 /// What lies under a domain's one lock: the keeper, and the scribe of the one list, at which the keeper stands.
@@ -58,6 +64,28 @@ impl<E: Epochs, F: Task, P: Promise, L: Realm> Held<E, F, P, L> {
             scribe,
         } = self;
         (keeper, scribe)
+    }
+}
+
+impl<E: Epochs + Drop, F: Task, P: Promise, L: Realm> Held<E, F, P, L> {
+    /// The oldest pending action, once its ticket is safe, noted as its rider's call. The clause names what lies here
+    /// afterwards, so a call that cut the journal besides is refused.
+    #[inline(always)]
+    pub(crate) fn take(
+        &mut self,
+        words: &Words<L>,
+        rider: &mut Rider<L>,
+    ) -> Result<Ready<F, P>, Fault>
+        ensures { (setup : Setup) → IsHeld setup self.old
+            → let call = answered result (call_of TAKE rider.old rider.new) in LeavesHeld setup call (λ old new.
+            Makes old TAKE (taken_from old) new (ready_told result) × Stays old new
+            × IfOk result (λ ready. CameOut job_tag old.core new.core ready.firing.ticket ready.kept)
+            × OnErr result (new ≡ old)) self.old self.new }
+    {
+        let before = self.keeper.journal().len();
+        let taken = self.keeper.take(words, rider);
+        words.enter(&mut self.scribe, rider, &self.keeper.journal()[before..]);
+        taken
     }
 }
 

@@ -80,11 +80,7 @@ impl<E: Epochs + Drop, F: Task, P: Promise, L: Realm> Domain<E, F, P, L> {
             × OnErr result (new ≡ old)) }
     {
         let mut guard = self.lock(rt);
-        let Held { keeper, scribe, .. } = &mut *guard;
-        let before = keeper.journal().len();
-        let taken = keeper.take(&self.words, rider);
-        self.note(keeper, before, scribe, rider);
-        taken
+        (*guard).take(&self.words, rider)
     }
 
     /// A taken action that was run is done. A settle and a close raise their offset to what they stored; of a

@@ -33,7 +33,7 @@ row c =
     let place = rw (← c.self.view_is) at c.frame_of-frame.ensures.frame in
     let within = rw (← c.self.view_is) at c.frame_of-frame.ensures.within in
     row-changed (pages_of c.self.inside) c.args.page c.frame_of-frame.result c.index_mut.result.now c.end_flush.new.held change place within c.index_mut.ensures.value
-    c.end_flush.ensures
+    c.end_flush.ensures.held
 
 -- the pages are those of frames
 known : (c : goal.After-skip_flushed-arg-1) → IsFrames (flush_ended c.args.page c.args.ok (pages_of c.self.inside))
@@ -81,7 +81,7 @@ at_most true = omega arith
 at_most false = omega arith
 
 -- what is true of the fields with this page to be flushed next
-kept_with : (c : goal.Joined-not-ok) (to_flush : Placed) → AreStored (flush_ended c.args.page c.args.ok (pages_of c.self.inside)) c.skip_flushed-walk.result.at.page to_flush.page c.self.inside.to_clean.page → HasFrame to_flush c.self.inside.held.items → IsKept (record { page_size = c.self.inside.page_size; entered = c.self.inside.entered; held = with_item c.self.inside.held c.frame_of-frame.result c.end_flush.new.held; run = c.skip_flushed-walk.result.at; to_flush = to_flush; to_clean = c.self.inside.to_clean; flushed = c.self.inside.flushed + c.from.result; freed = c.self.inside.freed; turns = record { enter = c.self.inside.turns.enter; flush_done = 1 + c.skip_flushed-walk.result.turns; clean_done = c.self.inside.turns.clean_done } })
+kept_with : (c : goal.Joined-not-ok) (to_flush : Placed) → AreStored (flush_ended c.args.page c.args.ok (pages_of c.self.inside)) c.skip_flushed-walk.result.at.page to_flush.page c.self.inside.to_clean.page → HasFrame to_flush c.self.inside.held.items → IsKept (record { page_size = c.self.inside.page_size; entered = c.self.inside.entered; held = with_item c.self.inside.held c.frame_of-frame.result c.end_flush.new.held; run = c.skip_flushed-walk.result.at; to_flush = to_flush; to_clean = c.self.inside.to_clean; flushed = c.self.inside.flushed + c.from.result; freed = c.self.inside.freed; turns = record { enter = c.self.inside.turns.enter; flush_done = c.end_flush.new.turns + c.skip_flushed-walk.result.turns; clean_done = c.self.inside.turns.clean_done } })
 kept_with c to_flush stored placed =
     let here = at_deref c in
     let kept = c.self.invariant in
@@ -93,7 +93,7 @@ kept_with c to_flush stored placed =
       to_flush_placed = still-placed to_flush c.self.inside.held.items _ placed (length-set _ _ _);
       to_clean_placed = still-placed c.self.inside.to_clean c.self.inside.held.items _ kept.to_clean_placed (length-set _ _ _);
       room = kept.room ∙ sym (length-set _ _ _);
-      turns = rw length-set (record { enter = kept.turns.enter; flush_done = omega (arith, c.skip_flushed-walk.ensures.turns, kept.stored.flushed, run-recent (pages_of c.self.inside) kept.pages); clean_done = kept.turns.clean_done });
+      turns = rw length-set (record { enter = kept.turns.enter; flush_done = omega (arith, c.end_flush.ensures.turns, c.skip_flushed-walk.ensures.turns, kept.stored.flushed, run-recent (pages_of c.self.inside) kept.pages); clean_done = kept.turns.clean_done });
     }
 
 pub invariant_of-self : goal.invariant_of-self
@@ -140,7 +140,7 @@ pub returns-clause-turns : goal.returns-clause-turns
 returns-clause-turns c =
     let T = pages_of c.self.inside in
     let before = c.self.inside.turns in
-    let told = ap {B = Turns} (λ (n : ℕ). record { enter = before.enter; flush_done = 1 + n; clean_done = before.clean_done }) (turns_are c) in
+    let told = ap₂ {C = Turns} (λ (m n : ℕ). record { enter = before.enter; flush_done = m + n; clean_done = before.clean_done }) c.end_flush.ensures.turns (turns_are c) in
     rw (← c.self.view_is) (rw (flies (at_deref c)) (elim c.if-not-ok.branch [
       | then-not-ok w ↦ rw w.self-inside-is told
       | else-not-ok w ↦ rw w.self-inside-is told
