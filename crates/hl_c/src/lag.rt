@@ -3,7 +3,7 @@ ghost use Rattle.hl_c.specs.Lags.{no_step, step_told, step_at, lag_told, no_lag,
 
 use crate::outcome::{NO_CORE, OUT_OF_RANGE};
 use hl_lag::lag_steps;
-use hl_model::{Params, Six, Step};
+use hl_model::{Six, Sizes, Step};
 
 /// A step of a lag: 1 a raise, 2 a settle, 3 a shift, 4 a close; and the address to which a raise or a shift moves its
 /// offset. Both are 0 where there is none.
@@ -60,7 +60,7 @@ impl LagStep {
 impl LagOutcome {
     /// The lag of so many pages at these offsets.
     #[tactic(auto, unfolding(crate::specs::Lags::lag_answer))]
-    pub(crate) fn of(params: Params, six: Six, mutable: u64, resident: u64) -> LagOutcome
+    pub(crate) fn of(params: Sizes, six: Six, mutable: u64, resident: u64) -> LagOutcome
         ensures { result ≡ lag_answer params six mutable resident }
     {
         if 1 <= mutable && mutable <= resident && resident < params.frames() {

@@ -1,10 +1,10 @@
-ghost use Rattle.std.specs.Prelude.{◌≡◌, None, [], IfSome};
+ghost use Rattle.std.specs.Prelude.{◌≡◌, ◌↔◌, None, [], IsSome, IfSome};
 ghost use Rattle.hl_model.specs.Sizes.{AreInRange, AreNarrow};
 ghost use Rattle.hl_c.specs.Doors.{Opens, OpensWith, StandsAt, free_number};
 
 use crate::door::Door;
 use crate::handle::Handle;
-use hl_model::Params;
+use hl_model::{Params, Sizes};
 use std::alloc::Global;
 
 /// Opens a core: so many words a page, frames, slots, places in the drain list, narrow sizes. 0 where it did; 29 where
@@ -22,11 +22,7 @@ pub extern "C" fn hl_open(
         (record { page_size = page_size; frames = frames; slots = slots; drain = drain })
         handle.new.slot.value result }
 {
-    open_with(
-        alloc,
-        handle,
-        Params::checked(page_size, frames, slots, drain),
-    )
+    open_with(alloc, handle, narrow(page_size, frames, slots, drain))
 }
 
 /// Opens a core of wide sizes: a page of up to 2^20 words, up to 2^16 frames, 1,024 slots and 4,096 places in the drain
@@ -44,11 +40,26 @@ pub extern "C" fn hl_open_wide(
         (record { page_size = page_size; frames = frames; slots = slots; drain = drain })
         handle.new.slot.value result }
 {
-    open_with(alloc, handle, Params::wide(page_size, frames, slots, drain))
+    open_with(alloc, handle, Sizes::checked(page_size, frames, slots, drain))
+}
+
+/// Narrow sizes, if these are.
+fn narrow(page_size: u64, frames: u64, slots: u64, drain: u64) -> Option<Sizes>
+    ensures in_range { IsSome result ↔ AreNarrow
+        (record { page_size = page_size; frames = frames; slots = slots; drain = drain }) }
+    ensures value { IfSome result (λ sizes. sizes ≡ record {
+      page_size = page_size;
+      frames = frames;
+      slots = slots;
+      drain = drain;
+    }) }
+{
+    let params = Params::checked(page_size, frames, slots, drain)?;
+    Some(params.sizes())
 }
 
 /// Opens a core of these sizes, if they are in range.
-fn open_with(alloc: Global, handle: &mut Handle, params: Option<Params>) -> u64
+fn open_with(alloc: Global, handle: &mut Handle, params: Option<Sizes>) -> u64
     ensures { OpensWith handle.old.slot.value params handle.new.slot.value result }
 {
     if handle.live != 0 {
@@ -82,7 +93,7 @@ pub extern "C" fn hl_free(handle: &mut Handle) -> u64
 }
 
 /// A core at the empty list, on the heap. None where memory was refused.
-fn boxed(alloc: Global, params: Params) -> Option<Box<Door>>
+fn boxed(alloc: Global, params: Sizes) -> Option<Box<Door>>
     ensures { IfSome result (λ core. StandsAt core.value [] × (core.value.sizes ≡ params)) }
 {
     let core = Door::open(alloc, params).ok()?;

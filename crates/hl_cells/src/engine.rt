@@ -6,7 +6,7 @@ use hl_action::{Kept, Promise, Task};
 use hl_core::Core;
 use hl_drain::Drain;
 use hl_epoch::Epochs;
-use hl_model::{Fault, Params};
+use hl_model::{Fault, HasSizes, Sizes};
 use std::alloc::Global;
 use std::marker::Model;
 
@@ -46,7 +46,17 @@ impl<E: Epochs + Drop, F: Task, P: Promise> Engine<E, F, P> {
     /// ticket. No other call has an answer for want of memory.
     ///
     /// `OutOfMemory` where memory for its rows was refused.
-    pub fn open(alloc: Global, params: Params) -> Result<Engine<E, F, P>, Fault>
+    pub fn open<S: HasSizes>(alloc: Global, params: S) -> Result<Engine<E, F, P>, Fault>
+        ensures ok { IfOk result
+            (λ engine. EngineStands engine [] × (engine.core.sizes ≡ S.sizes_of params)) }
+        ensures jobs { IfOk result (λ engine. (c : ℕ) → job_under engine c ≡ None) }
+        ensures err { IfErr result (λ fault. fault ≡ Fault.OutOfMemory) }
+    {
+        Engine::of_sizes(alloc, params.sizes())
+    }
+
+    // The same, of wide sizes.
+    fn of_sizes(alloc: Global, params: Sizes) -> Result<Engine<E, F, P>, Fault>
         ensures ok { IfOk result (λ engine. EngineStands engine [] × (engine.core.sizes ≡ params)) }
         ensures jobs { IfOk result (λ engine. (c : ℕ) → job_under engine c ≡ None) }
         ensures err { IfErr result (λ fault. fault ≡ Fault.OutOfMemory) }

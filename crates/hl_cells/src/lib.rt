@@ -53,5 +53,6 @@ pub use hl_action::{AnyAnswer, Call, Firing, Kept, NoJob, Promise, Task};
 pub use hl_drain::{Action, Drain};
 pub use hl_epoch::{Epochs, ScanTable};
 pub use hl_model::{
-    Fault, FrameState, Kind, Params, Reply, Six, Slot, Snapshot, Step, Tagged, View, Waiting,
+    Fault, FrameState, HasSizes, Kind, Params, RawSizes, Reply, Six, Sizes, Slot, Snapshot, Step,
+    Tagged, View, Waiting,
 };

@@ -1,4 +1,4 @@
-ghost use Rattle.std.specs.Prelude.{◌≡◌, ◌<◌, ◌≤◌, List, IfSome, slice_get};
+ghost use Rattle.std.specs.Prelude.{◌≡◌, ◌<◌, ◌≤◌, List, IfSome, slice_get, take};
 ghost use Rattle.hl_model.specs.declared.step.Step.{Step};
 ghost use Rattle.hl_model.specs.Actions.{pending};
 ghost use Rattle.hl_model.specs.Views.{slot_view};
@@ -10,11 +10,11 @@ use crate::engine::Engine;
 use arrayvec::ArrayVec;
 use hl_action::{Promise, Task};
 use hl_epoch::Epochs;
-use hl_model::{FrameState, Params, Six, Snapshot, View, Waiting};
+use hl_model::{FrameState, Six, Sizes, Snapshot, View, Waiting};
 
 impl<E: Epochs, F: Task, P: Promise> Engine<E, F, P> {
     /// The sizes that it was opened with.
-    pub fn params(&self) -> Params
+    pub fn params(&self) -> Sizes
         ensures value { result ≡ self.now.core.sizes }
         ensures valid { IsEngine self.now }
     {
@@ -53,10 +53,11 @@ impl<E: Epochs, F: Task, P: Promise> Engine<E, F, P> {
         self.core.pending_at(n)
     }
 
-    /// The pending actions, oldest first. At most 64 actions may be stored.
+    /// The oldest 64 of the pending actions, oldest first: all, where at most 64 may be stored.
     pub fn pending(&self) -> ArrayVec<Waiting, 64>
-        requires narrow { self.now.core.sizes.drain ≤ 64 }
-        ensures { (A : List Step) → EngineStands self.now A → result.items ≡ pending A }
+        ensures value { (A : List Step) → EngineStands self.now A → result.items ≡ take 64 (pending A) }
+        ensures all { (A : List Step)
+            → EngineStands self.now A → self.now.core.sizes.drain ≤ 64 → result.items ≡ pending A }
     {
         self.core.pending()
     }

@@ -67,7 +67,8 @@ pub use hl_drain::{Action, Ask, Drain};
 pub use hl_epoch::{Epochs, ScanTable};
 pub use hl_laws::Base;
 pub use hl_model::{
-    Fault, FrameState, Kind, Params, Reply, Six, Slot, Snapshot, Step, Tag, Tagged, View, Waiting,
+    Fault, FrameState, HasSizes, Kind, Params, RawSizes, Reply, Six, Sizes, Slot, Snapshot, Step,
+    Tag, Tagged, View, Waiting,
 };
 pub use holders::Holder;
 pub use state::Core;

@@ -1,4 +1,4 @@
-ghost use Rattle.std.specs.Prelude.{◌≡◌, ◌<◌, ◌≤◌, List, IfSome, count_by, is_some, length, slice_get};
+ghost use Rattle.std.specs.Prelude.{◌≡◌, ◌<◌, ◌≤◌, List, IfSome, count_by, is_some, length, slice_get, take};
 ghost use Rattle.hl_model.specs.declared.step.Step.{Step};
 ghost use Rattle.hl_model.specs.Actions.{pending};
 ghost use Rattle.hl_model.specs.Views.{slot_view};
@@ -9,11 +9,11 @@ ghost use Rattle.hl_core.specs.Standing.{Stands};
 use crate::state::Core;
 use arrayvec::ArrayVec;
 use hl_epoch::Epochs;
-use hl_model::{FrameState, Params, Six, Snapshot, Tagged, View, Waiting};
+use hl_model::{FrameState, Six, Sizes, Snapshot, Tagged, View, Waiting};
 
 impl<E: Epochs, J: Tagged> Core<E, J> {
     /// The sizes that it was opened with.
-    pub fn params(&self) -> Params
+    pub fn params(&self) -> Sizes
         ensures { result ≡ self.now.sizes }
     {
         self.params
@@ -65,10 +65,11 @@ impl<E: Epochs, J: Tagged> Core<E, J> {
         self.drain.pending_at(n)
     }
 
-    /// The pending actions, oldest first. At most 64 actions may be stored.
+    /// The oldest 64 of the pending actions, oldest first: all, where at most 64 may be stored.
     pub fn pending(&self) -> ArrayVec<Waiting, 64>
-        requires narrow { self.now.sizes.drain ≤ 64 }
-        ensures { (A : List Step) → Stands J.tag self.now A → result.items ≡ pending A }
+        ensures value { (A : List Step) → Stands J.tag self.now A → result.items ≡ take 64 (pending A) }
+        ensures all { (A : List Step)
+            → Stands J.tag self.now A → self.now.sizes.drain ≤ 64 → result.items ≡ pending A }
     {
         self.drain.pending()
     }

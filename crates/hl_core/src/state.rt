@@ -3,7 +3,7 @@ ghost use Rattle.std.specs.Prelude.{◌≡◌, [], IfOk, IfErr};
 use hl_drain::Drain;
 use hl_epoch::Epochs;
 use hl_frames::Frames;
-use hl_model::{EPOCH_WINDOW, Fault, Params, Tagged, View, filled};
+use hl_model::{EPOCH_WINDOW, Fault, HasSizes, Sizes, Tagged, View, filled};
 use hl_offsets::Offsets;
 use std::alloc::Global;
 use std::marker::Model;
@@ -11,7 +11,7 @@ use std::marker::Model;
 /// The quantities of an allocator over the table of epochs E, with jobs J in its drain list.
 #[derive(Drop)]
 pub struct Core<E: Epochs, J: Tagged> {
-    pub(crate) params: Params,
+    pub(crate) params: Sizes,
     pub(crate) table: E,
     // What each slot saw of the offsets, if it is protected.
     pub(crate) views: Vec<Option<View>>,
@@ -52,7 +52,15 @@ impl<E: Epochs + Drop, J: Tagged + Drop> Core<E, J> {
     /// A core at the empty list: epoch 1, no slot protected, no action, all offsets 0, all frames free.
     ///
     /// `OutOfMemory` where memory for its rows was refused.
-    pub fn open(alloc: Global, params: Params) -> Result<Core<E, J>, Fault>
+    pub fn open<S: HasSizes>(alloc: Global, params: S) -> Result<Core<E, J>, Fault>
+        ensures ok { IfOk result (λ core. Stands J.tag core [] × (core.sizes ≡ S.sizes_of params)) }
+        ensures err { IfErr result (λ fault. fault ≡ Fault.OutOfMemory) }
+    {
+        Core::of_sizes(alloc, params.sizes())
+    }
+
+    // The same, of wide sizes.
+    fn of_sizes(alloc: Global, params: Sizes) -> Result<Core<E, J>, Fault>
         ensures ok { IfOk result (λ core. Stands J.tag core [] × (core.sizes ≡ params)) }
         ensures err { IfErr result (λ fault. fault ≡ Fault.OutOfMemory) }
     {

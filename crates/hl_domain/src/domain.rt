@@ -19,7 +19,7 @@ use crossbeam_utils::CachePadded;
 use hl_action::{Promise, Task};
 use hl_epoch::Epochs;
 use hl_keeper::{Ending, Keeper};
-use hl_model::{Fault, Params};
+use hl_model::{Fault, Sizes};
 use hl_words::{Realm, Rider, Scribe, Seed, Words};
 use std::alloc::Global;
 use std::marker::Model;
@@ -32,7 +32,7 @@ pub struct Domain<E: Epochs, F: Task, P: Promise, L: Realm> {
     // Padded, so that no line of a cache has the lock, or what threads change under it, beside what calls without it read.
     held: CachePadded<Mutex<Held<E, F, P, L>>>,
     words: Words<L>,
-    params: Params,
+    params: Sizes,
     stamp: u64,
 }
 
@@ -136,7 +136,7 @@ impl<E: Epochs + Drop, F: Task, P: Promise, L: Realm> Domain<E, F, P, L> {
     }
 
     /// The sizes that it was opened with.
-    pub fn params(&self) -> Params
+    pub fn params(&self) -> Sizes
         ensures { result ≡ self.now.sizes }
     {
         self.params

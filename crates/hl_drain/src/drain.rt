@@ -1,4 +1,4 @@
-ghost use Rattle.std.specs.Prelude.{◌≡◌, ◌↔◌, ◌<◌, ◌≤◌, ◌==◌, [], length, map, option_map, position, slice_get, All, IsTrue, IfOk, IfErr, OnErr, IfNone};
+ghost use Rattle.std.specs.Prelude.{◌≡◌, ◌↔◌, ◌<◌, ◌≤◌, ◌==◌, [], length, map, option_map, position, slice_get, take, All, IsTrue, IfOk, IfErr, OnErr, IfNone};
 
 use crate::action::Action;
 use crate::pending::Pending;
@@ -133,14 +133,15 @@ impl<J> Drain<J> {
         self.taken.as_slice()
     }
 
-    /// The taken actions that aren't done, oldest first. The limit is at most 64.
+    /// The oldest 64 of the taken actions that aren't done, oldest first: all, where the limit is at most 64.
     pub fn taken(&self) -> ArrayVec<Waiting, 64>
-        requires narrow { self.now.limit ≤ 64 }
-        ensures list { result.items ≡ self.now.taken }
+        ensures list { result.items ≡ take 64 self.now.taken }
+        ensures all { self.now.limit ≤ 64 → result.items ≡ self.now.taken }
         ensures valid { IsDrain self.now }
     {
+        let taken = self.taken.as_slice();
         let mut row = ArrayVec::new();
-        for waiting in self.taken.as_slice() {
+        for waiting in &taken[..taken.len().min(64)] {
             row.push(*waiting);
         }
         row
@@ -197,15 +198,17 @@ impl<J: Tagged> Drain<J> {
         Some(action.waiting(*ticket))
     }
 
-    /// The pending actions, oldest first. The limit is at most 64.
+    /// The oldest 64 of the pending actions, oldest first: all, where the limit is at most 64.
     pub fn pending(&self) -> ArrayVec<Waiting, 64>
-        requires narrow { self.now.limit ≤ 64 }
-        ensures list { result.items ≡ map (waiting_of J.tag) self.now.pending }
+        ensures list { result.items ≡ take 64 (map (waiting_of J.tag) self.now.pending) }
+        ensures all { self.now.limit ≤ 64 → result.items ≡ map (waiting_of J.tag) self.now.pending }
         ensures valid { IsDrain self.now }
     {
         let mut row = ArrayVec::new();
-        for (ticket, action) in self.pending.iter() {
-            row.push(action.waiting(*ticket));
+        for n in 0..self.pending_count().min(64) {
+            if let Some(waiting) = self.pending_at(n) {
+                row.push(waiting);
+            }
         }
         row
     }

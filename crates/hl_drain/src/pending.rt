@@ -3,7 +3,7 @@ ghost use Rattle.circular_buffer.specs.Buffer.{buffer};
 
 use crate::action::Action;
 use crate::visits::Visits;
-use circular_buffer::{HeapCircularBuffer, Iter};
+use circular_buffer::HeapCircularBuffer;
 use std::alloc::{AllocError, Global};
 
 /// Pending actions with their tickets, oldest first, in a ring of places: behind its last place comes its first
@@ -42,13 +42,6 @@ impl<J> Pending<J> {
         ensures { option_copied result ≡ slice_get self.now.ring.items n }
     {
         self.ring.get(n)
-    }
-
-    /// Each one, oldest first.
-    pub(crate) fn iter(&self) -> Iter<'_, (u64, Action<J>)>
-        ensures { result ≡ self.now.ring.items }
-    {
-        self.ring.iter()
     }
 
     /// Moves an action into the place behind the last one, or hands it back where no place is free.

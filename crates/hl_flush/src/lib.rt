@@ -27,4 +27,4 @@ pub use hl_cells::Engine;
 pub use hl_epoch::Epochs;
 pub use hl_image::PageWriter;
 pub use hl_lag::lag_steps;
-pub use hl_model::{Fault, Params, Six, Step};
+pub use hl_model::{Fault, Params, Six, Sizes, Step};

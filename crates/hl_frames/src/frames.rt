@@ -8,7 +8,7 @@ use crate::marks::{begin_cleaning, begin_flush, begin_page, end_cleaning, end_fl
 use crate::placed::Placed;
 use crate::row::{is_cleaning, is_freed, is_in_flight, skip_flushed, skip_taken};
 use crate::turns::Turns;
-use hl_model::{Fault, FrameState, Held, Params, filled};
+use hl_model::{Fault, FrameState, HasSizes, Held, filled};
 use std::alloc::Global;
 use std::marker::Model;
 
@@ -47,17 +47,19 @@ impl Frames {
     /// Frames that hold nothing, for pages of the sizes that `params` gives.
     ///
     /// `OutOfMemory` where memory for the row was refused.
-    pub fn open(alloc: Global, params: Params) -> Result<Frames, Fault>
-        ensures ok { IfOk result (λ made. made.pages ≡ opened params.page_size params.frames) }
+    pub fn open<S: HasSizes>(alloc: Global, params: S) -> Result<Frames, Fault>
+        ensures ok { let sizes = S.sizes_of params
+            in IfOk result (λ made. made.pages ≡ opened sizes.page_size sizes.frames) }
         ensures turns { IfOk result (λ made. made.turns ≡ none_yet) }
         ensures err { IfErr result (λ fault. fault ≡ Fault.OutOfMemory) }
         ensures valid { IfOk result (λ made. IsFrames made.pages) }
     {
+        let sizes = params.sizes();
         let first = Placed { page: 0, frame: 0 };
         Ok(Frames {
-            page_size: params.page_size(),
+            page_size: sizes.page_size(),
             entered: 0,
-            held: filled(alloc, params.frames(), None)?,
+            held: filled(alloc, sizes.frames(), None)?,
             run: first,
             to_flush: first,
             to_clean: first,

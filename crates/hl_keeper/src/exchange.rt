@@ -3,7 +3,7 @@ ghost use Rattle.std.specs.Prelude.{◌≡◌, ◌≢◌, ◌+◌, ◌*◌, ◌%
 ghost use Rattle.hl_keeper.specs.Passes.{store_fault, with_change, with_load};
 
 use crate::pass::Pass;
-use hl_model::{Fault, Params, Step, cell_of};
+use hl_model::{Fault, Sizes, Step, cell_of};
 use hl_words::{Realm, Words};
 
 /// Adds a number to the word at an address of the log, modulo 2^64, in one step: no store of
@@ -13,7 +13,7 @@ use hl_words::{Realm, Words};
 /// Faults, those of a store: `Below`, `Beyond`, `TouchesFull`; then nothing is loaded.
 pub fn fetch_add<L: Realm>(
     words: &Words<L>,
-    params: Params,
+    params: Sizes,
     pass: &mut Pass<L>,
     a: u64,
     more: u64,
@@ -41,7 +41,7 @@ pub fn fetch_add<L: Realm>(
 /// Faults, those of a store: `Below`, `Beyond`, `TouchesFull`; then nothing is loaded.
 pub fn compare_exchange<L: Realm>(
     words: &Words<L>,
-    params: Params,
+    params: Sizes,
     pass: &mut Pass<L>,
     a: u64,
     old: u64,

@@ -11,7 +11,7 @@ ghost use Rattle.hl_keeper.specs.Journals.{full_fault, with_steps};
 use hl_core::Core;
 use hl_epoch::Epochs;
 use hl_laws::Base;
-use hl_model::{Fault, Params, Step, Tagged, with_room};
+use hl_model::{Fault, Sizes, Step, Tagged, with_room};
 use std::alloc::Global;
 use std::marker::Model;
 
@@ -47,7 +47,7 @@ impl Journal {
     /// The empty journal of an allocator of these sizes, which may keep this many steps.
     ///
     /// `OutOfMemory` if memory was refused.
-    pub(crate) fn open(alloc: Global, params: Params, limit: u64) -> Result<Journal, Fault>
+    pub(crate) fn open(alloc: Global, params: Sizes, limit: u64) -> Result<Journal, Fault>
         ensures journal { IfOk result (λ journal.
             journal ≡ record { base = base_of params []; cut = 0; steps = []; limit = limit }) }
         ensures memory { IfErr result (λ fault. fault ≡ OutOfMemory) }

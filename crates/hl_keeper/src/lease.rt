@@ -3,9 +3,9 @@ ghost use Rattle.hl_keeper.specs.Leases.{StaysOnPage};
 
 use std::marker::Model;
 
-/// A piece of the log that one allocation placed, from which records are taken one behind the other without the lock:
-/// the usual way to place small records. It is two numbers of words, and gives no right: each store still asks the
-/// pass. What is left of it may be dropped; nobody else gets these words.
+/// A piece of the log, from which records are taken one behind the other without the lock: the usual way to place small
+/// records. A domain's `lease` places one. It is two numbers of words, and gives no right: each store still asks the
+/// pass. What is left of it may be dropped; nobody else gets the words of a piece that was placed.
 #[derive(Drop)]
 pub struct Lease {
     next: u64,
@@ -24,7 +24,7 @@ impl Model for Lease {
 }
 
 impl Lease {
-    /// The piece of n words that an allocation placed at this address.
+    /// The piece of n words at this address, whoever placed it: that an allocation did is for the caller to see to.
     pub fn of(address: u64, n: u64) -> Lease
         requires { address + n ≤ 2 ^ 48 }
         ensures { result ≡ record { next = address; end = address + n } }

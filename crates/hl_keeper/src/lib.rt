@@ -74,7 +74,9 @@ pub use hl_counts::CountTable;
 pub use hl_drain::{Action, Ask, Drain};
 pub use hl_epoch::{Epochs, ScanTable};
 pub use hl_laws::Base;
-pub use hl_model::{Fault, FrameState, Params, Reply, Six, Snapshot, Step, View};
+pub use hl_model::{
+    Fault, FrameState, HasSizes, Params, RawSizes, Reply, Six, Sizes, Snapshot, Step, View,
+};
 pub use hl_words::{Master, Realm, Rider, Seed, Words};
 pub use keeper::Keeper;
 pub use lease::Lease;

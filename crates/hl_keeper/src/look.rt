@@ -5,7 +5,7 @@ ghost use Rattle.hl_keeper.specs.Passes.{PassRecord, seen, touches_most, touch_f
 
 use crate::pass::Pass;
 use crate::touches::TOUCHES_MOST;
-use hl_model::{Fault, Params, Step, View, cell_of};
+use hl_model::{Fault, Sizes, Step, View, cell_of};
 use hl_words::{Realm, Which, Words};
 
 /// Loads both offset words: each of the pass's two offsets becomes the greater of the loaded one
@@ -58,7 +58,7 @@ pub fn look<L: Realm>(words: &Words<L>, pass: &mut Pass<L>) -> Result<View, Faul
 #[inline(always)]
 pub fn store<L: Realm>(
     words: &Words<L>,
-    params: Params,
+    params: Sizes,
     pass: &mut Pass<L>,
     a: u64,
     v: u64,
@@ -83,7 +83,7 @@ pub fn store<L: Realm>(
 #[inline(always)]
 pub fn load<L: Realm>(
     words: &Words<L>,
-    params: Params,
+    params: Sizes,
     pass: &mut Pass<L>,
     a: u64,
 ) -> Result<u64, Fault>

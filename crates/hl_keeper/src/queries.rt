@@ -10,12 +10,12 @@ use arrayvec::ArrayVec;
 use hl_action::{Promise, Task};
 use hl_core::Holder;
 use hl_epoch::Epochs;
-use hl_model::{FrameState, Params, Snapshot, Step};
+use hl_model::{FrameState, Sizes, Snapshot, Step};
 use hl_words::Realm;
 
 impl<E: Epochs, F: Task, P: Promise, L: Realm> Keeper<E, F, P, L> {
     /// The sizes that it was opened with.
-    pub fn params(&self) -> Params
+    pub fn params(&self) -> Sizes
         ensures sizes { result ≡ self.now.core.sizes }
         ensures kept { IsOf L.sizes L.stamp self.now }
     {

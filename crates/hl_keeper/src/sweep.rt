@@ -6,7 +6,7 @@ ghost use Rattle.hl_keeper.specs.Calls.{unless_stranger};
 ghost use Rattle.hl_keeper.specs.Pages.{first_cell, zeroed, loaded_all};
 
 use crate::load::{Broom, PageJob};
-use hl_model::{Fault, Params};
+use hl_model::{Fault, Sizes};
 use hl_words::{Realm, Rider, Words};
 
 /// Loads the cells of a page into P places, as many as a page has words. It is meant for a page in
@@ -16,7 +16,7 @@ use hl_words::{Realm, Rider, Words};
 /// `Stranger` if the page is of another domain than that of this stamp.
 pub fn copy_page<L: Realm>(
     words: &Words<L>,
-    params: Params,
+    params: Sizes,
     stamp: u64,
     job: PageJob,
     rider: &mut Rider<L>,
@@ -42,7 +42,7 @@ pub fn copy_page<L: Realm>(
 /// `Stranger` if the page is of another domain than that of this stamp.
 pub fn sweep<L: Realm>(
     words: &Words<L>,
-    params: Params,
+    params: Sizes,
     stamp: u64,
     broom: &mut Broom,
     rider: &mut Rider<L>,
@@ -65,7 +65,7 @@ pub fn sweep<L: Realm>(
 }
 
 // The first cell of a page. Behind it the page has P cells.
-fn first_cell(params: Params, page: u64) -> u64
+fn first_cell(params: Sizes, page: u64) -> u64
     ensures value { result ≡ first_cell params page }
     ensures room { result + params.page_size ≤ params.frames * params.page_size }
     ensures few { result + params.page_size ≤ 2 ^ 36 }

@@ -4,7 +4,7 @@ ghost use Rattle.hl_model.specs.Snapshots.{AreInOrder};
 ghost use Rattle.hl_lag.specs.Lag.{step_if, lag_of, fault_at};
 
 use arrayvec::ArrayVec;
-use hl_model::{Params, Six, Step};
+use hl_model::{Six, Sizes, Step};
 
 /// A flusher's next steps at these offsets, in order, for whoever wants about `mutable` pages at the tail to be written
 /// and about `resident` to be read. Both are numbers of pages, `1 <= mutable <= resident <= F`. It makes none of them.
@@ -24,7 +24,7 @@ use hl_model::{Params, Six, Step};
 ///
 /// At these offsets neither the raise nor the shift meets a fault, where the six are in order. The settle and the close
 /// may meet `DrainFull`, `EpochsSpent` or `WindowFull`.
-pub fn lag_steps(params: Params, six: Six, mutable: u64, resident: u64) -> ArrayVec<Step, 4>
+pub fn lag_steps(params: Sizes, six: Six, mutable: u64, resident: u64) -> ArrayVec<Step, 4>
     requires mutable_least { 1 ≤ mutable }
     requires mutable_most { mutable ≤ resident }
     requires resident_most { resident ≤ params.frames }

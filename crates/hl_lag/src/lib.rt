@@ -22,5 +22,5 @@
 
 mod lag;
 
-pub use hl_model::{Params, Six, Step};
+pub use hl_model::{Params, Six, Sizes, Step};
 pub use lag::lag_steps;

@@ -1,7 +1,7 @@
 ghost use Rattle.std.specs.Prelude.{◌≡◌, ◌<◌, ◌≤◌, None, [], length, slice_get, slice_index_or, vec_capacity, IfOk, IfErr, IfSome};
 ghost use Rattle.hl_model.specs.Bases.{Base as BaseRecord, IsBase, base_of};
 
-use hl_model::{Fault, Held, Params, Six, Slot, Waiting, filled, with_room};
+use hl_model::{Fault, HasSizes, Held, Six, Sizes, Slot, Waiting, filled, with_room};
 use std::alloc::Global;
 use std::marker::Model;
 
@@ -12,7 +12,7 @@ use std::marker::Model;
 /// whoever has such quantities, without taking memory.
 #[derive(Drop)]
 pub struct Base {
-    params: Params,
+    params: Sizes,
     epoch: u64,
     // Each row has room for exactly what the sizes allow.
     slots: Vec<Option<Slot>>,
@@ -82,7 +82,15 @@ impl Base {
     /// The base of no steps: epoch 1, no slot protected, no action, all offsets 0, no page entered.
     ///
     /// `OutOfMemory` where memory for its rows was refused.
-    pub fn opening(alloc: Global, params: Params) -> Result<Base, Fault>
+    pub fn opening<S: HasSizes>(alloc: Global, params: S) -> Result<Base, Fault>
+        ensures ok { IfOk result (λ base. base ≡ base_of (S.sizes_of params) []) }
+        ensures err { IfErr result (λ fault. fault ≡ Fault.OutOfMemory) }
+    {
+        Base::of_sizes(alloc, params.sizes())
+    }
+
+    // The same, of wide sizes.
+    fn of_sizes(alloc: Global, params: Sizes) -> Result<Base, Fault>
         ensures ok { IfOk result (λ base. base ≡ base_of params []) }
         ensures err { IfErr result (λ fault. fault ≡ Fault.OutOfMemory) }
     {
@@ -123,13 +131,13 @@ impl Base {
         ensures valid { IsBase self.now }
         ensures err { IfErr result (λ fault. fault ≡ Fault.OutOfMemory) }
     {
-        let mut base = Base::opening(alloc, self.params)?;
+        let mut base = Base::of_sizes(alloc, self.params)?;
         base.renew(self);
         Ok(base)
     }
 
     /// The sizes.
-    pub fn params(&self) -> Params
+    pub fn params(&self) -> Sizes
         ensures { result ≡ self.now.sizes }
     {
         self.params

@@ -3,7 +3,7 @@ use hl_model::{Params, Step};
 /// A line of a script.
 #[derive(Clone, Copy, Debug, PartialEq, Eq)]
 pub enum Line {
-    /// Opens with these sizes, narrow in a line that was read. Only a script's first line may be one.
+    /// Opens with these sizes. Only a script's first line may be one.
     Config(Params),
     /// Makes this step.
     Step(Step),

@@ -1,4 +1,5 @@
 pub mod ListLaws
 pub mod Masks
+pub mod Placed
 pub mod Remainders
 pub mod SearchLaws

@@ -1,14 +1,12 @@
-ghost use Rattle.std.specs.Prelude.{◌≡◌, ◌↔◌, IsSome, IsTrue, IfSome};
-ghost use Rattle.hl_model.specs.Sizes.{Sizes, AreInRange, AreNarrow};
+ghost use Rattle.std.specs.Prelude.{◌≡◌, ◌↔◌, IsSome, IfSome};
+ghost use Rattle.hl_model.specs.Sizes.{AreNarrow};
 
-use crate::limits::{
-    DRAIN_MOST, DRAIN_WIDE_MOST, FRAMES_LEAST, FRAMES_MOST, FRAMES_WIDE_MOST, PAGE_SIZE_LEAST,
-    PAGE_SIZE_MOST, PAGE_SIZE_WIDE_MOST, SLOTS_MOST, SLOTS_WIDE_MOST,
-};
+use crate::limits::{DRAIN_MOST, FRAMES_MOST, PAGE_SIZE_MOST, SLOTS_MOST};
+use crate::sizes::Sizes;
 use std::marker::Model;
 
-/// The sizes of an allocator, fixed when it opens. Each value is in range: that is in its type. Narrow sizes are those
-/// that a script may ask for; all but scripts and their slow form takes wide ones too.
+/// The sizes of an allocator, fixed when it opens. Each is in its narrow range: that is in its type. They are those that a
+/// script may ask for; whatever takes [`Sizes`] takes these too.
 #[derive(Clone, Copy, Debug, PartialEq, Eq)]
 pub struct Params {
     p: u64,
@@ -18,104 +16,85 @@ pub struct Params {
 }
 
 impl Model for Params {
-    ghost use Rattle.hl_model.specs.Sizes.{Sizes, AreInRange};
+    ghost use Rattle.hl_model.specs.Sizes.{Sizes as SizesRecord, AreNarrow};
 
-    ghost Value = { Sizes };
+    ghost Value = { SizesRecord };
 
     ghost view = { λ a. record { page_size = a.p; frames = a.f; slots = a.s; drain = a.d } };
 
-    ghost invariant = { λ a. AreInRange
+    ghost invariant = { λ a. AreNarrow
         (record { page_size = a.p; frames = a.f; slots = a.s; drain = a.d }) };
 
     ghost inverse = { λ s. record { p = s.page_size; f = s.frames; s = s.slots; d = s.drain } };
 }
 
 impl Params {
-    /// Narrow sizes, where each is in range: p words a page, a power of two from 4 to 4,096; f frames, 2 to 256;
-    /// s thread slots, 1 to 64; d places in the drain list, 1 to 64. None otherwise.
+    /// Sizes where each is in range: p words a page, a power of two from 4 to 4,096; f frames, 2 to 256; s thread slots,
+    /// 1 to 64; d places in the drain list, 1 to 64. `None` otherwise.
     pub fn checked(p: u64, f: u64, s: u64, d: u64) -> Option<Params>
         ensures in_range { IsSome result ↔ AreNarrow
             (record { page_size = p; frames = f; slots = s; drain = d }) }
         ensures value { IfSome result
-            (λ sizes. sizes ≡ record { page_size = p; frames = f; slots = s; drain = d }) }
-        ensures narrow { IfSome result AreNarrow }
+            (λ params. params ≡ record { page_size = p; frames = f; slots = s; drain = d }) }
     {
-        let params = Params::wide(p, f, s, d)?;
-        if params.is_narrow() {
-            Some(params)
+        let few = p <= PAGE_SIZE_MOST && f <= FRAMES_MOST && s <= SLOTS_MOST && d <= DRAIN_MOST;
+        if few && Sizes::checked(p, f, s, d).is_some() {
+            Some(Params { p, f, s, d })
         } else {
             None
         }
     }
 
-    /// Sizes for an engine, where each is in range: a page of 4 to 2^20 words, a power of two; 2 to 2^16 frames;
-    /// 1 to 1,024 thread slots; 1 to 4,096 places in the drain list. None otherwise. All frames together have at most
-    /// 2^36 words, which are 512 GiB.
-    pub fn wide(page_size: u64, frames: u64, slots: u64, drain: u64) -> Option<Params>
-        ensures in_range { IsSome result ↔ AreInRange
-            (record { page_size = page_size; frames = frames; slots = slots; drain = drain }) }
-        ensures value { IfSome result (λ sizes. sizes ≡ record {
-          page_size = page_size;
-          frames = frames;
-          slots = slots;
-          drain = drain;
-        }) }
+    /// The same as sizes for an engine: what is narrow is in the wide ranges.
+    pub fn sizes(self) -> Sizes
+        ensures value { result ≡ self }
+        ensures narrow { AreNarrow self }
     {
-        let pages = PAGE_SIZE_LEAST <= page_size && page_size <= PAGE_SIZE_WIDE_MOST;
-        let rows = FRAMES_LEAST <= frames && frames <= FRAMES_WIDE_MOST;
-        let threads = 1 <= slots && slots <= SLOTS_WIDE_MOST;
-        let actions = 1 <= drain && drain <= DRAIN_WIDE_MOST;
-        if pages && page_size.is_power_of_two() && rows && threads && actions {
-            Some(Params {
-                p: page_size,
-                f: frames,
-                s: slots,
-                d: drain,
-            })
-        } else {
-            None
+        Sizes {
+            page_size: self.p,
+            frames: self.f,
+            slots: self.s,
+            drain: self.d,
         }
     }
 
-    /// Whether they are narrow: those that [`Params::checked`] takes, and a script may ask for.
-    pub fn is_narrow(self) -> bool
-        ensures { IsTrue result ↔ AreNarrow self }
-    {
-        self.p <= PAGE_SIZE_MOST
-            && self.f <= FRAMES_MOST
-            && self.s <= SLOTS_MOST
-            && self.d <= DRAIN_MOST
-    }
-
-    /// How many words a page has, P: a power of two from 4 to 2^20.
+    /// How many words a page has, P: a power of two from 4 to 4,096.
     pub fn page_size(self) -> u64
         ensures value { result ≡ self.page_size }
-        ensures valid { AreInRange self }
+        ensures valid { AreNarrow self }
     {
         self.p
     }
 
-    /// The number of frames, F: 2 to 2^16.
+    /// The number of frames, F: 2 to 256.
     pub fn frames(self) -> u64
         ensures value { result ≡ self.frames }
-        ensures valid { AreInRange self }
+        ensures valid { AreNarrow self }
     {
         self.f
     }
 
-    /// The number of thread slots, S: 1 to 1,024.
+    /// The number of thread slots, S: 1 to 64.
     pub fn slots(self) -> u64
         ensures value { result ≡ self.slots }
-        ensures valid { AreInRange self }
+        ensures valid { AreNarrow self }
     {
         self.s
     }
 
-    /// The places of the drain list, D: 1 to 4,096.
+    /// The places of the drain list, D: 1 to 64.
     pub fn drain(self) -> u64
         ensures value { result ≡ self.drain }
-        ensures valid { AreInRange self }
+        ensures valid { AreNarrow self }
     {
         self.d
+    }
+}
+
+impl From<Params> for Sizes {
+    ghost from_gives = { λ params sizes. sizes ≡ params };
+
+    fn from(params: Params) -> Sizes {
+        params.sizes()
     }
 }

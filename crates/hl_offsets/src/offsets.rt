@@ -5,7 +5,7 @@ ghost use Rattle.hl_model.specs.Snapshots.{AreInOrder};
 ghost use Rattle.hl_offsets.specs.Log.{Log, IsLog, NoneFalls, started, resumed, raised, shifted, settled, closed_up_to, allocated, six_of};
 ghost use Rattle.hl_offsets.specs.Place.{IsOnOnePage};
 
-use hl_model::{Fault, Params, Six, TAIL_MOST};
+use hl_model::{Fault, HasSizes, Six, TAIL_MOST};
 use std::marker::Model;
 
 /// The offsets of one log, each an address, in words.
@@ -52,13 +52,13 @@ impl Model for Offsets {
 }
 
 impl Offsets {
-    /// The offsets of an empty log, with pages of `params.page_size()` words: each is 0.
-    pub fn new(params: Params) -> Offsets
-        ensures value { result ≡ started params.page_size }
+    /// The offsets of an empty log, with pages of the size that `params` gives: each is 0.
+    pub fn new<S: HasSizes>(params: S) -> Offsets
+        ensures value { result ≡ started (S.sizes_of params).page_size }
         ensures valid { IsLog result }
     {
         Offsets {
-            page_size: params.page_size(),
+            page_size: params.sizes().page_size(),
             closed: 0,
             head: 0,
             safe_read_only: 0,
@@ -69,13 +69,13 @@ impl Offsets {
 
     /// The offsets of a log that goes on from these six. They are in order, the closed, the head and the flushed
     /// offset are multiples of P, and the tail is at most 2^48. The flushed offset is not kept.
-    pub fn resume(params: Params, six: Six) -> Offsets
-        requires { AreInOrder params.page_size six }
-        ensures value { result ≡ resumed params.page_size six }
+    pub fn resume<S: HasSizes>(params: S, six: Six) -> Offsets
+        requires { AreInOrder (S.sizes_of params).page_size six }
+        ensures value { result ≡ resumed (S.sizes_of params).page_size six }
         ensures valid { IsLog result }
     {
         Offsets {
-            page_size: params.page_size(),
+            page_size: params.sizes().page_size(),
             closed: six.closed,
             head: six.head,
             safe_read_only: six.safe_read_only,

@@ -1,7 +1,7 @@
 -- What an allocator in the slow form keeps: a base and the accepted steps since.
 use Rattle.std.specs.Prelude.{◌≡◌, ◌⊎◌, Bool, true, false, Option, None, is_none, if◌then◌else◌, Result, Err, List, [], ◌∷◌, ◌++◌}
 use Rattle.hl_model.specs.declared.fault.Fault.{Fault}
-use Rattle.hl_model.specs.declared.fault.Fault.TheVariants.{Size, OutOfMemory}
+use Rattle.hl_model.specs.declared.fault.Fault.TheVariants.{OutOfMemory}
 use Rattle.hl_model.specs.declared.step.Reply.{Reply}
 use Rattle.hl_model.specs.declared.step.Step.{Step}
 use Rattle.hl_model.specs.Sizes.{Sizes, AreNarrow}
@@ -30,12 +30,6 @@ pub record IsHistory (h : History) : Type 0 where
   pub before : List Step
   pub follows : Follows h before
   pub opened : h.has_words ≡ true → Follows h []
-
--- why none is opened with these sizes: they are not narrow, or they are and memory was refused
-abbrev pub IsRefusal : Sizes → Fault → Type 0
-IsRefusal sizes Size = ¬ AreNarrow sizes
-IsRefusal sizes OutOfMemory = AreNarrow sizes
-IsRefusal sizes _ = ⊥
 
 -- where there are words, a read is answered with the word
 abbrev pub worded : Bool → List Step → Step → Reply → Reply

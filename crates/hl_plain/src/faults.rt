@@ -15,7 +15,7 @@ use crate::pages::Work;
 use crate::present::Present;
 use crate::safe::safe;
 use crate::turns::{is_freed, is_out, next_page};
-use hl_model::{EPOCH_LAST, EPOCH_WINDOW, Fault, Params, Step, TAIL_MOST, View};
+use hl_model::{EPOCH_LAST, EPOCH_WINDOW, Fault, Sizes, Step, TAIL_MOST, View};
 
 // The fault of a step that wants slot t unprotected.
 fn acquire_fault(present: &Present, t: u64) -> Option<Fault>
@@ -139,7 +139,7 @@ fn shift_fault(present: &Present, x: u64) -> Option<Fault>
 }
 
 // The fault of a record's size, told the tail: a record of n words is on one page, and within the space.
-fn size_fault(params: Params, tail: u64, n: u64) -> Option<Fault>
+fn size_fault(params: Sizes, tail: u64, n: u64) -> Option<Fault>
     requires { tail ≤ 2 ^ 48 }
     ensures { result ≡ size_fault params.page_size tail n }
 {

@@ -18,8 +18,8 @@
 //! A base holds no words, so an allocator that goes on from one answers a read with `Readable`. One that was
 //! opened answers it with the word.
 //!
-//! It takes narrow sizes only, those that a script may ask for: others are refused as `Size`, before any memory
-//! is taken. So its rows of actions lie on the stack.
+//! It takes narrow sizes only, those that a script may ask for: `Params`, or a base of such sizes. So its rows of
+//! actions lie on the stack.
 //!
 //! # How it answers
 //!

@@ -6,7 +6,7 @@ ghost use Rattle.hl_model.specs.Offsets.{raised_to, shifted_to, place_of, tail_p
 ghost use Rattle.hl_model.specs.AfterOffsets.{read_only_after, head_after, tail_after};
 
 use hl_laws::Base;
-use hl_model::{Params, Step};
+use hl_model::{Sizes, Step};
 
 // The address to which a step raises the read-only offset, or 0.
 fn raised_to(step: &Step) -> u64
@@ -51,7 +51,7 @@ pub fn head(base: &Base, steps: &[Step]) -> u64
 }
 
 /// Where a record of n words is placed, told the tail. The tail and the record are within the space.
-pub fn place_of(params: Params, tail: u64, n: u64) -> u64
+pub fn place_of(params: Sizes, tail: u64, n: u64) -> u64
     requires tail { tail ≤ 2 ^ 48 }
     requires words { n ≤ 2 ^ 48 }
     ensures { result ≡ place_of params.page_size tail n }
@@ -65,7 +65,7 @@ pub fn place_of(params: Params, tail: u64, n: u64) -> u64
 }
 
 // The tail after a step, told the tail before it; neither is above the space.
-fn tail_past(params: Params, tail: u64, step: &Step) -> u64
+fn tail_past(params: Sizes, tail: u64, step: &Step) -> u64
     requires { tail_past params.page_size tail step.now ≤ 2 ^ 48 }
     ensures { result ≡ tail_past params.page_size tail step.now }
 {

@@ -8,7 +8,7 @@ ghost use Rattle.hl_model.specs.Snapshots.{snapshot_of};
 ghost use Rattle.hl_model.specs.Views.{slot_view};
 ghost use Rattle.hl_model.specs.Bases.{base_of, slot_in};
 ghost use Rattle.hl_model.specs.AfterReplies.{base_after};
-ghost use Rattle.hl_plain.specs.Histories.{History, begun, Follows, IsHistory, IsRefusal, worded, told, Answers, AnswersBehind};
+ghost use Rattle.hl_plain.specs.Histories.{History, begun, Follows, IsHistory, worded, told, Answers, AnswersBehind};
 ghost use Rattle.hl_plain.specs.Shown.{frame_at, snapshot_at};
 
 use crate::near::Near;
@@ -51,35 +51,27 @@ impl Model for Plain {
 impl Plain {
     /// An allocator of these sizes, before any step. It answers a read with the word.
     ///
-    /// `Size` where the sizes are not narrow, and only there; `OutOfMemory` where memory was refused.
+    /// `OutOfMemory` where memory was refused.
     pub fn open(alloc: Global, params: Params) -> Result<Plain, Fault>
         ensures ok { IfOk result (λ made. made ≡ begun (base_of params []) true) }
-        ensures err { IfErr result (IsRefusal params) }
-        ensures wide { ¬ AreNarrow params → result ≡ Err Fault.Size }
+        ensures err { IfErr result (λ fault. fault ≡ Fault.OutOfMemory) }
         ensures valid { IfOk result IsHistory }
     {
-        if !params.is_narrow() {
-            return Err(Fault::Size);
-        }
         let room = params.frames();
         let base = Base::opening(alloc, params)?;
         Plain::begin(alloc, base, room, true)
     }
 
     /// An allocator that goes on from a base, which it copies. It answers a read with `Readable`, since a
-    /// base holds no words.
+    /// base holds no words. The base has narrow sizes: `base.params().params()` is `Some`.
     ///
-    /// `Size` where the base has sizes that are not narrow, and only there; `OutOfMemory` where memory was
-    /// refused.
+    /// `OutOfMemory` where memory was refused.
     pub fn from_base(alloc: Global, base: &Base) -> Result<Plain, Fault>
+        requires narrow { AreNarrow base.now.sizes }
         ensures ok { IfOk result (λ made. made ≡ begun base.now false) }
-        ensures err { IfErr result (IsRefusal base.now.sizes) }
-        ensures wide { ¬ AreNarrow base.now.sizes → result ≡ Err Fault.Size }
+        ensures err { IfErr result (λ fault. fault ≡ Fault.OutOfMemory) }
         ensures valid { IfOk result IsHistory }
     {
-        if !base.params().is_narrow() {
-            return Err(Fault::Size);
-        }
         let room = base.params().frames();
         let base = base.copied(alloc)?;
         Plain::begin(alloc, base, room, false)
@@ -176,7 +168,10 @@ impl Plain {
     pub fn params(&self) -> Params
         ensures { result ≡ self.now.base.sizes }
     {
-        self.base.params()
+        match self.base.params().params() {
+            Some(params) => params,
+            None => unreachable!(),
+        }
     }
 
     /// The steps accepted since the base, oldest first.

@@ -9,7 +9,7 @@ use crate::pages::Mark;
 use crate::{actions, epochs, flushed, frames, offsets, settled, views};
 use arrayvec::ArrayVec;
 use hl_laws::Base;
-use hl_model::{Held, Params, Slot, Step, Waiting};
+use hl_model::{Held, Sizes, Slot, Step, Waiting};
 use std::marker::Model;
 
 /// A base and the steps since, with the marks of pages that these made.
@@ -56,7 +56,7 @@ impl<'a> Present<'a> {
 
     /// The sizes. The rows of slots and of frames are as long as these say.
     #[tactic(auto, unfolding(hl_model::specs::AfterReplies::base_after))]
-    pub fn params(&self) -> Params
+    pub fn params(&self) -> Sizes
         ensures value { result ≡ self.now.sizes }
         ensures slots { length self.now.slots ≡ self.now.sizes.slots }
         ensures frames { length self.now.frames ≡ self.now.sizes.frames }

@@ -7,7 +7,7 @@ use crate::view::{Room, SeatView};
 use crate::which::MORE;
 use atomic_table::{Seat, Table};
 use hl_history::Named;
-use hl_model::{Fault, Params};
+use hl_model::{Fault, HasSizes, Sizes};
 use std::alloc::{AllocError, Global};
 use std::marker::{Brand, Model, PhantomData};
 use std::sync::ledger::{Blank, Ledger};
@@ -22,12 +22,12 @@ pub(crate) type WordSeat = Seat<(), SeatView>;
 /// room of its journal. What carries one realm is all of one seed.
 pub trait Realm: Ledger {
     ghost use Rattle.std.specs.Prelude.{ℕ};
-    ghost use Rattle.hl_model.specs.Sizes.{Sizes};
+    ghost use Rattle.hl_model.specs.Sizes.{Sizes as SizesRecord};
     ghost use Rattle.hl_words.specs.States.{Tables};
 
     ghost table: { Tables };
 
-    ghost sizes: { Sizes };
+    ghost sizes: { SizesRecord };
 
     ghost stamp: { ℕ };
 
@@ -60,7 +60,7 @@ pub type Scribe<L> = hl_history::Scribe<HistoryOf<L>>;
 /// empty list with a diary for each. It is the one witness that its realm is new: it is used up by `Words::open`.
 #[derive(Drop)]
 pub struct Seed {
-    pub(crate) params: Params,
+    pub(crate) params: Sizes,
     pub(crate) table: WordTable,
     pub(crate) seat: WordSeat,
     pub(crate) blank: Blank,
@@ -96,13 +96,15 @@ impl Seed {
     /// riders.
     ///
     /// `OutOfMemory` if memory was refused; then nothing is made.
-    pub fn make(alloc: Global, params: Params, riders: usize) -> Result<Seed, Fault>
+    pub fn make<S: HasSizes>(alloc: Global, params: S, riders: usize) -> Result<Seed, Fault>
         requires { (1 ≤ riders) × (riders ≤ 2048) }
-        ensures sizes { IfOk result (λ seed. seed.sizes ≡ params) }
-        ensures cells { IfOk result (λ seed. seed.cells ≡ params.frames * params.page_size) }
+        ensures sizes { IfOk result (λ seed. seed.sizes ≡ S.sizes_of params) }
+        ensures cells { let sizes = S.sizes_of params
+            in IfOk result (λ seed. seed.cells ≡ sizes.frames * sizes.page_size) }
         ensures riders { IfOk result (λ seed. seed.riders ≡ riders) }
         ensures memory { IfErr result (λ fault. fault ≡ OutOfMemory) }
     {
+        let params = params.sizes();
         let cells = params.frames() as usize * params.page_size() as usize;
         let room = Room { cells, riders };
         let Ok((table, seat)) = laid(alloc, room) else {
@@ -122,7 +124,7 @@ impl Seed {
     }
 
     /// The sizes of the allocator whose words they are.
-    pub fn params(&self) -> Params
+    pub fn params(&self) -> Sizes
         ensures value { result ≡ self.now.sizes }
         ensures cells { self.now.cells ≡ self.now.sizes.frames * self.now.sizes.page_size }
     {

@@ -4,6 +4,7 @@ ghost use Rattle.hl_model.specs.declared.step.Step.TheVariants.{Acquire as ACQUI
 ghost use Rattle.hl_model.specs.Offsets.{place_of, tail};
 ghost use Rattle.hl_keeper.specs.Passes.{seen, with_rider, with_tail};
 ghost use Rattle.hl_keeper.specs.Calls.{call_fault, without_back, pass_after, Makes, MakesAt, MakesTouched};
+ghost use Rattle.hl_keeper.specs.Leases.{placed};
 ghost use Rattle.hl_core.specs.Holding.{least_free};
 ghost use Rattle.hl_domain.specs.Domains.{call_of, pass_call, enter_call, with_held, acquirer, releaser, MakesUnderLock, Refreshed};
 
@@ -11,7 +12,7 @@ use crate::domain::Domain;
 use crate::domain::held::Held;
 use hl_action::{Promise, Task};
 use hl_epoch::Epochs;
-use hl_keeper::Pass;
+use hl_keeper::{Lease, Pass};
 use hl_model::{Fault, View};
 use hl_words::{Realm, Rider};
 use std::sync::Wait;
@@ -135,5 +136,30 @@ impl<E: Epochs + Drop, F: Task, P: Promise, L: Realm> Domain<E, F, P, L> {
         let placed = keeper.allocate(&self.words, pass, n);
         self.note(keeper, before, scribe, pass.rider_mut());
         placed
+    }
+
+    /// Places a piece of n words as [`allocate`](Domain::allocate) places a record, and returns its lease, from which
+    /// small records are taken without the lock.
+    ///
+    /// Faults: those of `allocate`.
+    pub fn lease(&self, rt: &impl Wait, pass: &mut Pass<L>, n: u64) -> Result<Lease, Fault>
+        ensures met { let p = pass.old
+            in let call = pass_call p (ALLOCATE p.slot n) pass.new.rider
+            in MakesUnderLock F self.now call (placed result) (λ old.
+            MakesTouched old p (ALLOCATE p.slot n) (λ A. call_fault old A p (ALLOCATE p.slot n))
+            (λ A. place_of old.core.sizes.page_size (tail old.core.sizes (A ++ p.touches)) n)) }
+        ensures pass { let old = with_rider pass.new.rider pass.old
+            in MatchResult result
+            (λ lease. pass.new ≡ with_held old.epoch (with_tail lease.end (seen old)) old)
+            (λ _. pass.new ≡ old) }
+        ensures piece { IfOk result (λ lease. lease.end ≡ lease.next + n) }
+        ensures above { IfOk result (λ lease. (seen pass.old).tail ≤ lease.next) }
+        ensures one_page { let page_size = self.now.sizes.page_size
+            in IfOk result (λ lease. lease.next / page_size ≡ (lease.end - 1) / page_size) }
+    {
+        match self.allocate(rt, pass, n) {
+            Ok(address) => Ok(Lease::of(address, n)),
+            Err(fault) => Err(fault),
+        }
     }
 }

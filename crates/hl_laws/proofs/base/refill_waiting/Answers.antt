@@ -1,5 +1,5 @@
 use Rattle.std.proofs.Common.{sym, ap, ◌∙◌, ◌++◌, ◌∷◌, [], vec_capacity, arith}
-use Rattle.hl_laws.proofs.BaseRooms.{take_more, never_none}
+use Rattle.hl_model.proofs.Placed.{take_more, never_none}
 use Rattle.hl_laws.proofs.base.refill_waiting.Goals.{in-Some, in_default}
 use Rattle.hl_laws.proofs.base.refill_waiting.Goals as goal
 

@@ -6,7 +6,7 @@ use Rattle.hl_plain.proofs.plain.Plain.open.Goals as goal
 
 pub begin-requires-clause-history : goal.begin-requires-clause-history
 begin-requires-clause-history c =
-    subst (λ (b : Base). IsHistory (begun b true)) (sym c.in_ok-base.ensures.ok) (IsHistory-opening c.args.params (c.is_narrow.ensures.0 cc))
+    subst (λ (b : Base). IsHistory (begun b true)) (sym c.in_ok-base.ensures.ok) (IsHistory-opening c.args.params c.frames-room.ensures.valid)
 
 pub begin-requires-clause-room : goal.begin-requires-clause-room
 unfolding base_of

@@ -1,7 +1,7 @@
 use Rattle.std.proofs.Common.{[], replicate, ap, ◌∙◌, arith, None}
 use Rattle.hl_laws.proofs.AcceptedLaws.{good-nil}
 use Rattle.hl_laws.proofs.BaseStart.{all_zeros, opening-base}
-use Rattle.hl_laws.proofs.base.Base.opening.Goals as goal
+use Rattle.hl_laws.proofs.base.Base.of_sizes.Goals as goal
 
 pub invariant_of-result : goal.invariant_of-result
 invariant_of-result c =

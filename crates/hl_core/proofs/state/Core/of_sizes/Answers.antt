@@ -1,6 +1,6 @@
 use Rattle.std.proofs.Common.{[], refl, ◌∙◌}
 use Rattle.hl_core.proofs.StartStands.{stands_start}
-use Rattle.hl_core.proofs.state.Core.open.Goals as goal
+use Rattle.hl_core.proofs.state.Core.of_sizes.Goals as goal
 
 pub invariant_of-result : goal.invariant_of-result
 invariant_of-result g c = record {
