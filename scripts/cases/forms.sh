@@ -1,5 +1,6 @@
-# Both forms write the same text of long scripts. A fixed generator makes their lines, one after another. It asks the
-# program for the status before each, so that pages go on and most kinds of refusals come too.
+# Both forms, and the fast one over both tables of epochs, write the same text of long scripts. A fixed generator makes
+# their lines, one after another. It asks the program for the status before each, so that pages go on and most kinds of
+# refusals come too.
 
 # The beginnings of the lines that the texts are to have, together.
 beginnings=(opened "epoch " left "ticket " "bumped " "taken " "answer " "safe_read_only " "closed " "read_only " "head " "at "
@@ -148,7 +149,8 @@ next_line() {
     esac
 }
 
-# A script of 1,000 lines with these sizes has one text in both forms, and that is what was answered line by line.
+# A script of 1,000 lines with these sizes has one text in both forms and over both tables, and that is what was
+# answered line by line.
 same_text() {
     local line="config $*" n t reply epoch safe pending taken closed head flushed safe_read_only read_only tail
     local page_size="$1" frames="$2" slots="$3" in_hand=0 last_taken=0 random=1 made=0
@@ -172,7 +174,8 @@ same_text() {
     cat "$room/expected" >> "$room/texts"
     [ "$made" = 1000 ] || { echo "no answer to '$line'"; return 1; }
     ((tail / page_size >= 3 * frames)) || { echo "only $((tail / page_size)) pages"; return 1; }
-    answers "$room/script" "$room/expected" 0 run && answers "$room/script" "$room/expected" 0 slow
+    answers "$room/script" "$room/expected" 0 run && answers "$room/script" "$room/expected" 0 slow || return
+    program="$small" answers "$room/script" "$room/expected" 0 scan
 }
 
 # The texts so far have all of the beginnings.

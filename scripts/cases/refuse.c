@@ -59,14 +59,25 @@ int pthread_create(pthread_t *made, const pthread_attr_t *attributes, void *(*st
     return next(made, attributes, start, given);
 }
 
-// A program ends so, also where its main returns.
-void _exit(int status) {
+static void tell_counts(void) {
+    // To tell them takes memory, too.
+    long calls_made = atomic_load(&calls);
     const char *path = getenv("COUNTED");
     FILE *file = path == NULL ? NULL : fopen(path, "w");
     if (file != NULL) {
-        fprintf(file, "%ld %ld\n", atomic_load(&calls), atomic_load(&threads));
+        fprintf(file, "%ld %ld\n", calls_made, atomic_load(&threads));
         fclose(file);
     }
+}
+
+// A program ends by its main's return.
+__attribute__((destructor)) static void end(void) {
+    tell_counts();
+}
+
+// Or so, also where its main returns.
+void _exit(int status) {
+    tell_counts();
     syscall(SYS_exit_group, status);
     __builtin_unreachable();
 }

@@ -7,7 +7,7 @@ use crate::status::{DONE, REFUSED, failed};
 use hl_action::Task;
 use hl_cells::Engine;
 use hl_counts::CountTable;
-use hl_epoch::Epochs;
+use hl_epoch::{Epochs, ScanTable};
 use hl_flush::flush_one;
 use hl_image::HexWriter;
 use hl_model::Fault;
@@ -26,7 +26,21 @@ pub fn run<R: Read, W: Write, E: Write>(
 ) -> u8
     ensures { result ≤ 2 }
 {
-    let ended = serve(alloc, flush, reader, writer);
+    let ended = serve::<CountTable, R, W>(alloc, flush, reader, writer);
+    status_of(ended, writer, errors)
+}
+
+/// The same over a table of epochs that scans its slots: a second table, by which tests answer scripts.
+pub fn scan<R: Read, W: Write, E: Write>(
+    alloc: Global,
+    flush: bool,
+    reader: &mut R,
+    writer: &mut W,
+    errors: &mut E,
+) -> u8
+    ensures { result ≤ 2 }
+{
+    let ended = serve::<ScanTable, R, W>(alloc, flush, reader, writer);
     status_of(ended, writer, errors)
 }
 
@@ -72,15 +86,15 @@ fn status_of<W: Write, E: Write>(ended: Result<(), Fault>, writer: &mut W, error
     }
 }
 
-/// Runs the script, and flushes the pages that it left sealed where that is wanted.
-fn serve<R: Read, W: Write>(
+/// Runs the script over a table of epochs, and flushes the pages that it left sealed where that is wanted.
+fn serve<E: Epochs + Drop, R: Read, W: Write>(
     alloc: Global,
     flush: bool,
     reader: &mut R,
     writer: &mut W,
 ) -> Result<(), Fault> {
     let shelf = all_jobs(alloc)?;
-    let ended: Option<Finished<CountTable, AddTicket>> = run_text(alloc, reader, writer, shelf)?;
+    let ended: Option<Finished<E, AddTicket>> = run_text(alloc, reader, writer, shelf)?;
     let Some(finished) = ended else {
         return Ok(());
     };

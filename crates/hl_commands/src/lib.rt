@@ -3,6 +3,7 @@
 //! | Command | What it does |
 //! |---|---|
 //! | [`run`] | answers a script, and flushes its sealed pages where that is wanted |
+//! | [`scan`] | does so over a table of epochs that scans, for tests |
 //! | [`slow`] | answers it in the slow form |
 //! | [`report`] | runs it without its answers, and reports what it left |
 //!
@@ -12,7 +13,7 @@
 //!
 //! | Module | What it does |
 //! |---|---|
-//! | `commands` | the three commands |
+//! | `commands` | the commands |
 //! | `reports` | a script and its report |
 //! | `jobs` | the jobs of a script |
 //! | `status` | the statuses, and the line of a fault |
@@ -23,5 +24,5 @@ mod jobs;
 mod reports;
 mod status;
 
-pub use commands::{report, run, slow};
+pub use commands::{report, run, scan, slow};
 pub use status::{DONE, FAILED, REFUSED, failed};

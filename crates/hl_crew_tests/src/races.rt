@@ -4,6 +4,7 @@ ghost use Rattle.std.specs.Prelude.{◌≡◌};
 ghost use Rattle.hl_words.specs.States.{IsSeedOf};
 
 use crate::crew::{Anything, Pages, STAMP, Ticket, allocate_pages, seed};
+use hl_counts::CountTable;
 use hl_domain::Ending;
 use hl_model::{Fault, Params};
 use hl_race::{Race, agrees_from_the_base, agrees_from_the_start, run_race_within};
@@ -17,7 +18,8 @@ use std::test::Fail;
 fn full_journals_end_a_race(rt: HostRuntime) -> Result<(), Fail> {
     for journal in [0, 1, 40, 500] {
         let race = Race::checked(4, 200, false).ok_or("a race in range")?;
-        assert!(rt; run_race_within(&rt, rt.alloc(), race, journal)?.agrees);
+        let raced = run_race_within(&rt, rt.alloc(), race, journal)?;
+        assert!(rt; raced.agrees && raced.has_images);
     }
     Ok(())
 }
@@ -30,7 +32,7 @@ fn a_race_makes_all_its_rounds(rt: HostRuntime) -> Result<(), Fail> {
     for cut in [false, true] {
         let race = Race::checked(2, 10, cut).ok_or("a race in range")?;
         let raced = run_race_within(&rt, rt.alloc(), race, 1_000)?;
-        assert!(rt; raced.agrees && raced.steps >= 64 && raced.loads == 20);
+        assert!(rt; raced.agrees && raced.has_images && raced.steps >= 64 && raced.loads == 20);
     }
     Ok(())
 }
@@ -74,7 +76,7 @@ fn audited<R: Wait, L: Realm>(
     requires named { (seed.sizes ≡ L.sizes) × (STAMP ≡ L.stamp) × (100 ≡ L.limit) }
 {
     let params = seed.params();
-    let (domain, mut riders) = Pages::<L>::open(alloc, seed, 100, STAMP)?;
+    let (domain, mut riders) = Pages::<CountTable, L>::open(alloc, seed, 100, STAMP)?;
     let rider = allocate_pages(rt, &domain, riders.pop().ok_or(Fault::Size)?)?;
     riders.push(rider).map_err(|_| Fault::OutOfMemory)?;
     let mut ending = match domain.close(riders) {

@@ -1,9 +1,9 @@
 //! Answers scripts until the whole program is proved: `hl_first run`, `run --flush`, `slow` and `report` do what `hl_tool`
-//! does by these words, and no other words are taken. It has no command line to put together and no race, so that it
-//! is read and proved sooner.
+//! does by these words. It has no command line to put together and no race, so that it is read and proved sooner. Tests
+//! have one command more, `scan`, which is `run` over the other table of epochs. No other words are taken.
 #![tactic(auto)]
 
-use hl_commands::{REFUSED, report, run, slow};
+use hl_commands::{REFUSED, report, run, scan, slow};
 use std::io::{BufWriter, Write};
 use std::process::ExitCode;
 use std::{env, io};
@@ -23,6 +23,8 @@ fn main(rt: HostRuntime) -> io::Result<ExitCode> {
     let status = match (form, flag) {
         ("run", None) => run(alloc, false, input, &mut output, errors),
         ("run", Some("--flush")) => run(alloc, true, input, &mut output, errors),
+        ("scan", None) => scan(alloc, false, input, &mut output, errors),
+        ("scan", Some("--flush")) => scan(alloc, true, input, &mut output, errors),
         ("slow", None) => slow(alloc, input, &mut output, errors),
         ("report", None) => report(alloc, input, &mut output, errors),
         _ => {

@@ -6,10 +6,7 @@ use hl_domain::Ending;
 use hl_image::MemoryWriter;
 use hl_model::{Fault, Params, Snapshot, Step, Tag};
 use hl_plain::Plain;
-use hl_turns::bump_anew;
 use std::alloc::Global;
-use std::sync::Wait;
-use std::thread::Threads;
 
 /// Whether a fresh core takes all steps of the journal, and is then at the closing snapshot, and riders entered as
 /// many steps as there are. It is for a journal that was never cut.
@@ -46,18 +43,6 @@ pub fn agrees_from_the_base<F: Task, P: Promise>(
     }
     let counted = ending.cut.checked_add(ending.journal.len() as u64) == Some(shares);
     Ok(counted && plain.snapshot() == ending.snapshot)
-}
-
-/// Whether two threads that bump a domain of their own are answered as one list has it: one ended epoch 1, the other
-/// epoch 2, and the current epoch is 3. That it is so where neither is refused is proved; here it is run.
-///
-/// `OutOfMemory` if memory was refused.
-pub(crate) fn bumps_in_turn<R: Threads + Wait + Sync>(
-    rt: &R,
-    alloc: Global,
-) -> Result<bool, Fault> {
-    let turns = bump_anew(rt, alloc).ok_or(Fault::OutOfMemory)?;
-    Ok(matches!((turns.one, turns.two, turns.epoch), (1, 2, 3) | (2, 1, 3)))
 }
 
 /// Whether each page below this one has an image in one of the writers.

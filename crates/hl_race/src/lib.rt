@@ -4,8 +4,8 @@
 //! What threads do in which order is open, so nothing is known of a race beforehand but that its steps are lawful and
 //! leave what the domain is at when it is closed. Without cuts a fresh core takes all steps of the journal; with cuts
 //! the slow form, from the base of the steps that were cut, takes those since. The audit compares what they are at with
-//! the closing snapshot, and the steps with the sum of the riders' shares. It also looks for an image of each flushed
-//! page, and lets two threads bump a domain of their own, whose answers one list decides (`hl_turns::bump_anew`).
+//! the closing snapshot, and the steps with the sum of the riders' shares. Whether each flushed page has an image is
+//! told beside.
 #![tactic(auto)]
 
 mod audit;

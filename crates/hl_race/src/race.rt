@@ -3,7 +3,7 @@ ghost use Rattle.std.specs.Prelude.{◌≡◌, ◌≤◌, ◌↔◌, IsSome, IfS
 ghost use Rattle.hl_words.specs.States.{IsSeedOf};
 ghost use Rattle.hl_keeper.specs.Keepers.{steps_most};
 
-use crate::audit::{agrees_from_the_base, agrees_from_the_start, bumps_in_turn, has_images};
+use crate::audit::{agrees_from_the_base, agrees_from_the_start, has_images};
 use crate::riders::ride;
 use hl_action::{AnyAnswer, NoJob};
 use hl_counts::CountTable;
@@ -97,10 +97,11 @@ struct CrewBack<L: Realm> {
 /// How a race ended.
 #[derive(Clone, Copy, Debug, PartialEq, Eq)]
 pub struct Raced {
-    /// Whether its steps were all lawful and left what the domain was at when it was closed, the riders entered as
-    /// many steps as there are, and each page that is flushed has an image; and whether two threads that bumped a new
-    /// domain beside were answered by one list.
+    /// Whether its steps were all lawful and left what the domain was at when it was closed, and the riders entered as
+    /// many steps as there are.
     pub agrees: bool,
+    /// Whether each page that is flushed has an image in one of the crew's writers.
+    pub has_images: bool,
     /// How many steps were entered, those that were cut among them.
     pub steps: u64,
     /// How many loads of the riders were answered by a word. No step tells of a load.
@@ -162,16 +163,15 @@ fn race_over<L: Realm + Send + Sync, R: Threads + Wait + Sync>(
         .fold(0u64, |sum, rider| sum.wrapping_add(rider.share()));
     let ending = domain.close(riders).map_err(|(fault, _, _)| fault)?;
     let steps = ending.cut.saturating_add(ending.journal.len() as u64);
-    // A page that a refused crew told as written has its image too.
     let flushed = ending.snapshot.six.flushed / params.page_size();
     let has_images = has_images(&writers, flushed);
+    // A refused crew has the image of each page that it told as written, or else it is none that agrees.
     if has_images {
         ended?;
     }
     Ok(Raced {
-        agrees: has_images
-            && bumps_in_turn(rt, alloc)?
-            && agrees(alloc, params, race, &ending, shares)?,
+        agrees: ended.is_ok() && agrees(alloc, params, race, &ending, shares)?,
+        has_images,
         steps,
         loads: loads.into_inner(),
     })
