@@ -54,7 +54,7 @@ impl<R: Wait> Work<R> for Retiring {
         number: u64,
     ) -> Result<(), Fault> {
         for words in 1..=2 {
-            let row = row_of(self.alloc, words, number)?;
+            let row = vec![in self.alloc; 0; words].map_err(|_| Fault::OutOfMemory)?;
             let freed = Arc::try_clone(&self.freed).map_err(|_| Fault::OutOfMemory)?;
             session.bump(Ask::User(Kept::new(number, Retired { row, freed })))?;
         }
@@ -64,15 +64,6 @@ impl<R: Wait> Work<R> for Retiring {
     fn write_page(&self, _rt: &R, _page: u64, _image: &[u8]) -> bool {
         true
     }
-}
-
-// A row of this many words.
-fn row_of(alloc: Global, words: usize, word: u64) -> Result<Vec<u64>, Fault> {
-    let mut row = Vec::new(alloc);
-    for _ in 0..words {
-        row.push(word).map_err(|_| Fault::OutOfMemory)?;
-    }
-    Ok(row)
 }
 
 /// Opens a log with 16 places for actions; the answer is how many words were freed once it was closed.

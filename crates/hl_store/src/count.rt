@@ -13,6 +13,9 @@ const THREADS: u64 = 4;
 /// How often each thread adds to a counter.
 const ROUNDS: usize = 100;
 
+/// Half of 2^64: sums are modulo that, so two of these add up to nothing.
+const HALF: u64 = 1 << 63;
+
 /// A number for each counter.
 type Sums = [u64; COUNTERS];
 
@@ -116,7 +119,8 @@ impl Counting {
         number: u64,
     ) -> Result<Sums, Fault> {
         let mut sums = [0; COUNTERS];
-        let more = number.wrapping_add(1);
+        // Each counter is added to an even number of times.
+        let more = number.wrapping_add(1).wrapping_add(HALF);
         let own = number.wrapping_add(1000);
         for round in 0..ROUNDS {
             let counter = round % COUNTERS;
