@@ -19,6 +19,9 @@ use Rattle.hl_frames.proofs.CounterLaws.{counts-fit, counts-ended}
 use Rattle.hl_frames.proofs.frames.Frames.flush_done.Goals as goal
 use Rattle.hl_frames.proofs.frames.Frames.flush_done.Goals.{then-not-ok, else-not-ok}
 
+pub returns-clause-pages : goal.returns-clause-pages
+returns-clause-pages c = grind (arith, common_steps)
+
 -- the page is in flight
 flies : (c : goal.After-skip_flushed-arg-1) → is_in_flight c.args.page (pages_of c.self.inside) ≡ true
 flies c =
@@ -96,6 +99,16 @@ kept_with c to_flush stored placed =
       turns = rw length-set (record { enter = kept.turns.enter; flush_done = omega (arith, c.end_flush.ensures.turns, c.skip_flushed-walk.ensures.turns, kept.stored.flushed, run-recent (pages_of c.self.inside) kept.pages); clean_done = kept.turns.clean_done });
     }
 
+pub returns-clause-answer : goal.returns-clause-answer
+returns-clause-answer c =
+    let T' = flush_ended c.args.page c.args.ok (pages_of c.self.inside) in
+    let offset : c.skip_flushed-walk.result.at.page * c.self.inside.page_size ≡ flushed_offset T' = ap (λ n. n * c.self.inside.page_size) (moved c) in
+    let told : c.if-not-ok.self-inside.run.page * c.if-not-ok.self-inside.page_size ≡ flushed_offset T' = elim c.if-not-ok.branch [
+      | then-not-ok w ↦ rw w.self-inside-is offset
+      | else-not-ok w ↦ rw w.self-inside-is offset
+    ] in
+    rw (← c.self.view_is) (rw (flies (at_deref c)) (ap (λ (n : ℕ). Ok n) told))
+
 pub invariant_of-self : goal.invariant_of-self
 invariant_of-self c =
     let a = c.self.inside in
@@ -112,16 +125,6 @@ invariant_of-self c =
       | else-not-ok w ↦ rw w.self-inside-is (kept_with c a.to_flush (stored-ended_ok T c.args.page c.args.ok a.run.page run a.to_flush.page a.to_clean.page c.self.invariant.pages (flies here) w.if-not-ok.false c.self.invariant.stored (moved c)) c.self.invariant.to_flush_placed)
     ]
 
-pub returns-clause-answer : goal.returns-clause-answer
-returns-clause-answer c =
-    let T' = flush_ended c.args.page c.args.ok (pages_of c.self.inside) in
-    let offset : c.skip_flushed-walk.result.at.page * c.self.inside.page_size ≡ flushed_offset T' = ap (λ n. n * c.self.inside.page_size) (moved c) in
-    let told : c.if-not-ok.self-inside.run.page * c.if-not-ok.self-inside.page_size ≡ flushed_offset T' = elim c.if-not-ok.branch [
-      | then-not-ok w ↦ rw w.self-inside-is offset
-      | else-not-ok w ↦ rw w.self-inside-is offset
-    ] in
-    rw (← c.self.view_is) (rw (flies (at_deref c)) (ap (λ (n : ℕ). Ok n) told))
-
 pub returns-clause-valid : goal.returns-clause-valid
 returns-clause-valid c =
     let here = at_deref c in
@@ -129,9 +132,6 @@ returns-clause-valid c =
       | then-not-ok w ↦ rw w.self-inside-is (rw (row here) (known here))
       | else-not-ok w ↦ rw w.self-inside-is (rw (row here) (known here))
     ]
-
-pub returns-clause-pages : goal.returns-clause-pages
-returns-clause-pages c = grind (arith, common_steps)
 
 pub overflow_mul-result : goal.overflow_mul-result
 overflow_mul-result c = search rules
