@@ -123,17 +123,29 @@ struct Snapshot {
     std::array<Word, 5> frames;
 };
 
+/// Four numbers for Sizes::of(), by their names: so none stands in another's place.
+struct RawSizes {
+    Word page_size;
+    Word frames;
+    Word slots;
+    Word drain_places;
+};
+
 /// Sizes in their ranges: words a page (a power of two), frames, slots, and places in the drain list.
 class Sizes {
   public:
     /// Narrow sizes: a page of 4 to 4,096 words, 2 to 256 frames, 1 to 64 slots and places. OutOfRange: one of them is.
     [[nodiscard]] static Result<Sizes> checked(Word page_size, Word frames, Word slots, Word drain_places) {
-        return within({4096, 256, 64, 64}, page_size, frames, slots, drain_places);
+        return within({4096, 256, 64, 64}, {page_size, frames, slots, drain_places});
     }
     /// Sizes for an engine: a page of 4 to 2^20 words, 2 to 2^16 frames, 1 to 1,024 slots, 1 to 4,096 places.
     /// OutOfRange: one of them is.
     [[nodiscard]] static Result<Sizes> wide(Word page_size, Word frames, Word slots, Word drain_places) {
-        return within({Word(1) << 20, Word(1) << 16, 1024, 4096}, page_size, frames, slots, drain_places);
+        return of({page_size, frames, slots, drain_places});
+    }
+    /// The same by names: wide sizes.
+    [[nodiscard]] static Result<Sizes> of(RawSizes raw) {
+        return within({Word(1) << 20, Word(1) << 16, 1024, 4096}, raw);
     }
 
 #if defined(HL_EXCEPTIONS)
@@ -154,19 +166,17 @@ class Sizes {
 
   private:
     struct Exact {};
-    struct Most {
-        Word page_size, frames, slots, drain_places;
-    };
-    [[nodiscard]] static Result<Sizes> within(Most most, Word page_size, Word frames, Word slots, Word drain_places) {
-        bool is_power = page_size != 0 && (page_size & (page_size - 1)) == 0;
-        if (!is_power || page_size < 4 || page_size > most.page_size || frames < 2 || frames > most.frames ||
-            slots < 1 || slots > most.slots || drain_places < 1 || drain_places > most.drain_places)
+    [[nodiscard]] static Result<Sizes> within(RawSizes most, RawSizes raw) {
+        bool is_power = raw.page_size != 0 && (raw.page_size & (raw.page_size - 1)) == 0;
+        if (!is_power || raw.page_size < 4 || raw.page_size > most.page_size || raw.frames < 2 ||
+            raw.frames > most.frames || raw.slots < 1 || raw.slots > most.slots || raw.drain_places < 1 ||
+            raw.drain_places > most.drain_places)
             return Refused(Refusal{Fault::OutOfRange});
-        return Sizes(Exact{}, page_size, frames, slots, drain_places);
+        return Sizes(Exact{}, raw);
     }
-    constexpr Sizes(Exact, Word page_size, Word frames, Word slots, Word drain_places) noexcept
-        : page_size_(page_size), frames_(frames), slots_(slots), drain_places_(drain_places) {
-        while (page_size >> page_bits_ > 1)
+    constexpr Sizes(Exact, RawSizes raw) noexcept
+        : page_size_(raw.page_size), frames_(raw.frames), slots_(raw.slots), drain_places_(raw.drain_places) {
+        while (raw.page_size >> page_bits_ > 1)
             page_bits_++;
     }
 

@@ -61,6 +61,16 @@ static void sizes() {
     for (auto &row : out_of_wide_range)
         wants("wide sizes out of range", hl::Sizes::wide(row[0], row[1], row[2], row[3]), hl::Fault::OutOfRange);
     is("the greatest wide sizes", hl::Sizes::wide(1 << 20, 1 << 16, 1024, 4096).has_value());
+    hl::RawSizes raw{};
+    raw.page_size = 8;
+    raw.frames = 65536;
+    raw.slots = 1;
+    raw.drain_places = 2;
+    hl::Sizes named = hl::Sizes::of(raw).value();
+    is("sizes by names",
+       named.page_size() == 8 && named.frames() == 65536 && named.slots() == 1 && named.drain_places() == 2);
+    raw.slots = 1025;
+    wants("sizes by names out of range", hl::Sizes::of(raw), hl::Fault::OutOfRange);
 }
 
 static void no_core() {

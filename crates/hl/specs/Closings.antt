@@ -2,6 +2,7 @@
 use Rattle.std.specs.Prelude.{◌≡◌, ◌≢◌, ◌<◌, ◌+◌, ℕ, Result, MatchResult, IfOk, List, length, slice_index_or}
 use Rattle.hl_model.specs.declared.fault.Fault.{Fault}
 use Rattle.hl_model.specs.declared.fault.Fault.TheVariants.{Stranger}
+use Rattle.hl_model.specs.Sizes.{Sizes}
 use Rattle.hl_words.specs.States.{RiderState}
 use Rattle.hl_domain.specs.Domains.{IsEnding}
 use Rattle.hl.specs.declared.open.Closed.{Closed}
@@ -9,7 +10,7 @@ use Rattle.hl.specs.declared.opening.Opening.{Opening}
 
 -- the part handed out its result and these riders; where they are all, the ending is that of a log with them,
 -- and otherwise it was refused
-pub record IsClosed {Out F : Type 0} (o : Opening) (Leaves : Out → List RiderState → Type 0)
+pub record IsClosed {Out F : Type 0} (o : Opening Sizes) (Leaves : Out → List RiderState → Type 0)
     (closed : Closed Out F) : Type 0 where
   pub riders : List RiderState
   pub left : Leaves closed.out riders

@@ -16,5 +16,5 @@ unfoldable pub can_serve : Sizes → Duty → Bool
 can_serve sizes duty = nat_eq duty.frames sizes.frames
 
 -- a log that can be opened with riders for a crew of this duty
-unfoldable pub can_run : Opening → Duty → Bool
+unfoldable pub can_run : Opening Sizes → Duty → Bool
 can_run o duty = can_open o && (nat_le 4 o.riders && can_serve o.params duty)

@@ -10,7 +10,7 @@ use hl_action::{Promise, Task};
 use hl_crew::{CrewEnd, Duty, Gate, Stop, serve};
 use hl_epoch::Epochs;
 use hl_image::PageWriter;
-use hl_model::{Fault, Params};
+use hl_model::{Fault, Sizes};
 use hl_words::{Realm, Rider};
 use std::alloc::Global;
 use std::sync::Wait;
@@ -189,7 +189,7 @@ impl<L: Realm, W> From<(Fault, [Rider<L>; 4], W, W)> for Refused<Crew<L, W>> {
 
 /// Whether a duty is one for logs of these sizes.
 #[tactic(auto, unfolding(crate::specs::Crews::can_serve))]
-pub(crate) fn is_for(duty: Duty, params: Params) -> bool
+pub(crate) fn is_for(duty: Duty, params: Sizes) -> bool
     ensures value { result ≡ can_serve params duty }
     ensures frames { result ≡ true → duty.frames ≡ params.frames }
 {

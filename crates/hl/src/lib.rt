@@ -9,6 +9,7 @@
 //! | to open a log, use it and close it | [`with_log`], with an [`Opening`] and a [`Part`] of your own |
 //! | the same with threads and a crew | [`with_threads`], with a [`Work`] of your own and a [`Duty`] |
 //! | to place, store and load words in a thread | a [`Session`], which a [`Rider`] enters |
+//! | to place small records without the lock | a [`Lease`], which [`Session::lease`] returns |
 //! | pages written and frames freed behind the threads | a [`Crew`], by a [`Duty`], with two page writers, until its [`Stop`] is given |
 //! | to know why a call was refused, and what it was handed | [`Fault`], [`Refused`] |
 //! | jobs that run once all threads have moved on | a [`Task`], the `Job` of your [`Work`] or [`Part`], which [`Session::bump`] stores |
@@ -40,7 +41,7 @@ pub use hl_drain::{Action, Ask, Drain};
 pub use hl_epoch::{Epochs, ScanTable};
 pub use hl_image::{HexWriter, MemoryWriter, PageWriter};
 pub use hl_laws::Base;
-pub use hl_model::{Fault, Params, Reply, Six, Snapshot, Step, View};
+pub use hl_model::{Fault, HasSizes, Params, RawSizes, Reply, Six, Sizes, Snapshot, Step, View};
 pub use hl_words::{OffsetWords, Realm, Rider, RiderView, Seed, Touch, Words};
 pub use log::Log;
 pub use open::{Closed, with_log};

@@ -2,7 +2,7 @@
 ghost use Rattle.std.specs.Prelude.{◌≡◌, true, false, Err, IfOk, IfErr, replicate};
 ghost use Rattle.hl_model.specs.declared.fault.Fault.TheVariants.{OutOfMemory, Size};
 ghost use Rattle.hl_words.specs.States.{IsSeedOf, new_rider};
-ghost use Rattle.hl.specs.Openings.{can_open, IsInRange, opened_as, was_refused};
+ghost use Rattle.hl.specs.Openings.{can_open, of_sizes, IsInRange, opened_as, was_refused};
 ghost use Rattle.hl.specs.Closings.{IsClosed};
 
 use crate::log::Log;
@@ -11,7 +11,7 @@ use crate::part::Part;
 use crate::refused::Refused;
 use hl_action::{AnyAnswer, NoJob, Task};
 use hl_domain::Ending;
-use hl_model::Fault;
+use hl_model::{Fault, HasSizes, Sizes};
 use hl_words::{Realm, Seed};
 use std::alloc::Global;
 use std::marker::Brand;
@@ -30,10 +30,28 @@ pub struct Closed<T, F: Task = NoJob> {
 ///
 /// Faults, with the part handed back: `Size` if the opening is out of range, `OutOfMemory` if
 /// memory was refused.
-pub fn with_log<R, P: Part<R>>(
+pub fn with_log<R, P: Part<R>, S: HasSizes>(
     rt: &R,
     alloc: Global,
-    opening: Opening,
+    opening: Opening<S>,
+    part: P,
+) -> Result<Closed<P::Out, P::Job>, Refused<P>>
+    requires wants { let o = of_sizes S.sizes_of opening
+        in P.wants part (opened_as o) (replicate o.riders new_rider) }
+    ensures size { can_open (of_sizes S.sizes_of opening) ≡ false
+        → result ≡ Err (was_refused Size part) }
+    ensures memory { can_open (of_sizes S.sizes_of opening) ≡ true
+        → IfErr result (λ refused. refused ≡ was_refused OutOfMemory part) }
+    ensures closed { IfOk result (IsClosed (of_sizes S.sizes_of opening) (P.leaves part)) }
+{
+    log_of_sizes(rt, alloc, opening.of_sizes(), part)
+}
+
+// The same, of wide sizes.
+fn log_of_sizes<R, P: Part<R>>(
+    rt: &R,
+    alloc: Global,
+    opening: Opening<Sizes>,
     part: P,
 ) -> Result<Closed<P::Out, P::Job>, Refused<P>>
     requires wants { P.wants part (opened_as opening) (replicate opening.riders new_rider) }
@@ -59,7 +77,7 @@ fn over<L: Realm + Send + Sync, R, P: Part<R>>(
     rt: &R,
     alloc: Global,
     seed: Seed,
-    opening: Opening,
+    opening: Opening<Sizes>,
     part: P,
 ) -> Result<Closed<P::Out, P::Job>, Refused<P>>
     requires seed { IsSeedOf L.name L.parts L.table seed }

@@ -1,7 +1,7 @@
 ghost use Rattle.std.specs.Prelude.{◌≡◌, true};
-ghost use Rattle.hl.specs.Openings.{can_open, IsInRange};
+ghost use Rattle.hl.specs.Openings.{can_open, of_sizes, IsInRange};
 
-use hl_model::Params;
+use hl_model::{HasSizes, Sizes};
 
 /// How many riders a log has at most.
 const RIDERS_MOST: u64 = 2048;
@@ -9,11 +9,11 @@ const RIDERS_MOST: u64 = 2048;
 /// The greatest length of a journal, and the greatest stamp.
 const STEPS_MOST: u64 = 1 << 62;
 
-/// What a log is opened with.
+/// What a log is opened with. `S` is [`Params`](hl_model::Params) or [`Sizes`].
 #[derive(Clone, Copy, Debug, PartialEq, Eq)]
-pub struct Opening {
+pub struct Opening<S = Sizes> {
     /// Words a page, frames, slots, and places for actions.
-    pub params: Params,
+    pub params: S,
     /// How many riders, 1 to 2,048: one for each thread that is to act at a time, and four for a crew.
     pub riders: u64,
     /// How many steps the journal may keep between two cuts, at most 2^62. Its memory is taken at the opening.
@@ -22,7 +22,7 @@ pub struct Opening {
     pub stamp: u64,
 }
 
-impl Opening {
+impl<S> Opening<S> {
     /// Whether each number is in its range.
     #[tactic(auto, unfolding(crate::specs::Openings::can_open))]
     pub fn is_in_range(&self) -> bool
@@ -33,5 +33,19 @@ impl Opening {
             && self.riders <= RIDERS_MOST
             && self.journal <= STEPS_MOST
             && self.stamp <= STEPS_MOST
+    }
+}
+
+impl<S: HasSizes> Opening<S> {
+    // The same, of wide sizes.
+    pub(crate) fn of_sizes(self) -> Opening<Sizes>
+        ensures { result ≡ of_sizes S.sizes_of self }
+    {
+        Opening {
+            params: self.params.sizes(),
+            riders: self.riders,
+            journal: self.journal,
+            stamp: self.stamp,
+        }
     }
 }

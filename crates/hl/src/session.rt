@@ -4,6 +4,7 @@ ghost use Rattle.hl_model.specs.declared.step.Step.TheVariants.{Release as RELEA
 ghost use Rattle.hl_model.specs.Offsets.{place_of, tail};
 ghost use Rattle.hl_keeper.specs.Passes.{seen, with_rider, with_tail};
 ghost use Rattle.hl_keeper.specs.Calls.{call_fault, MakesTouched};
+ghost use Rattle.hl_keeper.specs.Leases.{placed};
 ghost use Rattle.hl_domain.specs.Domains.{pass_call, with_held, after_news, stays_current, MakesUnderLock, Refreshed};
 ghost use Rattle.hl.specs.Sessions.{with_pass, fault_alone, unseated, Asked, Entered};
 
@@ -15,7 +16,7 @@ use crate::refused::Refused;
 use hl_action::{AnyAnswer, NoJob, Promise, Task};
 use hl_counts::CountTable;
 use hl_crew::Stop;
-use hl_domain::Pass;
+use hl_domain::{Lease, Pass};
 use hl_epoch::Epochs;
 use hl_model::{Fault, View};
 use hl_words::{Realm, Rider};
@@ -145,6 +146,28 @@ impl<'a, R: Wait, L: Realm, F: Task, P: Promise, E: Epochs + Drop> Session<'a, R
             in IfOk result (λ a. a / page_size ≡ (a + n - 1) / page_size) }
     {
         self.log.allocate(self.rt, &mut self.pass, n)
+    }
+
+    /// Places a piece of n words as [`allocate`](Session::allocate) places a record, and returns its lease, from which
+    /// small records are taken without the lock.
+    ///
+    /// Faults: those of `allocate`.
+    pub fn lease(&mut self, n: u64) -> Result<Lease, Fault>
+        ensures met { let p = self.old.pass
+            in let call = pass_call p (ALLOCATE p.slot n) self.new.pass.rider
+            in MakesUnderLock F self.old.log call (placed result) (λ old.
+            MakesTouched old p (ALLOCATE p.slot n) (λ A. call_fault old A p (ALLOCATE p.slot n))
+            (λ A. place_of old.core.sizes.page_size (tail old.core.sizes (A ++ p.touches)) n)) }
+        ensures pass { let pass = with_rider self.new.pass.rider self.old.pass
+            in MatchResult result
+            (λ lease. self.new ≡ with_pass (with_held pass.epoch (with_tail lease.end (seen pass)) pass) self.old)
+            (λ _. self.new ≡ with_pass pass self.old) }
+        ensures piece { IfOk result (λ lease. lease.end ≡ lease.next + n) }
+        ensures above { IfOk result (λ lease. (seen self.old.pass).tail ≤ lease.next) }
+        ensures one_page { let page_size = self.old.log.sizes.page_size
+            in IfOk result (λ lease. lease.next / page_size ≡ (lease.end - 1) / page_size) }
+    {
+        self.log.lease(self.rt, &mut self.pass, n)
     }
 
     /// Releases the slot; returns the rider.

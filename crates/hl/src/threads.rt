@@ -2,7 +2,7 @@
 ghost use Rattle.std.specs.Prelude.{◌≡◌, ◌+◌, ℕ, List, map, length, true, false, Err, IfOk, IfErr, ⊤};
 ghost use Rattle.hl_model.specs.declared.fault.Fault.TheVariants.{OutOfMemory, Size};
 ghost use Rattle.hl_words.specs.States.{IsSeedOf};
-ghost use Rattle.hl.specs.Openings.{IsInRange};
+ghost use Rattle.hl.specs.Openings.{of_sizes, IsInRange};
 ghost use Rattle.hl.specs.Crews.{can_run};
 ghost use Rattle.hl.specs.Closings.{IsClosed, AreReturned, AllReturned};
 
@@ -15,7 +15,7 @@ use crate::session::Session;
 use crate::sink::Sink;
 use hl_action::Task;
 use hl_crew::{Duty, OpenGate, Stop};
-use hl_model::Fault;
+use hl_model::{Fault, HasSizes, Sizes};
 use hl_words::{Realm, Rider, Seed};
 use std::alloc::{AllocError, Global};
 use std::marker::Brand;
@@ -72,10 +72,28 @@ type Worked<L, T> = (Result<T, Fault>, Rider<L>);
 /// frames than the duty was checked for; `OutOfMemory` if memory was refused before the threads
 /// ran. What is refused later is told by `out`: a refused crew gives its riders back, so that the
 /// log is closed; riders that are lost with the threads' row are missing at the end.
-pub fn with_threads<R: Threads + Wait + Sync, P: Work<R> + Sync>(
+pub fn with_threads<R: Threads + Wait + Sync, P: Work<R> + Sync, S: HasSizes>(
     rt: &R,
     alloc: Global,
-    opening: Opening,
+    opening: Opening<S>,
+    duty: Duty,
+    work: &P,
+) -> Result<Closed<Result<Outs<P::Out>, Fault>, P::Job>, Fault>
+    ensures size { can_run (of_sizes S.sizes_of opening) duty ≡ false → result ≡ Err Size }
+    ensures memory { can_run (of_sizes S.sizes_of opening) duty ≡ true
+        → IfErr result (λ fault. fault ≡ OutOfMemory) }
+    ensures closed { let o = of_sizes S.sizes_of opening
+        in IfOk result (IsClosed o (λ out riders. IfOk out
+        (λ outs. AllReturned (P.returns work.now) o.riders outs.items riders))) }
+{
+    threads_of_sizes(rt, alloc, opening.of_sizes(), duty, work)
+}
+
+// The same, of wide sizes.
+fn threads_of_sizes<R: Threads + Wait + Sync, P: Work<R> + Sync>(
+    rt: &R,
+    alloc: Global,
+    opening: Opening<Sizes>,
     duty: Duty,
     work: &P,
 ) -> Result<Closed<Result<Outs<P::Out>, Fault>, P::Job>, Fault>
@@ -93,7 +111,7 @@ pub fn with_threads<R: Threads + Wait + Sync, P: Work<R> + Sync>(
 
 // Whether the opening is in range, has riders for the crew, and as many frames as its duty was checked for.
 #[tactic(auto, unfolding(crate::specs::Crews::can_run))]
-fn has_room(opening: &Opening, duty: Duty) -> bool
+fn has_room(opening: &Opening<Sizes>, duty: Duty) -> bool
     ensures value { result ≡ can_run opening.now duty }
     ensures range { result ≡ true → IsInRange opening.now }
 {
@@ -105,7 +123,7 @@ fn threads_over<L: Realm + Send + Sync, R: Threads + Wait + Sync, P: Work<R> + S
     rt: &R,
     alloc: Global,
     seed: Seed,
-    opening: Opening,
+    opening: Opening<Sizes>,
     duty: Duty,
     work: &P,
 ) -> Result<Closed<Result<Outs<P::Out>, Fault>, P::Job>, Fault>

@@ -40,7 +40,11 @@ pub extern "C" fn hl_open_wide(
         (record { page_size = page_size; frames = frames; slots = slots; drain = drain })
         handle.new.slot.value result }
 {
-    open_with(alloc, handle, Sizes::checked(page_size, frames, slots, drain))
+    open_with(
+        alloc,
+        handle,
+        Sizes::checked(page_size, frames, slots, drain),
+    )
 }
 
 /// Narrow sizes, if these are.

@@ -16,7 +16,7 @@ use hl_action::{Promise, Task};
 use hl_domain::Domain;
 use hl_epoch::Epochs;
 use hl_image::PageWriter;
-use hl_model::{Fault, Params};
+use hl_model::{Fault, Sizes};
 use hl_words::{Realm, Rider};
 use std::alloc::Global;
 use std::sync::Wait;
@@ -150,7 +150,7 @@ where
 // All memory that a crew takes itself: the channels, and for each writer its buffers.
 //
 // `OutOfMemory` if memory was refused.
-fn open_rows(alloc: Global, params: Params) -> Result<(Channels, Buffers, Buffers), Fault>
+fn open_rows(alloc: Global, params: Sizes) -> Result<(Channels, Buffers, Buffers), Fault>
     ensures first { IfOk result (λ rows. rows.1 ≡ params.page_size) }
     ensures second { IfOk result (λ rows. rows.2 ≡ params.page_size) }
     ensures err { IfErr result (λ fault. fault ≡ OutOfMemory) }

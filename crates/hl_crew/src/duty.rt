@@ -1,6 +1,6 @@
 ghost use Rattle.std.specs.Prelude.{◌≡◌, ◌<◌, ◌≤◌, ◌↔◌, Some, None, IsSome, IfSome};
 
-use hl_model::Params;
+use hl_model::HasSizes;
 
 /// What a crew that serves is told: how many pages at the tail may be written, how many may be read, and when the
 /// journal is cut. Each number is in range: that is in its type.
@@ -24,13 +24,13 @@ impl Duty {
     /// About `mutable` pages at the tail may be written and about `resident` may be read, in a
     /// domain of these sizes: `1 <= mutable <= resident < F`, else `None`. The journal is never
     /// cut.
-    pub fn checked(params: Params, mutable: u64, resident: u64) -> Option<Duty>
+    pub fn checked<S: HasSizes>(params: S, mutable: u64, resident: u64) -> Option<Duty>
         ensures some { IsSome result
-            ↔ ((1 ≤ mutable) × (mutable ≤ resident) × (resident < params.frames)) }
-        ensures told { IfSome result (λ duty. (duty.frames ≡ params.frames)
+            ↔ ((1 ≤ mutable) × (mutable ≤ resident) × (resident < (S.sizes_of params).frames)) }
+        ensures told { IfSome result (λ duty. (duty.frames ≡ (S.sizes_of params).frames)
             × (duty.mutable ≡ mutable) × (duty.resident ≡ resident) × (duty.cut_above ≡ None)) }
     {
-        let frames = params.frames();
+        let frames = params.sizes().frames();
         if mutable < 1 || resident < mutable || frames <= resident {
             return None;
         }

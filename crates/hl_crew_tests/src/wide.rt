@@ -5,7 +5,7 @@ ghost use Rattle.hl_words.specs.States.{IsSeedOf};
 use crate::crew::{Pages, STAMP, four};
 use hl_crew::{OpenGate, run_crew};
 use hl_image::{MemoryWriter, PageWriter};
-use hl_model::{Fault, Params};
+use hl_model::{Fault, Sizes};
 use hl_words::{Realm, Rider, Seed};
 use std::alloc::Global;
 use std::marker::Brand;
@@ -85,7 +85,7 @@ where
 fn seed(alloc: Global) -> Result<Seed, Fault>
     ensures { IfOk result (λ seed. seed.sizes.frames ≡ 256) }
 {
-    let params = Params::wide(WORDS, 256, 128, 1024).ok_or(Fault::Size)?;
+    let params = Sizes::checked(WORDS, 256, 128, 1024).ok_or(Fault::Size)?;
     Seed::make(alloc, params, 5)
 }
 

@@ -9,7 +9,7 @@ use crate::play::Play;
 use hl_domain::unlocked::{load, look, store, sweep};
 use hl_domain::{Keeper, Pass};
 use hl_epoch::Epochs;
-use hl_model::{Fault, Params, Reply, Step};
+use hl_model::{Fault, Reply, Sizes, Step};
 use hl_words::{Realm, Rider, Seed, Words};
 use std::alloc::Global;
 use std::test::Fail;
@@ -19,7 +19,7 @@ use std::test::Fail;
 pub(crate) struct Alone<E: Epochs, L: Realm> {
     pub(crate) keeper: Keeper<E, Tells, Anything, L>,
     pub(crate) words: Words<L>,
-    params: Params,
+    params: Sizes,
     stamp: u64,
     ghost cells: { words.cells ≡ params.frames * params.page_size },
 }

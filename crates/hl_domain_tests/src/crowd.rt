@@ -165,6 +165,7 @@ fn riders_of<L: Realm>(alloc: Global, workers: Vec<Worker<L>>) -> Result<Vec<Rid
 }
 
 fn compare(rt: &impl Abort, alloc: Global, ending: &Ending<Tells, Anything>) -> Result<(), Fail> {
+    ending.base.params().params().ok_or(Fault::Size)?;
     let mut plain = Plain::from_base(alloc, &ending.base)?;
     for step in ending.journal.iter() {
         let reply = plain.step(step);

@@ -10,7 +10,7 @@ use crate::shared::open_shared;
 use crossbeam_channel::unbounded;
 use hl_counts::CountTable;
 use hl_domain::Pass;
-use hl_model::{Fault, Params, Reply};
+use hl_model::{Fault, Params, Reply, Sizes};
 use hl_words::{Realm, Rider, Seed};
 use std::alloc::Global;
 use std::marker::Brand;
@@ -90,11 +90,11 @@ fn the_greatest_sizes(rt: HostRuntime) -> Result<(), Fail> {
     let narrow = Params::checked(4096, 256, 64, 64).ok_or("narrow sizes")?;
     greatest_sizes::<Brand>(&rt, rt.alloc(), Seed::make(rt.alloc(), narrow, 64)?)?;
     // Of each wide size the greatest, where not all of them fit a machine.
-    let slots = Params::wide(4096, 256, 1024, 4096).ok_or("wide sizes")?;
+    let slots = Sizes::checked(4096, 256, 1024, 4096).ok_or("wide sizes")?;
     greatest_sizes::<Brand>(&rt, rt.alloc(), Seed::make(rt.alloc(), slots, 2048)?)?;
-    let frames = Params::wide(4, 1 << 16, 1, 1).ok_or("wide sizes")?;
+    let frames = Sizes::checked(4, 1 << 16, 1, 1).ok_or("wide sizes")?;
     greatest_sizes::<Brand>(&rt, rt.alloc(), Seed::make(rt.alloc(), frames, 1)?)?;
-    let page = Params::wide(1 << 20, 4, 1, 1).ok_or("wide sizes")?;
+    let page = Sizes::checked(1 << 20, 4, 1, 1).ok_or("wide sizes")?;
     greatest_sizes::<Brand>(&rt, rt.alloc(), Seed::make(rt.alloc(), page, 1)?)
 }
 

@@ -11,7 +11,7 @@ use crate::play::Play;
 use crate::shared::open_shared;
 use hl_counts::CountTable;
 use hl_domain::{Reply, Step};
-use hl_model::Params;
+use hl_model::Sizes;
 use hl_words::{Realm, Seed};
 use std::alloc::Global;
 use std::marker::Brand;
@@ -145,7 +145,7 @@ fn both<L: Realm, M: Realm>(
 
 #[test]
 fn wide_sizes(rt: HostRuntime) -> Result<(), Fail> {
-    let params = Params::wide(WORDS, FRAMES, 128, ACTIONS).ok_or("sizes in range")?;
+    let params = Sizes::checked(WORDS, FRAMES, 128, ACTIONS).ok_or("sizes in range")?;
     let (one, other) = (
         Seed::make(rt.alloc(), params, 2)?,
         Seed::make(rt.alloc(), params, 2)?,

@@ -253,7 +253,7 @@ impl<'a, 'b, R: Wait + Clock, L: Realm> Seat<'a, 'b, R, L> {
         if let Some(address) = self.lease.take(RECORD_WORDS) {
             return Ok(address);
         }
-        self.lease = Lease::of(self.session.allocate(PIECE)?, PIECE);
+        self.lease = self.session.lease(PIECE)?;
         self.lease.take(RECORD_WORDS).ok_or(Fault::Size)
     }
 

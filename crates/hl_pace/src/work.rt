@@ -1,6 +1,6 @@
 ghost use Rattle.std.specs.Prelude.{◌≤◌, IfSome};
 
-use hl_model::Params;
+use hl_model::Sizes;
 
 /// What each thread does.
 #[derive(Clone, Copy, PartialEq, Eq)]
@@ -26,7 +26,7 @@ pub(crate) struct Work {
     pub(crate) threads: u64,
     /// How many calls each makes.
     pub(crate) calls: u64,
-    pub(crate) params: Params,
+    pub(crate) params: Sizes,
 }
 
 /// The work that the program's words name; `None` if they name none.
@@ -49,16 +49,16 @@ pub(crate) fn read(words: &[String]) -> Option<Work>
 }
 
 // The sizes that the last words name; those of a domain of 8 MiB if there are no such words.
-fn sizes_of(words: &[String]) -> Option<Params> {
+fn sizes_of(words: &[String]) -> Option<Sizes> {
     if words.is_empty() {
-        return Params::checked(4096, 256, 8, 64);
+        return Sizes::checked(4096, 256, 8, 64);
     }
     let [page_size, frames, slots, drain] = words else {
         return None;
     };
     let (page_size, frames) = (page_size.parse().ok()?, frames.parse().ok()?);
     let (slots, drain) = (slots.parse().ok()?, drain.parse().ok()?);
-    Params::wide(page_size, frames, slots, drain)
+    Sizes::checked(page_size, frames, slots, drain)
 }
 
 // The kind of this name.

@@ -4,7 +4,7 @@ use hl_core::Core;
 use hl_counts::CountTable;
 use hl_domain::Ending;
 use hl_image::MemoryWriter;
-use hl_model::{Fault, Params, Snapshot, Step, Tag};
+use hl_model::{Fault, Sizes, Snapshot, Step, Tag};
 use hl_plain::Plain;
 use std::alloc::Global;
 
@@ -14,7 +14,7 @@ use std::alloc::Global;
 /// `OutOfMemory` if memory for the core was refused.
 pub fn agrees_from_the_start<F: Task, P: Promise>(
     alloc: Global,
-    params: Params,
+    params: Sizes,
     ending: &Ending<F, P>,
     shares: u64,
 ) -> Result<bool, Fault> {
@@ -33,6 +33,7 @@ pub fn agrees_from_the_base<F: Task, P: Promise>(
     ending: &Ending<F, P>,
     shares: u64,
 ) -> Result<bool, Fault> {
+    ending.base.params().params().ok_or(Fault::Size)?;
     let mut plain = Plain::from_base(alloc, &ending.base)?;
     for step in &ending.journal {
         match plain.step(step) {

@@ -10,7 +10,7 @@ use hl_counts::CountTable;
 use hl_crew::{CrewEnd, OpenGate, run_crew};
 use hl_domain::{Domain, Ending};
 use hl_image::MemoryWriter;
-use hl_model::{Fault, Params};
+use hl_model::{Fault, Params, Sizes};
 use hl_words::{Realm, Rider, Seed};
 use std::alloc::{AllocError, Global};
 use std::marker::Brand;
@@ -180,7 +180,7 @@ fn race_over<L: Realm + Send + Sync, R: Threads + Wait + Sync>(
 // Whether the steps agree with what the race left, from the base where it was cut.
 fn agrees(
     alloc: Global,
-    params: Params,
+    params: Sizes,
     race: Race,
     ending: &Ending<NoJob, AnyAnswer>,
     shares: u64,

@@ -70,7 +70,6 @@ fn after_slow_reader<E: Epochs + Drop>(rt: &impl Abort, core: &Core<E, Tag>) {
     let tail = core.view(0).map(|view| view.tail);
     assert_eq!(rt; (refused, tail), (Err(Fault::NoSlot), Some(9)));
     let frames = core.snapshot().frames;
-    assert!(rt; core.params().is_narrow());
     assert_eq!(rt; (frames, core.pending().len()), ([1, 1, 0, 0, 0], 1));
 }
 

@@ -99,9 +99,8 @@ fn compare_frames(rt: &impl Abort, core: &Core<CountTable, Tag>, plain: &Plain, 
 
 // Every query is answered alike.
 fn compare(rt: &impl Abort, core: &Core<CountTable, Tag>, plain: &Plain, at: usize) {
-    let slow = (plain.snapshot(), plain.params());
+    let slow = (plain.snapshot(), plain.params().sizes());
     assert_eq!(rt; slow, (core.snapshot(), core.params()), "after step {at}");
-    assert!(rt; core.params().is_narrow());
     assert_eq!(rt; plain.pending(), core.pending(), "after step {at}");
     compare_views(rt, core, plain, at);
     compare_frames(rt, core, plain, at);
@@ -129,7 +128,9 @@ pub(crate) fn base_behind(alloc: Global, core: &Core<CountTable, Tag>) -> Result
 
 // The slow form that goes on from the base of a core.
 fn plain_behind(alloc: Global, core: &Core<CountTable, Tag>) -> Result<Plain, Fault> {
-    Plain::from_base(alloc, &base_behind(alloc, core)?)
+    let base = base_behind(alloc, core)?;
+    base.params().params().ok_or(Fault::Size)?;
+    Plain::from_base(alloc, &base)
 }
 
 // A core behind these steps, and the slow form that goes on from its base.

@@ -3,7 +3,7 @@ ghost use Rattle.std.specs.Prelude.{◌≡◌, ◌+◌, ◌-◌, ◌^◌, min};
 use crate::jobs::{TestEngine, small_engine};
 use hl_flush::{flush_one, lag_steps};
 use hl_image::{MemoryWriter, PageWriter};
-use hl_model::{Fault, Params, Six, Step};
+use hl_model::{Fault, Six, Sizes, Step};
 use std::alloc::Global;
 use std::process::Abort;
 use std::test::Fail;
@@ -172,7 +172,7 @@ fn a_writer_that_always_fails(rt: HostRuntime) -> Result<(), Fail> {
 // The greatest number of steps, those that are late, and none.
 #[test]
 fn steps_to_the_lag(rt: HostRuntime) -> Result<(), Fail> {
-    let params = Params::checked(4, 8, 2, 4).ok_or("sizes in range")?;
+    let sizes = Sizes::checked(4, 8, 2, 4).ok_or("sizes in range")?;
     let raise = Step::Raise { x: 16 };
     let shift = Step::Shift { x: 8 };
     let all = [raise, Step::Settle, shift, Step::Close];
@@ -192,7 +192,7 @@ fn steps_to_the_lag(rt: HostRuntime) -> Result<(), Fail> {
             read_only,
             tail,
         };
-        assert_eq!(rt; lag_steps(params, six, 1, 2).as_slice(), wanted, "{name}");
+        assert_eq!(rt; lag_steps(sizes, six, 1, 2).as_slice(), wanted, "{name}");
     }
     Ok(())
 }

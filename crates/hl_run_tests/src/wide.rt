@@ -3,7 +3,7 @@
 use crate::cuts::base_behind;
 use hl_core::Core;
 use hl_counts::CountTable;
-use hl_model::{Fault, Params, Reply, Step, Tag};
+use hl_model::{Fault, Reply, Sizes, Step, Tag};
 use std::process::Abort;
 use std::test::Fail;
 
@@ -128,7 +128,7 @@ fn free(rt: &impl Abort, core: &mut Steps) {
 
 #[test]
 fn wide_sizes(rt: HostRuntime) -> Result<(), Fail> {
-    let params = Params::wide(WORDS, FRAMES, SLOTS, ACTIONS).ok_or("sizes in range")?;
+    let params = Sizes::checked(WORDS, FRAMES, SLOTS, ACTIONS).ok_or("sizes in range")?;
     let mut core = Steps::open(rt.alloc(), params)?;
     fill(&rt, &mut core);
     act(&rt, &mut core);
@@ -143,7 +143,7 @@ fn wide_sizes(rt: HostRuntime) -> Result<(), Fail> {
 // A base of the greatest sizes, all of whose actions wait.
 #[test]
 fn the_widest_base(rt: HostRuntime) -> Result<(), Fail> {
-    let params = Params::wide(1 << 20, 1 << 16, 1024, 4096).ok_or("sizes in range")?;
+    let params = Sizes::checked(1 << 20, 1 << 16, 1024, 4096).ok_or("sizes in range")?;
     let mut core = Steps::open(rt.alloc(), params)?;
     makes(&rt, &mut core, Step::Settle, Reply::Ticket(1));
     for ended in 1..4096u64 {

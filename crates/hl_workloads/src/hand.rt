@@ -2,7 +2,7 @@
 use crate::counters::{Counters, Pause};
 use crate::digest::Digest;
 use crate::failure::Failure;
-use hl::{Ask, Fault, Log, NoJob, Opening, Params, Part, Realm, Rider, Session, Step, with_log};
+use hl::{Ask, Fault, Log, NoJob, Opening, Part, Realm, Rider, Session, Sizes, Step, with_log};
 use hl_lag::lag_steps;
 use std::alloc::Global;
 use std::sync::Wait;
@@ -11,7 +11,7 @@ use std::sync::Wait;
 #[derive(Clone, Copy)]
 pub(crate) struct Plan {
     pub(crate) seed: u64,
-    pub(crate) params: Params,
+    pub(crate) params: Sizes,
     pub(crate) counters: u64,
     /// How many words are leased at a time.
     pub(crate) piece: u64,

@@ -28,7 +28,7 @@ mod threads;
 use crate::digest::{Digest, DigestWriter};
 use crate::failure::Failure;
 use crate::hand::Plan;
-use hl::{Fault, Params};
+use hl::{Fault, Sizes};
 use std::alloc::Global;
 use std::io::{BufWriter, Write};
 use std::process::ExitCode;
@@ -141,7 +141,7 @@ fn run<R: Threads + Wait + Clock + Sync>(
 fn log_plan(seed: u64, turns: u64) -> Result<Plan, Fault> {
     Ok(Plan {
         seed,
-        params: Params::checked(4096, 64, 4, 16).ok_or(Fault::Size)?,
+        params: Sizes::checked(4096, 64, 4, 16).ok_or(Fault::Size)?,
         counters: 1 << 16,
         piece: 512,
         turns,
@@ -153,7 +153,7 @@ fn log_plan(seed: u64, turns: u64) -> Result<Plan, Fault> {
 fn frames_plan(seed: u64, turns: u64) -> Result<Plan, Fault> {
     Ok(Plan {
         seed,
-        params: Params::wide(64, 1 << 16, 4, 16).ok_or(Fault::Size)?,
+        params: Sizes::checked(64, 1 << 16, 4, 16).ok_or(Fault::Size)?,
         counters: 1 << 20,
         piece: 64,
         turns,

@@ -29,7 +29,9 @@ pub use log::Log;
 pub use pages::{Clean, Flush};
 pub use pass::Pass;
 pub use slot::Slot;
-pub use told::{Action, Done, Entered, Frame, Kind, LagStep, Offsets, Pending, Sizes, Snapshot, View};
+pub use told::{
+    Action, Done, Entered, Frame, Kind, LagStep, Offsets, Pending, RawSizes, Sizes, Snapshot, View,
+};
 
 /// The version of hl.
 pub const VERSION: &str = env!("CARGO_PKG_VERSION");

@@ -11,6 +11,19 @@ pub struct Sizes {
     drain_places: u64,
 }
 
+/// Four numbers for [`Sizes::of`], by their names: so none stands in another's place.
+#[derive(Clone, Copy, Debug, PartialEq, Eq)]
+pub struct RawSizes {
+    /// Words a page.
+    pub page_size: u64,
+    /// Pages in memory.
+    pub frames: u64,
+    /// Slots for threads.
+    pub slots: u64,
+    /// Actions that wait or are taken at a time.
+    pub drain_places: u64,
+}
+
 impl Sizes {
     /// Narrow sizes: words a page, a power of two from 4 to 4,096; 2 to 256 frames; 1 to 64 slots; 1 to 64 places in the
     /// drain list.
@@ -29,6 +42,13 @@ impl Sizes {
             [page_size, frames, slots, drain_places],
             [1 << 20, 1 << 16, 1024, 4096],
         )
+    }
+
+    /// The same by names: wide sizes, in the ranges of [`Sizes::wide`].
+    ///
+    /// [`Fault::OutOfRange`] where one is out of its range.
+    pub fn of(raw: RawSizes) -> Result<Sizes, Fault> {
+        Sizes::wide(raw.page_size, raw.frames, raw.slots, raw.drain_places)
     }
 
     /// These numbers as sizes, in the order of [`Sizes::checked`], if none is above the greatest.

@@ -1,7 +1,7 @@
 //! The error of each misuse that types don't exclude. Those that they do exclude are examples of `Core`, which must not
 //! compile.
 
-use hl::{Core, Fault, Log, Sizes};
+use hl::{Core, Fault, Log, RawSizes, Sizes};
 
 fn core() -> Core {
     Core::open(Sizes::checked(4, 2, 2, 1).unwrap()).unwrap()
@@ -44,6 +44,27 @@ fn sizes_out_of_range() {
         );
     }
     assert!(Sizes::wide(1 << 20, 1 << 16, 1024, 4096).is_ok());
+}
+
+#[test]
+fn sizes_by_names() {
+    let raw = RawSizes {
+        page_size: 8,
+        frames: 65536,
+        slots: 1,
+        drain_places: 2,
+    };
+    let sizes = Sizes::of(raw).unwrap();
+    assert_eq!(
+        (
+            sizes.page_size(),
+            sizes.frames(),
+            sizes.slots(),
+            sizes.drain_places()
+        ),
+        (8, 65536, 1, 2)
+    );
+    assert_eq!(Sizes::of(RawSizes { slots: 1025, ..raw }), Err(Fault::OutOfRange));
 }
 
 #[test]

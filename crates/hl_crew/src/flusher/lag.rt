@@ -10,7 +10,7 @@ use hl_action::{Promise, Task};
 use hl_drain::Ask;
 use hl_epoch::Epochs;
 use hl_lag::lag_steps;
-use hl_model::{Fault, Params, Snapshot, Step};
+use hl_model::{Fault, Sizes, Snapshot, Step};
 use hl_words::{Realm, Rider};
 use std::sync::Wait;
 
@@ -82,7 +82,7 @@ fn end_of(made: Result<(), Fault>) -> Result<(), Over>
 }
 
 // The lag's steps, if no action waits and none is taken; else none.
-fn steps_wanted(params: Params, now: &Snapshot, mutable: u64, resident: u64) -> ArrayVec<Step, 4>
+fn steps_wanted(params: Sizes, now: &Snapshot, mutable: u64, resident: u64) -> ArrayVec<Step, 4>
     requires { IsLag params.frames mutable resident }
     ensures steps { result.items ≡ steps_wanted params.page_size now.now mutable resident }
     ensures kinds { All (λ step. is_lag_step step ≡ true) result.items }

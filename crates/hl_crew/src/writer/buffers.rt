@@ -1,7 +1,7 @@
 ghost use Rattle.std.specs.Prelude.{◌≡◌, IfOk, IfErr};
 ghost use Rattle.hl_model.specs.declared.fault.Fault.TheVariants.{OutOfMemory};
 
-use hl_model::{Fault, Params, filled};
+use hl_model::{Fault, Sizes, filled};
 use std::alloc::Global;
 use std::marker::Model;
 
@@ -27,7 +27,7 @@ impl Buffers {
     /// Buffers for pages of this domain.
     ///
     /// `OutOfMemory` if memory was refused.
-    pub(crate) fn open(alloc: Global, params: Params) -> Result<Buffers, Fault>
+    pub(crate) fn open(alloc: Global, params: Sizes) -> Result<Buffers, Fault>
         ensures places { IfOk result (λ buffers. buffers ≡ params.page_size) }
         ensures err { IfErr result (λ fault. fault ≡ OutOfMemory) }
     {

@@ -1,4 +1,4 @@
-use Rattle.hl.proofs.open.with_log.Given as goal
+use Rattle.hl.proofs.open.log_of_sizes.Given as goal
 
 -- the words, the ledger and the sizes of the seed that was just made, and the log's stamp
 abbrev pub ghosts-over-L-Realm : goal.ghosts-over-L-Realm

@@ -1,4 +1,4 @@
-use Rattle.hl.proofs.threads.with_threads.Given as goal
+use Rattle.hl.proofs.threads.threads_of_sizes.Given as goal
 
 -- the words, the ledger and the sizes of the seed that was just made, and the log's stamp
 abbrev pub ghosts-threads_over-L-Realm : goal.ghosts-threads_over-L-Realm
