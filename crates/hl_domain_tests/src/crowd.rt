@@ -6,6 +6,7 @@ use crate::jobs::{Anything, Pages, Tells};
 use crate::work::{Sums, Worker, take_and_run, work};
 use hl_counts::CountTable;
 use hl_domain::Ending;
+use hl_epoch::{Epochs, ScanTable};
 use hl_model::{Fault, Params};
 use hl_plain::Plain;
 use hl_words::{Realm, Rider, Seed};
@@ -27,55 +28,69 @@ fn crowd_seed(alloc: Global) -> Result<Seed, Fault> {
 fn workers_of<L: Realm>(alloc: Global, mut riders: Vec<Rider<L>>) -> Result<Vec<Worker<L>>, Fail> {
     let mut workers = Vec::new(alloc);
     for slot in 0..8 {
-        let rider = riders.pop().ok_or("two riders for each thread")?;
-        let acquires = Some(riders.pop().ok_or("two riders for each thread")?);
-        workers.push(Worker {
-            slot,
-            acquires,
-            rider,
-            stored: Sums::NONE,
-            answered: Sums::NONE,
-            lost: false,
-            fault: None,
-            cuts: slot == 0,
-            cut: 0,
-        })?;
+        workers.push(worker_of(slot, &mut riders)?)?;
     }
     Ok(workers)
 }
 
-fn work_all<R: Threads + Wait + Sync, L: Realm + Send + Sync>(
+fn worker_of<L: Realm>(slot: u64, riders: &mut Vec<Rider<L>>) -> Result<Worker<L>, Fail> {
+    let rider = riders.pop().ok_or("two riders for each thread")?;
+    let acquires = riders.pop().ok_or("two riders for each thread")?;
+    Ok(Worker {
+        slot,
+        acquires: Some(acquires),
+        rider,
+        stored: Sums::NONE,
+        answered: Sums::NONE,
+        lost: false,
+        fault: None,
+        cuts: slot == 0,
+        cut: 0,
+    })
+}
+
+fn work_all<R, E, L>(
     rt: &R,
-    domain: &Pages<CountTable, L>,
+    domain: &Pages<E, L>,
     workers: Vec<Worker<L>>,
     rounds: u64,
-) -> Result<Vec<Worker<L>>, Fail> {
+) -> Result<Vec<Worker<L>>, Fail>
+where
+    R: Threads + Wait + Sync,
+    E: Epochs + Drop + Send,
+    L: Realm + Send + Sync,
+{
     Ok(thread::map_vec(rt, workers, &|worker| work(rt, domain, worker, rounds))?)
 }
 
-fn crowd<R: Threads + Wait + Abort + Sync, L: Realm + Send + Sync>(
-    rt: &R,
-    alloc: Global,
-    seed: Seed,
-) -> Result<(), Fail>
+fn crowd<R, E, L>(rt: &R, alloc: Global, seed: Seed) -> Result<(), Fail>
+where
+    R: Threads + Wait + Abort + Sync,
+    E: Epochs + Drop + Send,
+    L: Realm + Send + Sync,
     requires seed { IsSeedOf L.name L.parts L.table seed }
     requires named { (seed.sizes ≡ L.sizes) × (1000 ≡ L.stamp) × (2_097_152 ≡ L.limit) }
 {
-    let (domain, riders) = Pages::<CountTable, L>::open(alloc, seed, 1 << 21, 1000)?;
+    let (domain, riders) = Pages::<E, L>::open(alloc, seed, 1 << 21, 1000)?;
     let workers = work_long(rt, alloc, &domain, riders)?;
     close_and_compare(rt, alloc, domain, workers)
 }
 
 // Many rounds, a last cut, some more rounds, and what they left.
-fn work_long<R: Threads + Wait + Abort + Sync, L: Realm + Send + Sync>(
+fn work_long<R, E, L>(
     rt: &R,
     alloc: Global,
-    domain: &Pages<CountTable, L>,
+    domain: &Pages<E, L>,
     riders: Vec<Rider<L>>,
-) -> Result<Vec<Worker<L>>, Fail> {
-    let workers = work_all(rt, domain, workers_of(alloc, riders)?, 20_000)?;
+) -> Result<Vec<Worker<L>>, Fail>
+where
+    R: Threads + Wait + Abort + Sync,
+    E: Epochs + Drop + Send,
+    L: Realm + Send + Sync,
+{
+    let mut workers = work_all(rt, domain, workers_of(alloc, riders)?, 20_000)?;
     // What follows is short, and nobody cuts it: the slow form looks at each step many times.
-    let workers = cut_last(rt, domain, workers)?;
+    cut_last(rt, domain, &mut workers);
     let mut workers = work_all(rt, domain, workers, 10)?;
     run_rest(rt, domain, &mut workers)?;
     let (now, _, _) = domain.snapshot(rt);
@@ -83,25 +98,24 @@ fn work_long<R: Threads + Wait + Abort + Sync, L: Realm + Send + Sync>(
     Ok(workers)
 }
 
-// The first worker cuts once more, and then no more.
-fn cut_last<R: Wait, L: Realm>(
+// The last worker cuts once more, and then none does.
+fn cut_last<R: Wait, E: Epochs + Drop, L: Realm>(
     rt: &R,
-    domain: &Pages<CountTable, L>,
-    mut workers: Vec<Worker<L>>,
-) -> Result<Vec<Worker<L>>, Fail> {
-    let mut worker = workers.pop().ok_or("eight threads")?;
-    worker.cut = worker.cut.wrapping_add(domain.cut(rt, &mut worker.rider));
-    workers.push(worker)?;
+    domain: &Pages<E, L>,
+    workers: &mut Vec<Worker<L>>,
+) {
+    if let Some(worker) = workers.last_mut() {
+        worker.cut = worker.cut.wrapping_add(domain.cut(rt, &mut worker.rider));
+    }
     for worker in workers.iter_mut() {
         worker.cuts = false;
     }
-    Ok(workers)
 }
 
 // Runs the actions that are left: all are ready, since no slot is protected.
-fn run_rest<R: Wait, L: Realm>(
+fn run_rest<R: Wait, E: Epochs + Drop, L: Realm>(
     rt: &R,
-    domain: &Pages<CountTable, L>,
+    domain: &Pages<E, L>,
     workers: &mut Vec<Worker<L>>,
 ) -> Result<(), Fault> {
     for worker in workers.iter_mut() {
@@ -111,10 +125,10 @@ fn run_rest<R: Wait, L: Realm>(
 }
 
 // Ends the domain. The slow form makes the journal's steps from the base, and stands then where the domain does.
-fn close_and_compare<R: Abort, L: Realm>(
+fn close_and_compare<R: Abort, E: Epochs + Drop, L: Realm>(
     rt: &R,
     alloc: Global,
-    domain: Pages<CountTable, L>,
+    domain: Pages<E, L>,
     workers: Vec<Worker<L>>,
 ) -> Result<(), Fail> {
     let cut = workers
@@ -177,13 +191,15 @@ fn compare(rt: &impl Abort, alloc: Global, ending: &Ending<Tells, Anything>) -> 
 
 #[test]
 fn eight_threads(rt: HostRuntime) -> Result<(), Fail> {
-    crowd::<_, Brand>(&rt, rt.alloc(), crowd_seed(rt.alloc())?)
+    crowd::<_, ScanTable, Brand>(&rt, rt.alloc(), crowd_seed(rt.alloc())?)?;
+    crowd::<_, CountTable, Brand>(&rt, rt.alloc(), crowd_seed(rt.alloc())?)
 }
 
 // Each of eight threads has a slot in both domains.
-fn two_domains<R, L, M>(rt: &R, alloc: Global, first: Seed, second: Seed) -> Result<(), Fail>
+fn two_domains<R, E, L, M>(rt: &R, alloc: Global, first: Seed, second: Seed) -> Result<(), Fail>
 where
     R: Threads + Wait + Abort + Sync,
+    E: Epochs + Drop + Send,
     L: Realm + Send + Sync,
     M: Realm + Send + Sync,
     requires first { IsSeedOf L.name L.parts L.table first }
@@ -191,24 +207,25 @@ where
     requires second { IsSeedOf M.name M.parts M.table second }
     requires second_named { (second.sizes ≡ M.sizes) × (2000 ≡ M.stamp) × (10_000 ≡ M.limit) }
 {
-    let (one, riders) = Pages::<CountTable, L>::open(alloc, first, 10_000, 1000)?;
-    let (other, others) = Pages::<CountTable, M>::open(alloc, second, 10_000, 2000)?;
+    let (one, riders) = Pages::<E, L>::open(alloc, first, 10_000, 1000)?;
+    let (other, others) = Pages::<E, M>::open(alloc, second, 10_000, 2000)?;
     let (workers, others) = work_in_both(rt, alloc, &one, &other, riders, others)?;
     close_and_compare(rt, alloc, one, workers)?;
     close_and_compare(rt, alloc, other, others)
 }
 
 // Eight threads work in both, and what they left there is run.
-fn work_in_both<R, L, M>(
+fn work_in_both<R, E, L, M>(
     rt: &R,
     alloc: Global,
-    one: &Pages<CountTable, L>,
-    other: &Pages<CountTable, M>,
+    one: &Pages<E, L>,
+    other: &Pages<E, M>,
     riders: Vec<Rider<L>>,
     others: Vec<Rider<M>>,
 ) -> Result<(Vec<Worker<L>>, Vec<Worker<M>>), Fail>
 where
     R: Threads + Wait + Sync,
+    E: Epochs + Drop + Send,
     L: Realm + Send + Sync,
     M: Realm + Send + Sync,
 {
@@ -251,10 +268,10 @@ fn parted<L: Realm, M: Realm>(
 }
 
 // Twenty rounds in turn, ten times: threads are in both domains at once.
-fn work_both<R: Wait, L: Realm, M: Realm>(
+fn work_both<R: Wait, E: Epochs + Drop, L: Realm, M: Realm>(
     rt: &R,
-    one: &Pages<CountTable, L>,
-    other: &Pages<CountTable, M>,
+    one: &Pages<E, L>,
+    other: &Pages<E, M>,
     mut pair: Pair<L, M>,
 ) -> Pair<L, M> {
     for _ in 0..10 {
@@ -266,5 +283,7 @@ fn work_both<R: Wait, L: Realm, M: Realm>(
 #[test]
 fn threads_in_two_domains(rt: HostRuntime) -> Result<(), Fail> {
     let (first, second) = (crowd_seed(rt.alloc())?, crowd_seed(rt.alloc())?);
-    two_domains::<_, Brand, Brand>(&rt, rt.alloc(), first, second)
+    two_domains::<_, ScanTable, Brand, Brand>(&rt, rt.alloc(), first, second)?;
+    let (first, second) = (crowd_seed(rt.alloc())?, crowd_seed(rt.alloc())?);
+    two_domains::<_, CountTable, Brand, Brand>(&rt, rt.alloc(), first, second)
 }

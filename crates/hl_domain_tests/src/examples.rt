@@ -4,6 +4,7 @@ use std::test::Fail;
 
 // A pass stores until it has no room for another touch. Another sees a raise, and stores below it no longer.
 const TOUCHES: Example = Example {
+    riders: 3,
     journal: 100,
     calls: "acquire 0 -> view 0 0 0
 stamp 0 -> answer 1001
@@ -37,6 +38,7 @@ write 0 2 7
 
 // The same by a look.
 const LOOK: Example = Example {
+    riders: 3,
     journal: 100,
     calls: "acquire 0 -> view 0 0 0
 stamp 0 -> answer 1001
@@ -64,6 +66,7 @@ release 1
 
 // A word that one pass stores another loads; then an action is stored, and left.
 const LEFT_ACTION: Example = Example {
+    riders: 3,
     journal: 100,
     calls: "acquire 0 -> view 0 0 0
 acquire 1 -> view 0 0 0
@@ -93,6 +96,7 @@ release 1
 // The pages are settled, the first is flushed, and the head is shifted over it. The second slot reads the page until
 // it has seen the close; once the page is clean, its frame is used again.
 const STALE_READER: Example = Example {
+    riders: 3,
     journal: 100,
     calls: "acquire 0 -> view 0 0 0
 alloc 0 4 -> at 0
@@ -133,6 +137,7 @@ acquire 0
 
 // A page is filled, settled and flushed.
 const SETTLED_PAGE: Example = Example {
+    riders: 2,
     journal: 100,
     calls: "acquire 0 -> view 0 0 0
 alloc 0 4 -> at 0
@@ -145,11 +150,11 @@ done 1 -> safe_read_only 4
 flush take -> page 0
 flush done 0 ok -> flushed 4
 flush take -> fault 20 NoneSealed
-release 0 -> left",
-    end: "shares 0 4 6
+abandon 0 -> left",
+    end: "shares 3 6
 cut 0
 base 1 0 0 0 0 0 0 0 0, slot, slot, frame, frame
-journal 10
+journal 9
 acquire 0
 alloc 0 4
 raise 4
@@ -159,12 +164,12 @@ take
 done 1
 flush take
 flush done 0 ok
-release 0
 ",
 };
 
 // A settle waits for a slot that nobody will release.
 const ABANDONED_PASS: Example = Example {
+    riders: 2,
     journal: 100,
     calls: "acquire 0 -> view 0 0 0
 alloc 0 4 -> at 0
@@ -174,7 +179,7 @@ raise 4 -> read_only 4
 settle -> ticket 1
 take -> fault 8 NotReady front 1 safe 0
 acquire 0 -> fault 2 Occupied",
-    end: "shares 0 2 2
+    end: "shares 2 2
 cut 0
 base 1 0 0 0 0 0 0 0 0, slot, slot, frame, frame
 left settle 1 4
@@ -188,6 +193,7 @@ settle
 
 // A page that is given up stays in flight.
 const FORSAKEN_LOAD: Example = Example {
+    riders: 3,
     journal: 100,
     calls: "acquire 0 -> view 0 0 0
 alloc 0 4 -> at 0
@@ -217,6 +223,7 @@ flush take
 
 // The journal has no room for a third step.
 const FULL_JOURNAL: Example = Example {
+    riders: 3,
     journal: 2,
     calls: "acquire 0 -> view 0 0 0
 alloc 0 1 -> at 0
@@ -234,6 +241,7 @@ alloc 0 1
 
 // There is no room for a step.
 const NO_JOURNAL: Example = Example {
+    riders: 3,
     journal: 0,
     calls: "bump 7 -> fault 27 JournalFull
 bare -> fault 27 JournalFull
@@ -249,6 +257,7 @@ journal 0
 
 // Four steps fill the journal; once they are cut, the next are kept.
 const CUT_JOURNAL: Example = Example {
+    riders: 2,
     journal: 4,
     calls: "acquire 0 -> view 0 0 0
 alloc 0 4 -> at 0
@@ -260,7 +269,7 @@ cut -> answer 4
 cut -> answer 0
 refresh 0 -> view 4 0 4
 release 0 -> left",
-    end: "shares 0 6 1
+    end: "shares 6 1
 cut 4
 base 1 0 0 0 0 0 0 4 4, slot 1 0 0 4, slot, frame 0 0 0 0 0, frame
 journal 3
@@ -273,6 +282,7 @@ release 0
 // An action and two pages are taken, and a pass is acquired, which fills the journal: each locked call that makes a
 // step is refused.
 const FULL_AT_WORK: Example = Example {
+    riders: 3,
     journal: 21,
     calls: "acquire 0 -> view 0 0 0
 alloc 0 4 -> at 0

@@ -1,56 +1,54 @@
 //! How many steps a journal holds, after each cut anew.
-ghost use Rattle.std.specs.Prelude.{◌≡◌, ◌≤◌};
-ghost use Rattle.hl_words.specs.States.{IsSeedOf};
-ghost use Rattle.hl_keeper.specs.Keepers.{steps_most};
-
-use crate::jobs::{Pages, small_seed};
-use hl_counts::CountTable;
+use crate::jobs::{Anything, Pages, Tells};
+use crate::opened::{Opening, Turn, make_over_both};
+use hl_domain::Ending;
+use hl_epoch::Epochs;
 use hl_model::Fault;
-use hl_words::{Realm, Rider, Seed};
-use std::alloc::Global;
-use std::marker::Brand;
+use hl_words::{Realm, Rider};
 use std::process::Abort;
 use std::sync::Wait;
 use std::test::Fail;
 
 // Fills the journal twice and cuts it, and fills it once more: each time it takes so many steps, and no more.
-fn fill_thrice<L: Realm>(
-    rt: &(impl Wait + Abort),
-    alloc: Global,
-    seed: Seed,
-    journal: u64,
-) -> Result<(), Fail>
-    requires seed { IsSeedOf L.name L.parts L.table seed }
-    requires named { (seed.sizes ≡ L.sizes) × (2000 ≡ L.stamp) × (journal ≡ L.limit) }
-    requires journal { journal ≤ steps_most }
-{
-    let (domain, mut riders) = Pages::<CountTable, L>::open(alloc, seed, journal, 2000)?;
-    let mut rider = riders.pop().ok_or("a rider")?;
-    let mut cut = 0u64;
-    for _ in 0..2 {
-        fill(rt, &domain, &mut rider, journal);
-        assert_eq!(rt; domain.cut(rt, &mut rider), journal);
-        cut = cut.wrapping_add(journal);
-        let (_, kept, cut_in_all) = domain.snapshot(rt);
-        assert!(rt; kept == 0 && cut_in_all == cut);
+#[derive(Clone, Copy)]
+struct Fills {
+    steps: u64,
+}
+
+impl Turn for Fills {
+    fn make<R: Wait + Abort, E: Epochs + Drop, L: Realm>(
+        &self,
+        rt: &R,
+        domain: &Pages<E, L>,
+        riders: &mut Vec<Rider<L>>,
+    ) -> Result<(), Fail> {
+        let rider = riders.last_mut().ok_or("a rider")?;
+        let mut cut = 0u64;
+        for _ in 0..2 {
+            fill(rt, domain, rider, self.steps);
+            assert_eq!(rt; domain.cut(rt, rider), self.steps);
+            cut = cut.wrapping_add(self.steps);
+            let (_, kept, cut_in_all) = domain.snapshot(rt);
+            assert!(rt; kept == 0 && cut_in_all == cut);
+        }
+        fill(rt, domain, rider, self.steps);
+        Ok(())
     }
-    fill(rt, &domain, &mut rider, journal);
-    riders.push(rider)?;
-    let Ok(ending) = domain.close(riders) else {
-        panic!(rt; "all riders are there")
-    };
-    assert!(rt; ending.cut == cut && ending.journal.len() as u64 == journal);
-    Ok(())
+
+    fn see(&self, rt: &impl Abort, ending: &Ending<Tells, Anything>) {
+        assert_eq!(rt; ending.cut, self.steps.wrapping_mul(2));
+        assert_eq!(rt; ending.journal.len() as u64, self.steps);
+    }
 }
 
 // As many bumps as the journal has room for, and one that is refused.
-fn fill<L: Realm>(
+fn fill<E: Epochs + Drop, L: Realm>(
     rt: &(impl Wait + Abort),
-    domain: &Pages<CountTable, L>,
+    domain: &Pages<E, L>,
     rider: &mut Rider<L>,
-    journal: u64,
+    steps: u64,
 ) {
-    for _ in 0..journal {
+    for _ in 0..steps {
         assert!(rt; domain.bare(rt, rider).is_ok());
     }
     let before = domain.snapshot(rt);
@@ -61,8 +59,8 @@ fn fill<L: Realm>(
 /// A journal has room for exactly as many steps as was asked for, after each cut anew.
 #[test]
 fn a_journal_holds_what_was_asked_for(rt: HostRuntime) -> Result<(), Fail> {
-    for journal in [1, 3, 33, 1000, 5000] {
-        fill_thrice::<Brand>(&rt, rt.alloc(), small_seed(rt.alloc(), 1)?, journal)?;
+    for steps in [1, 3, 33, 1000, 5000] {
+        make_over_both(&rt, rt.alloc(), &Opening::small(steps)?, &Fills { steps })?;
     }
     Ok(())
 }

@@ -1,32 +1,50 @@
 //! A pass that is kept up: no step enters while nothing is new, and a refresh does once something is.
-ghost use Rattle.std.specs.Prelude.{◌≡◌};
-ghost use Rattle.hl_words.specs.States.{IsSeedOf};
-
-use crate::jobs::{Pages, passed, small_seed};
-use hl_counts::CountTable;
-use hl_domain::Pass;
-use hl_words::{Realm, Rider, Seed};
-use std::alloc::Global;
-use std::marker::Brand;
+use crate::jobs::{Anything, Pages, Tells, passed, released};
+use crate::opened::{Opening, Turn, make_over_both};
+use hl_domain::{Ending, Pass};
+use hl_epoch::Epochs;
+use hl_words::{Realm, Rider};
 use std::process::Abort;
 use std::sync::Wait;
 use std::test::Fail;
 
-fn kept_up<L: Realm>(rt: &(impl Wait + Abort), alloc: Global, seed: Seed) -> Result<(), Fail>
-    requires seed { IsSeedOf L.name L.parts L.table seed }
-    requires named { (seed.sizes ≡ L.sizes) × (2000 ≡ L.stamp) × (100 ≡ L.limit) }
-{
-    let (domain, mut riders) = Pages::<CountTable, L>::open(alloc, seed, 100, 2000)?;
-    let mut pass = passed(domain.enter(rt, riders.pop().ok_or("a rider")?))?;
-    let mut other = riders.pop().ok_or("another rider")?;
-    keep_through(rt, &domain, &mut pass, &mut other);
-    Ok(())
+struct KeepsUp;
+
+impl Turn for KeepsUp {
+    fn make<R: Wait + Abort, E: Epochs + Drop, L: Realm>(
+        &self,
+        rt: &R,
+        domain: &Pages<E, L>,
+        riders: &mut Vec<Rider<L>>,
+    ) -> Result<(), Fail> {
+        let rider = riders.pop().ok_or("a rider")?;
+        let mut other = riders.pop().ok_or("another rider")?;
+        riders.push(keep_through(rt, domain, rider, &mut other)?)?;
+        riders.push(other)?;
+        Ok(())
+    }
+
+    // The steps of the pass, a bump and a raise.
+    fn see(&self, rt: &impl Abort, ending: &Ending<Tells, Anything>) {
+        assert_eq!(rt; ending.journal.len(), 41);
+    }
 }
 
 // The acquire is the pass's first step. Each refresh enters one more, behind the touches.
-fn keep_through<L: Realm>(
+fn keep_through<E: Epochs + Drop, L: Realm>(
     rt: &(impl Wait + Abort),
-    domain: &Pages<CountTable, L>,
+    domain: &Pages<E, L>,
+    rider: Rider<L>,
+    other: &mut Rider<L>,
+) -> Result<Rider<L>, Fail> {
+    let mut pass = passed(domain.enter(rt, rider))?;
+    keep_while_it_moves(rt, domain, &mut pass, other);
+    Ok(released(domain.release(rt, pass))?)
+}
+
+fn keep_while_it_moves<E: Epochs + Drop, L: Realm>(
+    rt: &(impl Wait + Abort),
+    domain: &Pages<E, L>,
     pass: &mut Pass<L>,
     other: &mut Rider<L>,
 ) {
@@ -46,9 +64,9 @@ fn keep_through<L: Realm>(
 }
 
 // Keeps the pass up: then it has entered so many steps in all, and its slot has this epoch.
-fn keep<L: Realm>(
+fn keep<E: Epochs + Drop, L: Realm>(
     rt: &(impl Wait + Abort),
-    domain: &Pages<CountTable, L>,
+    domain: &Pages<E, L>,
     pass: &mut Pass<L>,
     share: u64,
     epoch: u64,
@@ -60,6 +78,5 @@ fn keep<L: Realm>(
 
 #[test]
 fn a_pass_keeps_up(rt: HostRuntime) -> Result<(), Fail> {
-    let seed = small_seed(rt.alloc(), 2)?;
-    kept_up::<Brand>(&rt, rt.alloc(), seed)
+    make_over_both(&rt, rt.alloc(), &Opening::small(100)?, &KeepsUp)
 }

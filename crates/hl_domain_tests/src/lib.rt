@@ -17,6 +17,7 @@
 //! | `call`, `ending` | reads a call, and prints what is left at the end |
 //! | `asked`, `alone`, `shared` | what is asked; a keeper, and a domain |
 //! | `work` | for `crowd`: what one of its threads does |
+//! | `opened` | a domain that a test opens, uses and closes, over both tables |
 //! | `jobs` | for all: what they store, and small helpers |
 //!
 //! This crate has no code beside its tests: a crate with tests is proved twice.
@@ -44,6 +45,8 @@ mod journals;
 mod keeps_up;
 #[cfg(test)]
 mod limits;
+#[cfg(test)]
+mod opened;
 #[cfg(test)]
 mod play;
 #[cfg(test)]

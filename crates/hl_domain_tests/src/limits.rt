@@ -4,13 +4,15 @@ ghost use Rattle.hl_words.specs.States.{IsSeedOf};
 
 use crate::asked::Either;
 use crate::follow::ask_all;
-use crate::jobs::{Pages, job, passed, released, small_seed, ticket_of};
+use crate::jobs::{Anything, Pages, Tells, job, passed, released, small_seed, ticket_of};
+use crate::opened::{Opening, Turn, make_over_both};
 use crate::play::Play;
 use crate::shared::open_shared;
 use crossbeam_channel::unbounded;
 use hl_counts::CountTable;
-use hl_domain::Pass;
-use hl_model::{Fault, Params, Reply, Sizes};
+use hl_domain::{Ending, Pass};
+use hl_epoch::{Epochs, ScanTable};
+use hl_model::{Fault, Reply, Sizes};
 use hl_words::{Realm, Rider, Seed};
 use std::alloc::Global;
 use std::marker::Brand;
@@ -19,31 +21,36 @@ use std::sync::Wait;
 use std::test::Fail;
 
 // Every slot is acquired, and every frame filled by one record; then the log is full, and is left.
-fn greatest_sizes<L: Realm>(rt: &(impl Wait + Abort), alloc: Global, seed: Seed) -> Result<(), Fail>
-    requires seed { IsSeedOf L.name L.parts L.table seed }
-    requires named { (seed.sizes ≡ L.sizes) × (1000 ≡ L.stamp) × (70_000 ≡ L.limit) }
-{
-    let params = seed.params();
-    let (slots, frames) = (params.slots(), params.frames());
-    let (domain, mut riders) = Pages::<CountTable, L>::open(alloc, seed, 70_000, 1000)?;
-    let mut passes = acquire_all(rt, alloc, &domain, &mut riders)?;
-    fill_all(rt, &domain, &mut passes)?;
-    release_all(rt, &domain, passes, &mut riders)?;
-    let Ok(ending) = domain.close(riders) else {
-        panic!(rt; "all riders are there")
-    };
-    assert_eq!(rt; ending.journal.len() as u64, slots + frames + 1 + slots);
-    assert_eq!(rt; ending.snapshot.frames, [frames, 0, 0, 0, 0]);
-    Ok(())
+#[derive(Clone, Copy)]
+struct FillsAll {
+    params: Sizes,
 }
 
-fn acquire_all<L: Realm>(
+impl Turn for FillsAll {
+    fn make<R: Wait + Abort, E: Epochs + Drop, L: Realm>(
+        &self,
+        rt: &R,
+        domain: &Pages<E, L>,
+        riders: &mut Vec<Rider<L>>,
+    ) -> Result<(), Fail> {
+        let mut passes = acquire_all(rt, domain, riders)?;
+        fill_all(rt, domain, &mut passes)?;
+        release_all(rt, domain, passes, riders)
+    }
+
+    fn see(&self, rt: &impl Abort, ending: &Ending<Tells, Anything>) {
+        let (slots, frames) = (self.params.slots(), self.params.frames());
+        assert_eq!(rt; ending.journal.len() as u64, slots + frames + 1 + slots);
+        assert_eq!(rt; ending.snapshot.frames, [frames, 0, 0, 0, 0]);
+    }
+}
+
+fn acquire_all<E: Epochs + Drop, L: Realm>(
     rt: &impl Wait,
-    alloc: Global,
-    domain: &Pages<CountTable, L>,
+    domain: &Pages<E, L>,
     riders: &mut Vec<Rider<L>>,
 ) -> Result<Vec<Pass<L>>, Fail> {
-    let mut passes = Vec::new(alloc);
+    let mut passes = Vec::new(*riders.allocator());
     for t in 0..domain.params().slots() {
         let rider = riders.pop().ok_or("a rider for each slot")?;
         passes.push(passed(domain.acquire(rt, t, rider))?)?;
@@ -52,9 +59,9 @@ fn acquire_all<L: Realm>(
 }
 
 // The last pass fills each page, and uses the last word of all.
-fn fill_all<L: Realm>(
+fn fill_all<E: Epochs + Drop, L: Realm>(
     rt: &(impl Wait + Abort),
-    domain: &Pages<CountTable, L>,
+    domain: &Pages<E, L>,
     passes: &mut Vec<Pass<L>>,
 ) -> Result<(), Fail> {
     let pass = passes.last_mut().ok_or("a pass of each slot")?;
@@ -73,9 +80,9 @@ fn fill_all<L: Realm>(
     Ok(())
 }
 
-fn release_all<L: Realm>(
+fn release_all<E: Epochs + Drop, L: Realm>(
     rt: &impl Wait,
-    domain: &Pages<CountTable, L>,
+    domain: &Pages<E, L>,
     passes: Vec<Pass<L>>,
     riders: &mut Vec<Rider<L>>,
 ) -> Result<(), Fail> {
@@ -87,15 +94,31 @@ fn release_all<L: Realm>(
 
 #[test]
 fn the_greatest_sizes(rt: HostRuntime) -> Result<(), Fail> {
-    let narrow = Params::checked(4096, 256, 64, 64).ok_or("narrow sizes")?;
-    greatest_sizes::<Brand>(&rt, rt.alloc(), Seed::make(rt.alloc(), narrow, 64)?)?;
-    // Of each wide size the greatest, where not all of them fit a machine.
-    let slots = Sizes::checked(4096, 256, 1024, 4096).ok_or("wide sizes")?;
-    greatest_sizes::<Brand>(&rt, rt.alloc(), Seed::make(rt.alloc(), slots, 2048)?)?;
-    let frames = Sizes::checked(4, 1 << 16, 1, 1).ok_or("wide sizes")?;
-    greatest_sizes::<Brand>(&rt, rt.alloc(), Seed::make(rt.alloc(), frames, 1)?)?;
-    let page = Sizes::checked(1 << 20, 4, 1, 1).ok_or("wide sizes")?;
-    greatest_sizes::<Brand>(&rt, rt.alloc(), Seed::make(rt.alloc(), page, 1)?)
+    // The greatest narrow sizes; then of each wide size the greatest, where not all of them fit a machine.
+    for ([page_size, frames, slots, drain], riders) in [
+        ([4096, 256, 64, 64], 64),
+        ([4096, 256, 1024, 4096], 2048),
+        ([4, 1 << 16, 1, 1], 1),
+        ([1 << 20, 4, 1, 1], 1),
+    ] {
+        let params = Sizes::checked(page_size, frames, slots, drain).ok_or("sizes in range")?;
+        fill_over_both(&rt, rt.alloc(), params, riders)?;
+    }
+    Ok(())
+}
+
+fn fill_over_both(
+    rt: &(impl Wait + Abort),
+    alloc: Global,
+    params: Sizes,
+    riders: usize,
+) -> Result<(), Fail> {
+    let opening = Opening {
+        params,
+        riders: riders.clamp(1, 2048),
+        journal: 70_000,
+    };
+    make_over_both(rt, alloc, &opening, &FillsAll { params })
 }
 
 // A pass and an action of the domain with the last stamp. The stamps of its passes are above that of the domain.
@@ -105,16 +128,20 @@ bump 9 -> ticket 1
 refresh 0 -> view 0 0 1
 take -> taken 1";
 
-fn last_stamp<L: Realm>(rt: &(impl Wait + Abort), alloc: Global, seed: Seed) -> Result<(), Fail>
+fn last_stamp<E: Epochs + Drop, L: Realm>(
+    rt: &(impl Wait + Abort),
+    alloc: Global,
+    seed: Seed,
+) -> Result<(), Fail>
     requires seed { IsSeedOf L.name L.parts L.table seed }
     requires named { (seed.sizes ≡ L.sizes) × (4_611_686_018_427_387_904 ≡ L.stamp) × (100 ≡ L.limit) }
 {
-    let mut play = open_shared::<CountTable, L>(alloc, seed, 100, 1 << 62)?;
+    let mut play = open_shared::<E, L>(alloc, seed, 100, 1 << 62)?;
     use_last(rt, &mut play);
     Ok(())
 }
 
-fn use_last<L: Realm>(rt: &(impl Wait + Abort), play: &mut Play<CountTable, L>) {
+fn use_last<E: Epochs + Drop, L: Realm>(rt: &(impl Wait + Abort), play: &mut Play<E, L>) {
     if let Either::Shared(domain) = &play.asked {
         assert_eq!(rt; domain.stamp(), 1 << 62);
     }
@@ -128,15 +155,16 @@ fn use_last<L: Realm>(rt: &(impl Wait + Abort), play: &mut Play<CountTable, L>) 
 
 #[test]
 fn the_last_stamp(rt: HostRuntime) -> Result<(), Fail> {
-    last_stamp::<Brand>(&rt, rt.alloc(), small_seed(rt.alloc(), 2)?)
+    last_stamp::<ScanTable, Brand>(&rt, rt.alloc(), small_seed(rt.alloc(), 2)?)?;
+    last_stamp::<CountTable, Brand>(&rt, rt.alloc(), small_seed(rt.alloc(), 2)?)
 }
 
 // No machine has room for a journal of the most steps.
-fn longest_journal<L: Realm>(rt: &impl Abort, alloc: Global, seed: Seed)
+fn longest_journal<E: Epochs + Drop, L: Realm>(rt: &impl Abort, alloc: Global, seed: Seed)
     requires seed { IsSeedOf L.name L.parts L.table seed }
     requires named { (seed.sizes ≡ L.sizes) × (1000 ≡ L.stamp) × (4_611_686_018_427_387_904 ≡ L.limit) }
 {
-    match Pages::<CountTable, L>::open(alloc, seed, 1 << 62, 1000) {
+    match Pages::<E, L>::open(alloc, seed, 1 << 62, 1000) {
         Ok(_) => panic!(rt; "a journal of 2^62 steps was had"),
         Err(fault) => assert_eq!(rt; fault, Fault::OutOfMemory),
     }
@@ -144,27 +172,38 @@ fn longest_journal<L: Realm>(rt: &impl Abort, alloc: Global, seed: Seed)
 
 #[test]
 fn the_longest_journal(rt: HostRuntime) -> Result<(), Fail> {
-    longest_journal::<Brand>(&rt, rt.alloc(), small_seed(rt.alloc(), 2)?);
+    longest_journal::<ScanTable, Brand>(&rt, rt.alloc(), small_seed(rt.alloc(), 2)?);
+    longest_journal::<CountTable, Brand>(&rt, rt.alloc(), small_seed(rt.alloc(), 2)?);
     Ok(())
 }
 
 // Each job answers the tag of its successor, which is bumped once the answer came through a channel.
-fn chain<L: Realm>(rt: &(impl Wait + Abort), alloc: Global, seed: Seed) -> Result<(), Fail>
-    requires seed { IsSeedOf L.name L.parts L.table seed }
-    requires named { (seed.sizes ≡ L.sizes) × (1000 ≡ L.stamp) × (100 ≡ L.limit) }
-{
-    let (domain, mut riders) = Pages::<CountTable, L>::open(alloc, seed, 100, 1000)?;
-    let mut rider = riders.pop().ok_or("two riders")?;
-    run_ten(rt, alloc, &domain, &mut rider)?;
-    let (now, kept, _) = domain.snapshot(rt);
-    assert!(rt; now.epoch == 11 && now.safe == 10 && kept == 30);
-    Ok(())
+#[derive(Clone, Copy)]
+struct Chain {
+    alloc: Global,
 }
 
-fn run_ten<L: Realm>(
+impl Turn for Chain {
+    fn make<R: Wait + Abort, E: Epochs + Drop, L: Realm>(
+        &self,
+        rt: &R,
+        domain: &Pages<E, L>,
+        riders: &mut Vec<Rider<L>>,
+    ) -> Result<(), Fail> {
+        let rider = riders.last_mut().ok_or("three riders")?;
+        run_ten(rt, self.alloc, domain, rider)
+    }
+
+    fn see(&self, rt: &impl Abort, ending: &Ending<Tells, Anything>) {
+        let now = ending.snapshot;
+        assert!(rt; now.epoch == 11 && now.safe == 10 && ending.journal.len() == 30);
+    }
+}
+
+fn run_ten<E: Epochs + Drop, L: Realm>(
     rt: &(impl Wait + Abort),
     alloc: Global,
-    domain: &Pages<CountTable, L>,
+    domain: &Pages<E, L>,
     rider: &mut Rider<L>,
 ) -> Result<(), Fail> {
     let (to, from) = unbounded(alloc)?;
@@ -183,9 +222,9 @@ fn run_ten<L: Realm>(
 }
 
 // Runs the oldest action, whose job has this tag: what the job answered.
-fn run_one<L: Realm>(
+fn run_one<E: Epochs + Drop, L: Realm>(
     rt: &impl Wait,
-    domain: &Pages<CountTable, L>,
+    domain: &Pages<E, L>,
     rider: &mut Rider<L>,
     tag: u64,
 ) -> Result<u64, Fail> {
@@ -203,5 +242,6 @@ fn run_one<L: Realm>(
 
 #[test]
 fn a_chain_of_jobs(rt: HostRuntime) -> Result<(), Fail> {
-    chain::<Brand>(&rt, rt.alloc(), small_seed(rt.alloc(), 2)?)
+    let alloc = rt.alloc();
+    make_over_both(&rt, alloc, &Opening::small(100)?, &Chain { alloc })
 }

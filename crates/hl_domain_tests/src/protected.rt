@@ -1,44 +1,56 @@
 //! What a protected thread does: it entered where a slot was free, its pass lends its rider, and it is told who holds
 //! an action up.
-ghost use Rattle.std.specs.Prelude.{◌≡◌};
-ghost use Rattle.hl_words.specs.States.{IsSeedOf};
-
-use crate::jobs::{Pages, passed, released, small_seed};
-use hl_counts::CountTable;
-use hl_domain::{ArrayVec, Ask, FrameState, Holder, Pass, Reply, Step};
+use crate::jobs::{Anything, Pages, Tells, passed, released};
+use crate::opened::{Opening, Turn, make_over_both};
+use hl_domain::{ArrayVec, Ask, Ending, FrameState, Holder, Pass, Reply, Step};
+use hl_epoch::Epochs;
 use hl_model::Fault;
-use hl_words::{Realm, Rider, Seed};
-use std::alloc::Global;
-use std::marker::Brand;
+use hl_words::{Realm, Rider};
 use std::process::Abort;
 use std::sync::Wait;
 use std::test::Fail;
 
-fn protected_turn<L: Realm>(rt: &(impl Wait + Abort), alloc: Global, seed: Seed) -> Result<(), Fail>
-    requires seed { IsSeedOf L.name L.parts L.table seed }
-    requires named { (seed.sizes ≡ L.sizes) × (2000 ≡ L.stamp) × (8 ≡ L.limit) }
-{
-    let (domain, mut riders) = Pages::<CountTable, L>::open(alloc, seed, 8, 2000)?;
-    let mut first = passed(domain.enter(rt, riders.pop().ok_or("a rider")?))?;
-    let mut second = passed(domain.enter(rt, riders.pop().ok_or("a rider")?))?;
-    assert!(rt; first.slot() == 0 && second.slot() == 1);
-    let third = riders.pop().ok_or("a rider")?;
-    riders.push(no_slot_left(rt, &domain, third))?;
-    settle(rt, &domain, &mut first, &mut second);
-    cut_and_take(rt, &domain, &mut first)?;
-    riders.push(released(domain.release(rt, first))?)?;
-    riders.push(released(domain.release(rt, second))?)?;
-    let Ok(ending) = domain.close(riders) else {
-        panic!(rt; "all riders are there")
-    };
-    let releases = [Step::Release { t: 0 }, Step::Release { t: 1 }];
-    assert!(rt; ending.cut == 8 && ending.journal.ends_with(&releases));
-    Ok(())
+struct Settles;
+
+impl Turn for Settles {
+    fn make<R: Wait + Abort, E: Epochs + Drop, L: Realm>(
+        &self,
+        rt: &R,
+        domain: &Pages<E, L>,
+        riders: &mut Vec<Rider<L>>,
+    ) -> Result<(), Fail> {
+        let first = passed(domain.enter(rt, riders.pop().ok_or("a rider")?))?;
+        let second = passed(domain.enter(rt, riders.pop().ok_or("a rider")?))?;
+        let third = riders.pop().ok_or("a rider")?;
+        riders.push(no_slot_left(rt, domain, third))?;
+        for rider in settle_and_release(rt, domain, first, second)? {
+            riders.push(rider)?;
+        }
+        Ok(())
+    }
+
+    fn see(&self, rt: &impl Abort, ending: &Ending<Tells, Anything>) {
+        let releases = [Step::Release { t: 0 }, Step::Release { t: 1 }];
+        assert!(rt; ending.cut == 8 && ending.journal.ends_with(&releases));
+    }
 }
 
-fn no_slot_left<L: Realm>(
+fn settle_and_release<E: Epochs + Drop, L: Realm>(
     rt: &(impl Wait + Abort),
-    domain: &Pages<CountTable, L>,
+    domain: &Pages<E, L>,
+    mut first: Pass<L>,
+    mut second: Pass<L>,
+) -> Result<[Rider<L>; 2], Fault> {
+    assert!(rt; first.slot() == 0 && second.slot() == 1);
+    settle(rt, domain, &mut first, &mut second);
+    cut_and_take(rt, domain, &mut first)?;
+    let one = released(domain.release(rt, first))?;
+    Ok([one, released(domain.release(rt, second))?])
+}
+
+fn no_slot_left<E: Epochs + Drop, L: Realm>(
+    rt: &(impl Wait + Abort),
+    domain: &Pages<E, L>,
     rider: Rider<L>,
 ) -> Rider<L> {
     match domain.enter(rt, rider) {
@@ -48,9 +60,9 @@ fn no_slot_left<L: Realm>(
 }
 
 // The first settles what it placed, with a store that hasn't entered; each holds that up until it refreshes.
-fn settle<L: Realm>(
+fn settle<E: Epochs + Drop, L: Realm>(
     rt: &(impl Wait + Abort),
-    domain: &Pages<CountTable, L>,
+    domain: &Pages<E, L>,
     first: &mut Pass<L>,
     second: &mut Pass<L>,
 ) {
@@ -68,16 +80,20 @@ fn settle<L: Realm>(
 }
 
 // The oldest action is that of ticket 1, and these hold it up.
-fn held_by<L: Realm>(rt: &(impl Wait + Abort), domain: &Pages<CountTable, L>, holders: &[Holder]) {
+fn held_by<E: Epochs + Drop, L: Realm>(
+    rt: &(impl Wait + Abort),
+    domain: &Pages<E, L>,
+    holders: &[Holder],
+) {
     let mut row = ArrayVec::<Holder, 64>::new();
     assert_eq!(rt; domain.holders(rt, &mut row), Some(1));
     assert!(rt; *row == *holders);
 }
 
 // The journal is full: the pass cuts it, and goes on.
-fn cut_and_take<L: Realm>(
+fn cut_and_take<E: Epochs + Drop, L: Realm>(
     rt: &(impl Wait + Abort),
-    domain: &Pages<CountTable, L>,
+    domain: &Pages<E, L>,
     pass: &mut Pass<L>,
 ) -> Result<(), Fault> {
     assert_eq!(rt; domain.bare(rt, pass.rider_mut()), Err(Fault::JournalFull));
@@ -99,5 +115,5 @@ fn cut_and_take<L: Realm>(
 /// Two threads enter, settle and cut with a pass in their hands.
 #[test]
 fn a_protected_thread_settles_and_cuts(rt: HostRuntime) -> Result<(), Fail> {
-    protected_turn::<Brand>(&rt, rt.alloc(), small_seed(rt.alloc(), 3)?)
+    make_over_both(&rt, rt.alloc(), &Opening::small(8)?, &Settles)
 }

@@ -5,6 +5,7 @@ ghost use Rattle.hl_words.specs.States.{IsSeedOf};
 use crate::jobs::{Pages, passed, released, small_seed, view};
 use hl_counts::CountTable;
 use hl_domain::Pass;
+use hl_epoch::{Epochs, ScanTable};
 use hl_model::Fault;
 use hl_words::{Realm, Rider, Seed};
 use std::alloc::Global;
@@ -13,19 +14,23 @@ use std::process::Abort;
 use std::sync::Wait;
 use std::test::Fail;
 
-fn held_pass<L: Realm>(rt: &(impl Wait + Abort), alloc: Global, seed: Seed) -> Result<(), Fail>
+fn held_pass<E: Epochs + Drop, L: Realm>(
+    rt: &(impl Wait + Abort),
+    alloc: Global,
+    seed: Seed,
+) -> Result<(), Fail>
     requires seed { IsSeedOf L.name L.parts L.table seed }
     requires named { (seed.sizes ≡ L.sizes) × (2000 ≡ L.stamp) × (100 ≡ L.limit) }
 {
-    let (domain, mut riders) = Pages::<CountTable, L>::open(alloc, seed, 100, 2000)?;
+    let (domain, mut riders) = Pages::<E, L>::open(alloc, seed, 100, 2000)?;
     let rider = riders.pop().ok_or("a rider")?;
     let pass = start(rt, &domain, rider)?;
     refuse_and_close(rt, domain, riders, pass)
 }
 
-fn start<L: Realm>(
+fn start<E: Epochs + Drop, L: Realm>(
     rt: &(impl Wait + Abort),
-    domain: &Pages<CountTable, L>,
+    domain: &Pages<E, L>,
     rider: Rider<L>,
 ) -> Result<Pass<L>, Fault> {
     let mut pass = passed(domain.acquire(rt, 0, rider))?;
@@ -35,9 +40,9 @@ fn start<L: Realm>(
 }
 
 // The close is refused and all comes back; once the pass is released, the domain is closed.
-fn refuse_and_close<L: Realm>(
+fn refuse_and_close<E: Epochs + Drop, L: Realm>(
     rt: &(impl Wait + Abort),
-    domain: Pages<CountTable, L>,
+    domain: Pages<E, L>,
     riders: Vec<Rider<L>>,
     pass: Pass<L>,
 ) -> Result<(), Fail> {
@@ -53,9 +58,9 @@ fn refuse_and_close<L: Realm>(
 }
 
 // The pass stores and loads, and is released.
-fn go_on<L: Realm>(
+fn go_on<E: Epochs + Drop, L: Realm>(
     rt: &(impl Wait + Abort),
-    domain: &Pages<CountTable, L>,
+    domain: &Pages<E, L>,
     mut pass: Pass<L>,
 ) -> Result<Rider<L>, Fault> {
     assert_eq!(rt; domain.store(&mut pass, 3, 7), Ok(()));
@@ -67,5 +72,6 @@ fn go_on<L: Realm>(
 /// A pass is held, or a rider was let go: a domain is closed by all its riders alone.
 #[test]
 fn close_with_a_rider_missing(rt: HostRuntime) -> Result<(), Fail> {
-    held_pass::<Brand>(&rt, rt.alloc(), small_seed(rt.alloc(), 2)?)
+    held_pass::<ScanTable, Brand>(&rt, rt.alloc(), small_seed(rt.alloc(), 2)?)?;
+    held_pass::<CountTable, Brand>(&rt, rt.alloc(), small_seed(rt.alloc(), 2)?)
 }

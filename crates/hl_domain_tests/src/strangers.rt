@@ -8,6 +8,7 @@ use crate::jobs::small_seed;
 use crate::play::Play;
 use crate::shared::open_shared;
 use hl_counts::CountTable;
+use hl_epoch::{Epochs, ScanTable};
 use hl_model::Fault;
 use hl_words::{Realm, Rider, Seed};
 use std::alloc::Global;
@@ -50,7 +51,7 @@ clean done 0 -> freed 0";
 
 const STRANGE: Fault = Fault::Stranger { stamp: 2000 };
 
-fn strangers<L: Realm, M: Realm>(
+fn strangers<E: Epochs + Drop, L: Realm, M: Realm>(
     rt: &(impl Wait + Abort),
     alloc: Global,
     first: Seed,
@@ -61,17 +62,17 @@ fn strangers<L: Realm, M: Realm>(
     requires second { IsSeedOf M.name M.parts M.table second }
     requires second_named { (second.sizes ≡ M.sizes) × (2000 ≡ M.stamp) × (100 ≡ M.limit) }
 {
-    let mut one = open_shared::<CountTable, L>(alloc, first, 100, 1000)?;
-    let mut other = open_shared::<CountTable, M>(alloc, second, 100, 2000)?;
+    let mut one = open_shared::<E, L>(alloc, first, 100, 1000)?;
+    let mut other = open_shared::<E, M>(alloc, second, 100, 2000)?;
     bring_back(rt, &mut one, &mut other);
     Ok(())
 }
 
 // Both have the same out; what is of the one comes back from the other, and is ended in its own alone.
-fn bring_back<L: Realm, M: Realm>(
+fn bring_back<E: Epochs + Drop, L: Realm, M: Realm>(
     rt: &(impl Wait + Abort),
-    one: &mut Play<CountTable, L>,
-    other: &mut Play<CountTable, M>,
+    one: &mut Play<E, L>,
+    other: &mut Play<E, M>,
 ) {
     ask_all(rt, one, TAKE_OUT);
     ask_all(rt, other, TAKE_OUT);
@@ -84,9 +85,9 @@ fn bring_back<L: Realm, M: Realm>(
 }
 
 // All that came back names its domain. Neither page is copied or swept elsewhere.
-fn refuse_unlocked<L: Realm>(
+fn refuse_unlocked<E: Epochs + Drop, L: Realm>(
     rt: &(impl Wait + Abort),
-    other: &Either<CountTable, L>,
+    other: &Either<E, L>,
     rider: &mut Rider<L>,
     taken: &mut Vec<Taken>,
 ) {
@@ -115,5 +116,7 @@ fn refuse_unlocked<L: Realm>(
 #[test]
 fn what_is_of_another_domain(rt: HostRuntime) -> Result<(), Fail> {
     let (first, second) = (small_seed(rt.alloc(), 2)?, small_seed(rt.alloc(), 2)?);
-    strangers::<Brand, Brand>(&rt, rt.alloc(), first, second)
+    strangers::<ScanTable, Brand, Brand>(&rt, rt.alloc(), first, second)?;
+    let (first, second) = (small_seed(rt.alloc(), 2)?, small_seed(rt.alloc(), 2)?);
+    strangers::<CountTable, Brand, Brand>(&rt, rt.alloc(), first, second)
 }

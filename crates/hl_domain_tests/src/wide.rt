@@ -11,6 +11,7 @@ use crate::play::Play;
 use crate::shared::open_shared;
 use hl_counts::CountTable;
 use hl_domain::{Reply, Step};
+use hl_epoch::{Epochs, ScanTable};
 use hl_model::Sizes;
 use hl_words::{Realm, Seed};
 use std::alloc::Global;
@@ -31,14 +32,17 @@ const ACTIONS: u64 = 1024;
 /// All steps of the round, and then some.
 const JOURNAL: u64 = 5000;
 
-type Player<L> = Play<CountTable, L>;
-
-fn makes<L: Realm>(rt: &(impl Wait + Abort), play: &mut Player<L>, step: Step, reply: Reply) {
+fn makes<E: Epochs + Drop, L: Realm>(
+    rt: &(impl Wait + Abort),
+    play: &mut Play<E, L>,
+    step: Step,
+    reply: Reply,
+) {
     assert_eq!(rt; play.answer(rt, Call::Step(step)), Ok(reply), "{step:?}");
 }
 
 // A slot fills each frame, and uses the last word of all. Then as many actions wait as there are places.
-fn fill<L: Realm>(rt: &(impl Wait + Abort), play: &mut Player<L>) {
+fn fill<E: Epochs + Drop, L: Realm>(rt: &(impl Wait + Abort), play: &mut Play<E, L>) {
     ask_all(rt, play, "acquire 0 -> view 0 0 0");
     for page in 0..FRAMES {
         makes(
@@ -64,7 +68,7 @@ fn fill<L: Realm>(rt: &(impl Wait + Abort), play: &mut Player<L>) {
 }
 
 // Each action is taken, and done in the same order; then all pages are settled.
-fn settle<L: Realm>(rt: &(impl Wait + Abort), play: &mut Player<L>) {
+fn settle<E: Epochs + Drop, L: Realm>(rt: &(impl Wait + Abort), play: &mut Play<E, L>) {
     for ended in 0..ACTIONS {
         makes(rt, play, Step::Take, Reply::Taken(ended + 1));
     }
@@ -85,7 +89,7 @@ fn settle<L: Realm>(rt: &(impl Wait + Abort), play: &mut Player<L>) {
 }
 
 // Each page is flushed, closed, swept and freed, and the first frame is entered again.
-fn free<L: Realm>(rt: &(impl Wait + Abort), play: &mut Player<L>) {
+fn free<E: Epochs + Drop, L: Realm>(rt: &(impl Wait + Abort), play: &mut Play<E, L>) {
     for page in 0..FRAMES {
         makes(rt, play, Step::FlushTake, Reply::Page(page));
         makes(
@@ -112,7 +116,7 @@ fn free<L: Realm>(rt: &(impl Wait + Abort), play: &mut Player<L>) {
     );
 }
 
-fn round<L: Realm>(rt: &(impl Wait + Abort), play: &mut Player<L>) {
+fn round<E: Epochs + Drop, L: Realm>(rt: &(impl Wait + Abort), play: &mut Play<E, L>) {
     fill(rt, play);
     settle(rt, play);
     free(rt, play);
@@ -121,7 +125,7 @@ fn round<L: Realm>(rt: &(impl Wait + Abort), play: &mut Player<L>) {
     assert_eq!(rt; kept, 4368);
 }
 
-fn both<L: Realm, M: Realm>(
+fn both<E: Epochs + Drop, L: Realm, M: Realm>(
     rt: &(impl Wait + Abort),
     alloc: Global,
     one: Seed,
@@ -132,14 +136,8 @@ fn both<L: Realm, M: Realm>(
     requires other { IsSeedOf M.name M.parts M.table other }
     requires other_named { (other.sizes ≡ M.sizes) × (STAMP ≡ M.stamp) × (JOURNAL ≡ M.limit) }
 {
-    round(
-        rt,
-        &mut open_alone::<CountTable, L>(alloc, one, JOURNAL, STAMP)?,
-    );
-    round(
-        rt,
-        &mut open_shared::<CountTable, M>(alloc, other, JOURNAL, STAMP)?,
-    );
+    round(rt, &mut open_alone::<E, L>(alloc, one, JOURNAL, STAMP)?);
+    round(rt, &mut open_shared::<E, M>(alloc, other, JOURNAL, STAMP)?);
     Ok(())
 }
 
@@ -150,5 +148,10 @@ fn wide_sizes(rt: HostRuntime) -> Result<(), Fail> {
         Seed::make(rt.alloc(), params, 2)?,
         Seed::make(rt.alloc(), params, 2)?,
     );
-    both::<Brand, Brand>(&rt, rt.alloc(), one, other)
+    both::<ScanTable, Brand, Brand>(&rt, rt.alloc(), one, other)?;
+    let (one, other) = (
+        Seed::make(rt.alloc(), params, 2)?,
+        Seed::make(rt.alloc(), params, 2)?,
+    );
+    both::<CountTable, Brand, Brand>(&rt, rt.alloc(), one, other)
 }

@@ -1,8 +1,8 @@
 //! What one of many threads does on a domain: rounds of its own slot, and its turns at what all of them share.
 use crate::jobs::{Anything, Asked, Pages, Tells, job, passed, released};
-use hl_counts::CountTable;
 use hl_domain::Pass;
 use hl_drain::Ask;
+use hl_epoch::Epochs;
 use hl_model::Fault;
 use hl_words::{Realm, Rider};
 use std::sync::Wait;
@@ -54,12 +54,10 @@ pub(crate) struct Worker<L: Realm> {
     pub(crate) cut: u64,
 }
 
-type Domain<L> = Pages<CountTable, L>;
-
 /// Acquires its slot, makes so many rounds, and releases it. It stops at a fault that others' calls can't have caused.
-pub(crate) fn work<R: Wait, L: Realm>(
+pub(crate) fn work<R: Wait, E: Epochs + Drop, L: Realm>(
     rt: &R,
-    domain: &Domain<L>,
+    domain: &Pages<E, L>,
     mut worker: Worker<L>,
     rounds: u64,
 ) -> Worker<L> {
@@ -81,9 +79,9 @@ pub(crate) fn work<R: Wait, L: Realm>(
     worker
 }
 
-fn make_rounds<R: Wait, L: Realm>(
+fn make_rounds<R: Wait, E: Epochs + Drop, L: Realm>(
     rt: &R,
-    domain: &Domain<L>,
+    domain: &Pages<E, L>,
     worker: &mut Worker<L>,
     pass: &mut Pass<L>,
     rounds: u64,
@@ -98,9 +96,9 @@ fn make_rounds<R: Wait, L: Realm>(
 }
 
 // Refreshes, looks, and allocates some words: whether a load of the first tells what was stored there.
-fn keeps_a_word<R: Wait, L: Realm>(
+fn keeps_a_word<R: Wait, E: Epochs + Drop, L: Realm>(
     rt: &R,
-    domain: &Domain<L>,
+    domain: &Pages<E, L>,
     pass: &mut Pass<L>,
     i: u64,
 ) -> Result<bool, Fault> {
@@ -119,9 +117,9 @@ fn keeps_a_word<R: Wait, L: Realm>(
 }
 
 // Runs an action, if one is ready, and then makes one of eight kinds of call; another one in each round.
-fn take_turn<R: Wait, L: Realm>(
+fn take_turn<R: Wait, E: Epochs + Drop, L: Realm>(
     rt: &R,
-    domain: &Domain<L>,
+    domain: &Pages<E, L>,
     worker: &mut Worker<L>,
     i: u64,
 ) -> Result<(), Fault> {
@@ -155,9 +153,9 @@ fn take_turn<R: Wait, L: Realm>(
     }
 }
 
-fn bump<R: Wait, L: Realm>(
+fn bump<R: Wait, E: Epochs + Drop, L: Realm>(
     rt: &R,
-    domain: &Domain<L>,
+    domain: &Pages<E, L>,
     rider: &mut Rider<L>,
     ask: Asked,
 ) -> Result<u64, Fault> {
@@ -165,9 +163,9 @@ fn bump<R: Wait, L: Realm>(
 }
 
 /// Takes the oldest action, runs it, and is done with it. Its job's answer is added.
-pub(crate) fn take_and_run<R: Wait, L: Realm>(
+pub(crate) fn take_and_run<R: Wait, E: Epochs + Drop, L: Realm>(
     rt: &R,
-    domain: &Domain<L>,
+    domain: &Pages<E, L>,
     rider: &mut Rider<L>,
     answered: &mut Sums,
 ) -> Result<(), Fault> {
@@ -189,7 +187,11 @@ pub(crate) fn take_and_run<R: Wait, L: Realm>(
 }
 
 // Flushes a page, which is written nowhere.
-fn flush<R: Wait, L: Realm>(rt: &R, domain: &Domain<L>, rider: &mut Rider<L>) -> Result<(), Fault> {
+fn flush<R: Wait, E: Epochs + Drop, L: Realm>(
+    rt: &R,
+    domain: &Pages<E, L>,
+    rider: &mut Rider<L>,
+) -> Result<(), Fault> {
     let load = match domain.flush_take(rt, rider) {
         Ok(load) => load,
         Err(fault) => return unless_others_may(fault),
@@ -203,7 +205,11 @@ fn flush<R: Wait, L: Realm>(rt: &R, domain: &Domain<L>, rider: &mut Rider<L>) ->
     }
 }
 
-fn clean<R: Wait, L: Realm>(rt: &R, domain: &Domain<L>, rider: &mut Rider<L>) -> Result<(), Fault> {
+fn clean<R: Wait, E: Epochs + Drop, L: Realm>(
+    rt: &R,
+    domain: &Pages<E, L>,
+    rider: &mut Rider<L>,
+) -> Result<(), Fault> {
     let mut broom = match domain.clean_take(rt, rider) {
         Ok(broom) => broom,
         Err(fault) => return unless_others_may(fault),

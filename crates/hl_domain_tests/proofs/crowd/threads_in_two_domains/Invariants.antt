@@ -12,3 +12,15 @@ ghosts-two_domains-M-Realm g a = record { table = a.second.table; sizes = a.seco
 
 abbrev pub ghosts-two_domains-M-Ledger : goal.ghosts-two_domains-M-Ledger
 ghosts-two_domains-M-Ledger g a = record { name = a.second.name; parts = a.second.riders }
+
+abbrev pub ghosts-two_domains-2-L-Realm : goal.ghosts-two_domains-2-L-Realm
+ghosts-two_domains-2-L-Realm g a = record { table = a.first.table; sizes = a.first.sizes; stamp = 1000; limit = 10000 }
+
+abbrev pub ghosts-two_domains-2-L-Ledger : goal.ghosts-two_domains-2-L-Ledger
+ghosts-two_domains-2-L-Ledger g a = record { name = a.first.name; parts = a.first.riders }
+
+abbrev pub ghosts-two_domains-2-M-Realm : goal.ghosts-two_domains-2-M-Realm
+ghosts-two_domains-2-M-Realm g a = record { table = a.second.table; sizes = a.second.sizes; stamp = 2000; limit = 10000 }
+
+abbrev pub ghosts-two_domains-2-M-Ledger : goal.ghosts-two_domains-2-M-Ledger
+ghosts-two_domains-2-M-Ledger g a = record { name = a.second.name; parts = a.second.riders }

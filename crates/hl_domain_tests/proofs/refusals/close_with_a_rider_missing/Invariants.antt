@@ -6,3 +6,9 @@ ghosts-held_pass-L-Realm g a = record { table = a.seed.table; sizes = a.seed.siz
 
 abbrev pub ghosts-held_pass-L-Ledger : goal.ghosts-held_pass-L-Ledger
 ghosts-held_pass-L-Ledger g a = record { name = a.seed.name; parts = a.seed.riders }
+
+abbrev pub ghosts-held_pass-2-L-Realm : goal.ghosts-held_pass-2-L-Realm
+ghosts-held_pass-2-L-Realm g a = record { table = a.seed.table; sizes = a.seed.sizes; stamp = 2000; limit = 100 }
+
+abbrev pub ghosts-held_pass-2-L-Ledger : goal.ghosts-held_pass-2-L-Ledger
+ghosts-held_pass-2-L-Ledger g a = record { name = a.seed.name; parts = a.seed.riders }

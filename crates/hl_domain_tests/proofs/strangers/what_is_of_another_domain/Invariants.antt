@@ -12,3 +12,15 @@ ghosts-strangers-M-Realm g a = record { table = a.second.table; sizes = a.second
 
 abbrev pub ghosts-strangers-M-Ledger : goal.ghosts-strangers-M-Ledger
 ghosts-strangers-M-Ledger g a = record { name = a.second.name; parts = a.second.riders }
+
+abbrev pub ghosts-strangers-2-L-Realm : goal.ghosts-strangers-2-L-Realm
+ghosts-strangers-2-L-Realm g a = record { table = a.first.table; sizes = a.first.sizes; stamp = 1000; limit = 100 }
+
+abbrev pub ghosts-strangers-2-L-Ledger : goal.ghosts-strangers-2-L-Ledger
+ghosts-strangers-2-L-Ledger g a = record { name = a.first.name; parts = a.first.riders }
+
+abbrev pub ghosts-strangers-2-M-Realm : goal.ghosts-strangers-2-M-Realm
+ghosts-strangers-2-M-Realm g a = record { table = a.second.table; sizes = a.second.sizes; stamp = 2000; limit = 100 }
+
+abbrev pub ghosts-strangers-2-M-Ledger : goal.ghosts-strangers-2-M-Ledger
+ghosts-strangers-2-M-Ledger g a = record { name = a.second.name; parts = a.second.riders }
