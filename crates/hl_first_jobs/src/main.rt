@@ -66,8 +66,19 @@ impl<R: Wait> Work<R> for Retiring {
     }
 }
 
-/// Opens a log with 16 places for actions; the answer is how many words were freed once it was closed.
+/// The threads retire their rows; the answer is how many words were freed once their log was closed.
 fn retire_rows<R: Threads + Wait + Sync>(rt: &R, alloc: Global) -> Result<u64, Fault> {
+    let freed = Arc::new(alloc, AtomicU64::new(0)).map_err(|_| Fault::OutOfMemory)?;
+    let work = Retiring {
+        alloc,
+        freed: Arc::try_clone(&freed).map_err(|_| Fault::OutOfMemory)?,
+    };
+    run(rt, alloc, &work)?;
+    Ok(freed.load(Ordering::SeqCst))
+}
+
+// Opens a log with 16 places for actions, runs the threads, and closes it.
+fn run<R: Threads + Wait + Sync>(rt: &R, alloc: Global, work: &Retiring) -> Result<(), Fault> {
     let params = Params::checked(64, 64, 4, 16).ok_or(Fault::Size)?;
     let opening = Opening {
         params,
@@ -76,17 +87,13 @@ fn retire_rows<R: Threads + Wait + Sync>(rt: &R, alloc: Global) -> Result<u64, F
         stamp: 1,
     };
     let duty = Duty::checked(params, 2, 32).ok_or(Fault::Size)?;
-    let freed = Arc::new(alloc, AtomicU64::new(0)).map_err(|_| Fault::OutOfMemory)?;
-    let work = Retiring {
-        alloc,
-        freed: Arc::try_clone(&freed).map_err(|_| Fault::OutOfMemory)?,
-    };
-    let closed = with_threads(rt, alloc, opening, duty, &work)?;
-    for retired in closed.out? {
+    let closed = with_threads(rt, alloc, opening, duty, work)?;
+    let outs = closed.out?;
+    closed.ending?;
+    for retired in outs {
         retired??;
     }
-    closed.ending?;
-    Ok(freed.load(Ordering::SeqCst))
+    Ok(())
 }
 
 fn main(rt: HostRuntime) -> io::Result<ExitCode> {

@@ -1,5 +1,5 @@
 use crate::store::{Change, Store};
-use hl::{Duty, Fault, NoJob, Opening, Params, Realm, Session, Work, with_threads};
+use hl::{Duty, Fault, NoJob, Opening, Outs, Params, Realm, Session, Work, with_threads};
 use std::alloc::Global;
 use std::io::Write;
 use std::sync::{Mutex, Wait};
@@ -65,12 +65,18 @@ pub fn run<R: Threads + Wait + Sync, W: Write>(
     });
     let store = Store::open(alloc).map_err(|_| Fault::OutOfMemory)?;
     let closed = with_threads(rt, alloc, opening, duty, &Counting { store, account })?;
-    for tally in closed.out? {
+    let outs = closed.out?;
+    closed.ending?;
+    tell_all(out, outs)
+}
+
+// Writes the tally of the thread that has one.
+fn tell_all<W: Write>(out: &mut W, outs: Outs<Result<Option<Tally>, Fault>>) -> Result<(), Fault> {
+    for tally in outs {
         if let Some(tally) = tally?? {
             tell(out, tally)?;
         }
     }
-    closed.ending?;
     Ok(())
 }
 
