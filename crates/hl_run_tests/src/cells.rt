@@ -1,16 +1,18 @@
 ghost use Rattle.std.specs.Prelude.{◌≡◌, IfSome};
 
 use crate::jobs::{Anything, Counted, Tells, TestEngine, small_engine};
+use crate::lines::ask;
 use hl_action::Kept;
 use hl_cells::Engine;
-use hl_epoch::ScanTable;
+use hl_counts::CountTable;
+use hl_epoch::{Epochs, ScanTable};
 use hl_model::{Fault, Params, Reply, Step};
 use std::alloc::Global;
 use std::process::Abort;
 use std::sync::atomic::{AtomicU64, Ordering};
 
 // What a caller knows by the clauses alone: the done of its ticket is answered by its own job.
-fn own_answer(engine: &mut TestEngine, number: u64) -> Option<u64>
+fn own_answer<E: Epochs + Drop>(engine: &mut TestEngine<E>, number: u64) -> Option<u64>
     ensures { IfSome result (λ answer. answer ≡ number) }
 {
     let ticket = engine.bump(Kept::new(7, Tells { number })).ok()?;
@@ -21,35 +23,34 @@ fn own_answer(engine: &mut TestEngine, number: u64) -> Option<u64>
     }
 }
 
-// Stores a job, and takes it.
-fn takes_a_job(rt: &impl Abort, engine: &mut TestEngine, number: u64) {
-    let job = Kept::new(7, Tells { number });
-    let stored = engine.bump(job).ok();
-    let taken = engine.step(&Step::Take);
-    assert_eq!(rt; (stored, taken), (Some(1), Ok(Reply::Taken(1))));
+// A job is taken; another of its tag is stored, taken and done before it.
+fn two_jobs<E: Epochs + Drop>(rt: &impl Abort, engine: &mut TestEngine<E>) {
+    assert!(rt; engine.bump(Kept::new(7, Tells { number: 50 })).is_ok());
+    ask(rt, engine, "take -> taken 1");
+    assert_eq!(rt; own_answer(engine, 60), Some(60));
+    ask(rt, engine, "done 1 -> answer 50");
 }
 
 #[test]
 fn two_jobs_of_one_tag(rt: HostRuntime) -> Result<(), Fault> {
-    let mut engine = small_engine(rt.alloc())?;
-    takes_a_job(&rt, &mut engine, 50);
-    let second = own_answer(&mut engine, 60);
-    let first = engine.step(&Step::Done { ticket: 1 });
-    assert_eq!(rt; (first, second), (Ok(Reply::Answer(50)), Some(60)));
+    two_jobs::<ScanTable>(&rt, &mut small_engine(rt.alloc())?);
+    two_jobs::<CountTable>(&rt, &mut small_engine(rt.alloc())?);
     Ok(())
 }
 
 // Slot 0 allocates two words, and writes the second one, and none behind it.
-fn writes_a_word(rt: &impl Abort, engine: &mut TestEngine) -> Result<(), Fault> {
-    engine.step(&Step::Acquire { t: 0 })?;
-    engine.step(&Step::Allocate { t: 0, n: 2 })?;
+fn writes_a_word<E: Epochs + Drop>(rt: &impl Abort, engine: &mut TestEngine<E>) {
+    ask(
+        rt,
+        engine,
+        "acquire 0 -> epoch 1 view 0 0 0\nalloc 0 2 -> at 0",
+    );
     let answers = [engine.write(0, 1, 51), engine.write(0, 2, 60)];
     assert_eq!(rt; answers, [Ok(()), Err(Fault::Beyond { tail: 2 })]);
-    Ok(())
 }
 
-// The word is read back, and seen in the page in frame 0; the tail that the slot sees is behind it.
-fn shows_the_word(rt: &impl Abort, engine: &TestEngine) {
+// The word is seen in the page in frame 0; the tail that the slot sees is behind it.
+fn shows_the_word<E: Epochs + Drop>(rt: &impl Abort, engine: &TestEngine<E>) {
     assert_eq!(rt; engine.read(0, 1), Ok(51));
     let (_, page) = engine.frame(0);
     let Some(page) = page else {
@@ -61,49 +62,56 @@ fn shows_the_word(rt: &impl Abort, engine: &TestEngine) {
 
 #[test]
 fn words_of_a_page(rt: HostRuntime) -> Result<(), Fault> {
-    let mut engine = small_engine(rt.alloc())?;
-    writes_a_word(&rt, &mut engine)?;
-    shows_the_word(&rt, &engine);
+    a_word::<ScanTable>(&rt, &mut small_engine(rt.alloc())?);
+    a_word::<CountTable>(&rt, &mut small_engine(rt.alloc())?);
     Ok(())
 }
 
+fn a_word<E: Epochs + Drop>(rt: &impl Abort, engine: &mut TestEngine<E>) {
+    writes_a_word(rt, engine);
+    shows_the_word(rt, engine);
+}
+
 // What becomes of a job that was bumped. No clause can say it of a drop.
-#[derive(Clone, Copy)]
+#[derive(Clone, Copy, Debug)]
 enum End {
+    // It is pending in a dropped engine.
     Pending,
+    // It is dropped in a drain list.
     InItsDrainList,
+    // It is taken in a dropped engine.
     Taken,
+    // It is taken, and given up by `into_drain`.
     GivenUp,
+    // A bump refuses it.
     Refused,
     Done,
 }
 
-type CountingEngine<'a> = Engine<ScanTable, Counted<'a>, Anything>;
+type CountingEngine<'a, E> = Engine<E, Counted<'a>, Anything>;
 
 // An engine with one place in its drain list.
-fn one_place<'a>(alloc: Global) -> Result<CountingEngine<'a>, Fault> {
+fn one_place<'a, E: Epochs + Drop>(alloc: Global) -> Result<CountingEngine<'a, E>, Fault> {
     Engine::open(alloc, Params::checked(4, 2, 1, 1).ok_or(Fault::Size)?)
 }
 
-// Bumps a job, which is dropped where it is refused.
-fn bump<'a>(engine: &mut CountingEngine<'a>, calls: &'a AtomicU64) -> Result<u64, Fault> {
-    let kept = Kept::new(7, Counted { calls });
-    engine.bump(kept).map_err(|refused| refused.0)
-}
-
-// Makes the steps to this end of the job of a ticket.
-fn step_to(engine: &mut CountingEngine<'_>, end: End, ticket: u64) -> Result<(), Fault> {
-    if matches!(end, End::Taken | End::GivenUp | End::Done) {
-        engine.step(&Step::Take)?;
+// Makes the steps to this end of a job, whose ticket is 1.
+fn step_to<'a, E: Epochs + Drop>(
+    rt: &impl Abort,
+    engine: &mut CountingEngine<'a, E>,
+    end: End,
+    calls: &'a AtomicU64,
+) {
+    assert!(rt; engine.bump(Kept::new(7, Counted { calls })).is_ok());
+    match end {
+        End::Taken | End::GivenUp => ask(rt, engine, "take -> taken 1"),
+        End::Done => ask(rt, engine, "take -> taken 1\ndone 1 -> answer 0"),
+        End::Pending | End::InItsDrainList | End::Refused => {}
     }
-    if matches!(end, End::Done) {
-        engine.step(&Step::Done { ticket })?;
-    }
-    Ok(())
 }
 
 // Ends the engine, and with it a job that is still there.
-fn finish<'a>(mut engine: CountingEngine<'a>, end: End, calls: &'a AtomicU64) {
+fn finish<'a, E: Epochs + Drop>(mut engine: CountingEngine<'a, E>, end: End, calls: &'a AtomicU64) {
     match end {
         End::InItsDrainList | End::GivenUp => drop(engine.into_drain()),
         End::Refused => drop(engine.bump(Kept::new(7, Counted { calls }))),
@@ -111,28 +119,45 @@ fn finish<'a>(mut engine: CountingEngine<'a>, end: End, calls: &'a AtomicU64) {
     }
 }
 
+fn bring_to<E: Epochs + Drop>(
+    rt: &impl Abort,
+    alloc: Global,
+    end: End,
+    calls: &AtomicU64,
+) -> Result<(), Fault> {
+    let mut engine = one_place::<E>(alloc)?;
+    step_to(rt, &mut engine, end, calls);
+    finish(engine, end, calls);
+    Ok(())
+}
+
 // How often a job is called until its end.
-fn calls_until(alloc: Global, end: End) -> Result<u64, Fault> {
+fn calls_until<E: Epochs + Drop>(rt: &impl Abort, alloc: Global, end: End) -> Result<u64, Fault> {
     let calls = AtomicU64::new(0);
-    let mut engine = one_place(alloc)?;
-    let ticket = bump(&mut engine, &calls)?;
-    step_to(&mut engine, end, ticket)?;
-    finish(engine, end, &calls);
+    bring_to::<E>(rt, alloc, end, &calls)?;
     Ok(calls.load(Ordering::SeqCst))
+}
+
+fn ends_with_calls(rt: &impl Abort, alloc: Global, end: End, calls: u64) -> Result<(), Fault> {
+    assert_eq!(rt; calls_until::<ScanTable>(rt, alloc, end)?, calls, "{end:?}");
+    assert_eq!(rt;
+        calls_until::<CountTable>(rt, alloc, end)?,
+        calls,
+        "{end:?}"
+    );
+    Ok(())
 }
 
 #[test]
 fn a_job_is_run_by_its_done_alone(rt: HostRuntime) -> Result<(), Fault> {
-    let rows = [
-        ("pending in a dropped engine", End::Pending, 0),
-        ("dropped in a drain list", End::InItsDrainList, 0),
-        ("taken in a dropped engine", End::Taken, 0),
-        ("taken and given up by into_drain", End::GivenUp, 0),
-        ("refused by a bump", End::Refused, 0),
-        ("done", End::Done, 1),
-    ];
-    for (name, end, expected) in rows {
-        assert_eq!(rt; calls_until(rt.alloc(), end)?, expected, "{name}");
+    for end in [
+        End::Pending,
+        End::InItsDrainList,
+        End::Taken,
+        End::GivenUp,
+        End::Refused,
+    ] {
+        ends_with_calls(&rt, rt.alloc(), end, 0)?;
     }
-    Ok(())
+    ends_with_calls(&rt, rt.alloc(), End::Done, 1)
 }

@@ -1,47 +1,41 @@
 ghost use Rattle.std.specs.Prelude.{◌≡◌, ◌+◌, ◌-◌, ◌^◌, min};
 
 use crate::jobs::{TestEngine, small_engine};
+use crate::lines::ask;
+use hl_counts::CountTable;
+use hl_epoch::{Epochs, ScanTable};
 use hl_flush::{flush_one, lag_steps};
 use hl_image::{MemoryWriter, PageWriter};
-use hl_model::{Fault, Six, Sizes, Step};
+use hl_model::{Fault, FrameState, Six, Sizes, Step};
 use std::alloc::Global;
 use std::process::Abort;
 use std::test::Fail;
 
-// An engine after an allocation of one page, which has the words 1, 0, 0 and 258. It is sealed, and nobody is
-// protected.
-fn sealed(alloc: Global) -> Result<TestEngine, Fault> {
-    let mut engine = small_engine(alloc)?;
-    engine.step(&Step::Acquire { t: 0 })?;
-    engine.step(&Step::Allocate { t: 0, n: 4 })?;
-    engine.write(0, 0, 1)?;
-    engine.write(0, 3, 258)?;
-    engine.step(&Step::Raise { x: 4 })?;
-    engine.step(&Step::Settle)?;
-    engine.step(&Step::Release { t: 0 })?;
-    engine.step(&Step::Take)?;
-    engine.step(&Step::Done { ticket: 1 })?;
-    Ok(engine)
-}
+// A page with the words 1, 0, 0 and 258 is sealed, and nobody is protected.
+const ONE_SEALED: &str = "acquire 0 -> epoch 1 view 0 0 0
+alloc 0 4 -> at 0
+write 0 0 1 -> written
+write 0 3 258 -> written
+raise 4 -> read_only 4
+settle -> ticket 1
+release 0 -> left
+take -> taken 1
+done 1 -> safe_read_only 4";
 
-// An engine with two pages of 4 words, both sealed, in which nothing was written.
-fn two_sealed(alloc: Global) -> Result<TestEngine, Fault> {
-    let mut engine = small_engine(alloc)?;
-    engine.step(&Step::Acquire { t: 0 })?;
-    engine.step(&Step::Allocate { t: 0, n: 4 })?;
-    engine.step(&Step::Allocate { t: 0, n: 4 })?;
-    engine.step(&Step::Raise { x: 8 })?;
-    engine.step(&Step::Settle)?;
-    engine.step(&Step::Refresh { t: 0 })?;
-    engine.step(&Step::Take)?;
-    engine.step(&Step::Done { ticket: 1 })?;
-    Ok(engine)
-}
+// Two pages are sealed, in which nothing was written.
+const TWO_SEALED: &str = "acquire 0 -> epoch 1 view 0 0 0
+alloc 0 4 -> at 0
+alloc 0 4 -> at 4
+raise 8 -> read_only 8
+settle -> ticket 1
+refresh 0 -> epoch 2 view 8 0 8
+take -> taken 1
+done 1 -> safe_read_only 8";
 
 // Flushes one page, with a buffer for its image.
-fn flush<W: PageWriter>(
+fn flush<E: Epochs + Drop, W: PageWriter>(
     alloc: Global,
-    engine: &mut TestEngine,
+    engine: &mut TestEngine<E>,
     writer: &mut W,
 ) -> Result<u64, Fault> {
     let size = 8 + 8 * engine.params().page_size();
@@ -49,17 +43,33 @@ fn flush<W: PageWriter>(
     flush_one(engine, writer, &mut image)
 }
 
-// The first write fails, the second one doesn't, and then there is nothing left to flush.
-fn flushes_again(
+// The first write fails, the second one doesn't, and then there is nothing left to flush: what is answered, and the
+// state of the page then.
+const AGAIN: [(Result<u64, Fault>, FrameState); 3] = [
+    (Err(Fault::Device), FrameState::Sealed),
+    (Ok(0), FrameState::Flushed),
+    (Err(Fault::NoneSealed), FrameState::Flushed),
+];
+
+fn flushes_again<E: Epochs + Drop>(
     rt: &impl Abort,
     alloc: Global,
-    engine: &mut TestEngine,
+    engine: &mut TestEngine<E>,
     writer: &mut MemoryWriter,
 ) {
-    for wanted in [Err(Fault::Device), Ok(0), Err(Fault::NoneSealed)] {
+    for (wanted, state) in AGAIN {
         let answer = flush(alloc, engine, writer);
         assert_eq!(rt; (answer, writer.failures()), (wanted, 1));
+        assert_eq!(rt; first_frame(rt, engine), (state, Some(0)));
     }
+}
+
+fn first_frame<E: Epochs + Drop>(
+    rt: &impl Abort,
+    engine: &TestEngine<E>,
+) -> (FrameState, Option<u64>) {
+    assert_eq!(rt; engine.params().frames(), 2);
+    engine.frame(0)
 }
 
 // The image of the page that is sealed.
@@ -71,15 +81,24 @@ fn sealed_image() -> [u8; 40] {
     image
 }
 
-#[test]
-fn a_failed_flush_is_made_again(rt: HostRuntime) -> Result<(), Fail> {
-    let mut engine = sealed(rt.alloc())?;
-    let mut writer = MemoryWriter::open(rt.alloc(), 2, 40)?;
+fn made_again<E: Epochs + Drop>(
+    rt: &impl Abort,
+    alloc: Global,
+    engine: &mut TestEngine<E>,
+) -> Result<(), Fault> {
+    ask(rt, engine, ONE_SEALED);
+    let mut writer = MemoryWriter::open(alloc, 2, 40)?;
     writer.fail_at(1);
-    flushes_again(&rt, rt.alloc(), &mut engine, &mut writer);
+    flushes_again(rt, alloc, engine, &mut writer);
     assert_eq!(rt; writer.image(0), Some(sealed_image().as_slice()));
     assert_eq!(rt; engine.six().flushed, 4);
     Ok(())
+}
+
+#[test]
+fn a_failed_flush_is_made_again(rt: HostRuntime) -> Result<(), Fault> {
+    made_again::<ScanTable>(&rt, rt.alloc(), &mut small_engine(rt.alloc())?)?;
+    made_again::<CountTable>(&rt, rt.alloc(), &mut small_engine(rt.alloc())?)
 }
 
 // Both pages were written, each with its number and no words.
@@ -97,19 +116,29 @@ fn has_both_pages(rt: &impl Abort, writer: &MemoryWriter, k: u64) {
     );
 }
 
-// The k-th write fails: the flushes are answered so, and so many fail.
-fn flushes_both(
+// The write that fails, what the flushes are answered, and how many fail.
+type Turn = (u64, [Result<u64, Fault>; 4], u64);
+
+const NONE: Result<u64, Fault> = Err(Fault::NoneSealed);
+
+// The page whose write failed is written by the next flush, before the one behind it.
+const TURNS: [Turn; 3] = [
+    (1, [Err(Fault::Device), Ok(0), Ok(1), NONE], 1),
+    (2, [Ok(0), Err(Fault::Device), Ok(1), NONE], 1),
+    (3, [Ok(0), Ok(1), NONE, NONE], 0),
+];
+
+fn flushes_both<E: Epochs + Drop>(
     rt: &impl Abort,
     alloc: Global,
-    k: u64,
-    answers: [Result<u64, Fault>; 4],
-    failures: u64,
+    engine: &mut TestEngine<E>,
+    (k, answers, failures): Turn,
 ) -> Result<(), Fault> {
-    let mut engine = two_sealed(alloc)?;
+    ask(rt, engine, TWO_SEALED);
     let mut writer = MemoryWriter::open(alloc, 2, 40)?;
     writer.fail_at(k);
     for wanted in answers {
-        assert_eq!(rt; flush(alloc, &mut engine, &mut writer), wanted, "write {k}");
+        assert_eq!(rt; flush(alloc, engine, &mut writer), wanted, "write {k}");
     }
     has_both_pages(rt, &writer, k);
     let ended = (writer.failures(), engine.six().flushed);
@@ -117,17 +146,11 @@ fn flushes_both(
     Ok(())
 }
 
-// The page whose write failed is written by the next flush, before the one behind it.
 #[test]
 fn each_page_write_fails_in_turn(rt: HostRuntime) -> Result<(), Fault> {
-    let none = Err(Fault::NoneSealed);
-    let cases = [
-        (1, [Err(Fault::Device), Ok(0), Ok(1), none], 1),
-        (2, [Ok(0), Err(Fault::Device), Ok(1), none], 1),
-        (3, [Ok(0), Ok(1), none, none], 0),
-    ];
-    for (k, answers, failures) in cases {
-        flushes_both(&rt, rt.alloc(), k, answers, failures)?;
+    for turn in TURNS {
+        flushes_both::<ScanTable>(&rt, rt.alloc(), &mut small_engine(rt.alloc())?, turn)?;
+        flushes_both::<CountTable>(&rt, rt.alloc(), &mut small_engine(rt.alloc())?, turn)?;
     }
     Ok(())
 }
@@ -156,16 +179,21 @@ impl PageWriter for Refusing {
 }
 
 // Each flush calls the writer, and is refused.
-#[test]
-fn a_writer_that_always_fails(rt: HostRuntime) -> Result<(), Fail> {
-    let mut engine = sealed(rt.alloc())?;
+fn refused_each_time<E: Epochs + Drop>(rt: &impl Abort, alloc: Global, engine: &mut TestEngine<E>) {
+    ask(rt, engine, ONE_SEALED);
     let mut writer = Refusing { calls: 0 };
     for calls in 1..4 {
-        let answer = flush(rt.alloc(), &mut engine, &mut writer);
+        let answer = flush(alloc, engine, &mut writer);
         assert_eq!(rt; answer, Err(Fault::Device));
         assert_eq!(rt; writer.calls, calls);
     }
     assert_eq!(rt; engine.six().flushed, 0);
+}
+
+#[test]
+fn a_writer_that_always_fails(rt: HostRuntime) -> Result<(), Fault> {
+    refused_each_time::<ScanTable>(&rt, rt.alloc(), &mut small_engine(rt.alloc())?);
+    refused_each_time::<CountTable>(&rt, rt.alloc(), &mut small_engine(rt.alloc())?);
     Ok(())
 }
 

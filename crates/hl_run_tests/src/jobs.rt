@@ -4,7 +4,7 @@ ghost use Rattle.hl_action.specs.Firings.{IsSafe};
 
 use hl_action::{Firing, Promise, Task};
 use hl_cells::Engine;
-use hl_epoch::ScanTable;
+use hl_epoch::Epochs;
 use hl_model::{Fault, Params, Tagged};
 use std::alloc::Global;
 use std::sync::atomic::{AtomicU64, Ordering};
@@ -62,9 +62,9 @@ impl Tagged for Job {
     }
 }
 
-pub(crate) type TestEngine = Engine<ScanTable, Tells, Anything>;
+pub(crate) type TestEngine<E> = Engine<E, Tells, Anything>;
 
-/// An engine with pages of 4 words in 2 frames, 2 slots and 3 places.
-pub(crate) fn small_engine(alloc: Global) -> Result<TestEngine, Fault> {
-    Engine::open(alloc, Params::checked(4, 2, 2, 3).ok_or(Fault::Size)?)
+/// An engine with pages of 4 words in 2 frames, 2 slots and 4 places.
+pub(crate) fn small_engine<E: Epochs + Drop>(alloc: Global) -> Result<TestEngine<E>, Fault> {
+    Engine::open(alloc, Params::checked(4, 2, 2, 4).ok_or(Fault::Size)?)
 }

@@ -13,9 +13,15 @@ mod cores;
 #[cfg(test)]
 mod cuts;
 #[cfg(test)]
+mod draws;
+#[cfg(test)]
 mod flush;
 #[cfg(test)]
+mod forms;
+#[cfg(test)]
 mod jobs;
+#[cfg(test)]
+mod lines;
 #[cfg(test)]
 mod script;
 #[cfg(test)]

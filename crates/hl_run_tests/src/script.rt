@@ -6,7 +6,7 @@ use hl_action::{Firing, Kept, Shelf, Task};
 use hl_counts::CountTable;
 use hl_epoch::{Epochs, ScanTable};
 use hl_model::Fault;
-use hl_script::{Finished, Sum, run_text, slow_text};
+use hl_script::{Finished, Sum, run_text, run_text_within, slow_text, slow_text_within};
 use std::alloc::Global;
 use std::io;
 use std::io::{Read, Write};
@@ -39,20 +39,40 @@ fn shelf_of(alloc: Global, n: u64) -> Result<Shelf<AddTicket, Sum>, Fault>
     Ok(shelf)
 }
 
-/// Runs a script with the tags 0 to 7 over a table of epochs, and gives how many steps were accepted.
-fn run_jobs<E: Epochs + Drop, R: Read, W: Write>(
+/// How many tags have a job.
+pub(crate) const TAGS: u64 = 64;
+
+/// As many reads as any script here wants.
+const MANY: u64 = 1000;
+
+fn accepted<E: Epochs + Drop>(ended: Option<Finished<E, AddTicket>>) -> Option<u64> {
+    ended.map(|end| end.accepted)
+}
+
+/// Runs a script over a table of epochs, and gives how many steps were accepted.
+fn run_over<E: Epochs + Drop, R: Read, W: Write>(
     alloc: Global,
     reader: &mut R,
     writer: &mut W,
 ) -> Result<Option<u64>, Fault> {
-    let shelf = shelf_of(alloc, 8)?;
-    let ended: Option<Finished<E, AddTicket>> = run_text(alloc, reader, writer, shelf)?;
-    Ok(ended.map(|end| end.accepted))
+    let shelf = shelf_of(alloc, TAGS)?;
+    Ok(accepted::<E>(run_text(alloc, reader, writer, shelf)?))
+}
+
+/// The same in at most so many reads.
+fn run_over_within<E: Epochs + Drop, R: Read, W: Write>(
+    alloc: Global,
+    reader: &mut R,
+    writer: &mut W,
+    reads: u64,
+) -> Result<Option<u64>, Fault> {
+    let shelf = shelf_of(alloc, TAGS)?;
+    Ok(accepted::<E>(run_text_within(alloc, reader, writer, shelf, reads)?))
 }
 
 /// The forms of a run: the fast one over a table that scans and over one that counts, and the slow one.
 #[derive(Clone, Copy)]
-enum Form {
+pub(crate) enum Form {
     Scanning,
     Counting,
     Slow,
@@ -60,17 +80,32 @@ enum Form {
 
 const FORMS: [Form; 3] = [Form::Scanning, Form::Counting, Form::Slow];
 
-/// Runs a script in a form, with the tags 0 to 7.
-fn run_form<R: Read, W: Write>(
+/// Runs a script in a form.
+pub(crate) fn run_form<R: Read, W: Write>(
     form: Form,
     alloc: Global,
     reader: &mut R,
     writer: &mut W,
 ) -> Result<Option<u64>, Fault> {
     match form {
-        Form::Scanning => run_jobs::<ScanTable, R, W>(alloc, reader, writer),
-        Form::Counting => run_jobs::<CountTable, R, W>(alloc, reader, writer),
-        Form::Slow => slow_text(alloc, reader, writer, 8),
+        Form::Scanning => run_over::<ScanTable, R, W>(alloc, reader, writer),
+        Form::Counting => run_over::<CountTable, R, W>(alloc, reader, writer),
+        Form::Slow => slow_text(alloc, reader, writer, TAGS),
+    }
+}
+
+/// The same in at most so many reads.
+fn run_within<R: Read, W: Write>(
+    form: Form,
+    alloc: Global,
+    reader: &mut R,
+    writer: &mut W,
+    reads: u64,
+) -> Result<Option<u64>, Fault> {
+    match form {
+        Form::Scanning => run_over_within::<ScanTable, R, W>(alloc, reader, writer, reads),
+        Form::Counting => run_over_within::<CountTable, R, W>(alloc, reader, writer, reads),
+        Form::Slow => slow_text_within(alloc, reader, writer, TAGS, reads),
     }
 }
 
@@ -224,31 +259,33 @@ fn writes_whole_lines_where_memory_is_refused(rt: HostRuntime) {
 
 const LAST_TAG: &str = "config 4 2 1 1\nbump 1048575\n";
 
-// Both forms answer a bump of the last of very many tags.
+const LAST_TAG_TEXT: &str = "opened\nticket 1\n";
+
+// A bump of the last of very many tags is answered.
+fn last_tag<E: Epochs + Drop>(rt: &impl Abort, alloc: Global) -> Result<(), Fault> {
+    let tag = (1 << 20) - 1;
+    let mut shelf = Shelf::open(alloc, 1 << 20)?;
+    shelf.put(Kept::new(tag, AddTicket { tag }));
+    let mut text = Vec::new(alloc);
+    let ended = run_text(alloc, &mut LAST_TAG.as_bytes(), &mut text, shelf)?;
+    assert_eq!(rt; accepted::<E>(ended), Some(1));
+    assert_eq!(rt; text.as_slice(), LAST_TAG_TEXT.as_bytes());
+    Ok(())
+}
+
+fn last_tag_slowly(rt: &impl Abort, alloc: Global) -> Result<(), Fault> {
+    let mut text = Vec::new(alloc);
+    let accepted = slow_text(alloc, &mut LAST_TAG.as_bytes(), &mut text, 1 << 62)?;
+    assert_eq!(rt; accepted, Some(1));
+    assert_eq!(rt; text.as_slice(), LAST_TAG_TEXT.as_bytes());
+    Ok(())
+}
+
 #[test]
 fn many_tags(rt: HostRuntime) -> Result<(), Fault> {
-    let tag = (1 << 20) - 1;
-    let mut shelf = Shelf::open(rt.alloc(), 1 << 20)?;
-    shelf.put(Kept::new(tag, AddTicket { tag }));
-    let mut text = Vec::new(rt.alloc());
-    let mut reader = LAST_TAG.as_bytes();
-    let ended: Option<Finished<CountTable, AddTicket>> = run_text(
-        rt.alloc(),
-        &mut reader,
-        &mut text,
-        shelf,
-    )?;
-    assert_eq!(rt; ended.map(|end| end.accepted), Some(1));
-    let mut reader = LAST_TAG.as_bytes();
-    assert_eq!(rt;
-        slow_text(rt.alloc(), &mut reader, &mut text, 1 << 62)?,
-        Some(1)
-    );
-    assert_eq!(rt;
-        text.as_slice(),
-        b"opened\nticket 1\nopened\nticket 1\n".as_slice()
-    );
-    Ok(())
+    last_tag::<ScanTable>(&rt, rt.alloc())?;
+    last_tag::<CountTable>(&rt, rt.alloc())?;
+    last_tag_slowly(&rt, rt.alloc())
 }
 
 /// How a writer fails, and what it takes before.

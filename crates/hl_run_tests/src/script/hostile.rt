@@ -1,27 +1,5 @@
 // Streams that fail at each of their calls, scripts that break off at each of their bytes, and few reads.
 use super::*;
-use hl_script::{run_text_within, slow_text_within};
-
-/// Runs a script in one of the two forms in at most so many reads, with the tags 0 to 7.
-fn run_within<R: Read, W: Write>(
-    is_slow: bool,
-    alloc: Global,
-    reader: &mut R,
-    writer: &mut W,
-    reads: u64,
-) -> Result<Option<u64>, Fault> {
-    if is_slow {
-        return slow_text_within(alloc, reader, writer, 8, reads);
-    }
-    let shelf = shelf_of(alloc, 8)?;
-    let ended: Option<Finished<CountTable, AddTicket>> = run_text_within(
-        alloc, reader, writer, shelf, reads,
-    )?;
-    Ok(ended.map(|end| end.accepted))
-}
-
-/// As many reads as any script here wants.
-const MANY: u64 = 1000;
 
 /// The first lines of a text.
 fn first_lines(text: &[u8], lines: usize) -> &[u8] {
@@ -53,13 +31,13 @@ fn each_read_fails_in_turn(rt: HostRuntime) {
         } else {
             Err(Fault::Stream)
         };
-        for is_slow in [false, true] {
+        for form in FORMS {
             let mut reader = SlowReader {
                 bytes: script,
                 left,
             };
             let mut writer = Vec::new(rt.alloc());
-            let answer = run_within(is_slow, rt.alloc(), &mut reader, &mut writer, MANY);
+            let answer = run_within(form, rt.alloc(), &mut reader, &mut writer, MANY);
             let text = first_lines(STALE_READER_TEXT.as_bytes(), lines);
             assert_eq!(rt; answer, wanted, "after {left} bytes");
             assert!(rt; writer.as_slice() == text, "after {left} bytes");
@@ -77,7 +55,7 @@ fn each_write_fails_in_turn(rt: HostRuntime) {
         } else {
             Err(Fault::Stream)
         };
-        for is_slow in [false, true] {
+        for form in FORMS {
             let mut reader = STALE_READER.as_bytes();
             let mut writer = SmallWriter {
                 taken: Vec::new(rt.alloc()),
@@ -86,7 +64,7 @@ fn each_write_fails_in_turn(rt: HostRuntime) {
                 fails: true,
                 calls_after: 0,
             };
-            let answer = run_within(is_slow, rt.alloc(), &mut reader, &mut writer, MANY);
+            let answer = run_within(form, rt.alloc(), &mut reader, &mut writer, MANY);
             assert_eq!(rt; answer, wanted, "after {left} bytes");
             assert!(rt;
                 writer.taken.as_slice() == &text[..left.min(text.len())],
@@ -118,10 +96,10 @@ fn cut_after_each_byte(rt: HostRuntime) {
         } else {
             lines
         };
-        for is_slow in [false, true] {
+        for form in FORMS {
             let mut reader = input;
             let mut writer = Vec::new(rt.alloc());
-            let answer = run_within(is_slow, rt.alloc(), &mut reader, &mut writer, MANY);
+            let answer = run_within(form, rt.alloc(), &mut reader, &mut writer, MANY);
             let text = first_lines(STALE_READER_WORDS_TEXT.as_bytes(), answered);
             assert!(rt; writer.starts_with(text), "after {length} bytes");
             let rest = &writer[text.len()..];
@@ -159,13 +137,13 @@ struct Stop<'a> {
     unread: usize,
 }
 
-fn stops(rt: &impl Abort, alloc: Global, is_slow: bool, case: Stop<'_>) {
+fn stops(rt: &impl Abort, alloc: Global, form: Form, case: Stop<'_>) {
     let mut reader = SlowReader {
         bytes: case.script.as_bytes(),
         left: case.left,
     };
     let mut writer = Vec::new(alloc);
-    let answer = run_within(is_slow, alloc, &mut reader, &mut writer, case.reads);
+    let answer = run_within(form, alloc, &mut reader, &mut writer, case.reads);
     let name = case.name;
     assert_eq!(rt; answer, case.answer, "{name}");
     assert!(rt; writer.as_slice() == case.text.as_bytes(), "{name}");
@@ -201,19 +179,24 @@ fn stops_where_it_must(rt: HostRuntime) {
             answer,
             unread,
         };
-        stops(&rt, rt.alloc(), false, case);
-        stops(&rt, rt.alloc(), true, case);
+        for form in FORMS {
+            stops(&rt, rt.alloc(), form, case);
+        }
     }
 }
 
 // A line without an end is told as a bad one.
+fn stops_at_line_1(rt: &impl Abort, alloc: Global, form: Form) {
+    let mut writer = Vec::new(alloc);
+    let answer = run_within(form, alloc, &mut Endless, &mut writer, MANY);
+    assert_eq!(rt; answer, Err(Fault::BadLine { n: 1 }));
+    assert_eq!(rt; writer.as_slice(), b"line 1: not a step\n".as_slice());
+}
+
 #[test]
 fn stops_at_an_endless_line(rt: HostRuntime) {
-    for is_slow in [false, true] {
-        let mut writer = Vec::new(rt.alloc());
-        let answer = run_within(is_slow, rt.alloc(), &mut Endless, &mut writer, MANY);
-        assert_eq!(rt; answer, Err(Fault::BadLine { n: 1 }));
-        assert_eq!(rt; writer.as_slice(), b"line 1: not a step\n".as_slice());
+    for form in FORMS {
+        stops_at_line_1(&rt, rt.alloc(), form);
     }
 }
 
