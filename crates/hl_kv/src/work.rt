@@ -75,10 +75,11 @@ pub(crate) fn run<R: Threads + Wait + Clock + Print + Sync>(
         copies: AtomicU64::new(0),
     };
     let closed = with_threads(rt, alloc, opening, duty.cutting_above(1 << 14), &shared)?;
-    for ended in closed.out? {
+    let outs = closed.out?;
+    closed.ending?;
+    for ended in outs {
         ended??;
     }
-    closed.ending?;
     Ok(())
 }
 

@@ -51,9 +51,10 @@ pub(crate) fn run<R: Threads + Wait + Sync>(
     };
     let duty = Duty::checked(params, 2, 32).ok_or(Fault::Size)?;
     let closed = with_threads(rt, alloc, opening, duty, &Sleeper { seconds })?;
-    for out in closed.out? {
+    let outs = closed.out?;
+    closed.ending?;
+    for out in outs {
         out?;
     }
-    closed.ending?;
     Ok(())
 }

@@ -123,11 +123,12 @@ pub(crate) fn run<R: Threads + Wait + Clock + Sync>(
     let duty = duty.cutting_above(1_000);
     let closed = with_threads(rt, alloc, opening, duty, &Filler { rounds })?;
     let mut all = Waited { rung: 0, left: 0 };
-    for out in closed.out? {
+    let outs = closed.out?;
+    closed.ending?;
+    for out in outs {
         let waited = out??;
         all.rung = all.rung.saturating_add(waited.rung);
         all.left = all.left.saturating_add(waited.left);
     }
-    closed.ending?;
     Ok(all)
 }

@@ -52,10 +52,11 @@ pub(crate) fn run<R: Threads + Wait + Clock + Sync>(
     };
     let closed = with_threads(rt, alloc, opening, duty.cutting_above(1 << 14), &counting)?;
     let mut digest = Digest::new();
-    for told in closed.out? {
+    let outs = closed.out?;
+    closed.ending?;
+    for told in outs {
         digest.add(told??);
     }
-    closed.ending?;
     // Whatever the threads' turns were, pages were written.
     digest.add(u64::from(counting.written.load(SeqCst) > 0));
     Ok(digest.value())
