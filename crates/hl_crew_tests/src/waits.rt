@@ -3,7 +3,8 @@ ghost use Rattle.std.specs.Prelude.{◌≡◌, ◌≤◌};
 ghost use Rattle.hl_words.specs.States.{IsSeedOf};
 
 use crate::crew::{
-    ONE_TURN, Pages, Run, STAMP, allocate_pages, four, is_done, place_three, run_both, seed_of, settle,
+    ONE_TURN, Pages, Run, STAMP, allocate_pages, four, is_done, place_three, run_both, seed_of,
+    settle,
 };
 use crate::gates::HoldsFirst;
 use hl_counts::CountTable;
