@@ -2,10 +2,12 @@ ghost use Rattle.std.specs.Prelude.{◌≡◌, ◌≤◌, IfOk};
 ghost use Rattle.hl_words.specs.States.{IsSeedOf};
 
 use crate::gates::{HoldsFirst, KeepsFirst};
-use hl_action::{Firing, Promise, Task};
+use hl_action::{Firing, Promise, Ran, Ready, Task};
 use hl_counts::CountTable;
 use hl_crew::{CrewEnd, Gate, OpenGate, run_crew};
 use hl_domain::{Domain, Pass};
+use hl_drain::Ask;
+use hl_epoch::{Epochs, ScanTable};
 use hl_image::{MemoryWriter, PageWriter};
 use hl_model::{Fault, Params, Six, Snapshot};
 use hl_words::{Realm, Rider, Seed};
@@ -38,7 +40,7 @@ impl Task for Ticket {
     }
 }
 
-pub(crate) type Pages<L> = Domain<CountTable, Ticket, Anything, L>;
+pub(crate) type Pages<E, L> = Domain<E, Ticket, Anything, L>;
 
 /// What a run of the crew left: what it counted, its writers, the quantities then, all steps, how many were cut, and how
 /// many each rider entered.
@@ -100,21 +102,53 @@ pub(crate) fn seed_of(alloc: Global, riders: usize) -> Result<Seed, Fault>
 }
 
 /// A slot acquires, allocates three pages whole, and leaves.
-pub(crate) fn allocate_pages<R: Wait, L: Realm>(
+pub(crate) fn allocate_pages<R: Wait, E: Epochs + Drop, L: Realm>(
     rt: &R,
-    domain: &Pages<L>,
+    domain: &Pages<E, L>,
     rider: Rider<L>,
 ) -> Result<Rider<L>, Fault> {
-    let mut pass = match domain.acquire(rt, 0, rider) {
-        Ok(pass) => pass,
-        Err((fault, _)) => return Err(fault),
-    };
+    let mut pass = domain.acquire(rt, 0, rider).map_err(|(fault, _)| fault)?;
+    place_three(rt, domain, &mut pass)?;
+    domain.release(rt, pass).map_err(|(fault, _)| fault)
+}
+
+/// Allocates three pages whole.
+pub(crate) fn place_three<R: Wait, E: Epochs + Drop, L: Realm>(
+    rt: &R,
+    domain: &Pages<E, L>,
+    pass: &mut Pass<L>,
+) -> Result<(), Fault> {
     for _ in 0..3 {
-        domain.allocate(rt, &mut pass, 4)?;
+        domain.allocate(rt, pass, 4)?;
     }
-    match domain.release(rt, pass) {
-        Ok(rider) => Ok(rider),
-        Err((fault, _)) => Err(fault),
+    Ok(())
+}
+
+/// Bumps a settle, and takes it.
+pub(crate) fn settle<R: Wait, E: Epochs + Drop, L: Realm>(
+    rt: &R,
+    domain: &Pages<E, L>,
+    rider: &mut Rider<L>,
+) -> Result<Ready<Ticket, Anything>, Fault> {
+    if let Err((fault, _)) = domain.bump(rt, rider, Ask::Settle) {
+        return Err(fault);
+    }
+    domain.take(rt, rider)
+}
+
+/// Whether the domain is done with an action that ran.
+pub(crate) fn is_done<R: Wait, E: Epochs + Drop, L: Realm>(
+    rt: &R,
+    domain: &Pages<E, L>,
+    rider: &mut Rider<L>,
+    ran: Ran,
+) -> bool {
+    match domain.done(rt, rider, ran) {
+        Ok(_) => true,
+        Err((_, ran)) => {
+            ran.forsake();
+            false
+        }
     }
 }
 
@@ -133,16 +167,17 @@ fn crew_of<L: Realm>(rider: Rider<L>, riders: &mut Vec<Rider<L>>) -> Result<[Rid
 }
 
 /// Runs the crew with two writers in memory, with one page mutable.
-pub(crate) fn run_both<R, L, G>(
+pub(crate) fn run_both<R, E, L, G>(
     rt: &R,
     alloc: Global,
-    domain: &Pages<L>,
+    domain: &Pages<E, L>,
     crew: [Rider<L>; 4],
     gate: &G,
     run: Run,
 ) -> Result<CrewEnd<L, MemoryWriter>, Fault>
 where
     R: Threads + Wait + Sync,
+    E: Epochs + Drop + Send,
     L: Realm + Send + Sync,
     G: Gate + Sync,
     requires frames { domain.now.sizes.frames ≡ 4 }
@@ -168,9 +203,16 @@ where
 }
 
 /// Runs the crew on a domain of three whole pages.
-fn crew_left<R, L, G>(rt: &R, alloc: Global, seed: Seed, gate: &G, run: Run) -> Result<Left, Fail>
+fn crew_left<R, E, L, G>(
+    rt: &R,
+    alloc: Global,
+    seed: Seed,
+    gate: &G,
+    run: Run,
+) -> Result<Left, Fail>
 where
     R: Threads + Wait + Abort + Sync,
+    E: Epochs + Drop + Send,
     L: Realm + Send + Sync,
     G: Gate + Sync,
     requires seed { IsSeedOf L.name L.parts L.table seed }
@@ -178,14 +220,18 @@ where
     requires frames { seed.sizes.frames ≡ 4 }
     requires resident { (1 ≤ run.resident) × (run.resident ≤ 4) }
 {
-    let (domain, mut riders) = Pages::<L>::open(alloc, seed, 100, STAMP)?;
+    let (domain, mut riders) = Pages::<E, L>::open(alloc, seed, 100, STAMP)?;
     let flushing = allocate_pages(rt, &domain, riders.pop().ok_or("a rider")?)?;
     let crew = crew_of(flushing, &mut riders)?;
     let end = run_both(rt, alloc, &domain, crew, gate, run)?;
     Ok(left_of(rt, &domain, end))
 }
 
-fn left_of<R: Wait, L: Realm>(rt: &R, domain: &Pages<L>, end: CrewEnd<L, MemoryWriter>) -> Left {
+fn left_of<R: Wait, E: Epochs + Drop, L: Realm>(
+    rt: &R,
+    domain: &Pages<E, L>,
+    end: CrewEnd<L, MemoryWriter>,
+) -> Left {
     let (now, since, cut) = domain.snapshot(rt);
     let CrewEnd {
         riders,
@@ -212,18 +258,33 @@ fn left_of<R: Wait, L: Realm>(rt: &R, domain: &Pages<L>, end: CrewEnd<L, MemoryW
     }
 }
 
-#[test]
-fn gated_crew(rt: HostRuntime) -> Result<(), Fail> {
-    let gate = HoldsFirst::new();
-    let left = crew_left::<_, Brand, _>(&rt, rt.alloc(), seed(rt.alloc())?, &gate, ONE_TURN)?;
+// Both sealed pages are written.
+fn flushed_both(rt: &impl Abort, left: &Left) {
     assert!(rt; left.written == 2 && left.failed == 0 && left.strangers == 0);
     assert_eq!(rt; left.now.six.flushed, 8);
+}
+
+#[test]
+fn gated_crew(rt: HostRuntime) -> Result<(), Fail> {
+    let (one, other) = (seed(rt.alloc())?, seed(rt.alloc())?);
+    let gate = &HoldsFirst::new();
+    let left = crew_left::<_, ScanTable, Brand, _>(&rt, rt.alloc(), one, gate, ONE_TURN)?;
+    flushed_both(&rt, &left);
+    let gate = &HoldsFirst::new();
+    let left = crew_left::<_, CountTable, Brand, _>(&rt, rt.alloc(), other, gate, ONE_TURN)?;
+    flushed_both(&rt, &left);
     Ok(())
 }
 
 #[test]
 fn gate_never_opens(rt: HostRuntime) -> Result<(), Fail> {
-    let left = crew_left::<_, Brand, _>(&rt, rt.alloc(), seed(rt.alloc())?, &KeepsFirst, ONE_TURN)?;
+    let left = crew_left::<_, CountTable, Brand, _>(
+        &rt,
+        rt.alloc(),
+        seed(rt.alloc())?,
+        &KeepsFirst,
+        ONE_TURN,
+    )?;
     assert!(rt; left.written == 1 && left.failed == 1 && left.strangers == 0);
     let six = Six {
         closed: 0,
@@ -255,7 +316,13 @@ fn failing_crew_writers(rt: HostRuntime) -> Result<(), Fail> {
         fails_at: 1,
         ..ONE_TURN
     };
-    let left = crew_left::<_, Brand, _>(&rt, rt.alloc(), seed(rt.alloc())?, &OpenGate, run)?;
+    let left = crew_left::<_, CountTable, Brand, _>(
+        &rt,
+        rt.alloc(),
+        seed(rt.alloc())?,
+        &OpenGate,
+        run,
+    )?;
     let [first, second] = &left.writers;
     assert_eq!(rt;
         left.failed,
@@ -274,7 +341,13 @@ fn crew_writers_always_fail(rt: HostRuntime) -> Result<(), Fail> {
         turns: 3,
         ..ONE_TURN
     };
-    let left = crew_left::<_, Brand, _>(&rt, rt.alloc(), seed(rt.alloc())?, &OpenGate, run)?;
+    let left = crew_left::<_, CountTable, Brand, _>(
+        &rt,
+        rt.alloc(),
+        seed(rt.alloc())?,
+        &OpenGate,
+        run,
+    )?;
     assert!(rt; left.written == 0 && left.failed == 6 && left.strangers == 0);
     assert!(rt; images(&left.writers) == 0 && left.now.six.flushed == 0);
     assert!(rt; left.is_whole() && left.cut == 0);
@@ -291,7 +364,13 @@ fn crew_cuts(rt: HostRuntime) -> Result<(), Fail> {
         cut: true,
         ..ONE_TURN
     };
-    let left = crew_left::<_, Brand, _>(&rt, rt.alloc(), seed(rt.alloc())?, &OpenGate, run)?;
+    let left = crew_left::<_, CountTable, Brand, _>(
+        &rt,
+        rt.alloc(),
+        seed(rt.alloc())?,
+        &OpenGate,
+        run,
+    )?;
     assert!(rt; left.written == 2 && left.failed == 0 && left.strangers == 0);
     let six = Six {
         closed: 4,
@@ -318,7 +397,13 @@ fn a_crew_frees_what_it_closed(rt: HostRuntime) -> Result<(), Fail> {
         cut: true,
         ..ONE_TURN
     };
-    let left = crew_left::<_, Brand, _>(&rt, rt.alloc(), seed(rt.alloc())?, &OpenGate, run)?;
+    let left = crew_left::<_, CountTable, Brand, _>(
+        &rt,
+        rt.alloc(),
+        seed(rt.alloc())?,
+        &OpenGate,
+        run,
+    )?;
     assert_eq!(rt; left.now.frames, [1, 0, 0, 0, 3]);
     assert!(rt; left.written == 2 && left.now.six.closed == 8 && left.is_whole());
     let [_, first, second, cleaning] = left.shares;

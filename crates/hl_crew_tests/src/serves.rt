@@ -4,10 +4,11 @@ ghost use Rattle.hl_keeper.specs.Keepers.{steps_most};
 ghost use Rattle.hl_words.specs.States.{IsSeedOf};
 
 use crate::crew::{Pages, STAMP, allocate_pages, four, seed_of};
+use hl_counts::CountTable;
 use hl_crew::{Duty, OpenGate, Stop, serve};
 use hl_image::MemoryWriter;
 use hl_model::Fault;
-use hl_words::{Realm, Seed};
+use hl_words::{Realm, Rider, Seed};
 use std::alloc::Global;
 use std::marker::Brand;
 use std::sync::Wait;
@@ -30,20 +31,34 @@ where
     requires named { (seed.sizes ≡ L.sizes) × (STAMP ≡ L.stamp) × (journal ≡ L.limit) }
     requires most { journal ≤ steps_most }
 {
-    let (domain, mut riders) = Pages::<L>::open(alloc, seed, journal, STAMP)?;
-    let crew = four(&mut riders)?;
+    let (domain, mut riders) = Pages::<CountTable, L>::open(alloc, seed, journal, STAMP)?;
     allocate_pages(rt, &domain, riders.pop().ok_or(Fault::Size)?)?;
+    serve_out(rt, alloc, &domain, four(&mut riders)?, above)?;
+    let (_, kept, cut) = domain.snapshot(rt);
+    Ok([kept, cut])
+}
+
+fn serve_out<R, L>(
+    rt: &R,
+    alloc: Global,
+    domain: &Pages<CountTable, L>,
+    crew: [Rider<L>; 4],
+    above: u64,
+) -> Result<(), Fault>
+where
+    R: Threads + Wait + Sync,
+    L: Realm + Send + Sync,
+{
     let duty = Duty::checked(domain.params(), 1, 3).ok_or(Fault::Size)?;
     let duty = duty.cutting_above(above);
     let stop = Stop::new();
     stop.give();
     let one = MemoryWriter::open(alloc, 3, 40)?;
     let two = MemoryWriter::open(alloc, 3, 40)?;
-    if let Err((fault, ..)) = serve(rt, alloc, &domain, crew, one, two, &OpenGate, duty, &stop) {
-        return Err(fault);
+    match serve(rt, alloc, domain, crew, one, two, &OpenGate, duty, &stop) {
+        Ok(_) => Ok(()),
+        Err((fault, ..)) => Err(fault),
     }
-    let (_, kept, cut) = domain.snapshot(rt);
-    Ok([kept, cut])
 }
 
 /// An acquire, three records and a release, and then the crew's raise, settle, take, done, and two pages taken and ended: 13

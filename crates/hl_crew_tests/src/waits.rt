@@ -2,10 +2,13 @@
 ghost use Rattle.std.specs.Prelude.{◌≡◌, ◌≤◌};
 ghost use Rattle.hl_words.specs.States.{IsSeedOf};
 
-use crate::crew::{ONE_TURN, Pages, Run, STAMP, allocate_pages, four, run_both, seed_of};
+use crate::crew::{
+    ONE_TURN, Pages, Run, STAMP, allocate_pages, four, is_done, place_three, run_both, seed_of,
+    settle,
+};
 use crate::gates::HoldsFirst;
+use hl_counts::CountTable;
 use hl_crew::{CrewEnd, OpenGate};
-use hl_drain::Ask;
 use hl_image::{MemoryWriter, PageWriter};
 use hl_model::Fault;
 use hl_words::{Realm, Rider, Seed};
@@ -20,7 +23,7 @@ use std::thread::Threads;
 fn counts<R, L>(
     rt: &R,
     alloc: Global,
-    domain: &Pages<L>,
+    domain: &Pages<CountTable, L>,
     crew: [Rider<L>; 4],
     run: Run,
 ) -> Result<[u64; 3], Fault>
@@ -42,20 +45,41 @@ where
     requires named { (seed.sizes ≡ L.sizes) × (STAMP ≡ L.stamp) × (100 ≡ L.limit) }
     requires frames { seed.sizes.frames ≡ 4 }
 {
-    let (domain, mut riders) = Pages::<L>::open(alloc, seed, 100, STAMP)?;
-    let crew = four(&mut riders)?;
-    let Ok(mut pass) = domain.acquire(rt, 0, riders.pop().ok_or("five riders")?) else {
-        panic!(rt; "the slot is free")
-    };
-    for _ in 0..3 {
-        domain.allocate(rt, &mut pass, 4)?;
+    let (domain, mut riders) = Pages::<CountTable, L>::open(alloc, seed, 100, STAMP)?;
+    let rider = riders.pop().ok_or("five riders")?;
+    protect_and_place(rt, &domain, rider)?;
+    goes_on(rt, alloc, &domain, four(&mut riders)?)
+}
+
+// A slot allocates three pages whole, and stays protected.
+fn protect_and_place<R: Wait, L: Realm>(
+    rt: &R,
+    domain: &Pages<CountTable, L>,
+    rider: Rider<L>,
+) -> Result<(), Fault> {
+    match domain.acquire(rt, 0, rider) {
+        Ok(mut pass) => place_three(rt, domain, &mut pass),
+        Err((fault, _)) => Err(fault),
     }
+}
+
+fn goes_on<R, L>(
+    rt: &R,
+    alloc: Global,
+    domain: &Pages<CountTable, L>,
+    crew: [Rider<L>; 4],
+) -> Result<(), Fail>
+where
+    R: Threads + Wait + Abort + Sync,
+    L: Realm + Send + Sync,
+    requires frames { domain.now.sizes.frames ≡ 4 }
+{
     let run = Run {
         turns: 3,
         cut: true,
         ..ONE_TURN
     };
-    assert_eq!(rt; counts(rt, alloc, &domain, crew, run)?, [0, 0, 0]);
+    assert_eq!(rt; counts(rt, alloc, domain, crew, run)?, [0, 0, 0]);
     // An acquire, three records, a raise and a settle, which waits for the slot.
     let (now, kept, cut) = domain.snapshot(rt);
     assert!(rt; kept == 0 && cut == 6 && now.pending == 1 && now.taken == 0);
@@ -77,27 +101,33 @@ where
     requires named { (seed.sizes ≡ L.sizes) × (STAMP ≡ L.stamp) × (100 ≡ L.limit) }
     requires frames { seed.sizes.frames ≡ 4 }
 {
-    let (domain, mut riders) = Pages::<L>::open(alloc, seed, 100, STAMP)?;
-    let crew = four(&mut riders)?;
+    let (domain, mut riders) = Pages::<CountTable, L>::open(alloc, seed, 100, STAMP)?;
     let mut rider = allocate_pages(rt, &domain, riders.pop().ok_or("five riders")?)?;
-    if let Err((fault, _)) = domain.bump(rt, &mut rider, Ask::Settle) {
-        return Err(fault)?;
-    }
+    run_beside(rt, alloc, &domain, four(&mut riders)?, &mut rider)
+}
+
+// A settle is taken by a rider, and done once the crew has ended.
+fn run_beside<R, L>(
+    rt: &R,
+    alloc: Global,
+    domain: &Pages<CountTable, L>,
+    crew: [Rider<L>; 4],
+    rider: &mut Rider<L>,
+) -> Result<(), Fail>
+where
+    R: Threads + Wait + Abort + Sync,
+    L: Realm + Send + Sync,
+    requires frames { domain.now.sizes.frames ≡ 4 }
+{
     let run = Run {
         turns: 3,
         ..ONE_TURN
     };
-    let ready = domain.take(rt, &mut rider)?;
-    let end = counts(rt, alloc, &domain, crew, run);
+    let ready = settle(rt, domain, rider)?;
+    let end = counts(rt, alloc, domain, crew, run);
     let (now, _, _) = domain.snapshot(rt);
-    let done = match domain.done(rt, &mut rider, ready.run()) {
-        Ok(_) => true,
-        Err((_, ran)) => {
-            ran.forsake();
-            false
-        }
-    };
-    assert!(rt; end.is_ok() && done && now.taken == 1);
+    assert!(rt; is_done(rt, domain, rider, ready.run()));
+    assert!(rt; end.is_ok() && now.taken == 1);
     assert!(rt; now.pending == 0 && now.six.read_only == 0);
     Ok(())
 }
@@ -116,7 +146,7 @@ where
     requires named { (seed.sizes ≡ L.sizes) × (STAMP ≡ L.stamp) × (100 ≡ L.limit) }
     requires frames { seed.sizes.frames ≡ 4 }
 {
-    let (domain, mut riders) = Pages::<L>::open(alloc, seed, 100, STAMP)?;
+    let (domain, mut riders) = Pages::<CountTable, L>::open(alloc, seed, 100, STAMP)?;
     let mut crew = four(&mut riders)?;
     let rider = allocate_pages(rt, &domain, riders.pop().ok_or("five riders")?)?;
     for (rider, steps) in crew.iter_mut().zip([0, 1, 2, 3]) {

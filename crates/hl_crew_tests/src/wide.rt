@@ -3,7 +3,8 @@ ghost use Rattle.std.specs.Prelude.{◌≡◌, IfOk};
 ghost use Rattle.hl_words.specs.States.{IsSeedOf};
 
 use crate::crew::{Pages, STAMP, four};
-use hl_crew::{OpenGate, run_crew};
+use hl_counts::CountTable;
+use hl_crew::{CrewEnd, OpenGate, run_crew};
 use hl_image::{MemoryWriter, PageWriter};
 use hl_model::{Fault, Sizes};
 use hl_words::{Realm, Rider, Seed};
@@ -20,7 +21,11 @@ const WORDS: u64 = 1 << 14;
 const PAGES: u64 = 16;
 
 /// A slot fills so many pages, the first word of each page is its number and one more, and leaves.
-fn fill<R: Wait, L: Realm>(rt: &R, domain: &Pages<L>, rider: Rider<L>) -> Result<Rider<L>, Fault> {
+fn fill<R: Wait, L: Realm>(
+    rt: &R,
+    domain: &Pages<CountTable, L>,
+    rider: Rider<L>,
+) -> Result<Rider<L>, Fault> {
     let mut pass = match domain.acquire(rt, 127, rider) {
         Ok(pass) => pass,
         Err((fault, _)) => return Err(fault),
@@ -51,7 +56,6 @@ fn images(writers: &[MemoryWriter; 2]) -> u64 {
     images
 }
 
-// The crew flushes all pages but the last, and closes all but two, which it frees.
 fn crew_of_wide_sizes<R, L>(rt: &R, alloc: Global, seed: Seed) -> Result<(), Fail>
 where
     R: Threads + Wait + Abort + Sync,
@@ -60,26 +64,44 @@ where
     requires named { (seed.sizes ≡ L.sizes) × (STAMP ≡ L.stamp) × (10_000 ≡ L.limit) }
     requires frames { seed.sizes.frames ≡ 256 }
 {
-    let (domain, mut riders) = Pages::<L>::open(alloc, seed, 10_000, STAMP)?;
-    let rider = fill(rt, &domain, riders.pop().ok_or("a rider")?)?;
-    riders.push(rider)?;
+    let (domain, mut riders) = Pages::<CountTable, L>::open(alloc, seed, 10_000, STAMP)?;
+    fill(rt, &domain, riders.pop().ok_or("a rider")?)?;
+    let end = flush_all(rt, alloc, &domain, four(&mut riders)?)?;
+    assert!(rt; end.written == 15 && end.failed == 0 && end.strangers == 0);
+    assert_eq!(rt; images(&end.writers), 15);
+    see_frames(rt, &domain);
+    Ok(())
+}
+
+// The crew flushes all pages but the last, and closes all but two, which it frees.
+fn flush_all<R, L>(
+    rt: &R,
+    alloc: Global,
+    domain: &Pages<CountTable, L>,
+    crew: [Rider<L>; 4],
+) -> Result<CrewEnd<L, MemoryWriter>, Fault>
+where
+    R: Threads + Wait + Sync,
+    L: Realm + Send + Sync,
+    requires frames { domain.now.sizes.frames ≡ 256 }
+{
     let bytes = 8 + 8 * WORDS;
     let one = MemoryWriter::open(alloc, PAGES, bytes)?;
     let two = MemoryWriter::open(alloc, PAGES, bytes)?;
-    let crew = four(&mut riders)?;
-    let Ok(end) = run_crew(
-        rt, alloc, &domain, crew, one, two, &OpenGate, 1, 2, 50_000, false,
-    ) else {
-        panic!(rt; "a crew was refused")
-    };
-    assert!(rt; end.written == 15 && end.failed == 0 && end.strangers == 0);
-    assert_eq!(rt; images(&end.writers), 15);
+    match run_crew(
+        rt, alloc, domain, crew, one, two, &OpenGate, 1, 2, 50_000, false,
+    ) {
+        Ok(end) => Ok(end),
+        Err((fault, ..)) => Err(fault),
+    }
+}
+
+// 240 frames were never entered. How many pages the cleaner finds in time is open.
+fn see_frames<R: Wait + Abort, L: Realm>(rt: &R, domain: &Pages<CountTable, L>) {
     let (now, _, _) = domain.snapshot(rt);
-    // 240 frames were never entered. How many pages the cleaner finds in time is open.
     let [open, sealed, flushed, closed, free] = now.frames;
     assert!(rt; open == 1 && sealed == 0 && flushed == 1);
     assert!(rt; closed.saturating_add(free) == 254 && free > 240);
-    Ok(())
 }
 
 fn seed(alloc: Global) -> Result<Seed, Fault>

@@ -99,7 +99,7 @@ impl Draws {
         self.to_enter(now)
     }
 
-    // A take, or where too many slots are behind a refresh, which may make one ready.
+    // A take, or, while a slot is behind, a refresh, which may make one ready.
     fn to_take(&mut self, now: &Snapshot) -> Step {
         match self.below(3) {
             0 => Step::Refresh { t: self.slot() },
