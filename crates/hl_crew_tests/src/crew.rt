@@ -45,20 +45,20 @@ pub(crate) type Pages<E, L> = Domain<E, Ticket, Anything, L>;
 /// What a run of the crew left: what it counted, its writers, the quantities then, all steps, how many were cut, and how
 /// many each rider entered.
 #[derive(Drop)]
-struct Left {
-    written: u64,
-    failed: u64,
-    strangers: u64,
+pub(crate) struct Left {
+    pub(crate) written: u64,
+    pub(crate) failed: u64,
+    pub(crate) strangers: u64,
     writers: [MemoryWriter; 2],
-    now: Snapshot,
+    pub(crate) now: Snapshot,
     steps: u64,
-    cut: u64,
-    shares: [u64; 4],
+    pub(crate) cut: u64,
+    pub(crate) shares: [u64; 4],
 }
 
 impl Left {
     /// Whether the riders entered as many steps as there are.
-    fn is_whole(&self) -> bool {
+    pub(crate) fn is_whole(&self) -> bool {
         let shares = self.shares.iter();
         self.steps == shares.fold(0u64, |sum, share| sum.wrapping_add(*share))
     }
@@ -203,7 +203,7 @@ where
 }
 
 /// Runs the crew on a domain of three whole pages.
-fn crew_left<R, E, L, G>(
+pub(crate) fn crew_left<R, E, L, G>(
     rt: &R,
     alloc: Global,
     seed: Seed,
@@ -351,62 +351,5 @@ fn crew_writers_always_fail(rt: HostRuntime) -> Result<(), Fail> {
     assert!(rt; left.written == 0 && left.failed == 6 && left.strangers == 0);
     assert!(rt; images(&left.writers) == 0 && left.now.six.flushed == 0);
     assert!(rt; left.is_whole() && left.cut == 0);
-    Ok(())
-}
-
-/// Three turns that cut the journal: in the first two pages are flushed, in the second one of them is closed.
-/// Whether the cleaner finds it in time is open.
-#[test]
-fn crew_cuts(rt: HostRuntime) -> Result<(), Fail> {
-    let run = Run {
-        resident: 2,
-        turns: 3,
-        cut: true,
-        ..ONE_TURN
-    };
-    let left = crew_left::<_, CountTable, Brand, _>(
-        &rt,
-        rt.alloc(),
-        seed(rt.alloc())?,
-        &OpenGate,
-        run,
-    )?;
-    assert!(rt; left.written == 2 && left.failed == 0 && left.strangers == 0);
-    let six = Six {
-        closed: 4,
-        head: 4,
-        flushed: 8,
-        safe_read_only: 8,
-        read_only: 8,
-        tail: 12,
-    };
-    let [open, sealed, flushed, closed, free] = left.now.frames;
-    assert!(rt; left.now.six == six && closed.saturating_add(free) == 2);
-    assert!(rt; open == 1 && sealed == 0 && flushed == 1);
-    assert!(rt; left.is_whole() && left.cut > 0);
-    Ok(())
-}
-
-/// A cleaner that has found no closed page goes on: of the turns that the flusher makes here nearly all come after the
-/// close, and in one of them the cleaner runs. Its rider, which took two pages and was done with them, comes back last.
-#[test]
-fn a_crew_frees_what_it_closed(rt: HostRuntime) -> Result<(), Fail> {
-    let run = Run {
-        resident: 1,
-        turns: 50_000,
-        cut: true,
-        ..ONE_TURN
-    };
-    let left = crew_left::<_, CountTable, Brand, _>(
-        &rt,
-        rt.alloc(),
-        seed(rt.alloc())?,
-        &OpenGate,
-        run,
-    )?;
-    assert_eq!(rt; left.now.frames, [1, 0, 0, 0, 3]);
-    assert!(rt; left.written == 2 && left.now.six.closed == 8 && left.is_whole());
-    let [_, first, second, cleaning] = left.shares;
-    assert_eq!(rt; [first, second, cleaning], [0, 0, 4]);
     Ok(())
 }

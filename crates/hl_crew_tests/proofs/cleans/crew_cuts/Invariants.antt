@@ -1,4 +1,4 @@
-use Rattle.hl_crew_tests.proofs.crew.crew_cuts.Given as goal
+use Rattle.hl_crew_tests.proofs.cleans.crew_cuts.Given as goal
 
 -- the words and the ledger of the seed that was just made
 abbrev pub ghosts-crew_left-L-Realm : goal.ghosts-crew_left-L-Realm

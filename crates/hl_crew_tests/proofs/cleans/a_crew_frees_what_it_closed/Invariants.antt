@@ -1,4 +1,4 @@
-use Rattle.hl_crew_tests.proofs.crew.a_crew_frees_what_it_closed.Given as goal
+use Rattle.hl_crew_tests.proofs.cleans.a_crew_frees_what_it_closed.Given as goal
 
 -- the words and the ledger of the seed that was just made
 abbrev pub ghosts-crew_left-L-Realm : goal.ghosts-crew_left-L-Realm
