@@ -1,11 +1,13 @@
-ghost use Rattle.std.specs.Prelude.{◌≡◌, ◌≢◌, ◌*◌, ◌≤◌, List, [], length, map, replicate, IfOk, IfErr, OnOk};
-ghost use Rattle.std.specs.List.{sum_by};
+ghost use Rattle.std.specs.Prelude.{◌≡◌, ◌≢◌, ◌*◌, ◌≤◌, List, [], length, map, IfOk, IfErr, OnOk};
+ghost use Rattle.std.specs.Option.{IfSome};
+ghost use Rattle.std.specs.List.{sum_by, AllByRecursion};
 ghost use Rattle.hl_model.specs.declared.fault.Fault.TheVariants.{OutOfMemory};
 ghost use Rattle.hl_model.specs.declared.step.Step.{Step as STEP};
 ghost use Rattle.hl_model.specs.Snapshots.{snapshot_of};
 ghost use Rattle.hl_history.specs.Lists.{IsOneList};
 ghost use Rattle.hl_words.specs.Rule.{IsRuled};
-ghost use Rattle.hl_words.specs.States.{IsSeedOf, new_rider};
+ghost use Rattle.hl_words.specs.Seats.{IsKnown};
+ghost use Rattle.hl_words.specs.States.{AreTied, IsSeedOf, new_riders};
 ghost use Rattle.hl_keeper.specs.Keepers.{KeeperStands, steps_most};
 
 use crate::ending::Ending;
@@ -14,7 +16,7 @@ use hl_action::{Kept, Promise, Task};
 use hl_core::Core;
 use hl_epoch::Epochs;
 use hl_model::{Fault, filled};
-use hl_words::{Master, Realm, Rider, Scribe, Seed, Words};
+use hl_words::{Master, Past, Realm, Rider, Scribe, Seed, Words};
 use std::alloc::Global;
 use std::marker::Model;
 
@@ -48,6 +50,7 @@ impl<E: Epochs, F: Task, P: Promise, L: Realm> Model for Keeper<E, F, P, L> {
       acquired = k.acquired;
       offsets = k.master.offsets;
       total = k.master.total;
+      called = k.master.called;
     } };
 
     ghost invariant = { λ k. IsKept L.sizes L.stamp
@@ -62,6 +65,7 @@ impl<E: Epochs, F: Task, P: Promise, L: Realm> Model for Keeper<E, F, P, L> {
           acquired = k.acquired;
           offsets = k.master.offsets;
           total = k.master.total;
+          called = k.master.called;
         })
         (vec_capacity k.stamps) };
 }
@@ -99,9 +103,10 @@ impl<E: Epochs + Drop, F: Task, P: Promise, L: Realm> Keeper<E, F, P, L> {
         ensures sizes { IfOk result (λ opened. opened.0.core.sizes ≡ seed.sizes) }
         ensures limit { IfOk result (λ opened. opened.0.limit ≡ journal) }
         ensures stamp { IfOk result (λ opened. (opened.0.stamp ≡ stamp) × (opened.0.acquired ≡ 0)) }
+        ensures called { IfOk result (λ opened. opened.0.called ≡ 0) }
         ensures words { IfOk result (λ opened.
             opened.1 ≡ record { cells = seed.sizes.frames * seed.sizes.page_size; riders = seed.riders }) }
-        ensures riders { IfOk result (λ opened. opened.2.items ≡ replicate seed.riders new_rider) }
+        ensures riders { IfOk result (λ opened. opened.2.items ≡ new_riders seed.riders) }
         ensures memory { IfErr result (λ fault. fault ≡ OutOfMemory) }
     {
         let (keeper, words, _scribe, riders) = Keeper::open_with_scribe(
@@ -111,7 +116,7 @@ impl<E: Epochs + Drop, F: Task, P: Promise, L: Realm> Keeper<E, F, P, L> {
     }
 
     /// A keeper as `open` makes it, and the scribe of its words' list, whose list is empty too. If
-    /// both lie under one lock, and each call's steps are entered by `Words::enter`, the scribe has
+    /// both lie under one lock, and each call is noted by `note` or `note_quiet`, the scribe has
     /// each list at which the keeper stands.
     ///
     /// `OutOfMemory` if memory was refused; then the seed is given up.
@@ -129,10 +134,11 @@ impl<E: Epochs + Drop, F: Task, P: Promise, L: Realm> Keeper<E, F, P, L> {
         ensures sizes { IfOk result (λ opened. opened.0.core.sizes ≡ seed.sizes) }
         ensures limit { IfOk result (λ opened. opened.0.limit ≡ journal) }
         ensures stamp { IfOk result (λ opened. (opened.0.stamp ≡ stamp) × (opened.0.acquired ≡ 0)) }
+        ensures called { IfOk result (λ opened. opened.0.called ≡ 0) }
         ensures words { IfOk result (λ opened.
             opened.1 ≡ record { cells = seed.sizes.frames * seed.sizes.page_size; riders = seed.riders }) }
         ensures list { IfOk result (λ opened. opened.2 ≡ []) }
-        ensures riders { IfOk result (λ opened. opened.3.items ≡ replicate seed.riders new_rider) }
+        ensures riders { IfOk result (λ opened. opened.3.items ≡ new_riders seed.riders) }
         ensures memory { IfErr result (λ fault. fault ≡ OutOfMemory) }
     {
         let params = seed.params();
@@ -201,14 +207,25 @@ impl<E: Epochs + Drop, F: Task, P: Promise, L: Realm> Keeper<E, F, P, L> {
         }
     }
 
-    /// Ends it as `close` does. If no rider is missing, the scribe's list is also the one list of
-    /// exactly these riders' calls.
+    /// Ends it as `close` does. If no rider is missing, the scribe's list is also the one list of exactly these riders'
+    /// calls, which stand among their touches; and of each past that was kept some rider has its name, and made the
+    /// touches that it tells.
     pub fn close_with_scribe(
         self,
         words: Words<L>,
         scribe: Scribe<L>,
         riders: Vec<Rider<L>>,
-    ) -> Result<Ending<F, P>, (Keeper<E, F, P, L>, Words<L>, Scribe<L>, Vec<Rider<L>>)>
+        pasts: Option<Vec<Past<L>>>,
+    ) -> Result<
+        Ending<F, P>,
+        (
+            Keeper<E, F, P, L>,
+            Words<L>,
+            Scribe<L>,
+            Vec<Rider<L>>,
+            Option<Vec<Past<L>>>,
+        ),
+    >
         ensures kept { IfOk result (λ ending. (ending.base ≡ self.base) × (ending.cut ≡ self.cut)
             × (ending.journal ≡ self.journal) × (ending.left ≡ self.core.drain)) }
         ensures quantities { (A : List STEP) → KeeperStands self A
@@ -218,10 +235,13 @@ impl<E: Epochs + Drop, F: Task, P: Promise, L: Realm> Keeper<E, F, P, L> {
             (map (λ r. r.view) riders.items)) }
         ensures cells { IfOk result (λ ending. ending.words.cells ≡ words.cells) }
         ensures list { OnOk result (IsOneList scribe (map (λ r. r.calls) riders.items)) }
+        ensures tied { OnOk result (AllByRecursion (λ r. AreTied r.view.touches r.calls) riders.items) }
+        ensures known { OnOk result (IfSome pasts
+            (λ all. AllByRecursion (IsKnown (map (λ r. r.view) riders.items)) all.items)) }
         ensures all { OnOk result (length riders.items ≡ words.riders) }
         ensures missing { IfErr result (λ _. length riders.items ≢ words.riders) }
-        ensures back { IfErr result (λ back.
-            (back.0 ≡ self) × (back.1 ≡ words) × (back.2 ≡ scribe) × (back.3 ≡ riders)) }
+        ensures back { IfErr result (λ back. (back.0 ≡ self) × (back.1 ≡ words)
+            × (back.2 ≡ scribe) × (back.3 ≡ riders) × (back.4 ≡ pasts)) }
     {
         let Keeper {
             core,
@@ -231,7 +251,7 @@ impl<E: Epochs + Drop, F: Task, P: Promise, L: Realm> Keeper<E, F, P, L> {
             acquired,
             master,
         } = self;
-        match words.close_with_scribe(master, scribe, riders) {
+        match words.close_with_scribe(master, scribe, riders, pasts) {
             Ok(words) => Ok(Ending {
                 snapshot: core.snapshot(),
                 base: journal.base,
@@ -240,7 +260,7 @@ impl<E: Epochs + Drop, F: Task, P: Promise, L: Realm> Keeper<E, F, P, L> {
                 left: core.into_drain(),
                 words,
             }),
-            Err((words, master, scribe, riders)) => {
+            Err((words, master, scribe, riders, pasts)) => {
                 let keeper = Keeper {
                     core,
                     journal,
@@ -249,7 +269,7 @@ impl<E: Epochs + Drop, F: Task, P: Promise, L: Realm> Keeper<E, F, P, L> {
                     acquired,
                     master,
                 };
-                Err((keeper, words, scribe, riders))
+                Err((keeper, words, scribe, riders, pasts))
             }
         }
     }

@@ -55,6 +55,7 @@ mod lease;
 mod load;
 mod look;
 mod news;
+mod noted;
 mod offsets;
 mod pages;
 mod pass;
@@ -77,7 +78,7 @@ pub use hl_laws::Base;
 pub use hl_model::{
     Fault, FrameState, HasSizes, Params, RawSizes, Reply, Six, Sizes, Snapshot, Step, View,
 };
-pub use hl_words::{Master, Realm, Rider, Seed, Words};
+pub use hl_words::{Master, Past, Realm, Rider, Seed, Words};
 pub use keeper::Keeper;
 pub use lease::Lease;
 pub use load::{Broom, Load, PageJob};

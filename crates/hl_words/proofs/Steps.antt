@@ -1,37 +1,40 @@
 -- Each step of the table keeps its rule, whatever the table is when the step is taken.
-use Rattle.std.proofs.Common.{◌≡◌, ℕ, zero, suc, ◌+◌, ◌<◌, ◌≤◌, List, [], ◌∷◌, ◌++◌, length, set, replicate, Some, None, slice_get, refl, ap, sym, ◌∙◌, inl, subst, arith, append_assoc, length-append}
+use Rattle.std.proofs.Common.{◌≡◌, ℕ, zero, suc, ◌+◌, ◌-◌, ◌<◌, ◌≤◌, List, [], ◌∷◌, ◌++◌, length, set, drop, Some, slice_get, refl, ap, sym, ◌∙◌, subst, arith, append_assoc, length-append}
 use Rattle.std.specs.Prelude.{slice_index, ◌==◌, ◌%◌, ◌^◌, Bool, true, false, if◌then◌else◌}
 use prog.Atomic.{either}
 use Rattle.std.specs.List.{AllByRecursion as Every}
-use Rattle.std.proofs.lemmas.List.{append-nil, length-set, set-get_or, length-replicate}
+use Rattle.std.proofs.lemmas.List.{length-set, set-get_or}
 use mathlib.Core.Option.{some, none, some-injective, some-ne-none}
 use lib.ListN.{get_elem?}
-use Rattle.atomic_table.specs.Table.{Me, step, keeps, Allows, Splits, Joins, opening, Final, Seen}
-use Rattle.hl_words.specs.declared.view.Touch.TheVariants.{Stored, Loaded, Changed}
+use Rattle.atomic_table.specs.Table.{Me, step, keeps, Allows}
+use Rattle.hl_words.specs.declared.view.Touch.{Touch}
+use Rattle.hl_words.specs.declared.view.Touch.TheVariants.{Stored, Loaded, Changed, Called, Looked, Met}
+use Rattle.hl_words.specs.declared.view.Known.{Known}
 use Rattle.hl_words.specs.declared.view.OffsetWords.{OffsetWords}
 use Rattle.hl_words.specs.declared.view.RiderView.{RiderView}
 use Rattle.hl_words.specs.declared.view.SeatView.{SeatView}
 use Rattle.hl_words.specs.declared.view.Room.{Room}
 use Rattle.hl_words.specs.declared.which.Which.{Which}
 use Rattle.hl_words.specs.declared.which.Which.TheVariants.{ReadOnly, Head, Ended}
-use Rattle.hl_words.specs.Views.{place_of, no_offsets, offset_of, greatest_of, with_offset, unused, touched, added, exchanged, with_loaded}
-use Rattle.hl_words.specs.Rule.{last_store, IsRuled, IsLawful}
-use Rattle.hl_words.specs.Seats.{seat_of, rider_seat, spent_seat, first_seat, riders_in, IsKept, Holds, Stores, Loads, Adds, Exchanges, Looks, Sets, left_seat, right_seat, joined_seat}
-use Rattle.hl_words.proofs.Cut.{every_back}
-use Rattle.hl_words.proofs.Counts.{More}
-use Rattle.hl_words.proofs.Counted.{IsCounted, Below, no_loads, no_stores, counted_from, ruled_from, to_front, from_front, after_store, after_change, after_load, after_look, after_set, found_offset}
+use Rattle.hl_words.specs.Views.{place_of, offset_of, greatest_of, touched, added, exchanged, with_loaded, looked}
+use Rattle.hl_words.specs.Rule.{IsUpTo, IsRuled}
+use Rattle.hl_words.specs.Seats.{rider_seat, riders_in, HasPast, IsKnown, CallsUpTo, IsKept, Holds, Stores, Loads, Adds, Exchanges, Looks}
+use Rattle.hl_words.proofs.Cut.{every_front, every_back, every_append, every_weaker, every_set}
+use Rattle.hl_words.proofs.Line.{line_wide, line_at, line_set}
+use Rattle.hl_words.proofs.Orders.{some_changed}
+use Rattle.hl_words.proofs.Standing.{IsStanding, Below, standing_from, ruled_from, after_store, after_change, after_load, after_look, found_offset}
 
-abbrev Nothing : Type 0
+abbrev pub Nothing : Type 0
 Nothing = Unit {0}
 
 -- The riders of one seat stand between those of the others
-record Parted (views : List SeatView) (id : ℕ) (v : SeatView) : Type 0 where
-  front : List RiderView
-  back : List RiderView
-  before : riders_in views ≡ front ++ (v.riders ++ back)
-  after : (w : SeatView) → riders_in (set views id w) ≡ front ++ (w.riders ++ back)
+pub record Parted (views : List SeatView) (id : ℕ) (v : SeatView) : Type 0 where
+  pub front : List RiderView
+  pub back : List RiderView
+  pub before : riders_in views ≡ front ++ (v.riders ++ back)
+  pub after : (w : SeatView) → riders_in (set views id w) ≡ front ++ (w.riders ++ back)
 
-parted : (views : List SeatView) (id : ℕ) (v : SeatView) → get_elem? views id ≡ some v → Parted views id v
+pub parted : (views : List SeatView) (id : ℕ) (v : SeatView) → get_elem? views id ≡ some v → Parted views id v
 parted [] id v e = absurd (some-ne-none v (sym e))
 parted (x ∷ xs) zero v e = record { front = []; back = riders_in xs; before = ap (λ (u : SeatView). u.riders ++ riders_in xs) (some-injective x v e); after = λ w. refl }
 parted (x ∷ xs) (suc id) v e =
@@ -43,84 +46,132 @@ parted (x ∷ xs) (suc id) v e =
       after = λ w. ap (λ l. x.riders ++ l) (p.after w) ∙ sym (append_assoc x.riders p.front (w.riders ++ p.back));
     }
 
--- the master's stores stay where a seat's do
-master_after : (views : List SeatView) (id : ℕ) (m v w : SeatView) → get_elem? views 0 ≡ some m → get_elem? views id ≡ some v → w.offsets ≡ v.offsets
-    → (u : SeatView) × (get_elem? (set views id w) 0 ≡ some u) × (u.offsets ≡ m.offsets)
-master_after [] id m v w e d same = absurd (some-ne-none m (sym e))
-master_after (x ∷ xs) zero m v w e d same = (w, refl, same ∙ ap (λ (u : SeatView). u.offsets) (sym (some-injective x v d) ∙ some-injective x m e))
-master_after (x ∷ xs) (suc id) m v w e d same = (m, e, refl)
+-- what the master knows stays where it does in a seat
+pub master_after : (views : List SeatView) (id : ℕ) (m v w : SeatView) → get_elem? views 0 ≡ some m → get_elem? views id ≡ some v → w.offsets ≡ v.offsets → w.called ≡ v.called
+    → (u : SeatView) × (get_elem? (set views id w) 0 ≡ some u) × (u.offsets ≡ m.offsets) × (u.called ≡ m.called)
+master_after [] id m v w e d same calls = absurd (some-ne-none m (sym e))
+master_after (x ∷ xs) zero m v w e d same calls =
+    let one : v ≡ m = sym (some-injective x v d) ∙ some-injective x m e in
+    (w, refl, same ∙ ap (λ (u : SeatView). u.offsets) one, calls ∙ ap (λ (u : SeatView). u.called) one)
+master_after (x ∷ xs) (suc id) m v w e d same calls = (m, e, refl, refl)
+
+-- what pasts tell of these riders
+abbrev pub AllKnown : List RiderView → List SeatView → Type 0
+AllKnown riders views = Every (λ (v : SeatView). Every (IsKnown riders) v.known) views
+
+pub known_more : (riders after : List RiderView) (views : List SeatView) → ((k : Known) → IsKnown riders k → IsKnown after k) → AllKnown riders views → AllKnown after views
+known_more riders after views grows h =
+    every_weaker (λ (v : SeatView). Every (IsKnown riders) v.known) (λ (v : SeatView). Every (IsKnown after) v.known) views (λ v e. every_weaker (IsKnown riders) (IsKnown after) v.known grows e) h
+
+-- a greater number fits as well
+up_to_more : (m n : ℕ) → m ≤ n → (t : Touch) → IsUpTo m t → IsUpTo n t
+up_to_more m n le (Stored d v) h = tt
+up_to_more m n le (Loaded d v) h = tt
+up_to_more m n le (Changed d w v) h = tt
+up_to_more m n le (Called met left) h = omega (arith, le, h)
+up_to_more m n le (Looked w x) h = tt
+up_to_more m n le (Met name count) h = tt
+
+pub calls_more : (m n : ℕ) → m ≤ n → (riders : List RiderView) → Every (CallsUpTo m) riders → Every (CallsUpTo n) riders
+calls_more m n le riders h = every_weaker (CallsUpTo m) (CallsUpTo n) riders (λ r e. every_weaker (IsUpTo m) (IsUpTo n) r.touches (up_to_more m n le) e) h
+
+-- what a rider made, it made where it made more since
+pub past_more : (past : List Touch) (r q : RiderView) → HasPast past r → HasPast r.touches q → HasPast past q
+past_more past r q h k = (k.0 ++ h.0, k.1 ∙ ap (λ (l : List Touch). k.0 ++ l) h.1 ∙ sym (append_assoc k.0 h.0 past))
 
 -- one rider's view and some words change
-rider_kept : (room : Room) (words after : List ℕ) (views : List SeatView) (id : ℕ) (r q : RiderView) → IsKept room words views → get_elem? views id ≡ some (rider_seat r) → length after ≡ length words
-    → ((front back : List RiderView) (last : OffsetWords) → IsCounted room.cells words last (front ++ r ∷ back) → IsCounted room.cells after last (front ++ q ∷ back))
+pub rider_kept : (room : Room) (words after : List ℕ) (views : List SeatView) (id : ℕ) (r q : RiderView) → IsKept room words views → get_elem? views id ≡ some (rider_seat r) → length after ≡ length words
+    → q.name ≡ r.name → HasPast r.touches q → ((n : ℕ) → CallsUpTo n r → CallsUpTo n q)
+    → ((front back : List RiderView) (last : OffsetWords) → riders_in views ≡ front ++ r ∷ back → IsStanding room.cells (drop 8 words) last (front ++ r ∷ back) → IsStanding room.cells (drop 8 after) last (front ++ q ∷ back))
     → IsKept room after (set views id (rider_seat q))
-rider_kept room words after views id r q h at width move =
+rider_kept room words after views id r q h at width named longer fits move =
     let p = parted views id (rider_seat r) at in
-    let m = master_after views id h.master (rider_seat r) (rider_seat q) h.seat at refl in
+    let m = master_after views id h.master (rider_seat r) (rider_seat q) h.seat at refl refl in
     let now = p.after (rider_seat q) in
-    let counted = counted_from room.cells words h.master.offsets (p.front ++ r ∷ p.back) (subst (λ l. IsRuled room.cells words h.master.offsets l) p.before h.ruled) in
-    let moved = ruled_from room.cells after h.master.offsets (p.front ++ q ∷ p.back) (move p.front p.back h.master.offsets counted) in
+    let standing = standing_from room.cells (drop 8 words) h.master.offsets (p.front ++ r ∷ p.back) (subst (λ l. IsRuled room.cells (drop 8 words) h.master.offsets l) p.before h.ruled) in
+    let moved = ruled_from room.cells (drop 8 after) h.master.offsets (p.front ++ q ∷ p.back) (move p.front p.back h.master.offsets p.before standing) in
+    let n = h.master.called in
+    let calls : Every (CallsUpTo n) (p.front ++ r ∷ p.back) = subst (λ l. Every (CallsUpTo n) l) p.before h.called in
+    let ends = every_back (CallsUpTo n) p.front (r ∷ p.back) calls in
+    let called_now : Every (CallsUpTo n) (p.front ++ q ∷ p.back) = every_append (CallsUpTo n) p.front (q ∷ p.back) (every_front (CallsUpTo n) p.front (r ∷ p.back) calls) (fits n ends.0, ends.1) in
+    let grows : (k : Known) → IsKnown (riders_in views) k → IsKnown (riders_in (set views id (rider_seat q))) k =
+    λ k s. subst (λ l. IsKnown l k) (sym now)
+    (some_changed (λ i x. (x.name ≡ k.name) × HasPast k.touches x) (λ i x. (x.name ≡ k.name) × HasPast k.touches x) p.front r q p.back (λ y. (named ∙ y.0, past_more k.touches r q y.1 longer)) (λ i x y. y) (subst (λ l. IsKnown l k) p.before s)) in
     record {
       master = m.0;
       seat = m.1;
       width = width ∙ h.width;
       count = ap length now ∙ length-append p.front (q ∷ p.back) ∙ sym (length-append p.front (r ∷ p.back)) ∙ sym (ap length p.before) ∙ h.count;
-      ruled = subst (λ l. IsRuled room.cells after m.0.offsets l) (sym now) (subst (λ o. IsRuled room.cells after o (p.front ++ q ∷ p.back)) (sym m.2) moved);
+      ruled = subst (λ l. IsRuled room.cells (drop 8 after) m.0.offsets l) (sym now) (subst (λ o. IsRuled room.cells (drop 8 after) o (p.front ++ q ∷ p.back)) (sym m.2) moved);
+      called = subst (λ l. Every (CallsUpTo m.0.called) l) (sym now) (subst (λ c. Every (CallsUpTo c) (p.front ++ q ∷ p.back)) (sym m.3) called_now);
+      known = known_more (riders_in views) (riders_in (set views id (rider_seat q))) (set views id (rider_seat q)) grows (every_set (λ (v : SeatView). Every (IsKnown (riders_in views)) v.known) views id (rider_seat q) h.known tt);
     }
 
 -- what the rule says of the words and of one rider
-counted_at : (room : Room) (words : List ℕ) (views : List SeatView) (id : ℕ) (r : RiderView) → (h : IsKept room words views) → (at : get_elem? views id ≡ some (rider_seat r))
-    → IsCounted room.cells words h.master.offsets ((parted views id (rider_seat r) at).front ++ r ∷ (parted views id (rider_seat r) at).back)
-counted_at room words views id r h at =
+pub standing_at : (room : Room) (words : List ℕ) (views : List SeatView) (id : ℕ) (r : RiderView) → (h : IsKept room words views) → (at : get_elem? views id ≡ some (rider_seat r))
+    → IsStanding room.cells (drop 8 words) h.master.offsets ((parted views id (rider_seat r) at).front ++ r ∷ (parted views id (rider_seat r) at).back)
+standing_at room words views id r h at =
     let p = parted views id (rider_seat r) at in
-    counted_from room.cells words h.master.offsets (p.front ++ r ∷ p.back) (subst (λ l. IsRuled room.cells words h.master.offsets l) p.before h.ruled)
+    standing_from room.cells (drop 8 words) h.master.offsets (p.front ++ r ∷ p.back) (subst (λ l. IsRuled room.cells (drop 8 words) h.master.offsets l) p.before h.ruled)
 
 module _ (room : Room) (slots : ℕ) (id : ℕ) where
-  pub stores_allowed : (me : Me Nothing SeatView) (r : RiderView) (c v : ℕ) → me ≡ (rider_seat r, []) → c < room.cells
-      → Allows (Holds room) slots id me c (λ _. v) (λ _. Stores (step slots c v 0 none) me v)
-  stores_allowed me r c v is less = subst (λ (m : Me Nothing SeatView). Allows (Holds room) slots id m c (λ _. v) (λ _. Stores (step slots c v 0 none) m v)) (sym is)
-      (λ s h homes at bound. (
-        rider_seat (touched (Stored c v) r),
-        keeps,
-        tt,
-        rider_kept room s.words (set s.words c v) s.views id r (touched (Stored c v) r) h at (length-set s.words c v) (λ front back last k. after_store front r back room.cells s.words last c v less h.width k),
-        refl,
-      ))
-
-  pub loads_allowed : (me : Me Nothing SeatView) (r : RiderView) (c : ℕ) → me ≡ (rider_seat r, []) → c < room.cells
-      → Allows (Holds room) slots id me c (λ n. n) (Loads (step slots c 0 0 none) me)
-  loads_allowed me r c is less = subst (λ (m : Me Nothing SeatView). Allows (Holds room) slots id m c (λ n. n) (Loads (step slots c 0 0 none) m)) (sym is)
-      (λ s h homes at bound. let q = touched (Loaded c (slice_index s.words c)) r in (
+  pub stores_allowed : (me : Me Nothing SeatView) (r : RiderView) (w v : ℕ) → me ≡ (rider_seat r, []) → 8 ≤ w → w - 8 < room.cells
+      → Allows (Holds room) slots id me w (λ _. v) (λ _. Stores (step slots w v 0 none) me v)
+  stores_allowed me r w v is behind less = subst (λ (m : Me Nothing SeatView). Allows (Holds room) slots id m w (λ _. v) (λ _. Stores (step slots w v 0 none) m v)) (sym is)
+      (λ s h homes at bound. let q = touched (Stored (w - 8) v) r in (
         rider_seat q,
         keeps,
         tt,
-        subst (λ ws. IsKept room ws (set s.views id (rider_seat q))) (sym (set-get_or s.words c 0))
-            (rider_kept room s.words s.words s.views id r q h at refl (λ front back last k. after_load front r back room.cells s.words last c less k)),
+        rider_kept room s.words (set s.words w v) s.views id r q h at (length-set s.words w v) refl (Stored (w - 8) v ∷ [], refl) (λ n e. (tt, e))
+            (λ front back last b k.
+            subst (λ ws. IsStanding room.cells ws last (front ++ q ∷ back)) (sym (line_set s.words w (w - 8) v (omega (arith, behind))))
+            (after_store front r back room.cells (drop 8 s.words) last (w - 8) v less (line_wide room.cells s.words h.width) k)),
         refl,
       ))
+
+  -- a rider loads a cell
+  loaded : (words : List ℕ) (views : List SeatView) (r : RiderView) (w : ℕ) → 8 ≤ w → w - 8 < room.cells → IsKept room words views → get_elem? views id ≡ some (rider_seat r)
+      → IsKept room (set words w (slice_index words w)) (set views id (rider_seat (touched (Loaded (w - 8) (slice_index words w)) r)))
+  loaded words views r w behind less h at =
+      let found = slice_index words w in
+      let q = touched (Loaded (w - 8) found) r in
+      subst (λ ws. IsKept room ws (set views id (rider_seat q))) (sym (set-get_or words w 0))
+      (rider_kept room words words views id r q h at refl refl (Loaded (w - 8) found ∷ [], refl) (λ n e. (tt, e))
+      (λ front back last b k. after_load front r back room.cells (drop 8 words) last (w - 8) found less (line_at words w (w - 8) (omega (arith, behind))) k))
+
+  pub loads_allowed : (me : Me Nothing SeatView) (r : RiderView) (w : ℕ) → me ≡ (rider_seat r, []) → 8 ≤ w → w - 8 < room.cells
+      → Allows (Holds room) slots id me w (λ n. n) (Loads (step slots w 0 0 none) me)
+  loads_allowed me r w is behind less = subst (λ (m : Me Nothing SeatView). Allows (Holds room) slots id m w (λ n. n) (Loads (step slots w 0 0 none) m)) (sym is)
+      (λ s h homes at bound. (rider_seat (touched (Loaded (w - 8) (slice_index s.words w)) r), keeps, tt, loaded s.words s.views r w behind less h at, refl))
 
   -- a rider changes a cell, in one step
-  changed : (words : List ℕ) (views : List SeatView) (r : RiderView) (c v : ℕ) → c < room.cells → IsKept room words views → get_elem? views id ≡ some (rider_seat r)
-      → IsKept room (set words c v) (set views id (rider_seat (touched (Changed c (slice_index words c) v) r)))
-  changed words views r c v less h at =
-      rider_kept room words (set words c v) views id r (touched (Changed c (slice_index words c) v) r) h at (length-set words c v) (λ front back last k. after_change front r back room.cells words last c v less h.width k)
+  changed : (words : List ℕ) (views : List SeatView) (r : RiderView) (w v : ℕ) → 8 ≤ w → w - 8 < room.cells → IsKept room words views → get_elem? views id ≡ some (rider_seat r)
+      → IsKept room (set words w v) (set views id (rider_seat (touched (Changed (w - 8) (slice_index words w) v) r)))
+  changed words views r w v behind less h at =
+      let found = slice_index words w in
+      let q = touched (Changed (w - 8) found v) r in
+      let place : w ≡ 8 + (w - 8) = omega (arith, behind) in
+      rider_kept room words (set words w v) views id r q h at (length-set words w v) refl (Changed (w - 8) found v ∷ [], refl) (λ n e. (tt, e))
+      (λ front back last b k.
+      subst (λ ws. IsStanding room.cells ws last (front ++ q ∷ back)) (sym (line_set words w (w - 8) v place))
+      (after_change front r back room.cells (drop 8 words) last (w - 8) found v less (line_wide room.cells words h.width) (line_at words w (w - 8) place) k))
 
-  pub adds_allowed : (me : Me Nothing SeatView) (r : RiderView) (c more : ℕ) → me ≡ (rider_seat r, []) → c < room.cells
-      → Allows (Holds room) slots id me c (λ n. (n + more) % 2 ^ 64) (Adds (step slots c more 0 none) me)
-  adds_allowed me r c more is less = subst (λ (m : Me Nothing SeatView). Allows (Holds room) slots id m c (λ n. (n + more) % 2 ^ 64) (Adds (step slots c more 0 none) m)) (sym is)
-      (λ s h homes at bound. let found = slice_index s.words c in (
-        rider_seat (added c more found r),
+  pub adds_allowed : (me : Me Nothing SeatView) (r : RiderView) (w more : ℕ) → me ≡ (rider_seat r, []) → 8 ≤ w → w - 8 < room.cells
+      → Allows (Holds room) slots id me w (λ n. (n + more) % 2 ^ 64) (Adds (step slots w more 0 none) me)
+  adds_allowed me r w more is behind less = subst (λ (m : Me Nothing SeatView). Allows (Holds room) slots id m w (λ n. (n + more) % 2 ^ 64) (Adds (step slots w more 0 none) m)) (sym is)
+      (λ s h homes at bound. let found = slice_index s.words w in (
+        rider_seat (added (w - 8) more found r),
         keeps,
         tt,
-        changed s.words s.views r c ((found + more) % 2 ^ 64) less h at,
+        changed s.words s.views r w ((found + more) % 2 ^ 64) behind less h at,
         refl,
       ))
 
-  pub exchanges_allowed : (me : Me Nothing SeatView) (r : RiderView) (c old new : ℕ) → me ≡ (rider_seat r, []) → c < room.cells
-      → Allows (Holds room) slots id me c (λ n. either (n == old) new n) (Exchanges (step slots c old new none) me)
-  exchanges_allowed me r c old new is less = subst (λ (m : Me Nothing SeatView). Allows (Holds room) slots id m c (λ n. either (n == old) new n) (Exchanges (step slots c old new none) m)) (sym is)
-      (λ s h homes at bound. let found = slice_index s.words c in (
-        rider_seat (exchanged c old new found r),
+  pub exchanges_allowed : (me : Me Nothing SeatView) (r : RiderView) (w old new : ℕ) → me ≡ (rider_seat r, []) → 8 ≤ w → w - 8 < room.cells
+      → Allows (Holds room) slots id me w (λ n. either (n == old) new n) (Exchanges (step slots w old new none) me)
+  exchanges_allowed me r w old new is behind less = subst (λ (m : Me Nothing SeatView). Allows (Holds room) slots id m w (λ n. either (n == old) new n) (Exchanges (step slots w old new none) m)) (sym is)
+      (λ s h homes at bound. let found = slice_index s.words w in (
+        rider_seat (exchanged (w - 8) old new found r),
         keeps,
         tt,
         kept s.words s.views h at (found == old),
@@ -128,185 +179,35 @@ module _ (room : Room) (slots : ℕ) (id : ℕ) where
       ))
     where
       kept : (words : List ℕ) (views : List SeatView) → IsKept room words views → get_elem? views id ≡ some (rider_seat r) → (same : Bool)
-          → let found = slice_index words c in
-          IsKept room (set words c (either same new found)) (set views id (rider_seat (if same then touched (Changed c found new) r else touched (Loaded c found) r)))
-      kept words views h at true = changed words views r c new less h at
-      kept words views h at false =
-          let q = touched (Loaded c (slice_index words c)) r in
-          subst (λ ws. IsKept room ws (set views id (rider_seat q))) (sym (set-get_or words c 0))
-          (rider_kept room words words views id r q h at refl (λ front back last k. after_load front r back room.cells words last c less k))
+          → let found = slice_index words w in
+          IsKept room (set words w (either same new found)) (set views id (rider_seat (if same then touched (Changed (w - 8) found new) r else touched (Loaded (w - 8) found) r)))
+      kept words views h at true = changed words views r w new behind less h at
+      kept words views h at false = loaded words views r w behind less h at
 
-  pub looks_allowed : (me : Me Nothing SeatView) (r : RiderView) (which : Which) (i : ℕ) → me ≡ (rider_seat r, []) → i ≡ place_of which room.cells
+  pub looks_allowed : (me : Me Nothing SeatView) (r : RiderView) (which : Which) (i : ℕ) → me ≡ (rider_seat r, []) → i ≡ 8 + place_of which room.cells
       → Allows (Holds room) slots id me i (λ n. n) (Looks which (step slots i 0 0 none) me)
   looks_allowed me r which i is place = subst (λ (m : Me Nothing SeatView). Allows (Holds room) slots id m i (λ n. n) (Looks which (step slots i 0 0 none) m)) (sym is)
       (λ s h homes at bound.
       let x = slice_index s.words i in
       let q = with_loaded which x r in
-      let found : (last : OffsetWords) (riders : List RiderView) → IsCounted room.cells s.words last riders → x ≡ offset_of which last =
-      λ last riders k. ap (slice_index s.words) place ∙ found_offset which room.cells s.words last riders k in
-      let now = counted_at room s.words s.views id r h at in
+      let found : (last : OffsetWords) (riders : List RiderView) → IsStanding room.cells (drop 8 s.words) last riders → x ≡ offset_of which last =
+      λ last riders k. line_at s.words i (place_of which room.cells) place ∙ found_offset which room.cells (drop 8 s.words) last riders k in
+      let now = standing_at room s.words s.views id r h at in
       let p = parted s.views id (rider_seat r) at in
       let below = (every_back (Below h.master.offsets) p.front (r ∷ p.back) now.offset).0 in (
         rider_seat q,
         keeps,
         tt,
         subst (λ ws. IsKept room ws (set s.views id (rider_seat q))) (sym (set-get_or s.words i 0))
-            (rider_kept room s.words s.words s.views id r q h at refl (λ front back last k. after_look front r back room.cells s.words last which x (found last (front ++ r ∷ back) k) k)),
+            (rider_kept room s.words s.words s.views id r q h at refl refl (Looked which x ∷ [], refl) (λ n e. (tt, e)) (λ front back last b k. after_look front r back room.cells (drop 8 s.words) last which x (found last (front ++ r ∷ back) k) k)),
         (refl, only x r (at_most which h.master.offsets r x (found h.master.offsets (p.front ++ r ∷ p.back) now) below)),
       ))
     where
-      at_most : (which : Which) (last : OffsetWords) (r : RiderView) (x : ℕ) → x ≡ offset_of which last → Below last r → greatest_of which r.offsets ≤ x
+      at_most : (which : Which) (last : OffsetWords) (r : RiderView) (x : ℕ) → x ≡ offset_of which last → Below last r → greatest_of which (looked r.touches) ≤ x
       at_most ReadOnly last r x e b = omega (arith, b.0.0)
       at_most Head last r x e b = omega (arith, b.1.0)
       at_most Ended last r x e b = omega (arith, b.2.0)
 
-      only : (x : ℕ) (r : RiderView) → greatest_of which r.offsets ≤ x → (i : ℕ) (q : RiderView) → slice_get (r ∷ []) i ≡ Some q → greatest_of which q.offsets ≤ x
-      only x r le zero q e = let same : r ≡ q = cc e in subst (λ (p : RiderView). greatest_of which p.offsets ≤ x) same le
+      only : (x : ℕ) (r : RiderView) → greatest_of which (looked r.touches) ≤ x → (i : ℕ) (q : RiderView) → slice_get (r ∷ []) i ≡ Some q → greatest_of which (looked q.touches) ≤ x
+      only x r le zero q e = let same : r ≡ q = cc e in subst (λ (p : RiderView). greatest_of which (looked p.touches) ≤ x) same le
       only x r le (suc i) q e = absurd (cc e)
-
-module _ (room : Room) where
-  -- the master's steps are those of seat 0
-  pub sets_allowed : (slots id : ℕ) (me : Me Nothing SeatView) (last : OffsetWords) (which : Which) (i x : ℕ) → id ≡ 0 → me ≡ (seat_of last [], []) → i ≡ place_of which room.cells → offset_of which last ≤ x
-      → Allows (Holds room) slots id me i (λ _. x) (λ _. Sets which (step slots i x 0 none) me x)
-  sets_allowed slots id me last which i x first is place le =
-      subst (λ (k : ℕ). Allows (Holds room) slots k me i (λ _. x) (λ _. Sets which (step slots i x 0 none) me x)) (sym first)
-      (subst (λ (m : Me Nothing SeatView). Allows (Holds room) slots 0 m i (λ _. x) (λ _. Sets which (step slots i x 0 none) m x)) (sym is)
-      (λ s h homes at bound. (seat_of (with_offset which x last) [], keeps, tt, kept s.words s.views h at, refl)))
-    where
-      kept : (words : List ℕ) (views : List SeatView) → IsKept room words views → get_elem? views 0 ≡ some (seat_of last []) → IsKept room (set words i x) (set views 0 (seat_of (with_offset which x last) []))
-      kept words [] h at = absurd (some-ne-none (seat_of last []) (sym at))
-      kept words (v ∷ views) h at =
-          let same : v ≡ seat_of last [] = some-injective v (seat_of last []) at in
-          let mine : h.master ≡ seat_of last [] = sym (some-injective v h.master h.seat) ∙ same in
-          let flat : riders_in (v ∷ views) ≡ riders_in views = ap (λ (u : SeatView). u.riders ++ riders_in views) same in
-          let ruled = subst (λ l. IsRuled room.cells words last l) flat (subst (λ (u : SeatView). IsRuled room.cells words u.offsets (riders_in (v ∷ views))) mine h.ruled) in
-          let now = ruled_from room.cells (set words (place_of which room.cells) x) (with_offset which x last) (riders_in views) (after_set which room.cells words last (riders_in views) x h.width le (counted_from room.cells words last (riders_in views) ruled)) in
-          record {
-            master = seat_of (with_offset which x last) [];
-            seat = refl;
-            width = length-set words i x ∙ h.width;
-            count = sym (ap length flat) ∙ h.count;
-            ruled = subst (λ k. IsRuled room.cells (set words k x) (with_offset which x last) (riders_in views)) (sym place) now;
-          }
-
-  -- a rider is dealt out
-  pub deals : (id : ℕ) (v : SeatView) → id ≡ 0 → Splits (Holds room) id v (left_seat v) (right_seat v)
-  deals id v first = subst (λ (k : ℕ). Splits (Holds room) k v (left_seat v) (right_seat v)) (sym first) (λ s h at. kept s.words s.views v.offsets v.riders h at)
-    where
-      riders_in-push : (views : List SeatView) (w : SeatView) → riders_in (views ++ w ∷ []) ≡ riders_in views ++ w.riders
-      riders_in-push [] w = append-nil w.riders
-      riders_in-push (u ∷ us) w = ap (λ l. u.riders ++ l) (riders_in-push us w) ∙ sym (append_assoc u.riders (riders_in us) w.riders)
-
-      kept : (words : List ℕ) (views : List SeatView) (last : OffsetWords) (riders : List RiderView) → IsKept room words views → get_elem? views 0 ≡ some (seat_of last riders)
-          → IsKept room words (set views 0 (left_seat (seat_of last riders)) ++ right_seat (seat_of last riders) ∷ [])
-      kept words [] last riders h at = absurd (some-ne-none (seat_of last riders) (sym at))
-      kept words (u ∷ us) last riders h at = by_riders riders (some-injective u (seat_of last riders) at)
-        where
-          by_riders : (riders : List RiderView) → u ≡ seat_of last riders → IsKept room words (left_seat (seat_of last riders) ∷ (us ++ right_seat (seat_of last riders) ∷ []))
-          by_riders [] same =
-              let flat : riders_in (us ++ spent_seat ∷ []) ≡ riders_in (u ∷ us) = riders_in-push us spent_seat ∙ append-nil (riders_in us) ∙ sym (ap (λ (x : SeatView). x.riders ++ riders_in us) same) in
-              let mine : h.master ≡ seat_of last [] = sym (some-injective u h.master h.seat) ∙ same in
-              record {
-                master = seat_of last [];
-                seat = refl;
-                width = h.width;
-                count = ap length flat ∙ h.count;
-                ruled = subst (λ l. IsRuled room.cells words last l) (sym flat) (subst (λ (x : SeatView). IsRuled room.cells words x.offsets (riders_in (u ∷ us))) mine h.ruled);
-              }
-          by_riders (r ∷ rs) same =
-              let w = seat_of no_offsets (r ∷ []) in
-              let old : riders_in (u ∷ us) ≡ r ∷ (rs ++ riders_in us) = ap (λ (x : SeatView). x.riders ++ riders_in us) same in
-              let flat : rs ++ riders_in (us ++ w ∷ []) ≡ (rs ++ riders_in us) ++ r ∷ [] = ap (λ l. rs ++ l) (riders_in-push us w) ∙ sym (append_assoc rs (riders_in us) (r ∷ [])) in
-              let mine : h.master ≡ seat_of last (r ∷ rs) = sym (some-injective u h.master h.seat) ∙ same in
-              let ruled : IsRuled room.cells words last (r ∷ (rs ++ riders_in us)) = subst (λ l. IsRuled room.cells words last l) old (subst (λ (x : SeatView). IsRuled room.cells words x.offsets (riders_in (u ∷ us))) mine h.ruled) in
-              let full : IsRuled room.cells words last (r ∷ ((rs ++ riders_in us) ++ [])) = subst (λ l. IsRuled room.cells words last (r ∷ l)) (sym (append-nil (rs ++ riders_in us))) ruled in
-              let now = ruled_from room.cells words last ((rs ++ riders_in us) ++ r ∷ []) (from_front (rs ++ riders_in us) r [] room.cells words last (counted_from room.cells words last (r ∷ ((rs ++ riders_in us) ++ [])) full)) in
-              record {
-                master = seat_of last rs;
-                seat = refl;
-                width = h.width;
-                count = ap length flat ∙ omega (arith, length-append (rs ++ riders_in us) (r ∷ []), ap length old, h.count);
-                ruled = subst (λ l. IsRuled room.cells words last l) (sym flat) now;
-              }
-
-  -- and taken back in
-  pub joins : (id : ℕ) (v : SeatView) (other : ℕ) (w : SeatView) (r : RiderView) → id ≡ 0 → w ≡ rider_seat r → Joins (Holds room) id v other w (joined_seat v w) spent_seat
-  joins id v other w r first is =
-      subst (λ (k : ℕ). Joins (Holds room) k v other w (joined_seat v w) spent_seat) (sym first)
-      (subst (λ (x : SeatView). Joins (Holds room) 0 v other x (joined_seat v x) spent_seat) (sym is) (λ s h at apart there. kept s.words s.views other h at apart there))
-    where
-      kept : (words : List ℕ) (views : List SeatView) (other : ℕ) → IsKept room words views → get_elem? views 0 ≡ some v → ¬ (other ≡ 0) → get_elem? (set views 0 (joined_seat v (rider_seat r))) other ≡ some (rider_seat r)
-          → IsKept room words (set (set views 0 (joined_seat v (rider_seat r))) other spent_seat)
-      kept words [] other h at apart there = absurd (some-ne-none v (sym at))
-      kept words (u ∷ us) zero h at apart there = absurd (apart refl)
-      kept words (u ∷ us) (suc k) h at apart there =
-          let same : u ≡ v = some-injective u v at in
-          let p = parted us k (rider_seat r) there in
-          let gone : riders_in (set us k spent_seat) ≡ p.front ++ p.back = p.after spent_seat in
-          let old : riders_in (u ∷ us) ≡ (v.riders ++ p.front) ++ r ∷ p.back = ap (λ (x : SeatView). x.riders ++ riders_in us) same ∙ ap (λ l. v.riders ++ l) p.before ∙ sym (append_assoc v.riders p.front (r ∷ p.back)) in
-          let flat : r ∷ (v.riders ++ riders_in (set us k spent_seat)) ≡ r ∷ ((v.riders ++ p.front) ++ p.back) = ap (λ l. r ∷ l) (ap (λ l. v.riders ++ l) gone ∙ sym (append_assoc v.riders p.front p.back)) in
-          let mine : h.master ≡ v = sym (some-injective u h.master h.seat) ∙ same in
-          let ruled = subst (λ l. IsRuled room.cells words v.offsets l) old (subst (λ (x : SeatView). IsRuled room.cells words x.offsets (riders_in (u ∷ us))) mine h.ruled) in
-          let now = ruled_from room.cells words v.offsets (r ∷ ((v.riders ++ p.front) ++ p.back)) (to_front (v.riders ++ p.front) r p.back room.cells words v.offsets (counted_from room.cells words v.offsets ((v.riders ++ p.front) ++ r ∷ p.back) ruled)) in
-          record {
-            master = joined_seat v (rider_seat r);
-            seat = refl;
-            width = h.width;
-            count = ap length flat ∙ omega (arith, length-append (v.riders ++ p.front) p.back, length-append (v.riders ++ p.front) (r ∷ p.back), ap length old, h.count);
-            ruled = subst (λ l. IsRuled room.cells words v.offsets l) (sym flat) now;
-          }
-
-  -- at the end the master's seat stands for all riders
-  pub ends : (words : List ℕ) (slots : List Nothing) (last : OffsetWords) (riders : List RiderView) (id : ℕ) (v : SeatView) → id ≡ 0 → v ≡ seat_of last riders → length riders ≡ room.riders
-      → Final (Seen (Holds room) id v) words slots → IsRuled room.cells words last riders
-  ends words slots last riders id v first is all f =
-      let s = f.0 in
-      let at : get_elem? s.views 0 ≡ some (seat_of last riders) = ap (get_elem? s.views) (sym first) ∙ f.1.1 ∙ ap some is in
-      subst (λ ws. IsRuled room.cells ws last riders) f.2 (ruled_at s.words s.views f.1.0 at)
-    where
-      none_left : (xs ys : List RiderView) → length (xs ++ ys) ≡ length xs → xs ++ ys ≡ xs
-      none_left xs [] e = append-nil xs
-      none_left xs (y ∷ ys) e = absurd (omega (arith, length-append xs (y ∷ ys)))
-
-      ruled_at : (words : List ℕ) (views : List SeatView) → IsKept room words views → get_elem? views 0 ≡ some (seat_of last riders) → IsRuled room.cells words last riders
-      ruled_at words [] h at = absurd (some-ne-none (seat_of last riders) (sym at))
-      ruled_at words (u ∷ us) h at =
-          let same : u ≡ seat_of last riders = some-injective u (seat_of last riders) at in
-          let mine : h.master ≡ seat_of last riders = sym (some-injective u h.master h.seat) ∙ same in
-          let flat : riders_in (u ∷ us) ≡ riders ++ riders_in us = ap (λ (x : SeatView). x.riders ++ riders_in us) same in
-          let whole : riders ++ riders_in us ≡ riders = none_left riders (riders_in us) (sym (ap length flat) ∙ h.count ∙ sym all) in
-          subst (λ l. IsRuled room.cells words last l) (flat ∙ whole) (subst (λ (x : SeatView). IsRuled room.cells words x.offsets (riders_in (u ∷ us))) mine h.ruled)
-
-  -- nothing was done yet
-  pub begins : (words : List ℕ) → words ≡ replicate (room.cells + 19) 0 → Holds room (opening words [] (first_seat room))
-  begins words is = subst (λ ws. IsKept room ws (first_seat room ∷ [])) (sym is)
-      record {
-        master = first_seat room;
-        seat = refl;
-        width = length-replicate (room.cells + 19) 0;
-        count = ap length flat ∙ length-replicate room.riders unused;
-        ruled = subst (λ l. IsRuled room.cells (replicate (room.cells + 19) 0) no_offsets l) (sym flat) (ruled_from room.cells (replicate (room.cells + 19) 0) no_offsets (replicate room.riders unused) counted);
-      }
-    where
-      flat : replicate room.riders unused ++ [] ≡ replicate room.riders unused
-      flat = append-nil (replicate room.riders unused)
-
-      zeros : (n i : ℕ) → slice_index (replicate n 0) i ≡ 0
-      zeros zero i = refl
-      zeros (suc n) zero = refl
-      zeros (suc n) (suc i) = zeros n i
-
-      each : (P : RiderView → Type 0) → P unused → (n : ℕ) → Every P (replicate n unused)
-      each P p zero = tt
-      each P p (suc n) = (p, each P p n)
-
-      counted : IsCounted room.cells (replicate (room.cells + 19) 0) no_offsets (replicate room.riders unused)
-      counted = record {
-        cell = λ c less. inl (zeros (room.cells + 19) c, each (λ r. last_store c r.touches ≡ None) refl room.riders);
-        load = each (λ r. IsLawful (More (replicate room.riders unused) r) r.touches) tt room.riders;
-        read_only = zeros (room.cells + 19) (room.cells + 8);
-        head = zeros (room.cells + 19) (room.cells + 9);
-        ended = zeros (room.cells + 19) (room.cells + 10);
-        never_falls = (no_stores, no_stores, no_stores);
-        offset = each (Below no_offsets) (no_loads, no_loads, no_loads) room.riders;
-      }

@@ -2,3 +2,5 @@ pub mod Views
 pub mod Rule
 pub mod Seats
 pub mod States
+pub mod Laws
+pub mod Past

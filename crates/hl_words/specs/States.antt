@@ -1,16 +1,19 @@
 -- What contracts see of a seed, of words, of a master and of a rider.
-use Rattle.std.specs.Prelude.{ℕ, ◌≡◌, ◌+◌, ◌^◌, ◌≤◌, List, [], ◌∷◌, ◌++◌, Option, Some, None, slice_index_or}
+use Rattle.std.specs.Prelude.{ℕ, zero, suc, ◌≡◌, ◌+◌, ◌^◌, ◌≤◌, List, [], ◌∷◌, ◌++◌, length, Option, Some, None, slice_index_or}
 use Rattle.atomic_table.specs.Seated.{TableId}
 use Rattle.hl_model.specs.Sizes.{Sizes}
 use Rattle.hl_model.specs.declared.step.Step.{Step}
 use Rattle.hl_history.specs.declared.view.Entry.{Entry}
 use Rattle.hl_history.specs.States.{GatheredState}
+use Rattle.hl_words.specs.declared.view.Touch.{Touch}
+use Rattle.hl_words.specs.declared.view.Touch.TheVariants.{Stored, Loaded, Changed, Called, Looked, Met}
+use Rattle.hl_words.specs.declared.view.Known.{Known}
 use Rattle.hl_words.specs.declared.view.OffsetWords.{OffsetWords}
 use Rattle.hl_words.specs.declared.view.RiderView.{RiderView}
 use Rattle.hl_words.specs.declared.view.SeatView.{SeatView}
 use Rattle.hl_words.specs.declared.view.Room.{Room}
-use Rattle.hl_words.specs.Views.{unused}
-use Rattle.hl_words.specs.Seats.{seat_of}
+use Rattle.hl_words.specs.Views.{no_offsets, fresh, unused, called}
+use Rattle.hl_words.specs.Seats.{master_seat, spent_seat}
 use Rattle.atomic_table.specs.Table.{Me}
 
 -- a rider's stores and loads, how many journal steps it entered, and its calls that met the one list, the
@@ -20,10 +23,20 @@ pub record RiderState : Type 0 where
   pub share : ℕ
   pub calls : List Entry
 
--- the master's stores of its words, and how many journal steps were entered in all
+-- the master's stores of its words, how many journal steps were entered in all, and how many the newest call left
+-- that was noted
 pub record MasterState : Type 0 where
   pub offsets : OffsetWords
   pub total : ℕ
+  pub called : ℕ
+
+-- the master before its first store
+abbrev pub new_master : MasterState
+new_master = record { offsets = no_offsets; total = 0; called = 0 }
+
+-- the master once a call was noted that left all steps
+abbrev pub all_called : MasterState → MasterState
+all_called m = record { offsets = m.offsets; total = m.total; called = m.total }
 
 -- the tables of one seed: that of its words, and that of its one list
 pub record Tables : Type 0 where
@@ -47,7 +60,7 @@ pub record WordsState : Type 0 where
   pub cells : ℕ
   pub riders : ℕ
 
--- the words at their end: so many cells, and then the master's three words
+-- the words at their end, without the unused ones before the cells: so many cells, and then the master's three words
 pub record LastState : Type 0 where
   pub cells : ℕ
   pub words : List ℕ
@@ -69,33 +82,66 @@ IsSeedOf name parts table seed = (seed.name ≡ name) × (seed.riders ≡ parts)
 abbrev pub first_rider : SeatView → RiderView
 first_rider v = slice_index_or v.riders 0 unused
 
--- the first table of a seed, or that of words: its rule is that of this room, and it has the cells and three
--- words more
+-- the first table of a seed, or that of words: its rule is that of this room, and it has the cells and 27 words
+-- more, of which three are the master's
 pub record IsTableOf (room : Room) (key : Room) (table : TableId) : Type 0 where
   pub key_is : key ≡ room
-  pub words_are : table.words ≡ room.cells + 19
+  pub words_are : table.words ≡ room.cells + 27
   pub no_slot : table.slots ≡ 0
   pub few : room.cells ≤ 2 ^ 36
   pub some : 1 ≤ room.riders
   pub at_most : room.riders ≤ 2048
 
 -- the master's seat, which is the table's first and has no slot
-pub record IsMasterSeat (last : OffsetWords) (riders : List RiderView) (id : ℕ)
+pub record IsMasterSeat (called : ℕ) (last : OffsetWords) (riders : List RiderView) (id : ℕ)
     (me : Me (Unit {0}) SeatView) : Type 0 where
   pub first : id ≡ 0
-  pub knows : me ≡ (seat_of last riders, [])
+  pub knows : me ≡ (master_seat called last riders, [])
 
 -- a rider with another view
 abbrev pub with_view : RiderView → RiderState → RiderState
 with_view view r = record { view = view; share = r.share; calls = r.calls }
 
--- a rider with one call more
+-- a rider with one call more, which stands among its touches too
 abbrev pub with_call : Entry → RiderState → RiderState
-with_call call r = record { view = r.view; share = r.share; calls = call ∷ r.calls }
+with_call call r = record {
+  view = called (length call.before) (length call.before + length call.steps) r.view;
+  share = r.share;
+  calls = call ∷ r.calls;
+}
 
--- a rider before its first step
-abbrev pub new_rider : RiderState
-new_rider = record { view = unused; share = 0; calls = [] }
+-- Each call among the touches is the diary's call at its place: it met so many steps and left so many. Both lists stand
+-- newest first
+abbrev pub AreTied : List Touch → List Entry → Type 0
+AreTied [] [] = Unit {0}
+AreTied [] (call ∷ calls) = ⊥
+AreTied (Stored d v ∷ before) calls = AreTied before calls
+AreTied (Loaded d v ∷ before) calls = AreTied before calls
+AreTied (Changed d found v ∷ before) calls = AreTied before calls
+AreTied (Called met left ∷ before) [] = ⊥
+AreTied (Called met left ∷ before) (call ∷ calls) = (met ≡ length call.before)
+    × (left ≡ length call.before + length call.steps) × AreTied before calls
+AreTied (Looked which x ∷ before) calls = AreTied before calls
+AreTied (Met name count ∷ before) calls = AreTied before calls
+
+-- the rider of this name before its first step
+abbrev pub new_rider : ℕ → RiderState
+new_rider name = record { view = fresh name; share = 0; calls = [] }
+
+-- n of them, named from 0 on
+abbrev pub new_riders : ℕ → List RiderState
+new_riders zero = []
+new_riders (suc n) = new_riders n ++ new_rider n ∷ []
+
+-- what these pasts tell, if any
+abbrev pub known_to_all : {R : Type 0} → (R → List Known) → Option R → List Known
+known_to_all items None = []
+known_to_all items (Some all) = items all
+
+-- what the seat of a past's badge tells
+abbrev pub known_by : List SeatView → Known
+known_by views =
+    slice_index_or (slice_index_or views 0 spent_seat).known 0 (record { name = 0; touches = [] })
 
 -- the list at the end with no diary yet, where the scribe is there
 abbrev pub with_no_diaries : Option (List Step) → Option GatheredState

@@ -1,8 +1,9 @@
 -- What a rider's view is after one more store or load, and the master's three words by name.
-use Rattle.std.specs.Prelude.{ℕ, ◌+◌, ◌%◌, ◌^◌, ◌==◌, if◌then◌else◌, List, [], ◌∷◌}
+use Rattle.std.specs.Prelude.{ℕ, zero, suc, ◌+◌, ◌%◌, ◌^◌, ◌==◌, if◌then◌else◌, List, [], ◌∷◌, length}
 use Rattle.hl_model.specs.Lists.{greatest}
 use Rattle.hl_words.specs.declared.view.Touch.{Touch}
-use Rattle.hl_words.specs.declared.view.Touch.TheVariants.{Stored, Loaded, Changed}
+use Rattle.hl_words.specs.declared.view.Touch.TheVariants.{Stored, Loaded, Changed, Called, Looked, Met}
+use Rattle.hl_words.specs.declared.view.Known.{Known}
 use Rattle.hl_words.specs.declared.view.OffsetWords.{OffsetWords}
 use Rattle.hl_words.specs.declared.view.RiderView.{RiderView}
 use Rattle.hl_words.specs.declared.which.Which.{Which}
@@ -42,13 +43,22 @@ place_of ReadOnly cells = cells + 8
 place_of Head cells = cells + 9
 place_of Ended cells = cells + 10
 
--- the view of a rider that did nothing
-abbrev pub unused : RiderView
-unused = record { touches = []; offsets = no_offsets }
+-- the view of the rider of this name that did nothing
+abbrev pub fresh : ℕ → RiderView
+fresh name = record { name = name; touches = [] }
 
--- the view after one more touch, a store or a load of a cell
+-- n of them, named from a number on
+abbrev pub fresh_from : ℕ → ℕ → List RiderView
+fresh_from name zero = []
+fresh_from name (suc n) = fresh name ∷ fresh_from (suc name) n
+
+-- the first of all
+abbrev pub unused : RiderView
+unused = fresh 0
+
+-- the view after one more touch
 abbrev pub touched : Touch → RiderView → RiderView
-touched e r = record { touches = e ∷ r.touches; offsets = r.offsets }
+touched e r = record { name = r.name; touches = e ∷ r.touches }
 
 -- the view after a store of the value into the cell
 abbrev pub stored : ℕ → ℕ → RiderView → RiderView
@@ -74,4 +84,26 @@ exchanged cell old new found r =
 
 -- the view after a load of a word of the master's that gave x
 abbrev pub with_loaded : Which → ℕ → RiderView → RiderView
-with_loaded which x r = record { touches = r.touches; offsets = with_offset which x r.offsets }
+with_loaded which x r = touched (Looked which x) r
+
+-- what these touches loaded of each of the master's words
+abbrev pub looked : List Touch → OffsetWords
+looked [] = no_offsets
+looked (Stored d v ∷ before) = looked before
+looked (Loaded d v ∷ before) = looked before
+looked (Changed d found v ∷ before) = looked before
+looked (Called met left ∷ before) = looked before
+looked (Looked which x ∷ before) = with_offset which x (looked before)
+looked (Met name count ∷ before) = looked before
+
+-- what a past of this rider tells
+abbrev pub past_of : RiderView → Known
+past_of r = record { name = r.name; touches = r.touches }
+
+-- the view after the rider was told a past
+abbrev pub told : Known → RiderView → RiderView
+told k r = touched (Met k.name (length k.touches)) r
+
+-- the view after a call under the master's lock, which met so many steps and left so many
+abbrev pub called : ℕ → ℕ → RiderView → RiderView
+called met left r = touched (Called met left) r

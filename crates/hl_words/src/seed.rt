@@ -85,7 +85,7 @@ impl Model for Seed {
     } };
 
     ghost invariant = { λ s. IsTableOf s.room s.table.shared.key s.table.shared.table_id
-        × IsMasterSeat no_offsets (first_seat s.room).riders s.seat.id s.seat.me
+        × IsMasterSeat 0 no_offsets (first_seat s.room).riders s.seat.id s.seat.me
         × (s.seat.table_id ≡ s.table.shared.table_id) × (s.blank.parts ≡ s.room.riders)
         × (s.history.diaries ≡ s.room.riders)
         × (s.room.cells ≡ s.params.frames * s.params.page_size) };
@@ -136,7 +136,7 @@ impl Seed {
 fn laid(alloc: Global, room: Room) -> Result<(WordTable, WordSeat), AllocError>
     requires { room.cells ≤ 2 ^ 36 }
     ensures table { IfOk result
-        (λ t. (t.0.shared.key ≡ room) × (t.0.shared.table_id.words ≡ room.cells + 19)
+        (λ t. (t.0.shared.key ≡ room) × (t.0.shared.table_id.words ≡ room.cells + 27)
         × (t.0.shared.table_id.slots ≡ 0)) }
     ensures seat { IfOk result
         (λ t. (t.1.table_id ≡ t.0.shared.table_id) × (t.1.id ≡ 0) × (t.1.me ≡ (first_seat room, []))) }

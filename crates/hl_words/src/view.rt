@@ -1,7 +1,8 @@
 //! What the seats of the table know. It is told in proofs alone: a program makes no value of these types but a `Room`.
+use crate::which::Which;
 use std::collections::LinkedList;
 
-/// What a rider did to a cell.
+/// What a rider did without the lock, and its calls.
 pub enum Touch {
     /// It stored the value into the cell.
     Stored { cell: u64, value: u64 },
@@ -10,6 +11,19 @@ pub enum Touch {
     /// It found the one value in the cell and stored the other there, in one step: no store of another rider came
     /// between.
     Changed { cell: u64, found: u64, value: u64 },
+    /// It made a call under the lock where the master lies: the one list had `met` steps then, and `left` after it. It
+    /// changed no cell.
+    Called { met: u64, left: u64 },
+    /// It loaded the value from this word of the master's.
+    Looked { which: Which, value: u64 },
+    /// It was told what the rider of this name had done, up to so many of its touches. It changed no cell.
+    Met { name: u64, count: u64 },
+}
+
+/// What a past tells: the rider of this name had made these touches, the newest first.
+pub struct Known {
+    pub name: u64,
+    pub touches: LinkedList<Touch>,
 }
 
 /// Values of each of the master's words, the newest first: those that a rider loaded, or those that the master
@@ -20,12 +34,12 @@ pub struct OffsetWords {
     pub ended: LinkedList<u64>,
 }
 
-/// What a rider stored and loaded.
+/// What a rider did.
 pub struct RiderView {
-    /// Its stores into cells and its loads of cells, the newest first.
+    /// Its number among the riders of its seed, from 0: no two have the same.
+    pub name: u64,
+    /// All that it did, the newest first.
     pub touches: LinkedList<Touch>,
-    /// Its loads of each of the master's words.
-    pub offsets: OffsetWords,
 }
 
 /// What one seat of the table knows: the master's knows its stores of its three words, and each seat the views
@@ -34,6 +48,10 @@ pub struct RiderView {
 pub struct SeatView {
     pub offsets: OffsetWords,
     pub riders: LinkedList<RiderView>,
+    /// The master's: how many steps the newest call left.
+    pub called: u64,
+    /// A past's: what it tells.
+    pub known: LinkedList<Known>,
 }
 
 /// What a table is told when it is made: how many cells and how many riders it has.

@@ -1,27 +1,25 @@
-ghost use Rattle.std.specs.Prelude.{◌≡◌, ◌≢◌, ◌==◌, ◌+◌, ◌<◌, ◌≤◌, ℕ, List, [], ◌∷◌, ◌++◌, map, length, replicate, IfOk, OnOk, IfErr};
-ghost use Rattle.std.specs.Option.{IfSome};
-ghost use Rattle.std.specs.List.{sum_by};
+ghost use Rattle.std.specs.Prelude.{◌≡◌, ◌<◌, ◌≤◌, [], IfOk, IfErr};
 ghost use Rattle.hl_model.specs.declared.fault.Fault.TheVariants.{OutOfMemory};
-ghost use Rattle.hl_history.specs.Lists.{entry, IsOf, IsOneList};
-ghost use Rattle.hl_words.specs.Views.{no_offsets, offset_of, greatest_of, with_offset, stored, loaded, added, exchanged, with_loaded};
-ghost use Rattle.hl_words.specs.Rule.{IsRuled};
-ghost use Rattle.hl_words.specs.States.{IsSeedOf, IsMasterSeat, new_rider, with_view, with_call, with_diaries, with_no_diaries};
+ghost use Rattle.hl_words.specs.Views.{offset_of, greatest_of, with_offset, stored, loaded, added, exchanged, with_loaded, looked};
+ghost use Rattle.hl_words.specs.States.{IsSeedOf, new_master, new_riders, with_view};
 
-use crate::last::LastWords;
+mod calls;
+mod closing;
+mod pasts;
+
 use crate::master::Master;
 use crate::rider::Rider;
 use crate::rule::{
     AddCell, Deal, ExchangeCell, LoadCell, LoadEnded, LoadHead, LoadReadOnly, StoreCell,
     StoreEnded, StoreHead, StoreReadOnly,
 };
-use crate::seed::{HistoryOf, Realm, Scribe, Seed, WordSeat, WordTable};
+use crate::seed::{HistoryOf, Realm, Scribe, Seed, WordTable};
 use crate::view::Room;
-use crate::which::{ENDED_AT, HEAD_AT, READ_ONLY_AT, Which};
-use hl_history::{Diary, Gathered, History};
-use hl_model::{Fault, Step};
+use crate::which::{ENDED_AT, FIRST, HEAD_AT, READ_ONLY_AT, Which};
+use hl_history::History;
+use hl_model::Fault;
 use std::alloc::Global;
 use std::marker::{Model, PhantomData};
-use std::sync::ledger::Share;
 
 /// The cells and the master's three words, which any thread may load through a `&`, and the one list of steps,
 /// behind which the scribe puts more. No call here waits or takes memory but those that open. Contracts see how many
@@ -56,8 +54,8 @@ impl<L: Realm> Words<L> {
         requires { IsSeedOf L.name L.parts L.table seed }
         ensures words { IfOk result
             (λ opened. opened.0 ≡ record { cells = seed.cells; riders = seed.riders }) }
-        ensures master { IfOk result (λ opened. opened.1 ≡ record { offsets = no_offsets; total = 0 }) }
-        ensures riders { IfOk result (λ opened. opened.2.items ≡ replicate seed.riders new_rider) }
+        ensures master { IfOk result (λ opened. opened.1 ≡ new_master) }
+        ensures riders { IfOk result (λ opened. opened.2.items ≡ new_riders seed.riders) }
         ensures memory { IfErr result (λ fault. fault ≡ OutOfMemory) }
     {
         let (words, master, _scribe, riders) = Words::open_with_scribe(alloc, seed)?;
@@ -74,9 +72,9 @@ impl<L: Realm> Words<L> {
         requires { IsSeedOf L.name L.parts L.table seed }
         ensures words { IfOk result
             (λ opened. opened.0 ≡ record { cells = seed.cells; riders = seed.riders }) }
-        ensures master { IfOk result (λ opened. opened.1 ≡ record { offsets = no_offsets; total = 0 }) }
+        ensures master { IfOk result (λ opened. opened.1 ≡ new_master) }
         ensures list { IfOk result (λ opened. opened.2 ≡ []) }
-        ensures riders { IfOk result (λ opened. opened.3.items ≡ replicate seed.riders new_rider) }
+        ensures riders { IfOk result (λ opened. opened.3.items ≡ new_riders seed.riders) }
         ensures memory { IfErr result (λ fault. fault ≡ OutOfMemory) }
     {
         let Seed {
@@ -125,7 +123,7 @@ impl<L: Realm> Words<L> {
         ensures { rider.new ≡ with_view (stored cell value rider.old.view) rider.old }
     {
         let shared = &self.table.shared;
-        shared.store::<StoreCell>(&mut rider.seat, cell as usize, value);
+        shared.store::<StoreCell>(&mut rider.seat, FIRST + cell as usize, value);
     }
 
     /// Loads a cell. The rider's view has the load; that its value is lawful is what `close` tells of all loads.
@@ -135,18 +133,18 @@ impl<L: Realm> Words<L> {
         ensures { rider.new ≡ with_view (loaded cell result rider.old.view) rider.old }
     {
         let shared = &self.table.shared;
-        shared.load::<LoadCell>(&mut rider.seat, cell as usize)
+        shared.load::<LoadCell>(&mut rider.seat, FIRST + cell as usize)
     }
 
     /// Adds a number to a cell, modulo 2^64, in one step: no store of another rider comes between its
-    /// load and its store. Returns what it found. The rider's view has the change; that what it found
-    /// is lawful is what `close` tells.
+    /// load and its store. Returns what it found. The rider's view has the change; that it found what the
+    /// newest store before it left is what `close` tells, so that no add is lost.
     pub fn fetch_add_cell(&self, rider: &mut Rider<L>, cell: u64, more: u64) -> u64
         requires { cell < self.now.cells }
         ensures { rider.new ≡ with_view (added cell more result rider.old.view) rider.old }
     {
         let shared = &self.table.shared;
-        shared.fetch_add::<AddCell>(&mut rider.seat, cell as usize, more)
+        shared.fetch_add::<AddCell>(&mut rider.seat, FIRST + cell as usize, more)
     }
 
     /// Stores the new value into a cell if the old one stands there, in one step. Returns what it
@@ -156,15 +154,16 @@ impl<L: Realm> Words<L> {
         ensures { rider.new ≡ with_view (exchanged cell old new result rider.old.view) rider.old }
     {
         let shared = &self.table.shared;
-        shared.compare_exchange::<ExchangeCell>(&mut rider.seat, cell as usize, old, new)
+        shared.compare_exchange::<ExchangeCell>(&mut rider.seat, FIRST + cell as usize, old, new)
     }
 
     /// Stores one of the master's words: an offset in words of the log, or an epoch. The caller sees to it that it
     /// isn't below the master's last store.
     pub fn store_offset(&self, master: &mut Master<L>, which: Which, offset: u64)
         requires { offset_of which master.old.offsets ≤ offset }
-        ensures { master.new
-            ≡ record { offsets = with_offset which offset master.old.offsets; total = master.old.total } }
+        ensures { let old = master.old
+            in let offsets = with_offset which offset old.offsets
+            in master.new ≡ record { offsets = offsets; total = old.total; called = old.called } }
     {
         let shared = &self.table.shared;
         let seat = &mut master.seat;
@@ -185,7 +184,7 @@ impl<L: Realm> Words<L> {
     #[inline(always)]
     pub fn load_offset(&self, rider: &mut Rider<L>, which: Which) -> u64
         ensures view { rider.new ≡ with_view (with_loaded which result rider.old.view) rider.old }
-        ensures rises { greatest_of which rider.old.view.offsets ≤ result }
+        ensures rises { greatest_of which (looked rider.old.view.touches) ≤ result }
     {
         let shared = &self.table.shared;
         let seat = &mut rider.seat;
@@ -194,160 +193,5 @@ impl<L: Realm> Words<L> {
             Which::Head => shared.load::<LoadHead>(seat, self.room.cells + HEAD_AT),
             Which::Ended => shared.load::<LoadEnded>(seat, self.room.cells + ENDED_AT),
         }
-    }
-
-    /// Puts steps behind the scribe's list, for a rider: its newest call tells the list before them, and the steps. That
-    /// list begins with what each of its earlier calls left.
-    #[inline(always)]
-    pub fn enter(&self, scribe: &mut Scribe<L>, rider: &mut Rider<L>, steps: &[Step])
-        ensures list { scribe.new ≡ scribe.old ++ steps.now }
-        ensures rider { rider.new ≡ with_call (entry scribe.old steps.now) rider.old }
-        ensures rises { IsOf scribe.old rider.old.calls }
-    {
-        self.history.enter(scribe, &mut rider.diary, steps);
-    }
-
-    /// Ends the words, and tells what each one holds. If a rider is missing, all is handed back. Else
-    /// the master's total is the sum of the riders' shares, and the rule holds of what the words hold,
-    /// of the master's stores, and of exactly what these riders stored and loaded.
-    pub fn close(
-        self,
-        master: Master<L>,
-        riders: Vec<Rider<L>>,
-    ) -> Result<LastWords, (Words<L>, Master<L>, Vec<Rider<L>>)>
-        ensures all { OnOk result (length riders.items ≡ self.riders) }
-        ensures total { OnOk result (master.total ≡ sum_by (λ r. r.share) riders.items) }
-        ensures cells { IfOk result (λ last. last.cells ≡ self.cells) }
-        ensures rule { IfOk result
-            (λ last. IsRuled self.cells last.words master.offsets (map (λ r. r.view) riders.items)) }
-        ensures missing { IfErr result (λ _. length riders.items ≢ self.riders) }
-        ensures back { IfErr result (λ back. (back.0 ≡ self) × (back.1 ≡ master) × (back.2 ≡ riders)) }
-    {
-        if !self.has_all(riders.as_slice()) {
-            return Err((self, master, riders));
-        }
-        Ok(self.end(master, None, riders))
-    }
-
-    /// Ends the words as `close` does. Besides, if no rider is missing, the scribe's list is the one list of exactly
-    /// these riders' calls.
-    pub fn close_with_scribe(
-        self,
-        master: Master<L>,
-        scribe: Scribe<L>,
-        riders: Vec<Rider<L>>,
-    ) -> Result<LastWords, (Words<L>, Master<L>, Scribe<L>, Vec<Rider<L>>)>
-        ensures all { OnOk result (length riders.items ≡ self.riders) }
-        ensures total { OnOk result (master.total ≡ sum_by (λ r. r.share) riders.items) }
-        ensures cells { IfOk result (λ last. last.cells ≡ self.cells) }
-        ensures rule { IfOk result
-            (λ last. IsRuled self.cells last.words master.offsets (map (λ r. r.view) riders.items)) }
-        ensures list { OnOk result (IsOneList scribe (map (λ r. r.calls) riders.items)) }
-        ensures missing { IfErr result (λ _. length riders.items ≢ self.riders) }
-        ensures back { IfErr result (λ back.
-            (back.0 ≡ self) × (back.1 ≡ master) × (back.2 ≡ scribe) × (back.3 ≡ riders)) }
-    {
-        if !self.has_all(riders.as_slice()) {
-            return Err((self, master, scribe, riders));
-        }
-        Ok(self.end(master, Some(scribe), riders))
-    }
-
-    // Whether these riders are as many as were dealt out.
-    fn has_all(&self, riders: &[Rider<L>]) -> bool
-        ensures { result ≡ (length riders.now == self.now.riders) }
-    {
-        riders.len() == self.room.riders
-    }
-
-    // Ends the words, whose riders are all there, and also the list if the scribe is there.
-    fn end(self, master: Master<L>, scribe: Option<Scribe<L>>, riders: Vec<Rider<L>>) -> LastWords
-        requires { length riders.items ≡ self.riders }
-        ensures total { master.total ≡ sum_by (λ r. r.share) riders.items }
-        ensures cells { result.cells ≡ self.cells }
-        ensures rule { IsRuled self.cells result.words master.offsets (map (λ r. r.view) riders.items) }
-        ensures list { IfSome scribe (λ list. IsOneList list (map (λ r. r.calls) riders.items)) }
-    {
-        let Master {
-            seat,
-            mut book,
-            share,
-            ..
-        } = master;
-        let mut ended = Ended {
-            seat,
-            share,
-            diaries: gathered(scribe),
-        };
-        self.gather(&mut ended, riders);
-        book.audit(&mut ended.share);
-        let Words {
-            table,
-            room,
-            history,
-            of: _,
-        } = self;
-        let Ended {
-            seat,
-            share: _,
-            diaries,
-        } = ended;
-        if let Some(diaries) = diaries {
-            history.close(diaries);
-        }
-        LastWords::of(table.close_with(seat), room.cells)
-    }
-
-    // Takes the riders back.
-    fn gather(&self, ended: &mut Ended<L>, mut riders: Vec<Rider<L>>)
-        requires seat { (ended.old.seat.table_id ≡ L.table.words)
-            × IsMasterSeat ended.old.seat.me.0.offsets [] ended.old.seat.id ended.old.seat.me }
-        ensures seat { (ended.new.seat.table_id ≡ L.table.words)
-            × IsMasterSeat ended.old.seat.me.0.offsets (map (λ r. r.view) riders.items)
-            ended.new.seat.id ended.new.seat.me }
-        ensures parts { ended.new.share.parts ≡ ended.old.share.parts + length riders.items }
-        ensures amount { ended.new.share.amount
-            ≡ ended.old.share.amount + sum_by (λ r. r.share) riders.items }
-        ensures diaries { ended.new.diaries
-            ≡ with_diaries (map (λ r. r.calls) riders.items) ended.old.diaries }
-    {
-        while let Some(rider) = riders.pop() {
-            let Rider {
-                seat,
-                share,
-                diary,
-                ..
-            } = rider;
-            self.table.shared.join_seat::<Deal>(&mut ended.seat, seat);
-            ended.share.merge(share);
-            self.take_back(&mut ended.diaries, diary);
-        }
-    }
-
-    // Takes a rider's diary back, if the scribe is there.
-    fn take_back(&self, diaries: &mut Option<Gathered<HistoryOf<L>>>, diary: Diary<HistoryOf<L>>)
-        ensures { diaries.new ≡ with_diaries (diary ∷ []) diaries.old }
-    {
-        if let Some(gathered) = diaries {
-            self.history.take_back(gathered, diary);
-        }
-    }
-}
-
-// What the riders are taken back into at the end: the master's seat and its share, and the scribe's list and diaries,
-// if the scribe is there.
-struct Ended<L: Realm> {
-    seat: WordSeat,
-    share: Share<L>,
-    diaries: Option<Gathered<HistoryOf<L>>>,
-}
-
-// The scribe's list, with no diary yet.
-fn gathered<L: Realm>(scribe: Option<Scribe<L>>) -> Option<Gathered<HistoryOf<L>>>
-    ensures { result ≡ with_no_diaries scribe }
-{
-    match scribe {
-        Some(scribe) => Some(scribe.gather()),
-        None => None,
     }
 }
