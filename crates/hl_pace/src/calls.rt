@@ -115,6 +115,7 @@ impl<R: Wait, E: Epochs + Drop, F: Task, P: Promise, L: Realm> Caller<'_, R, E, 
             Kind::Look => self.look(seat, calls),
             Kind::KeepUp => self.keep_up(seat, calls),
             Kind::Cut => self.cut(seat, calls),
+            Kind::Past => self.past(seat, calls),
         }
     }
 
@@ -190,6 +191,16 @@ impl<R: Wait, E: Epochs + Drop, F: Task, P: Promise, L: Realm> Caller<'_, R, E, 
                     seat.lease = Lease::of(0, PIECE);
                 }
             }
+        }
+        Some(())
+    }
+
+    #[inline(never)]
+    fn past(&self, seat: &mut Seat<L>, calls: u64) -> Option<()> {
+        let rider = seat.pass.rider_mut();
+        for _ in 0..calls {
+            let past = self.domain.past(rider);
+            self.domain.tell_past(rider, past);
         }
         Some(())
     }

@@ -3,7 +3,8 @@
 //!
 //! The kinds are `refresh`, `allocate`, `store`, `load`, `look`, `add` (an add to a word in one step), `lease` (a record of
 //! one word from a lease), `keep_up` where nothing is new, `load_beside` (loads of all threads but one, which
-//! refreshes meanwhile), `cut`, and `lock`, which adds to a number under a lock and so shows what the lock itself costs.
+//! refreshes meanwhile), `cut`, `past` (a rider's past, told to the rider), and `lock`, which adds to a number under a lock
+//! and so shows what the lock itself costs.
 //! Each thread has a slot of its own and makes CALLS calls. The journal has room for 2^21 steps, and is cut when it is
 //! full. The domain has 256 pages of 4,096 words, 8 slots and 64 places for actions; PAGE, FRAMES, SLOTS and ACTIONS name
 //! other sizes, also wide ones. Nothing is printed but the fault of a domain that couldn't be opened; the status is 1 if
@@ -27,7 +28,7 @@ use std::process::ExitCode;
 use std::{env, io};
 
 const USAGE: &[u8] =
-    b"usage: hl_pace KIND THREADS CALLS [PAGE FRAMES SLOTS ACTIONS], with KIND lock|refresh|allocate|store|load|look|add|lease|keep_up|load_beside|cut\n       hl_pace idle SECONDS\n       hl_pace rings ROUNDS\n";
+    b"usage: hl_pace KIND THREADS CALLS [PAGE FRAMES SLOTS ACTIONS], with KIND lock|refresh|allocate|store|load|look|add|lease|keep_up|load_beside|cut|past\n       hl_pace idle SECONDS\n       hl_pace rings ROUNDS\n";
 
 fn main(rt: HostRuntime) -> io::Result<ExitCode> {
     let words = env::args(&rt)?.collect::<Vec<String>>(rt.alloc())?;

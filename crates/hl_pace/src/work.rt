@@ -16,6 +16,7 @@ pub(crate) enum Kind {
     KeepUp,
     LoadBeside,
     Cut,
+    Past,
 }
 
 /// What is to be done, and the sizes of the domain.
@@ -75,6 +76,7 @@ fn kind_of(name: &str) -> Option<Kind> {
         "keep_up" => Kind::KeepUp,
         "load_beside" => Kind::LoadBeside,
         "cut" => Kind::Cut,
+        "past" => Kind::Past,
         _ => return None,
     })
 }
