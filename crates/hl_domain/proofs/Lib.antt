@@ -1,1 +1,2 @@
 pub mod DomainLaws
+pub mod ToldLaws

@@ -1,4 +1,5 @@
 pub mod Domains
+pub mod Told
 pub use Rattle.hl_model.specs.Actions
 pub use Rattle.hl_model.specs.Bases
 pub use Rattle.hl_model.specs.Offsets

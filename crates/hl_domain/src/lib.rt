@@ -39,6 +39,7 @@
 #![tactic(auto)]
 
 mod domain;
+pub mod laws;
 
 pub use domain::Domain;
 pub use hl_keeper::{

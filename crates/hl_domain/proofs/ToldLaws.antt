@@ -1,0 +1,80 @@
+-- Calls of a rider that was told of another's, in the one list.
+use Rattle.std.proofs.Common.{◌≡◌, ℕ, zero, suc, ◌+◌, ◌≤◌, List, [], ◌∷◌, ◌++◌, length, map, Some, slice_get, refl, sym, ap, ◌∙◌, subst, arith, append_assoc, length-append}
+use Rattle.std.specs.List.{AllByRecursion as Every}
+use Rattle.std.specs.Prelude.{option_map}
+use Rattle.hl_model.specs.declared.step.Step.{Step}
+use Rattle.hl_history.specs.declared.view.Entry.{Entry}
+use Rattle.hl_history.specs.Lists.{Begins, left_by, IsOf}
+use Rattle.hl_words.specs.declared.view.Touch.{Touch}
+use Rattle.hl_words.specs.declared.view.Touch.TheVariants.{Stored, Loaded, Changed, Called, Looked, Met}
+use Rattle.hl_words.specs.declared.view.RiderView.{RiderView}
+use Rattle.hl_words.specs.States.{RiderState, AreTied}
+use Rattle.hl_words.specs.Past.{CallsAfterMet}
+use Rattle.hl_domain.specs.Domains.{IsEnding}
+use Rattle.hl_domain.specs.Told.{calls_in, ToldCallsBegin}
+
+-- the diary's call at the place of a call among the touches
+record IsThere (calls : List Entry) (place met left : ℕ) : Type 0 where
+  call : Entry
+  at : slice_get calls place ≡ Some call
+  met_is : met ≡ length call.before
+  left_is : left ≡ length call.before + length call.steps
+
+there : (newer older : List Touch) (met left : ℕ) (calls : List Entry) → AreTied (newer ++ Called met left ∷ older) calls → IsThere calls (calls_in newer) met left
+there [] older met left [] h = absurd h
+there [] older met left (call ∷ calls) h = record { call = call; at = refl; met_is = h.0; left_is = h.1 }
+there (Stored d v ∷ newer) older met left calls h = there newer older met left calls h
+there (Loaded d v ∷ newer) older met left calls h = there newer older met left calls h
+there (Changed d found v ∷ newer) older met left calls h = there newer older met left calls h
+there (Called m l ∷ newer) older met left [] h = absurd h
+there (Called m l ∷ newer) older met left (call ∷ calls) h =
+    let t = there newer older met left calls h.2 in
+    record { call = t.call; at = t.at; met_is = t.met_is; left_is = t.left_is }
+there (Looked which x ∷ newer) older met left calls h = there newer older met left calls h
+there (Met name count ∷ newer) older met left calls h = there newer older met left calls h
+
+module _ {X : Type 0} where
+  -- what holds of each holds of that at a place
+  every_at : (P : X → Type 0) (xs : List X) (i : ℕ) (x : X) → Every P xs → slice_get xs i ≡ Some x → P x
+  every_at P [] i x h e = absurd cc
+  every_at P (y ∷ ys) zero x h e = subst P (cc e) h.0
+  every_at P (y ∷ ys) (suc i) x h e = every_at P ys i x h.1 e
+
+  -- of two beginnings of one list the longer begins with the shorter
+  begins_both : (xs ys xr yr : List X) → xs ++ xr ≡ ys ++ yr → length xs ≤ length ys → (rest : List X) × (ys ≡ xs ++ rest)
+  begins_both [] ys xr yr e le = (ys, refl)
+  begins_both (x ∷ xs) [] xr yr e le = absurd (omega (arith, le))
+  begins_both (x ∷ xs) (y ∷ ys) xr yr e le =
+      let head : x ≡ y = cc e in
+      let tail : xs ++ xr ≡ ys ++ yr = cc e in
+      let more = begins_both xs ys xr yr tail (omega (arith, le)) in
+      (more.0, ap (λ z. z ∷ ys) (sym head) ∙ ap (λ l. x ∷ l) more.1)
+
+-- a place of a row that was mapped
+at_mapped : {X Y : Type 0} (f : X → Y) (xs : List X) (i : ℕ) (x : X) → slice_get xs i ≡ Some x → slice_get (map f xs) i ≡ Some (f x)
+at_mapped f [] i x e = absurd cc
+at_mapped f (y ∷ ys) zero x e = let same : y ≡ x = cc e in ap (λ z. Some (f z)) same
+at_mapped f (y ∷ ys) (suc i) x e = at_mapped f ys i x e
+
+-- of two calls of one list that one met no fewer steps than the other left
+met_begins : (list : List Step) (d e : Entry) → Begins (left_by d) list → Begins (left_by e) list → length d.before + length d.steps ≤ length e.before → Begins (left_by d) e.before
+met_begins list d e a b le =
+    let parts : list ≡ e.before ++ (e.steps ++ b.0) = b.1 ∙ append_assoc e.before e.steps b.0 in
+    begins_both (left_by d) e.before a.0 (e.steps ++ b.0) (sym a.1 ∙ parts) (omega (arith, le, length-append d.before d.steps))
+
+pub told_calls_begin : CallsAfterMet → (F : Type 0) → ToldCallsBegin F
+told_calls_begin law F sizes riders ending i j met left first n r q newer between earlier later recent older end ati atj mine theirs =
+    let past : List Touch = recent ++ Called first n ∷ older in
+    let views : List RiderView = map (λ (x : RiderState). x.view) riders in
+    let le : n ≤ met = law _ _ _ views i j met left first n r.view q.view newer between earlier later past recent older end.ruled (at_mapped (λ (x : RiderState). x.view) riders i r ati) (at_mapped (λ (x : RiderState). x.view) riders j q atj) mine theirs refl in
+    let Tied : RiderState → Type 0 = λ x. AreTied x.view.touches x.calls in
+    let own : AreTied (newer ++ Called met left ∷ (between ++ Met q.view.name (length past) ∷ earlier)) r.calls = subst (λ l. AreTied l r.calls) mine (every_at Tied riders i r end.tied ati) in
+    let its : AreTied ((later ++ recent) ++ Called first n ∷ older) q.calls = subst (λ l. AreTied l q.calls) (theirs ∙ sym (append_assoc later recent (Called first n ∷ older))) (every_at Tied riders j q end.tied atj) in
+    let e = there newer (between ++ Met q.view.name (length past) ∷ earlier) met left r.calls own in
+    let d = there (later ++ recent) older first n q.calls its in
+    let list = end.steps_cut ++ ending.journal in
+    let of_r : IsOf list r.calls = every_at (IsOf list) (map (λ (x : RiderState). x.calls) riders) i r.calls end.one_list.each (at_mapped (λ (x : RiderState). x.calls) riders i r ati) in
+    let of_q : IsOf list q.calls = every_at (IsOf list) (map (λ (x : RiderState). x.calls) riders) j q.calls end.one_list.each (at_mapped (λ (x : RiderState). x.calls) riders j q atj) in
+    let left_d : Begins (left_by d.call) list = every_at (λ (c : Entry). Begins (left_by c) list) q.calls (calls_in (later ++ recent)) d.call of_q.begins d.at in
+    let left_e : Begins (left_by e.call) list = every_at (λ (c : Entry). Begins (left_by c) list) r.calls (calls_in newer) e.call of_r.begins e.at in
+    (e.call, d.call, e.at, d.at, met_begins list d.call e.call left_d left_e (omega (arith, le, e.met_is, d.left_is)))

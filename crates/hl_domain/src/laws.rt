@@ -1,0 +1,10 @@
+//! What follows from a domain's ending: the contract of a function that does nothing.
+ghost use Rattle.hl_domain.specs.Told.{ToldCallsBegin};
+
+use hl_action::Task;
+
+/// A call of a rider that was told another's past met a list that begins with what each call in that past left. So who
+/// was told of a bump is answered a greater number.
+pub fn told_calls_begin<F: Task>()
+    ensures { ToldCallsBegin F }
+{}
