@@ -9,13 +9,18 @@
 //! and each of its steps was made by exactly one of these calls. So the two calls stand in that list one behind the
 //! other, and nothing else stands there. All that the proof knows of a domain is the contracts of `Domain::open`,
 //! `Domain::bare` and `Domain::close`.
+//!
+//! [`bump_after`] is the twin with an order: one thread is told of the other's bump, through a plain lock, before its own.
+//! Then its own number is greater, whatever carried the message.
 #![tactic(auto)]
 
+mod after;
 mod anew;
 
 ghost use Rattle.std.specs.Prelude.{◌≡◌, [], IfSome};
 ghost use Rattle.hl_turns.specs.Turns.{Bumped, IsInTurn};
 
+pub use after::{Numbers, bump_after, bump_after_anew};
 pub use anew::bump_anew;
 use hl_domain::{Domain, Epochs, Promise, Realm, Rider, Task};
 use std::alloc::Global;
