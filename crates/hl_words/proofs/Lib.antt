@@ -1,6 +1,7 @@
 pub mod Cut
-pub mod Counts
-pub mod Counted
+pub mod Orders
+pub mod Standing
 pub mod Steps
 pub mod Dealing
 pub mod WordAt
+pub mod LawProofs

@@ -1,5 +1,5 @@
 -- Each step of the table keeps its rule, whatever the table is when the step is taken.
-use Rattle.std.proofs.Common.{◌≡◌, ℕ, zero, suc, ◌+◌, ◌<◌, ◌≤◌, List, [], ◌∷◌, ◌++◌, length, set, replicate, Some, None, slice_get, refl, ap, sym, ◌∙◌, inl, subst, arith, append_assoc, length-append}
+use Rattle.std.proofs.Common.{◌≡◌, ℕ, zero, suc, ◌+◌, ◌<◌, ◌≤◌, List, [], ◌∷◌, ◌++◌, length, set, replicate, Some, slice_get, refl, ap, sym, ◌∙◌, subst, arith, append_assoc, length-append}
 use Rattle.std.specs.Prelude.{slice_index, ◌==◌, ◌%◌, ◌^◌, Bool, true, false, if◌then◌else◌}
 use prog.Atomic.{either}
 use Rattle.std.specs.List.{AllByRecursion as Every}
@@ -15,11 +15,10 @@ use Rattle.hl_words.specs.declared.view.Room.{Room}
 use Rattle.hl_words.specs.declared.which.Which.{Which}
 use Rattle.hl_words.specs.declared.which.Which.TheVariants.{ReadOnly, Head, Ended}
 use Rattle.hl_words.specs.Views.{place_of, no_offsets, offset_of, greatest_of, with_offset, unused, touched, added, exchanged, with_loaded}
-use Rattle.hl_words.specs.Rule.{last_store, IsRuled, IsLawful}
+use Rattle.hl_words.specs.Rule.{HasOneOrder, IsRuled}
 use Rattle.hl_words.specs.Seats.{seat_of, rider_seat, spent_seat, first_seat, riders_in, IsKept, Holds, Stores, Loads, Adds, Exchanges, Looks, Sets, left_seat, right_seat, joined_seat}
 use Rattle.hl_words.proofs.Cut.{every_back}
-use Rattle.hl_words.proofs.Counts.{More}
-use Rattle.hl_words.proofs.Counted.{IsCounted, Below, no_loads, no_stores, counted_from, ruled_from, to_front, from_front, after_store, after_change, after_load, after_look, after_set, found_offset}
+use Rattle.hl_words.proofs.Standing.{IsStanding, Below, no_loads, no_stores, standing_from, ruled_from, to_front, from_front, after_store, after_change, after_load, after_look, after_set, found_offset}
 
 abbrev Nothing : Type 0
 Nothing = Unit {0}
@@ -52,14 +51,14 @@ master_after (x ∷ xs) (suc id) m v w e d same = (m, e, refl)
 
 -- one rider's view and some words change
 rider_kept : (room : Room) (words after : List ℕ) (views : List SeatView) (id : ℕ) (r q : RiderView) → IsKept room words views → get_elem? views id ≡ some (rider_seat r) → length after ≡ length words
-    → ((front back : List RiderView) (last : OffsetWords) → IsCounted room.cells words last (front ++ r ∷ back) → IsCounted room.cells after last (front ++ q ∷ back))
+    → ((front back : List RiderView) (last : OffsetWords) → IsStanding room.cells words last (front ++ r ∷ back) → IsStanding room.cells after last (front ++ q ∷ back))
     → IsKept room after (set views id (rider_seat q))
 rider_kept room words after views id r q h at width move =
     let p = parted views id (rider_seat r) at in
     let m = master_after views id h.master (rider_seat r) (rider_seat q) h.seat at refl in
     let now = p.after (rider_seat q) in
-    let counted = counted_from room.cells words h.master.offsets (p.front ++ r ∷ p.back) (subst (λ l. IsRuled room.cells words h.master.offsets l) p.before h.ruled) in
-    let moved = ruled_from room.cells after h.master.offsets (p.front ++ q ∷ p.back) (move p.front p.back h.master.offsets counted) in
+    let standing = standing_from room.cells words h.master.offsets (p.front ++ r ∷ p.back) (subst (λ l. IsRuled room.cells words h.master.offsets l) p.before h.ruled) in
+    let moved = ruled_from room.cells after h.master.offsets (p.front ++ q ∷ p.back) (move p.front p.back h.master.offsets standing) in
     record {
       master = m.0;
       seat = m.1;
@@ -69,11 +68,11 @@ rider_kept room words after views id r q h at width move =
     }
 
 -- what the rule says of the words and of one rider
-counted_at : (room : Room) (words : List ℕ) (views : List SeatView) (id : ℕ) (r : RiderView) → (h : IsKept room words views) → (at : get_elem? views id ≡ some (rider_seat r))
-    → IsCounted room.cells words h.master.offsets ((parted views id (rider_seat r) at).front ++ r ∷ (parted views id (rider_seat r) at).back)
-counted_at room words views id r h at =
+standing_at : (room : Room) (words : List ℕ) (views : List SeatView) (id : ℕ) (r : RiderView) → (h : IsKept room words views) → (at : get_elem? views id ≡ some (rider_seat r))
+    → IsStanding room.cells words h.master.offsets ((parted views id (rider_seat r) at).front ++ r ∷ (parted views id (rider_seat r) at).back)
+standing_at room words views id r h at =
     let p = parted views id (rider_seat r) at in
-    counted_from room.cells words h.master.offsets (p.front ++ r ∷ p.back) (subst (λ l. IsRuled room.cells words h.master.offsets l) p.before h.ruled)
+    standing_from room.cells words h.master.offsets (p.front ++ r ∷ p.back) (subst (λ l. IsRuled room.cells words h.master.offsets l) p.before h.ruled)
 
 module _ (room : Room) (slots : ℕ) (id : ℕ) where
   pub stores_allowed : (me : Me Nothing SeatView) (r : RiderView) (c v : ℕ) → me ≡ (rider_seat r, []) → c < room.cells
@@ -142,9 +141,9 @@ module _ (room : Room) (slots : ℕ) (id : ℕ) where
       (λ s h homes at bound.
       let x = slice_index s.words i in
       let q = with_loaded which x r in
-      let found : (last : OffsetWords) (riders : List RiderView) → IsCounted room.cells s.words last riders → x ≡ offset_of which last =
+      let found : (last : OffsetWords) (riders : List RiderView) → IsStanding room.cells s.words last riders → x ≡ offset_of which last =
       λ last riders k. ap (slice_index s.words) place ∙ found_offset which room.cells s.words last riders k in
-      let now = counted_at room s.words s.views id r h at in
+      let now = standing_at room s.words s.views id r h at in
       let p = parted s.views id (rider_seat r) at in
       let below = (every_back (Below h.master.offsets) p.front (r ∷ p.back) now.offset).0 in (
         rider_seat q,
@@ -180,7 +179,7 @@ module _ (room : Room) where
           let mine : h.master ≡ seat_of last [] = sym (some-injective v h.master h.seat) ∙ same in
           let flat : riders_in (v ∷ views) ≡ riders_in views = ap (λ (u : SeatView). u.riders ++ riders_in views) same in
           let ruled = subst (λ l. IsRuled room.cells words last l) flat (subst (λ (u : SeatView). IsRuled room.cells words u.offsets (riders_in (v ∷ views))) mine h.ruled) in
-          let now = ruled_from room.cells (set words (place_of which room.cells) x) (with_offset which x last) (riders_in views) (after_set which room.cells words last (riders_in views) x h.width le (counted_from room.cells words last (riders_in views) ruled)) in
+          let now = ruled_from room.cells (set words (place_of which room.cells) x) (with_offset which x last) (riders_in views) (after_set which room.cells words last (riders_in views) x h.width le (standing_from room.cells words last (riders_in views) ruled)) in
           record {
             master = seat_of (with_offset which x last) [];
             seat = refl;
@@ -220,7 +219,7 @@ module _ (room : Room) where
               let mine : h.master ≡ seat_of last (r ∷ rs) = sym (some-injective u h.master h.seat) ∙ same in
               let ruled : IsRuled room.cells words last (r ∷ (rs ++ riders_in us)) = subst (λ l. IsRuled room.cells words last l) old (subst (λ (x : SeatView). IsRuled room.cells words x.offsets (riders_in (u ∷ us))) mine h.ruled) in
               let full : IsRuled room.cells words last (r ∷ ((rs ++ riders_in us) ++ [])) = subst (λ l. IsRuled room.cells words last (r ∷ l)) (sym (append-nil (rs ++ riders_in us))) ruled in
-              let now = ruled_from room.cells words last ((rs ++ riders_in us) ++ r ∷ []) (from_front (rs ++ riders_in us) r [] room.cells words last (counted_from room.cells words last (r ∷ ((rs ++ riders_in us) ++ [])) full)) in
+              let now = ruled_from room.cells words last ((rs ++ riders_in us) ++ r ∷ []) (from_front (rs ++ riders_in us) r [] room.cells words last (standing_from room.cells words last (r ∷ ((rs ++ riders_in us) ++ [])) full)) in
               record {
                 master = seat_of last rs;
                 seat = refl;
@@ -247,7 +246,7 @@ module _ (room : Room) where
           let flat : r ∷ (v.riders ++ riders_in (set us k spent_seat)) ≡ r ∷ ((v.riders ++ p.front) ++ p.back) = ap (λ l. r ∷ l) (ap (λ l. v.riders ++ l) gone ∙ sym (append_assoc v.riders p.front p.back)) in
           let mine : h.master ≡ v = sym (some-injective u h.master h.seat) ∙ same in
           let ruled = subst (λ l. IsRuled room.cells words v.offsets l) old (subst (λ (x : SeatView). IsRuled room.cells words x.offsets (riders_in (u ∷ us))) mine h.ruled) in
-          let now = ruled_from room.cells words v.offsets (r ∷ ((v.riders ++ p.front) ++ p.back)) (to_front (v.riders ++ p.front) r p.back room.cells words v.offsets (counted_from room.cells words v.offsets ((v.riders ++ p.front) ++ r ∷ p.back) ruled)) in
+          let now = ruled_from room.cells words v.offsets (r ∷ ((v.riders ++ p.front) ++ p.back)) (to_front (v.riders ++ p.front) r p.back room.cells words v.offsets (standing_from room.cells words v.offsets ((v.riders ++ p.front) ++ r ∷ p.back) ruled)) in
           record {
             master = joined_seat v (rider_seat r);
             seat = refl;
@@ -285,7 +284,7 @@ module _ (room : Room) where
         seat = refl;
         width = length-replicate (room.cells + 19) 0;
         count = ap length flat ∙ length-replicate room.riders unused;
-        ruled = subst (λ l. IsRuled room.cells (replicate (room.cells + 19) 0) no_offsets l) (sym flat) (ruled_from room.cells (replicate (room.cells + 19) 0) no_offsets (replicate room.riders unused) counted);
+        ruled = subst (λ l. IsRuled room.cells (replicate (room.cells + 19) 0) no_offsets l) (sym flat) (ruled_from room.cells (replicate (room.cells + 19) 0) no_offsets (replicate room.riders unused) standing);
       }
     where
       flat : replicate room.riders unused ++ [] ≡ replicate room.riders unused
@@ -300,10 +299,25 @@ module _ (room : Room) where
       each P p zero = tt
       each P p (suc n) = (p, each P p n)
 
-      counted : IsCounted room.cells (replicate (room.cells + 19) 0) no_offsets (replicate room.riders unused)
-      counted = record {
-        cell = λ c less. inl (zeros (room.cells + 19) c, each (λ r. last_store c r.touches ≡ None) refl room.riders);
-        load = each (λ r. IsLawful (More (replicate room.riders unused) r) r.touches) tt room.riders;
+      untouched : (n i : ℕ) (r : RiderView) → slice_get (replicate n unused) i ≡ Some r → r.touches ≡ []
+      untouched zero i r e = absurd cc
+      untouched (suc n) zero r e = let is : unused ≡ r = cc e in sym (ap (λ (x : RiderView). x.touches) is)
+      untouched (suc n) (suc i) r e = untouched n i r e
+
+      order : HasOneOrder room.cells (replicate (room.cells + 19) 0) (replicate room.riders unused)
+      order = (
+        [],
+        record {
+          serial = tt;
+          each = λ i r e. untouched room.riders i r e;
+          theirs = tt;
+          last = λ c less. zeros (room.cells + 19) c;
+        },
+      )
+
+      standing : IsStanding room.cells (replicate (room.cells + 19) 0) no_offsets (replicate room.riders unused)
+      standing = record {
+        order = order;
         read_only = zeros (room.cells + 19) (room.cells + 8);
         head = zeros (room.cells + 19) (room.cells + 9);
         ended = zeros (room.cells + 19) (room.cells + 10);

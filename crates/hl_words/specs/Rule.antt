@@ -1,6 +1,6 @@
 -- The rule that cells, the master's words, its stores of these, and the riders' stores and loads meet between
 -- any two steps.
-use Rattle.std.specs.Prelude.{ℕ, ◌≡◌, ◌≢◌, ◌+◌, ◌<◌, ◌≤◌, ◌==◌, ◌⊎◌, if◌then◌else◌, List, [], ◌∷◌, Option, Some, None, slice_get, slice_index, AllPairs}
+use Rattle.std.specs.Prelude.{ℕ, ◌≡◌, ◌≢◌, ◌+◌, ◌<◌, ◌≤◌, ◌==◌, ◌⊎◌, if◌then◌else◌, List, [], ◌∷◌, length, Option, Some, None, slice_get, slice_index, AllPairs}
 use Rattle.std.specs.List.{AllByRecursion, Contains}
 use Rattle.hl_model.specs.Lists.{greatest}
 use Rattle.hl_words.specs.declared.view.Touch.{Touch}
@@ -61,6 +61,57 @@ abbrev pub IsCell : List RiderView → ℕ → ℕ → Type 0
 IsCell riders c w = ((w ≡ 0) × EachRider (λ i r. last_store c r.touches ≡ None) riders)
     ⊎ SomeRider (λ i r. last_store c r.touches ≡ Some w) riders
 
+-- a touch of a cell, and the number of the rider whose it is
+pub record TouchBy : Type 0 where
+  pub rider : ℕ
+  pub touch : Touch
+
+-- the i-th rider's touch
+abbrev pub by_rider : ℕ → Touch → TouchBy
+by_rider i touch = record { rider = i; touch = touch }
+
+-- what the cell holds after this touch, if it held w before it
+abbrev pub left_by : ℕ → Touch → ℕ → ℕ
+left_by c (Stored d v) w = if d == c then v else w
+left_by c (Loaded d v) w = w
+left_by c (Changed d found v) w = if d == c then v else w
+
+-- what the cell holds after these touches, and 0 before any; the newest stands first
+abbrev pub held : ℕ → List TouchBy → ℕ
+held c [] = 0
+held c (t ∷ before) = left_by c t.touch (held c before)
+
+-- what the touch found in its cell is what the cell held after those before it
+abbrev pub Finds : List TouchBy → Touch → Type 0
+Finds before (Stored d v) = Unit {0}
+Finds before (Loaded d v) = v ≡ held d before
+Finds before (Changed d found v) = found ≡ held d before
+
+-- each load and each change of the list found so
+abbrev pub IsSerial : List TouchBy → Type 0
+IsSerial [] = Unit {0}
+IsSerial (t ∷ before) = Finds before t.touch × IsSerial before
+
+-- the touches of the i-th rider
+abbrev pub touches_of : ℕ → List TouchBy → List Touch
+touches_of i [] = []
+touches_of i (t ∷ before) =
+    if t.rider == i then t.touch ∷ touches_of i before else touches_of i before
+
+-- One order of all touches of cells: each load and each change found what the newest store before it left; of
+-- each rider it has just that rider's touches, in the rider's order, and no other touch; and each cell holds what
+-- the newest store there left
+pub record IsOneOrder (cells : ℕ) (words : List ℕ) (riders : List RiderView)
+    (order : List TouchBy) : Type 0 where
+  pub serial : IsSerial order
+  pub each : EachRider (λ i r. r.touches ≡ touches_of i order) riders
+  pub theirs : AllByRecursion (λ t. t.rider < length riders) order
+  pub last : (c : ℕ) → c < cells → slice_index words c ≡ held c order
+
+-- there is one
+abbrev pub HasOneOrder : ℕ → List ℕ → List RiderView → Type 0
+HasOneOrder cells words riders = (order : List TouchBy) × IsOneOrder cells words riders order
+
 -- no store of such a word is below an earlier one
 abbrev pub NeverFalls : List ℕ → Type 0
 NeverFalls stores = AllPairs (λ later earlier. earlier ≤ later) stores
@@ -70,10 +121,12 @@ abbrev pub AreLoads : List ℕ → List ℕ → Type 0
 AreLoads stores loads = (greatest (λ x. x) loads ≤ newest stores)
     × AllByRecursion (λ x. (x ≡ 0) ⊎ Contains stores x) loads
 
--- The rule on words, the master's stores and the riders' views: first the cells, then the read-only word, the
--- head word and that of the last epoch that ended
+-- The rule on words, the master's stores and the riders' views: first the cells, of which the one order says
+-- all and the two clauses below it what follows for each cell and each rider; then the read-only word, the head
+-- word and that of the last epoch that ended
 pub record IsRuled (cells : ℕ) (words : List ℕ) (stores : OffsetWords)
     (riders : List RiderView) : Type 0 where
+  pub order : HasOneOrder cells words riders
   pub cell : (c : ℕ) → c < cells → IsCell riders c (slice_index words c)
   pub load : EachRider (λ i r. IsLawful (IsElsewhere riders i) r.touches) riders
   pub read_only : slice_index words (cells + 8) ≡ newest stores.read_only

@@ -22,22 +22,27 @@
 //! - a **realm**: nothing by itself. It names one seed in types, so that a rider, a master and words of one realm belong
 //!   together. Code that opens a seed is a function over `L: Realm`, and is called with `Brand`.
 //!
-//! The rule, in `specs/Rule.antt`, holds between any two steps: a cell is 0 if no rider stored into it, else it is some
-//! rider's last store there; a load is of the rider's last store before it, or of a value that another rider stores, or
-//! of 0 if the rider had seen nothing else there; a word of the master's is its last store and never falls, and each
-//! that a rider loaded is one of the master's stores, or 0, and at most the last. `close` says it of exactly what the
-//! riders stored and loaded that are handed in, and of what the words hold then, which `LastWords` tells. What a change
-//! found counts as a load, and what it left as a store.
+//! The rule, in `specs/Rule.antt`, holds between any two steps. All riders' touches of cells have one order, the same
+//! for all cells: each load, and each change in one step, found what the newest store before it in the order left there,
+//! or 0 before any; of each rider the order has just that rider's touches, in the rider's order; and a cell holds what
+//! the newest store left. So a cell is 0 if no rider stored into it, else it is some rider's last store there, and a load
+//! is of the rider's last store before it, or of a value that another rider stores, or of 0 if the rider had seen nothing
+//! else there. A word of the master's is its last store and never falls, and each that a rider loaded is one of the
+//! master's stores, or 0, and at most the last. `close` says it of exactly what the riders stored and loaded that are
+//! handed in, and of what the words hold then, which `LastWords` tells. What a change found counts as a load, and what it
+//! left as a store. `laws` has what follows: no add is lost, and no rider's loads of a cell go back.
 //!
 //! Only the types keep the following, and no contract says it: that the rule holds while threads still run (the contract
 //! of one load says just that the rider noted it); that a rider is used by one thread at a time; that values of two
 //! seeds, whose types differ, are never mixed; that words may be shared by threads, and that a rider may go to another.
-//! Nothing is said of the order of two threads' stores into one cell, nor that a load finds the latest.
+//! Nothing is said of when a touch takes its place in the order, nor of the order of a rider's touches of cells beside its
+//! loads of the master's words.
 //!
 //! No call waits. Memory is taken by `Seed::make`, `Words::open` and `Words::open_with_scribe` alone.
 #![tactic(auto)]
 
 mod last;
+pub mod laws;
 mod master;
 mod rider;
 mod rule;
@@ -49,7 +54,7 @@ mod words;
 pub use last::LastWords;
 pub use master::Master;
 pub use rider::Rider;
-pub use seed::{HistoryOf, Realm, Scribe, Seed};
+pub use seed::{HistoryOf, Realm, Scribe, Seed, Seen};
 pub use view::{OffsetWords, RiderView, Touch};
 pub use which::Which;
 pub use words::Words;

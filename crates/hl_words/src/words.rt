@@ -2,7 +2,7 @@ ghost use Rattle.std.specs.Prelude.{◌≡◌, ◌≢◌, ◌==◌, ◌+◌, ◌
 ghost use Rattle.std.specs.Option.{IfSome};
 ghost use Rattle.std.specs.List.{sum_by};
 ghost use Rattle.hl_model.specs.declared.fault.Fault.TheVariants.{OutOfMemory};
-ghost use Rattle.hl_history.specs.Lists.{entry, IsOf, IsOneList};
+ghost use Rattle.hl_history.specs.Lists.{Begins, entry, known_to, told_of, IsOf, IsOneList};
 ghost use Rattle.hl_words.specs.Views.{no_offsets, offset_of, greatest_of, with_offset, stored, loaded, added, exchanged, with_loaded};
 ghost use Rattle.hl_words.specs.Rule.{IsRuled};
 ghost use Rattle.hl_words.specs.States.{IsSeedOf, IsMasterSeat, new_rider, with_view, with_call, with_diaries, with_no_diaries};
@@ -14,7 +14,7 @@ use crate::rule::{
     AddCell, Deal, ExchangeCell, LoadCell, LoadEnded, LoadHead, LoadReadOnly, StoreCell,
     StoreEnded, StoreHead, StoreReadOnly,
 };
-use crate::seed::{HistoryOf, Realm, Scribe, Seed, WordSeat, WordTable};
+use crate::seed::{HistoryOf, Realm, Scribe, Seed, Seen, WordSeat, WordTable};
 use crate::view::Room;
 use crate::which::{ENDED_AT, HEAD_AT, READ_ONLY_AT, Which};
 use hl_history::{Diary, Gathered, History};
@@ -139,8 +139,8 @@ impl<L: Realm> Words<L> {
     }
 
     /// Adds a number to a cell, modulo 2^64, in one step: no store of another rider comes between its
-    /// load and its store. Returns what it found. The rider's view has the change; that what it found
-    /// is lawful is what `close` tells.
+    /// load and its store. Returns what it found. The rider's view has the change; that it found what the
+    /// newest store before it left is what `close` tells, so that no add is lost.
     pub fn fetch_add_cell(&self, rider: &mut Rider<L>, cell: u64, more: u64) -> u64
         requires { cell < self.now.cells }
         ensures { rider.new ≡ with_view (added cell more result rider.old.view) rider.old }
@@ -205,6 +205,30 @@ impl<L: Realm> Words<L> {
         ensures rises { IsOf scribe.old rider.old.calls }
     {
         self.history.enter(scribe, &mut rider.diary, steps);
+    }
+
+    /// A witness that the list begins with what the rider's newest call left.
+    pub fn witness(&self, rider: &mut Rider<L>) -> Seen<L>
+        ensures seen { result ≡ known_to rider.old.calls }
+        ensures same { rider.new ≡ rider.old }
+    {
+        self.history.witness(&mut rider.diary)
+    }
+
+    /// Another witness of the same.
+    pub fn again(&self, seen: &mut Seen<L>) -> Seen<L>
+        ensures copy { result ≡ seen.old }
+        ensures same { seen.new ≡ seen.old }
+    {
+        self.history.again(seen)
+    }
+
+    /// Tells a rider what a witness has seen: its newest call then notes it, as one that put nothing behind the list.
+    pub fn tell(&self, rider: &mut Rider<L>, seen: Seen<L>)
+        ensures rider { rider.new ≡ with_call (told_of seen rider.old.calls) rider.old }
+        ensures begins { Begins seen (known_to rider.new.calls) }
+    {
+        self.history.tell(&mut rider.diary, seen);
     }
 
     /// Ends the words, and tells what each one holds. If a rider is missing, all is handed back. Else

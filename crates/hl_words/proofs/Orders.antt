@@ -1,0 +1,366 @@
+-- The one order of all touches: what one touch more makes of it, that riders may change places in it, and that the clauses on each cell and each rider follow from it.
+use Rattle.std.proofs.Common.{◌≡◌, ◌≢◌, ℕ, zero, suc, ◌+◌, ◌<◌, ◌==◌, ◌⊎◌, Bool, true, false, List, [], ◌∷◌, ◌++◌, length, set, Some, None, slice_get, refl, ap, sym, ◌∙◌, inl, inr, ⊎_elim, subst, arith, length-append}
+use Rattle.std.specs.Prelude.{if◌then◌else◌, slice_index}
+use Rattle.std.specs.List.{AllByRecursion as Every}
+use Rattle.std.proofs.lemmas.Bool.{eq-eqb, ne_eqb, eqb-true, eqb-false, cases_eq}
+use Rattle.std.proofs.lemmas.List.{get_or-set_same, get_or-set_other}
+use Rattle.hl_words.specs.declared.view.Touch.{Touch}
+use Rattle.hl_words.specs.declared.view.Touch.TheVariants.{Stored, Loaded, Changed}
+use Rattle.hl_words.specs.declared.view.RiderView.{RiderView}
+use Rattle.hl_words.specs.Rule.{last_store, IsQuiet, HasStore, EachRider, IsElsewhere, IsFound, IsLawful, IsCell, TouchBy, by_rider, left_by, held, Finds, IsSerial, touches_of, HasOneOrder}
+use Rattle.hl_words.proofs.Cut.{every_weaker}
+
+module _ {X : Type 0} where
+  -- a place below the length has an element
+  pub there : (xs : List X) (i : ℕ) → i < length xs → (x : X) × (slice_get xs i ≡ Some x)
+  there [] i less = absurd (omega arith)
+  there (x ∷ xs) zero less = (x, refl)
+  there (x ∷ xs) (suc i) less = there xs i (omega arith)
+
+  -- and a place that has one is below it
+  pub within : (xs : List X) (i : ℕ) (x : X) → slice_get xs i ≡ Some x → i < length xs
+  within [] i x e = absurd cc
+  within (y ∷ ys) zero x e = omega arith
+  within (y ∷ ys) (suc i) x e = omega (arith, within ys i x e)
+
+  -- the place in the middle
+  pub at_place : (front : List X) (r : X) (back : List X) → slice_get (front ++ r ∷ back) (length front) ≡ Some r
+  at_place [] r back = refl
+  at_place (x ∷ front) r back = at_place front r back
+
+  -- the other places don't tell what stands there
+  elsewhere_same : (front : List X) (r q : X) (back : List X) (i : ℕ) → i ≢ length front → slice_get (front ++ q ∷ back) i ≡ slice_get (front ++ r ∷ back) i
+  elsewhere_same [] r q back zero apart = absurd (apart refl)
+  elsewhere_same [] r q back (suc i) apart = refl
+  elsewhere_same (x ∷ front) r q back zero apart = refl
+  elsewhere_same (x ∷ front) r q back (suc i) apart = elsewhere_same front r q back i (λ e. apart (ap suc e))
+
+-- one touch more is its rider's, and no other's
+pub own_more : (i : ℕ) (t : Touch) (order : List TouchBy) → touches_of i (by_rider i t ∷ order) ≡ t ∷ touches_of i order
+own_more i t order = ap (λ (b : Bool). if b then t ∷ touches_of i order else touches_of i order) (eq-eqb i i refl)
+
+pub other_more : (i j : ℕ) (t : Touch) (order : List TouchBy) → j ≢ i → touches_of i (by_rider j t ∷ order) ≡ touches_of i order
+other_more i j t order apart = ap (λ (b : Bool). if b then t ∷ touches_of i order else touches_of i order) (ne_eqb j i apart)
+
+-- the lists of all riders, where the one in the middle changes
+each_middle : (front : List RiderView) (r q : RiderView) (back : List RiderView) (own now : ℕ → List Touch) → EachRider (λ i x. x.touches ≡ own i) (front ++ r ∷ back)
+    → q.touches ≡ now (length front) → ((i : ℕ) → i ≢ length front → now i ≡ own i) → EachRider (λ i x. x.touches ≡ now i) (front ++ q ∷ back)
+each_middle front r q back own now old mine others i p e =
+    ⊎_elim
+    (λ (same : i ≡ length front).
+    let at : slice_get (front ++ q ∷ back) (length front) ≡ Some p = subst (λ (k : ℕ). slice_get (front ++ q ∷ back) k ≡ Some p) same e in
+    let both : Some q ≡ Some p = sym (at_place front q back) ∙ at in
+    let is : q ≡ p = cc both in
+    ap (λ (x : RiderView). x.touches) (sym is) ∙ mine ∙ ap now (sym same))
+    (λ (apart : i ≢ length front). old i p (sym (elsewhere_same front r q back i apart) ∙ e) ∙ sym (others i apart))
+    (cases_eq i (length front))
+
+-- a rider takes one touch more
+pub order_more : (cells : ℕ) (words after : List ℕ) (front : List RiderView) (r q : RiderView) (back : List RiderView) (t : Touch) → q.touches ≡ t ∷ r.touches → (h : HasOneOrder cells words (front ++ r ∷ back))
+    → Finds h.0 t → ((c : ℕ) → c < cells → slice_index after c ≡ left_by c t (held c h.0)) → HasOneOrder cells after (front ++ q ∷ back)
+order_more cells words after front r q back t same h finds last =
+    let n = length front in (
+      by_rider n t ∷ h.0,
+      record {
+        serial = (finds, h.1.serial);
+        each = each_middle front r q back (λ i. touches_of i h.0) (λ i. touches_of i (by_rider n t ∷ h.0)) h.1.each
+            (same ∙ ap (λ (l : List Touch). t ∷ l) (h.1.each n r (at_place front r back)) ∙ sym (own_more n t h.0))
+            (λ i apart. other_more i n t h.0 (λ e. apart (sym e)));
+        theirs = (
+          within (front ++ q ∷ back) n q (at_place front q back),
+          every_weaker (λ (s : TouchBy). s.rider < length (front ++ r ∷ back)) (λ (s : TouchBy). s.rider < length (front ++ q ∷ back)) h.0
+              (λ s less. omega (arith, less, length-append front (r ∷ back), length-append front (q ∷ back))) h.1.theirs,
+        );
+        last = last;
+      },
+    )
+
+-- a rider takes none, and no cell changes
+pub order_same : (cells : ℕ) (words after : List ℕ) (front : List RiderView) (r q : RiderView) (back : List RiderView) → q.touches ≡ r.touches → ((c : ℕ) → c < cells → slice_index after c ≡ slice_index words c)
+    → HasOneOrder cells words (front ++ r ∷ back) → HasOneOrder cells after (front ++ q ∷ back)
+order_same cells words after front r q back same keeps h = (
+  h.0,
+  record {
+    serial = h.1.serial;
+    each = each_middle front r q back (λ i. touches_of i h.0) (λ i. touches_of i h.0) h.1.each (same ∙ h.1.each (length front) r (at_place front r back)) (λ i apart. refl);
+    theirs = every_weaker (λ (s : TouchBy). s.rider < length (front ++ r ∷ back)) (λ (s : TouchBy). s.rider < length (front ++ q ∷ back)) h.0
+        (λ s less. omega (arith, less, length-append front (r ∷ back), length-append front (q ∷ back))) h.1.theirs;
+    last = λ c less. keeps c less ∙ h.1.last c less;
+  },
+)
+
+-- what the cells hold after a store into one of them
+pub put_last : (cells : ℕ) (words : List ℕ) (c v : ℕ) → c < cells → length words ≡ cells + 19 → (order : List TouchBy) → ((d : ℕ) → d < cells → slice_index words d ≡ held d order)
+    → (d : ℕ) → d < cells → slice_index (set words c v) d ≡ (if c == d then v else held d order)
+put_last cells words c v less width order last d below =
+    ⊎_elim
+    (λ (same : c ≡ d). ap (slice_index (set words c v)) (sym same) ∙ get_or-set_same words c v 0 (omega arith) ∙ ap (λ (b : Bool). if b then v else held d order) (sym (eq-eqb c d same)))
+    (λ (apart : c ≢ d). get_or-set_other words c d v 0 (λ e. apart (sym e)) ∙ last d below ∙ ap (λ (b : Bool). if b then v else held d order) (sym (ne_eqb c d apart)))
+    (cases_eq c d)
+
+-- the riders by other numbers
+abbrev renamed : (ℕ → ℕ) → List TouchBy → List TouchBy
+renamed f [] = []
+renamed f (t ∷ before) = by_rider (f t.rider) t.touch ∷ renamed f before
+
+held_renamed : (f : ℕ → ℕ) (c : ℕ) (order : List TouchBy) → held c (renamed f order) ≡ held c order
+held_renamed f c [] = refl
+held_renamed f c (t ∷ before) = ap (left_by c t.touch) (held_renamed f c before)
+
+finds_renamed : (f : ℕ → ℕ) (before : List TouchBy) (t : Touch) → Finds before t → Finds (renamed f before) t
+finds_renamed f before (Stored d v) h = tt
+finds_renamed f before (Loaded d v) h = h ∙ sym (held_renamed f d before)
+finds_renamed f before (Changed d w v) h = h ∙ sym (held_renamed f d before)
+
+serial_renamed : (f : ℕ → ℕ) (order : List TouchBy) → IsSerial order → IsSerial (renamed f order)
+serial_renamed f [] h = tt
+serial_renamed f (t ∷ before) h = (finds_renamed f before t.touch h.0, serial_renamed f before h.1)
+
+own_renamed : (f g : ℕ → ℕ) → ((k : ℕ) → g (f k) ≡ k) → ((k : ℕ) → f (g k) ≡ k) → (j : ℕ) (order : List TouchBy) → touches_of j (renamed f order) ≡ touches_of (g j) order
+own_renamed f g back forth j [] = refl
+own_renamed f g back forth j (t ∷ before) = by (own_renamed f g back forth j before)
+  where
+    tests : (f t.rider == j) ≡ (t.rider == g j)
+    tests = ⊎_elim
+        (λ (same : f t.rider ≡ j). eq-eqb (f t.rider) j same ∙ sym (eq-eqb t.rider (g j) (sym (back t.rider) ∙ ap g same)))
+        (λ (apart : f t.rider ≢ j). ne_eqb (f t.rider) j apart ∙ sym (ne_eqb t.rider (g j) (λ e. apart (ap f e ∙ forth j))))
+        (cases_eq (f t.rider) j)
+
+    by : touches_of j (renamed f before) ≡ touches_of (g j) before → touches_of j (renamed f (t ∷ before)) ≡ touches_of (g j) (t ∷ before)
+    by rest = ap (λ (l : List Touch). if f t.rider == j then t.touch ∷ l else l) rest ∙ ap (λ (b : Bool). if b then t.touch ∷ touches_of (g j) before else touches_of (g j) before) tests
+
+theirs_renamed : (f g : ℕ → ℕ) (riders after : List RiderView) → ((k : ℕ) → g (f k) ≡ k) → ((j : ℕ) → slice_get after j ≡ slice_get riders (g j)) → (order : List TouchBy)
+    → Every (λ (t : TouchBy). t.rider < length riders) order → Every (λ (t : TouchBy). t.rider < length after) (renamed f order)
+theirs_renamed f g riders after back same [] e = tt
+theirs_renamed f g riders after back same (t ∷ before) e =
+    let s = there riders t.rider e.0 in
+    (within after (f t.rider) s.0 (same (f t.rider) ∙ ap (slice_get riders) (back t.rider) ∙ s.1), theirs_renamed f g riders after back same before e.1)
+
+order_renamed : (cells : ℕ) (words : List ℕ) (riders after : List RiderView) (f g : ℕ → ℕ) → ((k : ℕ) → g (f k) ≡ k) → ((k : ℕ) → f (g k) ≡ k) → ((j : ℕ) → slice_get after j ≡ slice_get riders (g j))
+    → HasOneOrder cells words riders → HasOneOrder cells words after
+order_renamed cells words riders after f g back forth same h = (
+  renamed f h.0,
+  record {
+    serial = serial_renamed f h.0 h.1.serial;
+    each = λ j r e. h.1.each (g j) r (sym (same j) ∙ e) ∙ sym (own_renamed f g back forth j h.0);
+    theirs = theirs_renamed f g riders after back same h.0 h.1.theirs;
+    last = λ c less. h.1.last c less ∙ sym (held_renamed f c h.0);
+  },
+)
+
+-- the numbers where one goes to the front past n others: `ahead` of what was, `behind` of what is
+abbrev swapped : ℕ → ℕ
+swapped zero = suc zero
+swapped (suc zero) = zero
+swapped (suc (suc k)) = suc (suc k)
+
+abbrev but_first : (ℕ → ℕ) → ℕ → ℕ
+but_first f zero = zero
+but_first f (suc k) = suc (f k)
+
+abbrev ahead : ℕ → ℕ → ℕ
+ahead zero k = k
+ahead (suc n) k = swapped (but_first (ahead n) k)
+
+abbrev behind : ℕ → ℕ → ℕ
+behind zero k = k
+behind (suc n) k = but_first (behind n) (swapped k)
+
+swapped_twice : (k : ℕ) → swapped (swapped k) ≡ k
+swapped_twice zero = refl
+swapped_twice (suc zero) = refl
+swapped_twice (suc (suc k)) = refl
+
+but_first_back : (f g : ℕ → ℕ) → ((k : ℕ) → g (f k) ≡ k) → (k : ℕ) → but_first g (but_first f k) ≡ k
+but_first_back f g h zero = refl
+but_first_back f g h (suc k) = ap suc (h k)
+
+ahead_behind : (n k : ℕ) → ahead n (behind n k) ≡ k
+ahead_behind zero k = refl
+ahead_behind (suc n) k = ap swapped (but_first_back (behind n) (ahead n) (ahead_behind n) (swapped k)) ∙ swapped_twice k
+
+behind_ahead : (n k : ℕ) → behind n (ahead n k) ≡ k
+behind_ahead zero k = refl
+behind_ahead (suc n) k = ap (but_first (behind n)) (swapped_twice (but_first (ahead n) k)) ∙ but_first_back (ahead n) (behind n) (behind_ahead n) k
+
+moved_at : (front : List RiderView) (r : RiderView) (back : List RiderView) (j : ℕ) → slice_get (r ∷ (front ++ back)) j ≡ slice_get (front ++ r ∷ back) (behind (length front) j)
+moved_at [] r back j = refl
+moved_at (x ∷ front) r back zero = moved_at front r back zero
+moved_at (x ∷ front) r back (suc zero) = refl
+moved_at (x ∷ front) r back (suc (suc j)) = moved_at front r back (suc j)
+
+module _ (front : List RiderView) (r : RiderView) (back : List RiderView) (cells : ℕ) (words : List ℕ) where
+  -- one rider comes to the front
+  pub order_to_front : HasOneOrder cells words (front ++ r ∷ back) → HasOneOrder cells words (r ∷ (front ++ back))
+  order_to_front h =
+      let n = length front in
+      order_renamed cells words (front ++ r ∷ back) (r ∷ (front ++ back)) (ahead n) (behind n) (behind_ahead n) (ahead_behind n) (moved_at front r back) h
+
+  -- or goes from it
+  pub order_from_front : HasOneOrder cells words (r ∷ (front ++ back)) → HasOneOrder cells words (front ++ r ∷ back)
+  order_from_front h =
+      let n = length front in
+      order_renamed cells words (r ∷ (front ++ back)) (front ++ r ∷ back) (behind n) (ahead n) (ahead_behind n) (behind_ahead n)
+      (λ j. sym (moved_at front r back (ahead n j) ∙ ap (slice_get (front ++ r ∷ back)) (behind_ahead n j))) h
+
+-- a touch that stores into the cell, and one that does not
+record Puts (c : ℕ) (t : Touch) : Type 0 where
+  value : ℕ
+  leaves : (w : ℕ) → left_by c t w ≡ value
+  last : (l : List Touch) → last_store c (t ∷ l) ≡ Some value
+
+record Passes (c : ℕ) (t : Touch) : Type 0 where
+  leaves : (w : ℕ) → left_by c t w ≡ w
+  last : (l : List Touch) → last_store c (t ∷ l) ≡ last_store c l
+  quiet : (before : List TouchBy) (l : List Touch) → Finds before t → held c before ≡ 0 → IsQuiet c l → IsQuiet c (t ∷ l)
+
+puts_or_passes : (c : ℕ) (t : Touch) → Puts c t ⊎ Passes c t
+puts_or_passes c (Stored d v) = by (d == c) refl
+  where
+    by : (b : Bool) → (d == c) ≡ b → Puts c (Stored d v) ⊎ Passes c (Stored d v)
+    by true e = inl record {
+      value = v;
+      leaves = λ w. ap (λ (x : Bool). if x then v else w) e;
+      last = λ l. ap (λ (x : Bool). if x then Some v else last_store c l) e;
+    }
+    by false e = inr record {
+      leaves = λ w. ap (λ (x : Bool). if x then v else w) e;
+      last = λ l. ap (λ (x : Bool). if x then Some v else last_store c l) e;
+      quiet = λ before l f z q. (eqb-false d c e, q);
+    }
+puts_or_passes c (Loaded d v) = inr record {
+  leaves = λ w. refl;
+  last = λ l. refl;
+  quiet = λ before l f z q. ((λ (same : d ≡ c). f ∙ ap (λ (k : ℕ). held k before) same ∙ z), q);
+}
+puts_or_passes c (Changed d found v) = by (d == c) refl
+  where
+    by : (b : Bool) → (d == c) ≡ b → Puts c (Changed d found v) ⊎ Passes c (Changed d found v)
+    by true e = inl record {
+      value = v;
+      leaves = λ w. ap (λ (x : Bool). if x then v else w) e;
+      last = λ l. ap (λ (x : Bool). if x then Some v else last_store c l) e;
+    }
+    by false e = inr record {
+      leaves = λ w. ap (λ (x : Bool). if x then v else w) e;
+      last = λ l. ap (λ (x : Bool). if x then Some v else last_store c l) e;
+      quiet = λ before l f z q. (eqb-false d c e, q);
+    }
+
+-- no touch of the list stores into the cell
+record IsFresh (c : ℕ) (order : List TouchBy) : Type 0 where
+  nothing : held c order ≡ 0
+  none : (i : ℕ) → last_store c (touches_of i order) ≡ None
+  quiet : (i : ℕ) → IsQuiet c (touches_of i order)
+
+-- or this rider stored there last
+record IsNewest (c n : ℕ) (order : List TouchBy) : Type 0 where
+  rider : ℕ
+  less : rider < n
+  last : last_store c (touches_of rider order) ≡ Some (held c order)
+
+-- of a list that has the touch or not
+last_either : (c : ℕ) (t : Touch) (l : List Touch) → last_store c (t ∷ l) ≡ last_store c l → (b : Bool) → last_store c (if b then t ∷ l else l) ≡ last_store c l
+last_either c t l h true = h
+last_either c t l h false = refl
+
+quiet_either : (c : ℕ) (t : Touch) (l : List Touch) → (IsQuiet c l → IsQuiet c (t ∷ l)) → IsQuiet c l → (b : Bool) → IsQuiet c (if b then t ∷ l else l)
+quiet_either c t l f h true = f h
+quiet_either c t l f h false = h
+
+has_more : (c v : ℕ) (t : Touch) (l : List Touch) → HasStore c v l → HasStore c v (t ∷ l)
+has_more c v (Stored d w) l h = inr h
+has_more c v (Loaded d w) l h = h
+has_more c v (Changed d found w) l h = inr h
+
+has_either : (c v : ℕ) (t : Touch) (l : List Touch) → HasStore c v l → (b : Bool) → HasStore c v (if b then t ∷ l else l)
+has_either c v t l h true = has_more c v t l h
+has_either c v t l h false = h
+
+fresh_or_newest : (c n : ℕ) (order : List TouchBy) → IsSerial order → Every (λ (t : TouchBy). t.rider < n) order → IsFresh c order ⊎ IsNewest c n order
+fresh_or_newest c n [] h e = inl record { nothing = refl; none = λ i. refl; quiet = λ i. tt }
+fresh_or_newest c n (t ∷ before) h e = ⊎_elim puts (passes (fresh_or_newest c n before h.1 e.1)) (puts_or_passes c t.touch)
+  where
+    puts : Puts c t.touch → IsFresh c (t ∷ before) ⊎ IsNewest c n (t ∷ before)
+    puts p = inr record {
+      rider = t.rider;
+      less = e.0;
+      last = ap (last_store c) (own_more t.rider t.touch before) ∙ p.last (touches_of t.rider before) ∙ ap Some (sym (p.leaves (held c before)));
+    }
+
+    passes : IsFresh c before ⊎ IsNewest c n before → Passes c t.touch → IsFresh c (t ∷ before) ⊎ IsNewest c n (t ∷ before)
+    passes sooner p = ⊎_elim
+        (λ (z : IsFresh c before). inl record {
+          nothing = p.leaves (held c before) ∙ z.nothing;
+          none = λ i. last_either c t.touch (touches_of i before) (p.last (touches_of i before)) (t.rider == i) ∙ z.none i;
+          quiet = λ i. quiet_either c t.touch (touches_of i before) (p.quiet before (touches_of i before) h.0 z.nothing) (z.quiet i) (t.rider == i);
+        })
+        (λ (s : IsNewest c n before). inr record {
+          rider = s.rider;
+          less = s.less;
+          last = last_either c t.touch (touches_of s.rider before) (p.last (touches_of s.rider before)) (t.rider == s.rider) ∙ s.last ∙ ap Some (sym (p.leaves (held c before)));
+        })
+        sooner
+
+-- a last store is a store
+last_has : (c v : ℕ) (l : List Touch) → last_store c l ≡ Some v → HasStore c v l
+last_has c v [] e = absurd cc
+last_has c v (Stored d w ∷ before) e = by (d == c) refl e (last_has c v before)
+  where
+    by : (b : Bool) → (d == c) ≡ b → (if b then Some w else last_store c before) ≡ Some v → (last_store c before ≡ Some v → HasStore c v before) → ((d ≡ c) × (w ≡ v)) ⊎ HasStore c v before
+    by true same is rest = inl (eqb-true d c same, cc is)
+    by false same is rest = inr (rest is)
+last_has c v (Loaded d w ∷ before) e = last_has c v before e
+last_has c v (Changed d found w ∷ before) e = by (d == c) refl e (last_has c v before)
+  where
+    by : (b : Bool) → (d == c) ≡ b → (if b then Some w else last_store c before) ≡ Some v → (last_store c before ≡ Some v → HasStore c v before) → ((d ≡ c) × (w ≡ v)) ⊎ HasStore c v before
+    by true same is rest = inl (eqb-true d c same, cc is)
+    by false same is rest = inr (rest is)
+
+-- what stands in the cell before one of the rider's touches is lawful for it
+found_lawful : (E : ℕ → ℕ → Type 0) (i n : ℕ) (before : List TouchBy) → ((c v j : ℕ) → j ≢ i → j < n → HasStore c v (touches_of j before) → E c v) → IsSerial before → Every (λ (t : TouchBy). t.rider < n) before
+    → (d v : ℕ) → v ≡ held d before → IsFound E d v (touches_of i before)
+found_lawful E i n before there_too h e d v is =
+    ⊎_elim
+    (λ (z : IsFresh d before). inr (inr (is ∙ z.nothing, z.quiet i)))
+    (λ (s : IsNewest d n before).
+    let last : last_store d (touches_of s.rider before) ≡ Some v = s.last ∙ ap Some (sym is) in
+    ⊎_elim
+    (λ (same : s.rider ≡ i). inl (subst (λ (k : ℕ). last_store d (touches_of k before) ≡ Some v) same last))
+    (λ (apart : s.rider ≢ i). inr (inl (there_too d v s.rider apart s.less (last_has d v (touches_of s.rider before) last))))
+    (cases_eq s.rider i))
+    (fresh_or_newest d n before h e)
+
+own_lawful : (E : ℕ → ℕ → Type 0) (i n : ℕ) (order : List TouchBy) → ((c v j : ℕ) → j ≢ i → j < n → HasStore c v (touches_of j order) → E c v) → IsSerial order → Every (λ (t : TouchBy). t.rider < n) order → IsLawful E (touches_of i order)
+own_lawful E i n [] there_too h e = tt
+own_lawful E i n (t ∷ before) there_too h e = by (t.rider == i) t.touch h.0 (own_lawful E i n before sooner h.1 e.1)
+  where
+    sooner : (c v j : ℕ) → j ≢ i → j < n → HasStore c v (touches_of j before) → E c v
+    sooner c v j apart less s = there_too c v j apart less (has_either c v t.touch (touches_of j before) s (t.rider == j))
+
+    by : (b : Bool) (x : Touch) → Finds before x → IsLawful E (touches_of i before) → IsLawful E (if b then x ∷ touches_of i before else touches_of i before)
+    by false x f rest = rest
+    by true (Stored d v) f rest = rest
+    by true (Loaded d v) f rest = (found_lawful E i n before sooner h.1 e.1 d v f, rest)
+    by true (Changed d found v) f rest = (found_lawful E i n before sooner h.1 e.1 d found f, rest)
+
+module _ (cells : ℕ) (words : List ℕ) (riders : List RiderView) (h : HasOneOrder cells words riders) where
+  -- each cell is 0, or some rider's last store
+  pub cell_from : (c : ℕ) → c < cells → IsCell riders c (slice_index words c)
+  cell_from c below =
+      ⊎_elim
+      (λ (z : IsFresh c h.0). inl (h.1.last c below ∙ z.nothing, λ i r at. ap (last_store c) (h.1.each i r at) ∙ z.none i))
+      (λ (s : IsNewest c (length riders) h.0).
+      let one = there riders s.rider s.less in
+      inr (s.rider, one.0, one.1, ap (last_store c) (h.1.each s.rider one.0 one.1) ∙ s.last ∙ ap Some (sym (h.1.last c below))))
+      (fresh_or_newest c (length riders) h.0 h.1.serial h.1.theirs)
+
+  -- each rider's list is lawful
+  pub lawful_from : EachRider (λ i r. IsLawful (IsElsewhere riders i) r.touches) riders
+  lawful_from i r at =
+      subst (IsLawful (IsElsewhere riders i)) (sym (h.1.each i r at)) (own_lawful (IsElsewhere riders i) i (length riders) h.0 stands h.1.serial h.1.theirs)
+    where
+      stands : (c v j : ℕ) → j ≢ i → j < length riders → HasStore c v (touches_of j h.0) → IsElsewhere riders i c v
+      stands c v j apart less s =
+          let one = there riders j less in
+          (j, one.0, one.1, (apart, subst (HasStore c v) (sym (h.1.each j one.0 one.1)) s))

@@ -1,0 +1,233 @@
+-- The rule by the one order of all touches, from which the clauses on each cell and each rider follow, and what each step does to it.
+use Rattle.std.proofs.Common.{◌≡◌, ℕ, zero, suc, ◌+◌, ◌<◌, ◌≤◌, ◌⊎◌, List, [], ◌∷◌, ◌++◌, length, set, refl, sym, ◌∙◌, inl, inr, ⊎_elim, subst, arith}
+use Rattle.std.specs.Prelude.{slice_index}
+use Rattle.std.specs.List.{AllByRecursion as Every, Contains}
+use Rattle.hl_model.specs.Lists.{greatest}
+use Rattle.std.proofs.lemmas.List.{get_or-set_same, get_or-set_other}
+use Rattle.hl_words.specs.declared.view.Touch.TheVariants.{Stored, Loaded, Changed}
+use Rattle.hl_words.specs.declared.view.OffsetWords.{OffsetWords}
+use Rattle.hl_words.specs.declared.view.RiderView.{RiderView}
+use Rattle.hl_words.specs.declared.which.Which.{Which}
+use Rattle.hl_words.specs.declared.which.Which.TheVariants.{ReadOnly, Head, Ended}
+use Rattle.hl_words.specs.Views.{newest, offset_of, with_offset, place_of, touched, with_loaded}
+use Rattle.hl_words.specs.Rule.{HasOneOrder, NeverFalls, AreLoads, IsRuled}
+use Rattle.hl_words.proofs.Cut.{every_front, every_back, every_append, every_weaker, every_at, every_from}
+use Rattle.hl_words.proofs.Orders.{order_more, order_same, put_last, order_to_front, order_from_front, cell_from, lawful_from}
+
+-- what the rider loaded of the offset words are loads of these stores
+abbrev pub Below : OffsetWords → RiderView → Type 0
+Below last r = AreLoads last.read_only r.offsets.read_only × AreLoads last.head r.offsets.head × AreLoads last.ended r.offsets.ended
+
+-- the newest value of a word is 0 or one of its stores
+newest_stored : (stores : List ℕ) → (newest stores ≡ 0) ⊎ Contains stores (newest stores)
+newest_stored [] = inl refl
+newest_stored (x ∷ before) = inr (0, omega arith, refl)
+
+-- nothing was loaded or stored yet
+pub no_loads : AreLoads [] []
+unfolding greatest
+no_loads = (omega arith, tt)
+
+pub no_stores : NeverFalls []
+no_stores = λ i j d lt within. absurd (omega arith)
+
+-- one more load, of the newest value
+load_newest : (stores loads : List ℕ) (x : ℕ) → x ≡ newest stores → AreLoads stores loads → AreLoads stores (x ∷ loads)
+unfolding greatest
+load_newest stores loads x is h =
+    (omega (arith, is, h.0), (subst (λ v. (v ≡ 0) ⊎ Contains stores v) (sym is) (newest_stored stores), h.1))
+
+-- one more store, which isn't below the newest
+store_more : (stores loads : List ℕ) (x : ℕ) → newest stores ≤ x → AreLoads stores loads → AreLoads (x ∷ stores) loads
+store_more stores loads x le h = (
+  omega (arith, le, h.0),
+  every_weaker (λ v. (v ≡ 0) ⊎ Contains stores v) (λ v. (v ≡ 0) ⊎ Contains (x ∷ stores) v) loads
+      (λ v one. ⊎_elim (λ z. inl z) (λ s. inr (suc s.0, omega (arith, s.1), s.2)) one) h.1,
+)
+
+-- the word does not fall
+store_rises : (stores : List ℕ) (x : ℕ) → newest stores ≤ x → NeverFalls stores → NeverFalls (x ∷ stores)
+store_rises [] x le h i j d lt within = absurd (omega arith)
+store_rises (y ∷ before) x le h i zero d lt within = absurd (omega arith)
+store_rises (y ∷ before) x le h zero (suc zero) d lt within = le
+store_rises (y ∷ before) x le h zero (suc (suc j)) d lt within = omega (arith, le, h 0 (suc j) d (omega arith) (omega arith))
+store_rises (y ∷ before) x le h (suc i) (suc j) d lt within = h i j d (omega arith) (omega arith)
+
+pub record IsStanding (cells : ℕ) (words : List ℕ) (last : OffsetWords) (riders : List RiderView) : Type 0 where
+  pub order : HasOneOrder cells words riders
+  pub read_only : slice_index words (cells + 8) ≡ newest last.read_only
+  pub head : slice_index words (cells + 9) ≡ newest last.head
+  pub ended : slice_index words (cells + 10) ≡ newest last.ended
+  pub never_falls : NeverFalls last.read_only × NeverFalls last.head × NeverFalls last.ended
+  pub offset : Every (Below last) riders
+
+-- the two forms of the rule say the same
+pub standing_from : (cells : ℕ) (words : List ℕ) (last : OffsetWords) (riders : List RiderView) → IsRuled cells words last riders → IsStanding cells words last riders
+standing_from cells words last riders h =
+    record {
+      order = h.order;
+      read_only = h.read_only;
+      head = h.head;
+      ended = h.ended;
+      never_falls = h.never_falls;
+      offset = every_from (Below last) riders h.offset;
+    }
+
+pub ruled_from : (cells : ℕ) (words : List ℕ) (last : OffsetWords) (riders : List RiderView) → IsStanding cells words last riders → IsRuled cells words last riders
+ruled_from cells words last riders h =
+    record {
+      order = h.order;
+      cell = cell_from cells words riders h.order;
+      load = lawful_from cells words riders h.order;
+      read_only = h.read_only;
+      head = h.head;
+      ended = h.ended;
+      never_falls = h.never_falls;
+      offset = every_at (Below last) riders h.offset;
+    }
+
+module _ (front : List RiderView) (r : RiderView) (back : List RiderView) where
+  -- one rider comes to the front
+  pub to_front : (cells : ℕ) (words : List ℕ) (last : OffsetWords) → IsStanding cells words last (front ++ r ∷ back) → IsStanding cells words last (r ∷ front ++ back)
+  to_front cells words last h =
+      let b = every_back (Below last) front (r ∷ back) h.offset in
+      record {
+        order = order_to_front front r back cells words h.order;
+        read_only = h.read_only;
+        head = h.head;
+        ended = h.ended;
+        never_falls = h.never_falls;
+        offset = (b.0, every_append (Below last) front back (every_front (Below last) front (r ∷ back) h.offset) b.1);
+      }
+
+  -- or goes from it
+  pub from_front : (cells : ℕ) (words : List ℕ) (last : OffsetWords) → IsStanding cells words last (r ∷ front ++ back) → IsStanding cells words last (front ++ r ∷ back)
+  from_front cells words last h =
+      record {
+        order = order_from_front front r back cells words h.order;
+        read_only = h.read_only;
+        head = h.head;
+        ended = h.ended;
+        never_falls = h.never_falls;
+        offset = every_append (Below last) front (r ∷ back) (every_front (Below last) front back h.offset.1) (h.offset.0, every_back (Below last) front back h.offset.1);
+      }
+
+  -- the rider's view changes to q, and the words to `after`
+  changed : (cells : ℕ) (words after : List ℕ) (last : OffsetWords) (q : RiderView) → IsStanding cells words last (front ++ r ∷ back)
+      → HasOneOrder cells after (front ++ q ∷ back)
+      → (slice_index after (cells + 8) ≡ slice_index words (cells + 8)) → (slice_index after (cells + 9) ≡ slice_index words (cells + 9)) → (slice_index after (cells + 10) ≡ slice_index words (cells + 10))
+      → Below last q
+      → IsStanding cells after last (front ++ q ∷ back)
+  changed cells words after last q h order read_only head ended below =
+      record {
+        order = order;
+        read_only = read_only ∙ h.read_only;
+        head = head ∙ h.head;
+        ended = ended ∙ h.ended;
+        never_falls = h.never_falls;
+        offset = every_append (Below last) front (q ∷ back) (every_front (Below last) front (r ∷ back) h.offset) (below, (every_back (Below last) front (r ∷ back) h.offset).1);
+      }
+
+  -- a store into a cell
+  pub after_store : (cells : ℕ) (words : List ℕ) (last : OffsetWords) (c v : ℕ) → c < cells → length words ≡ cells + 19
+      → IsStanding cells words last (front ++ r ∷ back) → IsStanding cells (set words c v) last (front ++ touched (Stored c v) r ∷ back)
+  after_store cells words last c v less width h =
+      let q = touched (Stored c v) r in
+      changed cells words (set words c v) last q h
+      (order_more cells words (set words c v) front r q back (Stored c v) refl h.order tt (put_last cells words c v less width h.order.0 h.order.1.last))
+      (get_or-set_other words c (cells + 8) v 0 (λ e. omega arith))
+      (get_or-set_other words c (cells + 9) v 0 (λ e. omega arith))
+      (get_or-set_other words c (cells + 10) v 0 (λ e. omega arith))
+      (every_back (Below last) front (r ∷ back) h.offset).0
+
+  -- a cell found, and changed in the same step
+  pub after_change : (cells : ℕ) (words : List ℕ) (last : OffsetWords) (c v : ℕ) → c < cells → length words ≡ cells + 19
+      → IsStanding cells words last (front ++ r ∷ back) → IsStanding cells (set words c v) last (front ++ touched (Changed c (slice_index words c) v) r ∷ back)
+  after_change cells words last c v less width h =
+      let t = Changed c (slice_index words c) v in
+      let q = touched t r in
+      changed cells words (set words c v) last q h
+      (order_more cells words (set words c v) front r q back t refl h.order (h.order.1.last c less) (put_last cells words c v less width h.order.0 h.order.1.last))
+      (get_or-set_other words c (cells + 8) v 0 (λ e. omega arith))
+      (get_or-set_other words c (cells + 9) v 0 (λ e. omega arith))
+      (get_or-set_other words c (cells + 10) v 0 (λ e. omega arith))
+      (every_back (Below last) front (r ∷ back) h.offset).0
+
+  -- a load of a cell
+  pub after_load : (cells : ℕ) (words : List ℕ) (last : OffsetWords) (c : ℕ) → c < cells
+      → IsStanding cells words last (front ++ r ∷ back) → IsStanding cells words last (front ++ touched (Loaded c (slice_index words c)) r ∷ back)
+  after_load cells words last c less h =
+      let t = Loaded c (slice_index words c) in
+      let q = touched t r in
+      changed cells words words last q h
+      (order_more cells words words front r q back t refl h.order (h.order.1.last c less) h.order.1.last)
+      refl
+      refl
+      refl
+      (every_back (Below last) front (r ∷ back) h.offset).0
+
+  -- a load of an offset word
+  pub after_look : (cells : ℕ) (words : List ℕ) (last : OffsetWords) (which : Which) (x : ℕ) → x ≡ offset_of which last
+      → IsStanding cells words last (front ++ r ∷ back) → IsStanding cells words last (front ++ with_loaded which x r ∷ back)
+  after_look cells words last which x found h =
+      let q = with_loaded which x r in
+      changed cells words words last q h
+      (order_same cells words words front r q back refl (λ c less. refl) h.order)
+      refl
+      refl
+      refl
+      (below which found (every_back (Below last) front (r ∷ back) h.offset).0)
+    where
+      below : (which : Which) → x ≡ offset_of which last → Below last r → Below last (with_loaded which x r)
+      below ReadOnly e b = (load_newest last.read_only r.offsets.read_only x e b.0, b.1, b.2)
+      below Head e b = (b.0, load_newest last.head r.offsets.head x e b.1, b.2)
+      below Ended e b = (b.0, b.1, load_newest last.ended r.offsets.ended x e b.2)
+
+-- the cells stay where a word of the master's changes
+order_beside : (cells : ℕ) (words : List ℕ) (riders : List RiderView) (i x : ℕ) → cells ≤ i → HasOneOrder cells words riders → HasOneOrder cells (set words i x) riders
+order_beside cells words riders i x beside h = (
+  h.0,
+  record {
+    serial = h.1.serial;
+    each = h.1.each;
+    theirs = h.1.theirs;
+    last = λ c less. get_or-set_other words i c x 0 (λ e. omega arith) ∙ h.1.last c less;
+  },
+)
+
+-- an offset word is the master's newest store
+pub found_offset : (which : Which) (cells : ℕ) (words : List ℕ) (last : OffsetWords) (riders : List RiderView) → IsStanding cells words last riders → slice_index words (place_of which cells) ≡ offset_of which last
+found_offset ReadOnly cells words last riders h = h.read_only
+found_offset Head cells words last riders h = h.head
+found_offset Ended cells words last riders h = h.ended
+
+-- a store of an offset word that does not fall
+pub after_set : (which : Which) (cells : ℕ) (words : List ℕ) (last : OffsetWords) (riders : List RiderView) (x : ℕ) → length words ≡ cells + 19 → offset_of which last ≤ x
+    → IsStanding cells words last riders → IsStanding cells (set words (place_of which cells) x) (with_offset which x last) riders
+after_set ReadOnly cells words last riders x width le h =
+    record {
+      order = order_beside cells words riders (cells + 8) x (omega arith) h.order;
+      read_only = get_or-set_same words (cells + 8) x 0 (omega arith);
+      head = get_or-set_other words (cells + 8) (cells + 9) x 0 (λ e. omega arith) ∙ h.head;
+      ended = get_or-set_other words (cells + 8) (cells + 10) x 0 (λ e. omega arith) ∙ h.ended;
+      never_falls = (store_rises last.read_only x le h.never_falls.0, h.never_falls.1, h.never_falls.2);
+      offset = every_weaker (Below last) (Below (with_offset ReadOnly x last)) riders (λ r b. (store_more last.read_only r.offsets.read_only x le b.0, b.1, b.2)) h.offset;
+    }
+after_set Head cells words last riders x width le h =
+    record {
+      order = order_beside cells words riders (cells + 9) x (omega arith) h.order;
+      read_only = get_or-set_other words (cells + 9) (cells + 8) x 0 (λ e. omega arith) ∙ h.read_only;
+      head = get_or-set_same words (cells + 9) x 0 (omega arith);
+      ended = get_or-set_other words (cells + 9) (cells + 10) x 0 (λ e. omega arith) ∙ h.ended;
+      never_falls = (h.never_falls.0, store_rises last.head x le h.never_falls.1, h.never_falls.2);
+      offset = every_weaker (Below last) (Below (with_offset Head x last)) riders (λ r b. (b.0, store_more last.head r.offsets.head x le b.1, b.2)) h.offset;
+    }
+after_set Ended cells words last riders x width le h =
+    record {
+      order = order_beside cells words riders (cells + 10) x (omega arith) h.order;
+      read_only = get_or-set_other words (cells + 10) (cells + 8) x 0 (λ e. omega arith) ∙ h.read_only;
+      head = get_or-set_other words (cells + 10) (cells + 9) x 0 (λ e. omega arith) ∙ h.head;
+      ended = get_or-set_same words (cells + 10) x 0 (omega arith);
+      never_falls = (h.never_falls.0, h.never_falls.1, store_rises last.ended x le h.never_falls.2);
+      offset = every_weaker (Below last) (Below (with_offset Ended x last)) riders (λ r b. (b.0, b.1, store_more last.ended r.offsets.ended x le b.2)) h.offset;
+    }
