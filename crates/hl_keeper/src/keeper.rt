@@ -1,11 +1,13 @@
-ghost use Rattle.std.specs.Prelude.{◌≡◌, ◌≢◌, ◌*◌, ◌≤◌, List, [], length, map, replicate, IfOk, IfErr, OnOk};
-ghost use Rattle.std.specs.List.{sum_by};
+ghost use Rattle.std.specs.Prelude.{◌≡◌, ◌≢◌, ◌*◌, ◌≤◌, List, [], length, map, IfOk, IfErr, OnOk};
+ghost use Rattle.std.specs.List.{sum_by, AllByRecursion};
 ghost use Rattle.hl_model.specs.declared.fault.Fault.TheVariants.{OutOfMemory};
 ghost use Rattle.hl_model.specs.declared.step.Step.{Step as STEP};
 ghost use Rattle.hl_model.specs.Snapshots.{snapshot_of};
 ghost use Rattle.hl_history.specs.Lists.{IsOneList};
 ghost use Rattle.hl_words.specs.Rule.{IsRuled};
-ghost use Rattle.hl_words.specs.States.{IsSeedOf, new_rider};
+ghost use Rattle.hl_words.specs.Views.{called};
+ghost use Rattle.hl_words.specs.Seats.{IsKnown};
+ghost use Rattle.hl_words.specs.States.{IsSeedOf, new_riders, with_view};
 ghost use Rattle.hl_keeper.specs.Keepers.{KeeperStands, steps_most};
 
 use crate::ending::Ending;
@@ -14,7 +16,7 @@ use hl_action::{Kept, Promise, Task};
 use hl_core::Core;
 use hl_epoch::Epochs;
 use hl_model::{Fault, filled};
-use hl_words::{Master, Realm, Rider, Scribe, Seed, Words};
+use hl_words::{Master, Past, Realm, Rider, Scribe, Seed, Words};
 use std::alloc::Global;
 use std::marker::Model;
 
@@ -101,7 +103,7 @@ impl<E: Epochs + Drop, F: Task, P: Promise, L: Realm> Keeper<E, F, P, L> {
         ensures stamp { IfOk result (λ opened. (opened.0.stamp ≡ stamp) × (opened.0.acquired ≡ 0)) }
         ensures words { IfOk result (λ opened.
             opened.1 ≡ record { cells = seed.sizes.frames * seed.sizes.page_size; riders = seed.riders }) }
-        ensures riders { IfOk result (λ opened. opened.2.items ≡ replicate seed.riders new_rider) }
+        ensures riders { IfOk result (λ opened. opened.2.items ≡ new_riders seed.riders) }
         ensures memory { IfErr result (λ fault. fault ≡ OutOfMemory) }
     {
         let (keeper, words, _scribe, riders) = Keeper::open_with_scribe(
@@ -132,7 +134,7 @@ impl<E: Epochs + Drop, F: Task, P: Promise, L: Realm> Keeper<E, F, P, L> {
         ensures words { IfOk result (λ opened.
             opened.1 ≡ record { cells = seed.sizes.frames * seed.sizes.page_size; riders = seed.riders }) }
         ensures list { IfOk result (λ opened. opened.2 ≡ []) }
-        ensures riders { IfOk result (λ opened. opened.3.items ≡ replicate seed.riders new_rider) }
+        ensures riders { IfOk result (λ opened. opened.3.items ≡ new_riders seed.riders) }
         ensures memory { IfErr result (λ fault. fault ≡ OutOfMemory) }
     {
         let params = seed.params();
@@ -149,6 +151,17 @@ impl<E: Epochs + Drop, F: Task, P: Promise, L: Realm> Keeper<E, F, P, L> {
             master,
         };
         Ok((keeper, words, scribe, riders))
+    }
+
+    /// Notes a call of a rider among what riders do without the lock: what riders did before calls that left shorter
+    /// lists stands before what this rider does from now on, in the one order that `close` tells. To be made at each
+    /// locked call, once its steps have entered.
+    #[inline(always)]
+    pub fn mark(&mut self, words: &Words<L>, rider: &mut Rider<L>)
+        ensures same { self.new ≡ self.old }
+        ensures rider { rider.new ≡ with_view (called self.old.total rider.old.view) rider.old }
+    {
+        words.call(&mut self.master, rider);
     }
 
     /// Ends the keeper, and returns what is left of it. It needs all its riders: if one is missing,
@@ -232,6 +245,61 @@ impl<E: Epochs + Drop, F: Task, P: Promise, L: Realm> Keeper<E, F, P, L> {
             master,
         } = self;
         match words.close_with_scribe(master, scribe, riders) {
+            Ok(words) => Ok(Ending {
+                snapshot: core.snapshot(),
+                base: journal.base,
+                cut: journal.cut,
+                journal: journal.steps,
+                left: core.into_drain(),
+                words,
+            }),
+            Err((words, master, scribe, riders)) => {
+                let keeper = Keeper {
+                    core,
+                    journal,
+                    stamps,
+                    stamp,
+                    acquired,
+                    master,
+                };
+                Err((keeper, words, scribe, riders))
+            }
+        }
+    }
+
+    /// Ends it as `close_with_scribe` does, and takes witnesses back, if no rider is missing: of each,
+    /// some rider has its name, and made the touches that it tells.
+    pub fn close_with_pasts(
+        self,
+        words: Words<L>,
+        scribe: Scribe<L>,
+        riders: Vec<Rider<L>>,
+        pasts: Vec<Past<L>>,
+    ) -> Result<Ending<F, P>, (Keeper<E, F, P, L>, Words<L>, Scribe<L>, Vec<Rider<L>>)>
+        ensures kept { IfOk result (λ ending. (ending.base ≡ self.base) × (ending.cut ≡ self.cut)
+            × (ending.journal ≡ self.journal) × (ending.left ≡ self.core.drain)) }
+        ensures quantities { (A : List STEP) → KeeperStands self A
+            → IfOk result (λ ending. ending.snapshot ≡ snapshot_of self.core.sizes A) }
+        ensures sum { OnOk result (self.total ≡ sum_by (λ r. r.share) riders.items) }
+        ensures words { IfOk result (λ ending. IsRuled words.cells ending.words.words self.offsets
+            (map (λ r. r.view) riders.items)) }
+        ensures cells { IfOk result (λ ending. ending.words.cells ≡ words.cells) }
+        ensures list { OnOk result (IsOneList scribe (map (λ r. r.calls) riders.items)) }
+        ensures known { OnOk result (AllByRecursion (IsKnown (map (λ r. r.view) riders.items)) pasts.items) }
+        ensures all { OnOk result (length riders.items ≡ words.riders) }
+        ensures missing { IfErr result (λ _. length riders.items ≢ words.riders) }
+        ensures back { IfErr result (λ back.
+            (back.0 ≡ self) × (back.1 ≡ words) × (back.2 ≡ scribe) × (back.3 ≡ riders)) }
+    {
+        let Keeper {
+            core,
+            journal,
+            stamps,
+            stamp,
+            acquired,
+            master,
+        } = self;
+        match words.close_with_pasts(master, scribe, riders, pasts) {
             Ok(words) => Ok(Ending {
                 snapshot: core.snapshot(),
                 base: journal.base,

@@ -6,7 +6,7 @@ use Rattle.std.proofs.lemmas.Bool.{eq-eqb, ne_eqb, eqb-true, eqb-false, cases_eq
 use Rattle.std.proofs.lemmas.List.{length-set}
 use Rattle.std.proofs.lemmas.List.Sums.{sum_by-cons}
 use Rattle.hl_words.specs.declared.view.Touch.{Touch}
-use Rattle.hl_words.specs.declared.view.Touch.TheVariants.{Stored, Loaded, Changed}
+use Rattle.hl_words.specs.declared.view.Touch.TheVariants.{Stored, Loaded, Changed, Called, Met}
 use Rattle.hl_words.specs.declared.view.RiderView.{RiderView}
 use Rattle.hl_words.specs.Views.{newest}
 use Rattle.hl_words.specs.Rule.{HasStore, EachRider, TouchBy, by_rider, left_by, held, Finds, IsSerial, touches_of, HasOneOrder}
@@ -75,6 +75,8 @@ adds_total c (t ∷ before) totals h e adds =
         at_touch : (x : Touch) → Finds before x → AddsUp c s (x ∷ touches_of t.rider before) → left_by c x (held c before) ≡ sum totals % 2 ^ 64
         at_touch (Stored d v) f own = ap (λ (b : Bool). if b then v else held c before) (ne_eqb d c own.0) ∙ stays own.1
         at_touch (Loaded d v) f own = stays own
+        at_touch (Called n) f own = stays own
+        at_touch (Met name count) f own = stays own
         at_touch (Changed d found v) f own =
             ⊎_elim
             (λ (a : (d ≢ c) × AddsUp c s (touches_of t.rider before)). ap (λ (b : Bool). if b then v else held c before) (ne_eqb d c a.0) ∙ stays a.1)
@@ -111,6 +113,8 @@ stored_again c x w i older (t ∷ between) apart e = by t.touch e (stored_again 
     by : (u : Touch) → left_by c u (held c rest) ≡ x → (held c rest ≡ x → HasStore c x (map (λ (t : TouchBy). t.touch) between)) → HasStore c x (u ∷ map (λ (t : TouchBy). t.touch) between)
     by (Stored d v) is sooner = by_test d v (d == c) refl is sooner
     by (Loaded d v) is sooner = sooner is
+    by (Called n) is sooner = sooner is
+    by (Met name count) is sooner = sooner is
     by (Changed d found v) is sooner = by_test d v (d == c) refl is sooner
 
 pub takes_are_apart : TakesAreApart
@@ -165,11 +169,15 @@ takes_more : (c x : ℕ) (t : Touch) (l : List Touch) → takes c x (t ∷ l) �
 takes_more c x (Stored d v) l = omega arith
 takes_more c x (Loaded d v) l = omega arith
 takes_more c x (Changed d found v) l = omega arith
+takes_more c x (Called n) l = omega arith
+takes_more c x (Met name count) l = omega arith
 
 gives_more : (c x : ℕ) (t : Touch) (l : List Touch) → gives c x (t ∷ l) ≡ gives c x (t ∷ []) + gives c x l
 gives_more c x (Stored d v) l = omega arith
 gives_more c x (Loaded d v) l = omega arith
 gives_more c x (Changed d found v) l = omega arith
+gives_more c x (Called n) l = omega arith
+gives_more c x (Met name count) l = omega arith
 
 abbrev one_if : Bool → ℕ
 one_if b = if b then 1 else 0
@@ -205,6 +213,8 @@ balance c x (t ∷ before) h = by t.touch h.0 (balance c x before h.1)
         → takes c x (u ∷ l) + one_if (left_by c u (held c before) == x) ≤ gives c x (u ∷ l) + one_if (x == 0)
     by (Stored d v) f rest = store_step (d == c) v (held c before) x (takes c x l) (gives c x l) (one_if (x == 0)) rest
     by (Loaded d v) f rest = rest
+    by (Called n) f rest = rest
+    by (Met name count) f rest = rest
     by (Changed d found v) f rest = change_step (d == c) found v (held c before) x (takes c x l) (gives c x l) (one_if (x == 0)) (λ e. f ∙ ap (λ (k : ℕ). held k before) (eqb-true d c e)) rest
 
 pub takes_are_given : TakesAreGiven
@@ -242,6 +252,8 @@ abbrev put_value : ℕ → Touch → List ℕ → List ℕ
 put_value c (Stored d v) values = if d == c then v ∷ values else values
 put_value c (Loaded d v) values = values
 put_value c (Changed d found v) values = if d == c then v ∷ values else values
+put_value c (Called n) values = values
+put_value c (Met name count) values = values
 
 abbrev values_of : ℕ → List TouchBy → List ℕ
 values_of c [] = []
@@ -254,6 +266,8 @@ newest_put c (Stored d v) values = by (d == c)
     by true = refl
     by false = refl
 newest_put c (Loaded d v) values = refl
+newest_put c (Called n) values = refl
+newest_put c (Met name count) values = refl
 newest_put c (Changed d found v) values = by (d == c)
   where
     by : (b : Bool) → newest (if b then v ∷ values else values) ≡ (if b then v else newest values)
@@ -269,6 +283,8 @@ meets_more : (c v : ℕ) (values : List ℕ) (l : List Touch) → Meets c values
 meets_more c v values [] m = tt
 meets_more c v values (Stored d w ∷ before) m =
     ⊎_elim (λ a. inl (a.0, meets_more c v values before a.1)) (λ b. inr (b.0, (v ∷ b.1.0, b.1.1, ap (λ (xs : List ℕ). v ∷ xs) b.1.2, b.1.3))) m
+meets_more c v values (Called n ∷ before) m = meets_more c v values before m
+meets_more c v values (Met name count ∷ before) m = meets_more c v values before m
 meets_more c v values (Loaded d w ∷ before) m =
     ⊎_elim (λ a. inl (a.0, meets_more c v values before a.1)) (λ b. inr (b.0, (v ∷ b.1.0, b.1.1, ap (λ (xs : List ℕ). v ∷ xs) b.1.2, b.1.3, b.1.4))) m
 meets_more c v values (Changed d found w ∷ before) m =
@@ -282,6 +298,8 @@ meets_either c v values l m false = m
 meets_put : (c : ℕ) (t : Touch) (values : List ℕ) (l : List Touch) → Meets c values l → Meets c (put_value c t values) l
 meets_put c (Stored d v) values l m = meets_either c v values l m (d == c)
 meets_put c (Loaded d v) values l m = m
+meets_put c (Called n) values l m = m
+meets_put c (Met name count) values l m = m
 meets_put c (Changed d found v) values l m = meets_either c v values l m (d == c)
 
 -- the rider's own
@@ -291,6 +309,8 @@ meets_own c before (Stored d v) l f m = by (d == c) refl
     by : (b : Bool) → (d == c) ≡ b → Meets c (if b then v ∷ values_of c before else values_of c before) (Stored d v ∷ l)
     by true e = inr (eqb-true d c e, ([], values_of c before, refl, m))
     by false e = inl (eqb-false d c e, m)
+meets_own c before (Called n) l f m = m
+meets_own c before (Met name count) l f m = m
 meets_own c before (Loaded d v) l f m =
     ⊎_elim
     (λ (same : d ≡ c). inr (same, ([], values_of c before, refl, f ∙ ap (λ (k : ℕ). held k before) same ∙ sym (newest_held c before), m)))

@@ -5,3 +5,5 @@ pub mod Steps
 pub mod Dealing
 pub mod WordAt
 pub mod LawProofs
+pub mod Told
+pub mod PastProofs

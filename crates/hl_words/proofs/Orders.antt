@@ -1,14 +1,14 @@
 -- The one order of all touches: what one touch more makes of it, that riders may change places in it, and that the clauses on each cell and each rider follow from it.
-use Rattle.std.proofs.Common.{◌≡◌, ◌≢◌, ℕ, zero, suc, ◌+◌, ◌<◌, ◌==◌, ◌⊎◌, Bool, true, false, List, [], ◌∷◌, ◌++◌, length, set, Some, None, slice_get, refl, ap, sym, ◌∙◌, inl, inr, ⊎_elim, subst, arith, length-append}
+use Rattle.std.proofs.Common.{◌≡◌, ◌≢◌, ℕ, zero, suc, ◌+◌, ◌<◌, ◌≤◌, ◌==◌, ◌⊎◌, Bool, true, false, List, [], ◌∷◌, ◌++◌, length, set, Some, None, slice_get, refl, ap, sym, ◌∙◌, inl, inr, ⊎_elim, subst, arith, length-append}
 use Rattle.std.specs.Prelude.{if◌then◌else◌, slice_index}
 use Rattle.std.specs.List.{AllByRecursion as Every}
 use Rattle.std.proofs.lemmas.Bool.{eq-eqb, ne_eqb, eqb-true, eqb-false, cases_eq}
 use Rattle.std.proofs.lemmas.List.{get_or-set_same, get_or-set_other}
 use Rattle.hl_words.specs.declared.view.Touch.{Touch}
-use Rattle.hl_words.specs.declared.view.Touch.TheVariants.{Stored, Loaded, Changed}
+use Rattle.hl_words.specs.declared.view.Touch.TheVariants.{Stored, Loaded, Changed, Called, Met}
 use Rattle.hl_words.specs.declared.view.RiderView.{RiderView}
-use Rattle.hl_words.specs.Rule.{last_store, IsQuiet, HasStore, EachRider, IsElsewhere, IsFound, IsLawful, IsCell, TouchBy, by_rider, left_by, held, Finds, IsSerial, touches_of, HasOneOrder}
-use Rattle.hl_words.proofs.Cut.{every_weaker}
+use Rattle.hl_words.specs.Rule.{last_store, IsQuiet, HasStore, EachRider, SomeRider, IsElsewhere, IsFound, IsLawful, IsCell, TouchBy, by_rider, left_by, held, IsUpTo, Finds, IsSerial, touches_of, AreNamed, HasMet, AreMet, HasOneOrder}
+use Rattle.hl_words.proofs.Cut.{every_weaker, every_at}
 
 module _ {X : Type 0} where
   -- a place below the length has an element
@@ -55,10 +55,75 @@ each_middle front r q back own now old mine others i p e =
     (λ (apart : i ≢ length front). old i p (sym (elsewhere_same front r q back i apart) ∙ e) ∙ sym (others i apart))
     (cases_eq i (length front))
 
+-- what holds of some rider, where the one in the middle changes
+pub some_changed : (P Q : ℕ → RiderView → Type 0) (front : List RiderView) (r q : RiderView) (back : List RiderView) → (P (length front) r → Q (length front) q) → ((i : ℕ) (x : RiderView) → P i x → Q i x)
+    → SomeRider P (front ++ r ∷ back) → SomeRider Q (front ++ q ∷ back)
+some_changed P Q front r q back mine others s =
+    ⊎_elim
+    (λ (same : s.0 ≡ length front).
+    let at : slice_get (front ++ r ∷ back) (length front) ≡ Some s.1 = subst (λ (k : ℕ). slice_get (front ++ r ∷ back) k ≡ Some s.1) same s.2 in
+    let both : Some r ≡ Some s.1 = sym (at_place front r back) ∙ at in
+    let is : r ≡ s.1 = cc both in
+    (length front, q, at_place front q back, mine (subst (λ (x : RiderView). P (length front) x) (sym is) (subst (λ (k : ℕ). P k s.1) same s.3))))
+    (λ (apart : s.0 ≢ length front). (s.0, s.1, elsewhere_same front r q back s.0 apart ∙ s.2, others s.0 s.1 s.3))
+    (cases_eq s.0 (length front))
+
+-- each rider stood there before with the same name
+was_named : (front : List RiderView) (r q : RiderView) (back : List RiderView) → q.name ≡ r.name → (i : ℕ) (x : RiderView) → slice_get (front ++ q ∷ back) i ≡ Some x
+    → (y : RiderView) × (slice_get (front ++ r ∷ back) i ≡ Some y) × (y.name ≡ x.name)
+was_named front r q back same i x at =
+    ⊎_elim
+    (λ (here : i ≡ length front).
+    let there : slice_get (front ++ q ∷ back) (length front) ≡ Some x = subst (λ (k : ℕ). slice_get (front ++ q ∷ back) k ≡ Some x) here at in
+    let both : Some q ≡ Some x = sym (at_place front q back) ∙ there in
+    let is : q ≡ x = cc both in
+    (r, subst (λ (k : ℕ). slice_get (front ++ r ∷ back) k ≡ Some r) (sym here) (at_place front r back), sym same ∙ ap (λ (z : RiderView). z.name) is))
+    (λ (apart : i ≢ length front). (x, sym (elsewhere_same front r q back i apart) ∙ at, refl))
+    (cases_eq i (length front))
+
+named_changed : (front : List RiderView) (r q : RiderView) (back : List RiderView) → q.name ≡ r.name → AreNamed (front ++ r ∷ back) → AreNamed (front ++ q ∷ back)
+named_changed front r q back same h i j x y ati atj e =
+    let a = was_named front r q back same i x ati in
+    let b = was_named front r q back same j y atj in
+    h i j a.0 b.0 a.1 b.1 (a.2 ∙ e ∙ sym b.2)
+
+met_changed : (front : List RiderView) (r q : RiderView) (back : List RiderView) → q.name ≡ r.name → (before : List TouchBy) (t : Touch) → HasMet (front ++ r ∷ back) before t → HasMet (front ++ q ∷ back) before t
+met_changed front r q back same before (Stored d v) h = tt
+met_changed front r q back same before (Loaded d v) h = tt
+met_changed front r q back same before (Changed d w v) h = tt
+met_changed front r q back same before (Called n) h = tt
+met_changed front r q back same before (Met name count) h =
+    some_changed (λ i x. (x.name ≡ name) × (count ≤ length (touches_of i before))) (λ i x. (x.name ≡ name) × (count ≤ length (touches_of i before))) front r q back (λ p. (same ∙ p.0, p.1)) (λ i x p. p) h
+
+are_met_changed : (front : List RiderView) (r q : RiderView) (back : List RiderView) → q.name ≡ r.name → (order : List TouchBy) → AreMet (front ++ r ∷ back) order → AreMet (front ++ q ∷ back) order
+are_met_changed front r q back same [] h = tt
+are_met_changed front r q back same (t ∷ before) h = (met_changed front r q back same before t.touch h.0, are_met_changed front r q back same before h.1)
+
+-- what holds of each touch of each rider holds of each of the order
+every_either : (P : Touch → Type 0) (t : Touch) (l : List Touch) (b : Bool) → Every P (if b then t ∷ l else l) → Every P l
+every_either P t l true h = h.1
+every_either P t l false h = h
+
+every_by : (P : Touch → Type 0) (n : ℕ) (order : List TouchBy) → Every (λ (t : TouchBy). t.rider < n) order → ((i : ℕ) → i < n → Every P (touches_of i order)) → Every (λ (t : TouchBy). P t.touch) order
+every_by P n [] less each = tt
+every_by P n (t ∷ before) less each =
+    let own : Every P (t.touch ∷ touches_of t.rider before) = subst (Every P) (own_more t.rider t.touch before) (each t.rider less.0) in
+    (own.0, every_by P n before less.1 (λ i below. every_either P t.touch (touches_of i before) (t.rider == i) (each i below)))
+
+-- so the number of a call fits, if it is at least those of all riders' calls
+pub called_last : (n : ℕ) (cells : ℕ) (words : List ℕ) (riders : List RiderView) (h : HasOneOrder cells words riders) → Every (λ (r : RiderView). Every (IsUpTo n) r.touches) riders → Finds h.0 (Called n)
+called_last n cells words riders h each =
+    every_by (IsUpTo n) (length riders) h.0 h.1.theirs
+    (λ i less. let one = there riders i less in subst (Every (IsUpTo n)) (h.1.each i one.0 one.1) (every_at (λ (r : RiderView). Every (IsUpTo n) r.touches) riders each i one.0 one.1))
+
+-- and a rider has met what some rider did
+pub met_last : (name count : ℕ) (cells : ℕ) (words : List ℕ) (riders : List RiderView) (h : HasOneOrder cells words riders) → SomeRider (λ i r. (r.name ≡ name) × (count ≤ length r.touches)) riders → HasMet riders h.0 (Met name count)
+met_last name count cells words riders h s = (s.0, s.1, s.2, (s.3.0, subst (λ (l : List Touch). count ≤ length l) (h.1.each s.0 s.1 s.2) s.3.1))
+
 -- a rider takes one touch more
-pub order_more : (cells : ℕ) (words after : List ℕ) (front : List RiderView) (r q : RiderView) (back : List RiderView) (t : Touch) → q.touches ≡ t ∷ r.touches → (h : HasOneOrder cells words (front ++ r ∷ back))
-    → Finds h.0 t → ((c : ℕ) → c < cells → slice_index after c ≡ left_by c t (held c h.0)) → HasOneOrder cells after (front ++ q ∷ back)
-order_more cells words after front r q back t same h finds last =
+pub order_more : (cells : ℕ) (words after : List ℕ) (front : List RiderView) (r q : RiderView) (back : List RiderView) (t : Touch) → q.name ≡ r.name → q.touches ≡ t ∷ r.touches → (h : HasOneOrder cells words (front ++ r ∷ back))
+    → Finds h.0 t → HasMet (front ++ r ∷ back) h.0 t → ((c : ℕ) → c < cells → slice_index after c ≡ left_by c t (held c h.0)) → HasOneOrder cells after (front ++ q ∷ back)
+order_more cells words after front r q back t named same h finds met last =
     let n = length front in (
       by_rider n t ∷ h.0,
       record {
@@ -72,13 +137,15 @@ order_more cells words after front r q back t same h finds last =
               (λ s less. omega (arith, less, length-append front (r ∷ back), length-append front (q ∷ back))) h.1.theirs,
         );
         last = last;
+        met = (met_changed front r q back named h.0 t met, are_met_changed front r q back named h.0 h.1.met);
+        names = named_changed front r q back named h.1.names;
       },
     )
 
 -- a rider takes none, and no cell changes
-pub order_same : (cells : ℕ) (words after : List ℕ) (front : List RiderView) (r q : RiderView) (back : List RiderView) → q.touches ≡ r.touches → ((c : ℕ) → c < cells → slice_index after c ≡ slice_index words c)
+pub order_same : (cells : ℕ) (words after : List ℕ) (front : List RiderView) (r q : RiderView) (back : List RiderView) → q.name ≡ r.name → q.touches ≡ r.touches → ((c : ℕ) → c < cells → slice_index after c ≡ slice_index words c)
     → HasOneOrder cells words (front ++ r ∷ back) → HasOneOrder cells after (front ++ q ∷ back)
-order_same cells words after front r q back same keeps h = (
+order_same cells words after front r q back named same keeps h = (
   h.0,
   record {
     serial = h.1.serial;
@@ -86,6 +153,8 @@ order_same cells words after front r q back same keeps h = (
     theirs = every_weaker (λ (s : TouchBy). s.rider < length (front ++ r ∷ back)) (λ (s : TouchBy). s.rider < length (front ++ q ∷ back)) h.0
         (λ s less. omega (arith, less, length-append front (r ∷ back), length-append front (q ∷ back))) h.1.theirs;
     last = λ c less. keeps c less ∙ h.1.last c less;
+    met = are_met_changed front r q back named h.0 h.1.met;
+    names = named_changed front r q back named h.1.names;
   },
 )
 
@@ -107,10 +176,16 @@ held_renamed : (f : ℕ → ℕ) (c : ℕ) (order : List TouchBy) → held c (re
 held_renamed f c [] = refl
 held_renamed f c (t ∷ before) = ap (left_by c t.touch) (held_renamed f c before)
 
+up_to_renamed : (f : ℕ → ℕ) (n : ℕ) (order : List TouchBy) → Every (λ (t : TouchBy). IsUpTo n t.touch) order → Every (λ (t : TouchBy). IsUpTo n t.touch) (renamed f order)
+up_to_renamed f n [] h = tt
+up_to_renamed f n (t ∷ before) h = (h.0, up_to_renamed f n before h.1)
+
 finds_renamed : (f : ℕ → ℕ) (before : List TouchBy) (t : Touch) → Finds before t → Finds (renamed f before) t
 finds_renamed f before (Stored d v) h = tt
 finds_renamed f before (Loaded d v) h = h ∙ sym (held_renamed f d before)
 finds_renamed f before (Changed d w v) h = h ∙ sym (held_renamed f d before)
+finds_renamed f before (Called n) h = up_to_renamed f n before h
+finds_renamed f before (Met name count) h = tt
 
 serial_renamed : (f : ℕ → ℕ) (order : List TouchBy) → IsSerial order → IsSerial (renamed f order)
 serial_renamed f [] h = tt
@@ -136,6 +211,25 @@ theirs_renamed f g riders after back same (t ∷ before) e =
     let s = there riders t.rider e.0 in
     (within after (f t.rider) s.0 (same (f t.rider) ∙ ap (slice_get riders) (back t.rider) ∙ s.1), theirs_renamed f g riders after back same before e.1)
 
+-- what holds of some rider, where they change places
+some_renamed : (P Q : ℕ → RiderView → Type 0) (riders after : List RiderView) (f : ℕ → ℕ) → ((i : ℕ) → slice_get after (f i) ≡ slice_get riders i) → ((i : ℕ) (x : RiderView) → P i x → Q (f i) x) → SomeRider P riders → SomeRider Q after
+some_renamed P Q riders after f same fits s = (f s.0, s.1, same s.0 ∙ s.2, fits s.0 s.1 s.3)
+
+met_renamed : (f g : ℕ → ℕ) → ((k : ℕ) → g (f k) ≡ k) → ((k : ℕ) → f (g k) ≡ k) → (riders after : List RiderView) → ((j : ℕ) → slice_get after j ≡ slice_get riders (g j)) → (before : List TouchBy) (t : Touch) → HasMet riders before t → HasMet after (renamed f before) t
+met_renamed f g back forth riders after same before (Stored d v) h = tt
+met_renamed f g back forth riders after same before (Loaded d v) h = tt
+met_renamed f g back forth riders after same before (Changed d w v) h = tt
+met_renamed f g back forth riders after same before (Called n) h = tt
+met_renamed f g back forth riders after same before (Met name count) h =
+    some_renamed (λ i x. (x.name ≡ name) × (count ≤ length (touches_of i before))) (λ i x. (x.name ≡ name) × (count ≤ length (touches_of i (renamed f before)))) riders after f
+    (λ i. same (f i) ∙ ap (slice_get riders) (back i))
+    (λ i x p. (p.0, subst (λ (l : List Touch). count ≤ length l) (sym (own_renamed f g back forth (f i) before ∙ ap (λ (k : ℕ). touches_of k before) (back i))) p.1))
+    h
+
+are_met_renamed : (f g : ℕ → ℕ) → ((k : ℕ) → g (f k) ≡ k) → ((k : ℕ) → f (g k) ≡ k) → (riders after : List RiderView) → ((j : ℕ) → slice_get after j ≡ slice_get riders (g j)) → (order : List TouchBy) → AreMet riders order → AreMet after (renamed f order)
+are_met_renamed f g back forth riders after same [] h = tt
+are_met_renamed f g back forth riders after same (t ∷ before) h = (met_renamed f g back forth riders after same before t.touch h.0, are_met_renamed f g back forth riders after same before h.1)
+
 order_renamed : (cells : ℕ) (words : List ℕ) (riders after : List RiderView) (f g : ℕ → ℕ) → ((k : ℕ) → g (f k) ≡ k) → ((k : ℕ) → f (g k) ≡ k) → ((j : ℕ) → slice_get after j ≡ slice_get riders (g j))
     → HasOneOrder cells words riders → HasOneOrder cells words after
 order_renamed cells words riders after f g back forth same h = (
@@ -145,6 +239,8 @@ order_renamed cells words riders after f g back forth same h = (
     each = λ j r e. h.1.each (g j) r (sym (same j) ∙ e) ∙ sym (own_renamed f g back forth j h.0);
     theirs = theirs_renamed f g riders after back same h.0 h.1.theirs;
     last = λ c less. h.1.last c less ∙ sym (held_renamed f c h.0);
+    met = are_met_renamed f g back forth riders after same h.0 h.1.met;
+    names = λ i j r q ati atj e. sym (forth i) ∙ ap f (h.1.names (g i) (g j) r q (sym (same i) ∙ ati) (sym (same j) ∙ atj) e) ∙ forth j;
   },
 )
 
@@ -203,18 +299,30 @@ module _ (front : List RiderView) (r : RiderView) (back : List RiderView) (cells
       order_renamed cells words (r ∷ (front ++ back)) (front ++ r ∷ back) (behind n) (ahead n) (ahead_behind n) (behind_ahead n)
       (λ j. sym (moved_at front r back (ahead n j) ∙ ap (slice_get (front ++ r ∷ back)) (behind_ahead n j))) h
 
+module _ (front : List RiderView) (r : RiderView) (back : List RiderView) where
+  -- what holds of some rider, wherever that one stands
+  pub some_to_front : (P : RiderView → Type 0) → SomeRider (λ i x. P x) (front ++ r ∷ back) → SomeRider (λ i x. P x) (r ∷ (front ++ back))
+  some_to_front P s =
+      let n = length front in
+      some_renamed (λ i x. P x) (λ i x. P x) (front ++ r ∷ back) (r ∷ (front ++ back)) (ahead n) (λ i. moved_at front r back (ahead n i) ∙ ap (slice_get (front ++ r ∷ back)) (behind_ahead n i)) (λ i x p. p) s
+
+  pub some_from_front : (P : RiderView → Type 0) → SomeRider (λ i x. P x) (r ∷ (front ++ back)) → SomeRider (λ i x. P x) (front ++ r ∷ back)
+  some_from_front P s =
+      let n = length front in
+      some_renamed (λ i x. P x) (λ i x. P x) (r ∷ (front ++ back)) (front ++ r ∷ back) (behind n) (λ i. sym (moved_at front r back i)) (λ i x p. p) s
+
 -- a touch that stores into the cell, and one that does not
-record Puts (c : ℕ) (t : Touch) : Type 0 where
-  value : ℕ
-  leaves : (w : ℕ) → left_by c t w ≡ value
-  last : (l : List Touch) → last_store c (t ∷ l) ≡ Some value
+pub record Puts (c : ℕ) (t : Touch) : Type 0 where
+  pub value : ℕ
+  pub leaves : (w : ℕ) → left_by c t w ≡ value
+  pub last : (l : List Touch) → last_store c (t ∷ l) ≡ Some value
 
-record Passes (c : ℕ) (t : Touch) : Type 0 where
-  leaves : (w : ℕ) → left_by c t w ≡ w
-  last : (l : List Touch) → last_store c (t ∷ l) ≡ last_store c l
-  quiet : (before : List TouchBy) (l : List Touch) → Finds before t → held c before ≡ 0 → IsQuiet c l → IsQuiet c (t ∷ l)
+pub record Passes (c : ℕ) (t : Touch) : Type 0 where
+  pub leaves : (w : ℕ) → left_by c t w ≡ w
+  pub last : (l : List Touch) → last_store c (t ∷ l) ≡ last_store c l
+  pub quiet : (before : List TouchBy) (l : List Touch) → Finds before t → held c before ≡ 0 → IsQuiet c l → IsQuiet c (t ∷ l)
 
-puts_or_passes : (c : ℕ) (t : Touch) → Puts c t ⊎ Passes c t
+pub puts_or_passes : (c : ℕ) (t : Touch) → Puts c t ⊎ Passes c t
 puts_or_passes c (Stored d v) = by (d == c) refl
   where
     by : (b : Bool) → (d == c) ≡ b → Puts c (Stored d v) ⊎ Passes c (Stored d v)
@@ -247,6 +355,17 @@ puts_or_passes c (Changed d found v) = by (d == c) refl
       quiet = λ before l f z q. (eqb-false d c e, q);
     }
 
+puts_or_passes c (Called n) = inr record {
+  leaves = λ w. refl;
+  last = λ l. refl;
+  quiet = λ before l f z q. q;
+}
+puts_or_passes c (Met name count) = inr record {
+  leaves = λ w. refl;
+  last = λ l. refl;
+  quiet = λ before l f z q. q;
+}
+
 -- no touch of the list stores into the cell
 record IsFresh (c : ℕ) (order : List TouchBy) : Type 0 where
   nothing : held c order ≡ 0
@@ -260,7 +379,7 @@ record IsNewest (c n : ℕ) (order : List TouchBy) : Type 0 where
   last : last_store c (touches_of rider order) ≡ Some (held c order)
 
 -- of a list that has the touch or not
-last_either : (c : ℕ) (t : Touch) (l : List Touch) → last_store c (t ∷ l) ≡ last_store c l → (b : Bool) → last_store c (if b then t ∷ l else l) ≡ last_store c l
+pub last_either : (c : ℕ) (t : Touch) (l : List Touch) → last_store c (t ∷ l) ≡ last_store c l → (b : Bool) → last_store c (if b then t ∷ l else l) ≡ last_store c l
 last_either c t l h true = h
 last_either c t l h false = refl
 
@@ -272,6 +391,8 @@ has_more : (c v : ℕ) (t : Touch) (l : List Touch) → HasStore c v l → HasSt
 has_more c v (Stored d w) l h = inr h
 has_more c v (Loaded d w) l h = h
 has_more c v (Changed d found w) l h = inr h
+has_more c v (Called n) l h = h
+has_more c v (Met name count) l h = h
 
 has_either : (c v : ℕ) (t : Touch) (l : List Touch) → HasStore c v l → (b : Bool) → HasStore c v (if b then t ∷ l else l)
 has_either c v t l h true = has_more c v t l h
@@ -317,6 +438,9 @@ last_has c v (Changed d found w ∷ before) e = by (d == c) refl e (last_has c v
     by true same is rest = inl (eqb-true d c same, cc is)
     by false same is rest = inr (rest is)
 
+last_has c v (Called n ∷ before) e = last_has c v before e
+last_has c v (Met name count ∷ before) e = last_has c v before e
+
 -- what stands in the cell before one of the rider's touches is lawful for it
 found_lawful : (E : ℕ → ℕ → Type 0) (i n : ℕ) (before : List TouchBy) → ((c v j : ℕ) → j ≢ i → j < n → HasStore c v (touches_of j before) → E c v) → IsSerial before → Every (λ (t : TouchBy). t.rider < n) before
     → (d v : ℕ) → v ≡ held d before → IsFound E d v (touches_of i before)
@@ -343,6 +467,8 @@ own_lawful E i n (t ∷ before) there_too h e = by (t.rider == i) t.touch h.0 (o
     by true (Stored d v) f rest = rest
     by true (Loaded d v) f rest = (found_lawful E i n before sooner h.1 e.1 d v f, rest)
     by true (Changed d found v) f rest = (found_lawful E i n before sooner h.1 e.1 d found f, rest)
+    by true (Called m) f rest = rest
+    by true (Met name count) f rest = rest
 
 module _ (cells : ℕ) (words : List ℕ) (riders : List RiderView) (h : HasOneOrder cells words riders) where
   -- each cell is 0, or some rider's last store

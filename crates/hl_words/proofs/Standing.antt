@@ -1,18 +1,20 @@
 -- The rule by the one order of all touches, from which the clauses on each cell and each rider follow, and what each step does to it.
-use Rattle.std.proofs.Common.{◌≡◌, ℕ, zero, suc, ◌+◌, ◌<◌, ◌≤◌, ◌⊎◌, List, [], ◌∷◌, ◌++◌, length, set, refl, sym, ◌∙◌, inl, inr, ⊎_elim, subst, arith}
+use Rattle.std.proofs.Common.{◌≡◌, ℕ, zero, suc, ◌+◌, ◌<◌, ◌≤◌, ◌⊎◌, List, [], ◌∷◌, ◌++◌, length, set, refl, ap, sym, ◌∙◌, inl, inr, ⊎_elim, subst, arith, length-append}
 use Rattle.std.specs.Prelude.{slice_index}
 use Rattle.std.specs.List.{AllByRecursion as Every, Contains}
 use Rattle.hl_model.specs.Lists.{greatest}
 use Rattle.std.proofs.lemmas.List.{get_or-set_same, get_or-set_other}
-use Rattle.hl_words.specs.declared.view.Touch.TheVariants.{Stored, Loaded, Changed}
+use Rattle.hl_words.specs.declared.view.Touch.TheVariants.{Stored, Loaded, Changed, Called, Met}
+use Rattle.hl_words.specs.declared.view.Known.{Known}
 use Rattle.hl_words.specs.declared.view.OffsetWords.{OffsetWords}
 use Rattle.hl_words.specs.declared.view.RiderView.{RiderView}
 use Rattle.hl_words.specs.declared.which.Which.{Which}
 use Rattle.hl_words.specs.declared.which.Which.TheVariants.{ReadOnly, Head, Ended}
-use Rattle.hl_words.specs.Views.{newest, offset_of, with_offset, place_of, touched, with_loaded}
-use Rattle.hl_words.specs.Rule.{HasOneOrder, NeverFalls, AreLoads, IsRuled}
+use Rattle.hl_words.specs.Views.{newest, offset_of, with_offset, place_of, touched, with_loaded, called, told}
+use Rattle.hl_words.specs.Rule.{SomeRider, IsUpTo, HasOneOrder, NeverFalls, AreLoads, IsRuled}
+use Rattle.hl_words.specs.Seats.{IsKnown}
 use Rattle.hl_words.proofs.Cut.{every_front, every_back, every_append, every_weaker, every_at, every_from}
-use Rattle.hl_words.proofs.Orders.{order_more, order_same, put_last, order_to_front, order_from_front, cell_from, lawful_from}
+use Rattle.hl_words.proofs.Orders.{order_more, order_same, called_last, met_last, put_last, order_to_front, order_from_front, cell_from, lawful_from}
 
 -- what the rider loaded of the offset words are loads of these stores
 abbrev pub Below : OffsetWords → RiderView → Type 0
@@ -134,7 +136,7 @@ module _ (front : List RiderView) (r : RiderView) (back : List RiderView) where
   after_store cells words last c v less width h =
       let q = touched (Stored c v) r in
       changed cells words (set words c v) last q h
-      (order_more cells words (set words c v) front r q back (Stored c v) refl h.order tt (put_last cells words c v less width h.order.0 h.order.1.last))
+      (order_more cells words (set words c v) front r q back (Stored c v) refl refl h.order tt tt (put_last cells words c v less width h.order.0 h.order.1.last))
       (get_or-set_other words c (cells + 8) v 0 (λ e. omega arith))
       (get_or-set_other words c (cells + 9) v 0 (λ e. omega arith))
       (get_or-set_other words c (cells + 10) v 0 (λ e. omega arith))
@@ -147,7 +149,7 @@ module _ (front : List RiderView) (r : RiderView) (back : List RiderView) where
       let t = Changed c (slice_index words c) v in
       let q = touched t r in
       changed cells words (set words c v) last q h
-      (order_more cells words (set words c v) front r q back t refl h.order (h.order.1.last c less) (put_last cells words c v less width h.order.0 h.order.1.last))
+      (order_more cells words (set words c v) front r q back t refl refl h.order (h.order.1.last c less) tt (put_last cells words c v less width h.order.0 h.order.1.last))
       (get_or-set_other words c (cells + 8) v 0 (λ e. omega arith))
       (get_or-set_other words c (cells + 9) v 0 (λ e. omega arith))
       (get_or-set_other words c (cells + 10) v 0 (λ e. omega arith))
@@ -160,11 +162,38 @@ module _ (front : List RiderView) (r : RiderView) (back : List RiderView) where
       let t = Loaded c (slice_index words c) in
       let q = touched t r in
       changed cells words words last q h
-      (order_more cells words words front r q back t refl h.order (h.order.1.last c less) h.order.1.last)
+      (order_more cells words words front r q back t refl refl h.order (h.order.1.last c less) tt h.order.1.last)
       refl
       refl
       refl
       (every_back (Below last) front (r ∷ back) h.offset).0
+
+  -- a call when so many steps had been entered
+  pub after_call : (cells : ℕ) (words : List ℕ) (last : OffsetWords) (n : ℕ) → Every (λ (x : RiderView). Every (IsUpTo n) x.touches) (front ++ r ∷ back)
+      → IsStanding cells words last (front ++ r ∷ back) → IsStanding cells words last (front ++ called n r ∷ back)
+  after_call cells words last n each h =
+      let q = called n r in
+      changed cells words words last q h
+      (order_more cells words words front r q back (Called n) refl refl h.order (called_last n cells words (front ++ r ∷ back) h.order each) tt h.order.1.last)
+      refl
+      refl
+      refl
+      (every_back (Below last) front (r ∷ back) h.offset).0
+
+  -- the rider is told what some rider did
+  pub after_told : (cells : ℕ) (words : List ℕ) (last : OffsetWords) (k : Known) → IsKnown (front ++ r ∷ back) k
+      → IsStanding cells words last (front ++ r ∷ back) → IsStanding cells words last (front ++ told k r ∷ back)
+  after_told cells words last k some h =
+      let q = told k r in
+      changed cells words words last q h
+      (order_more cells words words front r q back (Met k.name (length k.touches)) refl refl h.order tt (met_last k.name (length k.touches) cells words (front ++ r ∷ back) h.order (counted some)) h.order.1.last)
+      refl
+      refl
+      refl
+      (every_back (Below last) front (r ∷ back) h.offset).0
+    where
+      counted : IsKnown (front ++ r ∷ back) k → SomeRider (λ i x. (x.name ≡ k.name) × (length k.touches ≤ length x.touches)) (front ++ r ∷ back)
+      counted s = (s.0, s.1, s.2, (s.3.0, omega (arith, ap length s.3.1.1, length-append s.3.1.0 k.touches)))
 
   -- a load of an offset word
   pub after_look : (cells : ℕ) (words : List ℕ) (last : OffsetWords) (which : Which) (x : ℕ) → x ≡ offset_of which last
@@ -172,12 +201,18 @@ module _ (front : List RiderView) (r : RiderView) (back : List RiderView) where
   after_look cells words last which x found h =
       let q = with_loaded which x r in
       changed cells words words last q h
-      (order_same cells words words front r q back refl (λ c less. refl) h.order)
+      (order_same cells words words front r q back (same_name which) (same_touches which) (λ c less. refl) h.order)
       refl
       refl
       refl
       (below which found (every_back (Below last) front (r ∷ back) h.offset).0)
     where
+      same_name : (which : Which) → (with_loaded which x r).name ≡ r.name
+      same_name which = refl
+
+      same_touches : (which : Which) → (with_loaded which x r).touches ≡ r.touches
+      same_touches which = refl
+
       below : (which : Which) → x ≡ offset_of which last → Below last r → Below last (with_loaded which x r)
       below ReadOnly e b = (load_newest last.read_only r.offsets.read_only x e b.0, b.1, b.2)
       below Head e b = (b.0, load_newest last.head r.offsets.head x e b.1, b.2)
@@ -192,6 +227,8 @@ order_beside cells words riders i x beside h = (
     each = h.1.each;
     theirs = h.1.theirs;
     last = λ c less. get_or-set_other words i c x 0 (λ e. omega arith) ∙ h.1.last c less;
+    met = h.1.met;
+    names = h.1.names;
   },
 )
 

@@ -1,24 +1,28 @@
 -- Each step of the table keeps its rule, whatever the table is when the step is taken.
-use Rattle.std.proofs.Common.{◌≡◌, ℕ, zero, suc, ◌+◌, ◌<◌, ◌≤◌, List, [], ◌∷◌, ◌++◌, length, set, replicate, Some, slice_get, refl, ap, sym, ◌∙◌, subst, arith, append_assoc, length-append}
+use Rattle.std.proofs.Common.{◌≡◌, ℕ, zero, suc, ◌+◌, ◌<◌, ◌≤◌, List, [], ◌∷◌, ◌++◌, length, map, set, replicate, Some, slice_get, refl, ap, sym, ◌∙◌, subst, arith, append_assoc, length-append}
 use Rattle.std.specs.Prelude.{slice_index, ◌==◌, ◌%◌, ◌^◌, Bool, true, false, if◌then◌else◌}
 use prog.Atomic.{either}
 use Rattle.std.specs.List.{AllByRecursion as Every}
 use Rattle.std.proofs.lemmas.List.{append-nil, length-set, set-get_or, length-replicate}
 use mathlib.Core.Option.{some, none, some-injective, some-ne-none}
 use lib.ListN.{get_elem?}
-use Rattle.atomic_table.specs.Table.{Me, step, keeps, Allows, Splits, Joins, opening, Final, Seen}
-use Rattle.hl_words.specs.declared.view.Touch.TheVariants.{Stored, Loaded, Changed}
+use Rattle.atomic_table.proofs.Lists.{set_else, set_again}
+use Rattle.atomic_table.specs.Table.{Me, step, keeps, Allows, Splits, Joins, Enters, opening, Final, Seen}
+use Rattle.hl_words.specs.declared.view.Touch.{Touch}
+use Rattle.hl_words.specs.declared.view.Touch.TheVariants.{Stored, Loaded, Changed, Called, Met}
+use Rattle.hl_words.specs.declared.view.Known.{Known}
 use Rattle.hl_words.specs.declared.view.OffsetWords.{OffsetWords}
 use Rattle.hl_words.specs.declared.view.RiderView.{RiderView}
 use Rattle.hl_words.specs.declared.view.SeatView.{SeatView}
 use Rattle.hl_words.specs.declared.view.Room.{Room}
 use Rattle.hl_words.specs.declared.which.Which.{Which}
 use Rattle.hl_words.specs.declared.which.Which.TheVariants.{ReadOnly, Head, Ended}
-use Rattle.hl_words.specs.Views.{place_of, no_offsets, offset_of, greatest_of, with_offset, unused, touched, added, exchanged, with_loaded}
-use Rattle.hl_words.specs.Rule.{HasOneOrder, IsRuled}
-use Rattle.hl_words.specs.Seats.{seat_of, rider_seat, spent_seat, first_seat, riders_in, IsKept, Holds, Stores, Loads, Adds, Exchanges, Looks, Sets, left_seat, right_seat, joined_seat}
-use Rattle.hl_words.proofs.Cut.{every_back}
-use Rattle.hl_words.proofs.Standing.{IsStanding, Below, no_loads, no_stores, standing_from, ruled_from, to_front, from_front, after_store, after_change, after_load, after_look, after_set, found_offset}
+use Rattle.hl_words.specs.Views.{place_of, no_offsets, offset_of, greatest_of, with_offset, fresh, fresh_from, touched, added, exchanged, with_loaded, past_of, told, called}
+use Rattle.hl_words.specs.Rule.{SomeRider, IsUpTo, AreNamed, HasOneOrder, IsRuled}
+use Rattle.hl_words.specs.Seats.{seat_of, master_seat, knows_seat, rider_seat, spent_seat, first_seat, riders_in, HasPast, IsKnown, CallsUpTo, IsKept, Holds, Stores, Loads, Adds, Exchanges, Looks, with_store, Sets, left_seat, right_seat, joined_seat, left_called, right_called, same_seat, shown_seat, copied_seat, told_seat, recalling_seat, attested_seat, Recalls, Blanks}
+use Rattle.hl_words.proofs.Cut.{every_front, every_back, every_append, every_weaker, every_set, every_elem}
+use Rattle.hl_words.proofs.Orders.{at_place, some_changed, some_to_front, some_from_front}
+use Rattle.hl_words.proofs.Standing.{IsStanding, Below, no_loads, no_stores, standing_from, ruled_from, to_front, from_front, after_store, after_change, after_load, after_call, after_told, after_look, after_set, found_offset}
 
 abbrev Nothing : Type 0
 Nothing = Unit {0}
@@ -42,29 +46,64 @@ parted (x ∷ xs) (suc id) v e =
       after = λ w. ap (λ l. x.riders ++ l) (p.after w) ∙ sym (append_assoc x.riders p.front (w.riders ++ p.back));
     }
 
--- the master's stores stay where a seat's do
-master_after : (views : List SeatView) (id : ℕ) (m v w : SeatView) → get_elem? views 0 ≡ some m → get_elem? views id ≡ some v → w.offsets ≡ v.offsets
-    → (u : SeatView) × (get_elem? (set views id w) 0 ≡ some u) × (u.offsets ≡ m.offsets)
-master_after [] id m v w e d same = absurd (some-ne-none m (sym e))
-master_after (x ∷ xs) zero m v w e d same = (w, refl, same ∙ ap (λ (u : SeatView). u.offsets) (sym (some-injective x v d) ∙ some-injective x m e))
-master_after (x ∷ xs) (suc id) m v w e d same = (m, e, refl)
+-- what the master knows stays where it does in a seat
+master_after : (views : List SeatView) (id : ℕ) (m v w : SeatView) → get_elem? views 0 ≡ some m → get_elem? views id ≡ some v → w.offsets ≡ v.offsets → w.called ≡ v.called
+    → (u : SeatView) × (get_elem? (set views id w) 0 ≡ some u) × (u.offsets ≡ m.offsets) × (u.called ≡ m.called)
+master_after [] id m v w e d same calls = absurd (some-ne-none m (sym e))
+master_after (x ∷ xs) zero m v w e d same calls =
+    let one : v ≡ m = sym (some-injective x v d) ∙ some-injective x m e in
+    (w, refl, same ∙ ap (λ (u : SeatView). u.offsets) one, calls ∙ ap (λ (u : SeatView). u.called) one)
+master_after (x ∷ xs) (suc id) m v w e d same calls = (m, e, refl, refl)
+
+-- what the witnesses know of these riders
+abbrev AllKnown : List RiderView → List SeatView → Type 0
+AllKnown riders views = Every (λ (v : SeatView). Every (IsKnown riders) v.known) views
+
+known_more : (riders after : List RiderView) (views : List SeatView) → ((k : Known) → IsKnown riders k → IsKnown after k) → AllKnown riders views → AllKnown after views
+known_more riders after views grows h =
+    every_weaker (λ (v : SeatView). Every (IsKnown riders) v.known) (λ (v : SeatView). Every (IsKnown after) v.known) views (λ v e. every_weaker (IsKnown riders) (IsKnown after) v.known grows e) h
+
+-- a greater number fits as well
+up_to_more : (m n : ℕ) → m ≤ n → (t : Touch) → IsUpTo m t → IsUpTo n t
+up_to_more m n le (Stored d v) h = tt
+up_to_more m n le (Loaded d v) h = tt
+up_to_more m n le (Changed d w v) h = tt
+up_to_more m n le (Called k) h = omega (arith, le, h)
+up_to_more m n le (Met name count) h = tt
+
+calls_more : (m n : ℕ) → m ≤ n → (riders : List RiderView) → Every (CallsUpTo m) riders → Every (CallsUpTo n) riders
+calls_more m n le riders h = every_weaker (CallsUpTo m) (CallsUpTo n) riders (λ r e. every_weaker (IsUpTo m) (IsUpTo n) r.touches (up_to_more m n le) e) h
+
+-- what a rider made, it made where it made more since
+past_more : (past : List Touch) (r q : RiderView) → HasPast past r → HasPast r.touches q → HasPast past q
+past_more past r q h k = (k.0 ++ h.0, k.1 ∙ ap (λ (l : List Touch). k.0 ++ l) h.1 ∙ sym (append_assoc k.0 h.0 past))
 
 -- one rider's view and some words change
 rider_kept : (room : Room) (words after : List ℕ) (views : List SeatView) (id : ℕ) (r q : RiderView) → IsKept room words views → get_elem? views id ≡ some (rider_seat r) → length after ≡ length words
-    → ((front back : List RiderView) (last : OffsetWords) → IsStanding room.cells words last (front ++ r ∷ back) → IsStanding room.cells after last (front ++ q ∷ back))
+    → q.name ≡ r.name → HasPast r.touches q → ((n : ℕ) → CallsUpTo n r → CallsUpTo n q)
+    → ((front back : List RiderView) (last : OffsetWords) → riders_in views ≡ front ++ r ∷ back → IsStanding room.cells words last (front ++ r ∷ back) → IsStanding room.cells after last (front ++ q ∷ back))
     → IsKept room after (set views id (rider_seat q))
-rider_kept room words after views id r q h at width move =
+rider_kept room words after views id r q h at width named longer fits move =
     let p = parted views id (rider_seat r) at in
-    let m = master_after views id h.master (rider_seat r) (rider_seat q) h.seat at refl in
+    let m = master_after views id h.master (rider_seat r) (rider_seat q) h.seat at refl refl in
     let now = p.after (rider_seat q) in
     let standing = standing_from room.cells words h.master.offsets (p.front ++ r ∷ p.back) (subst (λ l. IsRuled room.cells words h.master.offsets l) p.before h.ruled) in
-    let moved = ruled_from room.cells after h.master.offsets (p.front ++ q ∷ p.back) (move p.front p.back h.master.offsets standing) in
+    let moved = ruled_from room.cells after h.master.offsets (p.front ++ q ∷ p.back) (move p.front p.back h.master.offsets p.before standing) in
+    let n = h.master.called in
+    let calls : Every (CallsUpTo n) (p.front ++ r ∷ p.back) = subst (λ l. Every (CallsUpTo n) l) p.before h.called in
+    let ends = every_back (CallsUpTo n) p.front (r ∷ p.back) calls in
+    let called_now : Every (CallsUpTo n) (p.front ++ q ∷ p.back) = every_append (CallsUpTo n) p.front (q ∷ p.back) (every_front (CallsUpTo n) p.front (r ∷ p.back) calls) (fits n ends.0, ends.1) in
+    let grows : (k : Known) → IsKnown (riders_in views) k → IsKnown (riders_in (set views id (rider_seat q))) k =
+    λ k s. subst (λ l. IsKnown l k) (sym now)
+    (some_changed (λ i x. (x.name ≡ k.name) × HasPast k.touches x) (λ i x. (x.name ≡ k.name) × HasPast k.touches x) p.front r q p.back (λ y. (named ∙ y.0, past_more k.touches r q y.1 longer)) (λ i x y. y) (subst (λ l. IsKnown l k) p.before s)) in
     record {
       master = m.0;
       seat = m.1;
       width = width ∙ h.width;
       count = ap length now ∙ length-append p.front (q ∷ p.back) ∙ sym (length-append p.front (r ∷ p.back)) ∙ sym (ap length p.before) ∙ h.count;
       ruled = subst (λ l. IsRuled room.cells after m.0.offsets l) (sym now) (subst (λ o. IsRuled room.cells after o (p.front ++ q ∷ p.back)) (sym m.2) moved);
+      called = subst (λ l. Every (CallsUpTo m.0.called) l) (sym now) (subst (λ c. Every (CallsUpTo c) (p.front ++ q ∷ p.back)) (sym m.3) called_now);
+      known = known_more (riders_in views) (riders_in (set views id (rider_seat q))) (set views id (rider_seat q)) grows (every_set (λ (v : SeatView). Every (IsKnown (riders_in views)) v.known) views id (rider_seat q) h.known tt);
     }
 
 -- what the rule says of the words and of one rider
@@ -82,7 +121,7 @@ module _ (room : Room) (slots : ℕ) (id : ℕ) where
         rider_seat (touched (Stored c v) r),
         keeps,
         tt,
-        rider_kept room s.words (set s.words c v) s.views id r (touched (Stored c v) r) h at (length-set s.words c v) (λ front back last k. after_store front r back room.cells s.words last c v less h.width k),
+        rider_kept room s.words (set s.words c v) s.views id r (touched (Stored c v) r) h at (length-set s.words c v) refl (Stored c v ∷ [], refl) (λ n e. (tt, e)) (λ front back last b k. after_store front r back room.cells s.words last c v less h.width k),
         refl,
       ))
 
@@ -94,7 +133,7 @@ module _ (room : Room) (slots : ℕ) (id : ℕ) where
         keeps,
         tt,
         subst (λ ws. IsKept room ws (set s.views id (rider_seat q))) (sym (set-get_or s.words c 0))
-            (rider_kept room s.words s.words s.views id r q h at refl (λ front back last k. after_load front r back room.cells s.words last c less k)),
+            (rider_kept room s.words s.words s.views id r q h at refl refl (Loaded c (slice_index s.words c) ∷ [], refl) (λ n e. (tt, e)) (λ front back last b k. after_load front r back room.cells s.words last c less k)),
         refl,
       ))
 
@@ -102,7 +141,7 @@ module _ (room : Room) (slots : ℕ) (id : ℕ) where
   changed : (words : List ℕ) (views : List SeatView) (r : RiderView) (c v : ℕ) → c < room.cells → IsKept room words views → get_elem? views id ≡ some (rider_seat r)
       → IsKept room (set words c v) (set views id (rider_seat (touched (Changed c (slice_index words c) v) r)))
   changed words views r c v less h at =
-      rider_kept room words (set words c v) views id r (touched (Changed c (slice_index words c) v) r) h at (length-set words c v) (λ front back last k. after_change front r back room.cells words last c v less h.width k)
+      rider_kept room words (set words c v) views id r (touched (Changed c (slice_index words c) v) r) h at (length-set words c v) refl (Changed c (slice_index words c) v ∷ [], refl) (λ n e. (tt, e)) (λ front back last b k. after_change front r back room.cells words last c v less h.width k)
 
   pub adds_allowed : (me : Me Nothing SeatView) (r : RiderView) (c more : ℕ) → me ≡ (rider_seat r, []) → c < room.cells
       → Allows (Holds room) slots id me c (λ n. (n + more) % 2 ^ 64) (Adds (step slots c more 0 none) me)
@@ -133,7 +172,7 @@ module _ (room : Room) (slots : ℕ) (id : ℕ) where
       kept words views h at false =
           let q = touched (Loaded c (slice_index words c)) r in
           subst (λ ws. IsKept room ws (set views id (rider_seat q))) (sym (set-get_or words c 0))
-          (rider_kept room words words views id r q h at refl (λ front back last k. after_load front r back room.cells words last c less k))
+          (rider_kept room words words views id r q h at refl refl (Loaded c (slice_index words c) ∷ [], refl) (λ n e. (tt, e)) (λ front back last b k. after_load front r back room.cells words last c less k))
 
   pub looks_allowed : (me : Me Nothing SeatView) (r : RiderView) (which : Which) (i : ℕ) → me ≡ (rider_seat r, []) → i ≡ place_of which room.cells
       → Allows (Holds room) slots id me i (λ n. n) (Looks which (step slots i 0 0 none) me)
@@ -150,7 +189,7 @@ module _ (room : Room) (slots : ℕ) (id : ℕ) where
         keeps,
         tt,
         subst (λ ws. IsKept room ws (set s.views id (rider_seat q))) (sym (set-get_or s.words i 0))
-            (rider_kept room s.words s.words s.views id r q h at refl (λ front back last k. after_look front r back room.cells s.words last which x (found last (front ++ r ∷ back) k) k)),
+            (rider_kept room s.words s.words s.views id r q h at refl refl ([], refl) (λ n e. e) (λ front back last b k. after_look front r back room.cells s.words last which x (found last (front ++ r ∷ back) k) k)),
         (refl, only x r (at_most which h.master.offsets r x (found h.master.offsets (p.front ++ r ∷ p.back) now) below)),
       ))
     where
@@ -163,70 +202,242 @@ module _ (room : Room) (slots : ℕ) (id : ℕ) where
       only x r le zero q e = let same : r ≡ q = cc e in subst (λ (p : RiderView). greatest_of which p.offsets ≤ x) same le
       only x r le (suc i) q e = absurd (cc e)
 
+-- any seat
+abbrev pub full_seat : OffsetWords → List RiderView → ℕ → List Known → SeatView
+full_seat last riders m known = record { offsets = last; riders = riders; called = m; known = known }
+
+-- a rider's seat with a witness's knowledge
+abbrev pub minding_seat : RiderView → Known → SeatView
+minding_seat r k = full_seat no_offsets (r ∷ []) 0 (k ∷ [])
+
+riders_in-push : (views : List SeatView) (w : SeatView) → riders_in (views ++ w ∷ []) ≡ riders_in views ++ w.riders
+riders_in-push [] w = append-nil w.riders
+riders_in-push (u ∷ us) w = ap (λ l. u.riders ++ l) (riders_in-push us w) ∙ sym (append_assoc u.riders (riders_in us) w.riders)
+
 module _ (room : Room) where
   -- the master's steps are those of seat 0
-  pub sets_allowed : (slots id : ℕ) (me : Me Nothing SeatView) (last : OffsetWords) (which : Which) (i x : ℕ) → id ≡ 0 → me ≡ (seat_of last [], []) → i ≡ place_of which room.cells → offset_of which last ≤ x
+  pub sets_allowed : (slots id : ℕ) (me : Me Nothing SeatView) (m : ℕ) (last : OffsetWords) (which : Which) (i x : ℕ) → id ≡ 0 → me ≡ (master_seat m last [], []) → i ≡ place_of which room.cells → offset_of which last ≤ x
       → Allows (Holds room) slots id me i (λ _. x) (λ _. Sets which (step slots i x 0 none) me x)
-  sets_allowed slots id me last which i x first is place le =
+  sets_allowed slots id me m last which i x first is place le =
       subst (λ (k : ℕ). Allows (Holds room) slots k me i (λ _. x) (λ _. Sets which (step slots i x 0 none) me x)) (sym first)
       (subst (λ (m : Me Nothing SeatView). Allows (Holds room) slots 0 m i (λ _. x) (λ _. Sets which (step slots i x 0 none) m x)) (sym is)
-      (λ s h homes at bound. (seat_of (with_offset which x last) [], keeps, tt, kept s.words s.views h at, refl)))
+      (λ s h homes at bound. (master_seat m (with_offset which x last) [], keeps, tt, kept s.words s.views h at, refl)))
     where
-      kept : (words : List ℕ) (views : List SeatView) → IsKept room words views → get_elem? views 0 ≡ some (seat_of last []) → IsKept room (set words i x) (set views 0 (seat_of (with_offset which x last) []))
-      kept words [] h at = absurd (some-ne-none (seat_of last []) (sym at))
+      kept : (words : List ℕ) (views : List SeatView) → IsKept room words views → get_elem? views 0 ≡ some (master_seat m last []) → IsKept room (set words i x) (set views 0 (master_seat m (with_offset which x last) []))
+      kept words [] h at = absurd (some-ne-none (master_seat m last []) (sym at))
       kept words (v ∷ views) h at =
-          let same : v ≡ seat_of last [] = some-injective v (seat_of last []) at in
-          let mine : h.master ≡ seat_of last [] = sym (some-injective v h.master h.seat) ∙ same in
+          let same : v ≡ master_seat m last [] = some-injective v (master_seat m last []) at in
+          let mine : h.master ≡ master_seat m last [] = sym (some-injective v h.master h.seat) ∙ same in
           let flat : riders_in (v ∷ views) ≡ riders_in views = ap (λ (u : SeatView). u.riders ++ riders_in views) same in
           let ruled = subst (λ l. IsRuled room.cells words last l) flat (subst (λ (u : SeatView). IsRuled room.cells words u.offsets (riders_in (v ∷ views))) mine h.ruled) in
           let now = ruled_from room.cells (set words (place_of which room.cells) x) (with_offset which x last) (riders_in views) (after_set which room.cells words last (riders_in views) x h.width le (standing_from room.cells words last (riders_in views) ruled)) in
           record {
-            master = seat_of (with_offset which x last) [];
+            master = master_seat m (with_offset which x last) [];
             seat = refl;
             width = length-set words i x ∙ h.width;
             count = sym (ap length flat) ∙ h.count;
             ruled = subst (λ k. IsRuled room.cells (set words k x) (with_offset which x last) (riders_in views)) (sym place) now;
+            called = subst (λ l. Every (CallsUpTo m) l) flat (subst (λ (u : SeatView). Every (CallsUpTo u.called) (riders_in (v ∷ views))) mine h.called);
+            known = (tt, subst (λ l. AllKnown l views) flat h.known.1);
           }
+
+  -- a seat comes that stands for nobody
+  pushed : (words : List ℕ) (views : List SeatView) (w : SeatView) (h : IsKept room words views) → w.riders ≡ [] → Every (IsKnown (riders_in views)) w.known → IsKept room words (views ++ w ∷ [])
+  pushed words [] w h bare knows = absurd (some-ne-none h.master (sym h.seat))
+  pushed words (u ∷ us) w h bare knows =
+      let flat : riders_in ((u ∷ us) ++ w ∷ []) ≡ riders_in (u ∷ us) = riders_in-push (u ∷ us) w ∙ ap (λ l. riders_in (u ∷ us) ++ l) bare ∙ append-nil (riders_in (u ∷ us)) in
+      record {
+        master = h.master;
+        seat = h.seat;
+        width = h.width;
+        count = ap length flat ∙ h.count;
+        ruled = subst (λ l. IsRuled room.cells words h.master.offsets l) (sym flat) h.ruled;
+        called = subst (λ l. Every (CallsUpTo h.master.called) l) (sym flat) h.called;
+        known = subst (λ l. AllKnown l ((u ∷ us) ++ w ∷ [])) (sym flat) (every_append (λ (v : SeatView). Every (IsKnown (riders_in (u ∷ us))) v.known) (u ∷ us) (w ∷ []) h.known (knows, tt));
+      }
+
+  -- a rider is dealt out, and may change
+  dealt : (words : List ℕ) (u : SeatView) (us : List SeatView) (last : OffsetWords) (r q : RiderView) (rs : List RiderView) (m n : ℕ) (known : List Known) → (h : IsKept room words (u ∷ us)) → u ≡ full_seat last (r ∷ rs) m known
+      → m ≤ n → q.name ≡ r.name → HasPast r.touches q → (CallsUpTo n r → CallsUpTo n q)
+      → ((back : List RiderView) → Every (CallsUpTo n) (r ∷ back) → IsStanding room.cells words last (r ∷ back) → IsStanding room.cells words last (q ∷ back))
+      → IsKept room words (full_seat last rs n known ∷ (us ++ rider_seat q ∷ []))
+  dealt words u us last r q rs m n known h same le named longer fits move =
+      let w = rider_seat q in
+      let others = rs ++ riders_in us in
+      let old : riders_in (u ∷ us) ≡ r ∷ others = ap (λ (x : SeatView). x.riders ++ riders_in us) same in
+      let flat : rs ++ riders_in (us ++ w ∷ []) ≡ others ++ q ∷ [] = ap (λ l. rs ++ l) (riders_in-push us w) ∙ sym (append_assoc rs (riders_in us) (q ∷ [])) in
+      let mine : h.master ≡ full_seat last (r ∷ rs) m known = sym (some-injective u h.master h.seat) ∙ same in
+      let calls : Every (CallsUpTo n) (r ∷ others) = calls_more m n le (r ∷ others) (subst (λ l. Every (CallsUpTo m) l) old (subst (λ (x : SeatView). Every (CallsUpTo x.called) (riders_in (u ∷ us))) mine h.called)) in
+      let ruled : IsRuled room.cells words last (r ∷ others) = subst (λ l. IsRuled room.cells words last l) old (subst (λ (x : SeatView). IsRuled room.cells words x.offsets (riders_in (u ∷ us))) mine h.ruled) in
+      let moved : IsStanding room.cells words last (q ∷ others) = move others calls (standing_from room.cells words last (r ∷ others) ruled) in
+      let full : IsStanding room.cells words last (q ∷ (others ++ [])) = subst (λ l. IsStanding room.cells words last (q ∷ l)) (sym (append-nil others)) moved in
+      let now = ruled_from room.cells words last (others ++ q ∷ []) (from_front others q [] room.cells words last full) in
+      let grows : (k : Known) → IsKnown (riders_in (u ∷ us)) k → IsKnown (rs ++ riders_in (us ++ w ∷ [])) k =
+      λ k s. subst (λ l. IsKnown l k) (sym flat)
+      (some_from_front others q [] (λ x. (x.name ≡ k.name) × HasPast k.touches x)
+      (subst (λ l. IsKnown (q ∷ l) k) (sym (append-nil others))
+      (some_changed (λ i x. (x.name ≡ k.name) × HasPast k.touches x) (λ i x. (x.name ≡ k.name) × HasPast k.touches x) [] r q others (λ y. (named ∙ y.0, past_more k.touches r q y.1 longer)) (λ i x y. y) (subst (λ l. IsKnown l k) old s)))) in
+      record {
+        master = full_seat last rs n known;
+        seat = refl;
+        width = h.width;
+        count = ap length flat ∙ omega (arith, length-append others (q ∷ []), ap length old, h.count);
+        ruled = subst (λ l. IsRuled room.cells words last l) (sym flat) now;
+        called = subst (λ l. Every (CallsUpTo n) l) (sym flat) (every_append (CallsUpTo n) others (q ∷ []) calls.1 (fits calls.0, tt));
+        known = known_more (riders_in (u ∷ us)) (rs ++ riders_in (us ++ w ∷ [])) (full_seat last rs n known ∷ (us ++ w ∷ [])) grows
+            (subst (λ (x : SeatView). Every (IsKnown (riders_in (u ∷ us))) x.known) same h.known.0, every_append (λ (v : SeatView). Every (IsKnown (riders_in (u ∷ us))) v.known) us (w ∷ []) h.known.1 (tt, tt));
+      }
 
   -- a rider is dealt out
   pub deals : (id : ℕ) (v : SeatView) → id ≡ 0 → Splits (Holds room) id v (left_seat v) (right_seat v)
-  deals id v first = subst (λ (k : ℕ). Splits (Holds room) k v (left_seat v) (right_seat v)) (sym first) (λ s h at. kept s.words s.views v.offsets v.riders h at)
+  deals id v first = subst (λ (k : ℕ). Splits (Holds room) k v (left_seat v) (right_seat v)) (sym first) (λ s h at. kept s.words s.views v.offsets v.riders v.called v.known h at)
     where
-      riders_in-push : (views : List SeatView) (w : SeatView) → riders_in (views ++ w ∷ []) ≡ riders_in views ++ w.riders
-      riders_in-push [] w = append-nil w.riders
-      riders_in-push (u ∷ us) w = ap (λ l. u.riders ++ l) (riders_in-push us w) ∙ sym (append_assoc u.riders (riders_in us) w.riders)
-
-      kept : (words : List ℕ) (views : List SeatView) (last : OffsetWords) (riders : List RiderView) → IsKept room words views → get_elem? views 0 ≡ some (seat_of last riders)
-          → IsKept room words (set views 0 (left_seat (seat_of last riders)) ++ right_seat (seat_of last riders) ∷ [])
-      kept words [] last riders h at = absurd (some-ne-none (seat_of last riders) (sym at))
-      kept words (u ∷ us) last riders h at = by_riders riders (some-injective u (seat_of last riders) at)
+      kept : (words : List ℕ) (views : List SeatView) (last : OffsetWords) (riders : List RiderView) (m : ℕ) (known : List Known) → IsKept room words views → get_elem? views 0 ≡ some (full_seat last riders m known)
+          → IsKept room words (set views 0 (left_seat (full_seat last riders m known)) ++ right_seat (full_seat last riders m known) ∷ [])
+      kept words [] last riders m known h at = absurd (some-ne-none (full_seat last riders m known) (sym at))
+      kept words (u ∷ us) last riders m known h at = by_riders riders (some-injective u (full_seat last riders m known) at)
         where
-          by_riders : (riders : List RiderView) → u ≡ seat_of last riders → IsKept room words (left_seat (seat_of last riders) ∷ (us ++ right_seat (seat_of last riders) ∷ []))
-          by_riders [] same =
-              let flat : riders_in (us ++ spent_seat ∷ []) ≡ riders_in (u ∷ us) = riders_in-push us spent_seat ∙ append-nil (riders_in us) ∙ sym (ap (λ (x : SeatView). x.riders ++ riders_in us) same) in
-              let mine : h.master ≡ seat_of last [] = sym (some-injective u h.master h.seat) ∙ same in
-              record {
-                master = seat_of last [];
-                seat = refl;
-                width = h.width;
-                count = ap length flat ∙ h.count;
-                ruled = subst (λ l. IsRuled room.cells words last l) (sym flat) (subst (λ (x : SeatView). IsRuled room.cells words x.offsets (riders_in (u ∷ us))) mine h.ruled);
-              }
-          by_riders (r ∷ rs) same =
-              let w = seat_of no_offsets (r ∷ []) in
-              let old : riders_in (u ∷ us) ≡ r ∷ (rs ++ riders_in us) = ap (λ (x : SeatView). x.riders ++ riders_in us) same in
-              let flat : rs ++ riders_in (us ++ w ∷ []) ≡ (rs ++ riders_in us) ++ r ∷ [] = ap (λ l. rs ++ l) (riders_in-push us w) ∙ sym (append_assoc rs (riders_in us) (r ∷ [])) in
-              let mine : h.master ≡ seat_of last (r ∷ rs) = sym (some-injective u h.master h.seat) ∙ same in
-              let ruled : IsRuled room.cells words last (r ∷ (rs ++ riders_in us)) = subst (λ l. IsRuled room.cells words last l) old (subst (λ (x : SeatView). IsRuled room.cells words x.offsets (riders_in (u ∷ us))) mine h.ruled) in
-              let full : IsRuled room.cells words last (r ∷ ((rs ++ riders_in us) ++ [])) = subst (λ l. IsRuled room.cells words last (r ∷ l)) (sym (append-nil (rs ++ riders_in us))) ruled in
-              let now = ruled_from room.cells words last ((rs ++ riders_in us) ++ r ∷ []) (from_front (rs ++ riders_in us) r [] room.cells words last (standing_from room.cells words last (r ∷ ((rs ++ riders_in us) ++ [])) full)) in
-              record {
-                master = seat_of last rs;
-                seat = refl;
-                width = h.width;
-                count = ap length flat ∙ omega (arith, length-append (rs ++ riders_in us) (r ∷ []), ap length old, h.count);
-                ruled = subst (λ l. IsRuled room.cells words last l) (sym flat) now;
-              }
+          by_riders : (riders : List RiderView) → u ≡ full_seat last riders m known → IsKept room words (left_seat (full_seat last riders m known) ∷ (us ++ right_seat (full_seat last riders m known) ∷ []))
+          by_riders [] same = subst (λ (x : SeatView). IsKept room words (x ∷ (us ++ spent_seat ∷ []))) same (pushed words (u ∷ us) spent_seat h refl tt)
+          by_riders (r ∷ rs) same = dealt words u us last r r rs m m known h same (omega arith) refl ([], refl) (λ e. e) (λ back e st. st)
+
+  -- a rider is dealt out that made a call
+  pub calls : (n : ℕ) (id : ℕ) (me : Me Nothing SeatView) (m : ℕ) (last : OffsetWords) (r : RiderView) → id ≡ 0 → me ≡ (master_seat m last (r ∷ []), []) → m ≤ n → Splits (Holds room) id me.0 (left_called n me.0) (right_called n me.0)
+  calls n id me m last r first is le =
+      subst (λ (k : ℕ). Splits (Holds room) k me.0 (left_called n me.0) (right_called n me.0)) (sym first)
+      (subst (λ (x : Me Nothing SeatView). Splits (Holds room) 0 x.0 (left_called n x.0) (right_called n x.0)) (sym is) (λ s h at. kept s.words s.views h at))
+    where
+      kept : (words : List ℕ) (views : List SeatView) → IsKept room words views → get_elem? views 0 ≡ some (master_seat m last (r ∷ []))
+          → IsKept room words (set views 0 (master_seat n last []) ++ rider_seat (called n r) ∷ [])
+      kept words [] h at = absurd (some-ne-none (master_seat m last (r ∷ [])) (sym at))
+      kept words (u ∷ us) h at =
+          dealt words u us last r (called n r) [] m n [] h (some-injective u (master_seat m last (r ∷ [])) at) le refl (Called n ∷ [], refl) (λ e. (omega arith, e))
+          (λ back each st. after_call [] r back room.cells words last n each st)
+
+  -- a load makes a seat for nobody
+  pub blanks : (slots : ℕ) (v : SeatView) → Enters (Holds room) slots 0 (λ n w. Blanks (step slots 0 0 0 none) (v, []) n (w, []))
+  blanks slots v = λ s h homes bound. (spent_seat, pushed s.words s.views spent_seat h refl tt, refl)
+
+  -- a rider's seat gives a witness
+  pub shows : (id : ℕ) (v : SeatView) (r : RiderView) → v ≡ rider_seat r → Splits (Holds room) id v (same_seat v) (shown_seat v)
+  shows id v r is = subst (λ (x : SeatView). Splits (Holds room) id x (same_seat x) (shown_seat x)) (sym is) (λ s h at. kept s.words s.views h at)
+    where
+      kept : (words : List ℕ) (views : List SeatView) → IsKept room words views → get_elem? views id ≡ some (rider_seat r) → IsKept room words (set views id (rider_seat r) ++ knows_seat (past_of r) ∷ [])
+      kept words views h at =
+          let p = parted views id (rider_seat r) at in
+          let some_one : IsKnown (p.front ++ r ∷ p.back) (past_of r) = (length p.front, r, at_place p.front r p.back, (refl, ([], refl))) in
+          subst (λ vs. IsKept room words (vs ++ knows_seat (past_of r) ∷ [])) (sym (set_again views id (rider_seat r) at))
+          (pushed words views (knows_seat (past_of r)) h refl (subst (λ l. IsKnown l (past_of r)) (sym p.before) some_one, tt))
+
+  -- a witness's seat gives another
+  pub copies : (id : ℕ) (v : SeatView) (k : Known) → v ≡ knows_seat k → Splits (Holds room) id v (same_seat v) (copied_seat v)
+  copies id v k is = subst (λ (x : SeatView). Splits (Holds room) id x (same_seat x) (copied_seat x)) (sym is) (λ s h at. kept s.words s.views h at)
+    where
+      kept : (words : List ℕ) (views : List SeatView) → (h : IsKept room words views) → get_elem? views id ≡ some (knows_seat k) → IsKept room words (set views id (knows_seat k) ++ knows_seat k ∷ [])
+      kept words views h at =
+          subst (λ vs. IsKept room words (vs ++ knows_seat k ∷ [])) (sym (set_again views id (knows_seat k) at))
+          (pushed words views (knows_seat k) h refl (every_elem (λ (x : SeatView). Every (IsKnown (riders_in views)) x.known) views id (knows_seat k) h.known at))
+
+  -- a witness's seat is spent
+  cleared : (words : List ℕ) (views : List SeatView) (id : ℕ) (k : Known) (h : IsKept room words views) → get_elem? views id ≡ some (knows_seat k) → IsKept room words (set views id spent_seat)
+  cleared words views id k h at =
+      let p = parted views id (knows_seat k) at in
+      let m = master_after views id h.master (knows_seat k) spent_seat h.seat at refl refl in
+      let flat : riders_in (set views id spent_seat) ≡ riders_in views = p.after spent_seat ∙ sym p.before in
+      record {
+        master = m.0;
+        seat = m.1;
+        width = h.width;
+        count = ap length flat ∙ h.count;
+        ruled = subst (λ l. IsRuled room.cells words m.0.offsets l) (sym flat) (subst (λ o. IsRuled room.cells words o (riders_in views)) (sym m.2) h.ruled);
+        called = subst (λ l. Every (CallsUpTo m.0.called) l) (sym flat) (subst (λ c. Every (CallsUpTo c) (riders_in views)) (sym m.3) h.called);
+        known = subst (λ l. AllKnown l (set views id spent_seat)) (sym flat) (every_set (λ (v : SeatView). Every (IsKnown (riders_in views)) v.known) views id spent_seat h.known tt);
+      }
+
+  -- a seat takes note of what it may know
+  noted : (words : List ℕ) (views : List SeatView) (id : ℕ) (v w : SeatView) (h : IsKept room words views) → get_elem? views id ≡ some v → w.offsets ≡ v.offsets → w.called ≡ v.called → w.riders ≡ v.riders → Every (IsKnown (riders_in views)) w.known
+      → IsKept room words (set views id w)
+  noted words views id v w h at offsets calls same knows =
+      let p = parted views id v at in
+      let m = master_after views id h.master v w h.seat at offsets calls in
+      let flat : riders_in (set views id w) ≡ riders_in views = p.after w ∙ ap (λ l. p.front ++ (l ++ p.back)) same ∙ sym p.before in
+      record {
+        master = m.0;
+        seat = m.1;
+        width = h.width;
+        count = ap length flat ∙ h.count;
+        ruled = subst (λ l. IsRuled room.cells words m.0.offsets l) (sym flat) (subst (λ o. IsRuled room.cells words o (riders_in views)) (sym m.2) h.ruled);
+        called = subst (λ l. Every (CallsUpTo m.0.called) l) (sym flat) (subst (λ c. Every (CallsUpTo c) (riders_in views)) (sym m.3) h.called);
+        known = subst (λ l. AllKnown l (set views id w)) (sym flat) (every_set (λ (x : SeatView). Every (IsKnown (riders_in views)) x.known) views id w h.known knows);
+      }
+
+  -- a rider's seat is told what a witness knows
+  pub tells : (id : ℕ) (v : SeatView) (other : ℕ) (w : SeatView) (r : RiderView) (k : Known) → v ≡ rider_seat r → w ≡ knows_seat k → Joins (Holds room) id v other w (told_seat v w) spent_seat
+  tells id v other w r k is seen =
+      subst (λ (x : SeatView). Joins (Holds room) id x other w (told_seat x w) spent_seat) (sym is)
+      (subst (λ (x : SeatView). Joins (Holds room) id (rider_seat r) other x (told_seat (rider_seat r) x) spent_seat) (sym seen) (λ s h at apart there. kept s.words s.views h at apart there))
+    where
+      kept : (words : List ℕ) (views : List SeatView) (h : IsKept room words views) → get_elem? views id ≡ some (rider_seat r) → ¬ (other ≡ id) → get_elem? (set views id (rider_seat (told k r))) other ≡ some (knows_seat k)
+          → IsKept room words (set (set views id (rider_seat (told k r))) other spent_seat)
+      kept words views h at apart there =
+          let new : SeatView = rider_seat (told k r) in
+          let knows : Every (IsKnown (riders_in views)) (k ∷ []) = every_elem (λ (x : SeatView). Every (IsKnown (riders_in views)) x.known) views other (knows_seat k) h.known (sym (set_else views id other new apart) ∙ there) in
+          let mid : IsKept room words (set views id new) =
+          rider_kept room words words views id r (told k r) h at refl refl (Met k.name (length k.touches) ∷ [], refl) (λ n e. (tt, e)) (λ front back last b st. after_told front r back room.cells words last k (subst (λ l. IsKnown l k) b knows.0) st) in
+          cleared words (set views id new) other k mid there
+
+  -- any seat takes a witness's knowledge
+  pub attests : (id : ℕ) (v : SeatView) (other : ℕ) (w : SeatView) (k : Known) → w ≡ knows_seat k → Joins (Holds room) id v other w (attested_seat v w) spent_seat
+  attests id v other w k seen =
+      subst (λ (x : SeatView). Joins (Holds room) id v other x (attested_seat v x) spent_seat) (sym seen) (λ s h at apart there. kept s.words s.views h at apart there)
+    where
+      kept : (words : List ℕ) (views : List SeatView) (h : IsKept room words views) → get_elem? views id ≡ some v → ¬ (other ≡ id) → get_elem? (set views id (attested_seat v (knows_seat k))) other ≡ some (knows_seat k)
+          → IsKept room words (set (set views id (attested_seat v (knows_seat k))) other spent_seat)
+      kept words views h at apart there =
+          let new : SeatView = attested_seat v (knows_seat k) in
+          let knows : Every (IsKnown (riders_in views)) (k ∷ []) = every_elem (λ (x : SeatView). Every (IsKnown (riders_in views)) x.known) views other (knows_seat k) h.known (sym (set_else views id other new apart) ∙ there) in
+          let own : Every (IsKnown (riders_in views)) v.known = every_elem (λ (x : SeatView). Every (IsKnown (riders_in views)) x.known) views id v h.known at in
+          let mid : IsKept room words (set views id new) = noted words views id v new h at refl refl refl (knows.0, own) in
+          cleared words (set views id new) other k mid there
+
+  -- a rider's seat takes a witness's knowledge, to look at it
+  pub minds : (id : ℕ) (v : SeatView) (other : ℕ) (w : SeatView) (r : RiderView) (k : Known) → v ≡ rider_seat r → w ≡ knows_seat k → Joins (Holds room) id v other w (recalling_seat v w) spent_seat
+  minds id v other w r k is seen =
+      subst (λ (x : SeatView). Joins (Holds room) id x other w (recalling_seat x w) spent_seat) (sym is)
+      (subst (λ (x : SeatView). Joins (Holds room) id (rider_seat r) other x (recalling_seat (rider_seat r) x) spent_seat) (sym seen) (λ s h at apart there. kept s.words s.views h at apart there))
+    where
+      kept : (words : List ℕ) (views : List SeatView) (h : IsKept room words views) → get_elem? views id ≡ some (rider_seat r) → ¬ (other ≡ id) → get_elem? (set views id (minding_seat r k)) other ≡ some (knows_seat k)
+          → IsKept room words (set (set views id (minding_seat r k)) other spent_seat)
+      kept words views h at apart there =
+          let new : SeatView = minding_seat r k in
+          let knows : Every (IsKnown (riders_in views)) (k ∷ []) = every_elem (λ (x : SeatView). Every (IsKnown (riders_in views)) x.known) views other (knows_seat k) h.known (sym (set_else views id other new apart) ∙ there) in
+          let mid : IsKept room words (set views id new) = noted words views id (rider_seat r) new h at refl refl refl knows in
+          cleared words (set views id new) other k mid there
+
+  -- and looks at it
+  pub recalls : (slots id : ℕ) (me : Me Nothing SeatView) (r : RiderView) (k : Known) → me ≡ (minding_seat r k, []) → Allows (Holds room) slots id me 0 (λ n. n) (Recalls (step slots 0 0 0 none) me)
+  recalls slots id me r k is =
+      subst (λ (m : Me Nothing SeatView). Allows (Holds room) slots id m 0 (λ n. n) (Recalls (step slots 0 0 0 none) m)) (sym is)
+      (λ s h homes at bound. (
+        rider_seat r,
+        keeps,
+        tt,
+        subst (λ ws. IsKept room ws (set s.views id (rider_seat r))) (sym (set-get_or s.words 0 0)) (noted s.words s.views id (minding_seat r k) (rider_seat r) h at refl refl refl tt),
+        (refl, (own s.words s.views h at, tt)),
+      ))
+    where
+      own : (words : List ℕ) (views : List SeatView) (h : IsKept room words views) → get_elem? views id ≡ some (minding_seat r k) → (i : ℕ) (x : RiderView) → slice_get (r ∷ []) i ≡ Some x → x.name ≡ k.name → HasPast k.touches x
+      own words views h at zero x e named =
+          let p = parted views id (minding_seat r k) at in
+          let same : r ≡ x = cc e in
+          let knows : IsKnown (p.front ++ r ∷ p.back) k = subst (λ l. IsKnown l k) p.before (every_elem (λ (y : SeatView). Every (IsKnown (riders_in views)) y.known) views id (minding_seat r k) h.known at).0 in
+          let names : AreNamed (p.front ++ r ∷ p.back) = subst AreNamed p.before h.ruled.order.1.names in
+          let here = at_place p.front r p.back in
+          let place : knows.0 ≡ length p.front = names knows.0 (length p.front) knows.1 r knows.2 here (knows.3.0 ∙ sym named ∙ ap (λ (y : RiderView). y.name) (sym same)) in
+          let both : Some knows.1 ≡ Some r = sym knows.2 ∙ ap (slice_get (p.front ++ r ∷ p.back)) place ∙ here in
+          let one : knows.1 ≡ r = cc both in
+          subst (HasPast k.touches) (one ∙ same) knows.3.1
+      own words views h at (suc i) x e named = absurd (cc e)
 
   -- and taken back in
   pub joins : (id : ℕ) (v : SeatView) (other : ℕ) (w : SeatView) (r : RiderView) → id ≡ 0 → w ≡ rider_seat r → Joins (Holds room) id v other w (joined_seat v w) spent_seat
@@ -241,40 +452,52 @@ module _ (room : Room) where
       kept words (u ∷ us) (suc k) h at apart there =
           let same : u ≡ v = some-injective u v at in
           let p = parted us k (rider_seat r) there in
+          let front = v.riders ++ p.front in
           let gone : riders_in (set us k spent_seat) ≡ p.front ++ p.back = p.after spent_seat in
-          let old : riders_in (u ∷ us) ≡ (v.riders ++ p.front) ++ r ∷ p.back = ap (λ (x : SeatView). x.riders ++ riders_in us) same ∙ ap (λ l. v.riders ++ l) p.before ∙ sym (append_assoc v.riders p.front (r ∷ p.back)) in
-          let flat : r ∷ (v.riders ++ riders_in (set us k spent_seat)) ≡ r ∷ ((v.riders ++ p.front) ++ p.back) = ap (λ l. r ∷ l) (ap (λ l. v.riders ++ l) gone ∙ sym (append_assoc v.riders p.front p.back)) in
+          let old : riders_in (u ∷ us) ≡ front ++ r ∷ p.back = ap (λ (x : SeatView). x.riders ++ riders_in us) same ∙ ap (λ l. v.riders ++ l) p.before ∙ sym (append_assoc v.riders p.front (r ∷ p.back)) in
+          let flat : r ∷ (v.riders ++ riders_in (set us k spent_seat)) ≡ r ∷ (front ++ p.back) = ap (λ l. r ∷ l) (ap (λ l. v.riders ++ l) gone ∙ sym (append_assoc v.riders p.front p.back)) in
           let mine : h.master ≡ v = sym (some-injective u h.master h.seat) ∙ same in
           let ruled = subst (λ l. IsRuled room.cells words v.offsets l) old (subst (λ (x : SeatView). IsRuled room.cells words x.offsets (riders_in (u ∷ us))) mine h.ruled) in
-          let now = ruled_from room.cells words v.offsets (r ∷ ((v.riders ++ p.front) ++ p.back)) (to_front (v.riders ++ p.front) r p.back room.cells words v.offsets (standing_from room.cells words v.offsets ((v.riders ++ p.front) ++ r ∷ p.back) ruled)) in
+          let now = ruled_from room.cells words v.offsets (r ∷ (front ++ p.back)) (to_front front r p.back room.cells words v.offsets (standing_from room.cells words v.offsets (front ++ r ∷ p.back) ruled)) in
+          let calls : Every (CallsUpTo v.called) (front ++ r ∷ p.back) = subst (λ l. Every (CallsUpTo v.called) l) old (subst (λ (x : SeatView). Every (CallsUpTo x.called) (riders_in (u ∷ us))) mine h.called) in
+          let ends = every_back (CallsUpTo v.called) front (r ∷ p.back) calls in
+          let all : Every (CallsUpTo v.called) (r ∷ (front ++ p.back)) = (ends.0, every_append (CallsUpTo v.called) front p.back (every_front (CallsUpTo v.called) front (r ∷ p.back) calls) ends.1) in
+          let grows : (x : Known) → IsKnown (riders_in (u ∷ us)) x → IsKnown (r ∷ (v.riders ++ riders_in (set us k spent_seat))) x =
+          λ x s. subst (λ l. IsKnown l x) (sym flat) (some_to_front front r p.back (λ y. (y.name ≡ x.name) × HasPast x.touches y) (subst (λ l. IsKnown l x) old s)) in
           record {
             master = joined_seat v (rider_seat r);
             seat = refl;
             width = h.width;
-            count = ap length flat ∙ omega (arith, length-append (v.riders ++ p.front) p.back, length-append (v.riders ++ p.front) (r ∷ p.back), ap length old, h.count);
+            count = ap length flat ∙ omega (arith, length-append front p.back, length-append front (r ∷ p.back), ap length old, h.count);
             ruled = subst (λ l. IsRuled room.cells words v.offsets l) (sym flat) now;
+            called = subst (λ l. Every (CallsUpTo v.called) l) (sym flat) all;
+            known = known_more (riders_in (u ∷ us)) (r ∷ (v.riders ++ riders_in (set us k spent_seat))) (joined_seat v (rider_seat r) ∷ set us k spent_seat) grows
+                (subst (λ (x : SeatView). Every (IsKnown (riders_in (u ∷ us))) x.known) same h.known.0, every_set (λ (x : SeatView). Every (IsKnown (riders_in (u ∷ us))) x.known) us k spent_seat h.known.1 tt);
           }
 
-  -- at the end the master's seat stands for all riders
-  pub ends : (words : List ℕ) (slots : List Nothing) (last : OffsetWords) (riders : List RiderView) (id : ℕ) (v : SeatView) → id ≡ 0 → v ≡ seat_of last riders → length riders ≡ room.riders
-      → Final (Seen (Holds room) id v) words slots → IsRuled room.cells words last riders
-  ends words slots last riders id v first is all f =
+  -- at the end the master's seat stands for all riders, and knows what the witnesses told that it took back
+  pub ends : (words : List ℕ) (slots : List Nothing) (m : ℕ) (last : OffsetWords) (riders : List RiderView) (ks : List Known) (id : ℕ) (v : SeatView) → id ≡ 0 → v ≡ full_seat last riders m ks → length riders ≡ room.riders
+      → Final (Seen (Holds room) id v) words slots → IsRuled room.cells words last riders × Every (IsKnown riders) ks
+  ends words slots m last riders ks id v first is all f =
       let s = f.0 in
-      let at : get_elem? s.views 0 ≡ some (seat_of last riders) = ap (get_elem? s.views) (sym first) ∙ f.1.1 ∙ ap some is in
-      subst (λ ws. IsRuled room.cells ws last riders) f.2 (ruled_at s.words s.views f.1.0 at)
+      let at : get_elem? s.views 0 ≡ some (full_seat last riders m ks) = ap (get_elem? s.views) (sym first) ∙ f.1.1 ∙ ap some is in
+      let both = told_at s.words s.views f.1.0 at in
+      (subst (λ ws. IsRuled room.cells ws last riders) f.2 both.0, both.1)
     where
       none_left : (xs ys : List RiderView) → length (xs ++ ys) ≡ length xs → xs ++ ys ≡ xs
       none_left xs [] e = append-nil xs
       none_left xs (y ∷ ys) e = absurd (omega (arith, length-append xs (y ∷ ys)))
 
-      ruled_at : (words : List ℕ) (views : List SeatView) → IsKept room words views → get_elem? views 0 ≡ some (seat_of last riders) → IsRuled room.cells words last riders
-      ruled_at words [] h at = absurd (some-ne-none (seat_of last riders) (sym at))
-      ruled_at words (u ∷ us) h at =
-          let same : u ≡ seat_of last riders = some-injective u (seat_of last riders) at in
-          let mine : h.master ≡ seat_of last riders = sym (some-injective u h.master h.seat) ∙ same in
+      told_at : (words : List ℕ) (views : List SeatView) → IsKept room words views → get_elem? views 0 ≡ some (full_seat last riders m ks) → IsRuled room.cells words last riders × Every (IsKnown riders) ks
+      told_at words [] h at = absurd (some-ne-none (full_seat last riders m ks) (sym at))
+      told_at words (u ∷ us) h at =
+          let same : u ≡ full_seat last riders m ks = some-injective u (full_seat last riders m ks) at in
+          let mine : h.master ≡ full_seat last riders m ks = sym (some-injective u h.master h.seat) ∙ same in
           let flat : riders_in (u ∷ us) ≡ riders ++ riders_in us = ap (λ (x : SeatView). x.riders ++ riders_in us) same in
-          let whole : riders ++ riders_in us ≡ riders = none_left riders (riders_in us) (sym (ap length flat) ∙ h.count ∙ sym all) in
-          subst (λ l. IsRuled room.cells words last l) (flat ∙ whole) (subst (λ (x : SeatView). IsRuled room.cells words x.offsets (riders_in (u ∷ us))) mine h.ruled)
+          let whole : riders ++ riders_in us ≡ riders = none_left riders (riders_in us) (sym (ap length flat) ∙ h.count ∙ sym all) in (
+            subst (λ l. IsRuled room.cells words last l) (flat ∙ whole) (subst (λ (x : SeatView). IsRuled room.cells words x.offsets (riders_in (u ∷ us))) mine h.ruled),
+            subst (λ l. Every (IsKnown l) ks) (flat ∙ whole) (subst (λ (x : SeatView). Every (IsKnown (riders_in (u ∷ us))) x.known) same h.known.0),
+          )
 
   -- nothing was done yet
   pub begins : (words : List ℕ) → words ≡ replicate (room.cells + 19) 0 → Holds room (opening words [] (first_seat room))
@@ -283,44 +506,52 @@ module _ (room : Room) where
         master = first_seat room;
         seat = refl;
         width = length-replicate (room.cells + 19) 0;
-        count = ap length flat ∙ length-replicate room.riders unused;
-        ruled = subst (λ l. IsRuled room.cells (replicate (room.cells + 19) 0) no_offsets l) (sym flat) (ruled_from room.cells (replicate (room.cells + 19) 0) no_offsets (replicate room.riders unused) standing);
+        count = ap length flat ∙ long room.riders 0;
+        ruled = subst (λ l. IsRuled room.cells (replicate (room.cells + 19) 0) no_offsets l) (sym flat) (ruled_from room.cells (replicate (room.cells + 19) 0) no_offsets (fresh_from 0 room.riders) standing);
+        called = subst (λ l. Every (CallsUpTo 0) l) (sym flat) (each (CallsUpTo 0) (λ k. tt) room.riders 0);
+        known = (tt, tt);
       }
     where
-      flat : replicate room.riders unused ++ [] ≡ replicate room.riders unused
-      flat = append-nil (replicate room.riders unused)
+      flat : fresh_from 0 room.riders ++ [] ≡ fresh_from 0 room.riders
+      flat = append-nil (fresh_from 0 room.riders)
+
+      long : (n k : ℕ) → length (fresh_from k n) ≡ n
+      long zero k = refl
+      long (suc n) k = ap suc (long n (suc k))
 
       zeros : (n i : ℕ) → slice_index (replicate n 0) i ≡ 0
       zeros zero i = refl
       zeros (suc n) zero = refl
       zeros (suc n) (suc i) = zeros n i
 
-      each : (P : RiderView → Type 0) → P unused → (n : ℕ) → Every P (replicate n unused)
-      each P p zero = tt
-      each P p (suc n) = (p, each P p n)
+      each : (P : RiderView → Type 0) → ((k : ℕ) → P (fresh k)) → (n k : ℕ) → Every P (fresh_from k n)
+      each P p zero k = tt
+      each P p (suc n) k = (p k, each P p n (suc k))
 
-      untouched : (n i : ℕ) (r : RiderView) → slice_get (replicate n unused) i ≡ Some r → r.touches ≡ []
-      untouched zero i r e = absurd cc
-      untouched (suc n) zero r e = let is : unused ≡ r = cc e in sym (ap (λ (x : RiderView). x.touches) is)
-      untouched (suc n) (suc i) r e = untouched n i r e
+      untouched : (n k i : ℕ) (r : RiderView) → slice_get (fresh_from k n) i ≡ Some r → (r.touches ≡ []) × (r.name ≡ k + i)
+      untouched zero k i r e = absurd cc
+      untouched (suc n) k zero r e = let is : fresh k ≡ r = cc e in (sym (ap (λ (x : RiderView). x.touches) is), omega (arith, ap (λ (x : RiderView). x.name) is))
+      untouched (suc n) k (suc i) r e = let h = untouched n (suc k) i r e in (h.0, omega (arith, h.1))
 
-      order : HasOneOrder room.cells (replicate (room.cells + 19) 0) (replicate room.riders unused)
+      order : HasOneOrder room.cells (replicate (room.cells + 19) 0) (fresh_from 0 room.riders)
       order = (
         [],
         record {
           serial = tt;
-          each = λ i r e. untouched room.riders i r e;
+          each = λ i r e. (untouched room.riders 0 i r e).0;
           theirs = tt;
           last = λ c less. zeros (room.cells + 19) c;
+          met = tt;
+          names = λ i j r q a b e. omega (arith, (untouched room.riders 0 i r a).1, (untouched room.riders 0 j q b).1, e);
         },
       )
 
-      standing : IsStanding room.cells (replicate (room.cells + 19) 0) no_offsets (replicate room.riders unused)
+      standing : IsStanding room.cells (replicate (room.cells + 19) 0) no_offsets (fresh_from 0 room.riders)
       standing = record {
         order = order;
         read_only = zeros (room.cells + 19) (room.cells + 8);
         head = zeros (room.cells + 19) (room.cells + 9);
         ended = zeros (room.cells + 19) (room.cells + 10);
         never_falls = (no_stores, no_stores, no_stores);
-        offset = each (Below no_offsets) (no_loads, no_loads, no_loads) room.riders;
+        offset = each (Below no_offsets) (λ k. (no_loads, no_loads, no_loads)) room.riders 0;
       }

@@ -2,7 +2,7 @@
 use Rattle.std.specs.Prelude.{ℕ, ◌≡◌, ◌≢◌, ◌+◌, ◌%◌, ◌^◌, ◌<◌, ◌≤◌, ◌==◌, ◌&&◌, not, ◌⊎◌, if◌then◌else◌, List, [], ◌∷◌, ◌++◌, map, length, Some, slice_get, slice_index}
 use Rattle.std.specs.List.{sum, sum_by}
 use Rattle.hl_words.specs.declared.view.Touch.{Touch}
-use Rattle.hl_words.specs.declared.view.Touch.TheVariants.{Stored, Loaded, Changed}
+use Rattle.hl_words.specs.declared.view.Touch.TheVariants.{Stored, Loaded, Changed, Called, Met}
 use Rattle.hl_words.specs.declared.view.OffsetWords.{OffsetWords}
 use Rattle.hl_words.specs.declared.view.RiderView.{RiderView}
 use Rattle.hl_words.specs.Views.{newest, added}
@@ -16,6 +16,8 @@ AddsUp c total (Loaded d v ∷ before) = AddsUp c total before
 AddsUp c total (Changed d found v ∷ before) = ((d ≢ c) × AddsUp c total before)
     ⊎ ((d ≡ c) × ((more : ℕ) × (rest : ℕ) × (total ≡ rest + more) × (v ≡ (found + more) % 2 ^ 64)
     × AddsUp c rest before))
+AddsUp c total (Called n ∷ before) = AddsUp c total before
+AddsUp c total (Met name count ∷ before) = AddsUp c total before
 
 -- an add to the cell adds its number to what a rider's touches of the cell add up to, whatever it found
 abbrev pub AddsAddUp : Type 0
@@ -50,6 +52,8 @@ takes c x (Stored d v ∷ before) = takes c x before
 takes c x (Loaded d v ∷ before) = takes c x before
 takes c x (Changed d found v ∷ before) =
     (if (d == c) && ((found == x) && not (v == x)) then 1 else 0) + takes c x before
+takes c x (Called n ∷ before) = takes c x before
+takes c x (Met name count ∷ before) = takes c x before
 
 -- how often it stores this value there, by a store or a change
 abbrev pub gives : ℕ → ℕ → List Touch → ℕ
@@ -57,6 +61,8 @@ gives c x [] = 0
 gives c x (Stored d v ∷ before) = (if (d == c) && (v == x) then 1 else 0) + gives c x before
 gives c x (Loaded d v ∷ before) = gives c x before
 gives c x (Changed d found v ∷ before) = (if (d == c) && (v == x) then 1 else 0) + gives c x before
+gives c x (Called n ∷ before) = gives c x before
+gives c x (Met name count ∷ before) = gives c x before
 
 -- All riders together changed a cell from one value to others at most as often as they stored that value there,
 -- and once more where it is 0, which each cell holds at first
@@ -77,6 +83,8 @@ Meets c values (Loaded d v ∷ before) = ((d ≢ c) × Meets c values before)
 Meets c values (Changed d found v ∷ before) = ((d ≢ c) × Meets c values before)
     ⊎ ((d ≡ c) × ((newer : List ℕ) × (older : List ℕ) × (values ≡ newer ++ v ∷ older)
     × (found ≡ newest older) × Meets c older before))
+Meets c values (Called n ∷ before) = Meets c values before
+Meets c values (Met name count ∷ before) = Meets c values before
 
 -- Each cell has one list of the values stored there, which ends with what the cell holds, and no rider's touches of
 -- the cell go back in it

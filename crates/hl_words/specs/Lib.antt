@@ -3,3 +3,4 @@ pub mod Rule
 pub mod Seats
 pub mod States
 pub mod Laws
+pub mod Past

@@ -4,7 +4,7 @@ use Rattle.std.specs.Prelude.{ℕ, ◌≡◌, ◌≢◌, ◌+◌, ◌<◌, ◌�
 use Rattle.std.specs.List.{AllByRecursion, Contains}
 use Rattle.hl_model.specs.Lists.{greatest}
 use Rattle.hl_words.specs.declared.view.Touch.{Touch}
-use Rattle.hl_words.specs.declared.view.Touch.TheVariants.{Stored, Loaded, Changed}
+use Rattle.hl_words.specs.declared.view.Touch.TheVariants.{Stored, Loaded, Changed, Called, Met}
 use Rattle.hl_words.specs.declared.view.OffsetWords.{OffsetWords}
 use Rattle.hl_words.specs.declared.view.RiderView.{RiderView}
 use Rattle.hl_words.specs.Views.{newest}
@@ -15,6 +15,8 @@ last_store c [] = None
 last_store c (Stored d v ∷ before) = if d == c then Some v else last_store c before
 last_store c (Loaded d v ∷ before) = last_store c before
 last_store c (Changed d found v ∷ before) = if d == c then Some v else last_store c before
+last_store c (Called n ∷ before) = last_store c before
+last_store c (Met name count ∷ before) = last_store c before
 
 -- no store into the cell, and no load of it but of 0
 abbrev pub IsQuiet : ℕ → List Touch → Type 0
@@ -22,6 +24,8 @@ IsQuiet c [] = Unit {0}
 IsQuiet c (Stored d v ∷ before) = (d ≢ c) × IsQuiet c before
 IsQuiet c (Loaded d v ∷ before) = (d ≡ c → v ≡ 0) × IsQuiet c before
 IsQuiet c (Changed d found v ∷ before) = (d ≢ c) × IsQuiet c before
+IsQuiet c (Called n ∷ before) = IsQuiet c before
+IsQuiet c (Met name count ∷ before) = IsQuiet c before
 
 -- these touches stored the value into the cell
 abbrev pub HasStore : ℕ → ℕ → List Touch → Type 0
@@ -29,6 +33,8 @@ HasStore c v [] = ⊥
 HasStore c v (Stored d w ∷ before) = ((d ≡ c) × (w ≡ v)) ⊎ HasStore c v before
 HasStore c v (Loaded d w ∷ before) = HasStore c v before
 HasStore c v (Changed d found w ∷ before) = ((d ≡ c) × (w ≡ v)) ⊎ HasStore c v before
+HasStore c v (Called n ∷ before) = HasStore c v before
+HasStore c v (Met name count ∷ before) = HasStore c v before
 
 -- P holds of each rider's number and view; the riders are numbered from 0
 abbrev pub EachRider : (ℕ → RiderView → Type 0) → List RiderView → Type 0
@@ -55,13 +61,15 @@ IsLawful Elsewhere (Stored c v ∷ before) = IsLawful Elsewhere before
 IsLawful Elsewhere (Loaded c v ∷ before) = IsFound Elsewhere c v before × IsLawful Elsewhere before
 IsLawful Elsewhere (Changed c found v ∷ before) =
     IsFound Elsewhere c found before × IsLawful Elsewhere before
+IsLawful Elsewhere (Called n ∷ before) = IsLawful Elsewhere before
+IsLawful Elsewhere (Met name count ∷ before) = IsLawful Elsewhere before
 
 -- the cell is 0 where no rider stored there, else it is some rider's last store there
 abbrev pub IsCell : List RiderView → ℕ → ℕ → Type 0
 IsCell riders c w = ((w ≡ 0) × EachRider (λ i r. last_store c r.touches ≡ None) riders)
     ⊎ SomeRider (λ i r. last_store c r.touches ≡ Some w) riders
 
--- a touch of a cell, and the number of the rider whose it is
+-- a touch, and the place of the rider whose it is
 pub record TouchBy : Type 0 where
   pub rider : ℕ
   pub touch : Touch
@@ -75,19 +83,32 @@ abbrev pub left_by : ℕ → Touch → ℕ → ℕ
 left_by c (Stored d v) w = if d == c then v else w
 left_by c (Loaded d v) w = w
 left_by c (Changed d found v) w = if d == c then v else w
+left_by c (Called n) w = w
+left_by c (Met name count) w = w
 
 -- what the cell holds after these touches, and 0 before any; the newest stands first
 abbrev pub held : ℕ → List TouchBy → ℕ
 held c [] = 0
 held c (t ∷ before) = left_by c t.touch (held c before)
 
--- what the touch found in its cell is what the cell held after those before it
+-- no call when more steps than n had been entered
+abbrev pub IsUpTo : ℕ → Touch → Type 0
+IsUpTo n (Stored d v) = Unit {0}
+IsUpTo n (Loaded d v) = Unit {0}
+IsUpTo n (Changed d found v) = Unit {0}
+IsUpTo n (Called m) = m ≤ n
+IsUpTo n (Met name count) = Unit {0}
+
+-- what the touch found in its cell is what the cell held after those before it; and of two calls the later one
+-- met no fewer steps
 abbrev pub Finds : List TouchBy → Touch → Type 0
 Finds before (Stored d v) = Unit {0}
 Finds before (Loaded d v) = v ≡ held d before
 Finds before (Changed d found v) = found ≡ held d before
+Finds before (Called n) = AllByRecursion (λ t. IsUpTo n t.touch) before
+Finds before (Met name count) = Unit {0}
 
--- each load and each change of the list found so
+-- each load, each change and each call of the list found so
 abbrev pub IsSerial : List TouchBy → Type 0
 IsSerial [] = Unit {0}
 IsSerial (t ∷ before) = Finds before t.touch × IsSerial before
@@ -98,15 +119,36 @@ touches_of i [] = []
 touches_of i (t ∷ before) =
     if t.rider == i then t.touch ∷ touches_of i before else touches_of i before
 
--- One order of all touches of cells: each load and each change found what the newest store before it left; of
--- each rider it has just that rider's touches, in the rider's order, and no other touch; and each cell holds what
--- the newest store there left
+-- no two riders have the same name
+abbrev pub AreNamed : List RiderView → Type 0
+AreNamed riders = (i j : ℕ) (r q : RiderView) → slice_get riders i ≡ Some r → slice_get riders j ≡ Some q
+    → r.name ≡ q.name → i ≡ j
+
+-- where the touch is of a rider that was told what another had done, the other's touches up to there stand before
+abbrev pub HasMet : List RiderView → List TouchBy → Touch → Type 0
+HasMet riders before (Stored d v) = Unit {0}
+HasMet riders before (Loaded d v) = Unit {0}
+HasMet riders before (Changed d found v) = Unit {0}
+HasMet riders before (Called n) = Unit {0}
+HasMet riders before (Met name count) =
+    SomeRider (λ i r. (r.name ≡ name) × (count ≤ length (touches_of i before))) riders
+
+-- so it is with each of the list
+abbrev pub AreMet : List RiderView → List TouchBy → Type 0
+AreMet riders [] = Unit {0}
+AreMet riders (t ∷ before) = HasMet riders before t.touch × AreMet riders before
+
+-- One order of all touches: each load and each change found what the newest store before it left; of two calls the
+-- later one met no fewer steps; what a rider was told of stands before; of each rider it has just that rider's
+-- touches, in the rider's order, and no other touch; and each cell holds what the newest store there left
 pub record IsOneOrder (cells : ℕ) (words : List ℕ) (riders : List RiderView)
     (order : List TouchBy) : Type 0 where
   pub serial : IsSerial order
   pub each : EachRider (λ i r. r.touches ≡ touches_of i order) riders
   pub theirs : AllByRecursion (λ t. t.rider < length riders) order
   pub last : (c : ℕ) → c < cells → slice_index words c ≡ held c order
+  pub met : AreMet riders order
+  pub names : AreNamed riders
 
 -- there is one
 abbrev pub HasOneOrder : ℕ → List ℕ → List RiderView → Type 0

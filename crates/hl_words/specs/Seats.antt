@@ -1,20 +1,31 @@
 -- The rule as a rule of a table's seats, and what each step tells its seat.
-use Rattle.std.specs.Prelude.{ℕ, ◌≡◌, ◌+◌, ◌≤◌, List, [], ◌∷◌, ◌++◌, length, take, drop, replicate}
+use Rattle.std.specs.Prelude.{ℕ, ◌≡◌, ◌+◌, ◌≤◌, List, [], ◌∷◌, ◌++◌, length, map, take, drop}
+use Rattle.std.specs.List.{AllByRecursion}
 use mathlib.Core.Option.{some}
 use lib.ListN.{get_elem?}
 use Rattle.atomic_table.specs.Table.{State, Me, Step}
+use Rattle.hl_words.specs.declared.view.Touch.{Touch}
 use Rattle.hl_words.specs.declared.view.Touch.TheVariants.{Stored, Loaded}
+use Rattle.hl_words.specs.declared.view.Known.{Known}
 use Rattle.hl_words.specs.declared.view.OffsetWords.{OffsetWords}
 use Rattle.hl_words.specs.declared.view.RiderView.{RiderView}
 use Rattle.hl_words.specs.declared.view.SeatView.{SeatView}
 use Rattle.hl_words.specs.declared.view.Room.{Room}
 use Rattle.hl_words.specs.declared.which.Which.{Which}
-use Rattle.hl_words.specs.Views.{no_offsets, greatest_of, with_offset, unused, touched, added, exchanged, with_loaded}
-use Rattle.hl_words.specs.Rule.{EachRider, IsRuled}
+use Rattle.hl_words.specs.Views.{no_offsets, greatest_of, with_offset, fresh_from, touched, added, exchanged, with_loaded, past_of, told, called}
+use Rattle.hl_words.specs.Rule.{EachRider, SomeRider, IsUpTo, IsRuled}
 
 -- a seat that knows these stores of the master's words, and stands for these riders
 abbrev pub seat_of : OffsetWords → List RiderView → SeatView
-seat_of last riders = record { offsets = last; riders = riders }
+seat_of last riders = record { offsets = last; riders = riders; called = 0; known = [] }
+
+-- the master's seat, which knows these stores, stands for these riders, and met calls up to this number
+abbrev pub master_seat : ℕ → OffsetWords → List RiderView → SeatView
+master_seat called last riders = record { offsets = last; riders = riders; called = called; known = [] }
+
+-- a witness's seat
+abbrev pub knows_seat : Known → SeatView
+knows_seat k = record { offsets = no_offsets; riders = []; called = 0; known = k ∷ [] }
 
 -- a rider's seat
 abbrev pub rider_seat : RiderView → SeatView
@@ -26,21 +37,36 @@ spent_seat = seat_of no_offsets []
 
 -- the master's seat at the start, which stands for all riders
 abbrev pub first_seat : Room → SeatView
-first_seat room = seat_of no_offsets (replicate room.riders unused)
+first_seat room = seat_of no_offsets (fresh_from 0 room.riders)
 
 -- the riders of all seats, in the order of the seats
 abbrev pub riders_in : List SeatView → List RiderView
 riders_in [] = []
 riders_in (v ∷ vs) = v.riders ++ riders_in vs
 
+-- the rider made these touches, and perhaps more since
+abbrev pub HasPast : List Touch → RiderView → Type 0
+HasPast past r = (more : List Touch) × (r.touches ≡ more ++ past)
+
+-- some rider has this name, and made these touches
+abbrev pub IsKnown : List RiderView → Known → Type 0
+IsKnown riders k = SomeRider (λ i r. (r.name ≡ k.name) × HasPast k.touches r) riders
+
+-- no call of the rider met more steps than n
+abbrev pub CallsUpTo : ℕ → RiderView → Type 0
+CallsUpTo n r = AllByRecursion (IsUpTo n) r.touches
+
 -- The table has the cells and, eight words apart, the master's three words; the seats stand for all riders,
--- and the rule holds, the master having seat 0
+-- and the rule holds, the master having seat 0; no call met more steps than the master knows; what each witness knows
+-- was done
 pub record IsKept (room : Room) (words : List ℕ) (views : List SeatView) : Type 0 where
   pub master : SeatView
   pub seat : get_elem? views 0 ≡ some master
   pub width : length words ≡ room.cells + 19
   pub count : length (riders_in views) ≡ room.riders
   pub ruled : IsRuled room.cells words master.offsets (riders_in views)
+  pub called : AllByRecursion (CallsUpTo master.called) (riders_in views)
+  pub known : AllByRecursion (λ v. AllByRecursion (IsKnown (riders_in views)) v.known) views
 
 -- the rule of the table
 abbrev pub Holds : Room → State (Unit {0}) SeatView → Type 0
@@ -76,14 +102,23 @@ abbrev pub Looks : Which → Step (Unit {0}) → Me (Unit {0}) SeatView → ℕ 
 Looks which s before found after = (after ≡ (moved (with_loaded which found) before.0, before.1))
     × EachRider (λ i r. greatest_of which r.offsets ≤ found) before.0.riders
 
+-- the master's seat after one more store
+abbrev pub with_store : Which → ℕ → SeatView → SeatView
+with_store which x v = record {
+  offsets = with_offset which x v.offsets;
+  riders = v.riders;
+  called = v.called;
+  known = v.known;
+}
+
 -- of a store of a word of the master's: it is the newest
 abbrev pub Sets : Which → Step (Unit {0}) → Me (Unit {0}) SeatView → ℕ → Me (Unit {0}) SeatView → Type 0
 Sets which s before found after =
-    after ≡ (seat_of (with_offset which s.first before.0.offsets) before.0.riders, before.1)
+    after ≡ (with_store which s.first before.0, before.1)
 
 -- the seat without its first rider
 abbrev pub left_seat : SeatView → SeatView
-left_seat v = seat_of v.offsets (drop 1 v.riders)
+left_seat v = record { offsets = v.offsets; riders = drop 1 v.riders; called = v.called; known = v.known }
 
 -- a seat with that rider alone
 abbrev pub right_seat : SeatView → SeatView
@@ -91,4 +126,55 @@ right_seat v = seat_of no_offsets (take 1 v.riders)
 
 -- the seat with another's riders before its own
 abbrev pub joined_seat : SeatView → SeatView → SeatView
-joined_seat v w = seat_of v.offsets (w.riders ++ v.riders)
+joined_seat v w =
+    record { offsets = v.offsets; riders = w.riders ++ v.riders; called = v.called; known = v.known }
+
+-- the seat without its first rider, which made a call when so many steps had been entered
+abbrev pub left_called : ℕ → SeatView → SeatView
+left_called n v = record { offsets = v.offsets; riders = drop 1 v.riders; called = n; known = v.known }
+
+-- a seat with that rider alone, which made the call
+abbrev pub right_called : ℕ → SeatView → SeatView
+right_called n v = seat_of no_offsets (map (called n) (take 1 v.riders))
+
+-- the seat as it is
+abbrev pub same_seat : SeatView → SeatView
+same_seat v = v
+
+-- a witness of what the riders of a seat did
+abbrev pub shown_seat : SeatView → SeatView
+shown_seat v = record { offsets = no_offsets; riders = []; called = 0; known = map past_of v.riders }
+
+-- another of what a witness knows
+abbrev pub copied_seat : SeatView → SeatView
+copied_seat v = record { offsets = no_offsets; riders = []; called = 0; known = v.known }
+
+-- the rider after it was told all this
+abbrev pub told_all : List Known → RiderView → RiderView
+told_all [] r = r
+told_all (k ∷ ks) r = told k (told_all ks r)
+
+-- a rider's seat that was told what a witness knows
+abbrev pub told_seat : SeatView → SeatView → SeatView
+told_seat v w = moved (told_all w.known) v
+
+-- a seat that knows all this besides
+abbrev pub knowing : List Known → SeatView → SeatView
+knowing ks v = record { offsets = v.offsets; riders = v.riders; called = v.called; known = ks ++ v.known }
+
+-- a seat that knows besides what a witness does
+abbrev pub attested_seat : SeatView → SeatView → SeatView
+attested_seat v w = knowing w.known v
+
+-- a rider's seat with what a witness knows, of which it takes no note
+abbrev pub recalling_seat : SeatView → SeatView → SeatView
+recalling_seat v w = record { offsets = v.offsets; riders = v.riders; called = v.called; known = w.known }
+
+-- of a look of a rider's seat at that: where it is of this rider, the rider made these touches
+abbrev pub Recalls : Step (Unit {0}) → Me (Unit {0}) SeatView → ℕ → Me (Unit {0}) SeatView → Type 0
+Recalls s before found after = (after ≡ (seat_of before.0.offsets before.0.riders, before.1))
+    × AllByRecursion (λ k. EachRider (λ i r. r.name ≡ k.name → HasPast k.touches r) before.0.riders) before.0.known
+
+-- of a load that makes a seat which stands for nobody
+abbrev pub Blanks : Step (Unit {0}) → Me (Unit {0}) SeatView → ℕ → Me (Unit {0}) SeatView → Type 0
+Blanks s before found after = after ≡ (spent_seat, [])

@@ -1,16 +1,17 @@
 -- What contracts see of a seed, of words, of a master and of a rider.
-use Rattle.std.specs.Prelude.{ℕ, ◌≡◌, ◌+◌, ◌^◌, ◌≤◌, List, [], ◌∷◌, ◌++◌, Option, Some, None, slice_index_or}
+use Rattle.std.specs.Prelude.{ℕ, zero, suc, ◌≡◌, ◌+◌, ◌^◌, ◌≤◌, List, [], ◌∷◌, ◌++◌, Option, Some, None, slice_index_or}
 use Rattle.atomic_table.specs.Seated.{TableId}
 use Rattle.hl_model.specs.Sizes.{Sizes}
 use Rattle.hl_model.specs.declared.step.Step.{Step}
 use Rattle.hl_history.specs.declared.view.Entry.{Entry}
 use Rattle.hl_history.specs.States.{GatheredState}
+use Rattle.hl_words.specs.declared.view.Known.{Known}
 use Rattle.hl_words.specs.declared.view.OffsetWords.{OffsetWords}
 use Rattle.hl_words.specs.declared.view.RiderView.{RiderView}
 use Rattle.hl_words.specs.declared.view.SeatView.{SeatView}
 use Rattle.hl_words.specs.declared.view.Room.{Room}
-use Rattle.hl_words.specs.Views.{unused}
-use Rattle.hl_words.specs.Seats.{seat_of}
+use Rattle.hl_words.specs.Views.{fresh, unused, called}
+use Rattle.hl_words.specs.Seats.{master_seat, spent_seat}
 use Rattle.atomic_table.specs.Table.{Me}
 
 -- a rider's stores and loads, how many journal steps it entered, and its calls that met the one list, the
@@ -80,22 +81,41 @@ pub record IsTableOf (room : Room) (key : Room) (table : TableId) : Type 0 where
   pub at_most : room.riders ≤ 2048
 
 -- the master's seat, which is the table's first and has no slot
-pub record IsMasterSeat (last : OffsetWords) (riders : List RiderView) (id : ℕ)
+pub record IsMasterSeat (called : ℕ) (last : OffsetWords) (riders : List RiderView) (id : ℕ)
     (me : Me (Unit {0}) SeatView) : Type 0 where
   pub first : id ≡ 0
-  pub knows : me ≡ (seat_of last riders, [])
+  pub knows : me ≡ (master_seat called last riders, [])
 
 -- a rider with another view
 abbrev pub with_view : RiderView → RiderState → RiderState
 with_view view r = record { view = view; share = r.share; calls = r.calls }
 
+-- a rider that made a call when so many steps had been entered
+abbrev pub with_mark : ℕ → RiderState → RiderState
+with_mark n r = with_view (called n r.view) r
+
 -- a rider with one call more
 abbrev pub with_call : Entry → RiderState → RiderState
 with_call call r = record { view = r.view; share = r.share; calls = call ∷ r.calls }
 
--- a rider before its first step
-abbrev pub new_rider : RiderState
-new_rider = record { view = unused; share = 0; calls = [] }
+-- the rider of this name before its first step
+abbrev pub new_rider : ℕ → RiderState
+new_rider name = record { view = fresh name; share = 0; calls = [] }
+
+-- n of them, named from 0 on
+abbrev pub new_riders : ℕ → List RiderState
+new_riders zero = []
+new_riders (suc n) = new_riders n ++ new_rider n ∷ []
+
+-- what these witnesses know, if any
+abbrev pub known_to_all : {R : Type 0} → (R → List Known) → Option R → List Known
+known_to_all items None = []
+known_to_all items (Some all) = items all
+
+-- what the seat of a witness's badge knows
+abbrev pub known_by : List SeatView → Known
+known_by views =
+    slice_index_or (slice_index_or views 0 spent_seat).known 0 (record { name = 0; touches = [] })
 
 -- the list at the end with no diary yet, where the scribe is there
 abbrev pub with_no_diaries : Option (List Step) → Option GatheredState

@@ -1,8 +1,9 @@
 -- What a rider's view is after one more store or load, and the master's three words by name.
-use Rattle.std.specs.Prelude.{ℕ, ◌+◌, ◌%◌, ◌^◌, ◌==◌, if◌then◌else◌, List, [], ◌∷◌}
+use Rattle.std.specs.Prelude.{ℕ, zero, suc, ◌+◌, ◌%◌, ◌^◌, ◌==◌, if◌then◌else◌, List, [], ◌∷◌, length}
 use Rattle.hl_model.specs.Lists.{greatest}
 use Rattle.hl_words.specs.declared.view.Touch.{Touch}
-use Rattle.hl_words.specs.declared.view.Touch.TheVariants.{Stored, Loaded, Changed}
+use Rattle.hl_words.specs.declared.view.Touch.TheVariants.{Stored, Loaded, Changed, Called, Met}
+use Rattle.hl_words.specs.declared.view.Known.{Known}
 use Rattle.hl_words.specs.declared.view.OffsetWords.{OffsetWords}
 use Rattle.hl_words.specs.declared.view.RiderView.{RiderView}
 use Rattle.hl_words.specs.declared.which.Which.{Which}
@@ -42,13 +43,22 @@ place_of ReadOnly cells = cells + 8
 place_of Head cells = cells + 9
 place_of Ended cells = cells + 10
 
--- the view of a rider that did nothing
+-- the view of the rider of this name that did nothing
+abbrev pub fresh : ℕ → RiderView
+fresh name = record { name = name; touches = []; offsets = no_offsets }
+
+-- n of them, named from a number on
+abbrev pub fresh_from : ℕ → ℕ → List RiderView
+fresh_from name zero = []
+fresh_from name (suc n) = fresh name ∷ fresh_from (suc name) n
+
+-- the first of all
 abbrev pub unused : RiderView
-unused = record { touches = []; offsets = no_offsets }
+unused = fresh 0
 
 -- the view after one more touch, a store or a load of a cell
 abbrev pub touched : Touch → RiderView → RiderView
-touched e r = record { touches = e ∷ r.touches; offsets = r.offsets }
+touched e r = record { name = r.name; touches = e ∷ r.touches; offsets = r.offsets }
 
 -- the view after a store of the value into the cell
 abbrev pub stored : ℕ → ℕ → RiderView → RiderView
@@ -74,4 +84,17 @@ exchanged cell old new found r =
 
 -- the view after a load of a word of the master's that gave x
 abbrev pub with_loaded : Which → ℕ → RiderView → RiderView
-with_loaded which x r = record { touches = r.touches; offsets = with_offset which x r.offsets }
+with_loaded which x r =
+    record { name = r.name; touches = r.touches; offsets = with_offset which x r.offsets }
+
+-- what a witness knows that this rider gave
+abbrev pub past_of : RiderView → Known
+past_of r = record { name = r.name; touches = r.touches }
+
+-- the view after the rider was told what a witness knows
+abbrev pub told : Known → RiderView → RiderView
+told k r = touched (Met k.name (length k.touches)) r
+
+-- the view after a call under the master's lock, when so many journal steps had been entered
+abbrev pub called : ℕ → RiderView → RiderView
+called steps r = touched (Called steps) r

@@ -44,6 +44,8 @@
 mod last;
 pub mod laws;
 mod master;
+mod past;
+pub mod past_laws;
 mod rider;
 mod rule;
 mod seed;
@@ -53,8 +55,9 @@ mod words;
 
 pub use last::LastWords;
 pub use master::Master;
+pub use past::Past;
 pub use rider::Rider;
 pub use seed::{HistoryOf, Realm, Scribe, Seed, Seen};
-pub use view::{OffsetWords, RiderView, Touch};
+pub use view::{Known, OffsetWords, RiderView, Touch};
 pub use which::Which;
 pub use words::Words;

@@ -24,8 +24,8 @@ impl<L: Realm> Model for Master<L> {
 
     ghost view = { λ m. record { offsets = m.seat.me.0.offsets; total = m.total } };
 
-    ghost invariant = { λ m. IsMasterSeat m.seat.me.0.offsets [] m.seat.id m.seat.me
-        × (m.seat.table_id ≡ L.table.words) × (m.book.total ≡ m.total) × (m.total ≤ 2 ^ 62) × (m.share.parts ≡ 0)
+    ghost invariant = { λ m. IsMasterSeat m.seat.me.0.called m.seat.me.0.offsets [] m.seat.id m.seat.me
+        × (m.seat.table_id ≡ L.table.words) × (m.book.total ≡ m.total) × (m.total ≤ 2 ^ 62) × (m.seat.me.0.called ≤ m.total) × (m.share.parts ≡ 0)
         × (m.share.amount ≡ 0) };
 }
 

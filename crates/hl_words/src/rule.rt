@@ -1,6 +1,7 @@
 //! The rule of the table on which the words stand, and its steps.
 use crate::view::{Room, SeatView};
 use atomic_table::{Join, Play, Split, TableRule};
+use std::marker::{Brand, PhantomData};
 
 /// The rule that holds between any two steps.
 pub struct WordRule;
@@ -107,6 +108,98 @@ impl Play<(), SeatView> for StoreHead {
     ghost use Rattle.hl_words.specs.declared.which.Which.TheVariants.{Head};
 
     ghost then = { Sets Head };
+}
+
+/// A load that makes a seat which stands for nobody.
+pub struct LoadBlank;
+
+impl Play<(), SeatView> for LoadBlank {
+    ghost use Rattle.hl_words.specs.Seats.{Blanks};
+
+    ghost then = { Blanks };
+}
+
+/// How a rider's seat gives a witness of what it did, and is told what a witness knows.
+pub struct Tell;
+
+impl Split<SeatView> for Tell {
+    ghost use Rattle.hl_words.specs.Seats.{same_seat, shown_seat};
+
+    ghost left = { same_seat };
+
+    ghost right = { shown_seat };
+}
+
+impl Join<SeatView> for Tell {
+    ghost use Rattle.hl_words.specs.Seats.{told_seat, spent_seat};
+
+    ghost both = { told_seat };
+
+    ghost spent = { spent_seat };
+}
+
+/// How a rider's seat takes what a witness knows, to look at it.
+pub struct Mind;
+
+impl Join<SeatView> for Mind {
+    ghost use Rattle.hl_words.specs.Seats.{recalling_seat, spent_seat};
+
+    ghost both = { recalling_seat };
+
+    ghost spent = { spent_seat };
+}
+
+/// A look of a rider's seat at what a witness knew.
+pub struct Recall;
+
+impl Play<(), SeatView> for Recall {
+    ghost use Rattle.hl_words.specs.Seats.{Recalls};
+
+    ghost then = { Recalls };
+}
+
+/// How the master's seat takes a witness back.
+pub struct Attest;
+
+impl Join<SeatView> for Attest {
+    ghost use Rattle.hl_words.specs.Seats.{attested_seat, spent_seat};
+
+    ghost both = { attested_seat };
+
+    ghost spent = { spent_seat };
+}
+
+/// How a witness's seat gives another.
+pub struct Again;
+
+impl Split<SeatView> for Again {
+    ghost use Rattle.hl_words.specs.Seats.{same_seat, copied_seat};
+
+    ghost left = { same_seat };
+
+    ghost right = { copied_seat };
+}
+
+/// A number of steps that a call of a program picks.
+pub trait Place {
+    ghost use Rattle.std.specs.Prelude.{ℕ};
+
+    ghost steps: { ℕ };
+}
+
+impl Place for Brand {
+    ghost steps = { 0 };
+}
+
+/// How the master's seat deals a rider out that made a call when so many steps had been entered.
+pub struct CallAt<S: Place>(PhantomData<S>);
+
+impl<S: Place> Split<SeatView> for CallAt<S> {
+    ghost use Rattle.hl_words.specs.Seats.{left_called, right_called};
+
+    ghost left = { left_called S.steps };
+
+    ghost right = { right_called S.steps };
 }
 
 /// How the master's seat deals a rider out, and takes one back in.

@@ -88,7 +88,7 @@ impl Model for Seed {
     } };
 
     ghost invariant = { λ s. IsTableOf s.room s.table.shared.key s.table.shared.table_id
-        × IsMasterSeat no_offsets (first_seat s.room).riders s.seat.id s.seat.me
+        × IsMasterSeat 0 no_offsets (first_seat s.room).riders s.seat.id s.seat.me
         × (s.seat.table_id ≡ s.table.shared.table_id) × (s.blank.parts ≡ s.room.riders)
         × (s.history.diaries ≡ s.room.riders)
         × (s.room.cells ≡ s.params.frames * s.params.page_size) };

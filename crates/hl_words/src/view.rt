@@ -10,6 +10,17 @@ pub enum Touch {
     /// It found the one value in the cell and stored the other there, in one step: no store of another rider came
     /// between.
     Changed { cell: u64, found: u64, value: u64 },
+    /// It made a call under the lock where the master lies, when so many journal steps had been entered in all. It
+    /// changed no cell.
+    Called { steps: u64 },
+    /// It was told what the rider of this name had done, up to so many of its touches. It changed no cell.
+    Met { name: u64, count: u64 },
+}
+
+/// What a witness knows: the rider of this name had made these touches, the newest first.
+pub struct Known {
+    pub name: u64,
+    pub touches: LinkedList<Touch>,
 }
 
 /// Values of each of the master's words, the newest first: those that a rider loaded, or those that the master
@@ -22,6 +33,8 @@ pub struct OffsetWords {
 
 /// What a rider stored and loaded.
 pub struct RiderView {
+    /// Its number among the riders of its seed, from 0: no two have the same.
+    pub name: u64,
     /// Its stores into cells and its loads of cells, the newest first.
     pub touches: LinkedList<Touch>,
     /// Its loads of each of the master's words.
@@ -34,6 +47,10 @@ pub struct RiderView {
 pub struct SeatView {
     pub offsets: OffsetWords,
     pub riders: LinkedList<RiderView>,
+    /// The master's: a number that isn't below that of any call of a rider.
+    pub called: u64,
+    /// A witness's: what it knows.
+    pub known: LinkedList<Known>,
 }
 
 /// What a table is told when it is made: how many cells and how many riders it has.

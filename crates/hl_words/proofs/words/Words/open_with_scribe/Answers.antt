@@ -1,6 +1,6 @@
-use Rattle.std.proofs.Common.{rules, sym, ap, ◌∙◌, arith}
+use Rattle.std.proofs.Common.{rules, length, sym, ap, ◌∙◌, arith}
 use Rattle.hl_words.proofs.Steps.{deals}
-use Rattle.hl_words.proofs.Dealing.{next_seat, is_rider, next_diaries, more_riders}
+use Rattle.hl_words.proofs.Dealing.{next_seat, is_rider, next_diaries, more_riders, new_long}
 use Rattle.hl_words.proofs.words.Words.open_with_scribe.Goals as goal
 
 pub split_seat-seat-requires : goal.split_seat-seat-requires
@@ -26,6 +26,11 @@ loop-dealt-preserved g c =
       more_riders n k c.loop-dealt-test.true me i.2 c.split_seat-seat.result.me e.4 c.deal-diary.result next.0 c.loop-dealt.riders.items c.push_reserved.new.self.items i.6 c.push_reserved.ensures.items,
       rw c.push_reserved.ensures.capacity i.7,
     )
+
+pub push_reserved-requires : goal.push_reserved-requires
+push_reserved-requires g c =
+    let i = c.loop-dealt.invariant in
+    omega (arith, ap length i.6, new_long c.loop-dealt._dealt, i.7, c.loop-dealt-test.true)
 
 pub loop-dealt-init : goal.loop-dealt-init
 loop-dealt-init g c = search rules

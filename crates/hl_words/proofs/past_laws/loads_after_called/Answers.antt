@@ -1,0 +1,6 @@
+-- the law
+use Rattle.hl_words.proofs.PastProofs.{loads_after_called}
+use Rattle.hl_words.proofs.past_laws.loads_after_called.Goals as goal
+
+pub returns : goal.returns
+returns c = loads_after_called

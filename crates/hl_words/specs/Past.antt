@@ -1,0 +1,116 @@
+-- What a load found that its rider made after a call, or after it was told what another did. Each statement is the
+-- contract of a function of the module past_laws.
+use Rattle.std.specs.Prelude.{ℕ, ◌≡◌, ◌≢◌, ◌<◌, ◌⊎◌, List, [], ◌∷◌, ◌++◌, length, Some, None, slice_get, unwrap_or}
+use Rattle.hl_words.specs.declared.view.Touch.{Touch}
+use Rattle.hl_words.specs.declared.view.Touch.TheVariants.{Loaded, Called, Met}
+use Rattle.hl_words.specs.declared.view.OffsetWords.{OffsetWords}
+use Rattle.hl_words.specs.declared.view.RiderView.{RiderView}
+use Rattle.hl_words.specs.Rule.{EachRider, TouchBy, by_rider, held, last_store, touches_of, IsRuled}
+
+-- a load of the i-th rider in the order: it found what the newest store before it left
+pub record IsLoad (order : List TouchBy) (i c v : ℕ) (before : List TouchBy) : Type 0 where
+  pub newer : List TouchBy
+  pub whole : order ≡ newer ++ by_rider i (Loaded c v) ∷ before
+  pub finds : v ≡ held c before
+
+-- of the j-th rider, at least these touches stand there
+abbrev pub HasAll : ℕ → List Touch → List TouchBy → Type 0
+HasAll j past before = (since : List Touch) × (touches_of j before ≡ since ++ past)
+
+-- of the j-th rider, at most these touches stand there
+abbrev pub HasOnly : ℕ → List Touch → List TouchBy → Type 0
+HasOnly j past before = (rest : List Touch) × (past ≡ rest ++ touches_of j before)
+
+-- all that riders did before calls that met fewer steps than n
+abbrev pub HasCalls : List RiderView → ℕ → List TouchBy → Type 0
+HasCalls riders n before = (j m : ℕ) (q : RiderView) (later past : List Touch)
+    → slice_get riders j ≡ Some q → q.touches ≡ later ++ Called m ∷ past → m < n → HasAll j (Called m ∷ past) before
+
+-- nothing that riders did after calls that met more steps than n
+abbrev pub HasNoCalls : List RiderView → ℕ → List TouchBy → Type 0
+HasNoCalls riders n before = (j m : ℕ) (q : RiderView) (later past : List Touch)
+    → slice_get riders j ≡ Some q → q.touches ≡ later ++ Called m ∷ past → n < m → HasOnly j past before
+
+-- A load after its rider was told what another did finds it, or what was stored since
+abbrev pub LoadsAfterMet : Type 0
+LoadsAfterMet = (cells : ℕ) (words : List ℕ) (stores : OffsetWords) (riders : List RiderView) (i j c v : ℕ)
+    (r q : RiderView) (newer between earlier later past : List Touch)
+    → (ruled : IsRuled cells words stores riders) → slice_get riders i ≡ Some r → slice_get riders j ≡ Some q
+    → r.touches ≡ newer ++ Loaded c v ∷ (between ++ Met q.name (length past) ∷ earlier)
+    → q.touches ≡ later ++ past
+    → (before : List TouchBy) × IsLoad ruled.order.0 i c v before × HasAll j past before
+
+-- A load after a call of its rider finds what riders did before calls that met fewer steps, or what was stored since
+abbrev pub LoadsAfterCalled : Type 0
+LoadsAfterCalled = (cells : ℕ) (words : List ℕ) (stores : OffsetWords) (riders : List RiderView) (i c v n : ℕ)
+    (r : RiderView) (newer between earlier : List Touch)
+    → (ruled : IsRuled cells words stores riders) → slice_get riders i ≡ Some r
+    → r.touches ≡ newer ++ Loaded c v ∷ (between ++ Called n ∷ earlier)
+    → (before : List TouchBy) × IsLoad ruled.order.0 i c v before × HasCalls riders n before
+
+-- A load of a rider that was told of another's call, and of which the other was told before a later call of its own,
+-- stands between the two: it finds what riders did before calls that met fewer steps than the one, and nothing of what
+-- they did after calls that met more than the other
+abbrev pub LoadsBetween : Type 0
+LoadsBetween = (cells : ℕ) (words : List ℕ) (stores : OffsetWords) (riders : List RiderView)
+    (i k c v begun done : ℕ) (r f : RiderView) (last between earlier : List Touch)
+    (newer first newest middle more oldest : List Touch)
+    → (ruled : IsRuled cells words stores riders) → slice_get riders i ≡ Some r → slice_get riders k ≡ Some f
+    → let told = first ++ Called begun ∷ oldest
+    in let own = newer ++ Loaded c v ∷ (between ++ Met f.name (length told) ∷ earlier)
+    in r.touches ≡ last ++ own
+    → f.touches ≡ newest ++ Called done ∷ (middle ++ Met r.name (length own) ∷ (more ++ told))
+    → (before : List TouchBy) × IsLoad ruled.order.0 i c v before × HasCalls riders begun before
+    × HasNoCalls riders done before
+
+-- Where one rider alone stores into a cell, a load of any rider finds the newest of its stores that stand before
+abbrev pub LoadsOfOne : Type 0
+LoadsOfOne = (cells : ℕ) (words : List ℕ) (stores : OffsetWords) (riders : List RiderView) (i j c v : ℕ)
+    (before : List TouchBy) → (ruled : IsRuled cells words stores riders)
+    → EachRider (λ k r. k ≢ j → last_store c r.touches ≡ None) riders
+    → IsLoad ruled.order.0 i c v before → v ≡ unwrap_or (last_store c (touches_of j before)) 0
+
+-- Between two calls of the j-th rider, and before what it did after the later one, the loads of a cell into which it
+-- alone stores, and not between the two, find its newest store before the earlier one
+abbrev pub LoadsOfOneBetween : Type 0
+LoadsOfOneBetween = (cells : ℕ) (words : List ℕ) (stores : OffsetWords) (riders : List RiderView)
+    (i j c v begun done m n : ℕ) (q : RiderView) (before : List TouchBy) (later middle past : List Touch)
+    → (ruled : IsRuled cells words stores riders) → slice_get riders j ≡ Some q
+    → EachRider (λ k r. k ≢ j → last_store c r.touches ≡ None) riders
+    → IsLoad ruled.order.0 i c v before → HasCalls riders begun before → HasNoCalls riders done before
+    → q.touches ≡ later ++ Called n ∷ (middle ++ Called m ∷ past) → m < begun → done < n
+    → last_store c middle ≡ None → v ≡ unwrap_or (last_store c past) 0
+
+-- no such touches, or those before a call that met fewer steps than n
+abbrev pub EndsBefore : ℕ → List Touch → Type 0
+EndsBefore n old = (old ≡ []) ⊎ ((m : ℕ) × (past : List Touch) × (old ≡ Called m ∷ past) × (m < n))
+
+-- no such touches, or those after a call that met more steps than n
+abbrev pub BeginsAfter : ℕ → List Touch → Type 0
+BeginsAfter n late = (late ≡ []) ⊎ ((m : ℕ) × (later : List Touch) × (late ≡ later ++ Called m ∷ []) × (n < m))
+
+-- these touches store nothing into the cell between the calls that met fewer steps than the one number, and those that
+-- met more than the other
+pub record IsQuietBetween (c from to : ℕ) (touches : List Touch) : Type 0 where
+  pub late : List Touch
+  pub quiet : List Touch
+  pub old : List Touch
+  pub all : touches ≡ late ++ (quiet ++ old)
+  pub after : BeginsAfter to late
+  pub before : EndsBefore from old
+  pub none : last_store c quiet ≡ None
+
+-- Where since a call of the j-th rider, that met n steps, no other rider stores into a cell, but for what they do after
+-- calls that met more steps than `done`, a load that stands between the calls finds the j-th rider's newest store there,
+-- if it stored there since that call and before one that met fewer steps than `begun`, and not again before one that met
+-- more than `done`
+abbrev pub LoadsOfNewest : Type 0
+LoadsOfNewest = (cells : ℕ) (words : List ℕ) (stores : OffsetWords) (riders : List RiderView)
+    (i j c v begun done n m w : ℕ) (q : RiderView) (before : List TouchBy)
+    (late middle recent older : List Touch)
+    → (ruled : IsRuled cells words stores riders) → slice_get riders j ≡ Some q
+    → IsLoad ruled.order.0 i c v before → HasCalls riders begun before → HasNoCalls riders done before
+    → EachRider (λ k r. k ≢ j → IsQuietBetween c n done r.touches) riders
+    → q.touches ≡ late ++ (middle ++ Called m ∷ (recent ++ Called n ∷ older))
+    → BeginsAfter done late → last_store c middle ≡ None → m < begun → last_store c recent ≡ Some w
+    → v ≡ w

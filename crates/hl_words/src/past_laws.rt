@@ -1,0 +1,37 @@
+//! What a load finds that its rider made after a call under the master's lock, or after it was told what another did: each
+//! law the contract of a function that does nothing.
+
+ghost use Rattle.hl_words.specs.Past.{LoadsAfterMet, LoadsAfterCalled, LoadsBetween, LoadsOfOne, LoadsOfOneBetween, LoadsOfNewest};
+
+/// A load after its rider was told what another did finds it, or what was stored since.
+pub fn loads_after_met()
+    ensures { LoadsAfterMet }
+{}
+
+/// A load after a call of its rider finds what riders did before calls that met fewer steps, or what was stored since.
+pub fn loads_after_called()
+    ensures { LoadsAfterCalled }
+{}
+
+/// A load of a rider that was told of another's call, and of which the other was told before a later call of its own,
+/// stands between the two.
+pub fn loads_between()
+    ensures { LoadsBetween }
+{}
+
+/// Where one rider alone stores into a cell, a load of any rider finds the newest of its stores that stand before.
+pub fn loads_of_one()
+    ensures { LoadsOfOne }
+{}
+
+/// Where one rider alone stores into a cell, and not between two of its calls, a load that stands between finds its newest
+/// store before the earlier one.
+pub fn loads_of_one_between()
+    ensures { LoadsOfOneBetween }
+{}
+
+/// Where since a call one rider alone stores into a cell, a load that stands between finds its newest store, whatever others
+/// stored there before.
+pub fn loads_of_newest()
+    ensures { LoadsOfNewest }
+{}
