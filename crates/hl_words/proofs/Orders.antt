@@ -91,7 +91,7 @@ met_changed : (front : List RiderView) (r q : RiderView) (back : List RiderView)
 met_changed front r q back same before (Stored d v) h = tt
 met_changed front r q back same before (Loaded d v) h = tt
 met_changed front r q back same before (Changed d w v) h = tt
-met_changed front r q back same before (Called n) h = tt
+met_changed front r q back same before (Called met left) h = tt
 met_changed front r q back same before (Met name count) h =
     some_changed (λ i x. (x.name ≡ name) × (count ≤ length (touches_of i before))) (λ i x. (x.name ≡ name) × (count ≤ length (touches_of i before))) front r q back (λ p. (same ∙ p.0, p.1)) (λ i x p. p) h
 
@@ -110,8 +110,8 @@ every_by P n (t ∷ before) less each =
     let own : Every P (t.touch ∷ touches_of t.rider before) = subst (Every P) (own_more t.rider t.touch before) (each t.rider less.0) in
     (own.0, every_by P n before less.1 (λ i below. every_either P t.touch (touches_of i before) (t.rider == i) (each i below)))
 
--- so the number of a call fits, if it is at least those of all riders' calls
-pub called_last : (n : ℕ) (cells : ℕ) (words : List ℕ) (riders : List RiderView) (h : HasOneOrder cells words riders) → Every (λ (r : RiderView). Every (IsUpTo n) r.touches) riders → Finds h.0 (Called n)
+-- so a call met what all riders' calls left, if each left at most so many
+pub called_last : (n : ℕ) (cells : ℕ) (words : List ℕ) (riders : List RiderView) (h : HasOneOrder cells words riders) → Every (λ (r : RiderView). Every (IsUpTo n) r.touches) riders → Every (λ (t : TouchBy). IsUpTo n t.touch) h.0
 called_last n cells words riders h each =
     every_by (IsUpTo n) (length riders) h.0 h.1.theirs
     (λ i less. let one = there riders i less in subst (Every (IsUpTo n)) (h.1.each i one.0 one.1) (every_at (λ (r : RiderView). Every (IsUpTo n) r.touches) riders each i one.0 one.1))
@@ -184,7 +184,7 @@ finds_renamed : (f : ℕ → ℕ) (before : List TouchBy) (t : Touch) → Finds 
 finds_renamed f before (Stored d v) h = tt
 finds_renamed f before (Loaded d v) h = h ∙ sym (held_renamed f d before)
 finds_renamed f before (Changed d w v) h = h ∙ sym (held_renamed f d before)
-finds_renamed f before (Called n) h = up_to_renamed f n before h
+finds_renamed f before (Called met left) h = (h.0, up_to_renamed f met before h.1)
 finds_renamed f before (Met name count) h = tt
 
 serial_renamed : (f : ℕ → ℕ) (order : List TouchBy) → IsSerial order → IsSerial (renamed f order)
@@ -219,7 +219,7 @@ met_renamed : (f g : ℕ → ℕ) → ((k : ℕ) → g (f k) ≡ k) → ((k : �
 met_renamed f g back forth riders after same before (Stored d v) h = tt
 met_renamed f g back forth riders after same before (Loaded d v) h = tt
 met_renamed f g back forth riders after same before (Changed d w v) h = tt
-met_renamed f g back forth riders after same before (Called n) h = tt
+met_renamed f g back forth riders after same before (Called met left) h = tt
 met_renamed f g back forth riders after same before (Met name count) h =
     some_renamed (λ i x. (x.name ≡ name) × (count ≤ length (touches_of i before))) (λ i x. (x.name ≡ name) × (count ≤ length (touches_of i (renamed f before)))) riders after f
     (λ i. same (f i) ∙ ap (slice_get riders) (back i))
@@ -355,7 +355,7 @@ puts_or_passes c (Changed d found v) = by (d == c) refl
       quiet = λ before l f z q. (eqb-false d c e, q);
     }
 
-puts_or_passes c (Called n) = inr record {
+puts_or_passes c (Called met left) = inr record {
   leaves = λ w. refl;
   last = λ l. refl;
   quiet = λ before l f z q. q;
@@ -391,7 +391,7 @@ has_more : (c v : ℕ) (t : Touch) (l : List Touch) → HasStore c v l → HasSt
 has_more c v (Stored d w) l h = inr h
 has_more c v (Loaded d w) l h = h
 has_more c v (Changed d found w) l h = inr h
-has_more c v (Called n) l h = h
+has_more c v (Called met left) l h = h
 has_more c v (Met name count) l h = h
 
 has_either : (c v : ℕ) (t : Touch) (l : List Touch) → HasStore c v l → (b : Bool) → HasStore c v (if b then t ∷ l else l)
@@ -438,7 +438,7 @@ last_has c v (Changed d found w ∷ before) e = by (d == c) refl e (last_has c v
     by true same is rest = inl (eqb-true d c same, cc is)
     by false same is rest = inr (rest is)
 
-last_has c v (Called n ∷ before) e = last_has c v before e
+last_has c v (Called met left ∷ before) e = last_has c v before e
 last_has c v (Met name count ∷ before) e = last_has c v before e
 
 -- what stands in the cell before one of the rider's touches is lawful for it
@@ -467,7 +467,7 @@ own_lawful E i n (t ∷ before) there_too h e = by (t.rider == i) t.touch h.0 (o
     by true (Stored d v) f rest = rest
     by true (Loaded d v) f rest = (found_lawful E i n before sooner h.1 e.1 d v f, rest)
     by true (Changed d found v) f rest = (found_lawful E i n before sooner h.1 e.1 d found f, rest)
-    by true (Called m) f rest = rest
+    by true (Called met left) f rest = rest
     by true (Met name count) f rest = rest
 
 module _ (cells : ℕ) (words : List ℕ) (riders : List RiderView) (h : HasOneOrder cells words riders) where

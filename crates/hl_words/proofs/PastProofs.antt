@@ -75,50 +75,56 @@ met_end riders [] rest h = h
 met_end riders (t ∷ newer) rest h = met_end riders newer rest h.1
 
 module _ (cells : ℕ) (words : List ℕ) (riders : List RiderView) (h : HasOneOrder cells words riders) where
-  -- a call stands before each one that met more steps, with all that its rider did before
-  after_call : (k n : ℕ) (front before : List TouchBy) → h.0 ≡ front ++ by_rider k (Called n) ∷ before → HasCalls riders n before
-  after_call k n front before whole j m q later past at is less =
-      let c = cut_at j h.0 later (Called m) past (sym (h.1.each j q at) ∙ is) in
-      let serial : IsSerial (c.front ++ by_rider j (Called m) ∷ c.before) = subst IsSerial c.whole h.1.serial in
-      let most : Every (λ (t : TouchBy). IsUpTo m t.touch) c.before = (serial_end c.front (by_rider j (Called m) ∷ c.before) serial).0 in
-      let own : touches_of j (by_rider j (Called m) ∷ c.before) ≡ Called m ∷ past = own_more j (Called m) c.before ∙ ap (λ (l : List Touch). Called m ∷ l) c.own in
+  -- a call stands before each one that left more steps, with all that its rider did before
+  after_call : (k first n : ℕ) (front before : List TouchBy) → h.0 ≡ front ++ by_rider k (Called first n) ∷ before → HasCalls riders n before
+  after_call k first n front before whole j m left q later past at is less =
+      let its = by_rider k (Called first n) in
+      let own_call = by_rider j (Called m left) in
+      let c = cut_at j h.0 later (Called m left) past (sym (h.1.each j q at) ∙ is) in
+      let serial : IsSerial (c.front ++ own_call ∷ c.before) = subst IsSerial c.whole h.1.serial in
+      let found : Finds c.before (Called m left) = (serial_end c.front (own_call ∷ c.before) serial).0 in
+      let own : touches_of j (own_call ∷ c.before) ≡ Called m left ∷ past = own_more j (Called m left) c.before ∙ ap (λ (l : List Touch). Called m left ∷ l) c.own in
       ⊎_elim
-      (λ (here : (mid : List TouchBy) × (before ≡ mid ++ by_rider j (Called m) ∷ c.before)).
-      (touches_of j here.0, ap (touches_of j) here.1 ∙ touches_both j here.0 (by_rider j (Called m) ∷ c.before) ∙ ap (λ (l : List Touch). touches_of j here.0 ++ l) own))
-      (λ (other : ((by_rider k (Called n) ≡ by_rider j (Called m)) × (before ≡ c.before)) ⊎ ((mid : List TouchBy) × (c.before ≡ mid ++ by_rider k (Called n) ∷ before))).
+      (λ (here : (mid : List TouchBy) × (before ≡ mid ++ own_call ∷ c.before)).
+      (touches_of j here.0, ap (touches_of j) here.1 ∙ touches_both j here.0 (own_call ∷ c.before) ∙ ap (λ (l : List Touch). touches_of j here.0 ++ l) own))
+      (λ (other : ((its ≡ own_call) × (before ≡ c.before)) ⊎ ((mid : List TouchBy) × (c.before ≡ mid ++ its ∷ before))).
       ⊎_elim
-      (λ (same : (by_rider k (Called n) ≡ by_rider j (Called m)) × (before ≡ c.before)).
-      let alike : Called n ≡ Called m = ap (λ (t : TouchBy). t.touch) same.0 in
-      let number : n ≡ m = cc alike in
+      (λ (same : (its ≡ own_call) × (before ≡ c.before)).
+      let alike : Called first n ≡ Called m left = ap (λ (t : TouchBy). t.touch) same.0 in
+      let number : n ≡ left = cc alike in
       absurd (omega (arith, number, less)))
-      (λ (there : (mid : List TouchBy) × (c.before ≡ mid ++ by_rider k (Called n) ∷ before)).
-      let at_most : n ≤ m = (every_back (λ (t : TouchBy). IsUpTo m t.touch) there.0 (by_rider k (Called n) ∷ before) (subst (Every (λ (t : TouchBy). IsUpTo m t.touch)) there.1 most)).0 in
-      absurd (omega (arith, at_most, less)))
+      (λ (there : (mid : List TouchBy) × (c.before ≡ mid ++ its ∷ before)).
+      let at_most : n ≤ m = (every_back (λ (t : TouchBy). IsUpTo m t.touch) there.0 (its ∷ before) (subst (Every (λ (t : TouchBy). IsUpTo m t.touch)) there.1 found.1)).0 in
+      absurd (omega (arith, at_most, found.0, less)))
       other)
-      (compared front (by_rider k (Called n)) before c.front (by_rider j (Called m)) c.before (sym whole ∙ c.whole))
+      (compared front its before c.front own_call c.before (sym whole ∙ c.whole))
 
   -- and nothing that a rider did after a call stands before one that met fewer
-  before_call : (k n : ℕ) (front rest between before : List TouchBy) → h.0 ≡ front ++ by_rider k (Called n) ∷ rest → rest ≡ between ++ before → HasNoCalls riders n before
-  before_call k n front rest between before whole has j m q later past at is less =
-      let c = cut_at j h.0 later (Called m) past (sym (h.1.each j q at) ∙ is) in
-      let serial : IsSerial (front ++ by_rider k (Called n) ∷ rest) = subst IsSerial whole h.1.serial in
-      let most : Every (λ (t : TouchBy). IsUpTo n t.touch) rest = (serial_end front (by_rider k (Called n) ∷ rest) serial).0 in
+  before_call : (k n last : ℕ) (front rest between before : List TouchBy) → h.0 ≡ front ++ by_rider k (Called n last) ∷ rest → rest ≡ between ++ before → HasNoCalls riders n before
+  before_call k n last front rest between before whole has j m left q later past at is less =
+      let its = by_rider k (Called n last) in
+      let own_call = by_rider j (Called m left) in
+      let c = cut_at j h.0 later (Called m left) past (sym (h.1.each j q at) ∙ is) in
+      let serial : IsSerial (front ++ its ∷ rest) = subst IsSerial whole h.1.serial in
+      let most : Every (λ (t : TouchBy). IsUpTo n t.touch) rest = (serial_end front (its ∷ rest) serial).0.1 in
+      let other_serial : IsSerial (c.front ++ own_call ∷ c.before) = subst IsSerial c.whole h.1.serial in
+      let grew : m ≤ left = (serial_end c.front (own_call ∷ c.before) other_serial).0.0 in
       ⊎_elim
-      (λ (here : (mid : List TouchBy) × (rest ≡ mid ++ by_rider j (Called m) ∷ c.before)).
-      let at_most : m ≤ n = (every_back (λ (t : TouchBy). IsUpTo n t.touch) here.0 (by_rider j (Called m) ∷ c.before) (subst (Every (λ (t : TouchBy). IsUpTo n t.touch)) here.1 most)).0 in
-      absurd (omega (arith, at_most, less)))
-      (λ (other : ((by_rider k (Called n) ≡ by_rider j (Called m)) × (rest ≡ c.before)) ⊎ ((mid : List TouchBy) × (c.before ≡ mid ++ by_rider k (Called n) ∷ rest))).
+      (λ (here : (mid : List TouchBy) × (rest ≡ mid ++ own_call ∷ c.before)).
+      let at_most : left ≤ n = (every_back (λ (t : TouchBy). IsUpTo n t.touch) here.0 (own_call ∷ c.before) (subst (Every (λ (t : TouchBy). IsUpTo n t.touch)) here.1 most)).0 in
+      absurd (omega (arith, at_most, grew, less)))
+      (λ (other : ((its ≡ own_call) × (rest ≡ c.before)) ⊎ ((mid : List TouchBy) × (c.before ≡ mid ++ its ∷ rest))).
       ⊎_elim
-      (λ (same : (by_rider k (Called n) ≡ by_rider j (Called m)) × (rest ≡ c.before)).
-      let alike : Called n ≡ Called m = ap (λ (t : TouchBy). t.touch) same.0 in
+      (λ (same : (its ≡ own_call) × (rest ≡ c.before)).
+      let alike : Called n last ≡ Called m left = ap (λ (t : TouchBy). t.touch) same.0 in
       let number : n ≡ m = cc alike in
       absurd (omega (arith, number, less)))
-      (λ (there : (mid : List TouchBy) × (c.before ≡ mid ++ by_rider k (Called n) ∷ rest)).
-      let front2 : List TouchBy = there.0 ++ by_rider k (Called n) ∷ between in
-      let parts : c.before ≡ front2 ++ before = there.1 ∙ ap (λ (l : List TouchBy). there.0 ++ by_rider k (Called n) ∷ l) has ∙ sym (append_assoc there.0 (by_rider k (Called n) ∷ between) before) in
+      (λ (there : (mid : List TouchBy) × (c.before ≡ mid ++ its ∷ rest)).
+      let front2 : List TouchBy = there.0 ++ its ∷ between in
+      let parts : c.before ≡ front2 ++ before = there.1 ∙ ap (λ (l : List TouchBy). there.0 ++ its ∷ l) has ∙ sym (append_assoc there.0 (its ∷ between) before) in
       (touches_of j front2, sym c.own ∙ ap (touches_of j) parts ∙ touches_both j front2 before))
       other)
-      (compared front (by_rider k (Called n)) rest c.front (by_rider j (Called m)) c.before (sym whole ∙ c.whole))
+      (compared front its rest c.front own_call c.before (sym whole ∙ c.whole))
 
   -- where a rider was told of another, the other's touches stand before
   after_met : (i j : ℕ) (q : RiderView) (front before : List TouchBy) (later past : List Touch) → h.0 ≡ front ++ by_rider i (Met q.name (length past)) ∷ before → slice_get riders j ≡ Some q → q.touches ≡ later ++ past
@@ -163,15 +169,15 @@ loads_after_met cells words stores riders i j c v r q newer between earlier late
 
 -- what riders did before calls stands behind more
 calls_more : (riders : List RiderView) (n : ℕ) (front before : List TouchBy) → HasCalls riders n before → HasCalls riders n (front ++ before)
-calls_more riders n front before h j m q later past at is less = has_more j (Called m ∷ past) front before (h j m q later past at is less)
+calls_more riders n front before h j m left q later past at is less = has_more j (Called m left ∷ past) front before (h j m left q later past at is less)
 
 pub loads_after_called : LoadsAfterCalled
-loads_after_called cells words stores riders i c v n r newer between earlier ruled ati mine =
+loads_after_called cells words stores riders i c v m n r newer between earlier ruled ati mine =
     let h = ruled.order in
-    let t = Called n in
+    let t = Called m n in
     let a = cut_at i h.0 newer (Loaded c v) (between ++ t ∷ earlier) (sym (h.1.each i r ati) ∙ mine) in
     let b = cut_at i a.before between t earlier a.own in
-    let has = after_call cells words riders h i n (a.front ++ by_rider i (Loaded c v) ∷ b.front) b.before (joined a.front b.front (by_rider i (Loaded c v)) (by_rider i t) a.before b.before h.0 a.whole b.whole) in
+    let has = after_call cells words riders h i m n (a.front ++ by_rider i (Loaded c v) ∷ b.front) b.before (joined a.front b.front (by_rider i (Loaded c v)) (by_rider i t) a.before b.before h.0 a.whole b.whole) in
     let parts : (b.front ++ by_rider i t ∷ []) ++ b.before ≡ a.before = append_assoc b.front (by_rider i t ∷ []) b.before ∙ sym b.whole in
     (a.before, load_at cells words riders h i c v a.front a.before a.whole, subst (HasCalls riders n) parts (calls_more riders n (b.front ++ by_rider i t ∷ []) b.before has))
 
@@ -189,33 +195,33 @@ module _ (cells : ℕ) (words : List ℕ) (riders : List RiderView) (h : HasOneO
       cut_at i before (all.0 ++ newer) t rest (all.1 ∙ ap (λ (x : List Touch). all.0 ++ x) is ∙ sym (append_assoc all.0 newer (t ∷ rest)))
 
   -- so do the calls that met fewer steps than one of which a rider was told
-  told_calls : (i k n : ℕ) (f : RiderView) (its told first oldest between earlier : List Touch) (front before : List TouchBy) (t : TouchBy) → told ≡ first ++ Called n ∷ oldest → slice_get riders k ≡ Some f → f.touches ≡ its ++ told
+  told_calls : (i k first n : ℕ) (f : RiderView) (its told newer oldest between earlier : List Touch) (front before : List TouchBy) (t : TouchBy) → told ≡ newer ++ Called first n ∷ oldest → slice_get riders k ≡ Some f → f.touches ≡ its ++ told
       → h.0 ≡ front ++ t ∷ before → touches_of i before ≡ between ++ Met f.name (length told) ∷ earlier → HasCalls riders n before
-  told_calls i k n f its told first oldest between earlier front before t is at theirs whole own =
+  told_calls i k first n f its told newer oldest between earlier front before t is at theirs whole own =
       let m = Met f.name (length told) in
       let b = cut_at i before between m earlier own in
       let whole_b : h.0 ≡ (front ++ t ∷ b.front) ++ by_rider i m ∷ b.before = joined front b.front t (by_rider i m) before b.before h.0 whole b.whole in
-      let g = told_cut i k (Called n) f its told first oldest (front ++ t ∷ b.front) b.before is at theirs whole_b in
-      let whole_g = joined (front ++ t ∷ b.front) g.front (by_rider i m) (by_rider k (Called n)) b.before g.before h.0 whole_b g.whole in
-      subst (HasCalls riders n) (in_two b.front b.before g.front g.before before (by_rider i m) (by_rider k (Called n)) b.whole g.whole)
-      (calls_more riders n (b.front ++ by_rider i m ∷ (g.front ++ by_rider k (Called n) ∷ [])) g.before (after_call cells words riders h k n ((front ++ t ∷ b.front) ++ by_rider i m ∷ g.front) g.before whole_g))
+      let g = told_cut i k (Called first n) f its told newer oldest (front ++ t ∷ b.front) b.before is at theirs whole_b in
+      let whole_g = joined (front ++ t ∷ b.front) g.front (by_rider i m) (by_rider k (Called first n)) b.before g.before h.0 whole_b g.whole in
+      subst (HasCalls riders n) (in_two b.front b.before g.front g.before before (by_rider i m) (by_rider k (Called first n)) b.whole g.whole)
+      (calls_more riders n (b.front ++ by_rider i m ∷ (g.front ++ by_rider k (Called first n) ∷ [])) g.before (after_call cells words riders h k first n ((front ++ t ∷ b.front) ++ by_rider i m ∷ g.front) g.before whole_g))
 
   -- a load of which a rider was told before a call
-  load_before : (i k c v n : ℕ) (r f : RiderView) (last own newer rest newest middle told : List Touch) → own ≡ newer ++ Loaded c v ∷ rest → slice_get riders i ≡ Some r → slice_get riders k ≡ Some f → r.touches ≡ last ++ own
-      → f.touches ≡ newest ++ Called n ∷ (middle ++ Met r.name (length own) ∷ told)
+  load_before : (i k c v n late : ℕ) (r f : RiderView) (last own newer rest newest middle told : List Touch) → own ≡ newer ++ Loaded c v ∷ rest → slice_get riders i ≡ Some r → slice_get riders k ≡ Some f → r.touches ≡ last ++ own
+      → f.touches ≡ newest ++ Called n late ∷ (middle ++ Met r.name (length own) ∷ told)
       → (before : List TouchBy) × (front : List TouchBy) × (h.0 ≡ front ++ by_rider i (Loaded c v) ∷ before) × (touches_of i before ≡ rest) × HasNoCalls riders n before
-  load_before i k c v n r f last own newer rest newest middle told is ati atk mine theirs =
+  load_before i k c v n late r f last own newer rest newest middle told is ati atk mine theirs =
       let m = Met r.name (length own) in
       let l = by_rider i (Loaded c v) in
-      let d = cut_at k h.0 newest (Called n) (middle ++ m ∷ told) (sym (h.1.each k f atk) ∙ theirs) in
+      let d = cut_at k h.0 newest (Called n late) (middle ++ m ∷ told) (sym (h.1.each k f atk) ∙ theirs) in
       let w = cut_at k d.before middle m told d.own in
-      let whole_w : h.0 ≡ (d.front ++ by_rider k (Called n) ∷ w.front) ++ by_rider k m ∷ w.before = joined d.front w.front (by_rider k (Called n)) (by_rider k m) d.before w.before h.0 d.whole w.whole in
-      let a = told_cut k i (Loaded c v) r last own newer rest (d.front ++ by_rider k (Called n) ∷ w.front) w.before is ati mine whole_w in (
+      let whole_w : h.0 ≡ (d.front ++ by_rider k (Called n late) ∷ w.front) ++ by_rider k m ∷ w.before = joined d.front w.front (by_rider k (Called n late)) (by_rider k m) d.before w.before h.0 d.whole w.whole in
+      let a = told_cut k i (Loaded c v) r last own newer rest (d.front ++ by_rider k (Called n late) ∷ w.front) w.before is ati mine whole_w in (
         a.before,
-        (d.front ++ by_rider k (Called n) ∷ w.front) ++ by_rider k m ∷ a.front,
-        joined (d.front ++ by_rider k (Called n) ∷ w.front) a.front (by_rider k m) l w.before a.before h.0 whole_w a.whole,
+        (d.front ++ by_rider k (Called n late) ∷ w.front) ++ by_rider k m ∷ a.front,
+        joined (d.front ++ by_rider k (Called n late) ∷ w.front) a.front (by_rider k m) l w.before a.before h.0 whole_w a.whole,
         a.own,
-        before_call cells words riders h k n d.front d.before (w.front ++ by_rider k m ∷ (a.front ++ l ∷ [])) a.before d.whole (sym (in_two w.front w.before a.front a.before d.before (by_rider k m) l w.whole a.whole)),
+        before_call cells words riders h k n late d.front d.before (w.front ++ by_rider k m ∷ (a.front ++ l ∷ [])) a.before d.whole (sym (in_two w.front w.before a.front a.before d.before (by_rider k m) l w.whole a.whole)),
       )
 
 -- the other's touches end with what it told
@@ -223,18 +229,18 @@ its_end : (newest middle told : List Touch) (t m : Touch) → newest ++ t ∷ (m
 its_end newest middle told t m = ap (λ (x : List Touch). newest ++ t ∷ x) (sym (append_assoc middle (m ∷ []) told)) ∙ sym (append_assoc newest (t ∷ (middle ++ m ∷ [])) told)
 
 pub loads_between : LoadsBetween
-loads_between cells words stores riders i k c v begun done r f last between earlier newer first newest middle more oldest ruled ati atk mine others =
+loads_between cells words stores riders i k c v met begun done left r f last between earlier newer first newest middle more oldest ruled ati atk mine others =
     let h = ruled.order in
-    let told = first ++ Called begun ∷ oldest in
+    let told = first ++ Called met begun ∷ oldest in
     let rest = between ++ Met f.name (length told) ∷ earlier in
     let own = newer ++ Loaded c v ∷ rest in
     let m = Met r.name (length own) in
-    let a = load_before cells words riders h i k c v done r f last own newer rest newest middle (more ++ told) refl ati atk mine others in
-    let its : f.touches ≡ ((newest ++ Called done ∷ (middle ++ m ∷ [])) ++ more) ++ told = others ∙ its_end newest middle (more ++ told) (Called done) m ∙ sym (append_assoc (newest ++ Called done ∷ (middle ++ m ∷ [])) more told) in
+    let a = load_before cells words riders h i k c v done left r f last own newer rest newest middle (more ++ told) refl ati atk mine others in
+    let its : f.touches ≡ ((newest ++ Called done left ∷ (middle ++ m ∷ [])) ++ more) ++ told = others ∙ its_end newest middle (more ++ told) (Called done left) m ∙ sym (append_assoc (newest ++ Called done left ∷ (middle ++ m ∷ [])) more told) in
     (
       a.0,
       load_at cells words riders h i c v a.1 a.0 a.2,
-      told_calls cells words riders h i k begun f ((newest ++ Called done ∷ (middle ++ m ∷ [])) ++ more) told first oldest between earlier a.1 a.0 (by_rider i (Loaded c v)) refl atk its a.2 a.3,
+      told_calls cells words riders h i k met begun f ((newest ++ Called done left ∷ (middle ++ m ∷ [])) ++ more) told first oldest between earlier a.1 a.0 (by_rider i (Loaded c v)) refl atk its a.2 a.3,
       a.4,
     )
 
@@ -314,14 +320,14 @@ same_front (x ∷ xs) (y ∷ ys) zs e =
     ap (λ (t : Touch). t ∷ xs) head ∙ ap (λ (l : List Touch). y ∷ l) (same_front xs ys zs tail)
 
 pub loads_of_one_between : LoadsOfOneBetween
-loads_of_one_between cells words stores riders i j c v begun done m n q before later middle past ruled at others load calls no_calls is low high quiet =
-    let up_to : q.touches ≡ (later ++ Called n ∷ middle) ++ Called m ∷ past = is ∙ sym (append_assoc later (Called n ∷ middle) (Called m ∷ past)) in
-    let all = calls j m q (later ++ Called n ∷ middle) past at up_to low in
-    let only = no_calls j n q later (middle ++ Called m ∷ past) at is high in
-    let parts : middle ++ Called m ∷ past ≡ (only.0 ++ all.0) ++ Called m ∷ past = only.1 ∙ ap (λ (l : List Touch). only.0 ++ l) all.1 ∙ sym (append_assoc only.0 all.0 (Called m ∷ past)) in
-    let split : middle ≡ only.0 ++ all.0 = same_front middle (only.0 ++ all.0) (Called m ∷ past) parts in
+loads_of_one_between cells words stores riders i j c v begun done m left n last q before later middle past ruled at others load calls no_calls is low high quiet =
+    let up_to : q.touches ≡ (later ++ Called n last ∷ middle) ++ Called m left ∷ past = is ∙ sym (append_assoc later (Called n last ∷ middle) (Called m left ∷ past)) in
+    let all = calls j m left q (later ++ Called n last ∷ middle) past at up_to low in
+    let only = no_calls j n last q later (middle ++ Called m left ∷ past) at is high in
+    let parts : middle ++ Called m left ∷ past ≡ (only.0 ++ all.0) ++ Called m left ∷ past = only.1 ∙ ap (λ (l : List Touch). only.0 ++ l) all.1 ∙ sym (append_assoc only.0 all.0 (Called m left ∷ past)) in
+    let split : middle ≡ only.0 ++ all.0 = same_front middle (only.0 ++ all.0) (Called m left ∷ past) parts in
     let since : last_store c all.0 ≡ None = none_end c only.0 all.0 (sym (ap (last_store c) split) ∙ quiet) in
-    loads_of_one cells words stores riders i j c v before ruled others load ∙ ap (λ o. unwrap_or o 0) (ap (last_store c) all.1 ∙ none_front c all.0 (Called m ∷ past) since)
+    loads_of_one cells words stores riders i j c v before ruled others load ∙ ap (λ o. unwrap_or o 0) (ap (last_store c) all.1 ∙ none_front c all.0 (Called m left ∷ past) since)
 
 none_begin : (c : ℕ) (xs ys : List Touch) → last_store c (xs ++ ys) ≡ None → last_store c xs ≡ None
 none_begin c [] ys e = refl
@@ -371,34 +377,34 @@ only_before : (riders : List RiderView) (done j : ℕ) (q : RiderView) (late res
 only_before riders done j q late rest before front none at is after whole =
     ⊎_elim
     (λ (nothing : late ≡ []). (front, sym (ap (λ (l : List Touch). l ++ rest) nothing) ∙ sym is ∙ whole))
-    (λ (call : (m : ℕ) × (later : List Touch) × (late ≡ later ++ Called m ∷ []) × (done < m)).
-    none j call.0 q call.1 rest at (is ∙ ap (λ (l : List Touch). l ++ rest) call.2 ∙ append_assoc call.1 (Called call.0 ∷ []) rest) call.3)
+    (λ (call : (met left : ℕ) × (later : List Touch) × (late ≡ later ++ Called met left ∷ []) × (done < met)).
+    none j call.0 call.1 q call.2 rest at (is ∙ ap (λ (l : List Touch). l ++ rest) call.3 ∙ append_assoc call.2 (Called call.0 call.1 ∷ []) rest) call.4)
     after
 
 -- so a rider's quiet touches hold all that it did in the newer part
-module _ (cells : ℕ) (words : List ℕ) (riders : List RiderView) (h : HasOneOrder cells words riders) (c done j n : ℕ) (front newer base : List TouchBy)
-    (whole : h.0 ≡ newer ++ (front ++ by_rider j (Called n) ∷ base)) (late_none : HasNoCalls riders done (front ++ by_rider j (Called n) ∷ base)) where
+module _ (cells : ℕ) (words : List ℕ) (riders : List RiderView) (h : HasOneOrder cells words riders) (c done j first n : ℕ) (front newer base : List TouchBy)
+    (whole : h.0 ≡ newer ++ (front ++ by_rider j (Called first n) ∷ base)) (late_none : HasNoCalls riders done (front ++ by_rider j (Called first n) ∷ base)) where
   quiet_front : (k : ℕ) (r : RiderView) → slice_get riders k ≡ Some r → IsQuietBetween c n done r.touches → last_store c (touches_of k front) ≡ None
   quiet_front k r at q =
-      let before : List TouchBy = front ++ by_rider j (Called n) ∷ base in
+      let before : List TouchBy = front ++ by_rider j (Called first n) ∷ base in
       let all : r.touches ≡ touches_of k newer ++ touches_of k before = h.1.each k r at ∙ ap (touches_of k) whole ∙ touches_both k newer before in
       let only = only_before riders done k r q.late (q.quiet ++ q.old) before (touches_of k newer) late_none at q.all q.after all in
-      let parts : q.quiet ++ q.old ≡ only.0 ++ (touches_of k front ++ touches_of k (by_rider j (Called n) ∷ base)) = only.1 ∙ ap (λ (l : List Touch). only.0 ++ l) (touches_both k front (by_rider j (Called n) ∷ base)) in
+      let parts : q.quiet ++ q.old ≡ only.0 ++ (touches_of k front ++ touches_of k (by_rider j (Called first n) ∷ base)) = only.1 ∙ ap (λ (l : List Touch). only.0 ++ l) (touches_both k front (by_rider j (Called first n) ∷ base)) in
       ⊎_elim (nothing only.0 parts) (called only.0 parts) q.before
     where
-      nothing : (rest : List Touch) → q.quiet ++ q.old ≡ rest ++ (touches_of k front ++ touches_of k (by_rider j (Called n) ∷ base)) → q.old ≡ [] → last_store c (touches_of k front) ≡ None
+      nothing : (rest : List Touch) → q.quiet ++ q.old ≡ rest ++ (touches_of k front ++ touches_of k (by_rider j (Called first n) ∷ base)) → q.old ≡ [] → last_store c (touches_of k front) ≡ None
       nothing rest parts e =
-          let quiet : q.quiet ≡ rest ++ (touches_of k front ++ touches_of k (by_rider j (Called n) ∷ base)) = sym (append-nil q.quiet) ∙ ap (λ (l : List Touch). q.quiet ++ l) (sym e) ∙ parts in
-          none_begin c (touches_of k front) (touches_of k (by_rider j (Called n) ∷ base)) (none_end c rest (touches_of k front ++ touches_of k (by_rider j (Called n) ∷ base)) (sym (ap (last_store c) quiet) ∙ q.none))
+          let quiet : q.quiet ≡ rest ++ (touches_of k front ++ touches_of k (by_rider j (Called first n) ∷ base)) = sym (append-nil q.quiet) ∙ ap (λ (l : List Touch). q.quiet ++ l) (sym e) ∙ parts in
+          none_begin c (touches_of k front) (touches_of k (by_rider j (Called first n) ∷ base)) (none_end c rest (touches_of k front ++ touches_of k (by_rider j (Called first n) ∷ base)) (sym (ap (last_store c) quiet) ∙ q.none))
 
-      called : (rest : List Touch) → q.quiet ++ q.old ≡ rest ++ (touches_of k front ++ touches_of k (by_rider j (Called n) ∷ base)) → ((m : ℕ) × (past : List Touch) × (q.old ≡ Called m ∷ past) × (m < n)) → last_store c (touches_of k front) ≡ None
+      called : (rest : List Touch) → q.quiet ++ q.old ≡ rest ++ (touches_of k front ++ touches_of k (by_rider j (Called first n) ∷ base)) → ((met left : ℕ) × (past : List Touch) × (q.old ≡ Called met left ∷ past) × (left < n)) → last_store c (touches_of k front) ≡ None
       called rest parts o =
-          let calls = after_call cells words riders h j n (newer ++ front) base (whole ∙ sym (append_assoc newer front (by_rider j (Called n) ∷ base))) in
-          let is : r.touches ≡ (q.late ++ q.quiet) ++ Called o.0 ∷ o.1 = q.all ∙ sym (append_assoc q.late q.quiet q.old) ∙ ap (λ (l : List Touch). (q.late ++ q.quiet) ++ l) o.2 in
-          let has = calls k o.0 r (q.late ++ q.quiet) o.1 at is o.3 in
-          let one = by_rider j (Called n) ∷ [] in
-          let behind : touches_of k (by_rider j (Called n) ∷ base) ≡ (touches_of k one ++ has.0) ++ q.old =
-          touches_both k one base ∙ ap (λ (l : List Touch). touches_of k one ++ l) (has.1 ∙ ap (λ (l : List Touch). has.0 ++ l) (sym o.2)) ∙ sym (append_assoc (touches_of k one) has.0 q.old) in
+          let calls = after_call cells words riders h j first n (newer ++ front) base (whole ∙ sym (append_assoc newer front (by_rider j (Called first n) ∷ base))) in
+          let is : r.touches ≡ (q.late ++ q.quiet) ++ Called o.0 o.1 ∷ o.2 = q.all ∙ sym (append_assoc q.late q.quiet q.old) ∙ ap (λ (l : List Touch). (q.late ++ q.quiet) ++ l) o.3 in
+          let has = calls k o.0 o.1 r (q.late ++ q.quiet) o.2 at is o.4 in
+          let one = by_rider j (Called first n) ∷ [] in
+          let behind : touches_of k (by_rider j (Called first n) ∷ base) ≡ (touches_of k one ++ has.0) ++ q.old =
+          touches_both k one base ∙ ap (λ (l : List Touch). touches_of k one ++ l) (has.1 ∙ ap (λ (l : List Touch). has.0 ++ l) (sym o.3)) ∙ sym (append_assoc (touches_of k one) has.0 q.old) in
           let middle = touches_of k front ++ (touches_of k one ++ has.0) in
           let shaped : q.quiet ++ q.old ≡ (rest ++ middle) ++ q.old =
           parts ∙ ap (λ (l : List Touch). rest ++ (touches_of k front ++ l)) behind ∙ ap (λ (l : List Touch). rest ++ l) (sym (append_assoc (touches_of k front) (touches_of k one ++ has.0) q.old)) ∙ sym (append_assoc rest middle q.old) in
@@ -406,41 +412,41 @@ module _ (cells : ℕ) (words : List ℕ) (riders : List RiderView) (h : HasOneO
           none_begin c (touches_of k front) (touches_of k one ++ has.0) (none_end c rest middle (sym (ap (last_store c) quiet) ∙ q.none))
 
 pub loads_of_newest : LoadsOfNewest
-loads_of_newest cells words stores riders i j c v begun done n m w q before late middle recent older ruled at load calls no_calls others is after silent low stored =
+loads_of_newest cells words stores riders i j c v begun done first n m left w q before late middle recent older ruled at load calls no_calls others is after silent low stored =
     let h = ruled.order in
     let front0 : List TouchBy = load.newer ++ by_rider i (Loaded c v) ∷ [] in
     let parts : h.0 ≡ front0 ++ before = load.whole ∙ sym (append_assoc load.newer (by_rider i (Loaded c v) ∷ []) before) in
-    let rest : List Touch = middle ++ Called m ∷ (recent ++ Called n ∷ older) in
+    let rest : List Touch = middle ++ Called m left ∷ (recent ++ Called first n ∷ older) in
     let mine : q.touches ≡ touches_of j front0 ++ touches_of j before = h.1.each j q at ∙ ap (touches_of j) parts ∙ touches_both j front0 before in
-    let past : List Touch = recent ++ Called n ∷ older in
-    let all = calls j m q (late ++ middle) past at (is ∙ sym (append_assoc late middle (Called m ∷ past))) low in
+    let past : List Touch = recent ++ Called first n ∷ older in
+    let all = calls j m left q (late ++ middle) past at (is ∙ sym (append_assoc late middle (Called m left ∷ past))) low in
     let only = only_before riders done j q late rest before (touches_of j front0) no_calls at is after mine in
-    let split : middle ≡ only.0 ++ all.0 = same_front middle (only.0 ++ all.0) (Called m ∷ past) (only.1 ∙ ap (λ (l : List Touch). only.0 ++ l) all.1 ∙ sym (append_assoc only.0 all.0 (Called m ∷ past))) in
+    let split : middle ≡ only.0 ++ all.0 = same_front middle (only.0 ++ all.0) (Called m left ∷ past) (only.1 ∙ ap (λ (l : List Touch). only.0 ++ l) all.1 ∙ sym (append_assoc only.0 all.0 (Called m left ∷ past))) in
     let since : last_store c all.0 ≡ None = none_end c only.0 all.0 (sym (ap (last_store c) split) ∙ silent) in
-    let newest : List Touch = all.0 ++ Called m ∷ recent in
-    let shape : touches_of j before ≡ newest ++ Called n ∷ older = all.1 ∙ sym (append_assoc all.0 (Called m ∷ recent) (Called n ∷ older)) in
-    let a = cut_at j before newest (Called n) older shape in
-    let whole_a : h.0 ≡ front0 ++ (a.front ++ by_rider j (Called n) ∷ a.before) = parts ∙ ap (λ (l : List TouchBy). front0 ++ l) a.whole in
-    let none_a : HasNoCalls riders done (a.front ++ by_rider j (Called n) ∷ a.before) = subst (HasNoCalls riders done) a.whole no_calls in
-    let own : touches_of j a.front ≡ newest = own_front j newest older n before a.front a.before a.whole a.own shape in
+    let newest : List Touch = all.0 ++ Called m left ∷ recent in
+    let shape : touches_of j before ≡ newest ++ Called first n ∷ older = all.1 ∙ sym (append_assoc all.0 (Called m left ∷ recent) (Called first n ∷ older)) in
+    let a = cut_at j before newest (Called first n) older shape in
+    let whole_a : h.0 ≡ front0 ++ (a.front ++ by_rider j (Called first n) ∷ a.before) = parts ∙ ap (λ (l : List TouchBy). front0 ++ l) a.whole in
+    let none_a : HasNoCalls riders done (a.front ++ by_rider j (Called first n) ∷ a.before) = subst (HasNoCalls riders done) a.whole no_calls in
+    let own : touches_of j a.front ≡ newest = own_front j newest older first n before a.front a.before a.whole a.own shape in
     let quiet : (k : ℕ) → k ≢ j → last_store c (touches_of k a.front) ≡ None = λ k apart. quiet_of k apart a.front a.before front0 whole_a none_a in
     load.finds ∙ ap (held c) a.whole
-    ∙ of_one_since c j a.front (by_rider j (Called n) ∷ a.before) quiet
-    ∙ ap (λ o. unwrap_or o (held c (by_rider j (Called n) ∷ a.before))) (ap (last_store c) own ∙ none_front c all.0 (Called m ∷ recent) since ∙ stored)
+    ∙ of_one_since c j a.front (by_rider j (Called first n) ∷ a.before) quiet
+    ∙ ap (λ o. unwrap_or o (held c (by_rider j (Called first n) ∷ a.before))) (ap (last_store c) own ∙ none_front c all.0 (Called m left ∷ recent) since ∙ stored)
   where
-    own_front : (j : ℕ) (newest older : List Touch) (n : ℕ) (before front base : List TouchBy) → before ≡ front ++ by_rider j (Called n) ∷ base → touches_of j base ≡ older → touches_of j before ≡ newest ++ Called n ∷ older → touches_of j front ≡ newest
-    own_front j newest older n before front base whole own shape =
-        same_front (touches_of j front) newest (Called n ∷ older)
-        (ap (λ (l : List Touch). touches_of j front ++ l) (sym (own_more j (Called n) base ∙ ap (λ (l : List Touch). Called n ∷ l) own)) ∙ sym (touches_both j front (by_rider j (Called n) ∷ base)) ∙ sym (ap (touches_of j) whole) ∙ shape)
+    own_front : (j : ℕ) (newest older : List Touch) (first n : ℕ) (before front base : List TouchBy) → before ≡ front ++ by_rider j (Called first n) ∷ base → touches_of j base ≡ older → touches_of j before ≡ newest ++ Called first n ∷ older → touches_of j front ≡ newest
+    own_front j newest older first n before front base whole own shape =
+        same_front (touches_of j front) newest (Called first n ∷ older)
+        (ap (λ (l : List Touch). touches_of j front ++ l) (sym (own_more j (Called first n) base ∙ ap (λ (l : List Touch). Called first n ∷ l) own)) ∙ sym (touches_both j front (by_rider j (Called first n) ∷ base)) ∙ sym (ap (touches_of j) whole) ∙ shape)
 
-    quiet_of : (k : ℕ) → k ≢ j → (front base newer : List TouchBy) → ruled.order.0 ≡ newer ++ (front ++ by_rider j (Called n) ∷ base) → HasNoCalls riders done (front ++ by_rider j (Called n) ∷ base) → last_store c (touches_of k front) ≡ None
+    quiet_of : (k : ℕ) → k ≢ j → (front base newer : List TouchBy) → ruled.order.0 ≡ newer ++ (front ++ by_rider j (Called first n) ∷ base) → HasNoCalls riders done (front ++ by_rider j (Called first n) ∷ base) → last_store c (touches_of k front) ≡ None
     quiet_of k apart front base newer whole none =
         ⊎_elim
         (λ (less : k < length riders).
         let one = there riders k less in
-        quiet_front cells words riders ruled.order c done j n front newer base whole none k one.0 one.1 (others k one.0 one.1 apart))
+        quiet_front cells words riders ruled.order c done j first n front newer base whole none k one.0 one.1 (others k one.0 one.1 apart))
         (λ (far : length riders ≤ k).
-        let nothing : touches_of k front ++ touches_of k (by_rider j (Called n) ∷ base) ≡ [] =
-        sym (touches_both k front (by_rider j (Called n) ∷ base)) ∙ nobody_else (length riders) k far (front ++ by_rider j (Called n) ∷ base) (every_back (λ (t : TouchBy). t.rider < length riders) newer (front ++ by_rider j (Called n) ∷ base) (subst (Every (λ (t : TouchBy). t.rider < length riders)) whole ruled.order.1.theirs)) in
-        none_begin c (touches_of k front) (touches_of k (by_rider j (Called n) ∷ base)) (ap (last_store c) nothing))
+        let nothing : touches_of k front ++ touches_of k (by_rider j (Called first n) ∷ base) ≡ [] =
+        sym (touches_both k front (by_rider j (Called first n) ∷ base)) ∙ nobody_else (length riders) k far (front ++ by_rider j (Called first n) ∷ base) (every_back (λ (t : TouchBy). t.rider < length riders) newer (front ++ by_rider j (Called first n) ∷ base) (subst (Every (λ (t : TouchBy). t.rider < length riders)) whole ruled.order.1.theirs)) in
+        none_begin c (touches_of k front) (touches_of k (by_rider j (Called first n) ∷ base)) (ap (last_store c) nothing))
         (below_or k (length riders))

@@ -168,13 +168,13 @@ module _ (front : List RiderView) (r : RiderView) (back : List RiderView) where
       refl
       (every_back (Below last) front (r ∷ back) h.offset).0
 
-  -- a call when so many steps had been entered
-  pub after_call : (cells : ℕ) (words : List ℕ) (last : OffsetWords) (n : ℕ) → Every (λ (x : RiderView). Every (IsUpTo n) x.touches) (front ++ r ∷ back)
-      → IsStanding cells words last (front ++ r ∷ back) → IsStanding cells words last (front ++ called n r ∷ back)
-  after_call cells words last n each h =
-      let q = called n r in
+  -- a call that met what earlier ones left
+  pub after_call : (cells : ℕ) (words : List ℕ) (last : OffsetWords) (m n : ℕ) → m ≤ n → Every (λ (x : RiderView). Every (IsUpTo m) x.touches) (front ++ r ∷ back)
+      → IsStanding cells words last (front ++ r ∷ back) → IsStanding cells words last (front ++ called m n r ∷ back)
+  after_call cells words last m n le each h =
+      let q = called m n r in
       changed cells words words last q h
-      (order_more cells words words front r q back (Called n) refl refl h.order (called_last n cells words (front ++ r ∷ back) h.order each) tt h.order.1.last)
+      (order_more cells words words front r q back (Called m n) refl refl h.order (le, called_last m cells words (front ++ r ∷ back) h.order each) tt h.order.1.last)
       refl
       refl
       refl

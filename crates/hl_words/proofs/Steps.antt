@@ -19,7 +19,7 @@ use Rattle.hl_words.specs.declared.which.Which.{Which}
 use Rattle.hl_words.specs.declared.which.Which.TheVariants.{ReadOnly, Head, Ended}
 use Rattle.hl_words.specs.Views.{place_of, no_offsets, offset_of, greatest_of, with_offset, fresh, fresh_from, touched, added, exchanged, with_loaded, past_of, told, called}
 use Rattle.hl_words.specs.Rule.{SomeRider, IsUpTo, AreNamed, HasOneOrder, IsRuled}
-use Rattle.hl_words.specs.Seats.{seat_of, master_seat, knows_seat, rider_seat, spent_seat, first_seat, riders_in, HasPast, IsKnown, CallsUpTo, IsKept, Holds, Stores, Loads, Adds, Exchanges, Looks, with_store, Sets, left_seat, right_seat, joined_seat, left_called, right_called, same_seat, shown_seat, copied_seat, told_seat, recalling_seat, attested_seat, Recalls, Blanks}
+use Rattle.hl_words.specs.Seats.{seat_of, master_seat, knows_seat, rider_seat, spent_seat, first_seat, riders_in, HasPast, IsKnown, CallsUpTo, IsKept, Holds, Stores, Loads, Adds, Exchanges, Looks, with_store, Sets, left_seat, right_seat, joined_seat, left_called, right_called, same_seat, shown_seat, copied_seat, told_seat, attested_seat, Blanks}
 use Rattle.hl_words.proofs.Cut.{every_front, every_back, every_append, every_weaker, every_set, every_elem}
 use Rattle.hl_words.proofs.Orders.{at_place, some_changed, some_to_front, some_from_front}
 use Rattle.hl_words.proofs.Standing.{IsStanding, Below, no_loads, no_stores, standing_from, ruled_from, to_front, from_front, after_store, after_change, after_load, after_call, after_told, after_look, after_set, found_offset}
@@ -55,7 +55,7 @@ master_after (x ∷ xs) zero m v w e d same calls =
     (w, refl, same ∙ ap (λ (u : SeatView). u.offsets) one, calls ∙ ap (λ (u : SeatView). u.called) one)
 master_after (x ∷ xs) (suc id) m v w e d same calls = (m, e, refl, refl)
 
--- what the witnesses know of these riders
+-- what pasts tell of these riders
 abbrev AllKnown : List RiderView → List SeatView → Type 0
 AllKnown riders views = Every (λ (v : SeatView). Every (IsKnown riders) v.known) views
 
@@ -68,7 +68,7 @@ up_to_more : (m n : ℕ) → m ≤ n → (t : Touch) → IsUpTo m t → IsUpTo n
 up_to_more m n le (Stored d v) h = tt
 up_to_more m n le (Loaded d v) h = tt
 up_to_more m n le (Changed d w v) h = tt
-up_to_more m n le (Called k) h = omega (arith, le, h)
+up_to_more m n le (Called met left) h = omega (arith, le, h)
 up_to_more m n le (Met name count) h = tt
 
 calls_more : (m n : ℕ) → m ≤ n → (riders : List RiderView) → Every (CallsUpTo m) riders → Every (CallsUpTo n) riders
@@ -206,10 +206,6 @@ module _ (room : Room) (slots : ℕ) (id : ℕ) where
 abbrev pub full_seat : OffsetWords → List RiderView → ℕ → List Known → SeatView
 full_seat last riders m known = record { offsets = last; riders = riders; called = m; known = known }
 
--- a rider's seat with a witness's knowledge
-abbrev pub minding_seat : RiderView → Known → SeatView
-minding_seat r k = full_seat no_offsets (r ∷ []) 0 (k ∷ [])
-
 riders_in-push : (views : List SeatView) (w : SeatView) → riders_in (views ++ w ∷ []) ≡ riders_in views ++ w.riders
 riders_in-push [] w = append-nil w.riders
 riders_in-push (u ∷ us) w = ap (λ l. u.riders ++ l) (riders_in-push us w) ∙ sym (append_assoc u.riders (riders_in us) w.riders)
@@ -259,7 +255,7 @@ module _ (room : Room) where
   -- a rider is dealt out, and may change
   dealt : (words : List ℕ) (u : SeatView) (us : List SeatView) (last : OffsetWords) (r q : RiderView) (rs : List RiderView) (m n : ℕ) (known : List Known) → (h : IsKept room words (u ∷ us)) → u ≡ full_seat last (r ∷ rs) m known
       → m ≤ n → q.name ≡ r.name → HasPast r.touches q → (CallsUpTo n r → CallsUpTo n q)
-      → ((back : List RiderView) → Every (CallsUpTo n) (r ∷ back) → IsStanding room.cells words last (r ∷ back) → IsStanding room.cells words last (q ∷ back))
+      → ((back : List RiderView) → Every (CallsUpTo m) (r ∷ back) → IsStanding room.cells words last (r ∷ back) → IsStanding room.cells words last (q ∷ back))
       → IsKept room words (full_seat last rs n known ∷ (us ++ rider_seat q ∷ []))
   dealt words u us last r q rs m n known h same le named longer fits move =
       let w = rider_seat q in
@@ -267,9 +263,10 @@ module _ (room : Room) where
       let old : riders_in (u ∷ us) ≡ r ∷ others = ap (λ (x : SeatView). x.riders ++ riders_in us) same in
       let flat : rs ++ riders_in (us ++ w ∷ []) ≡ others ++ q ∷ [] = ap (λ l. rs ++ l) (riders_in-push us w) ∙ sym (append_assoc rs (riders_in us) (q ∷ [])) in
       let mine : h.master ≡ full_seat last (r ∷ rs) m known = sym (some-injective u h.master h.seat) ∙ same in
-      let calls : Every (CallsUpTo n) (r ∷ others) = calls_more m n le (r ∷ others) (subst (λ l. Every (CallsUpTo m) l) old (subst (λ (x : SeatView). Every (CallsUpTo x.called) (riders_in (u ∷ us))) mine h.called)) in
+      let known_calls : Every (CallsUpTo m) (r ∷ others) = subst (λ l. Every (CallsUpTo m) l) old (subst (λ (x : SeatView). Every (CallsUpTo x.called) (riders_in (u ∷ us))) mine h.called) in
+      let calls : Every (CallsUpTo n) (r ∷ others) = calls_more m n le (r ∷ others) known_calls in
       let ruled : IsRuled room.cells words last (r ∷ others) = subst (λ l. IsRuled room.cells words last l) old (subst (λ (x : SeatView). IsRuled room.cells words x.offsets (riders_in (u ∷ us))) mine h.ruled) in
-      let moved : IsStanding room.cells words last (q ∷ others) = move others calls (standing_from room.cells words last (r ∷ others) ruled) in
+      let moved : IsStanding room.cells words last (q ∷ others) = move others known_calls (standing_from room.cells words last (r ∷ others) ruled) in
       let full : IsStanding room.cells words last (q ∷ (others ++ [])) = subst (λ l. IsStanding room.cells words last (q ∷ l)) (sym (append-nil others)) moved in
       let now = ruled_from room.cells words last (others ++ q ∷ []) (from_front others q [] room.cells words last full) in
       let grows : (k : Known) → IsKnown (riders_in (u ∷ us)) k → IsKnown (rs ++ riders_in (us ++ w ∷ [])) k =
@@ -308,17 +305,17 @@ module _ (room : Room) where
       (subst (λ (x : Me Nothing SeatView). Splits (Holds room) 0 x.0 (left_called n x.0) (right_called n x.0)) (sym is) (λ s h at. kept s.words s.views h at))
     where
       kept : (words : List ℕ) (views : List SeatView) → IsKept room words views → get_elem? views 0 ≡ some (master_seat m last (r ∷ []))
-          → IsKept room words (set views 0 (master_seat n last []) ++ rider_seat (called n r) ∷ [])
+          → IsKept room words (set views 0 (master_seat n last []) ++ rider_seat (called m n r) ∷ [])
       kept words [] h at = absurd (some-ne-none (master_seat m last (r ∷ [])) (sym at))
       kept words (u ∷ us) h at =
-          dealt words u us last r (called n r) [] m n [] h (some-injective u (master_seat m last (r ∷ [])) at) le refl (Called n ∷ [], refl) (λ e. (omega arith, e))
-          (λ back each st. after_call [] r back room.cells words last n each st)
+          dealt words u us last r (called m n r) [] m n [] h (some-injective u (master_seat m last (r ∷ [])) at) le refl (Called m n ∷ [], refl) (λ e. (omega arith, e))
+          (λ back each st. after_call [] r back room.cells words last m n le each st)
 
   -- a load makes a seat for nobody
   pub blanks : (slots : ℕ) (v : SeatView) → Enters (Holds room) slots 0 (λ n w. Blanks (step slots 0 0 0 none) (v, []) n (w, []))
   blanks slots v = λ s h homes bound. (spent_seat, pushed s.words s.views spent_seat h refl tt, refl)
 
-  -- a rider's seat gives a witness
+  -- a rider's seat gives a past
   pub shows : (id : ℕ) (v : SeatView) (r : RiderView) → v ≡ rider_seat r → Splits (Holds room) id v (same_seat v) (shown_seat v)
   shows id v r is = subst (λ (x : SeatView). Splits (Holds room) id x (same_seat x) (shown_seat x)) (sym is) (λ s h at. kept s.words s.views h at)
     where
@@ -329,7 +326,7 @@ module _ (room : Room) where
           subst (λ vs. IsKept room words (vs ++ knows_seat (past_of r) ∷ [])) (sym (set_again views id (rider_seat r) at))
           (pushed words views (knows_seat (past_of r)) h refl (subst (λ l. IsKnown l (past_of r)) (sym p.before) some_one, tt))
 
-  -- a witness's seat gives another
+  -- a past's seat gives another
   pub copies : (id : ℕ) (v : SeatView) (k : Known) → v ≡ knows_seat k → Splits (Holds room) id v (same_seat v) (copied_seat v)
   copies id v k is = subst (λ (x : SeatView). Splits (Holds room) id x (same_seat x) (copied_seat x)) (sym is) (λ s h at. kept s.words s.views h at)
     where
@@ -338,7 +335,7 @@ module _ (room : Room) where
           subst (λ vs. IsKept room words (vs ++ knows_seat k ∷ [])) (sym (set_again views id (knows_seat k) at))
           (pushed words views (knows_seat k) h refl (every_elem (λ (x : SeatView). Every (IsKnown (riders_in views)) x.known) views id (knows_seat k) h.known at))
 
-  -- a witness's seat is spent
+  -- a past's seat is spent
   cleared : (words : List ℕ) (views : List SeatView) (id : ℕ) (k : Known) (h : IsKept room words views) → get_elem? views id ≡ some (knows_seat k) → IsKept room words (set views id spent_seat)
   cleared words views id k h at =
       let p = parted views id (knows_seat k) at in
@@ -386,7 +383,7 @@ module _ (room : Room) where
           rider_kept room words words views id r (told k r) h at refl refl (Met k.name (length k.touches) ∷ [], refl) (λ n e. (tt, e)) (λ front back last b st. after_told front r back room.cells words last k (subst (λ l. IsKnown l k) b knows.0) st) in
           cleared words (set views id new) other k mid there
 
-  -- any seat takes a witness's knowledge
+  -- any seat takes what a past tells
   pub attests : (id : ℕ) (v : SeatView) (other : ℕ) (w : SeatView) (k : Known) → w ≡ knows_seat k → Joins (Holds room) id v other w (attested_seat v w) spent_seat
   attests id v other w k seen =
       subst (λ (x : SeatView). Joins (Holds room) id v other x (attested_seat v x) spent_seat) (sym seen) (λ s h at apart there. kept s.words s.views h at apart there)
@@ -399,45 +396,6 @@ module _ (room : Room) where
           let own : Every (IsKnown (riders_in views)) v.known = every_elem (λ (x : SeatView). Every (IsKnown (riders_in views)) x.known) views id v h.known at in
           let mid : IsKept room words (set views id new) = noted words views id v new h at refl refl refl (knows.0, own) in
           cleared words (set views id new) other k mid there
-
-  -- a rider's seat takes a witness's knowledge, to look at it
-  pub minds : (id : ℕ) (v : SeatView) (other : ℕ) (w : SeatView) (r : RiderView) (k : Known) → v ≡ rider_seat r → w ≡ knows_seat k → Joins (Holds room) id v other w (recalling_seat v w) spent_seat
-  minds id v other w r k is seen =
-      subst (λ (x : SeatView). Joins (Holds room) id x other w (recalling_seat x w) spent_seat) (sym is)
-      (subst (λ (x : SeatView). Joins (Holds room) id (rider_seat r) other x (recalling_seat (rider_seat r) x) spent_seat) (sym seen) (λ s h at apart there. kept s.words s.views h at apart there))
-    where
-      kept : (words : List ℕ) (views : List SeatView) (h : IsKept room words views) → get_elem? views id ≡ some (rider_seat r) → ¬ (other ≡ id) → get_elem? (set views id (minding_seat r k)) other ≡ some (knows_seat k)
-          → IsKept room words (set (set views id (minding_seat r k)) other spent_seat)
-      kept words views h at apart there =
-          let new : SeatView = minding_seat r k in
-          let knows : Every (IsKnown (riders_in views)) (k ∷ []) = every_elem (λ (x : SeatView). Every (IsKnown (riders_in views)) x.known) views other (knows_seat k) h.known (sym (set_else views id other new apart) ∙ there) in
-          let mid : IsKept room words (set views id new) = noted words views id (rider_seat r) new h at refl refl refl knows in
-          cleared words (set views id new) other k mid there
-
-  -- and looks at it
-  pub recalls : (slots id : ℕ) (me : Me Nothing SeatView) (r : RiderView) (k : Known) → me ≡ (minding_seat r k, []) → Allows (Holds room) slots id me 0 (λ n. n) (Recalls (step slots 0 0 0 none) me)
-  recalls slots id me r k is =
-      subst (λ (m : Me Nothing SeatView). Allows (Holds room) slots id m 0 (λ n. n) (Recalls (step slots 0 0 0 none) m)) (sym is)
-      (λ s h homes at bound. (
-        rider_seat r,
-        keeps,
-        tt,
-        subst (λ ws. IsKept room ws (set s.views id (rider_seat r))) (sym (set-get_or s.words 0 0)) (noted s.words s.views id (minding_seat r k) (rider_seat r) h at refl refl refl tt),
-        (refl, (own s.words s.views h at, tt)),
-      ))
-    where
-      own : (words : List ℕ) (views : List SeatView) (h : IsKept room words views) → get_elem? views id ≡ some (minding_seat r k) → (i : ℕ) (x : RiderView) → slice_get (r ∷ []) i ≡ Some x → x.name ≡ k.name → HasPast k.touches x
-      own words views h at zero x e named =
-          let p = parted views id (minding_seat r k) at in
-          let same : r ≡ x = cc e in
-          let knows : IsKnown (p.front ++ r ∷ p.back) k = subst (λ l. IsKnown l k) p.before (every_elem (λ (y : SeatView). Every (IsKnown (riders_in views)) y.known) views id (minding_seat r k) h.known at).0 in
-          let names : AreNamed (p.front ++ r ∷ p.back) = subst AreNamed p.before h.ruled.order.1.names in
-          let here = at_place p.front r p.back in
-          let place : knows.0 ≡ length p.front = names knows.0 (length p.front) knows.1 r knows.2 here (knows.3.0 ∙ sym named ∙ ap (λ (y : RiderView). y.name) (sym same)) in
-          let both : Some knows.1 ≡ Some r = sym knows.2 ∙ ap (slice_get (p.front ++ r ∷ p.back)) place ∙ here in
-          let one : knows.1 ≡ r = cc both in
-          subst (HasPast k.touches) (one ∙ same) knows.3.1
-      own words views h at (suc i) x e named = absurd (cc e)
 
   -- and taken back in
   pub joins : (id : ℕ) (v : SeatView) (other : ℕ) (w : SeatView) (r : RiderView) → id ≡ 0 → w ≡ rider_seat r → Joins (Holds room) id v other w (joined_seat v w) spent_seat
@@ -475,7 +433,7 @@ module _ (room : Room) where
                 (subst (λ (x : SeatView). Every (IsKnown (riders_in (u ∷ us))) x.known) same h.known.0, every_set (λ (x : SeatView). Every (IsKnown (riders_in (u ∷ us))) x.known) us k spent_seat h.known.1 tt);
           }
 
-  -- at the end the master's seat stands for all riders, and knows what the witnesses told that it took back
+  -- at the end the master's seat stands for all riders, and knows what the pasts tell that it took back
   pub ends : (words : List ℕ) (slots : List Nothing) (m : ℕ) (last : OffsetWords) (riders : List RiderView) (ks : List Known) (id : ℕ) (v : SeatView) → id ≡ 0 → v ≡ full_seat last riders m ks → length riders ≡ room.riders
       → Final (Seen (Holds room) id v) words slots → IsRuled room.cells words last riders × Every (IsKnown riders) ks
   ends words slots m last riders ks id v first is all f =

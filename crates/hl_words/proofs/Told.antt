@@ -1,4 +1,4 @@
--- What a seat stands for once a witness or a rider was joined in.
+-- What a seat stands for once a past or a rider was joined in.
 use Rattle.std.proofs.Common.{◌≡◌, ℕ, List, [], ◌∷◌, refl, ap, sym, ◌∙◌, subst}
 use Rattle.std.specs.List.{AllByRecursion as Every}
 use Rattle.std.specs.Prelude.{slice_index_or, Option, None, Some, IfSome}
@@ -7,15 +7,14 @@ use Rattle.atomic_table.specs.Table.{Me}
 use Rattle.hl_words.specs.declared.view.OffsetWords.{OffsetWords}
 use Rattle.hl_words.specs.declared.view.RiderView.{RiderView}
 use Rattle.hl_words.specs.declared.view.SeatView.{SeatView}
-use Rattle.hl_words.specs.Seats.{master_seat, rider_seat, joined_seat, knows_seat, spent_seat, recalling_seat, HasPast, IsKnown, knowing}
+use Rattle.hl_words.specs.Seats.{master_seat, rider_seat, joined_seat, knows_seat, spent_seat, IsKnown, knowing}
 use Rattle.hl_words.specs.declared.view.Known.{Known}
-use Rattle.hl_words.specs.Rule.{EachRider}
-use Rattle.hl_words.proofs.Steps.{minding_seat, full_seat}
+use Rattle.hl_words.proofs.Steps.{full_seat}
 use Rattle.hl_words.specs.States.{known_by, known_to_all, IsMasterSeat}
 
--- the seat of a witness's badge
-pub of_witness : (views : List SeatView) (v : SeatView) → views ≡ knows_seat (known_by views) ∷ [] → views ≡ v ∷ [] → v ≡ knows_seat (known_by views)
-of_witness views v is e = ap (λ vs. slice_index_or vs 0 spent_seat) (sym e ∙ is)
+-- the seat of a past's badge
+pub of_past : (views : List SeatView) (v : SeatView) → views ≡ knows_seat (known_by views) ∷ [] → views ≡ v ∷ [] → v ≡ knows_seat (known_by views)
+of_past views v is e = ap (λ vs. slice_index_or vs 0 spent_seat) (sym e ∙ is)
 
 -- the master's seat with one rider joined in
 pub with_rider : (m : ℕ) (last : OffsetWords) (r : RiderView) (id new : ℕ) (me after : Me (Unit {0}) SeatView) (w : SeatView) → IsMasterSeat m last [] id me → w ≡ rider_seat r → new ≡ id → after ≡ (joined_seat me.0 w, me.1)
@@ -25,15 +24,7 @@ with_rider m last r id new me after w is mine same e =
     let number : after.0.called ≡ m = ap (λ (y : Me (Unit {0}) SeatView). y.0.called) now in
     record { first = same ∙ is.first; knows = now ∙ ap (λ (n : ℕ). (master_seat n last (r ∷ []), [])) (sym number) }
 
--- a rider's seat with a witness joined in
-pub minding_me : (r : RiderView) (k : Known) (me after : Me (Unit {0}) SeatView) (w : SeatView) → me ≡ (rider_seat r, []) → w ≡ knows_seat k → after ≡ (recalling_seat me.0 w, me.1) → after ≡ (minding_seat r k, [])
-minding_me r k me after w is seen e = e ∙ ap (λ (x : SeatView). (recalling_seat me.0 x, me.1)) seen ∙ ap (λ (m : Me (Unit {0}) SeatView). (recalling_seat m.0 (knows_seat k), m.1)) is
-
--- what it recalls of its rider
-pub recalled : (r : RiderView) (k : Known) (me : Me (Unit {0}) SeatView) → me ≡ (minding_seat r k, []) → Every (λ (x : Known). EachRider (λ i q. q.name ≡ x.name → HasPast x.touches q) me.0.riders) me.0.known → r.name ≡ k.name → HasPast k.touches r
-recalled r k me is h = (subst (λ (m : Me (Unit {0}) SeatView). Every (λ (x : Known). EachRider (λ i q. q.name ≡ x.name → HasPast x.touches q) m.0.riders) m.0.known) is h).0 0 r refl
-
--- the master's seat that took witnesses back
+-- the master's seat that took pasts back
 pub attested : (m : ℕ) (last : OffsetWords) (riders : List RiderView) (ks : List Known) (me after : Me (Unit {0}) SeatView) → me ≡ (master_seat m last riders, []) → after ≡ (knowing ks me.0, me.1) → after.0 ≡ full_seat last riders m ks
 attested m last riders ks me after is e = ap (λ (x : Me (Unit {0}) SeatView). x.0) e ∙ ap (λ (x : Me (Unit {0}) SeatView). knowing ks x.0) is ∙ ap (λ l. full_seat last riders m l) (append-nil ks)
 

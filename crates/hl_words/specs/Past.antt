@@ -21,15 +21,16 @@ HasAll j past before = (since : List Touch) × (touches_of j before ≡ since ++
 abbrev pub HasOnly : ℕ → List Touch → List TouchBy → Type 0
 HasOnly j past before = (rest : List Touch) × (past ≡ rest ++ touches_of j before)
 
--- all that riders did before calls that met fewer steps than n
+-- all that riders did before calls that left fewer steps than n
 abbrev pub HasCalls : List RiderView → ℕ → List TouchBy → Type 0
-HasCalls riders n before = (j m : ℕ) (q : RiderView) (later past : List Touch)
-    → slice_get riders j ≡ Some q → q.touches ≡ later ++ Called m ∷ past → m < n → HasAll j (Called m ∷ past) before
+HasCalls riders n before = (j met left : ℕ) (q : RiderView) (later past : List Touch)
+    → slice_get riders j ≡ Some q → q.touches ≡ later ++ Called met left ∷ past → left < n
+    → HasAll j (Called met left ∷ past) before
 
 -- nothing that riders did after calls that met more steps than n
 abbrev pub HasNoCalls : List RiderView → ℕ → List TouchBy → Type 0
-HasNoCalls riders n before = (j m : ℕ) (q : RiderView) (later past : List Touch)
-    → slice_get riders j ≡ Some q → q.touches ≡ later ++ Called m ∷ past → n < m → HasOnly j past before
+HasNoCalls riders n before = (j met left : ℕ) (q : RiderView) (later past : List Touch)
+    → slice_get riders j ≡ Some q → q.touches ≡ later ++ Called met left ∷ past → n < met → HasOnly j past before
 
 -- A load after its rider was told what another did finds it, or what was stored since
 abbrev pub LoadsAfterMet : Type 0
@@ -40,26 +41,26 @@ LoadsAfterMet = (cells : ℕ) (words : List ℕ) (stores : OffsetWords) (riders 
     → q.touches ≡ later ++ past
     → (before : List TouchBy) × IsLoad ruled.order.0 i c v before × HasAll j past before
 
--- A load after a call of its rider finds what riders did before calls that met fewer steps, or what was stored since
+-- A load after a call of its rider finds what riders did before calls that left fewer steps, or what was stored since
 abbrev pub LoadsAfterCalled : Type 0
-LoadsAfterCalled = (cells : ℕ) (words : List ℕ) (stores : OffsetWords) (riders : List RiderView) (i c v n : ℕ)
-    (r : RiderView) (newer between earlier : List Touch)
+LoadsAfterCalled = (cells : ℕ) (words : List ℕ) (stores : OffsetWords) (riders : List RiderView)
+    (i c v met left : ℕ) (r : RiderView) (newer between earlier : List Touch)
     → (ruled : IsRuled cells words stores riders) → slice_get riders i ≡ Some r
-    → r.touches ≡ newer ++ Loaded c v ∷ (between ++ Called n ∷ earlier)
-    → (before : List TouchBy) × IsLoad ruled.order.0 i c v before × HasCalls riders n before
+    → r.touches ≡ newer ++ Loaded c v ∷ (between ++ Called met left ∷ earlier)
+    → (before : List TouchBy) × IsLoad ruled.order.0 i c v before × HasCalls riders left before
 
 -- A load of a rider that was told of another's call, and of which the other was told before a later call of its own,
--- stands between the two: it finds what riders did before calls that met fewer steps than the one, and nothing of what
+-- stands between the two: it finds what riders did before calls that left fewer steps than the one, and nothing of what
 -- they did after calls that met more than the other
 abbrev pub LoadsBetween : Type 0
 LoadsBetween = (cells : ℕ) (words : List ℕ) (stores : OffsetWords) (riders : List RiderView)
-    (i k c v begun done : ℕ) (r f : RiderView) (last between earlier : List Touch)
+    (i k c v met begun done left : ℕ) (r f : RiderView) (last between earlier : List Touch)
     (newer first newest middle more oldest : List Touch)
     → (ruled : IsRuled cells words stores riders) → slice_get riders i ≡ Some r → slice_get riders k ≡ Some f
-    → let told = first ++ Called begun ∷ oldest
+    → let told = first ++ Called met begun ∷ oldest
     in let own = newer ++ Loaded c v ∷ (between ++ Met f.name (length told) ∷ earlier)
     in r.touches ≡ last ++ own
-    → f.touches ≡ newest ++ Called done ∷ (middle ++ Met r.name (length own) ∷ (more ++ told))
+    → f.touches ≡ newest ++ Called done left ∷ (middle ++ Met r.name (length own) ∷ (more ++ told))
     → (before : List TouchBy) × IsLoad ruled.order.0 i c v before × HasCalls riders begun before
     × HasNoCalls riders done before
 
@@ -74,22 +75,25 @@ LoadsOfOne = (cells : ℕ) (words : List ℕ) (stores : OffsetWords) (riders : L
 -- alone stores, and not between the two, find its newest store before the earlier one
 abbrev pub LoadsOfOneBetween : Type 0
 LoadsOfOneBetween = (cells : ℕ) (words : List ℕ) (stores : OffsetWords) (riders : List RiderView)
-    (i j c v begun done m n : ℕ) (q : RiderView) (before : List TouchBy) (later middle past : List Touch)
+    (i j c v begun done met left next last : ℕ) (q : RiderView) (before : List TouchBy)
+    (later middle past : List Touch)
     → (ruled : IsRuled cells words stores riders) → slice_get riders j ≡ Some q
     → EachRider (λ k r. k ≢ j → last_store c r.touches ≡ None) riders
     → IsLoad ruled.order.0 i c v before → HasCalls riders begun before → HasNoCalls riders done before
-    → q.touches ≡ later ++ Called n ∷ (middle ++ Called m ∷ past) → m < begun → done < n
+    → q.touches ≡ later ++ Called next last ∷ (middle ++ Called met left ∷ past) → left < begun → done < next
     → last_store c middle ≡ None → v ≡ unwrap_or (last_store c past) 0
 
--- no such touches, or those before a call that met fewer steps than n
+-- no such touches, or those before a call that left fewer steps than n
 abbrev pub EndsBefore : ℕ → List Touch → Type 0
-EndsBefore n old = (old ≡ []) ⊎ ((m : ℕ) × (past : List Touch) × (old ≡ Called m ∷ past) × (m < n))
+EndsBefore n old = (old ≡ [])
+    ⊎ ((met left : ℕ) × (past : List Touch) × (old ≡ Called met left ∷ past) × (left < n))
 
 -- no such touches, or those after a call that met more steps than n
 abbrev pub BeginsAfter : ℕ → List Touch → Type 0
-BeginsAfter n late = (late ≡ []) ⊎ ((m : ℕ) × (later : List Touch) × (late ≡ later ++ Called m ∷ []) × (n < m))
+BeginsAfter n late = (late ≡ [])
+    ⊎ ((met left : ℕ) × (later : List Touch) × (late ≡ later ++ Called met left ∷ []) × (n < met))
 
--- these touches store nothing into the cell between the calls that met fewer steps than the one number, and those that
+-- these touches store nothing into the cell between the calls that left fewer steps than the one number, and those that
 -- met more than the other
 pub record IsQuietBetween (c from to : ℕ) (touches : List Touch) : Type 0 where
   pub late : List Touch
@@ -100,17 +104,17 @@ pub record IsQuietBetween (c from to : ℕ) (touches : List Touch) : Type 0 wher
   pub before : EndsBefore from old
   pub none : last_store c quiet ≡ None
 
--- Where since a call of the j-th rider, that met n steps, no other rider stores into a cell, but for what they do after
+-- Where since a call of the j-th rider, that left n steps, no other rider stores into a cell, but for what they do after
 -- calls that met more steps than `done`, a load that stands between the calls finds the j-th rider's newest store there,
--- if it stored there since that call and before one that met fewer steps than `begun`, and not again before one that met
+-- if it stored there since that call and before one that left fewer steps than `begun`, and not again before one that met
 -- more than `done`
 abbrev pub LoadsOfNewest : Type 0
 LoadsOfNewest = (cells : ℕ) (words : List ℕ) (stores : OffsetWords) (riders : List RiderView)
-    (i j c v begun done n m w : ℕ) (q : RiderView) (before : List TouchBy)
+    (i j c v begun done first n met left w : ℕ) (q : RiderView) (before : List TouchBy)
     (late middle recent older : List Touch)
     → (ruled : IsRuled cells words stores riders) → slice_get riders j ≡ Some q
     → IsLoad ruled.order.0 i c v before → HasCalls riders begun before → HasNoCalls riders done before
     → EachRider (λ k r. k ≢ j → IsQuietBetween c n done r.touches) riders
-    → q.touches ≡ late ++ (middle ++ Called m ∷ (recent ++ Called n ∷ older))
-    → BeginsAfter done late → last_store c middle ≡ None → m < begun → last_store c recent ≡ Some w
+    → q.touches ≡ late ++ (middle ++ Called met left ∷ (recent ++ Called first n ∷ older))
+    → BeginsAfter done late → last_store c middle ≡ None → left < begun → last_store c recent ≡ Some w
     → v ≡ w

@@ -15,7 +15,7 @@ last_store c [] = None
 last_store c (Stored d v ∷ before) = if d == c then Some v else last_store c before
 last_store c (Loaded d v ∷ before) = last_store c before
 last_store c (Changed d found v ∷ before) = if d == c then Some v else last_store c before
-last_store c (Called n ∷ before) = last_store c before
+last_store c (Called met left ∷ before) = last_store c before
 last_store c (Met name count ∷ before) = last_store c before
 
 -- no store into the cell, and no load of it but of 0
@@ -24,7 +24,7 @@ IsQuiet c [] = Unit {0}
 IsQuiet c (Stored d v ∷ before) = (d ≢ c) × IsQuiet c before
 IsQuiet c (Loaded d v ∷ before) = (d ≡ c → v ≡ 0) × IsQuiet c before
 IsQuiet c (Changed d found v ∷ before) = (d ≢ c) × IsQuiet c before
-IsQuiet c (Called n ∷ before) = IsQuiet c before
+IsQuiet c (Called met left ∷ before) = IsQuiet c before
 IsQuiet c (Met name count ∷ before) = IsQuiet c before
 
 -- these touches stored the value into the cell
@@ -33,7 +33,7 @@ HasStore c v [] = ⊥
 HasStore c v (Stored d w ∷ before) = ((d ≡ c) × (w ≡ v)) ⊎ HasStore c v before
 HasStore c v (Loaded d w ∷ before) = HasStore c v before
 HasStore c v (Changed d found w ∷ before) = ((d ≡ c) × (w ≡ v)) ⊎ HasStore c v before
-HasStore c v (Called n ∷ before) = HasStore c v before
+HasStore c v (Called met left ∷ before) = HasStore c v before
 HasStore c v (Met name count ∷ before) = HasStore c v before
 
 -- P holds of each rider's number and view; the riders are numbered from 0
@@ -61,7 +61,7 @@ IsLawful Elsewhere (Stored c v ∷ before) = IsLawful Elsewhere before
 IsLawful Elsewhere (Loaded c v ∷ before) = IsFound Elsewhere c v before × IsLawful Elsewhere before
 IsLawful Elsewhere (Changed c found v ∷ before) =
     IsFound Elsewhere c found before × IsLawful Elsewhere before
-IsLawful Elsewhere (Called n ∷ before) = IsLawful Elsewhere before
+IsLawful Elsewhere (Called met left ∷ before) = IsLawful Elsewhere before
 IsLawful Elsewhere (Met name count ∷ before) = IsLawful Elsewhere before
 
 -- the cell is 0 where no rider stored there, else it is some rider's last store there
@@ -83,7 +83,7 @@ abbrev pub left_by : ℕ → Touch → ℕ → ℕ
 left_by c (Stored d v) w = if d == c then v else w
 left_by c (Loaded d v) w = w
 left_by c (Changed d found v) w = if d == c then v else w
-left_by c (Called n) w = w
+left_by c (Called met left) w = w
 left_by c (Met name count) w = w
 
 -- what the cell holds after these touches, and 0 before any; the newest stands first
@@ -91,21 +91,21 @@ abbrev pub held : ℕ → List TouchBy → ℕ
 held c [] = 0
 held c (t ∷ before) = left_by c t.touch (held c before)
 
--- no call when more steps than n had been entered
+-- no call that left more steps than n
 abbrev pub IsUpTo : ℕ → Touch → Type 0
 IsUpTo n (Stored d v) = Unit {0}
 IsUpTo n (Loaded d v) = Unit {0}
 IsUpTo n (Changed d found v) = Unit {0}
-IsUpTo n (Called m) = m ≤ n
+IsUpTo n (Called met left) = left ≤ n
 IsUpTo n (Met name count) = Unit {0}
 
--- what the touch found in its cell is what the cell held after those before it; and of two calls the later one
--- met no fewer steps
+-- what the touch found in its cell is what the cell held after those before it; and a call met all steps that
+-- earlier calls left
 abbrev pub Finds : List TouchBy → Touch → Type 0
 Finds before (Stored d v) = Unit {0}
 Finds before (Loaded d v) = v ≡ held d before
 Finds before (Changed d found v) = found ≡ held d before
-Finds before (Called n) = AllByRecursion (λ t. IsUpTo n t.touch) before
+Finds before (Called met left) = (met ≤ left) × AllByRecursion (λ t. IsUpTo met t.touch) before
 Finds before (Met name count) = Unit {0}
 
 -- each load, each change and each call of the list found so
@@ -129,7 +129,7 @@ abbrev pub HasMet : List RiderView → List TouchBy → Touch → Type 0
 HasMet riders before (Stored d v) = Unit {0}
 HasMet riders before (Loaded d v) = Unit {0}
 HasMet riders before (Changed d found v) = Unit {0}
-HasMet riders before (Called n) = Unit {0}
+HasMet riders before (Called met left) = Unit {0}
 HasMet riders before (Met name count) =
     SomeRider (λ i r. (r.name ≡ name) × (count ≤ length (touches_of i before))) riders
 
@@ -138,8 +138,8 @@ abbrev pub AreMet : List RiderView → List TouchBy → Type 0
 AreMet riders [] = Unit {0}
 AreMet riders (t ∷ before) = HasMet riders before t.touch × AreMet riders before
 
--- One order of all touches: each load and each change found what the newest store before it left; of two calls the
--- later one met no fewer steps; what a rider was told of stands before; of each rider it has just that rider's
+-- One order of all touches: each load and each change found what the newest store before it left; each call met no
+-- fewer steps than those before it left; what a rider was told of stands before; of each rider it has just that rider's
 -- touches, in the rider's order, and no other touch; and each cell holds what the newest store there left
 pub record IsOneOrder (cells : ℕ) (words : List ℕ) (riders : List RiderView)
     (order : List TouchBy) : Type 0 where

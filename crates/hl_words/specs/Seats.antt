@@ -19,11 +19,11 @@ use Rattle.hl_words.specs.Rule.{EachRider, SomeRider, IsUpTo, IsRuled}
 abbrev pub seat_of : OffsetWords → List RiderView → SeatView
 seat_of last riders = record { offsets = last; riders = riders; called = 0; known = [] }
 
--- the master's seat, which knows these stores, stands for these riders, and met calls up to this number
+-- the master's seat, which knows these stores, stands for these riders, and knows how many steps the newest call left
 abbrev pub master_seat : ℕ → OffsetWords → List RiderView → SeatView
 master_seat called last riders = record { offsets = last; riders = riders; called = called; known = [] }
 
--- a witness's seat
+-- a past's seat
 abbrev pub knows_seat : Known → SeatView
 knows_seat k = record { offsets = no_offsets; riders = []; called = 0; known = k ∷ [] }
 
@@ -52,12 +52,12 @@ HasPast past r = (more : List Touch) × (r.touches ≡ more ++ past)
 abbrev pub IsKnown : List RiderView → Known → Type 0
 IsKnown riders k = SomeRider (λ i r. (r.name ≡ k.name) × HasPast k.touches r) riders
 
--- no call of the rider met more steps than n
+-- no call of the rider left more steps than n
 abbrev pub CallsUpTo : ℕ → RiderView → Type 0
 CallsUpTo n r = AllByRecursion (IsUpTo n) r.touches
 
 -- The table has the cells and, eight words apart, the master's three words; the seats stand for all riders,
--- and the rule holds, the master having seat 0; no call met more steps than the master knows; what each witness knows
+-- and the rule holds, the master having seat 0; no call left more steps than the master knows; what each past tells
 -- was done
 pub record IsKept (room : Room) (words : List ℕ) (views : List SeatView) : Type 0 where
   pub master : SeatView
@@ -129,23 +129,23 @@ abbrev pub joined_seat : SeatView → SeatView → SeatView
 joined_seat v w =
     record { offsets = v.offsets; riders = w.riders ++ v.riders; called = v.called; known = v.known }
 
--- the seat without its first rider, which made a call when so many steps had been entered
+-- the seat without its first rider, which made a call that left so many steps
 abbrev pub left_called : ℕ → SeatView → SeatView
 left_called n v = record { offsets = v.offsets; riders = drop 1 v.riders; called = n; known = v.known }
 
 -- a seat with that rider alone, which made the call
 abbrev pub right_called : ℕ → SeatView → SeatView
-right_called n v = seat_of no_offsets (map (called n) (take 1 v.riders))
+right_called n v = seat_of no_offsets (map (called v.called n) (take 1 v.riders))
 
 -- the seat as it is
 abbrev pub same_seat : SeatView → SeatView
 same_seat v = v
 
--- a witness of what the riders of a seat did
+-- a past's seat, of what the riders of a seat did
 abbrev pub shown_seat : SeatView → SeatView
 shown_seat v = record { offsets = no_offsets; riders = []; called = 0; known = map past_of v.riders }
 
--- another of what a witness knows
+-- another of the same
 abbrev pub copied_seat : SeatView → SeatView
 copied_seat v = record { offsets = no_offsets; riders = []; called = 0; known = v.known }
 
@@ -154,7 +154,7 @@ abbrev pub told_all : List Known → RiderView → RiderView
 told_all [] r = r
 told_all (k ∷ ks) r = told k (told_all ks r)
 
--- a rider's seat that was told what a witness knows
+-- a rider's seat that was told a past
 abbrev pub told_seat : SeatView → SeatView → SeatView
 told_seat v w = moved (told_all w.known) v
 
@@ -162,18 +162,9 @@ told_seat v w = moved (told_all w.known) v
 abbrev pub knowing : List Known → SeatView → SeatView
 knowing ks v = record { offsets = v.offsets; riders = v.riders; called = v.called; known = ks ++ v.known }
 
--- a seat that knows besides what a witness does
+-- a seat that knows besides what a past tells
 abbrev pub attested_seat : SeatView → SeatView → SeatView
 attested_seat v w = knowing w.known v
-
--- a rider's seat with what a witness knows, of which it takes no note
-abbrev pub recalling_seat : SeatView → SeatView → SeatView
-recalling_seat v w = record { offsets = v.offsets; riders = v.riders; called = v.called; known = w.known }
-
--- of a look of a rider's seat at that: where it is of this rider, the rider made these touches
-abbrev pub Recalls : Step (Unit {0}) → Me (Unit {0}) SeatView → ℕ → Me (Unit {0}) SeatView → Type 0
-Recalls s before found after = (after ≡ (seat_of before.0.offsets before.0.riders, before.1))
-    × AllByRecursion (λ k. EachRider (λ i r. r.name ≡ k.name → HasPast k.touches r) before.0.riders) before.0.known
 
 -- of a load that makes a seat which stands for nobody
 abbrev pub Blanks : Step (Unit {0}) → Me (Unit {0}) SeatView → ℕ → Me (Unit {0}) SeatView → Type 0

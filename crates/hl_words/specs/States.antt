@@ -1,5 +1,5 @@
 -- What contracts see of a seed, of words, of a master and of a rider.
-use Rattle.std.specs.Prelude.{ℕ, zero, suc, ◌≡◌, ◌+◌, ◌^◌, ◌≤◌, List, [], ◌∷◌, ◌++◌, Option, Some, None, slice_index_or}
+use Rattle.std.specs.Prelude.{ℕ, zero, suc, ◌≡◌, ◌+◌, ◌^◌, ◌≤◌, List, [], ◌∷◌, ◌++◌, length, Option, Some, None, slice_index_or}
 use Rattle.atomic_table.specs.Seated.{TableId}
 use Rattle.hl_model.specs.Sizes.{Sizes}
 use Rattle.hl_model.specs.declared.step.Step.{Step}
@@ -21,10 +21,16 @@ pub record RiderState : Type 0 where
   pub share : ℕ
   pub calls : List Entry
 
--- the master's stores of its words, and how many journal steps were entered in all
+-- the master's stores of its words, how many journal steps were entered in all, and how many the newest call left
+-- that was noted
 pub record MasterState : Type 0 where
   pub offsets : OffsetWords
   pub total : ℕ
+  pub called : ℕ
+
+-- the master once a call was noted that left all steps
+abbrev pub all_called : MasterState → MasterState
+all_called m = record { offsets = m.offsets; total = m.total; called = m.total }
 
 -- the tables of one seed: that of its words, and that of its one list
 pub record Tables : Type 0 where
@@ -90,13 +96,13 @@ pub record IsMasterSeat (called : ℕ) (last : OffsetWords) (riders : List Rider
 abbrev pub with_view : RiderView → RiderState → RiderState
 with_view view r = record { view = view; share = r.share; calls = r.calls }
 
--- a rider that made a call when so many steps had been entered
-abbrev pub with_mark : ℕ → RiderState → RiderState
-with_mark n r = with_view (called n r.view) r
-
--- a rider with one call more
+-- a rider with one call more, which stands among its touches too
 abbrev pub with_call : Entry → RiderState → RiderState
-with_call call r = record { view = r.view; share = r.share; calls = call ∷ r.calls }
+with_call call r = record {
+  view = called (length call.before) (length call.before + length call.steps) r.view;
+  share = r.share;
+  calls = call ∷ r.calls;
+}
 
 -- the rider of this name before its first step
 abbrev pub new_rider : ℕ → RiderState
@@ -107,12 +113,12 @@ abbrev pub new_riders : ℕ → List RiderState
 new_riders zero = []
 new_riders (suc n) = new_riders n ++ new_rider n ∷ []
 
--- what these witnesses know, if any
+-- what these pasts tell, if any
 abbrev pub known_to_all : {R : Type 0} → (R → List Known) → Option R → List Known
 known_to_all items None = []
 known_to_all items (Some all) = items all
 
--- what the seat of a witness's badge knows
+-- what the seat of a past's badge tells
 abbrev pub known_by : List SeatView → Known
 known_by views =
     slice_index_or (slice_index_or views 0 spent_seat).known 0 (record { name = 0; touches = [] })

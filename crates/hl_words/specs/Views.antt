@@ -87,14 +87,14 @@ abbrev pub with_loaded : Which → ℕ → RiderView → RiderView
 with_loaded which x r =
     record { name = r.name; touches = r.touches; offsets = with_offset which x r.offsets }
 
--- what a witness knows that this rider gave
+-- what a past of this rider tells
 abbrev pub past_of : RiderView → Known
 past_of r = record { name = r.name; touches = r.touches }
 
--- the view after the rider was told what a witness knows
+-- the view after the rider was told a past
 abbrev pub told : Known → RiderView → RiderView
 told k r = touched (Met k.name (length k.touches)) r
 
--- the view after a call under the master's lock, when so many journal steps had been entered
-abbrev pub called : ℕ → RiderView → RiderView
-called steps r = touched (Called steps) r
+-- the view after a call under the master's lock, which met so many steps and left so many
+abbrev pub called : ℕ → ℕ → RiderView → RiderView
+called met left r = touched (Called met left) r

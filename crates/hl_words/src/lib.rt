@@ -57,7 +57,7 @@ pub use last::LastWords;
 pub use master::Master;
 pub use past::Past;
 pub use rider::Rider;
-pub use seed::{HistoryOf, Realm, Scribe, Seed, Seen};
+pub use seed::{HistoryOf, Realm, Scribe, Seed};
 pub use view::{Known, OffsetWords, RiderView, Touch};
 pub use which::Which;
 pub use words::Words;

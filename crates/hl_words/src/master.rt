@@ -5,8 +5,8 @@ use crate::seed::{Realm, WordSeat};
 use std::marker::Model;
 use std::sync::ledger::{Book, Share};
 
-/// The right to store its three words, and to count journal steps. Contracts see its stores, and how many steps
-/// all riders entered.
+/// The right to store its three words, and to count journal steps. Contracts see its stores, how many steps all riders
+/// entered, and how many there were when the newest call was noted.
 #[derive(Drop)]
 pub struct Master<L: Realm> {
     pub(crate) seat: WordSeat,
@@ -22,11 +22,11 @@ impl<L: Realm> Model for Master<L> {
 
     ghost Value = { MasterState };
 
-    ghost view = { λ m. record { offsets = m.seat.me.0.offsets; total = m.total } };
+    ghost view = { λ m. record { offsets = m.seat.me.0.offsets; total = m.total; called = m.seat.me.0.called } };
 
     ghost invariant = { λ m. IsMasterSeat m.seat.me.0.called m.seat.me.0.offsets [] m.seat.id m.seat.me
-        × (m.seat.table_id ≡ L.table.words) × (m.book.total ≡ m.total) × (m.total ≤ 2 ^ 62) × (m.seat.me.0.called ≤ m.total) × (m.share.parts ≡ 0)
-        × (m.share.amount ≡ 0) };
+        × (m.seat.table_id ≡ L.table.words) × (m.book.total ≡ m.total) × (m.total ≤ 2 ^ 62)
+        × (m.seat.me.0.called ≤ m.total) × (m.share.parts ≡ 0) × (m.share.amount ≡ 0) };
 }
 
 impl<L: Realm> Master<L> {
@@ -43,7 +43,8 @@ impl<L: Realm> Master<L> {
     #[inline(always)]
     pub fn enter(&mut self, rider: &mut Rider<L>, steps: u64)
         requires { self.old.total + steps ≤ 2 ^ 62 }
-        ensures total { self.new ≡ record { offsets = self.old.offsets; total = self.old.total + steps } }
+        ensures total { let old = self.old
+            in self.new ≡ record { offsets = old.offsets; total = old.total + steps; called = old.called } }
         ensures share { let old = rider.old
             in rider.new ≡ record { view = old.view; share = old.share + steps; calls = old.calls } }
     {

@@ -119,7 +119,7 @@ impl Play<(), SeatView> for LoadBlank {
     ghost then = { Blanks };
 }
 
-/// How a rider's seat gives a witness of what it did, and is told what a witness knows.
+/// How a rider's seat gives its past, and is told another's.
 pub struct Tell;
 
 impl Split<SeatView> for Tell {
@@ -138,27 +138,7 @@ impl Join<SeatView> for Tell {
     ghost spent = { spent_seat };
 }
 
-/// How a rider's seat takes what a witness knows, to look at it.
-pub struct Mind;
-
-impl Join<SeatView> for Mind {
-    ghost use Rattle.hl_words.specs.Seats.{recalling_seat, spent_seat};
-
-    ghost both = { recalling_seat };
-
-    ghost spent = { spent_seat };
-}
-
-/// A look of a rider's seat at what a witness knew.
-pub struct Recall;
-
-impl Play<(), SeatView> for Recall {
-    ghost use Rattle.hl_words.specs.Seats.{Recalls};
-
-    ghost then = { Recalls };
-}
-
-/// How the master's seat takes a witness back.
+/// How the master's seat takes a past back.
 pub struct Attest;
 
 impl Join<SeatView> for Attest {
@@ -169,7 +149,7 @@ impl Join<SeatView> for Attest {
     ghost spent = { spent_seat };
 }
 
-/// How a witness's seat gives another.
+/// How a past's seat gives another.
 pub struct Again;
 
 impl Split<SeatView> for Again {
@@ -180,7 +160,7 @@ impl Split<SeatView> for Again {
     ghost right = { copied_seat };
 }
 
-/// A number of steps that a call of a program picks.
+/// How many steps there are after a call, which a program picks.
 pub trait Place {
     ghost use Rattle.std.specs.Prelude.{ℕ};
 
@@ -191,7 +171,7 @@ impl Place for Brand {
     ghost steps = { 0 };
 }
 
-/// How the master's seat deals a rider out that made a call when so many steps had been entered.
+/// How the master's seat deals a rider out that made a call which left so many steps.
 pub struct CallAt<S: Place>(PhantomData<S>);
 
 impl<S: Place> Split<SeatView> for CallAt<S> {

@@ -56,9 +56,6 @@ impl<L: Realm> Named for HistoryOf<L> {
 /// The right to put steps behind the one list of a realm. Contracts see it as the list.
 pub type Scribe<L> = hl_history::Scribe<HistoryOf<L>>;
 
-/// A witness that the one list of a realm begins with these steps. Contracts see it as the steps.
-pub type Seen<L> = hl_history::Seen<HistoryOf<L>>;
-
 /// Words that nobody has opened yet: the cells, the master's three words, a ledger with a part for each rider, and the
 /// empty list with a diary for each. It is the one witness that its realm is new: it is used up by `Words::open`.
 #[derive(Drop)]

@@ -10,14 +10,14 @@ pub enum Touch {
     /// It found the one value in the cell and stored the other there, in one step: no store of another rider came
     /// between.
     Changed { cell: u64, found: u64, value: u64 },
-    /// It made a call under the lock where the master lies, when so many journal steps had been entered in all. It
+    /// It made a call under the lock where the master lies: the one list had `met` steps then, and `left` after it. It
     /// changed no cell.
-    Called { steps: u64 },
+    Called { met: u64, left: u64 },
     /// It was told what the rider of this name had done, up to so many of its touches. It changed no cell.
     Met { name: u64, count: u64 },
 }
 
-/// What a witness knows: the rider of this name had made these touches, the newest first.
+/// What a past tells: the rider of this name had made these touches, the newest first.
 pub struct Known {
     pub name: u64,
     pub touches: LinkedList<Touch>,
@@ -47,9 +47,9 @@ pub struct RiderView {
 pub struct SeatView {
     pub offsets: OffsetWords,
     pub riders: LinkedList<RiderView>,
-    /// The master's: a number that isn't below that of any call of a rider.
+    /// The master's: how many steps the newest call left.
     pub called: u64,
-    /// A witness's: what it knows.
+    /// A past's: what it tells.
     pub known: LinkedList<Known>,
 }
 

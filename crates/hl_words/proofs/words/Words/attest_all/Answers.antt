@@ -2,7 +2,7 @@ use Rattle.std.proofs.Common.{arith, sym, ap, ◌∙◌}
 use Rattle.std.proofs.lemmas.Grind.{common_steps}
 use Rattle.hl_words.specs.States.{known_by}
 use Rattle.hl_words.proofs.Steps.{attests}
-use Rattle.hl_words.proofs.Told.{of_witness}
+use Rattle.hl_words.proofs.Told.{of_past}
 use Rattle.hl_words.proofs.words.Words.attest_all.Goals as goal
 
 pub join_seat-requires : goal.join_seat-requires
@@ -14,4 +14,4 @@ join_seat-requires g c =
     let views = c.past.inside.badge.views in
     let seat = c.loop-past.seat in
     let w = c.into_seat.result in
-    (i.2 ∙ c.requires ∙ sym t.1, its.0 ∙ s.1 ∙ sym t.1, its.3, omega (arith, t.0.words_are), attests c.self.inside.table.shared.key seat.id seat.me.0 w.id w.me.0 (known_by views) (of_witness views w.me.0 s.0 its.2))
+    (i.2 ∙ c.requires ∙ sym t.1, its.0 ∙ s.1 ∙ sym t.1, its.3, omega (arith, t.0.words_are), attests c.self.inside.table.shared.key seat.id seat.me.0 w.id w.me.0 (known_by views) (of_past views w.me.0 s.0 its.2))

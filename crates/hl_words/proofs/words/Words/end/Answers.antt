@@ -24,7 +24,7 @@ returns-clause-rule g c =
     let told = subst (λ (n : ℕ). IsRuled n words c.args.master.offsets riders) cells (subst (λ o. IsRuled key.cells words o riders) (ap (λ m. m.offsets) c.master.view_is) both.0) in
     subst (λ ws. IsRuled c.args.self.cells ws c.args.master.offsets riders) (sym (ap (λ l. l.words) c.of.ensures)) told
 
--- and what the witnesses told was done
+-- and what the pasts told was done
 pub returns-clause-known : goal.returns-clause-known
 returns-clause-known g c =
     let t = c.self.invariant.0 in

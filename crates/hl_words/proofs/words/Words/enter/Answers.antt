@@ -3,7 +3,7 @@ use Rattle.hl_words.specs.Seats.{first_seat}
 use Rattle.hl_words.specs.States.{first_rider}
 use Rattle.hl_words.proofs.Steps.{blanks, joins}
 use Rattle.hl_words.proofs.Told.{with_rider}
-use Rattle.hl_words.proofs.words.Words.call.Goals as goal
+use Rattle.hl_words.proofs.words.Words.enter.Goals as goal
 
 pub load_new_seat-blank-requires : goal.load_new_seat-blank-requires
 load_new_seat-blank-requires g c =

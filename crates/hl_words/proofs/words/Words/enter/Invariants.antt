@@ -1,4 +1,4 @@
-use Rattle.hl_words.proofs.words.Words.call.Given as goal
+use Rattle.hl_words.proofs.words.Words.enter.Given as goal
 
 abbrev pub ghosts-call_at : goal.ghosts-call_at
 ghosts-call_at g a = record { steps = a.steps }

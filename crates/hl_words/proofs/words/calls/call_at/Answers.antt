@@ -1,6 +1,6 @@
 use Rattle.std.proofs.Common.{sym, ap, ◌∙◌, arith}
 use Rattle.hl_words.proofs.Steps.{calls}
-use Rattle.hl_words.proofs.words.call_at.Goals as goal
+use Rattle.hl_words.proofs.words.calls.call_at.Goals as goal
 
 pub split_seat-requires : goal.split_seat-requires
 split_seat-requires g c =

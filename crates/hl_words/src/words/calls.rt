@@ -1,0 +1,64 @@
+//! A rider's calls under the lock where the master and the scribe lie.
+ghost use Rattle.std.specs.Prelude.{◌≡◌, ◌+◌, ◌<◌, ◌≤◌, [], ◌∷◌, ◌++◌, length};
+ghost use Rattle.hl_history.specs.Lists.{entry, IsOf};
+ghost use Rattle.hl_words.specs.declared.view.OffsetWords.{OffsetWords as OFFSETS};
+ghost use Rattle.hl_words.specs.declared.view.RiderView.{RiderView as VIEW};
+ghost use Rattle.hl_words.specs.Seats.{left_called, right_called};
+ghost use Rattle.hl_words.specs.States.{IsMasterSeat, with_call, all_called};
+
+use crate::master::Master;
+use crate::rider::Rider;
+use crate::rule::{CallAt, Deal, LoadBlank, Place};
+use crate::seed::{Realm, Scribe, WordSeat, WordTable};
+use crate::words::Words;
+use hl_model::Step;
+use std::marker::Brand;
+use std::mem;
+
+impl<L: Realm> Words<L> {
+    /// Notes a call of a rider, which puts these steps behind the scribe's list: the rider's newest call tells the list
+    /// before them, and the steps. That list begins with what each of its earlier calls left. Among what the riders do to
+    /// cells, the call stands here: what was done before calls that left fewer steps stands before it, in the one order
+    /// that `close` tells.
+    ///
+    /// To be made once the steps were counted by [`Master::enter`], and those of all calls before it were noted.
+    #[inline(always)]
+    pub fn enter(
+        &self,
+        master: &mut Master<L>,
+        scribe: &mut Scribe<L>,
+        rider: &mut Rider<L>,
+        steps: &[Step],
+    )
+        requires noted { master.old.called ≡ length scribe.old }
+        requires counted { master.old.total ≡ length scribe.old + length steps.now }
+        ensures list { scribe.new ≡ scribe.old ++ steps.now }
+        ensures rider { rider.new ≡ with_call (entry scribe.old steps.now) rider.old }
+        ensures master { master.new ≡ all_called master.old }
+        ensures rises { IsOf scribe.old rider.old.calls }
+    {
+        let shared = &self.table.shared;
+        let (_, blank) = shared.load_new_seat::<LoadBlank>(0);
+        let seat = mem::replace(&mut rider.seat, blank);
+        shared.join_seat::<Deal>(&mut master.seat, seat);
+        rider.seat = call_at::<Brand>(&self.table, &mut master.seat, master.total);
+        self.history.enter(scribe, &mut rider.diary, steps);
+    }
+}
+
+// The master's seat, which stands for one rider, deals it out with a call that left so many steps. S names their number in
+// a type, since what a seat deals out is fixed by the type of the split.
+#[inline(always)]
+fn call_at<S: Place>(table: &WordTable, seat: &mut WordSeat, steps: u64) -> WordSeat
+    requires picked { steps ≡ S.steps }
+    requires table { (seat.old.table_id ≡ table.now.shared.table_id) × (0 < table.now.shared.table_id.words) }
+    requires seat { (last : OFFSETS) × (rider : VIEW)
+        × IsMasterSeat seat.old.me.0.called last (rider ∷ []) seat.old.id seat.old.me }
+    requires rises { seat.old.me.0.called ≤ steps }
+    ensures master { (seat.new.table_id ≡ seat.old.table_id) × (seat.new.id ≡ seat.old.id)
+        × (seat.new.me ≡ (left_called steps seat.old.me.0, seat.old.me.1)) }
+    ensures rider { (result.table_id ≡ seat.old.table_id)
+        × (result.me ≡ (right_called steps seat.old.me.0, [])) }
+{
+    table.shared.split_seat::<CallAt<S>>(seat)
+}

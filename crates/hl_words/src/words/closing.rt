@@ -1,0 +1,223 @@
+//! The end of the words, where all riders are back.
+ghost use Rattle.std.specs.Prelude.{◌≡◌, ◌≢◌, ◌==◌, ◌+◌, [], ◌∷◌, map, length, IfOk, OnOk, IfErr};
+ghost use Rattle.std.specs.Option.{IfSome};
+ghost use Rattle.std.specs.List.{sum_by, AllByRecursion};
+ghost use Rattle.hl_history.specs.Lists.{IsOneList};
+ghost use Rattle.hl_words.specs.Rule.{IsRuled};
+ghost use Rattle.hl_words.specs.Seats.{IsKnown, knowing};
+ghost use Rattle.hl_words.specs.States.{IsMasterSeat, with_diaries, with_no_diaries, known_to_all};
+
+use crate::last::LastWords;
+use crate::master::Master;
+use crate::past::Past;
+use crate::rider::Rider;
+use crate::rule::{Attest, Deal};
+use crate::seed::{HistoryOf, Realm, Scribe, WordSeat};
+use crate::words::Words;
+use hl_history::{Diary, Gathered};
+use std::sync::ledger::Share;
+
+impl<L: Realm> Words<L> {
+    /// Ends the words, and tells what each one holds. If a rider is missing, all is handed back. Else
+    /// the master's total is the sum of the riders' shares, and the rule holds of what the words hold,
+    /// of the master's stores, and of exactly what these riders stored and loaded.
+    pub fn close(
+        self,
+        master: Master<L>,
+        riders: Vec<Rider<L>>,
+    ) -> Result<LastWords, (Words<L>, Master<L>, Vec<Rider<L>>)>
+        ensures all { OnOk result (length riders.items ≡ self.riders) }
+        ensures total { OnOk result (master.total ≡ sum_by (λ r. r.share) riders.items) }
+        ensures cells { IfOk result (λ last. last.cells ≡ self.cells) }
+        ensures rule { IfOk result
+            (λ last. IsRuled self.cells last.words master.offsets (map (λ r. r.view) riders.items)) }
+        ensures missing { IfErr result (λ _. length riders.items ≢ self.riders) }
+        ensures back { IfErr result (λ back. (back.0 ≡ self) × (back.1 ≡ master) × (back.2 ≡ riders)) }
+    {
+        if !self.has_all(riders.as_slice()) {
+            return Err((self, master, riders));
+        }
+        Ok(self.end(master, None, riders, None))
+    }
+
+    /// Ends the words as `close` does. Besides, if no rider is missing, the scribe's list is the one list of exactly
+    /// these riders' calls.
+    pub fn close_with_scribe(
+        self,
+        master: Master<L>,
+        scribe: Scribe<L>,
+        riders: Vec<Rider<L>>,
+    ) -> Result<LastWords, (Words<L>, Master<L>, Scribe<L>, Vec<Rider<L>>)>
+        ensures all { OnOk result (length riders.items ≡ self.riders) }
+        ensures total { OnOk result (master.total ≡ sum_by (λ r. r.share) riders.items) }
+        ensures cells { IfOk result (λ last. last.cells ≡ self.cells) }
+        ensures rule { IfOk result
+            (λ last. IsRuled self.cells last.words master.offsets (map (λ r. r.view) riders.items)) }
+        ensures list { OnOk result (IsOneList scribe (map (λ r. r.calls) riders.items)) }
+        ensures missing { IfErr result (λ _. length riders.items ≢ self.riders) }
+        ensures back { IfErr result (λ back.
+            (back.0 ≡ self) × (back.1 ≡ master) × (back.2 ≡ scribe) × (back.3 ≡ riders)) }
+    {
+        if !self.has_all(riders.as_slice()) {
+            return Err((self, master, scribe, riders));
+        }
+        Ok(self.end(master, Some(scribe), riders, None))
+    }
+
+    /// Ends the words as `close_with_scribe` does, and takes pasts back, if no rider is missing: of each, some rider has its
+    /// name, and made the touches that it tells.
+    pub fn close_with_pasts(
+        self,
+        master: Master<L>,
+        scribe: Scribe<L>,
+        riders: Vec<Rider<L>>,
+        pasts: Vec<Past<L>>,
+    ) -> Result<LastWords, (Words<L>, Master<L>, Scribe<L>, Vec<Rider<L>>)>
+        ensures all { OnOk result (length riders.items ≡ self.riders) }
+        ensures total { OnOk result (master.total ≡ sum_by (λ r. r.share) riders.items) }
+        ensures cells { IfOk result (λ last. last.cells ≡ self.cells) }
+        ensures rule { IfOk result
+            (λ last. IsRuled self.cells last.words master.offsets (map (λ r. r.view) riders.items)) }
+        ensures list { OnOk result (IsOneList scribe (map (λ r. r.calls) riders.items)) }
+        ensures known { OnOk result (AllByRecursion (IsKnown (map (λ r. r.view) riders.items)) pasts.items) }
+        ensures missing { IfErr result (λ _. length riders.items ≢ self.riders) }
+        ensures back { IfErr result (λ back.
+            (back.0 ≡ self) × (back.1 ≡ master) × (back.2 ≡ scribe) × (back.3 ≡ riders)) }
+    {
+        if !self.has_all(riders.as_slice()) {
+            return Err((self, master, scribe, riders));
+        }
+        Ok(self.end(master, Some(scribe), riders, Some(pasts)))
+    }
+
+    // Whether these riders are as many as were dealt out.
+    fn has_all(&self, riders: &[Rider<L>]) -> bool
+        ensures { result ≡ (length riders.now == self.now.riders) }
+    {
+        riders.len() == self.room.riders
+    }
+
+    // Ends the words, whose riders are all there, and also the list if the scribe is there.
+    fn end(
+        self,
+        master: Master<L>,
+        scribe: Option<Scribe<L>>,
+        riders: Vec<Rider<L>>,
+        pasts: Option<Vec<Past<L>>>,
+    ) -> LastWords
+        requires { length riders.items ≡ self.riders }
+        ensures total { master.total ≡ sum_by (λ r. r.share) riders.items }
+        ensures cells { result.cells ≡ self.cells }
+        ensures rule { IsRuled self.cells result.words master.offsets (map (λ r. r.view) riders.items) }
+        ensures list { IfSome scribe (λ list. IsOneList list (map (λ r. r.calls) riders.items)) }
+        ensures known { IfSome pasts
+            (λ all. AllByRecursion (IsKnown (map (λ r. r.view) riders.items)) all.items) }
+    {
+        let Master {
+            seat,
+            mut book,
+            share,
+            ..
+        } = master;
+        let mut ended = Ended {
+            seat,
+            share,
+            diaries: gathered(scribe),
+        };
+        self.gather(&mut ended, riders);
+        self.attest(&mut ended.seat, pasts);
+        book.audit(&mut ended.share);
+        let Words {
+            table,
+            room,
+            history,
+            of: _,
+        } = self;
+        let Ended {
+            seat,
+            share: _,
+            diaries,
+        } = ended;
+        if let Some(diaries) = diaries {
+            history.close(diaries);
+        }
+        LastWords::of(table.close_with(seat), room.cells)
+    }
+
+    // Takes the riders back.
+    fn gather(&self, ended: &mut Ended<L>, mut riders: Vec<Rider<L>>)
+        requires seat { let old = ended.old.seat
+            in (old.table_id ≡ L.table.words) × IsMasterSeat old.me.0.called old.me.0.offsets [] old.id old.me }
+        ensures seat { let old = ended.old.seat
+            in let new = ended.new.seat
+            in (new.table_id ≡ L.table.words)
+            × IsMasterSeat old.me.0.called old.me.0.offsets (map (λ r. r.view) riders.items) new.id new.me }
+        ensures parts { ended.new.share.parts ≡ ended.old.share.parts + length riders.items }
+        ensures amount { ended.new.share.amount
+            ≡ ended.old.share.amount + sum_by (λ r. r.share) riders.items }
+        ensures diaries { ended.new.diaries
+            ≡ with_diaries (map (λ r. r.calls) riders.items) ended.old.diaries }
+    {
+        while let Some(rider) = riders.pop() {
+            let Rider {
+                seat,
+                share,
+                diary,
+                ..
+            } = rider;
+            self.table.shared.join_seat::<Deal>(&mut ended.seat, seat);
+            ended.share.merge(share);
+            self.take_back(&mut ended.diaries, diary);
+        }
+    }
+
+    // Takes pasts back, if there are any.
+    fn attest(&self, seat: &mut WordSeat, pasts: Option<Vec<Past<L>>>)
+        requires { seat.old.table_id ≡ L.table.words }
+        ensures { (seat.new.table_id ≡ seat.old.table_id) × (seat.new.id ≡ seat.old.id)
+            × (seat.new.me ≡ (knowing (known_to_all (λ all. all.items) pasts) seat.old.me.0, seat.old.me.1)) }
+    {
+        if let Some(pasts) = pasts {
+            self.attest_all(seat, pasts);
+        }
+    }
+
+    // Takes pasts back.
+    fn attest_all(&self, seat: &mut WordSeat, mut pasts: Vec<Past<L>>)
+        requires { seat.old.table_id ≡ L.table.words }
+        ensures { (seat.new.table_id ≡ seat.old.table_id) × (seat.new.id ≡ seat.old.id)
+            × (seat.new.me ≡ (knowing pasts.items seat.old.me.0, seat.old.me.1)) }
+    {
+        while let Some(past) = pasts.pop() {
+            let Past { badge, of: _ } = past;
+            self.table.shared.join_seat::<Attest>(seat, badge.into_seat());
+        }
+    }
+
+    // Takes a rider's diary back, if the scribe is there.
+    fn take_back(&self, diaries: &mut Option<Gathered<HistoryOf<L>>>, diary: Diary<HistoryOf<L>>)
+        ensures { diaries.new ≡ with_diaries (diary ∷ []) diaries.old }
+    {
+        if let Some(gathered) = diaries {
+            self.history.take_back(gathered, diary);
+        }
+    }
+}
+
+// What the riders are taken back into at the end: the master's seat and its share, and the scribe's list and diaries,
+// if the scribe is there.
+struct Ended<L: Realm> {
+    seat: WordSeat,
+    share: Share<L>,
+    diaries: Option<Gathered<HistoryOf<L>>>,
+}
+
+// The scribe's list, with no diary yet.
+fn gathered<L: Realm>(scribe: Option<Scribe<L>>) -> Option<Gathered<HistoryOf<L>>>
+    ensures { result ≡ with_no_diaries scribe }
+{
+    match scribe {
+        Some(scribe) => Some(scribe.gather()),
+        None => None,
+    }
+}
