@@ -1,5 +1,5 @@
 -- The master's seat deals out riders one after another.
-use Rattle.std.proofs.Common.{◌≡◌, ℕ, zero, suc, ◌+◌, ◌-◌, ◌<◌, List, [], ◌∷◌, ◌++◌, replicate, take, drop, refl, ap, sym, ◌∙◌, arith, length, length-append}
+use Rattle.std.proofs.Common.{◌≡◌, ℕ, zero, suc, ◌+◌, ◌-◌, ◌<◌, List, [], ◌∷◌, ◌++◌, replicate, take, drop, refl, ap, sym, ◌∙◌, subst, arith, length, length-append}
 use Rattle.std.specs.Prelude.{slice_index_or}
 use Rattle.std.proofs.lemmas.List.{replicate_more}
 use Rattle.atomic_table.specs.Table.{Me}
@@ -8,7 +8,7 @@ use Rattle.hl_history.specs.States.{GatheredState}
 use Rattle.hl_words.specs.declared.view.SeatView.{SeatView}
 use Rattle.hl_words.specs.Views.{no_offsets, fresh, fresh_from, unused}
 use Rattle.hl_words.specs.Seats.{seat_of, rider_seat, left_seat, right_seat}
-use Rattle.hl_words.specs.States.{RiderState, first_rider, new_rider, new_riders}
+use Rattle.hl_words.specs.States.{RiderState, first_rider, AreTied, new_rider, new_riders}
 
 -- a row of equal elements without its first
 shorter : {X : Type 0} (x : X) (m k : ℕ) → m ≡ k + 1 → drop 1 (replicate m x) ≡ replicate k x
@@ -60,6 +60,10 @@ module _ (n k : ℕ) (less : k < n) (me : Me (Unit {0}) SeatView) (is : me ≡ (
   is_rider given e =
       let g = given_seat given e in
       g ∙ ap (λ (m : Me (Unit {0}) SeatView). (rider_seat (first_rider m.0), [])) (sym g)
+
+  -- who made no call yet
+  pub given_tied : (given : Me (Unit {0}) SeatView) → given ≡ (right_seat me.0, []) → (diary : List Entry) → diary ≡ [] → AreTied (first_rider given.0).touches diary
+  given_tied given e diary empty = subst (λ (m : Me (Unit {0}) SeatView). AreTied (first_rider m.0).touches diary) (sym (given_seat given e)) (subst (λ (d : List Entry). AreTied [] d) (sym empty) tt)
 
   pub more_riders : (given : Me (Unit {0}) SeatView) → given ≡ (right_seat me.0, []) → (diary : List Entry) → diary ≡ [] → (riders after : List RiderState) → riders ≡ new_riders k
       → after ≡ riders ++ dealt_rider given.0 diary ∷ [] → after ≡ new_riders (k + 1)

@@ -6,7 +6,7 @@ use Rattle.std.proofs.lemmas.Bool.{eq-eqb, ne_eqb, eqb-true, eqb-false, cases_eq
 use Rattle.std.proofs.lemmas.List.{length-set}
 use Rattle.std.proofs.lemmas.List.Sums.{sum_by-cons}
 use Rattle.hl_words.specs.declared.view.Touch.{Touch}
-use Rattle.hl_words.specs.declared.view.Touch.TheVariants.{Stored, Loaded, Changed, Called, Met}
+use Rattle.hl_words.specs.declared.view.Touch.TheVariants.{Stored, Loaded, Changed, Called, Looked, Met}
 use Rattle.hl_words.specs.declared.view.RiderView.{RiderView}
 use Rattle.hl_words.specs.Views.{newest}
 use Rattle.hl_words.specs.Rule.{HasStore, EachRider, TouchBy, by_rider, left_by, held, Finds, IsSerial, touches_of, HasOneOrder}
@@ -76,6 +76,7 @@ adds_total c (t ∷ before) totals h e adds =
         at_touch (Stored d v) f own = ap (λ (b : Bool). if b then v else held c before) (ne_eqb d c own.0) ∙ stays own.1
         at_touch (Loaded d v) f own = stays own
         at_touch (Called met left) f own = stays own
+        at_touch (Looked which x) f own = stays own
         at_touch (Met name count) f own = stays own
         at_touch (Changed d found v) f own =
             ⊎_elim
@@ -114,6 +115,7 @@ stored_again c x w i older (t ∷ between) apart e = by t.touch e (stored_again 
     by (Stored d v) is sooner = by_test d v (d == c) refl is sooner
     by (Loaded d v) is sooner = sooner is
     by (Called met left) is sooner = sooner is
+    by (Looked which x) is sooner = sooner is
     by (Met name count) is sooner = sooner is
     by (Changed d found v) is sooner = by_test d v (d == c) refl is sooner
 
@@ -170,6 +172,7 @@ takes_more c x (Stored d v) l = omega arith
 takes_more c x (Loaded d v) l = omega arith
 takes_more c x (Changed d found v) l = omega arith
 takes_more c x (Called met left) l = omega arith
+takes_more c x (Looked which y) l = omega arith
 takes_more c x (Met name count) l = omega arith
 
 gives_more : (c x : ℕ) (t : Touch) (l : List Touch) → gives c x (t ∷ l) ≡ gives c x (t ∷ []) + gives c x l
@@ -177,6 +180,7 @@ gives_more c x (Stored d v) l = omega arith
 gives_more c x (Loaded d v) l = omega arith
 gives_more c x (Changed d found v) l = omega arith
 gives_more c x (Called met left) l = omega arith
+gives_more c x (Looked which y) l = omega arith
 gives_more c x (Met name count) l = omega arith
 
 abbrev one_if : Bool → ℕ
@@ -214,6 +218,7 @@ balance c x (t ∷ before) h = by t.touch h.0 (balance c x before h.1)
     by (Stored d v) f rest = store_step (d == c) v (held c before) x (takes c x l) (gives c x l) (one_if (x == 0)) rest
     by (Loaded d v) f rest = rest
     by (Called met left) f rest = rest
+    by (Looked which x) f rest = rest
     by (Met name count) f rest = rest
     by (Changed d found v) f rest = change_step (d == c) found v (held c before) x (takes c x l) (gives c x l) (one_if (x == 0)) (λ e. f ∙ ap (λ (k : ℕ). held k before) (eqb-true d c e)) rest
 
@@ -253,6 +258,7 @@ put_value c (Stored d v) values = if d == c then v ∷ values else values
 put_value c (Loaded d v) values = values
 put_value c (Changed d found v) values = if d == c then v ∷ values else values
 put_value c (Called met left) values = values
+put_value c (Looked which x) values = values
 put_value c (Met name count) values = values
 
 abbrev values_of : ℕ → List TouchBy → List ℕ
@@ -267,6 +273,7 @@ newest_put c (Stored d v) values = by (d == c)
     by false = refl
 newest_put c (Loaded d v) values = refl
 newest_put c (Called met left) values = refl
+newest_put c (Looked which x) values = refl
 newest_put c (Met name count) values = refl
 newest_put c (Changed d found v) values = by (d == c)
   where
@@ -284,6 +291,7 @@ meets_more c v values [] m = tt
 meets_more c v values (Stored d w ∷ before) m =
     ⊎_elim (λ a. inl (a.0, meets_more c v values before a.1)) (λ b. inr (b.0, (v ∷ b.1.0, b.1.1, ap (λ (xs : List ℕ). v ∷ xs) b.1.2, b.1.3))) m
 meets_more c v values (Called met left ∷ before) m = meets_more c v values before m
+meets_more c v values (Looked which x ∷ before) m = meets_more c v values before m
 meets_more c v values (Met name count ∷ before) m = meets_more c v values before m
 meets_more c v values (Loaded d w ∷ before) m =
     ⊎_elim (λ a. inl (a.0, meets_more c v values before a.1)) (λ b. inr (b.0, (v ∷ b.1.0, b.1.1, ap (λ (xs : List ℕ). v ∷ xs) b.1.2, b.1.3, b.1.4))) m
@@ -299,6 +307,7 @@ meets_put : (c : ℕ) (t : Touch) (values : List ℕ) (l : List Touch) → Meets
 meets_put c (Stored d v) values l m = meets_either c v values l m (d == c)
 meets_put c (Loaded d v) values l m = m
 meets_put c (Called met left) values l m = m
+meets_put c (Looked which x) values l m = m
 meets_put c (Met name count) values l m = m
 meets_put c (Changed d found v) values l m = meets_either c v values l m (d == c)
 
@@ -310,6 +319,7 @@ meets_own c before (Stored d v) l f m = by (d == c) refl
     by true e = inr (eqb-true d c e, ([], values_of c before, refl, m))
     by false e = inl (eqb-false d c e, m)
 meets_own c before (Called met left) l f m = m
+meets_own c before (Looked which x) l f m = m
 meets_own c before (Met name count) l f m = m
 meets_own c before (Loaded d v) l f m =
     ⊎_elim

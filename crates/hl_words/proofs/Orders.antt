@@ -5,9 +5,9 @@ use Rattle.std.specs.List.{AllByRecursion as Every}
 use Rattle.std.proofs.lemmas.Bool.{eq-eqb, ne_eqb, eqb-true, eqb-false, cases_eq}
 use Rattle.std.proofs.lemmas.List.{get_or-set_same, get_or-set_other}
 use Rattle.hl_words.specs.declared.view.Touch.{Touch}
-use Rattle.hl_words.specs.declared.view.Touch.TheVariants.{Stored, Loaded, Changed, Called, Met}
+use Rattle.hl_words.specs.declared.view.Touch.TheVariants.{Stored, Loaded, Changed, Called, Looked, Met}
 use Rattle.hl_words.specs.declared.view.RiderView.{RiderView}
-use Rattle.hl_words.specs.Rule.{last_store, IsQuiet, HasStore, EachRider, SomeRider, IsElsewhere, IsFound, IsLawful, IsCell, TouchBy, by_rider, left_by, held, IsUpTo, Finds, IsSerial, touches_of, AreNamed, HasMet, AreMet, HasOneOrder}
+use Rattle.hl_words.specs.Rule.{last_store, IsQuiet, HasStore, EachRider, SomeRider, IsElsewhere, IsFound, IsLawful, IsCell, TouchBy, by_rider, left_by, held, IsUpTo, IsLookUpTo, Finds, IsSerial, touches_of, AreNamed, HasMet, AreMet, HasOneOrder}
 use Rattle.hl_words.proofs.Cut.{every_weaker, every_at}
 
 module _ {X : Type 0} where
@@ -92,6 +92,7 @@ met_changed front r q back same before (Stored d v) h = tt
 met_changed front r q back same before (Loaded d v) h = tt
 met_changed front r q back same before (Changed d w v) h = tt
 met_changed front r q back same before (Called met left) h = tt
+met_changed front r q back same before (Looked which x) h = tt
 met_changed front r q back same before (Met name count) h =
     some_changed (λ i x. (x.name ≡ name) × (count ≤ length (touches_of i before))) (λ i x. (x.name ≡ name) × (count ≤ length (touches_of i before))) front r q back (λ p. (same ∙ p.0, p.1)) (λ i x p. p) h
 
@@ -110,11 +111,11 @@ every_by P n (t ∷ before) less each =
     let own : Every P (t.touch ∷ touches_of t.rider before) = subst (Every P) (own_more t.rider t.touch before) (each t.rider less.0) in
     (own.0, every_by P n before less.1 (λ i below. every_either P t.touch (touches_of i before) (t.rider == i) (each i below)))
 
--- so a call met what all riders' calls left, if each left at most so many
-pub called_last : (n : ℕ) (cells : ℕ) (words : List ℕ) (riders : List RiderView) (h : HasOneOrder cells words riders) → Every (λ (r : RiderView). Every (IsUpTo n) r.touches) riders → Every (λ (t : TouchBy). IsUpTo n t.touch) h.0
-called_last n cells words riders h each =
-    every_by (IsUpTo n) (length riders) h.0 h.1.theirs
-    (λ i less. let one = there riders i less in subst (Every (IsUpTo n)) (h.1.each i one.0 one.1) (every_at (λ (r : RiderView). Every (IsUpTo n) r.touches) riders each i one.0 one.1))
+-- so it does of each of the order, if it does of all riders'
+pub order_every : (P : Touch → Type 0) (cells : ℕ) (words : List ℕ) (riders : List RiderView) (h : HasOneOrder cells words riders) → Every (λ (r : RiderView). Every P r.touches) riders → Every (λ (t : TouchBy). P t.touch) h.0
+order_every P cells words riders h each =
+    every_by P (length riders) h.0 h.1.theirs
+    (λ i less. let one = there riders i less in subst (Every P) (h.1.each i one.0 one.1) (every_at (λ (r : RiderView). Every P r.touches) riders each i one.0 one.1))
 
 -- and a rider has met what some rider did
 pub met_last : (name count : ℕ) (cells : ℕ) (words : List ℕ) (riders : List RiderView) (h : HasOneOrder cells words riders) → SomeRider (λ i r. (r.name ≡ name) × (count ≤ length r.touches)) riders → HasMet riders h.0 (Met name count)
@@ -176,15 +177,16 @@ held_renamed : (f : ℕ → ℕ) (c : ℕ) (order : List TouchBy) → held c (re
 held_renamed f c [] = refl
 held_renamed f c (t ∷ before) = ap (left_by c t.touch) (held_renamed f c before)
 
-up_to_renamed : (f : ℕ → ℕ) (n : ℕ) (order : List TouchBy) → Every (λ (t : TouchBy). IsUpTo n t.touch) order → Every (λ (t : TouchBy). IsUpTo n t.touch) (renamed f order)
-up_to_renamed f n [] h = tt
-up_to_renamed f n (t ∷ before) h = (h.0, up_to_renamed f n before h.1)
+every_renamed : (P : Touch → Type 0) (f : ℕ → ℕ) (order : List TouchBy) → Every (λ (t : TouchBy). P t.touch) order → Every (λ (t : TouchBy). P t.touch) (renamed f order)
+every_renamed P f [] h = tt
+every_renamed P f (t ∷ before) h = (h.0, every_renamed P f before h.1)
 
 finds_renamed : (f : ℕ → ℕ) (before : List TouchBy) (t : Touch) → Finds before t → Finds (renamed f before) t
 finds_renamed f before (Stored d v) h = tt
 finds_renamed f before (Loaded d v) h = h ∙ sym (held_renamed f d before)
 finds_renamed f before (Changed d w v) h = h ∙ sym (held_renamed f d before)
-finds_renamed f before (Called met left) h = (h.0, up_to_renamed f met before h.1)
+finds_renamed f before (Called met left) h = (h.0, every_renamed (IsUpTo met) f before h.1)
+finds_renamed f before (Looked which x) h = every_renamed (IsLookUpTo which x) f before h
 finds_renamed f before (Met name count) h = tt
 
 serial_renamed : (f : ℕ → ℕ) (order : List TouchBy) → IsSerial order → IsSerial (renamed f order)
@@ -220,6 +222,7 @@ met_renamed f g back forth riders after same before (Stored d v) h = tt
 met_renamed f g back forth riders after same before (Loaded d v) h = tt
 met_renamed f g back forth riders after same before (Changed d w v) h = tt
 met_renamed f g back forth riders after same before (Called met left) h = tt
+met_renamed f g back forth riders after same before (Looked which x) h = tt
 met_renamed f g back forth riders after same before (Met name count) h =
     some_renamed (λ i x. (x.name ≡ name) × (count ≤ length (touches_of i before))) (λ i x. (x.name ≡ name) × (count ≤ length (touches_of i (renamed f before)))) riders after f
     (λ i. same (f i) ∙ ap (slice_get riders) (back i))
@@ -360,6 +363,11 @@ puts_or_passes c (Called met left) = inr record {
   last = λ l. refl;
   quiet = λ before l f z q. q;
 }
+puts_or_passes c (Looked which x) = inr record {
+  leaves = λ w. refl;
+  last = λ l. refl;
+  quiet = λ before l f z q. q;
+}
 puts_or_passes c (Met name count) = inr record {
   leaves = λ w. refl;
   last = λ l. refl;
@@ -392,6 +400,7 @@ has_more c v (Stored d w) l h = inr h
 has_more c v (Loaded d w) l h = h
 has_more c v (Changed d found w) l h = inr h
 has_more c v (Called met left) l h = h
+has_more c v (Looked which x) l h = h
 has_more c v (Met name count) l h = h
 
 has_either : (c v : ℕ) (t : Touch) (l : List Touch) → HasStore c v l → (b : Bool) → HasStore c v (if b then t ∷ l else l)
@@ -439,6 +448,7 @@ last_has c v (Changed d found w ∷ before) e = by (d == c) refl e (last_has c v
     by false same is rest = inr (rest is)
 
 last_has c v (Called met left ∷ before) e = last_has c v before e
+last_has c v (Looked which x ∷ before) e = last_has c v before e
 last_has c v (Met name count ∷ before) e = last_has c v before e
 
 -- what stands in the cell before one of the rider's touches is lawful for it
@@ -468,6 +478,7 @@ own_lawful E i n (t ∷ before) there_too h e = by (t.rider == i) t.touch h.0 (o
     by true (Loaded d v) f rest = (found_lawful E i n before sooner h.1 e.1 d v f, rest)
     by true (Changed d found v) f rest = (found_lawful E i n before sooner h.1 e.1 d found f, rest)
     by true (Called met left) f rest = rest
+    by true (Looked which x) f rest = rest
     by true (Met name count) f rest = rest
 
 module _ (cells : ℕ) (words : List ℕ) (riders : List RiderView) (h : HasOneOrder cells words riders) where

@@ -1,4 +1,4 @@
--- What travels with a call and with a witness, by the one order.
+-- What travels with a call and with a past, by the one order.
 use Rattle.std.proofs.Common.{◌≡◌, ◌≢◌, ℕ, zero, suc, ◌+◌, ◌<◌, ◌≤◌, ◌==◌, ◌⊎◌, Bool, true, false, List, [], ◌∷◌, ◌++◌, length, Some, None, slice_get, refl, ap, sym, ◌∙◌, inl, inr, ⊎_elim, subst, arith, append_assoc, length-append}
 use Rattle.std.specs.Prelude.{if◌then◌else◌, unwrap_or}
 use Rattle.std.specs.List.{AllByRecursion as Every}
@@ -9,7 +9,7 @@ use Rattle.hl_words.specs.declared.view.Touch.TheVariants.{Loaded, Called, Met}
 use Rattle.hl_words.specs.declared.view.OffsetWords.{OffsetWords}
 use Rattle.hl_words.specs.declared.view.RiderView.{RiderView}
 use Rattle.hl_words.specs.Rule.{last_store, EachRider, TouchBy, by_rider, left_by, held, IsUpTo, Finds, IsSerial, touches_of, AreNamed, AreMet, HasMet, HasOneOrder, IsRuled}
-use Rattle.hl_words.specs.Past.{IsLoad, HasAll, HasOnly, HasCalls, HasNoCalls, LoadsAfterMet, LoadsAfterCalled, LoadsBetween, LoadsOfOne, LoadsOfOneBetween, EndsBefore, BeginsAfter, IsQuietBetween, LoadsOfNewest}
+use Rattle.hl_words.specs.Past.{IsLoad, HasAll, HasOnly, HasCalls, HasNoCalls, LoadsAfterMet, LoadsAfterCalled, LoadsBetween, CallsAfterMet, LoadsOfOne, LoadsOfOneBetween, EndsBefore, BeginsAfter, IsQuietBetween, LoadsOfNewest}
 use Rattle.hl_words.proofs.Cut.{every_back}
 use Rattle.hl_words.proofs.Orders.{there, within, own_more, Puts, Passes, puts_or_passes, last_either}
 
@@ -170,6 +170,28 @@ loads_after_met cells words stores riders i j c v r q newer between earlier late
 -- what riders did before calls stands behind more
 calls_more : (riders : List RiderView) (n : ℕ) (front before : List TouchBy) → HasCalls riders n before → HasCalls riders n (front ++ before)
 calls_more riders n front before h j m left q later past at is less = has_more j (Called m left ∷ past) front before (h j m left q later past at is less)
+
+-- what holds of each touch of the order holds of each of a rider's
+own_every : (P : Touch → Type 0) (i : ℕ) (order : List TouchBy) → Every (λ (t : TouchBy). P t.touch) order → Every P (touches_of i order)
+own_every P i [] h = tt
+own_every P i (t ∷ before) h = by (t.rider == i) (own_every P i before h.1)
+  where
+    by : (b : Bool) → Every P (touches_of i before) → Every P (if b then t.touch ∷ touches_of i before else touches_of i before)
+    by true rest = (h.0, rest)
+    by false rest = rest
+
+pub calls_after_met : CallsAfterMet
+calls_after_met cells words stores riders i j met left first n r q newer between earlier later past recent older ruled ati atj mine others calls =
+    let h = ruled.order in
+    let t = Met q.name (length past) in
+    let own = by_rider i (Called met left) in
+    let a = cut_at i h.0 newer (Called met left) (between ++ t ∷ earlier) (sym (h.1.each i r ati) ∙ mine) in
+    let b = cut_at i a.before between t earlier a.own in
+    let has = after_met cells words riders h i j q (a.front ++ own ∷ b.front) b.before later past (joined a.front b.front own (by_rider i t) a.before b.before h.0 a.whole b.whole) atj others in
+    let found : Finds a.before (Called met left) = (serial_end a.front (own ∷ a.before) (subst IsSerial a.whole h.1.serial)).0 in
+    let all : Every (λ (x : TouchBy). IsUpTo met x.touch) b.before = (every_back (λ (x : TouchBy). IsUpTo met x.touch) b.front (by_rider i t ∷ b.before) (subst (Every (λ (x : TouchBy). IsUpTo met x.touch)) b.whole found.1)).1 in
+    let theirs : Every (IsUpTo met) (has.0 ++ past) = subst (Every (IsUpTo met)) has.1 (own_every (IsUpTo met) j b.before all) in
+    (every_back (IsUpTo met) recent (Called first n ∷ older) (subst (Every (IsUpTo met)) calls (every_back (IsUpTo met) has.0 past theirs))).0
 
 pub loads_after_called : LoadsAfterCalled
 loads_after_called cells words stores riders i c v m n r newer between earlier ruled ati mine =

@@ -4,21 +4,22 @@ use Rattle.std.specs.Prelude.{slice_index}
 use Rattle.std.specs.List.{AllByRecursion as Every, Contains}
 use Rattle.hl_model.specs.Lists.{greatest}
 use Rattle.std.proofs.lemmas.List.{get_or-set_same, get_or-set_other}
-use Rattle.hl_words.specs.declared.view.Touch.TheVariants.{Stored, Loaded, Changed, Called, Met}
+use Rattle.hl_words.specs.declared.view.Touch.{Touch}
+use Rattle.hl_words.specs.declared.view.Touch.TheVariants.{Stored, Loaded, Changed, Called, Looked, Met}
 use Rattle.hl_words.specs.declared.view.Known.{Known}
 use Rattle.hl_words.specs.declared.view.OffsetWords.{OffsetWords}
 use Rattle.hl_words.specs.declared.view.RiderView.{RiderView}
 use Rattle.hl_words.specs.declared.which.Which.{Which}
 use Rattle.hl_words.specs.declared.which.Which.TheVariants.{ReadOnly, Head, Ended}
-use Rattle.hl_words.specs.Views.{newest, offset_of, with_offset, place_of, touched, with_loaded, called, told}
-use Rattle.hl_words.specs.Rule.{SomeRider, IsUpTo, HasOneOrder, NeverFalls, AreLoads, IsRuled}
+use Rattle.hl_words.specs.Views.{newest, offset_of, greatest_of, with_offset, place_of, touched, with_loaded, looked, called, told}
+use Rattle.hl_words.specs.Rule.{SomeRider, IsUpTo, IsLookUpTo, HasOneOrder, NeverFalls, AreLoads, IsRuled}
 use Rattle.hl_words.specs.Seats.{IsKnown}
 use Rattle.hl_words.proofs.Cut.{every_front, every_back, every_append, every_weaker, every_at, every_from}
-use Rattle.hl_words.proofs.Orders.{order_more, order_same, called_last, met_last, put_last, order_to_front, order_from_front, cell_from, lawful_from}
+use Rattle.hl_words.proofs.Orders.{order_more, order_every, met_last, put_last, order_to_front, order_from_front, cell_from, lawful_from}
 
 -- what the rider loaded of the offset words are loads of these stores
 abbrev pub Below : OffsetWords → RiderView → Type 0
-Below last r = AreLoads last.read_only r.offsets.read_only × AreLoads last.head r.offsets.head × AreLoads last.ended r.offsets.ended
+Below last r = AreLoads last.read_only (looked r.touches).read_only × AreLoads last.head (looked r.touches).head × AreLoads last.ended (looked r.touches).ended
 
 -- the newest value of a word is 0 or one of its stores
 newest_stored : (stores : List ℕ) → (newest stores ≡ 0) ⊎ Contains stores (newest stores)
@@ -54,6 +55,31 @@ store_rises (y ∷ before) x le h i zero d lt within = absurd (omega arith)
 store_rises (y ∷ before) x le h zero (suc zero) d lt within = le
 store_rises (y ∷ before) x le h zero (suc (suc j)) d lt within = omega (arith, le, h 0 (suc j) d (omega arith) (omega arith))
 store_rises (y ∷ before) x le h (suc i) (suc j) d lt within = h i j d (omega arith) (omega arith)
+
+-- one load more of a word of the master's
+more_looked : (which w : Which) (y : ℕ) (o : OffsetWords) → (greatest_of which o ≤ greatest_of which (with_offset w y o)) × (w ≡ which → y ≤ greatest_of which (with_offset w y o))
+unfolding greatest
+more_looked ReadOnly ReadOnly y o = (omega arith, λ e. omega arith)
+more_looked ReadOnly Head y o = (omega arith, λ e. absurd (cc e))
+more_looked ReadOnly Ended y o = (omega arith, λ e. absurd (cc e))
+more_looked Head ReadOnly y o = (omega arith, λ e. absurd (cc e))
+more_looked Head Head y o = (omega arith, λ e. omega arith)
+more_looked Head Ended y o = (omega arith, λ e. absurd (cc e))
+more_looked Ended ReadOnly y o = (omega arith, λ e. absurd (cc e))
+more_looked Ended Head y o = (omega arith, λ e. absurd (cc e))
+more_looked Ended Ended y o = (omega arith, λ e. omega arith)
+
+-- each load of such a word gave no more than the greatest
+looks_up_to : (which : Which) (x : ℕ) (l : List Touch) → greatest_of which (looked l) ≤ x → Every (IsLookUpTo which x) l
+looks_up_to which x [] le = tt
+looks_up_to which x (Stored d v ∷ before) le = (tt, looks_up_to which x before le)
+looks_up_to which x (Loaded d v ∷ before) le = (tt, looks_up_to which x before le)
+looks_up_to which x (Changed d found v ∷ before) le = (tt, looks_up_to which x before le)
+looks_up_to which x (Called met left ∷ before) le = (tt, looks_up_to which x before le)
+looks_up_to which x (Looked w y ∷ before) le =
+    let more = more_looked which w y (looked before) in
+    ((λ e. omega (arith, more.1 e, le)), looks_up_to which x before (omega (arith, more.0, le)))
+looks_up_to which x (Met name count ∷ before) le = (tt, looks_up_to which x before le)
 
 pub record IsStanding (cells : ℕ) (words : List ℕ) (last : OffsetWords) (riders : List RiderView) : Type 0 where
   pub order : HasOneOrder cells words riders
@@ -174,7 +200,7 @@ module _ (front : List RiderView) (r : RiderView) (back : List RiderView) where
   after_call cells words last m n le each h =
       let q = called m n r in
       changed cells words words last q h
-      (order_more cells words words front r q back (Called m n) refl refl h.order (le, called_last m cells words (front ++ r ∷ back) h.order each) tt h.order.1.last)
+      (order_more cells words words front r q back (Called m n) refl refl h.order (le, order_every (IsUpTo m) cells words (front ++ r ∷ back) h.order each) tt h.order.1.last)
       refl
       refl
       refl
@@ -195,28 +221,29 @@ module _ (front : List RiderView) (r : RiderView) (back : List RiderView) where
       counted : IsKnown (front ++ r ∷ back) k → SomeRider (λ i x. (x.name ≡ k.name) × (length k.touches ≤ length x.touches)) (front ++ r ∷ back)
       counted s = (s.0, s.1, s.2, (s.3.0, omega (arith, ap length s.3.1.1, length-append s.3.1.0 k.touches)))
 
-  -- a load of an offset word
+  -- a load of a word of the master's
   pub after_look : (cells : ℕ) (words : List ℕ) (last : OffsetWords) (which : Which) (x : ℕ) → x ≡ offset_of which last
       → IsStanding cells words last (front ++ r ∷ back) → IsStanding cells words last (front ++ with_loaded which x r ∷ back)
   after_look cells words last which x found h =
       let q = with_loaded which x r in
       changed cells words words last q h
-      (order_same cells words words front r q back (same_name which) (same_touches which) (λ c less. refl) h.order)
+      (order_more cells words words front r q back (Looked which x) refl refl h.order
+      (order_every (IsLookUpTo which x) cells words (front ++ r ∷ back) h.order (every_weaker (Below last) (λ (p : RiderView). Every (IsLookUpTo which x) p.touches) (front ++ r ∷ back) (λ p b. looks_up_to which x p.touches (omega (arith, found, at_most last which p b))) h.offset))
+      tt h.order.1.last)
       refl
       refl
       refl
       (below which found (every_back (Below last) front (r ∷ back) h.offset).0)
     where
-      same_name : (which : Which) → (with_loaded which x r).name ≡ r.name
-      same_name which = refl
-
-      same_touches : (which : Which) → (with_loaded which x r).touches ≡ r.touches
-      same_touches which = refl
+      at_most : (last : OffsetWords) (which : Which) (p : RiderView) → Below last p → greatest_of which (looked p.touches) ≤ offset_of which last
+      at_most last ReadOnly p b = b.0.0
+      at_most last Head p b = b.1.0
+      at_most last Ended p b = b.2.0
 
       below : (which : Which) → x ≡ offset_of which last → Below last r → Below last (with_loaded which x r)
-      below ReadOnly e b = (load_newest last.read_only r.offsets.read_only x e b.0, b.1, b.2)
-      below Head e b = (b.0, load_newest last.head r.offsets.head x e b.1, b.2)
-      below Ended e b = (b.0, b.1, load_newest last.ended r.offsets.ended x e b.2)
+      below ReadOnly e b = (load_newest last.read_only (looked r.touches).read_only x e b.0, b.1, b.2)
+      below Head e b = (b.0, load_newest last.head (looked r.touches).head x e b.1, b.2)
+      below Ended e b = (b.0, b.1, load_newest last.ended (looked r.touches).ended x e b.2)
 
 -- the cells stay where a word of the master's changes
 order_beside : (cells : ℕ) (words : List ℕ) (riders : List RiderView) (i x : ℕ) → cells ≤ i → HasOneOrder cells words riders → HasOneOrder cells (set words i x) riders
@@ -248,7 +275,7 @@ after_set ReadOnly cells words last riders x width le h =
       head = get_or-set_other words (cells + 8) (cells + 9) x 0 (λ e. omega arith) ∙ h.head;
       ended = get_or-set_other words (cells + 8) (cells + 10) x 0 (λ e. omega arith) ∙ h.ended;
       never_falls = (store_rises last.read_only x le h.never_falls.0, h.never_falls.1, h.never_falls.2);
-      offset = every_weaker (Below last) (Below (with_offset ReadOnly x last)) riders (λ r b. (store_more last.read_only r.offsets.read_only x le b.0, b.1, b.2)) h.offset;
+      offset = every_weaker (Below last) (Below (with_offset ReadOnly x last)) riders (λ r b. (store_more last.read_only (looked r.touches).read_only x le b.0, b.1, b.2)) h.offset;
     }
 after_set Head cells words last riders x width le h =
     record {
@@ -257,7 +284,7 @@ after_set Head cells words last riders x width le h =
       head = get_or-set_same words (cells + 9) x 0 (omega arith);
       ended = get_or-set_other words (cells + 9) (cells + 10) x 0 (λ e. omega arith) ∙ h.ended;
       never_falls = (h.never_falls.0, store_rises last.head x le h.never_falls.1, h.never_falls.2);
-      offset = every_weaker (Below last) (Below (with_offset Head x last)) riders (λ r b. (b.0, store_more last.head r.offsets.head x le b.1, b.2)) h.offset;
+      offset = every_weaker (Below last) (Below (with_offset Head x last)) riders (λ r b. (b.0, store_more last.head (looked r.touches).head x le b.1, b.2)) h.offset;
     }
 after_set Ended cells words last riders x width le h =
     record {
@@ -266,5 +293,5 @@ after_set Ended cells words last riders x width le h =
       head = get_or-set_other words (cells + 10) (cells + 9) x 0 (λ e. omega arith) ∙ h.head;
       ended = get_or-set_same words (cells + 10) x 0 (omega arith);
       never_falls = (h.never_falls.0, h.never_falls.1, store_rises last.ended x le h.never_falls.2);
-      offset = every_weaker (Below last) (Below (with_offset Ended x last)) riders (λ r b. (b.0, b.1, store_more last.ended r.offsets.ended x le b.2)) h.offset;
+      offset = every_weaker (Below last) (Below (with_offset Ended x last)) riders (λ r b. (b.0, b.1, store_more last.ended (looked r.touches).ended x le b.2)) h.offset;
     }

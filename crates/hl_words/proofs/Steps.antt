@@ -9,7 +9,7 @@ use lib.ListN.{get_elem?}
 use Rattle.atomic_table.proofs.Lists.{set_else, set_again}
 use Rattle.atomic_table.specs.Table.{Me, step, keeps, Allows, Splits, Joins, Enters, opening, Final, Seen}
 use Rattle.hl_words.specs.declared.view.Touch.{Touch}
-use Rattle.hl_words.specs.declared.view.Touch.TheVariants.{Stored, Loaded, Changed, Called, Met}
+use Rattle.hl_words.specs.declared.view.Touch.TheVariants.{Stored, Loaded, Changed, Called, Looked, Met}
 use Rattle.hl_words.specs.declared.view.Known.{Known}
 use Rattle.hl_words.specs.declared.view.OffsetWords.{OffsetWords}
 use Rattle.hl_words.specs.declared.view.RiderView.{RiderView}
@@ -17,7 +17,7 @@ use Rattle.hl_words.specs.declared.view.SeatView.{SeatView}
 use Rattle.hl_words.specs.declared.view.Room.{Room}
 use Rattle.hl_words.specs.declared.which.Which.{Which}
 use Rattle.hl_words.specs.declared.which.Which.TheVariants.{ReadOnly, Head, Ended}
-use Rattle.hl_words.specs.Views.{place_of, no_offsets, offset_of, greatest_of, with_offset, fresh, fresh_from, touched, added, exchanged, with_loaded, past_of, told, called}
+use Rattle.hl_words.specs.Views.{place_of, no_offsets, offset_of, greatest_of, with_offset, fresh, fresh_from, touched, added, exchanged, with_loaded, looked, past_of, told, called}
 use Rattle.hl_words.specs.Rule.{SomeRider, IsUpTo, AreNamed, HasOneOrder, IsRuled}
 use Rattle.hl_words.specs.Seats.{seat_of, master_seat, knows_seat, rider_seat, spent_seat, first_seat, riders_in, HasPast, IsKnown, CallsUpTo, IsKept, Holds, Stores, Loads, Adds, Exchanges, Looks, with_store, Sets, left_seat, right_seat, joined_seat, left_called, right_called, same_seat, shown_seat, copied_seat, told_seat, attested_seat, Blanks}
 use Rattle.hl_words.proofs.Cut.{every_front, every_back, every_append, every_weaker, every_set, every_elem}
@@ -69,6 +69,7 @@ up_to_more m n le (Stored d v) h = tt
 up_to_more m n le (Loaded d v) h = tt
 up_to_more m n le (Changed d w v) h = tt
 up_to_more m n le (Called met left) h = omega (arith, le, h)
+up_to_more m n le (Looked w x) h = tt
 up_to_more m n le (Met name count) h = tt
 
 calls_more : (m n : ℕ) → m ≤ n → (riders : List RiderView) → Every (CallsUpTo m) riders → Every (CallsUpTo n) riders
@@ -189,17 +190,17 @@ module _ (room : Room) (slots : ℕ) (id : ℕ) where
         keeps,
         tt,
         subst (λ ws. IsKept room ws (set s.views id (rider_seat q))) (sym (set-get_or s.words i 0))
-            (rider_kept room s.words s.words s.views id r q h at refl refl ([], refl) (λ n e. e) (λ front back last b k. after_look front r back room.cells s.words last which x (found last (front ++ r ∷ back) k) k)),
+            (rider_kept room s.words s.words s.views id r q h at refl refl (Looked which x ∷ [], refl) (λ n e. (tt, e)) (λ front back last b k. after_look front r back room.cells s.words last which x (found last (front ++ r ∷ back) k) k)),
         (refl, only x r (at_most which h.master.offsets r x (found h.master.offsets (p.front ++ r ∷ p.back) now) below)),
       ))
     where
-      at_most : (which : Which) (last : OffsetWords) (r : RiderView) (x : ℕ) → x ≡ offset_of which last → Below last r → greatest_of which r.offsets ≤ x
+      at_most : (which : Which) (last : OffsetWords) (r : RiderView) (x : ℕ) → x ≡ offset_of which last → Below last r → greatest_of which (looked r.touches) ≤ x
       at_most ReadOnly last r x e b = omega (arith, b.0.0)
       at_most Head last r x e b = omega (arith, b.1.0)
       at_most Ended last r x e b = omega (arith, b.2.0)
 
-      only : (x : ℕ) (r : RiderView) → greatest_of which r.offsets ≤ x → (i : ℕ) (q : RiderView) → slice_get (r ∷ []) i ≡ Some q → greatest_of which q.offsets ≤ x
-      only x r le zero q e = let same : r ≡ q = cc e in subst (λ (p : RiderView). greatest_of which p.offsets ≤ x) same le
+      only : (x : ℕ) (r : RiderView) → greatest_of which (looked r.touches) ≤ x → (i : ℕ) (q : RiderView) → slice_get (r ∷ []) i ≡ Some q → greatest_of which (looked q.touches) ≤ x
+      only x r le zero q e = let same : r ≡ q = cc e in subst (λ (p : RiderView). greatest_of which (looked p.touches) ≤ x) same le
       only x r le (suc i) q e = absurd (cc e)
 
 -- any seat

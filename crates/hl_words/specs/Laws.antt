@@ -2,7 +2,7 @@
 use Rattle.std.specs.Prelude.{ℕ, ◌≡◌, ◌≢◌, ◌+◌, ◌%◌, ◌^◌, ◌<◌, ◌≤◌, ◌==◌, ◌&&◌, not, ◌⊎◌, if◌then◌else◌, List, [], ◌∷◌, ◌++◌, map, length, Some, slice_get, slice_index}
 use Rattle.std.specs.List.{sum, sum_by}
 use Rattle.hl_words.specs.declared.view.Touch.{Touch}
-use Rattle.hl_words.specs.declared.view.Touch.TheVariants.{Stored, Loaded, Changed, Called, Met}
+use Rattle.hl_words.specs.declared.view.Touch.TheVariants.{Stored, Loaded, Changed, Called, Looked, Met}
 use Rattle.hl_words.specs.declared.view.OffsetWords.{OffsetWords}
 use Rattle.hl_words.specs.declared.view.RiderView.{RiderView}
 use Rattle.hl_words.specs.Views.{newest, added}
@@ -17,6 +17,7 @@ AddsUp c total (Changed d found v ∷ before) = ((d ≢ c) × AddsUp c total bef
     ⊎ ((d ≡ c) × ((more : ℕ) × (rest : ℕ) × (total ≡ rest + more) × (v ≡ (found + more) % 2 ^ 64)
     × AddsUp c rest before))
 AddsUp c total (Called met left ∷ before) = AddsUp c total before
+AddsUp c total (Looked which x ∷ before) = AddsUp c total before
 AddsUp c total (Met name count ∷ before) = AddsUp c total before
 
 -- an add to the cell adds its number to what a rider's touches of the cell add up to, whatever it found
@@ -53,6 +54,7 @@ takes c x (Loaded d v ∷ before) = takes c x before
 takes c x (Changed d found v ∷ before) =
     (if (d == c) && ((found == x) && not (v == x)) then 1 else 0) + takes c x before
 takes c x (Called met left ∷ before) = takes c x before
+takes c x (Looked which y ∷ before) = takes c x before
 takes c x (Met name count ∷ before) = takes c x before
 
 -- how often it stores this value there, by a store or a change
@@ -62,6 +64,7 @@ gives c x (Stored d v ∷ before) = (if (d == c) && (v == x) then 1 else 0) + gi
 gives c x (Loaded d v ∷ before) = gives c x before
 gives c x (Changed d found v ∷ before) = (if (d == c) && (v == x) then 1 else 0) + gives c x before
 gives c x (Called met left ∷ before) = gives c x before
+gives c x (Looked which y ∷ before) = gives c x before
 gives c x (Met name count ∷ before) = gives c x before
 
 -- All riders together changed a cell from one value to others at most as often as they stored that value there,
@@ -84,6 +87,7 @@ Meets c values (Changed d found v ∷ before) = ((d ≢ c) × Meets c values bef
     ⊎ ((d ≡ c) × ((newer : List ℕ) × (older : List ℕ) × (values ≡ newer ++ v ∷ older)
     × (found ≡ newest older) × Meets c older before))
 Meets c values (Called met left ∷ before) = Meets c values before
+Meets c values (Looked which x ∷ before) = Meets c values before
 Meets c values (Met name count ∷ before) = Meets c values before
 
 -- Each cell has one list of the values stored there, which ends with what the cell holds, and no rider's touches of

@@ -1,6 +1,6 @@
 -- What a load found that its rider made after a call, or after it was told what another did. Each statement is the
 -- contract of a function of the module past_laws.
-use Rattle.std.specs.Prelude.{ℕ, ◌≡◌, ◌≢◌, ◌<◌, ◌⊎◌, List, [], ◌∷◌, ◌++◌, length, Some, None, slice_get, unwrap_or}
+use Rattle.std.specs.Prelude.{ℕ, ◌≡◌, ◌≢◌, ◌<◌, ◌≤◌, ◌⊎◌, List, [], ◌∷◌, ◌++◌, length, Some, None, slice_get, unwrap_or}
 use Rattle.hl_words.specs.declared.view.Touch.{Touch}
 use Rattle.hl_words.specs.declared.view.Touch.TheVariants.{Loaded, Called, Met}
 use Rattle.hl_words.specs.declared.view.OffsetWords.{OffsetWords}
@@ -63,6 +63,14 @@ LoadsBetween = (cells : ℕ) (words : List ℕ) (stores : OffsetWords) (riders :
     → f.touches ≡ newest ++ Called done left ∷ (middle ++ Met r.name (length own) ∷ (more ++ told))
     → (before : List TouchBy) × IsLoad ruled.order.0 i c v before × HasCalls riders begun before
     × HasNoCalls riders done before
+
+-- A call of a rider that was told what another did met all steps that the other's calls up to there left
+abbrev pub CallsAfterMet : Type 0
+CallsAfterMet = (cells : ℕ) (words : List ℕ) (stores : OffsetWords) (riders : List RiderView)
+    (i j met left first n : ℕ) (r q : RiderView) (newer between earlier later past recent older : List Touch)
+    → IsRuled cells words stores riders → slice_get riders i ≡ Some r → slice_get riders j ≡ Some q
+    → r.touches ≡ newer ++ Called met left ∷ (between ++ Met q.name (length past) ∷ earlier)
+    → q.touches ≡ later ++ past → past ≡ recent ++ Called first n ∷ older → n ≤ met
 
 -- Where one rider alone stores into a cell, a load of any rider finds the newest of its stores that stand before
 abbrev pub LoadsOfOne : Type 0

@@ -4,10 +4,11 @@ use Rattle.std.specs.Prelude.{ℕ, ◌≡◌, ◌≢◌, ◌+◌, ◌<◌, ◌�
 use Rattle.std.specs.List.{AllByRecursion, Contains}
 use Rattle.hl_model.specs.Lists.{greatest}
 use Rattle.hl_words.specs.declared.view.Touch.{Touch}
-use Rattle.hl_words.specs.declared.view.Touch.TheVariants.{Stored, Loaded, Changed, Called, Met}
+use Rattle.hl_words.specs.declared.view.Touch.TheVariants.{Stored, Loaded, Changed, Called, Looked, Met}
+use Rattle.hl_words.specs.declared.which.Which.{Which}
 use Rattle.hl_words.specs.declared.view.OffsetWords.{OffsetWords}
 use Rattle.hl_words.specs.declared.view.RiderView.{RiderView}
-use Rattle.hl_words.specs.Views.{newest}
+use Rattle.hl_words.specs.Views.{newest, looked}
 
 -- what these touches last stored into the cell; the newest stands first
 abbrev pub last_store : ℕ → List Touch → Option ℕ
@@ -16,6 +17,7 @@ last_store c (Stored d v ∷ before) = if d == c then Some v else last_store c b
 last_store c (Loaded d v ∷ before) = last_store c before
 last_store c (Changed d found v ∷ before) = if d == c then Some v else last_store c before
 last_store c (Called met left ∷ before) = last_store c before
+last_store c (Looked which x ∷ before) = last_store c before
 last_store c (Met name count ∷ before) = last_store c before
 
 -- no store into the cell, and no load of it but of 0
@@ -25,6 +27,7 @@ IsQuiet c (Stored d v ∷ before) = (d ≢ c) × IsQuiet c before
 IsQuiet c (Loaded d v ∷ before) = (d ≡ c → v ≡ 0) × IsQuiet c before
 IsQuiet c (Changed d found v ∷ before) = (d ≢ c) × IsQuiet c before
 IsQuiet c (Called met left ∷ before) = IsQuiet c before
+IsQuiet c (Looked which x ∷ before) = IsQuiet c before
 IsQuiet c (Met name count ∷ before) = IsQuiet c before
 
 -- these touches stored the value into the cell
@@ -34,6 +37,7 @@ HasStore c v (Stored d w ∷ before) = ((d ≡ c) × (w ≡ v)) ⊎ HasStore c v
 HasStore c v (Loaded d w ∷ before) = HasStore c v before
 HasStore c v (Changed d found w ∷ before) = ((d ≡ c) × (w ≡ v)) ⊎ HasStore c v before
 HasStore c v (Called met left ∷ before) = HasStore c v before
+HasStore c v (Looked which x ∷ before) = HasStore c v before
 HasStore c v (Met name count ∷ before) = HasStore c v before
 
 -- P holds of each rider's number and view; the riders are numbered from 0
@@ -62,6 +66,7 @@ IsLawful Elsewhere (Loaded c v ∷ before) = IsFound Elsewhere c v before × IsL
 IsLawful Elsewhere (Changed c found v ∷ before) =
     IsFound Elsewhere c found before × IsLawful Elsewhere before
 IsLawful Elsewhere (Called met left ∷ before) = IsLawful Elsewhere before
+IsLawful Elsewhere (Looked which x ∷ before) = IsLawful Elsewhere before
 IsLawful Elsewhere (Met name count ∷ before) = IsLawful Elsewhere before
 
 -- the cell is 0 where no rider stored there, else it is some rider's last store there
@@ -84,6 +89,7 @@ left_by c (Stored d v) w = if d == c then v else w
 left_by c (Loaded d v) w = w
 left_by c (Changed d found v) w = if d == c then v else w
 left_by c (Called met left) w = w
+left_by c (Looked which x) w = w
 left_by c (Met name count) w = w
 
 -- what the cell holds after these touches, and 0 before any; the newest stands first
@@ -97,15 +103,26 @@ IsUpTo n (Stored d v) = Unit {0}
 IsUpTo n (Loaded d v) = Unit {0}
 IsUpTo n (Changed d found v) = Unit {0}
 IsUpTo n (Called met left) = left ≤ n
+IsUpTo n (Looked which x) = Unit {0}
 IsUpTo n (Met name count) = Unit {0}
 
--- what the touch found in its cell is what the cell held after those before it; and a call met all steps that
--- earlier calls left
+-- no load of this word of the master's that gave more than n
+abbrev pub IsLookUpTo : Which → ℕ → Touch → Type 0
+IsLookUpTo w n (Stored d v) = Unit {0}
+IsLookUpTo w n (Loaded d v) = Unit {0}
+IsLookUpTo w n (Changed d found v) = Unit {0}
+IsLookUpTo w n (Called met left) = Unit {0}
+IsLookUpTo w n (Looked which x) = which ≡ w → x ≤ n
+IsLookUpTo w n (Met name count) = Unit {0}
+
+-- what the touch found in its cell is what the cell held after those before it; a call met all steps that
+-- earlier calls left; and a load of a word of the master's gave no less than earlier ones did
 abbrev pub Finds : List TouchBy → Touch → Type 0
 Finds before (Stored d v) = Unit {0}
 Finds before (Loaded d v) = v ≡ held d before
 Finds before (Changed d found v) = found ≡ held d before
 Finds before (Called met left) = (met ≤ left) × AllByRecursion (λ t. IsUpTo met t.touch) before
+Finds before (Looked which x) = AllByRecursion (λ t. IsLookUpTo which x t.touch) before
 Finds before (Met name count) = Unit {0}
 
 -- each load, each change and each call of the list found so
@@ -130,6 +147,7 @@ HasMet riders before (Stored d v) = Unit {0}
 HasMet riders before (Loaded d v) = Unit {0}
 HasMet riders before (Changed d found v) = Unit {0}
 HasMet riders before (Called met left) = Unit {0}
+HasMet riders before (Looked which x) = Unit {0}
 HasMet riders before (Met name count) =
     SomeRider (λ i r. (r.name ≡ name) × (count ≤ length (touches_of i before))) riders
 
@@ -176,5 +194,6 @@ pub record IsRuled (cells : ℕ) (words : List ℕ) (stores : OffsetWords)
   pub ended : slice_index words (cells + 10) ≡ newest stores.ended
   pub never_falls : NeverFalls stores.read_only × NeverFalls stores.head × NeverFalls stores.ended
   pub offset : EachRider
-      (λ i r. AreLoads stores.read_only r.offsets.read_only × AreLoads stores.head r.offsets.head
-      × AreLoads stores.ended r.offsets.ended) riders
+      (λ i r. AreLoads stores.read_only (looked r.touches).read_only
+      × AreLoads stores.head (looked r.touches).head
+      × AreLoads stores.ended (looked r.touches).ended) riders

@@ -12,7 +12,7 @@ use Rattle.hl_words.specs.declared.view.RiderView.{RiderView}
 use Rattle.hl_words.specs.declared.view.SeatView.{SeatView}
 use Rattle.hl_words.specs.declared.view.Room.{Room}
 use Rattle.hl_words.specs.declared.which.Which.{Which}
-use Rattle.hl_words.specs.Views.{no_offsets, greatest_of, with_offset, fresh_from, touched, added, exchanged, with_loaded, past_of, told, called}
+use Rattle.hl_words.specs.Views.{no_offsets, greatest_of, with_offset, fresh_from, touched, added, exchanged, with_loaded, looked, past_of, told, called}
 use Rattle.hl_words.specs.Rule.{EachRider, SomeRider, IsUpTo, IsRuled}
 
 -- a seat that knows these stores of the master's words, and stands for these riders
@@ -100,7 +100,7 @@ Exchanges s before found after = after ≡ (moved (exchanged s.word s.first s.se
 -- of a load of a word of the master's: the rider's view has it, and the rider loaded no greater one before
 abbrev pub Looks : Which → Step (Unit {0}) → Me (Unit {0}) SeatView → ℕ → Me (Unit {0}) SeatView → Type 0
 Looks which s before found after = (after ≡ (moved (with_loaded which found) before.0, before.1))
-    × EachRider (λ i r. greatest_of which r.offsets ≤ found) before.0.riders
+    × EachRider (λ i r. greatest_of which (looked r.touches) ≤ found) before.0.riders
 
 -- the master's seat after one more store
 abbrev pub with_store : Which → ℕ → SeatView → SeatView

@@ -5,6 +5,8 @@ use Rattle.hl_model.specs.Sizes.{Sizes}
 use Rattle.hl_model.specs.declared.step.Step.{Step}
 use Rattle.hl_history.specs.declared.view.Entry.{Entry}
 use Rattle.hl_history.specs.States.{GatheredState}
+use Rattle.hl_words.specs.declared.view.Touch.{Touch}
+use Rattle.hl_words.specs.declared.view.Touch.TheVariants.{Stored, Loaded, Changed, Called, Looked, Met}
 use Rattle.hl_words.specs.declared.view.Known.{Known}
 use Rattle.hl_words.specs.declared.view.OffsetWords.{OffsetWords}
 use Rattle.hl_words.specs.declared.view.RiderView.{RiderView}
@@ -103,6 +105,20 @@ with_call call r = record {
   share = r.share;
   calls = call ∷ r.calls;
 }
+
+-- Each call among the touches is the diary's call at its place: it met so many steps and left so many. Both lists stand
+-- newest first
+abbrev pub AreTied : List Touch → List Entry → Type 0
+AreTied [] [] = Unit {0}
+AreTied [] (call ∷ calls) = ⊥
+AreTied (Stored d v ∷ before) calls = AreTied before calls
+AreTied (Loaded d v ∷ before) calls = AreTied before calls
+AreTied (Changed d found v ∷ before) calls = AreTied before calls
+AreTied (Called met left ∷ before) [] = ⊥
+AreTied (Called met left ∷ before) (call ∷ calls) = (met ≡ length call.before)
+    × (left ≡ length call.before + length call.steps) × AreTied before calls
+AreTied (Looked which x ∷ before) calls = AreTied before calls
+AreTied (Met name count ∷ before) calls = AreTied before calls
 
 -- the rider of this name before its first step
 abbrev pub new_rider : ℕ → RiderState

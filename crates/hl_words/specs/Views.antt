@@ -2,7 +2,7 @@
 use Rattle.std.specs.Prelude.{ℕ, zero, suc, ◌+◌, ◌%◌, ◌^◌, ◌==◌, if◌then◌else◌, List, [], ◌∷◌, length}
 use Rattle.hl_model.specs.Lists.{greatest}
 use Rattle.hl_words.specs.declared.view.Touch.{Touch}
-use Rattle.hl_words.specs.declared.view.Touch.TheVariants.{Stored, Loaded, Changed, Called, Met}
+use Rattle.hl_words.specs.declared.view.Touch.TheVariants.{Stored, Loaded, Changed, Called, Looked, Met}
 use Rattle.hl_words.specs.declared.view.Known.{Known}
 use Rattle.hl_words.specs.declared.view.OffsetWords.{OffsetWords}
 use Rattle.hl_words.specs.declared.view.RiderView.{RiderView}
@@ -45,7 +45,7 @@ place_of Ended cells = cells + 10
 
 -- the view of the rider of this name that did nothing
 abbrev pub fresh : ℕ → RiderView
-fresh name = record { name = name; touches = []; offsets = no_offsets }
+fresh name = record { name = name; touches = [] }
 
 -- n of them, named from a number on
 abbrev pub fresh_from : ℕ → ℕ → List RiderView
@@ -56,9 +56,9 @@ fresh_from name (suc n) = fresh name ∷ fresh_from (suc name) n
 abbrev pub unused : RiderView
 unused = fresh 0
 
--- the view after one more touch, a store or a load of a cell
+-- the view after one more touch
 abbrev pub touched : Touch → RiderView → RiderView
-touched e r = record { name = r.name; touches = e ∷ r.touches; offsets = r.offsets }
+touched e r = record { name = r.name; touches = e ∷ r.touches }
 
 -- the view after a store of the value into the cell
 abbrev pub stored : ℕ → ℕ → RiderView → RiderView
@@ -84,8 +84,17 @@ exchanged cell old new found r =
 
 -- the view after a load of a word of the master's that gave x
 abbrev pub with_loaded : Which → ℕ → RiderView → RiderView
-with_loaded which x r =
-    record { name = r.name; touches = r.touches; offsets = with_offset which x r.offsets }
+with_loaded which x r = touched (Looked which x) r
+
+-- what these touches loaded of each of the master's words
+abbrev pub looked : List Touch → OffsetWords
+looked [] = no_offsets
+looked (Stored d v ∷ before) = looked before
+looked (Loaded d v ∷ before) = looked before
+looked (Changed d found v ∷ before) = looked before
+looked (Called met left ∷ before) = looked before
+looked (Looked which x ∷ before) = with_offset which x (looked before)
+looked (Met name count ∷ before) = looked before
 
 -- what a past of this rider tells
 abbrev pub past_of : RiderView → Known

@@ -18,7 +18,7 @@ pub struct Rider<L: Realm> {
 
 impl<L: Realm> Model for Rider<L> {
     ghost use Rattle.std.specs.Prelude.{◌≡◌, []};
-    ghost use Rattle.hl_words.specs.States.{RiderState, first_rider};
+    ghost use Rattle.hl_words.specs.States.{RiderState, first_rider, AreTied};
     ghost use Rattle.hl_words.specs.Seats.{rider_seat};
 
     ghost Value = { RiderState };
@@ -26,7 +26,8 @@ impl<L: Realm> Model for Rider<L> {
     ghost view = { λ r. record { view = first_rider r.seat.me.0; share = r.entered; calls = r.diary } };
 
     ghost invariant = { λ r. (r.seat.me ≡ (rider_seat (first_rider r.seat.me.0), []))
-        × (r.seat.table_id ≡ L.table.words) × (r.share.parts ≡ 1) × (r.share.amount ≡ r.entered) };
+        × (r.seat.table_id ≡ L.table.words) × (r.share.parts ≡ 1) × (r.share.amount ≡ r.entered)
+        × AreTied (first_rider r.seat.me.0).touches r.diary };
 }
 
 impl<L: Realm> Rider<L> {

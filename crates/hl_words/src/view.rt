@@ -1,7 +1,8 @@
 //! What the seats of the table know. It is told in proofs alone: a program makes no value of these types but a `Room`.
+use crate::which::Which;
 use std::collections::LinkedList;
 
-/// What a rider did to a cell.
+/// What a rider did without the lock, and its calls.
 pub enum Touch {
     /// It stored the value into the cell.
     Stored { cell: u64, value: u64 },
@@ -13,6 +14,8 @@ pub enum Touch {
     /// It made a call under the lock where the master lies: the one list had `met` steps then, and `left` after it. It
     /// changed no cell.
     Called { met: u64, left: u64 },
+    /// It loaded the value from this word of the master's.
+    Looked { which: Which, value: u64 },
     /// It was told what the rider of this name had done, up to so many of its touches. It changed no cell.
     Met { name: u64, count: u64 },
 }
@@ -31,14 +34,12 @@ pub struct OffsetWords {
     pub ended: LinkedList<u64>,
 }
 
-/// What a rider stored and loaded.
+/// What a rider did.
 pub struct RiderView {
     /// Its number among the riders of its seed, from 0: no two have the same.
     pub name: u64,
-    /// Its stores into cells and its loads of cells, the newest first.
+    /// All that it did, the newest first.
     pub touches: LinkedList<Touch>,
-    /// Its loads of each of the master's words.
-    pub offsets: OffsetWords,
 }
 
 /// What one seat of the table knows: the master's knows its stores of its three words, and each seat the views

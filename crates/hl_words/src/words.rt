@@ -1,6 +1,6 @@
 ghost use Rattle.std.specs.Prelude.{◌≡◌, ◌<◌, ◌≤◌, [], IfOk, IfErr};
 ghost use Rattle.hl_model.specs.declared.fault.Fault.TheVariants.{OutOfMemory};
-ghost use Rattle.hl_words.specs.Views.{no_offsets, offset_of, greatest_of, with_offset, stored, loaded, added, exchanged, with_loaded};
+ghost use Rattle.hl_words.specs.Views.{no_offsets, offset_of, greatest_of, with_offset, stored, loaded, added, exchanged, with_loaded, looked};
 ghost use Rattle.hl_words.specs.States.{IsSeedOf, new_riders, with_view};
 
 mod calls;
@@ -184,7 +184,7 @@ impl<L: Realm> Words<L> {
     #[inline(always)]
     pub fn load_offset(&self, rider: &mut Rider<L>, which: Which) -> u64
         ensures view { rider.new ≡ with_view (with_loaded which result rider.old.view) rider.old }
-        ensures rises { greatest_of which rider.old.view.offsets ≤ result }
+        ensures rises { greatest_of which (looked rider.old.view.touches) ≤ result }
     {
         let shared = &self.table.shared;
         let seat = &mut rider.seat;

@@ -5,7 +5,7 @@ ghost use Rattle.std.specs.List.{sum_by, AllByRecursion};
 ghost use Rattle.hl_history.specs.Lists.{IsOneList};
 ghost use Rattle.hl_words.specs.Rule.{IsRuled};
 ghost use Rattle.hl_words.specs.Seats.{IsKnown, knowing};
-ghost use Rattle.hl_words.specs.States.{IsMasterSeat, with_diaries, with_no_diaries, known_to_all};
+ghost use Rattle.hl_words.specs.States.{AreTied, IsMasterSeat, with_diaries, with_no_diaries, known_to_all};
 
 use crate::last::LastWords;
 use crate::master::Master;
@@ -54,6 +54,7 @@ impl<L: Realm> Words<L> {
         ensures rule { IfOk result
             (λ last. IsRuled self.cells last.words master.offsets (map (λ r. r.view) riders.items)) }
         ensures list { OnOk result (IsOneList scribe (map (λ r. r.calls) riders.items)) }
+        ensures tied { OnOk result (AllByRecursion (λ r. AreTied r.view.touches r.calls) riders.items) }
         ensures missing { IfErr result (λ _. length riders.items ≢ self.riders) }
         ensures back { IfErr result (λ back.
             (back.0 ≡ self) × (back.1 ≡ master) × (back.2 ≡ scribe) × (back.3 ≡ riders)) }
@@ -79,6 +80,7 @@ impl<L: Realm> Words<L> {
         ensures rule { IfOk result
             (λ last. IsRuled self.cells last.words master.offsets (map (λ r. r.view) riders.items)) }
         ensures list { OnOk result (IsOneList scribe (map (λ r. r.calls) riders.items)) }
+        ensures tied { OnOk result (AllByRecursion (λ r. AreTied r.view.touches r.calls) riders.items) }
         ensures known { OnOk result (AllByRecursion (IsKnown (map (λ r. r.view) riders.items)) pasts.items) }
         ensures missing { IfErr result (λ _. length riders.items ≢ self.riders) }
         ensures back { IfErr result (λ back.
@@ -112,6 +114,7 @@ impl<L: Realm> Words<L> {
         ensures list { IfSome scribe (λ list. IsOneList list (map (λ r. r.calls) riders.items)) }
         ensures known { IfSome pasts
             (λ all. AllByRecursion (IsKnown (map (λ r. r.view) riders.items)) all.items) }
+        ensures tied { AllByRecursion (λ r. AreTied r.view.touches r.calls) riders.items }
     {
         let Master {
             seat,
@@ -157,6 +160,7 @@ impl<L: Realm> Words<L> {
             ≡ ended.old.share.amount + sum_by (λ r. r.share) riders.items }
         ensures diaries { ended.new.diaries
             ≡ with_diaries (map (λ r. r.calls) riders.items) ended.old.diaries }
+        ensures tied { AllByRecursion (λ r. AreTied r.view.touches r.calls) riders.items }
     {
         while let Some(rider) = riders.pop() {
             let Rider {

@@ -1,6 +1,6 @@
 use Rattle.std.proofs.Common.{rules, length, sym, ap, ◌∙◌, arith}
 use Rattle.hl_words.proofs.Steps.{deals}
-use Rattle.hl_words.proofs.Dealing.{next_seat, is_rider, next_diaries, more_riders, new_long}
+use Rattle.hl_words.proofs.Dealing.{next_seat, is_rider, given_tied, next_diaries, more_riders, new_long}
 use Rattle.hl_words.proofs.words.Words.open_with_scribe.Goals as goal
 
 pub split_seat-seat-requires : goal.split_seat-seat-requires
@@ -40,4 +40,7 @@ invariant_of-push_reserved g c =
     let i = c.loop-dealt.invariant in
     let e = c.split_seat-seat.ensures in
     let n = c.seed.inside.room.riders in
-    (is_rider n c.loop-dealt._dealt c.loop-dealt-test.true c.loop-dealt.seat.me i.2 c.split_seat-seat.result.me e.4, e.3 ∙ i.0, c.split_off-share.ensures.parts, c.split_off-share.ensures.amount)
+    let k = c.loop-dealt._dealt in
+    let me = c.loop-dealt.seat.me in
+    let next = next_diaries n k c.loop-dealt-test.true c.loop-dealt.diaries c.deal-diary.new.gathered c.deal-diary.result i.5 c.deal-diary.ensures in
+    (is_rider n k c.loop-dealt-test.true me i.2 c.split_seat-seat.result.me e.4, e.3 ∙ i.0, c.split_off-share.ensures.parts, c.split_off-share.ensures.amount, given_tied n k c.loop-dealt-test.true me i.2 c.split_seat-seat.result.me e.4 c.deal-diary.result next.0)
