@@ -24,7 +24,7 @@ use Rattle.hl_keeper.proofs.StampLaws.{acquires_in-nil, acquires_in-stay, slot_s
 module _ {F : Type 0} where
   -- a keeper that was just opened
   pub opened : (core : State (KeptRecord F)) (journal : JournalState) (limit : ℕ) (stamps : List ℕ) (stamp : ℕ) (master : MasterState) (sizes : Sizes) → Stands job_tag core [] → core.sizes ≡ sizes → journal ≡ record { base = base_of sizes []; cut = 0; steps = []; limit = limit } → stamps ≡ replicate sizes.slots 0 → stamp ≤ steps_most → master ≡ record { offsets = no_offsets; total = 0 }
-      → KeeperStands {F = F} (record { core = core; base = journal.base; cut = journal.cut; journal = journal.steps; limit = journal.limit; stamps = stamps; stamp = stamp; acquired = 0; offsets = master.offsets; total = master.total }) []
+      → KeeperStands {F = F} (record { core = core; base = journal.base; cut = journal.cut; journal = journal.steps; limit = journal.limit; stamps = stamps; stamp = stamp; acquired = 0; offsets = master.offsets; total = master.total; called = master.called }) []
   opened core journal limit stamps stamp master sizes st same j s most m = record {
     core_stands = st;
     steps_cut = [];
@@ -48,7 +48,7 @@ module _ {F : Type 0} where
 
   -- a keeper that was cut: its base is that of the whole list, and its journal is empty
   pub was_cut : (k : KeeperState F) (A : List Step) (journal : JournalState) → KeeperStands k A → journal.base ≡ base_of k.core.sizes A → journal.cut ≡ k.cut + length k.journal → journal.steps ≡ []
-      → KeeperStands {F = F} (record { core = k.core; base = journal.base; cut = journal.cut; journal = journal.steps; limit = journal.limit; stamps = k.stamps; stamp = k.stamp; acquired = k.acquired; offsets = k.offsets; total = k.total }) A
+      → KeeperStands {F = F} (record { core = k.core; base = journal.base; cut = journal.cut; journal = journal.steps; limit = journal.limit; stamps = k.stamps; stamp = k.stamp; acquired = k.acquired; offsets = k.offsets; total = k.total; called = k.called }) A
   was_cut k A journal st b m j = record {
     core_stands = st.core_stands;
     steps_cut = A;
@@ -71,8 +71,8 @@ module _ {F : Type 0} where
   room-none keeper n h = full-none (journal_of keeper) n h
 
   -- a keeper whose core has gone on, with other stamps, offset words and counts
-  abbrev pub moved : KeeperState F → State (KeptRecord F) → JournalState → List ℕ → ℕ → OffsetWords → ℕ → KeeperState F
-  moved old core journal stamps acquired offsets total = record { core = core; base = journal.base; cut = journal.cut; journal = journal.steps; limit = journal.limit; stamps = stamps; stamp = old.stamp; acquired = acquired; offsets = offsets; total = total }
+  abbrev pub moved : KeeperState F → State (KeptRecord F) → JournalState → List ℕ → ℕ → OffsetWords → ℕ → ℕ → KeeperState F
+  moved old core journal stamps acquired offsets total called = record { core = core; base = journal.base; cut = journal.cut; journal = journal.steps; limit = journal.limit; stamps = stamps; stamp = old.stamp; acquired = acquired; offsets = offsets; total = total; called = called }
 
   -- the count of acquires and the stamps are those of a list
   pub record Stamped (keeper : KeeperState F) (list : List Step) (stamps : List ℕ) (acquired : ℕ) : Type 0 where
@@ -87,14 +87,14 @@ module _ {F : Type 0} where
   }
 
   -- it stands where its core does
-  pub grown : (old : KeeperState F) (A xs : List Step) (core : State (KeptRecord F)) (journal : JournalState) (stamps : List ℕ) (acquired : ℕ) (offsets : OffsetWords) (total : ℕ) → KeeperStands old A → room_fault old (length xs) ≡ None
+  pub grown : (old : KeeperState F) (A xs : List Step) (core : State (KeptRecord F)) (journal : JournalState) (stamps : List ℕ) (acquired : ℕ) (offsets : OffsetWords) (total called : ℕ) → KeeperStands old A → room_fault old (length xs) ≡ None
       → Stands job_tag core (A ++ xs) → core.sizes ≡ old.core.sizes → journal ≡ with_steps xs (journal_of old) → Stamped old (A ++ xs) stamps acquired
       → offsets ≡ stores_of (A ++ xs) → newest offsets.read_only ≡ read_only (A ++ xs) → newest offsets.head ≡ head (A ++ xs) → total ≡ old.total + length xs
-      → KeeperStands (moved old core journal stamps acquired offsets total) (A ++ xs)
-  grown old A xs core journal stamps acquired offsets total st room core_st same j stamped s r h t =
+      → KeeperStands (moved old core journal stamps acquired offsets total called) (A ++ xs)
+  grown old A xs core journal stamps acquired offsets total called st room core_st same j stamped s r h t =
       let most = room-none old (length xs) room in
       let len : length (old.journal ++ xs) ≡ length old.journal + length xs = length-append old.journal xs in
-      subst (λ (z : JournalState). KeeperStands (moved old core z stamps acquired offsets total) (A ++ xs)) (sym j) (record {
+      subst (λ (z : JournalState). KeeperStands (moved old core z stamps acquired offsets total called) (A ++ xs)) (sym j) (record {
         core_stands = core_st;
         steps_cut = st.steps_cut;
         history = ap (λ z. z ++ xs) st.history ∙ append_assoc st.steps_cut old.journal xs;

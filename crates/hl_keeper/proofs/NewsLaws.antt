@@ -5,7 +5,7 @@ use Rattle.std.proofs.lemmas.Bool.{le-leb, lt-leb, lt-ltb, le-ltb}
 use Rattle.hl_model.specs.declared.view.View.{View}
 use Rattle.hl_words.specs.declared.which.Which.TheVariants.{ReadOnly, Head, Ended}
 use Rattle.hl_words.specs.States.{RiderState, with_view}
-use Rattle.hl_words.specs.Views.{newest, with_loaded}
+use Rattle.hl_words.specs.Views.{newest, looked, with_loaded}
 use Rattle.hl_keeper.specs.Passes.{PassRecord, seen, is_current, with_news}
 use Rattle.hl_keeper.proofs.PassLaws.{loaded_both}
 
@@ -64,12 +64,12 @@ loaded_all_three r h e before first second third a b c =
 
 -- the pass after these loads
 pub news_is : (p : PassRecord) (r h e : ℕ) (rider : RiderState) → rider ≡ with_view (with_loaded Ended e (with_loaded Head h (with_loaded ReadOnly r p.rider.view))) p.rider
-    → ◌≡◌ {A = PassRecord} (record { slot = p.slot; stamp = p.stamp; epoch = p.epoch; held = p.held; touches = p.touches; rider = rider }) (with_news (newest rider.view.offsets.read_only) (newest rider.view.offsets.head) (newest rider.view.offsets.ended) p)
+    → ◌≡◌ {A = PassRecord} (record { slot = p.slot; stamp = p.stamp; epoch = p.epoch; held = p.held; touches = p.touches; rider = rider }) (with_news (newest (looked rider.view.touches).read_only) (newest (looked rider.view.touches).head) (newest (looked rider.view.touches).ended) p)
 unfolding with_news
 news_is p r h e rider is = rw is refl
 
 -- whether all is known asks the pass, and not its rider
 pub current_rider : (p : PassRecord) (r h e : ℕ) (rider last : RiderState) → last ≡ with_view (with_loaded Ended e (with_loaded Head h (with_loaded ReadOnly r p.rider.view))) p.rider
-    → is_current r h e (record { slot = p.slot; stamp = p.stamp; epoch = p.epoch; held = p.held; touches = p.touches; rider = rider }) ≡ is_current (newest last.view.offsets.read_only) (newest last.view.offsets.head) (newest last.view.offsets.ended) p
+    → is_current r h e (record { slot = p.slot; stamp = p.stamp; epoch = p.epoch; held = p.held; touches = p.touches; rider = rider }) ≡ is_current (newest (looked last.view.touches).read_only) (newest (looked last.view.touches).head) (newest (looked last.view.touches).ended) p
 unfolding is_current
 current_rider p r h e rider last is = rw is refl

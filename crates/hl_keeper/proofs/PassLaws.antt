@@ -11,7 +11,7 @@ use Rattle.hl_model.specs.Replies.{or_fault, unless_fault, unless_refused}
 use Rattle.hl_laws.proofs.NoFaultLaws.{or_fault-none, later_fault}
 use Rattle.hl_words.specs.declared.which.Which.TheVariants.{ReadOnly, Head}
 use Rattle.hl_words.specs.States.{RiderState, with_view}
-use Rattle.hl_words.specs.Views.{newest, greatest_of, stored, changed, loaded, with_loaded}
+use Rattle.hl_words.specs.Views.{newest, looked, greatest_of, stored, changed, loaded, with_loaded}
 use Rattle.hl_keeper.specs.Touches.{view_past, view_after, IsTouch, AreTouches}
 use Rattle.hl_keeper.specs.Passes.{PassRecord, seen, touches_most, touch_fault, tail_fault, store_fault, load_fault, cell_at, with_store, with_change, with_load, look_made, with_look, LooksOn}
 use Rattle.hl_keeper.proofs.TouchLaws.{touches_more}
@@ -142,18 +142,18 @@ loaded_both r h before first second a b = b ∙ ap (λ (q : RiderState). with_vi
 
 -- and neither is below any that it had loaded
 pub looks_on : (r h : ℕ) (old new : PassRecord) (first second : RiderState) → first ≡ with_view (with_loaded ReadOnly r old.rider.view) old.rider → second ≡ with_view (with_loaded Head h first.view) first → new.rider ≡ second
-    → greatest_of ReadOnly old.rider.view.offsets ≤ r → greatest_of Head first.view.offsets ≤ h → LooksOn old new
+    → greatest_of ReadOnly (looked old.rider.view.touches) ≤ r → greatest_of Head (looked first.view.touches) ≤ h → LooksOn old new
 looks_on r h old new first second a b c low high =
     let both : new.rider ≡ with_view (with_loaded Head h (with_loaded ReadOnly r old.rider.view)) old.rider = c ∙ loaded_both r h old.rider first second a b in record {
-      read_only = omega (arith, low, ap (λ (q : RiderState). newest q.view.offsets.read_only) both);
-      head = omega (arith, high, ap (λ (q : RiderState). greatest_of Head q.view.offsets) a, ap (λ (q : RiderState). newest q.view.offsets.head) both);
+      read_only = omega (arith, low, ap (λ (q : RiderState). newest (looked q.view.touches).read_only) both);
+      head = omega (arith, high, ap (λ (q : RiderState). greatest_of Head (looked q.view.touches)) a, ap (λ (q : RiderState). newest (looked q.view.touches).head) both);
     }
 
 -- the pass after a look
 pub look_is : (p : PassRecord) (r h : ℕ) (rider : RiderState) (xs : List Step) → touch_fault p ≡ None → rider ≡ with_view (with_loaded Head h (with_loaded ReadOnly r p.rider.view)) p.rider → xs ≡ p.touches ++ look_made p.slot (seen p) r h
-    → ◌≡◌ {A = PassRecord} (record { slot = p.slot; stamp = p.stamp; epoch = p.epoch; held = p.held; touches = xs; rider = rider }) (unless_refused (touch_fault p) p (with_look (newest rider.view.offsets.read_only) (newest rider.view.offsets.head) p))
+    → ◌≡◌ {A = PassRecord} (record { slot = p.slot; stamp = p.stamp; epoch = p.epoch; held = p.held; touches = xs; rider = rider }) (unless_refused (touch_fault p) p (with_look (newest (looked rider.view.touches).read_only) (newest (looked rider.view.touches).head) p))
 unfolding with_look
 look_is p r h rider xs none e t =
-    let last : with_look (newest rider.view.offsets.read_only) (newest rider.view.offsets.head) p ≡ with_look r h p =
-    ap (λ (q : RiderState). with_look (newest q.view.offsets.read_only) (newest q.view.offsets.head) p) e in
-    ap₂ (λ (z : List Step) (q : RiderState). pass_with p z q) t e ∙ sym (ap (λ o. unless_refused o p (with_look (newest rider.view.offsets.read_only) (newest rider.view.offsets.head) p)) none ∙ last)
+    let last : with_look (newest (looked rider.view.touches).read_only) (newest (looked rider.view.touches).head) p ≡ with_look r h p =
+    ap (λ (q : RiderState). with_look (newest (looked q.view.touches).read_only) (newest (looked q.view.touches).head) p) e in
+    ap₂ (λ (z : List Step) (q : RiderState). pass_with p z q) t e ∙ sym (ap (λ o. unless_refused o p (with_look (newest (looked rider.view.touches).read_only) (newest (looked rider.view.touches).head) p)) none ∙ last)

@@ -72,12 +72,12 @@ module _ {F : Type 0} where
       (step_fits keeper A s u room ∙ unless_err (fault_of keeper.core.sizes A s) f (answer_of keeper.core.sizes A (A ++ s ∷ []) s) stepped.reply)
 
   -- a keeper that accepted one step
-  pub core_made : {X : Type 0} (keeper : KeeperState F) (A : List Step) (s : Step) (u : Unit {0}) (core : State (KeptRecord F)) (r : Reply) (v x : X) (journal : JournalState) (stamps : List ℕ) (acquired : ℕ) (offsets : OffsetWords) (total : ℕ)
+  pub core_made : {X : Type 0} (keeper : KeeperState F) (A : List Step) (s : Step) (u : Unit {0}) (core : State (KeptRecord F)) (r : Reply) (v x : X) (journal : JournalState) (stamps : List ℕ) (acquired : ℕ) (offsets : OffsetWords) (total called : ℕ)
       → KeeperStands keeper A → Ok u ≡ unless_fault (room_fault keeper 1) (tt {0}) → Stepped job_tag keeper.core A s core (Ok r) → v ≡ x → journal ≡ with_steps (s ∷ []) (journal_of keeper) → Stamped keeper (A ++ s ∷ []) stamps acquired → Follow A s offsets → total ≡ keeper.total + 1
-      → Replied (step_fault keeper A s) x (made (step_fault keeper A s) A s) (moved keeper core journal stamps acquired offsets total) (Ok v)
-  core_made keeper A s u core r v x journal stamps acquired offsets total st room stepped e j stamped follow t = record {
+      → Replied (step_fault keeper A s) x (made (step_fault keeper A s) A s) (moved keeper core journal stamps acquired offsets total called) (Ok v)
+  core_made keeper A s u core r v x journal stamps acquired offsets total called st room stepped e j stamped follow t = record {
     reply = ap (λ z. Ok z) e ∙ sym (ap (λ z. unless_fault z x) none);
-    standing = subst (λ (z : List Step). KeeperStands (moved keeper core journal stamps acquired offsets total) z) (sym (ap (λ z. cond (is_none z) (A ++ s ∷ []) A) none)) stands;
+    standing = subst (λ (z : List Step). KeeperStands (moved keeper core journal stamps acquired offsets total called) z) (sym (ap (λ z. cond (is_none z) (A ++ s ∷ []) A) none)) stands;
   }
     where
       on : (fault_of keeper.core.sizes A s ≡ None) × (r ≡ answer_of keeper.core.sizes A (A ++ s ∷ []) s) × Stands job_tag core (A ++ s ∷ [])
@@ -86,8 +86,8 @@ module _ {F : Type 0} where
       none : step_fault keeper A s ≡ None
       none = step_fits keeper A s u room ∙ on.0
 
-      stands : KeeperStands (moved keeper core journal stamps acquired offsets total) (A ++ s ∷ [])
-      stands = grown keeper A (s ∷ []) core journal stamps acquired offsets total st (unless_ok (room_fault keeper 1) u (tt {0}) room).0 on.2 stepped.sizes j stamped follow.stores_are follow.read_only_is follow.head_is t
+      stands : KeeperStands (moved keeper core journal stamps acquired offsets total called) (A ++ s ∷ [])
+      stands = grown keeper A (s ∷ []) core journal stamps acquired offsets total called st (unless_ok (room_fault keeper 1) u (tt {0}) room).0 on.2 stepped.sizes j stamped follow.stores_are follow.read_only_is follow.head_is t
 
   -- what was answered
   pub core_told : (keeper : KeeperState F) (A : List Step) (s : Step) (core : State (KeptRecord F)) (r : Reply) → Stepped job_tag keeper.core A s core (Ok r) → (fault_of keeper.core.sizes A s ≡ None) × (r ≡ answer_of keeper.core.sizes A (A ++ s ∷ []) s)

@@ -173,8 +173,8 @@ module _ {F : Type 0} where
 
   -- the keeper then stands at the list with the touches and the step
   pub called_made : (keeper : KeeperState F) (p : PassRecord) (s : Step) (mid new : State (KeptRecord F)) (r : Reply) (count : ℕ) (before journal : JournalState) (master : MasterState) → HasEntered keeper p s mid → ((A : List Step) → Stands job_tag mid A → Stepped job_tag mid A s new (Ok r)) → new.sizes ≡ mid.sizes
-      → count ≡ length p.touches → before ≡ with_steps p.touches (journal_of keeper) → journal ≡ with_steps (s ∷ []) before → master ≡ record { offsets = keeper.offsets; total = keeper.total + (count + 1) }
-      → (A : List Step) → KeeperStands keeper A → Called keeper A p s (moved keeper new journal keeper.stamps keeper.acquired master.offsets master.total) (Ok r)
+      → count ≡ length p.touches → before ≡ with_steps p.touches (journal_of keeper) → journal ≡ with_steps (s ∷ []) before → master ≡ record { offsets = keeper.offsets; total = keeper.total + (count + 1); called = keeper.called }
+      → (A : List Step) → KeeperStands keeper A → Called keeper A p s (moved keeper new journal keeper.stamps keeper.acquired master.offsets master.total master.called) (Ok r)
   called_made keeper p s mid new r count before journal master at made same n b j m A st = record { reply = told; standing = stands }
     where
       on : (fault_of mid.sizes (A ++ p.touches) s ≡ None) × (r ≡ answer_of mid.sizes (A ++ p.touches) ((A ++ p.touches) ++ s ∷ []) s) × Stands job_tag new ((A ++ p.touches) ++ s ∷ [])
@@ -207,8 +207,8 @@ module _ {F : Type 0} where
       len : length (p.touches ++ s ∷ []) ≡ length p.touches + 1
       len = length_push p.touches s
 
-      all : KeeperStands (moved keeper new journal keeper.stamps keeper.acquired master.offsets master.total) (A ++ (p.touches ++ s ∷ []))
-      all = grown keeper A (p.touches ++ s ∷ []) new journal keeper.stamps keeper.acquired master.offsets master.total st
+      all : KeeperStands (moved keeper new journal keeper.stamps keeper.acquired master.offsets master.total master.called) (A ++ (p.touches ++ s ∷ []))
+      all = grown keeper A (p.touches ++ s ∷ []) new journal keeper.stamps keeper.acquired master.offsets master.total master.called st
           (ap (λ z. room_fault keeper z) len ∙ at.may.room)
           (subst (λ (z : List Step). Stands job_tag new z) whole on.2)
           (same ∙ at.sizes)
@@ -219,5 +219,5 @@ module _ {F : Type 0} where
           (ap (λ (z : MasterState). newest z.offsets.head) m ∙ st.head_is ∙ sym still.1 ∙ sym (head-stay (A ++ p.touches) s quiet.1) ∙ ap head whole)
           (omega (arith, ap (λ (z : MasterState). z.total) m, n, len))
 
-      stands : KeeperStands (moved keeper new journal keeper.stamps keeper.acquired master.offsets master.total) (entered (touched_fault keeper A p s) A p.touches s)
-      stands = subst (λ (z : List Step). KeeperStands (moved keeper new journal keeper.stamps keeper.acquired master.offsets master.total) z) (sym whole ∙ sym (ap (λ o. cond (is_none o) ((A ++ p.touches) ++ s ∷ []) A) none)) all
+      stands : KeeperStands (moved keeper new journal keeper.stamps keeper.acquired master.offsets master.total master.called) (entered (touched_fault keeper A p s) A p.touches s)
+      stands = subst (λ (z : List Step). KeeperStands (moved keeper new journal keeper.stamps keeper.acquired master.offsets master.total master.called) z) (sym whole ∙ sym (ap (λ o. cond (is_none o) ((A ++ p.touches) ++ s ∷ []) A) none)) all

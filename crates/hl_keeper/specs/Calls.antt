@@ -116,13 +116,14 @@ module _ {F : Type 0} where
         (answer_of old.core.sizes (A ++ p.touches) ((A ++ p.touches) ++ s ∷ []) s)
     pub standing : KeeperStands new (entered (touched_fault old A p s) A p.touches s)
 
-  -- what no call changes: the sizes, how many steps the keeper may keep, its stamp, and what was cut
+  -- what no call changes: the sizes, how many steps the keeper may keep, its stamp, what was cut, and what was noted
   pub record Stays (old new : KeeperState F) : Type 0 where
     pub sizes : new.core.sizes ≡ old.core.sizes
     pub limit : new.limit ≡ old.limit
     pub stamp : new.stamp ≡ old.stamp
     pub base : new.base ≡ old.base
     pub cut : new.cut ≡ old.cut
+    pub called : new.called ≡ old.called
 
   -- what a call keeps by which no job goes in or comes out: what no call changes, and the pending actions;
   -- where it is refused, all

@@ -17,7 +17,7 @@ job_tag kept = kept.tag
 
 -- what a keeper keeps: a core; the base of the steps that were cut, and how many these are; the steps since,
 -- and how many it may keep; each slot's stamp, the domain's own, and how many acquires were accepted; the
--- master's stores of its words, and how many steps riders entered in all
+-- master's stores of its words, how many steps riders entered in all, and how many of them calls that were noted
 pub record KeeperState (F : Type 0) : Type 0 where
   pub core : State (KeptRecord F)
   pub base : Base
@@ -29,6 +29,23 @@ pub record KeeperState (F : Type 0) : Type 0 where
   pub acquired : ℕ
   pub offsets : OffsetWords
   pub total : ℕ
+  pub called : ℕ
+
+-- the keeper once all calls were noted
+abbrev pub all_noted : {F : Type 0} → KeeperState F → KeeperState F
+all_noted k = record {
+  core = k.core;
+  base = k.base;
+  cut = k.cut;
+  journal = k.journal;
+  limit = k.limit;
+  stamps = k.stamps;
+  stamp = k.stamp;
+  acquired = k.acquired;
+  offsets = k.offsets;
+  total = k.total;
+  called = k.total;
+}
 
 -- how many steps a keeper counts in all, and the greatest stamp of a domain
 abbrev pub steps_most : ℕ

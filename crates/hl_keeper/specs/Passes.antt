@@ -10,7 +10,7 @@ use Rattle.hl_model.specs.Sizes.{Sizes}
 use Rattle.hl_model.specs.Replies.{or_fault}
 use Rattle.hl_words.specs.declared.which.Which.TheVariants.{ReadOnly, Head, Ended}
 use Rattle.hl_words.specs.States.{RiderState, with_view}
-use Rattle.hl_words.specs.Views.{offset_of, greatest_of, stored, changed, loaded, with_loaded}
+use Rattle.hl_words.specs.Views.{offset_of, looked, greatest_of, stored, changed, loaded, with_loaded}
 use Rattle.hl_keeper.specs.Touches.{view_after}
 
 -- a pass: its slot and stamp, the epoch that its slot has, the view at its last locked call, its looks and
@@ -109,14 +109,14 @@ with_look read_only head p = record {
 
 -- the last offsets that its rider loaded
 abbrev pub last_read_only : PassRecord → ℕ
-last_read_only p = offset_of ReadOnly p.rider.view.offsets
+last_read_only p = offset_of ReadOnly (looked p.rider.view.touches)
 
 abbrev pub last_head : PassRecord → ℕ
-last_head p = offset_of Head p.rider.view.offsets
+last_head p = offset_of Head (looked p.rider.view.touches)
 
 -- and the last epoch that ended, of those that it loaded
 abbrev pub last_ended : PassRecord → ℕ
-last_ended p = offset_of Ended p.rider.view.offsets
+last_ended p = offset_of Ended (looked p.rider.view.touches)
 
 -- the pass after it loaded the offsets and the last epoch that ended, for its rider alone
 unfoldable pub with_news : ℕ → ℕ → ℕ → PassRecord → PassRecord
@@ -139,8 +139,8 @@ is_current read_only head ended p =
 
 -- the pass loaded both offsets anew, neither below any that its rider had loaded
 pub record LooksOn (old new : PassRecord) : Type 0 where
-  pub read_only : greatest_of ReadOnly old.rider.view.offsets ≤ last_read_only new
-  pub head : greatest_of Head old.rider.view.offsets ≤ last_head new
+  pub read_only : greatest_of ReadOnly (looked old.rider.view.touches) ≤ last_read_only new
+  pub head : greatest_of Head (looked old.rider.view.touches) ≤ last_head new
 
 -- a rider that entered n steps more
 abbrev pub with_share : ℕ → RiderState → RiderState

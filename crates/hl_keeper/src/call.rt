@@ -166,7 +166,8 @@ pub(crate) fn note<L: Realm>(
     requires room { full_fault journal.old 1 ≡ None }
     requires count { master.old.total + 1 ≤ steps_most }
     ensures journal { journal.new ≡ with_steps (step ∷ []) journal.old }
-    ensures master { master.new ≡ record { offsets = master.old.offsets; total = master.old.total + 1 } }
+    ensures master { let old = master.old
+        in master.new ≡ record { offsets = old.offsets; total = old.total + 1; called = old.called } }
     ensures rider { rider.new ≡ with_share 1 rider.old }
 {
     journal.note(step);

@@ -23,7 +23,7 @@ impl<E: Epochs + Drop, F: Task, P: Promise, L: Realm> Keeper<E, F, P, L> {
         ensures core { self.new.core ≡ self.old.core }
         ensures limit { self.new.limit ≡ self.old.limit }
         ensures stamp { self.new.stamp ≡ self.old.stamp }
-        ensures total { self.new.total ≡ self.old.total }
+        ensures counts { (self.new.total ≡ self.old.total) × (self.new.called ≡ self.old.called) }
         ensures stamps { SameStamps self.old self.new }
         ensures rider { _rider.new ≡ _rider.old }
     {

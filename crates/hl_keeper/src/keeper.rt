@@ -1,22 +1,14 @@
-ghost use Rattle.std.specs.Prelude.{◌≡◌, ◌≢◌, ◌*◌, ◌≤◌, List, [], length, map, IfOk, IfErr, OnOk};
-ghost use Rattle.std.specs.List.{sum_by, AllByRecursion};
+ghost use Rattle.std.specs.Prelude.{◌≡◌, ◌*◌, ◌≤◌, [], IfOk, IfErr};
 ghost use Rattle.hl_model.specs.declared.fault.Fault.TheVariants.{OutOfMemory};
-ghost use Rattle.hl_model.specs.declared.step.Step.{Step as STEP};
-ghost use Rattle.hl_model.specs.Snapshots.{snapshot_of};
-ghost use Rattle.hl_history.specs.Lists.{IsOneList};
-ghost use Rattle.hl_words.specs.Rule.{IsRuled};
-ghost use Rattle.hl_words.specs.Views.{called};
-ghost use Rattle.hl_words.specs.Seats.{IsKnown};
-ghost use Rattle.hl_words.specs.States.{IsSeedOf, new_riders, with_view};
+ghost use Rattle.hl_words.specs.States.{IsSeedOf, new_riders};
 ghost use Rattle.hl_keeper.specs.Keepers.{KeeperStands, steps_most};
 
-use crate::ending::Ending;
 use crate::journal::Journal;
 use hl_action::{Kept, Promise, Task};
 use hl_core::Core;
 use hl_epoch::Epochs;
 use hl_model::{Fault, filled};
-use hl_words::{Master, Past, Realm, Rider, Scribe, Seed, Words};
+use hl_words::{Master, Realm, Rider, Scribe, Seed, Words};
 use std::alloc::Global;
 use std::marker::Model;
 
@@ -50,6 +42,7 @@ impl<E: Epochs, F: Task, P: Promise, L: Realm> Model for Keeper<E, F, P, L> {
       acquired = k.acquired;
       offsets = k.master.offsets;
       total = k.master.total;
+      called = k.master.called;
     } };
 
     ghost invariant = { λ k. IsKept L.sizes L.stamp
@@ -64,6 +57,7 @@ impl<E: Epochs, F: Task, P: Promise, L: Realm> Model for Keeper<E, F, P, L> {
           acquired = k.acquired;
           offsets = k.master.offsets;
           total = k.master.total;
+          called = k.master.called;
         })
         (vec_capacity k.stamps) };
 }
@@ -101,6 +95,7 @@ impl<E: Epochs + Drop, F: Task, P: Promise, L: Realm> Keeper<E, F, P, L> {
         ensures sizes { IfOk result (λ opened. opened.0.core.sizes ≡ seed.sizes) }
         ensures limit { IfOk result (λ opened. opened.0.limit ≡ journal) }
         ensures stamp { IfOk result (λ opened. (opened.0.stamp ≡ stamp) × (opened.0.acquired ≡ 0)) }
+        ensures called { IfOk result (λ opened. opened.0.called ≡ 0) }
         ensures words { IfOk result (λ opened.
             opened.1 ≡ record { cells = seed.sizes.frames * seed.sizes.page_size; riders = seed.riders }) }
         ensures riders { IfOk result (λ opened. opened.2.items ≡ new_riders seed.riders) }
@@ -113,7 +108,7 @@ impl<E: Epochs + Drop, F: Task, P: Promise, L: Realm> Keeper<E, F, P, L> {
     }
 
     /// A keeper as `open` makes it, and the scribe of its words' list, whose list is empty too. If
-    /// both lie under one lock, and each call's steps are entered by `Words::enter`, the scribe has
+    /// both lie under one lock, and each call is noted by `note` or `note_quiet`, the scribe has
     /// each list at which the keeper stands.
     ///
     /// `OutOfMemory` if memory was refused; then the seed is given up.
@@ -131,6 +126,7 @@ impl<E: Epochs + Drop, F: Task, P: Promise, L: Realm> Keeper<E, F, P, L> {
         ensures sizes { IfOk result (λ opened. opened.0.core.sizes ≡ seed.sizes) }
         ensures limit { IfOk result (λ opened. opened.0.limit ≡ journal) }
         ensures stamp { IfOk result (λ opened. (opened.0.stamp ≡ stamp) × (opened.0.acquired ≡ 0)) }
+        ensures called { IfOk result (λ opened. opened.0.called ≡ 0) }
         ensures words { IfOk result (λ opened.
             opened.1 ≡ record { cells = seed.sizes.frames * seed.sizes.page_size; riders = seed.riders }) }
         ensures list { IfOk result (λ opened. opened.2 ≡ []) }
@@ -151,174 +147,5 @@ impl<E: Epochs + Drop, F: Task, P: Promise, L: Realm> Keeper<E, F, P, L> {
             master,
         };
         Ok((keeper, words, scribe, riders))
-    }
-
-    /// Notes a call of a rider among what riders do without the lock: what riders did before calls that left shorter
-    /// lists stands before what this rider does from now on, in the one order that `close` tells. To be made at each
-    /// locked call, once its steps have entered.
-    #[inline(always)]
-    pub fn mark(&mut self, words: &Words<L>, rider: &mut Rider<L>)
-        ensures same { self.new ≡ self.old }
-        ensures rider { rider.new ≡ with_view (called self.old.total rider.old.view) rider.old }
-    {
-        words.call(&mut self.master, rider);
-    }
-
-    /// Ends the keeper, and returns what is left of it. It needs all its riders: if one is missing,
-    /// all that was handed in comes back.
-    pub fn close(
-        self,
-        words: Words<L>,
-        riders: Vec<Rider<L>>,
-    ) -> Result<Ending<F, P>, (Keeper<E, F, P, L>, Words<L>, Vec<Rider<L>>)>
-        ensures kept { IfOk result (λ ending. (ending.base ≡ self.base) × (ending.cut ≡ self.cut)
-            × (ending.journal ≡ self.journal) × (ending.left ≡ self.core.drain)) }
-        ensures quantities { (A : List STEP) → KeeperStands self A
-            → IfOk result (λ ending. ending.snapshot ≡ snapshot_of self.core.sizes A) }
-        ensures sum { OnOk result (self.total ≡ sum_by (λ r. r.share) riders.items) }
-        ensures words { IfOk result (λ ending. IsRuled words.cells ending.words.words self.offsets
-            (map (λ r. r.view) riders.items)) }
-        ensures cells { IfOk result (λ ending. ending.words.cells ≡ words.cells) }
-        ensures all { OnOk result (length riders.items ≡ words.riders) }
-        ensures missing { IfErr result (λ _. length riders.items ≢ words.riders) }
-        ensures back { IfErr result (λ back. (back.0 ≡ self) × (back.1 ≡ words) × (back.2 ≡ riders)) }
-    {
-        let Keeper {
-            core,
-            journal,
-            stamps,
-            stamp,
-            acquired,
-            master,
-        } = self;
-        match words.close(master, riders) {
-            Ok(words) => Ok(Ending {
-                snapshot: core.snapshot(),
-                base: journal.base,
-                cut: journal.cut,
-                journal: journal.steps,
-                left: core.into_drain(),
-                words,
-            }),
-            Err((words, master, riders)) => {
-                let keeper = Keeper {
-                    core,
-                    journal,
-                    stamps,
-                    stamp,
-                    acquired,
-                    master,
-                };
-                Err((keeper, words, riders))
-            }
-        }
-    }
-
-    /// Ends it as `close` does. If no rider is missing, the scribe's list is also the one list of
-    /// exactly these riders' calls.
-    pub fn close_with_scribe(
-        self,
-        words: Words<L>,
-        scribe: Scribe<L>,
-        riders: Vec<Rider<L>>,
-    ) -> Result<Ending<F, P>, (Keeper<E, F, P, L>, Words<L>, Scribe<L>, Vec<Rider<L>>)>
-        ensures kept { IfOk result (λ ending. (ending.base ≡ self.base) × (ending.cut ≡ self.cut)
-            × (ending.journal ≡ self.journal) × (ending.left ≡ self.core.drain)) }
-        ensures quantities { (A : List STEP) → KeeperStands self A
-            → IfOk result (λ ending. ending.snapshot ≡ snapshot_of self.core.sizes A) }
-        ensures sum { OnOk result (self.total ≡ sum_by (λ r. r.share) riders.items) }
-        ensures words { IfOk result (λ ending. IsRuled words.cells ending.words.words self.offsets
-            (map (λ r. r.view) riders.items)) }
-        ensures cells { IfOk result (λ ending. ending.words.cells ≡ words.cells) }
-        ensures list { OnOk result (IsOneList scribe (map (λ r. r.calls) riders.items)) }
-        ensures all { OnOk result (length riders.items ≡ words.riders) }
-        ensures missing { IfErr result (λ _. length riders.items ≢ words.riders) }
-        ensures back { IfErr result (λ back.
-            (back.0 ≡ self) × (back.1 ≡ words) × (back.2 ≡ scribe) × (back.3 ≡ riders)) }
-    {
-        let Keeper {
-            core,
-            journal,
-            stamps,
-            stamp,
-            acquired,
-            master,
-        } = self;
-        match words.close_with_scribe(master, scribe, riders) {
-            Ok(words) => Ok(Ending {
-                snapshot: core.snapshot(),
-                base: journal.base,
-                cut: journal.cut,
-                journal: journal.steps,
-                left: core.into_drain(),
-                words,
-            }),
-            Err((words, master, scribe, riders)) => {
-                let keeper = Keeper {
-                    core,
-                    journal,
-                    stamps,
-                    stamp,
-                    acquired,
-                    master,
-                };
-                Err((keeper, words, scribe, riders))
-            }
-        }
-    }
-
-    /// Ends it as `close_with_scribe` does, and takes witnesses back, if no rider is missing: of each,
-    /// some rider has its name, and made the touches that it tells.
-    pub fn close_with_pasts(
-        self,
-        words: Words<L>,
-        scribe: Scribe<L>,
-        riders: Vec<Rider<L>>,
-        pasts: Vec<Past<L>>,
-    ) -> Result<Ending<F, P>, (Keeper<E, F, P, L>, Words<L>, Scribe<L>, Vec<Rider<L>>)>
-        ensures kept { IfOk result (λ ending. (ending.base ≡ self.base) × (ending.cut ≡ self.cut)
-            × (ending.journal ≡ self.journal) × (ending.left ≡ self.core.drain)) }
-        ensures quantities { (A : List STEP) → KeeperStands self A
-            → IfOk result (λ ending. ending.snapshot ≡ snapshot_of self.core.sizes A) }
-        ensures sum { OnOk result (self.total ≡ sum_by (λ r. r.share) riders.items) }
-        ensures words { IfOk result (λ ending. IsRuled words.cells ending.words.words self.offsets
-            (map (λ r. r.view) riders.items)) }
-        ensures cells { IfOk result (λ ending. ending.words.cells ≡ words.cells) }
-        ensures list { OnOk result (IsOneList scribe (map (λ r. r.calls) riders.items)) }
-        ensures known { OnOk result (AllByRecursion (IsKnown (map (λ r. r.view) riders.items)) pasts.items) }
-        ensures all { OnOk result (length riders.items ≡ words.riders) }
-        ensures missing { IfErr result (λ _. length riders.items ≢ words.riders) }
-        ensures back { IfErr result (λ back.
-            (back.0 ≡ self) × (back.1 ≡ words) × (back.2 ≡ scribe) × (back.3 ≡ riders)) }
-    {
-        let Keeper {
-            core,
-            journal,
-            stamps,
-            stamp,
-            acquired,
-            master,
-        } = self;
-        match words.close_with_pasts(master, scribe, riders, pasts) {
-            Ok(words) => Ok(Ending {
-                snapshot: core.snapshot(),
-                base: journal.base,
-                cut: journal.cut,
-                journal: journal.steps,
-                left: core.into_drain(),
-                words,
-            }),
-            Err((words, master, scribe, riders)) => {
-                let keeper = Keeper {
-                    core,
-                    journal,
-                    stamps,
-                    stamp,
-                    acquired,
-                    master,
-                };
-                Err((keeper, words, scribe, riders))
-            }
-        }
     }
 }

@@ -45,6 +45,7 @@
 
 mod actions;
 mod call;
+mod closing;
 mod cut;
 mod ending;
 mod enter;
@@ -55,6 +56,7 @@ mod lease;
 mod load;
 mod look;
 mod news;
+mod noted;
 mod offsets;
 mod pages;
 mod pass;
@@ -77,7 +79,7 @@ pub use hl_laws::Base;
 pub use hl_model::{
     Fault, FrameState, HasSizes, Params, RawSizes, Reply, Six, Sizes, Snapshot, Step, View,
 };
-pub use hl_words::{Master, Realm, Rider, Seed, Words};
+pub use hl_words::{Master, Past, Realm, Rider, Seed, Words};
 pub use keeper::Keeper;
 pub use lease::Lease;
 pub use load::{Broom, Load, PageJob};

@@ -1,7 +1,7 @@
 //! Whether anything is new to a pass, by three loads and no lock.
 ghost use Rattle.std.specs.Prelude.{◌≡◌, ◌≤◌};
 ghost use Rattle.hl_words.specs.declared.which.Which.TheVariants.{Ended};
-ghost use Rattle.hl_words.specs.Views.{greatest_of};
+ghost use Rattle.hl_words.specs.Views.{greatest_of, looked};
 ghost use Rattle.hl_keeper.specs.Passes.{is_current, with_news, last_read_only, last_head, last_ended, LooksOn};
 
 use crate::pass::Pass;
@@ -19,7 +19,7 @@ pub fn keeps_up<L: Realm>(words: &Words<L>, pass: &mut Pass<L>) -> bool
     ensures pass { let new = pass.new
         in new ≡ with_news (last_read_only new) (last_head new) (last_ended new) pass.old }
     ensures rises { LooksOn pass.old pass.new }
-    ensures ended { greatest_of Ended pass.old.rider.view.offsets ≤ last_ended pass.new }
+    ensures ended { greatest_of Ended (looked pass.old.rider.view.touches) ≤ last_ended pass.new }
 {
     let read_only = words.load_offset(&mut pass.rider, Which::ReadOnly);
     let head = words.load_offset(&mut pass.rider, Which::Head);

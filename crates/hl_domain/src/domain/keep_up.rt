@@ -1,7 +1,7 @@
 //! A refresh that takes the lock only if anything is new.
 ghost use Rattle.std.specs.Prelude.{◌≡◌, ◌≤◌, Ok, true, false};
 ghost use Rattle.hl_words.specs.declared.which.Which.TheVariants.{Ended};
-ghost use Rattle.hl_words.specs.Views.{greatest_of};
+ghost use Rattle.hl_words.specs.Views.{greatest_of, looked};
 ghost use Rattle.hl_keeper.specs.Passes.{seen, last_ended, LooksOn};
 ghost use Rattle.hl_domain.specs.Domains.{after_news, stays_current, Refreshed};
 
@@ -27,7 +27,7 @@ impl<E: Epochs + Drop, F: Task, P: Promise, L: Realm> Domain<E, F, P, L> {
         ensures refreshed { stays_current pass.old pass.new ≡ false
             → Refreshed F self.now (after_news pass.old pass.new) pass.new result }
         ensures rises { LooksOn pass.old pass.new }
-        ensures ended { greatest_of Ended pass.old.rider.view.offsets ≤ last_ended pass.new }
+        ensures ended { greatest_of Ended (looked pass.old.rider.view.touches) ≤ last_ended pass.new }
     {
         if unlocked::keeps_up(&self.words, pass) {
             return Ok(pass.view());

@@ -41,13 +41,15 @@ impl<L: Realm> Words<L> {
     }
 
     /// Ends the words as `close` does. Besides, if no rider is missing, the scribe's list is the one list of exactly
-    /// these riders' calls.
+    /// these riders' calls, which also stand among their touches, and of each past that was kept some rider has its name
+    /// and made the touches that it tells.
     pub fn close_with_scribe(
         self,
         master: Master<L>,
         scribe: Scribe<L>,
         riders: Vec<Rider<L>>,
-    ) -> Result<LastWords, (Words<L>, Master<L>, Scribe<L>, Vec<Rider<L>>)>
+        pasts: Option<Vec<Past<L>>>,
+    ) -> Result<LastWords, (Words<L>, Master<L>, Scribe<L>, Vec<Rider<L>>, Option<Vec<Past<L>>>)>
         ensures all { OnOk result (length riders.items ≡ self.riders) }
         ensures total { OnOk result (master.total ≡ sum_by (λ r. r.share) riders.items) }
         ensures cells { IfOk result (λ last. last.cells ≡ self.cells) }
@@ -55,41 +57,16 @@ impl<L: Realm> Words<L> {
             (λ last. IsRuled self.cells last.words master.offsets (map (λ r. r.view) riders.items)) }
         ensures list { OnOk result (IsOneList scribe (map (λ r. r.calls) riders.items)) }
         ensures tied { OnOk result (AllByRecursion (λ r. AreTied r.view.touches r.calls) riders.items) }
+        ensures known { OnOk result (IfSome pasts
+            (λ all. AllByRecursion (IsKnown (map (λ r. r.view) riders.items)) all.items)) }
         ensures missing { IfErr result (λ _. length riders.items ≢ self.riders) }
-        ensures back { IfErr result (λ back.
-            (back.0 ≡ self) × (back.1 ≡ master) × (back.2 ≡ scribe) × (back.3 ≡ riders)) }
+        ensures back { IfErr result (λ back. (back.0 ≡ self) × (back.1 ≡ master)
+            × (back.2 ≡ scribe) × (back.3 ≡ riders) × (back.4 ≡ pasts)) }
     {
         if !self.has_all(riders.as_slice()) {
-            return Err((self, master, scribe, riders));
+            return Err((self, master, scribe, riders, pasts));
         }
-        Ok(self.end(master, Some(scribe), riders, None))
-    }
-
-    /// Ends the words as `close_with_scribe` does, and takes pasts back, if no rider is missing: of each, some rider has its
-    /// name, and made the touches that it tells.
-    pub fn close_with_pasts(
-        self,
-        master: Master<L>,
-        scribe: Scribe<L>,
-        riders: Vec<Rider<L>>,
-        pasts: Vec<Past<L>>,
-    ) -> Result<LastWords, (Words<L>, Master<L>, Scribe<L>, Vec<Rider<L>>)>
-        ensures all { OnOk result (length riders.items ≡ self.riders) }
-        ensures total { OnOk result (master.total ≡ sum_by (λ r. r.share) riders.items) }
-        ensures cells { IfOk result (λ last. last.cells ≡ self.cells) }
-        ensures rule { IfOk result
-            (λ last. IsRuled self.cells last.words master.offsets (map (λ r. r.view) riders.items)) }
-        ensures list { OnOk result (IsOneList scribe (map (λ r. r.calls) riders.items)) }
-        ensures tied { OnOk result (AllByRecursion (λ r. AreTied r.view.touches r.calls) riders.items) }
-        ensures known { OnOk result (AllByRecursion (IsKnown (map (λ r. r.view) riders.items)) pasts.items) }
-        ensures missing { IfErr result (λ _. length riders.items ≢ self.riders) }
-        ensures back { IfErr result (λ back.
-            (back.0 ≡ self) × (back.1 ≡ master) × (back.2 ≡ scribe) × (back.3 ≡ riders)) }
-    {
-        if !self.has_all(riders.as_slice()) {
-            return Err((self, master, scribe, riders));
-        }
-        Ok(self.end(master, Some(scribe), riders, Some(pasts)))
+        Ok(self.end(master, Some(scribe), riders, pasts))
     }
 
     // Whether these riders are as many as were dealt out.

@@ -3,7 +3,7 @@ use Rattle.std.specs.Prelude.{None, Ok}
 use Rattle.hl_model.specs.Replies.{unless_refused}
 use Rattle.hl_laws.proofs.NoFaultLaws.{unless_ok}
 use Rattle.hl_keeper.specs.Passes.{PassRecord, touch_fault, with_look}
-use Rattle.hl_words.specs.Views.{newest}
+use Rattle.hl_words.specs.Views.{newest, looked}
 use Rattle.hl_keeper.proofs.PassLaws.{look_is, look_touches, look_made-some, look_made-none, loaded_both, looks_on}
 use Rattle.hl_keeper.proofs.look.look.Goals.{After-rises, After-push}
 use Rattle.hl_keeper.proofs.look.look.Goals as goal
@@ -17,7 +17,7 @@ returns-then-not-rises-clause-pass g c =
     let fine : touch_fault p ≡ None = ap touch_fault c.pass.view_is ∙ (unless_ok (touch_fault c.args.pass.now) c.in_ok-may_touch.field-0 (tt {0}) c.in_ok-may_touch.ensures.answer).0 in
     look_is p r h c.load_offset-head.new.rider i.touches fine (loaded_both r h i.rider c.load_offset-read_only.new.rider c.load_offset-head.new.rider c.load_offset-read_only.ensures.view c.load_offset-head.ensures.view)
     (look_made-none p i.view r h c.rises.result c.pass.invariant.0 c.rises.ensures c.if-not-rises.true)
-    ∙ ap (λ (q : PassRecord). unless_refused (touch_fault q) q (with_look (newest c.load_offset-head.new.rider.view.offsets.read_only) (newest c.load_offset-head.new.rider.view.offsets.head) q)) c.pass.view_is
+    ∙ ap (λ (q : PassRecord). unless_refused (touch_fault q) q (with_look (newest (looked c.load_offset-head.new.rider.view.touches).read_only) (newest (looked c.load_offset-head.new.rider.view.touches).head) q)) c.pass.view_is
 
 pub invariant_of-pass-2 : goal.invariant_of-pass-2
 invariant_of-pass-2 g c =
@@ -42,7 +42,7 @@ returns-clause-pass g c =
     let fine : touch_fault p ≡ None = ap touch_fault c.pass.view_is ∙ (unless_ok (touch_fault c.args.pass.now) c.in_ok-may_touch.field-0 (tt {0}) c.in_ok-may_touch.ensures.answer).0 in
     look_is p r h c.load_offset-head.new.rider c.push.new.self fine (loaded_both r h i.rider c.load_offset-read_only.new.rider c.load_offset-head.new.rider c.load_offset-read_only.ensures.view c.load_offset-head.ensures.view)
     (c.push.ensures ∙ ap (λ z. i.touches ++ z) (look_made-some p i.view r h c.max.result c.max-2.result c.rises.result c.pass.invariant.0 c.rises.ensures c.if-not-rises.false c.max.ensures c.max-2.ensures))
-    ∙ ap (λ (q : PassRecord). unless_refused (touch_fault q) q (with_look (newest c.load_offset-head.new.rider.view.offsets.read_only) (newest c.load_offset-head.new.rider.view.offsets.head) q)) c.pass.view_is
+    ∙ ap (λ (q : PassRecord). unless_refused (touch_fault q) q (with_look (newest (looked c.load_offset-head.new.rider.view.touches).read_only) (newest (looked c.load_offset-head.new.rider.view.touches).head) q)) c.pass.view_is
 
 pub returns-then-not-rises-clause-rises : goal.returns-then-not-rises-clause-rises
 returns-then-not-rises-clause-rises g c =
