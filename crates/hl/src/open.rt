@@ -1,7 +1,7 @@
 //! A log that is opened, used and closed by one call.
 ghost use Rattle.std.specs.Prelude.{◌≡◌, true, false, Err, IfOk, IfErr, replicate};
 ghost use Rattle.hl_model.specs.declared.fault.Fault.TheVariants.{OutOfMemory, Size};
-ghost use Rattle.hl_words.specs.States.{IsSeedOf, new_rider};
+ghost use Rattle.hl_words.specs.States.{IsSeedOf, new_riders};
 ghost use Rattle.hl.specs.Openings.{can_open, of_sizes, IsInRange, opened_as, was_refused};
 ghost use Rattle.hl.specs.Closings.{IsClosed};
 
@@ -37,7 +37,7 @@ pub fn with_log<R, P: Part<R>, S: HasSizes>(
     part: P,
 ) -> Result<Closed<P::Out, P::Job>, Refused<P>>
     requires wants { let o = of_sizes S.sizes_of opening
-        in P.wants part (opened_as o) (replicate o.riders new_rider) }
+        in P.wants part (opened_as o) (new_riders o.riders) }
     ensures size { can_open (of_sizes S.sizes_of opening) ≡ false
         → result ≡ Err (was_refused Size part) }
     ensures memory { can_open (of_sizes S.sizes_of opening) ≡ true
@@ -54,7 +54,7 @@ fn log_of_sizes<R, P: Part<R>>(
     opening: Opening<Sizes>,
     part: P,
 ) -> Result<Closed<P::Out, P::Job>, Refused<P>>
-    requires wants { P.wants part (opened_as opening) (replicate opening.riders new_rider) }
+    requires wants { P.wants part (opened_as opening) (new_riders opening.riders) }
     ensures size { can_open opening ≡ false → result ≡ Err (was_refused Size part) }
     ensures memory { can_open opening ≡ true
         → IfErr result (λ refused. refused ≡ was_refused OutOfMemory part) }
@@ -84,7 +84,7 @@ fn over<L: Realm + Send + Sync, R, P: Part<R>>(
     requires sizes { (seed.sizes ≡ opening.params) × (seed.riders ≡ opening.riders) }
     requires named { (seed.sizes ≡ L.sizes) × (opening.stamp ≡ L.stamp) × (opening.journal ≡ L.limit) }
     requires range { IsInRange opening }
-    requires wants { P.wants part (opened_as opening) (replicate opening.riders new_rider) }
+    requires wants { P.wants part (opened_as opening) (new_riders opening.riders) }
     ensures memory { IfErr result (λ refused. refused ≡ was_refused OutOfMemory part) }
     ensures closed { IfOk result (IsClosed opening (P.leaves part)) }
 {

@@ -1,7 +1,7 @@
 -- What a call met and left under the lock, and in the diary of its rider.
 use Rattle.std.proofs.Common.{◌≡◌, ℕ, ◌+◌, ◌*◌, ◌≤◌, List, [], ◌∷◌, ◌++◌, length, map, drop, refl, sym, ap, ◌∙◌, subst, arith, append_assoc, length-append}
 use Rattle.std.specs.Prelude.{Result, Ok, Err, Option, Some, None, IfErr, OnErr, MatchResult}
-use Rattle.std.specs.List.{sum_by}
+use Rattle.std.specs.List.{AllByRecursion, sum_by}
 use Rattle.std.proofs.lemmas.List.{append-nil, drop_at}
 use Rattle.hl_model.specs.declared.fault.Fault.{Fault}
 use Rattle.hl_model.specs.declared.step.Step.{Step}
@@ -18,9 +18,9 @@ use Rattle.hl_action.specs.Jobs.{KeptRecord, ReadyRecord}
 use Rattle.hl_history.specs.Lists.{entry, IsOf, IsOneList}
 use Rattle.hl_words.specs.declared.view.OffsetWords.{OffsetWords}
 use Rattle.hl_words.specs.Rule.{IsRuled}
-use Rattle.hl_words.specs.States.{RiderState, with_call}
+use Rattle.hl_words.specs.States.{RiderState, AreTied, with_call}
 use Rattle.hl_core.specs.Standing.{State}
-use Rattle.hl_keeper.specs.Keepers.{job_tag, KeeperState, KeeperStands}
+use Rattle.hl_keeper.specs.Keepers.{job_tag, KeeperState, KeeperStands, all_noted}
 use Rattle.hl_keeper.specs.Passes.{PassRecord, seen, with_news, rested, new_pass, with_rider, with_share, Shares}
 use Rattle.hl_keeper.specs.Taking.{ready_told}
 use Rattle.hl_keeper.specs.Calls.{Replied, Stays, made, entered, without_back}
@@ -131,12 +131,15 @@ pub record Moved {F : Type 0} (setup : Setup) (list steps journal : List Step) (
   pub met : IsAt setup list old
   pub left : IsAt setup (list ++ steps) new
   pub cut : new.cut ≡ old.cut
+  pub called : new.called ≡ old.called
   pub journal_is : journal ≡ old.journal
 
 module _ {F : Type 0} where
   -- what lies under the lock stands at its list
   pub met_held : {setup : Setup} {guarded now : HeldState F} {k : KeeperState F} {A : List Step} → IsHeld setup guarded → now ≡ guarded → record { keeper = k; list = A } ≡ now → IsAt setup A k
-  met_held {setup} held value view = subst (IsHeld setup) (sym (view ∙ value)) held
+  met_held {setup} {k} {A} held value view =
+      let own : IsHeld setup (record { keeper = k; list = A }) = subst (IsHeld setup) (sym (view ∙ value)) held in
+      own.at
 
   -- by what a keeper is left at, which kept its sizes, its stamp, its room and what was cut
   moved : {setup : Setup} {A journal : List Step} {old new : KeeperState F} (steps : List Step) → IsAt setup A old → Stays old new → journal ≡ old.journal → KeeperStands new (A ++ steps) → Moved setup A steps journal old new
@@ -144,6 +147,7 @@ module _ {F : Type 0} where
     met = met;
     left = record { stands = stands; sizes_are = stays.sizes ∙ met.sizes_are; stamp_is = stays.stamp ∙ met.stamp_is; limit_is = stays.limit ∙ met.limit_is };
     cut = stays.cut;
+    called = stays.called;
     journal_is = journal;
   }
 
@@ -176,6 +180,10 @@ module _ {F : Type 0} {setup : Setup} {A steps journal : List Step} {old new : K
   steps_behind : drop (length journal) new.journal ≡ steps
   steps_behind = ap (drop (length journal)) journal_grows ∙ drop_at journal steps (length journal) refl
 
+  -- so the call may be noted
+  pub may_note : old.called ≡ length A → (length journal ≤ length new.journal) × (new.called ≡ length A) × (new.total ≡ length A + length (drop (length journal) new.journal))
+  may_note noted = (longer, m.called ∙ noted, omega (arith, m.left.stands.total_is, length-append A steps, ap length steps_behind))
+
   -- the keeper stands at the list behind which those steps were noted
   pub stands_at : {list : List Step} → list ≡ A ++ drop (length journal) new.journal → IsAt setup list new
   stands_at noted = subst (λ (z : List Step). IsAt setup z new) (sym (noted ∙ ap (λ z. A ++ z) steps_behind)) m.left
@@ -184,6 +192,33 @@ module _ {F : Type 0} {setup : Setup} {A steps journal : List Step} {old new : K
 pub told : {F : Type 0} {setup : Setup} {A journal : List Step} {old new : KeeperState F} (result : Result (ReadyRecord F) Fault) (steps : List Step) → Moved setup A (steps_if (ready_told result) steps) journal old new → Moved setup A (steps_if result steps) journal old new
 told (Ok ready) steps m = m
 told (Err fault) steps m = m
+
+-- a keeper that noted a call stands where it stood
+stands_noted : {F : Type 0} {A : List Step} {k : KeeperState F} → KeeperStands k A → KeeperStands (all_noted k) A
+stands_noted st = record {
+  core_stands = st.core_stands;
+  steps_cut = st.steps_cut;
+  history = st.history;
+  base_is = st.base_is;
+  cut_is = st.cut_is;
+  stores_are = st.stores_are;
+  read_only_is = st.read_only_is;
+  head_is = st.head_is;
+  total_is = st.total_is;
+  total_most = st.total_most;
+  journal_most = st.journal_most;
+  acquired_is = st.acquired_is;
+  stamps_are = st.stamps_are;
+  stamp_most = st.stamp_most;
+}
+
+-- and lies under the lock so
+pub noted_at : {F : Type 0} {setup : Setup} {A : List Step} {k k' : KeeperState F} → k' ≡ all_noted k → IsAt setup A k → IsHeld setup (record { keeper = k'; list = A })
+noted_at {F} {setup} {A} {k} same at =
+    subst (λ (z : KeeperState F). IsHeld setup (record { keeper = z; list = A })) (sym same) (record {
+      at = record { stands = stands_noted at.stands; sizes_are = at.sizes_are; stamp_is = at.stamp_is; limit_is = at.limit_is };
+      noted = at.stands.total_is;
+    })
 
 -- a keeper that was cut stands where it stood
 pub cut_at : {F : Type 0} {setup : Setup} {A : List Step} {old new : KeeperState F} → IsAt setup A old → new.core ≡ old.core → new.stamp ≡ old.stamp → new.limit ≡ old.limit → KeeperStands new A → IsAt setup A new
@@ -219,10 +254,13 @@ pub call_held : {F X : Type 0} {setup : Setup} {A journal list : List Step} {old
     → Moved setup A (steps_if result (call.steps A)) journal old new → mid ≡ with_share (length (steps_if result (call.steps A))) call.old
     → list ≡ A ++ drop (length journal) new.journal
     → call.new ≡ with_call (entry A (drop (length journal) new.journal)) mid → IsOf A mid.calls → Holds old new
-    → LeavesHeld setup (answered result call) Holds (record { keeper = old; list = A }) (record { keeper = new; list = list })
-call_held {A} {old} {new} {mid} call result m grows listed noted rises holds = record {
-  met = m.met;
+    → (last : KeeperState F) → last ≡ all_noted new → old.called ≡ length A
+    → LeavesHeld setup (answered result call) Holds (record { keeper = old; list = A }) (record { keeper = last; list = list })
+call_held {A} {old} {new} {mid} call result m grows listed noted rises holds last same called = record {
+  after = new;
+  met = record { at = m.met; noted = called };
   left = stands_at m listed;
+  noted = same;
   list_is = listed ∙ ap (λ z. A ++ z) (steps_behind m);
   entered = noted ∙ ap (λ z. with_call (entry A z) mid) (steps_behind m) ∙ ap (with_call (entry A (steps_if result (call.steps A)))) grows;
   rises = subst (λ (r : RiderState). IsOf A r.calls) grows rises;
@@ -234,9 +272,9 @@ pub under_lock : {F : Type 0} {domain : DomainState} {call : Call} {Holds : Keep
 under_lock {domain} {call} {old} {new} h = record {
   list = old.list;
   before = old.keeper;
-  after = new.keeper;
-  met = h.met;
-  left = subst (λ (z : List Step). IsAt (setup_of domain) z new.keeper) h.list_is h.left;
+  after = h.after;
+  met = h.met.at;
+  left = subst (λ (z : List Step). IsAt (setup_of domain) z h.after) h.list_is h.left;
   entered = h.entered;
   rises = h.rises;
   holds = h.holds;
@@ -263,8 +301,8 @@ at_same setup k k' A A' keeper list at =
     subst (λ (z : List Step). IsAt setup z k') (sym list) (subst (λ (z : KeeperState _). IsAt setup A z) (sym keeper) at)
 
 -- what is left of a keeper that was closed
-pub ending_of : {F : Type 0} (sizes : Sizes) (riders : List RiderState) (list : List Step) (k : KeeperState F) (e : EndingState F) → KeeperStands k list → k.core.sizes ≡ sizes → e.base ≡ k.base → e.cut ≡ k.cut → e.journal ≡ k.journal → e.left ≡ k.core.drain → ((A : List Step) → KeeperStands k A → e.snapshot ≡ snapshot_of k.core.sizes A) → k.total ≡ sum_by (λ r. r.share) riders → IsOneList list (map (λ r. r.calls) riders) → IsRuled e.words.cells e.words.words k.offsets (map (λ r. r.view) riders) → e.words.cells ≡ sizes.frames * sizes.page_size → IsEnding sizes riders e
-ending_of {F} sizes riders A k e st same base cut journal left quantities total one ruled cells = record {
+pub ending_of : {F : Type 0} (sizes : Sizes) (riders : List RiderState) (list : List Step) (k : KeeperState F) (e : EndingState F) → KeeperStands k list → k.core.sizes ≡ sizes → e.base ≡ k.base → e.cut ≡ k.cut → e.journal ≡ k.journal → e.left ≡ k.core.drain → ((A : List Step) → KeeperStands k A → e.snapshot ≡ snapshot_of k.core.sizes A) → k.total ≡ sum_by (λ r. r.share) riders → IsOneList list (map (λ r. r.calls) riders) → IsRuled e.words.cells e.words.words k.offsets (map (λ r. r.view) riders) → AllByRecursion (λ (r : RiderState). AreTied r.view.touches r.calls) riders → e.words.cells ≡ sizes.frames * sizes.page_size → IsEnding sizes riders e
+ending_of {F} sizes riders A k e st same base cut journal left quantities total one ruled tied cells = record {
   steps_cut = st.steps_cut;
   accepted = subst (λ (z : Sizes). IsAccepted z (st.steps_cut ++ e.journal)) same (subst (λ (z : List Step). IsAccepted k.core.sizes z) list st.core_stands.accepted);
   one_list = subst (λ (z : List Step). IsOneList z (map (λ r. r.calls) riders)) list one;
@@ -274,6 +312,7 @@ ending_of {F} sizes riders A k e st same base cut journal left quantities total 
   pending_are = ap (λ (z : Lists (KeptRecord F)). map (waiting_of job_tag) z.pending) left ∙ st.core_stands.pending_is ∙ ap pending list;
   taken_are = ap (λ (z : Lists (KeptRecord F)). z.taken) left ∙ st.core_stands.taken_is ∙ ap taken list;
   ruled = subst (λ (z : OffsetWords). IsRuled e.words.cells e.words.words z (map (λ r. r.view) riders)) (st.stores_are ∙ ap stores_of list) ruled;
+  tied = tied;
   cells_are = cells;
   sum = omega (arith, cut, ap length journal, counted k A st, total);
 }

@@ -1,6 +1,6 @@
 -- What contracts see of a domain, what a call met under its lock, and what is left of it at its end.
 use Rattle.std.specs.Prelude.{◌≡◌, ℕ, ◌+◌, ◌*◌, Bool, Result, Ok, Err, IfOk, MatchResult, List, [], ◌∷◌, ◌++◌, length, map}
-use Rattle.std.specs.List.{sum_by}
+use Rattle.std.specs.List.{AllByRecursion, sum_by}
 use Rattle.hl_model.specs.declared.fault.Fault.{Fault}
 use Rattle.hl_model.specs.declared.step.Step.{Step}
 use Rattle.hl_model.specs.declared.step.Step.TheVariants.{Acquire, Refresh}
@@ -15,8 +15,8 @@ use Rattle.hl_drain.specs.Actions.{waiting_of}
 use Rattle.hl_core.specs.Holding.{least_free}
 use Rattle.hl_history.specs.Lists.{entry, IsOf, IsOneList}
 use Rattle.hl_words.specs.Rule.{IsRuled}
-use Rattle.hl_words.specs.States.{RiderState, with_call}
-use Rattle.hl_keeper.specs.Keepers.{job_tag, KeeperState, KeeperStands}
+use Rattle.hl_words.specs.States.{RiderState, AreTied, with_call}
+use Rattle.hl_keeper.specs.Keepers.{job_tag, KeeperState, KeeperStands, all_noted}
 use Rattle.hl_keeper.specs.Passes.{PassRecord, seen, with_share, with_rider, with_news, is_current, last_read_only, last_head, last_ended}
 use Rattle.hl_keeper.specs.Calls.{refresh_fault, touched_list, MakesTouched, Refreshes, Keeps, IsUpTo}
 use Rattle.hl_keeper.specs.Endings.{EndingState}
@@ -61,9 +61,10 @@ pub record HeldState (F : Type 0) : Type 0 where
   pub keeper : KeeperState F
   pub list : List Step
 
--- the keeper was set up so, and stands at the list
-abbrev pub IsHeld : {F : Type 0} → Setup → HeldState F → Type 0
-IsHeld setup held = IsAt setup held.list held.keeper
+-- the keeper was set up so, stands at the list, and noted the calls of all its steps
+pub record IsHeld {F : Type 0} (setup : Setup) (held : HeldState F) : Type 0 where
+  pub at : IsAt setup held.list held.keeper
+  pub noted : held.keeper.called ≡ length held.list
 
 -- a call of a rider: what it puts behind the list that it meets, and the rider before and after it
 pub record Call : Type 0 where
@@ -112,17 +113,19 @@ pub record LeavesUnderLock
   pub rises : IsOf list call.old.calls
   pub holds : Holds before after
 
--- what such a call makes of what lies under the lock: the list gets its steps, and of the keepers before and
--- after it this holds
+-- what such a call makes of what lies under the lock: the list gets its steps, and the keeper notes it; of the keepers
+-- before and after it this holds
 pub record LeavesHeld
     {F : Type 0} (setup : Setup) (call : Call) (Holds : KeeperState F → KeeperState F → Type 0)
     (old new : HeldState F) : Type 0 where
+  pub after : KeeperState F
   pub met : IsHeld setup old
-  pub left : IsHeld setup new
+  pub left : IsAt setup new.list after
+  pub noted : new.keeper ≡ all_noted after
   pub list_is : new.list ≡ old.list ++ call.steps old.list
   pub entered : call.new ≡ with_entry old.list (call.steps old.list) call.old
   pub rises : IsOf old.list call.old.calls
-  pub holds : Holds old.keeper new.keeper
+  pub holds : Holds old.keeper after
 
 -- likewise of a call that keeps what such a call of a keeper does
 abbrev pub MakesUnderLock : {X : Type 0} (F : Type 0) → DomainState → Call → Result X Fault
@@ -176,8 +179,9 @@ releaser (Err back) = back.1.rider
 
 -- the steps that were cut and then the journal are an accepted list, which is the one list of all that these
 -- riders' calls met and made; the base is that of the steps cut; the snapshot is that of both, and so are the
--- actions left; the riders entered as many steps as both have; and the rule of the words holds of what they
--- hold, of the raises, shifts and bumps of both, and of exactly what these riders stored and loaded
+-- actions left; the riders entered as many steps as both have; the rule of the words holds of what they
+-- hold, of the raises, shifts and bumps of both, and of exactly what these riders stored and loaded; and among that
+-- stand the calls of the list
 pub record IsEnding {F : Type 0} (sizes : Sizes) (riders : List RiderState) (ending : EndingState F)
     : Type 0 where
   pub steps_cut : List Step
@@ -190,5 +194,6 @@ pub record IsEnding {F : Type 0} (sizes : Sizes) (riders : List RiderState) (end
   pub taken_are : ending.left.taken ≡ taken (steps_cut ++ ending.journal)
   pub ruled : IsRuled ending.words.cells ending.words.words (stores_of (steps_cut ++ ending.journal))
       (map (λ r. r.view) riders)
+  pub tied : AllByRecursion (λ r. AreTied r.view.touches r.calls) riders
   pub cells_are : ending.words.cells ≡ sizes.frames * sizes.page_size
   pub sum : ending.cut + length ending.journal ≡ sum_by (λ r. r.share) riders

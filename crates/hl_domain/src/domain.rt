@@ -1,15 +1,18 @@
 //! The keeper and the one list under a lock, beside the words, which need none.
-ghost use Rattle.std.specs.Prelude.{◌≡◌, ◌≢◌, ◌≤◌, ◌++◌, drop, length, replicate, IfOk, IfErr, OnOk};
+ghost use Rattle.std.specs.Prelude.{◌≡◌, ◌≢◌, ◌≤◌, Some, length, map, IfOk, IfErr, OnOk};
+ghost use Rattle.std.specs.List.{AllByRecursion};
+ghost use Rattle.std.specs.Option.{IfSome};
 ghost use Rattle.std.specs.Sync.Mutex.{mutex_guard_value};
 ghost use Rattle.hl_model.specs.declared.fault.Fault.TheVariants.{OutOfMemory, Stranger};
-ghost use Rattle.hl_history.specs.Lists.{entry, IsOf};
-ghost use Rattle.hl_words.specs.States.{IsSeedOf, new_rider, with_call};
+ghost use Rattle.hl_words.specs.Seats.{IsKnown};
+ghost use Rattle.hl_words.specs.States.{IsSeedOf, new_riders};
 ghost use Rattle.hl_keeper.specs.Keepers.{steps_most};
 ghost use Rattle.hl_domain.specs.Domains.{setup_of, IsEnding, IsHeld};
 
 mod held;
 mod keep_up;
 mod pages;
+mod pasts;
 mod riders;
 mod slots;
 mod words;
@@ -20,7 +23,7 @@ use hl_action::{Promise, Task};
 use hl_epoch::Epochs;
 use hl_keeper::{Ending, Keeper};
 use hl_model::{Fault, Sizes};
-use hl_words::{Realm, Rider, Scribe, Seed, Words};
+use hl_words::{Past, Realm, Rider, Seed, Words};
 use std::alloc::Global;
 use std::marker::Model;
 use std::sync::{Mutex, MutexGuard, Wait};
@@ -83,7 +86,7 @@ impl<E: Epochs + Drop, F: Task, P: Promise, L: Realm> Domain<E, F, P, L> {
         ensures domain { IfOk result (λ opened.
             opened.0
             ≡ record { sizes = seed.sizes; stamp = stamp; limit = journal; riders = seed.riders }) }
-        ensures riders { IfOk result (λ opened. opened.1.items ≡ replicate seed.riders new_rider) }
+        ensures riders { IfOk result (λ opened. opened.1.items ≡ new_riders seed.riders) }
         ensures memory { IfErr result (λ fault. fault ≡ OutOfMemory) }
     {
         let params = seed.params();
@@ -114,6 +117,59 @@ impl<E: Epochs + Drop, F: Task, P: Promise, L: Realm> Domain<E, F, P, L> {
             (back.0 ≡ Stranger self.stamp) × (length riders.items ≢ self.riders)) }
         ensures back { IfErr result (λ back. (back.1 ≡ self) × (back.2 ≡ riders)) }
     {
+        let stamp = self.stamp;
+        match self.end(riders, None) {
+            Ok(ending) => Ok(ending),
+            Err((domain, riders, _)) => Err((Fault::Stranger { stamp }, domain, riders)),
+        }
+    }
+
+    /// Ends it as `close` does, and takes back pasts of riders that were kept: of each, some rider has its name, and made
+    /// the touches that it tells.
+    ///
+    /// `Stranger`, with the domain's stamp, if a rider is missing; then all is handed back.
+    pub fn close_with_pasts(
+        self,
+        riders: Vec<Rider<L>>,
+        pasts: Vec<Past<L>>,
+    ) -> Result<
+        Ending<F, P>,
+        (
+            Fault,
+            Domain<E, F, P, L>,
+            Vec<Rider<L>>,
+            Option<Vec<Past<L>>>,
+        ),
+    >
+        ensures ending { IfOk result (IsEnding self.sizes riders.items) }
+        ensures known { OnOk result (AllByRecursion (IsKnown (map (λ r. r.view) riders.items)) pasts.items) }
+        ensures all { OnOk result (length riders.items ≡ self.riders) }
+        ensures missing { IfErr result (λ back.
+            (back.0 ≡ Stranger self.stamp) × (length riders.items ≢ self.riders)) }
+        ensures back { IfErr result (λ back.
+            (back.1 ≡ self) × (back.2 ≡ riders) × (back.3 ≡ Some pasts)) }
+    {
+        let stamp = self.stamp;
+        match self.end(riders, Some(pasts)) {
+            Ok(ending) => Ok(ending),
+            Err((domain, riders, pasts)) => Err((Fault::Stranger { stamp }, domain, riders, pasts)),
+        }
+    }
+
+    // Ends it, if all riders are there.
+    fn end(
+        self,
+        riders: Vec<Rider<L>>,
+        pasts: Option<Vec<Past<L>>>,
+    ) -> Result<Ending<F, P>, (Domain<E, F, P, L>, Vec<Rider<L>>, Option<Vec<Past<L>>>)>
+        ensures ending { IfOk result (IsEnding self.sizes riders.items) }
+        ensures known { OnOk result (IfSome pasts
+            (λ all. AllByRecursion (IsKnown (map (λ r. r.view) riders.items)) all.items)) }
+        ensures all { OnOk result (length riders.items ≡ self.riders) }
+        ensures missing { IfErr result (λ _. length riders.items ≢ self.riders) }
+        ensures back { IfErr result (λ back.
+            (back.0 ≡ self) × (back.1 ≡ riders) × (back.2 ≡ pasts)) }
+    {
         let Domain {
             held,
             words,
@@ -121,16 +177,16 @@ impl<E: Epochs + Drop, F: Task, P: Promise, L: Realm> Domain<E, F, P, L> {
             stamp,
         } = self;
         let (keeper, scribe) = held.into_inner().into_inner().into_parts();
-        match keeper.close_with_scribe(words, scribe, riders) {
+        match keeper.close_with_scribe(words, scribe, riders, pasts) {
             Ok(ending) => Ok(ending),
-            Err((keeper, words, scribe, riders)) => {
+            Err((keeper, words, scribe, riders, pasts)) => {
                 let domain = Domain {
                     held: CachePadded::new(Mutex::new(Held::new(keeper, scribe))),
                     words,
                     params,
                     stamp,
                 };
-                Err((Fault::Stranger { stamp }, domain, riders))
+                Err((domain, riders, pasts))
             }
         }
     }
@@ -158,22 +214,5 @@ impl<E: Epochs + Drop, F: Task, P: Promise, L: Realm> Domain<E, F, P, L> {
         // Of a value under a lock its type alone is known, and a call tells what that says.
         guard.known();
         guard
-    }
-
-    // Notes a call of this rider: behind the list it puts the steps that the keeper's journal has since it was so long.
-    #[inline(always)]
-    fn note(
-        &self,
-        keeper: &Keeper<E, F, P, L>,
-        before: usize,
-        scribe: &mut Scribe<L>,
-        rider: &mut Rider<L>,
-    )
-        requires { before ≤ length keeper.now.journal }
-        ensures list { scribe.new ≡ scribe.old ++ drop before keeper.now.journal }
-        ensures rider { rider.new ≡ with_call (entry scribe.old (drop before keeper.now.journal)) rider.old }
-        ensures rises { IsOf scribe.old rider.old.calls }
-    {
-        self.words.enter(scribe, rider, &keeper.journal()[before..]);
     }
 }

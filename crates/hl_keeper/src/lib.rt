@@ -45,7 +45,6 @@
 
 mod actions;
 mod call;
-mod closing;
 mod cut;
 mod ending;
 mod enter;

@@ -20,9 +20,8 @@ impl<E: Epochs, F: Task, P: Promise, L: Realm> Keeper<E, F, P, L> {
         rider: &mut Rider<L>,
         before: usize,
     )
-        requires within { before ≤ length self.old.journal }
-        requires noted { self.old.called ≡ length scribe.old }
-        requires counted { self.old.total ≡ length scribe.old + length (drop before self.old.journal) }
+        requires { (before ≤ length self.old.journal) × (self.old.called ≡ length scribe.old)
+            × (self.old.total ≡ length scribe.old + length (drop before self.old.journal)) }
         ensures keeper { self.new ≡ all_noted self.old }
         ensures list { scribe.new ≡ scribe.old ++ drop before self.old.journal }
         ensures rider { rider.new ≡ with_call (entry scribe.old (drop before self.old.journal)) rider.old }
@@ -37,8 +36,7 @@ impl<E: Epochs, F: Task, P: Promise, L: Realm> Keeper<E, F, P, L> {
     /// Notes a call of this rider that made no step.
     #[inline(always)]
     pub fn note_quiet(&mut self, words: &Words<L>, scribe: &mut Scribe<L>, rider: &mut Rider<L>)
-        requires noted { self.old.called ≡ length scribe.old }
-        requires counted { self.old.total ≡ length scribe.old }
+        requires { (self.old.called ≡ length scribe.old) × (self.old.total ≡ length scribe.old) }
         ensures keeper { self.new ≡ all_noted self.old }
         ensures list { scribe.new ≡ scribe.old ++ [] }
         ensures rider { rider.new ≡ with_call (entry scribe.old []) rider.old }

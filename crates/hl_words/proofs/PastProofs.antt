@@ -9,7 +9,7 @@ use Rattle.hl_words.specs.declared.view.Touch.TheVariants.{Loaded, Called, Met}
 use Rattle.hl_words.specs.declared.view.OffsetWords.{OffsetWords}
 use Rattle.hl_words.specs.declared.view.RiderView.{RiderView}
 use Rattle.hl_words.specs.Rule.{last_store, EachRider, TouchBy, by_rider, left_by, held, IsUpTo, Finds, IsSerial, touches_of, AreNamed, AreMet, HasMet, HasOneOrder, IsRuled}
-use Rattle.hl_words.specs.Past.{IsLoad, HasAll, HasOnly, HasCalls, HasNoCalls, LoadsAfterMet, LoadsAfterCalled, LoadsBetween, CallsAfterMet, LoadsOfOne, LoadsOfOneBetween, EndsBefore, BeginsAfter, IsQuietBetween, LoadsOfNewest}
+use Rattle.hl_words.specs.Past.{IsLoad, HasAll, HasOnly, HasCalls, HasNoCalls, LoadsAfterMet, LoadsAfterCalled, LoadsBetween, CallsAfterMet, LoadsOfOne, LoadsOfTold, LoadsOfOneBetween, EndsBefore, BeginsAfter, IsQuietBetween, LoadsOfNewest}
 use Rattle.hl_words.proofs.Cut.{every_back}
 use Rattle.hl_words.proofs.Orders.{there, within, own_more, Puts, Passes, puts_or_passes, last_either}
 
@@ -340,6 +340,18 @@ same_front (x ∷ xs) (y ∷ ys) zs e =
     let head : x ≡ y = cc e in
     let tail : xs ++ zs ≡ ys ++ zs = cc e in
     ap (λ (t : Touch). t ∷ xs) head ∙ ap (λ (l : List Touch). y ∷ l) (same_front xs ys zs tail)
+
+pub loads_of_told : LoadsOfTold
+loads_of_told cells words stores riders i j c v r q newer between earlier later past ruled ati atj others mine theirs quiet =
+    let m = loads_after_met cells words stores riders i j c v r q newer between earlier later past ruled ati atj mine theirs in
+    let load = by_rider i (Loaded c v) ∷ [] in
+    let front : List TouchBy = m.1.newer ++ load in
+    let parts : ruled.order.0 ≡ front ++ m.0 = m.1.whole ∙ sym (append_assoc m.1.newer load m.0) in
+    let whole : q.touches ≡ touches_of j front ++ touches_of j m.0 = ruled.order.1.each j q atj ∙ ap (touches_of j) parts ∙ touches_both j front m.0 in
+    let split : later ++ past ≡ (touches_of j front ++ m.2.0) ++ past = sym theirs ∙ whole ∙ ap (λ (l : List Touch). touches_of j front ++ l) m.2.1 ∙ sym (append_assoc (touches_of j front) m.2.0 past) in
+    let same : later ≡ touches_of j front ++ m.2.0 = same_front later (touches_of j front ++ m.2.0) past split in
+    let since : last_store c m.2.0 ≡ None = none_end c (touches_of j front) m.2.0 (sym (ap (last_store c) same) ∙ quiet) in
+    loads_of_one cells words stores riders i j c v m.0 ruled others m.1 ∙ ap (λ o. unwrap_or o 0) (ap (last_store c) m.2.1 ∙ none_front c m.2.0 past since)
 
 pub loads_of_one_between : LoadsOfOneBetween
 loads_of_one_between cells words stores riders i j c v begun done m left n last q before later middle past ruled at others load calls no_calls is low high quiet =

@@ -79,6 +79,16 @@ LoadsOfOne = (cells : ℕ) (words : List ℕ) (stores : OffsetWords) (riders : L
     → EachRider (λ k r. k ≢ j → last_store c r.touches ≡ None) riders
     → IsLoad ruled.order.0 i c v before → v ≡ unwrap_or (last_store c (touches_of j before)) 0
 
+-- Where one rider alone stores into a cell, a load of whoever was told what it did, and after which it stored nothing
+-- there, finds its newest store up to there
+abbrev pub LoadsOfTold : Type 0
+LoadsOfTold = (cells : ℕ) (words : List ℕ) (stores : OffsetWords) (riders : List RiderView) (i j c v : ℕ)
+    (r q : RiderView) (newer between earlier later past : List Touch)
+    → IsRuled cells words stores riders → slice_get riders i ≡ Some r → slice_get riders j ≡ Some q
+    → EachRider (λ k r. k ≢ j → last_store c r.touches ≡ None) riders
+    → r.touches ≡ newer ++ Loaded c v ∷ (between ++ Met q.name (length past) ∷ earlier)
+    → q.touches ≡ later ++ past → last_store c later ≡ None → v ≡ unwrap_or (last_store c past) 0
+
 -- Between two calls of the j-th rider, and before what it did after the later one, the loads of a cell into which it
 -- alone stores, and not between the two, find its newest store before the earlier one
 abbrev pub LoadsOfOneBetween : Type 0

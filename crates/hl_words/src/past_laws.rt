@@ -1,7 +1,7 @@
 //! What a load finds that its rider made after a call under the master's lock, or after it was told what another did: each
 //! law the contract of a function that does nothing.
 
-ghost use Rattle.hl_words.specs.Past.{LoadsAfterMet, LoadsAfterCalled, LoadsBetween, CallsAfterMet, LoadsOfOne, LoadsOfOneBetween, LoadsOfNewest};
+ghost use Rattle.hl_words.specs.Past.{LoadsAfterMet, LoadsAfterCalled, LoadsBetween, CallsAfterMet, LoadsOfOne, LoadsOfTold, LoadsOfOneBetween, LoadsOfNewest};
 
 /// A load after its rider was told what another did finds it, or what was stored since.
 pub fn loads_after_met()
@@ -28,6 +28,12 @@ pub fn calls_after_met()
 /// Where one rider alone stores into a cell, a load of any rider finds the newest of its stores that stand before.
 pub fn loads_of_one()
     ensures { LoadsOfOne }
+{}
+
+/// Where one rider alone stores into a cell, and told what it did and stored nothing there since, a load of whoever was
+/// told finds its newest store.
+pub fn loads_of_told()
+    ensures { LoadsOfTold }
 {}
 
 /// Where one rider alone stores into a cell, and not between two of its calls, a load that stands between finds its newest

@@ -4,7 +4,7 @@ ghost use Rattle.hl_core.specs.Steps.{CameOut};
 ghost use Rattle.hl_keeper.specs.Keepers.{job_tag};
 ghost use Rattle.hl_keeper.specs.Calls.{Makes, Stays};
 ghost use Rattle.hl_keeper.specs.Taking.{taken_from, ready_told};
-ghost use Rattle.hl_domain.specs.Domains.{call_of, answered, Setup, IsAt, IsHeld, LeavesHeld};
+ghost use Rattle.hl_domain.specs.Domains.{call_of, answered, Setup, IsHeld, LeavesHeld};
 
 use hl_action::{Promise, Ready, Task};
 use hl_epoch::Epochs;
@@ -22,20 +22,21 @@ pub(crate) struct Held<E: Epochs, F: Task, P: Promise, L: Realm> {
 }
 
 impl<E: Epochs, F: Task, P: Promise, L: Realm> Model for Held<E, F, P, L> {
-    ghost use Rattle.hl_domain.specs.Domains.{HeldState, IsAt};
+    ghost use Rattle.hl_domain.specs.Domains.{HeldState, IsHeld};
 
     ghost Value = { HeldState F };
 
     ghost view = { λ h. record { keeper = h.keeper; list = h.scribe } };
 
-    ghost invariant = { λ h. IsAt (record { sizes = L.sizes; stamp = L.stamp; limit = L.limit })
-        h.scribe h.keeper };
+    ghost invariant = { λ h. IsHeld (record { sizes = L.sizes; stamp = L.stamp; limit = L.limit })
+        (record { keeper = h.keeper; list = h.scribe }) };
 }
 
 impl<E: Epochs, F: Task, P: Promise, L: Realm> Held<E, F, P, L> {
     /// A keeper that stands at this scribe's list.
     pub(crate) fn new(keeper: Keeper<E, F, P, L>, scribe: Scribe<L>) -> Held<E, F, P, L>
-        requires { IsAt (record { sizes = L.sizes; stamp = L.stamp; limit = L.limit }) scribe keeper }
+        requires { IsHeld (record { sizes = L.sizes; stamp = L.stamp; limit = L.limit })
+            (record { keeper = keeper; list = scribe }) }
         ensures { result ≡ record { keeper = keeper; list = scribe } }
     {
         Held {
@@ -84,7 +85,7 @@ impl<E: Epochs + Drop, F: Task, P: Promise, L: Realm> Held<E, F, P, L> {
     {
         let before = self.keeper.journal().len();
         let taken = self.keeper.take(words, rider);
-        words.enter(&mut self.scribe, rider, &self.keeper.journal()[before..]);
+        self.keeper.note(words, &mut self.scribe, rider, before);
         taken
     }
 }

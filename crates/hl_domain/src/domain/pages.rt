@@ -27,7 +27,7 @@ impl<E: Epochs + Drop, F: Task, P: Promise, L: Realm> Domain<E, F, P, L> {
         let Held { keeper, scribe, .. } = &mut *guard;
         let before = keeper.journal().len();
         let taken = keeper.flush_take(&self.words, rider);
-        self.note(keeper, before, scribe, rider);
+        keeper.note(&self.words, scribe, rider, before);
         taken
     }
 
@@ -51,7 +51,7 @@ impl<E: Epochs + Drop, F: Task, P: Promise, L: Realm> Domain<E, F, P, L> {
         let Held { keeper, scribe, .. } = &mut *guard;
         let before = keeper.journal().len();
         let ended = keeper.flush_done(&self.words, rider, load, ok);
-        self.note(keeper, before, scribe, rider);
+        keeper.note(&self.words, scribe, rider, before);
         ended
     }
 
@@ -66,7 +66,7 @@ impl<E: Epochs + Drop, F: Task, P: Promise, L: Realm> Domain<E, F, P, L> {
         let Held { keeper, scribe, .. } = &mut *guard;
         let before = keeper.journal().len();
         let taken = keeper.clean_take(&self.words, rider);
-        self.note(keeper, before, scribe, rider);
+        keeper.note(&self.words, scribe, rider, before);
         taken
     }
 
@@ -91,7 +91,7 @@ impl<E: Epochs + Drop, F: Task, P: Promise, L: Realm> Domain<E, F, P, L> {
         let Held { keeper, scribe, .. } = &mut *guard;
         let before = keeper.journal().len();
         let freed = keeper.clean_done(&self.words, rider, broom);
-        self.note(keeper, before, scribe, rider);
+        keeper.note(&self.words, scribe, rider, before);
         freed
     }
 }

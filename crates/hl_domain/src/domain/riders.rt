@@ -49,7 +49,7 @@ impl<E: Epochs + Drop, F: Task, P: Promise, L: Realm> Domain<E, F, P, L> {
         let Held { keeper, scribe, .. } = &mut *guard;
         let before = keeper.journal().len();
         let bumped = keeper.bump(&self.words, rider, ask);
-        self.note(keeper, before, scribe, rider);
+        keeper.note(&self.words, scribe, rider, before);
         bumped
     }
 
@@ -64,7 +64,7 @@ impl<E: Epochs + Drop, F: Task, P: Promise, L: Realm> Domain<E, F, P, L> {
         let Held { keeper, scribe, .. } = &mut *guard;
         let before = keeper.journal().len();
         let bumped = keeper.bare(&self.words, rider);
-        self.note(keeper, before, scribe, rider);
+        keeper.note(&self.words, scribe, rider, before);
         bumped
     }
 
@@ -102,7 +102,7 @@ impl<E: Epochs + Drop, F: Task, P: Promise, L: Realm> Domain<E, F, P, L> {
         let Held { keeper, scribe, .. } = &mut *guard;
         let before = keeper.journal().len();
         let done = keeper.done(&self.words, rider, ran);
-        self.note(keeper, before, scribe, rider);
+        keeper.note(&self.words, scribe, rider, before);
         done
     }
 
@@ -118,7 +118,7 @@ impl<E: Epochs + Drop, F: Task, P: Promise, L: Realm> Domain<E, F, P, L> {
         let Held { keeper, scribe, .. } = &mut *guard;
         let before = keeper.journal().len();
         let raised = keeper.raise(&self.words, rider, x);
-        self.note(keeper, before, scribe, rider);
+        keeper.note(&self.words, scribe, rider, before);
         raised
     }
 
@@ -134,7 +134,7 @@ impl<E: Epochs + Drop, F: Task, P: Promise, L: Realm> Domain<E, F, P, L> {
         let Held { keeper, scribe, .. } = &mut *guard;
         let before = keeper.journal().len();
         let shifted = keeper.shift(&self.words, rider, x);
-        self.note(keeper, before, scribe, rider);
+        keeper.note(&self.words, scribe, rider, before);
         shifted
     }
 
@@ -150,7 +150,7 @@ impl<E: Epochs + Drop, F: Task, P: Promise, L: Realm> Domain<E, F, P, L> {
         let mut guard = self.lock(rt);
         let Held { keeper, scribe, .. } = &mut *guard;
         let dropped = keeper.cut(&self.words, rider);
-        self.words.enter(scribe, rider, &[]);
+        keeper.note_quiet(&self.words, scribe, rider);
         dropped
     }
 
@@ -162,8 +162,9 @@ impl<E: Epochs + Drop, F: Task, P: Promise, L: Realm> Domain<E, F, P, L> {
     {
         let mut guard = self.lock(rt);
         let Held { keeper, scribe, .. } = &mut *guard;
-        self.words.enter(scribe, rider, &[]);
-        keeper.snapshot()
+        let told = keeper.snapshot();
+        keeper.note_quiet(&self.words, scribe, rider);
+        told
     }
 
     /// All quantities, the number of steps since the last cut, and the number of steps cut in all.

@@ -37,11 +37,11 @@ impl<E: Epochs + Drop, F: Task, P: Promise, L: Realm> Domain<E, F, P, L> {
         let before = keeper.journal().len();
         match keeper.acquire(&self.words, t, rider) {
             Ok(mut pass) => {
-                self.note(keeper, before, scribe, pass.rider_mut());
+                keeper.note(&self.words, scribe, pass.rider_mut(), before);
                 Ok(pass)
             }
             Err((fault, mut rider)) => {
-                self.note(keeper, before, scribe, &mut rider);
+                keeper.note(&self.words, scribe, &mut rider, before);
                 Err((fault, rider))
             }
         }
@@ -61,11 +61,11 @@ impl<E: Epochs + Drop, F: Task, P: Promise, L: Realm> Domain<E, F, P, L> {
         let before = keeper.journal().len();
         match keeper.enter(&self.words, rider) {
             Ok(mut pass) => {
-                self.note(keeper, before, scribe, pass.rider_mut());
+                keeper.note(&self.words, scribe, pass.rider_mut(), before);
                 Ok(pass)
             }
             Err((fault, mut rider)) => {
-                self.note(keeper, before, scribe, &mut rider);
+                keeper.note(&self.words, scribe, &mut rider, before);
                 Err((fault, rider))
             }
         }
@@ -83,7 +83,7 @@ impl<E: Epochs + Drop, F: Task, P: Promise, L: Realm> Domain<E, F, P, L> {
         let Held { keeper, scribe, .. } = &mut *guard;
         let before = keeper.journal().len();
         let refreshed = keeper.refresh(&self.words, pass);
-        self.note(keeper, before, scribe, pass.rider_mut());
+        keeper.note(&self.words, scribe, pass.rider_mut(), before);
         refreshed
     }
 
@@ -102,11 +102,11 @@ impl<E: Epochs + Drop, F: Task, P: Promise, L: Realm> Domain<E, F, P, L> {
         let before = keeper.journal().len();
         match keeper.release(&self.words, pass) {
             Ok(mut rider) => {
-                self.note(keeper, before, scribe, &mut rider);
+                keeper.note(&self.words, scribe, &mut rider, before);
                 Ok(rider)
             }
             Err((fault, mut pass)) => {
-                self.note(keeper, before, scribe, pass.rider_mut());
+                keeper.note(&self.words, scribe, pass.rider_mut(), before);
                 Err((fault, pass))
             }
         }
@@ -134,7 +134,7 @@ impl<E: Epochs + Drop, F: Task, P: Promise, L: Realm> Domain<E, F, P, L> {
         let Held { keeper, scribe, .. } = &mut *guard;
         let before = keeper.journal().len();
         let placed = keeper.allocate(&self.words, pass, n);
-        self.note(keeper, before, scribe, pass.rider_mut());
+        keeper.note(&self.words, scribe, pass.rider_mut(), before);
         placed
     }
 

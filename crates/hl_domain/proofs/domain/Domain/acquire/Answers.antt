@@ -3,20 +3,22 @@ use Rattle.std.specs.Prelude.{Ok, Err}
 use Rattle.hl_model.specs.declared.step.Step.TheVariants.{Acquire}
 use Rattle.hl_keeper.specs.Passes.{PassRecord, with_rider}
 use Rattle.hl_domain.specs.Domains.{call_of}
-use Rattle.hl_domain.proofs.DomainLaws.{stayed, acquired_grew, reseated, refused_as, met_held, by_one, longer, stands_at, call_left}
+use Rattle.hl_domain.proofs.DomainLaws.{stayed, acquired_grew, reseated, refused_as, met_held, by_one, may_note, stands_at, noted_at, call_left}
 use Rattle.hl_domain.proofs.domain.Domain.acquire.Goals as goal
 
 pub note-requires : goal.note-requires
 note-requires g c =
-    let at = c.deref_mut-2.invariant in
+    let held = c.deref_mut-2.invariant in
+    let at = held.at in
     let e = c.in-Ok.ensures in
-    longer (by_one (Acquire c.args.t) at e.keeps.0 c.journal-before.ensures (e.made _ at.stands))
+    may_note (by_one (Acquire c.args.t) at e.keeps.0 c.journal-before.ensures (e.made _ at.stands)) held.noted
 
 pub invariant_of-guard : goal.invariant_of-guard
 invariant_of-guard g c =
-    let at = c.deref_mut-2.invariant in
+    let held = c.deref_mut-2.invariant in
+    let at = held.at in
     let e = c.in-Ok.ensures in
-    stands_at (by_one (Acquire c.args.t) at e.keeps.0 c.journal-before.ensures (e.made _ at.stands)) c.note.ensures.list
+    noted_at c.note.ensures.keeper (stands_at (by_one (Acquire c.args.t) at e.keeps.0 c.journal-before.ensures (e.made _ at.stands)) c.note.ensures.list)
 
 pub returns-in-Ok : goal.returns-in-Ok
 returns-in-Ok g c =
@@ -27,9 +29,10 @@ returns-in-Ok g c =
 
 pub invariant_of-t-13 : goal.invariant_of-t-13
 invariant_of-t-13 g c =
-    let at = c.deref_mut-2.invariant in
+    let held = c.deref_mut-2.invariant in
+    let at = held.at in
     let e = c.in-Err.ensures in
-    stands_at (by_one (Acquire c.args.t) at e.keeps.0 c.journal-before.ensures (e.made _ at.stands)) c.note-in-Err.ensures.list
+    noted_at c.note-in-Err.ensures.keeper (stands_at (by_one (Acquire c.args.t) at e.keeps.0 c.journal-before.ensures (e.made _ at.stands)) c.note-in-Err.ensures.list)
 
 pub returns : goal.returns
 returns g c =

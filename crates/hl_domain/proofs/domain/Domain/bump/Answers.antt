@@ -3,20 +3,22 @@ use Rattle.hl_core.specs.Steps.{asking}
 use Rattle.hl_keeper.specs.Keepers.{job_tag}
 use Rattle.hl_keeper.specs.Calls.{without_back}
 use Rattle.hl_domain.specs.Domains.{call_of}
-use Rattle.hl_domain.proofs.DomainLaws.{grew_without, handed_back, kept, met_held, by_one, longer, stands_at, call_left}
+use Rattle.hl_domain.proofs.DomainLaws.{grew_without, handed_back, kept, met_held, by_one, may_note, stands_at, noted_at, call_left}
 use Rattle.hl_domain.proofs.domain.Domain.bump.Goals as goal
 
 pub note-requires : goal.note-requires
 note-requires g c =
-    let at = c.deref_mut-2.invariant in
+    let held = c.deref_mut-2.invariant in
+    let at = held.at in
     let e = c.bump-bumped.ensures in
-    longer (by_one (asking job_tag c.args.ask) at e.stays c.journal-before.ensures (e.made _ at.stands))
+    may_note (by_one (asking job_tag c.args.ask) at e.stays c.journal-before.ensures (e.made _ at.stands)) held.noted
 
 pub invariant_of-deref_mut : goal.invariant_of-deref_mut
 invariant_of-deref_mut g c =
-    let at = c.deref_mut-2.invariant in
+    let held = c.deref_mut-2.invariant in
+    let at = held.at in
     let e = c.bump-bumped.ensures in
-    stands_at (by_one (asking job_tag c.args.ask) at e.stays c.journal-before.ensures (e.made _ at.stands)) c.note.ensures.list
+    noted_at c.note.ensures.keeper (stands_at (by_one (asking job_tag c.args.ask) at e.stays c.journal-before.ensures (e.made _ at.stands)) c.note.ensures.list)
 
 pub returns-clause-met : goal.returns-clause-met
 returns-clause-met g c =

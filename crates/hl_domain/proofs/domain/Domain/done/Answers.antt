@@ -2,20 +2,22 @@ use Rattle.std.proofs.Common.{[], ◌∷◌}
 use Rattle.hl_model.specs.declared.step.Step.TheVariants.{Done}
 use Rattle.hl_keeper.specs.Calls.{without_back}
 use Rattle.hl_domain.specs.Domains.{call_of}
-use Rattle.hl_domain.proofs.DomainLaws.{grew_without, met_held, by_one, longer, stands_at, call_left}
+use Rattle.hl_domain.proofs.DomainLaws.{grew_without, met_held, by_one, may_note, stands_at, noted_at, call_left}
 use Rattle.hl_domain.proofs.domain.Domain.done.Goals as goal
 
 pub note-requires : goal.note-requires
 note-requires g c =
-    let at = c.deref_mut-2.invariant in
+    let held = c.deref_mut-2.invariant in
+    let at = held.at in
     let e = c.done-done.ensures in
-    longer (by_one (Done c.args.ran.ticket) at e.keeps.0 c.journal-before.ensures (e.made _ at.stands))
+    may_note (by_one (Done c.args.ran.ticket) at e.keeps.0 c.journal-before.ensures (e.made _ at.stands)) held.noted
 
 pub invariant_of-deref_mut : goal.invariant_of-deref_mut
 invariant_of-deref_mut g c =
-    let at = c.deref_mut-2.invariant in
+    let held = c.deref_mut-2.invariant in
+    let at = held.at in
     let e = c.done-done.ensures in
-    stands_at (by_one (Done c.args.ran.ticket) at e.keeps.0 c.journal-before.ensures (e.made _ at.stands)) c.note.ensures.list
+    noted_at c.note.ensures.keeper (stands_at (by_one (Done c.args.ran.ticket) at e.keeps.0 c.journal-before.ensures (e.made _ at.stands)) c.note.ensures.list)
 
 pub returns-clause-met : goal.returns-clause-met
 returns-clause-met g c =

@@ -5,20 +5,22 @@ use Rattle.hl_model.specs.declared.step.Step.TheVariants.{Acquire}
 use Rattle.hl_core.specs.Holding.{least_free}
 use Rattle.hl_keeper.specs.Passes.{PassRecord, with_rider}
 use Rattle.hl_domain.specs.Domains.{setup_of, enter_call}
-use Rattle.hl_domain.proofs.DomainLaws.{stayed, acquired_grew, reseated, refused_as, Moved, met_held, by_one, longer, stands_at, call_left}
+use Rattle.hl_domain.proofs.DomainLaws.{stayed, acquired_grew, reseated, refused_as, Moved, met_held, by_one, may_note, stands_at, noted_at, call_left}
 use Rattle.hl_domain.proofs.domain.Domain.enter.Goals as goal
 
 pub note-requires : goal.note-requires
 note-requires g c =
-    let at = c.deref_mut-2.invariant in
+    let held = c.deref_mut-2.invariant in
+    let at = held.at in
     let e = c.in-Ok.ensures in
-    longer (by_one (Acquire (least_free c.deref_mut-2.inside.keeper.core.sizes c.deref_mut-2.inside.scribe)) at e.keeps.0 c.journal-before.ensures (e.made _ at.stands))
+    may_note (by_one (Acquire (least_free c.deref_mut-2.inside.keeper.core.sizes c.deref_mut-2.inside.scribe)) at e.keeps.0 c.journal-before.ensures (e.made _ at.stands)) held.noted
 
 pub invariant_of-guard : goal.invariant_of-guard
 invariant_of-guard g c =
-    let at = c.deref_mut-2.invariant in
+    let held = c.deref_mut-2.invariant in
+    let at = held.at in
     let e = c.in-Ok.ensures in
-    stands_at (by_one (Acquire (least_free c.deref_mut-2.inside.keeper.core.sizes c.deref_mut-2.inside.scribe)) at e.keeps.0 c.journal-before.ensures (e.made _ at.stands)) c.note.ensures.list
+    noted_at c.note.ensures.keeper (stands_at (by_one (Acquire (least_free c.deref_mut-2.inside.keeper.core.sizes c.deref_mut-2.inside.scribe)) at e.keeps.0 c.journal-before.ensures (e.made _ at.stands)) c.note.ensures.list)
 
 pub returns-in-Ok : goal.returns-in-Ok
 returns-in-Ok g c =
@@ -29,9 +31,10 @@ returns-in-Ok g c =
 
 pub invariant_of-t-12 : goal.invariant_of-t-12
 invariant_of-t-12 g c =
-    let at = c.deref_mut-2.invariant in
+    let held = c.deref_mut-2.invariant in
+    let at = held.at in
     let e = c.in-Err.ensures in
-    stands_at (by_one (Acquire (least_free c.deref_mut-2.inside.keeper.core.sizes c.deref_mut-2.inside.scribe)) at e.keeps.0 c.journal-before.ensures (e.made _ at.stands)) c.note-in-Err.ensures.list
+    noted_at c.note-in-Err.ensures.keeper (stands_at (by_one (Acquire (least_free c.deref_mut-2.inside.keeper.core.sizes c.deref_mut-2.inside.scribe)) at e.keeps.0 c.journal-before.ensures (e.made _ at.stands)) c.note-in-Err.ensures.list)
 
 pub returns : goal.returns
 returns g c =

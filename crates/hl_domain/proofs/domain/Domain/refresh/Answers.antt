@@ -1,20 +1,22 @@
 use Rattle.std.proofs.Common.{◌∙◌}
 use Rattle.hl_model.specs.declared.step.Step.TheVariants.{Refresh}
 use Rattle.hl_domain.specs.Domains.{pass_call}
-use Rattle.hl_domain.proofs.DomainLaws.{rested_grew, rested_held, met_held, by_pass, longer, stands_at, call_left}
+use Rattle.hl_domain.proofs.DomainLaws.{rested_grew, rested_held, met_held, by_pass, may_note, stands_at, noted_at, call_left}
 use Rattle.hl_domain.proofs.domain.Domain.refresh.Goals as goal
 
 pub note-requires : goal.note-requires
 note-requires g c =
-    let at = c.deref_mut-2.invariant in
+    let held = c.deref_mut-2.invariant in
+    let at = held.at in
     let e = c.refresh-refreshed.ensures in
-    longer (by_pass c.args.pass.now.touches (Refresh c.args.pass.now.slot) at e.keeps.0 c.journal-before.ensures (e.made _ at.stands))
+    may_note (by_pass c.args.pass.now.touches (Refresh c.args.pass.now.slot) at e.keeps.0 c.journal-before.ensures (e.made _ at.stands)) held.noted
 
 pub invariant_of-deref_mut : goal.invariant_of-deref_mut
 invariant_of-deref_mut g c =
-    let at = c.deref_mut-2.invariant in
+    let held = c.deref_mut-2.invariant in
+    let at = held.at in
     let e = c.refresh-refreshed.ensures in
-    stands_at (by_pass c.args.pass.now.touches (Refresh c.args.pass.now.slot) at e.keeps.0 c.journal-before.ensures (e.made _ at.stands)) c.note.ensures.list
+    noted_at c.note.ensures.keeper (stands_at (by_pass c.args.pass.now.touches (Refresh c.args.pass.now.slot) at e.keeps.0 c.journal-before.ensures (e.made _ at.stands)) c.note.ensures.list)
 
 pub returns : goal.returns
 returns g c =

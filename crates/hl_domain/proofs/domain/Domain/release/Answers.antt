@@ -4,20 +4,22 @@ use Rattle.hl_model.specs.declared.step.Step.TheVariants.{Release}
 use Rattle.hl_words.specs.States.{RiderState}
 use Rattle.hl_keeper.specs.Passes.{PassRecord}
 use Rattle.hl_domain.specs.Domains.{pass_call}
-use Rattle.hl_domain.proofs.DomainLaws.{stayed, released_grew, accepted_as, refused_as, met_held, by_pass, longer, stands_at, call_left}
+use Rattle.hl_domain.proofs.DomainLaws.{stayed, released_grew, accepted_as, refused_as, met_held, by_pass, may_note, stands_at, noted_at, call_left}
 use Rattle.hl_domain.proofs.domain.Domain.release.Goals as goal
 
 pub note-requires : goal.note-requires
 note-requires g c =
-    let at = c.deref_mut-2.invariant in
+    let held = c.deref_mut-2.invariant in
+    let at = held.at in
     let e = c.in-Ok.ensures in
-    longer (by_pass c.args.pass.touches (Release c.args.pass.slot) at e.keeps.0 c.journal-before.ensures (e.made _ at.stands))
+    may_note (by_pass c.args.pass.touches (Release c.args.pass.slot) at e.keeps.0 c.journal-before.ensures (e.made _ at.stands)) held.noted
 
 pub invariant_of-guard : goal.invariant_of-guard
 invariant_of-guard g c =
-    let at = c.deref_mut-2.invariant in
+    let held = c.deref_mut-2.invariant in
+    let at = held.at in
     let e = c.in-Ok.ensures in
-    stands_at (by_pass c.args.pass.touches (Release c.args.pass.slot) at e.keeps.0 c.journal-before.ensures (e.made _ at.stands)) c.note.ensures.list
+    noted_at c.note.ensures.keeper (stands_at (by_pass c.args.pass.touches (Release c.args.pass.slot) at e.keeps.0 c.journal-before.ensures (e.made _ at.stands)) c.note.ensures.list)
 
 pub returns-in-Ok-clause-met : goal.returns-in-Ok-clause-met
 returns-in-Ok-clause-met g c =
@@ -28,9 +30,10 @@ returns-in-Ok-clause-met g c =
 
 pub invariant_of-t-12 : goal.invariant_of-t-12
 invariant_of-t-12 g c =
-    let at = c.deref_mut-2.invariant in
+    let held = c.deref_mut-2.invariant in
+    let at = held.at in
     let e = c.in-Err.ensures in
-    stands_at (by_pass c.args.pass.touches (Release c.args.pass.slot) at e.keeps.0 c.journal-before.ensures (e.made _ at.stands)) c.note-in-Err.ensures.list
+    noted_at c.note-in-Err.ensures.keeper (stands_at (by_pass c.args.pass.touches (Release c.args.pass.slot) at e.keeps.0 c.journal-before.ensures (e.made _ at.stands)) c.note-in-Err.ensures.list)
 
 pub returns-clause-met : goal.returns-clause-met
 returns-clause-met g c =
