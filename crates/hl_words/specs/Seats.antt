@@ -57,8 +57,8 @@ abbrev pub CallsUpTo : ℕ → RiderView → Type 0
 CallsUpTo n r = AllByRecursion (IsUpTo n) r.touches
 
 -- The table has eight unused words, then the cells and, eight words apart, the master's three words; the seats stand
--- for all riders, and the rule holds, the master having seat 0; no call left more steps than the master knows; what each
--- past tells was done
+-- for all riders, and the rule holds, the master having seat 0; no call left more steps than the master knows; what
+-- each past tells was done
 pub record IsKept (room : Room) (words : List ℕ) (views : List SeatView) : Type 0 where
   pub master : SeatView
   pub seat : get_elem? views 0 ≡ some master
@@ -95,7 +95,8 @@ Adds s before found after = after ≡ (moved (added (s.word - 8) s.first found) 
 
 -- of a compare and exchange of a cell: the rider's view has the change, or else the load
 abbrev pub Exchanges : Step (Unit {0}) → Me (Unit {0}) SeatView → ℕ → Me (Unit {0}) SeatView → Type 0
-Exchanges s before found after = after ≡ (moved (exchanged (s.word - 8) s.first s.second found) before.0, before.1)
+Exchanges s before found after =
+    after ≡ (moved (exchanged (s.word - 8) s.first s.second found) before.0, before.1)
 
 -- of a load of a word of the master's: the rider's view has it, and the rider loaded no greater one before
 abbrev pub Looks : Which → Step (Unit {0}) → Me (Unit {0}) SeatView → ℕ → Me (Unit {0}) SeatView → Type 0

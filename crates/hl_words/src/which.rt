@@ -9,8 +9,8 @@ pub enum Which {
     Ended,
 }
 
-/// Where the cells begin. Calls under the lock and pasts load the row's first word, and any thread may store into a cell.
-/// So eight words (a line of a cache) lie unused before the first cell: else such a load would contend with stores.
+/// Where the cells begin. Calls under the lock and pasts load the row's first word, and any thread may store into a
+/// cell. So eight words (a line of a cache) lie unused before the first cell: else such a load would contend with stores.
 pub(crate) const FIRST: usize = 8;
 
 /// Where each of the three words lies, the number of cells not counted. All threads load them, and any thread may store
