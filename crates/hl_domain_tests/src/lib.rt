@@ -11,6 +11,7 @@
 //! | `protected` | a thread that settles and cuts with a pass in its hands, and asks who holds it up |
 //! | `keeps_up` | when a pass that is kept up refreshes, and when it doesn't |
 //! | `turns` | two threads that bump a new domain |
+//! | `passing` | two threads that pass a value |
 //! | `limits` | the greatest sizes, stamps and journals, and a chain of jobs |
 //! | `wide` | sizes that an engine wants |
 //! | `follow`, `play` | plays an example; what is asked, with the values that the calls use |
@@ -47,6 +48,8 @@ mod keeps_up;
 mod limits;
 #[cfg(test)]
 mod opened;
+#[cfg(test)]
+mod passing;
 #[cfg(test)]
 mod play;
 #[cfg(test)]
