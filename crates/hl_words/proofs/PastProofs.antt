@@ -170,6 +170,10 @@ loads_after_met cells words stores riders i j c v r q newer between earlier late
 calls_more : (riders : List RiderView) (n : ℕ) (front before : List TouchBy) → HasCalls riders n before → HasCalls riders n (front ++ before)
 calls_more riders n front before h j m left q later past at is less = has_more j (Called m left ∷ past) front before (h j m left q later past at is less)
 
+-- what holds of each holds of each of the end
+every_end : (P : TouchBy → Type 0) (all newer rest : List TouchBy) (t : TouchBy) → all ≡ newer ++ t ∷ rest → Every P all → Every P rest
+every_end P all newer rest t is h = (every_back P newer (t ∷ rest) (subst (Every P) is h)).1
+
 -- what holds of each touch of the order holds of each of a rider's
 own_every : (P : Touch → Type 0) (i : ℕ) (order : List TouchBy) → Every (λ (t : TouchBy). P t.touch) order → Every P (touches_of i order)
 own_every P i [] h = tt
@@ -188,9 +192,11 @@ calls_after_met cells words stores riders i j met left first n r q newer between
     let b = cut_at i a.before between t earlier a.own in
     let has = after_met cells words riders h i j q (a.front ++ own ∷ b.front) b.before later past (joined a.front b.front own (by_rider i t) a.before b.before h.0 a.whole b.whole) atj others in
     let found : Finds a.before (Called met left) = (serial_end a.front (own ∷ a.before) (subst IsSerial a.whole h.1.serial)).0 in
-    let all : Every (λ (x : TouchBy). IsUpTo met x.touch) b.before = (every_back (λ (x : TouchBy). IsUpTo met x.touch) b.front (by_rider i t ∷ b.before) (subst (Every (λ (x : TouchBy). IsUpTo met x.touch)) b.whole found.1)).1 in
+    let all : Every (λ (x : TouchBy). IsUpTo met x.touch) b.before = every_end (λ (x : TouchBy). IsUpTo met x.touch) a.before b.front b.before (by_rider i t) b.whole found.1 in
     let theirs : Every (IsUpTo met) (has.0 ++ past) = subst (Every (IsUpTo met)) has.1 (own_every (IsUpTo met) j b.before all) in
-    (every_back (IsUpTo met) recent (Called first n ∷ older) (subst (Every (IsUpTo met)) calls (every_back (IsUpTo met) has.0 past theirs))).0
+    let own_calls : Every (IsUpTo met) past = every_back (IsUpTo met) has.0 past theirs in
+    let parts : Every (IsUpTo met) (recent ++ Called first n ∷ older) = subst (Every (IsUpTo met)) calls own_calls in
+    (every_back (IsUpTo met) recent (Called first n ∷ older) parts).0
 
 pub loads_after_called : LoadsAfterCalled
 loads_after_called cells words stores riders i c v m n r newer between earlier ruled ati mine =
