@@ -1,10 +1,13 @@
 pub mod Cut
 pub mod Line
 pub mod Orders
+pub mod Lawful
 pub mod Standing
 pub mod Steps
+pub mod Seatings
 pub mod Dealing
 pub mod WordAt
 pub mod LawProofs
 pub mod Told
 pub mod PastProofs
+pub mod OneProofs

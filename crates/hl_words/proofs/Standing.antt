@@ -15,7 +15,8 @@ use Rattle.hl_words.specs.Views.{newest, offset_of, greatest_of, with_offset, pl
 use Rattle.hl_words.specs.Rule.{SomeRider, IsUpTo, IsLookUpTo, HasOneOrder, NeverFalls, AreLoads, IsRuled}
 use Rattle.hl_words.specs.Seats.{IsKnown}
 use Rattle.hl_words.proofs.Cut.{every_front, every_back, every_append, every_weaker, every_at, every_from}
-use Rattle.hl_words.proofs.Orders.{order_more, order_every, met_last, put_last, order_to_front, order_from_front, cell_from, lawful_from}
+use Rattle.hl_words.proofs.Orders.{order_more, order_every, met_last, put_last, order_to_front, order_from_front}
+use Rattle.hl_words.proofs.Lawful.{cell_from, lawful_from}
 
 -- what the rider loaded of the offset words are loads of these stores
 abbrev pub Below : OffsetWords → RiderView → Type 0

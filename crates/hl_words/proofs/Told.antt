@@ -9,7 +9,7 @@ use Rattle.hl_words.specs.declared.view.RiderView.{RiderView}
 use Rattle.hl_words.specs.declared.view.SeatView.{SeatView}
 use Rattle.hl_words.specs.Seats.{master_seat, rider_seat, joined_seat, knows_seat, spent_seat, IsKnown, knowing}
 use Rattle.hl_words.specs.declared.view.Known.{Known}
-use Rattle.hl_words.proofs.Steps.{full_seat}
+use Rattle.hl_words.proofs.Seatings.{full_seat}
 use Rattle.hl_words.specs.States.{known_by, known_to_all, IsMasterSeat}
 
 -- the seat of a past's badge

@@ -1,5 +1,5 @@
 -- the law
-use Rattle.hl_words.proofs.PastProofs.{loads_of_newest}
+use Rattle.hl_words.proofs.OneProofs.{loads_of_newest}
 use Rattle.hl_words.proofs.past_laws.loads_of_newest.Goals as goal
 
 pub returns : goal.returns

@@ -1,5 +1,5 @@
 -- the law
-use Rattle.hl_words.proofs.PastProofs.{loads_of_one}
+use Rattle.hl_words.proofs.OneProofs.{loads_of_one}
 use Rattle.hl_words.proofs.past_laws.loads_of_one.Goals as goal
 
 pub returns : goal.returns

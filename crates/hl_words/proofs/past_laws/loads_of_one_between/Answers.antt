@@ -1,5 +1,5 @@
 -- the law
-use Rattle.hl_words.proofs.PastProofs.{loads_of_one_between}
+use Rattle.hl_words.proofs.OneProofs.{loads_of_one_between}
 use Rattle.hl_words.proofs.past_laws.loads_of_one_between.Goals as goal
 
 pub returns : goal.returns

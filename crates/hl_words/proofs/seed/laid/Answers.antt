@@ -1,5 +1,5 @@
 use Rattle.std.proofs.Common.{rules}
-use Rattle.hl_words.proofs.Steps.{begins}
+use Rattle.hl_words.proofs.Seatings.{begins}
 use Rattle.hl_words.proofs.seed.laid.Goals as goal
 
 pub of_words-requires : goal.of_words-requires

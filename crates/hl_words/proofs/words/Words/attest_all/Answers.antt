@@ -1,6 +1,6 @@
 use Rattle.std.proofs.Common.{arith, sym, ◌∙◌}
 use Rattle.hl_words.specs.States.{known_by}
-use Rattle.hl_words.proofs.Steps.{attests}
+use Rattle.hl_words.proofs.Seatings.{attests}
 use Rattle.hl_words.proofs.Told.{of_past}
 use Rattle.hl_words.proofs.words.Words.attest_all.Goals as goal
 

@@ -3,7 +3,7 @@ use Rattle.std.specs.Slots.{slots_items}
 use Rattle.std.proofs.lemmas.List.{length-map}
 use Rattle.hl_words.specs.States.{RiderState, known_to_all}
 use Rattle.hl_words.specs.Rule.{IsRuled}
-use Rattle.hl_words.proofs.Steps.{ends}
+use Rattle.hl_words.proofs.Seatings.{ends}
 use Rattle.hl_words.proofs.Told.{attested, known_back}
 use Rattle.hl_words.proofs.words.Words.end.Goals as goal
 

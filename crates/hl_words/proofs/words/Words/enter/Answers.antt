@@ -1,7 +1,7 @@
 use Rattle.std.proofs.Common.{sym, ap, ◌∙◌, arith}
 use Rattle.hl_words.specs.Seats.{first_seat}
 use Rattle.hl_words.specs.States.{first_rider}
-use Rattle.hl_words.proofs.Steps.{blanks, joins}
+use Rattle.hl_words.proofs.Seatings.{blanks, joins}
 use Rattle.hl_words.proofs.Told.{with_rider}
 use Rattle.hl_words.proofs.words.Words.enter.Goals as goal
 

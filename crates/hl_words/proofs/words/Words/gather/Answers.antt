@@ -1,6 +1,6 @@
 use Rattle.std.proofs.Common.{arith, sym, ap, ◌∙◌}
 use Rattle.std.proofs.lemmas.Grind.{common_steps}
-use Rattle.hl_words.proofs.Steps.{joins}
+use Rattle.hl_words.proofs.Seatings.{joins}
 use Rattle.hl_words.proofs.words.Words.gather.Goals as goal
 
 pub join_seat-requires : goal.join_seat-requires

@@ -1,5 +1,5 @@
 use Rattle.std.proofs.Common.{rules, length, sym, ap, ◌∙◌, arith}
-use Rattle.hl_words.proofs.Steps.{deals}
+use Rattle.hl_words.proofs.Seatings.{deals}
 use Rattle.hl_words.proofs.Dealing.{next_seat, is_rider, given_tied, next_diaries, more_riders, new_long}
 use Rattle.hl_words.proofs.words.Words.open_with_scribe.Goals as goal
 

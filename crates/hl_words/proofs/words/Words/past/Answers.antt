@@ -1,6 +1,6 @@
 use Rattle.std.proofs.Common.{sym, ap, ◌∙◌, arith}
 use Rattle.hl_words.specs.States.{first_rider}
-use Rattle.hl_words.proofs.Steps.{shows}
+use Rattle.hl_words.proofs.Seatings.{shows}
 use Rattle.hl_words.proofs.words.Words.past.Goals as goal
 
 pub split_seat-seat-requires : goal.split_seat-seat-requires

@@ -1,6 +1,6 @@
 use Rattle.std.proofs.Common.{sym, ap, ◌∙◌, arith}
 use Rattle.hl_words.specs.States.{known_by}
-use Rattle.hl_words.proofs.Steps.{copies}
+use Rattle.hl_words.proofs.Seatings.{copies}
 use Rattle.hl_words.proofs.Told.{of_past}
 use Rattle.hl_words.proofs.words.Words.past_again.Goals as goal
 

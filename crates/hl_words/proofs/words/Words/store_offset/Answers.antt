@@ -2,7 +2,7 @@ use Rattle.std.proofs.Common.{rules, ◌≤◌, ◌+◌, sym, ap, ◌∙◌, sub
 use Rattle.hl_words.specs.declared.which.Which.{Which}
 use Rattle.hl_words.specs.declared.which.Which.TheVariants.{ReadOnly, Head, Ended}
 use Rattle.hl_words.specs.Views.{newest, offset_of}
-use Rattle.hl_words.proofs.Steps.{sets_allowed}
+use Rattle.hl_words.proofs.Seatings.{sets_allowed}
 use Rattle.hl_words.proofs.words.Words.store_offset.Goals as goal
 
 pub store-requires : goal.store-requires

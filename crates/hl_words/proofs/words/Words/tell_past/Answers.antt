@@ -1,6 +1,6 @@
 use Rattle.std.proofs.Common.{sym, ap, ◌∙◌, arith}
 use Rattle.hl_words.specs.States.{first_rider, known_by}
-use Rattle.hl_words.proofs.Steps.{tells}
+use Rattle.hl_words.proofs.Seatings.{tells}
 use Rattle.hl_words.proofs.Told.{of_past}
 use Rattle.hl_words.proofs.words.Words.tell_past.Goals as goal
 

@@ -1,5 +1,5 @@
 use Rattle.std.proofs.Common.{arith}
-use Rattle.hl_words.proofs.Steps.{calls}
+use Rattle.hl_words.proofs.Seatings.{calls}
 use Rattle.hl_words.proofs.words.calls.call_at.Goals as goal
 
 pub split_seat-requires : goal.split_seat-requires
