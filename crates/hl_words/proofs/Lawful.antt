@@ -1,14 +1,12 @@
 -- What follows from the one order for each cell and for each rider by itself.
-use Rattle.std.proofs.Common.{◌≡◌, ◌≢◌, ℕ, zero, suc, ◌+◌, ◌<◌, ◌≤◌, ◌==◌, ◌⊎◌, Bool, true, false, List, [], ◌∷◌, ◌++◌, length, set, Some, None, slice_get, refl, ap, sym, ◌∙◌, inl, inr, ⊎_elim, subst, arith, length-append}
+use Rattle.std.proofs.Common.{◌≡◌, ◌≢◌, ℕ, ◌<◌, ◌==◌, ◌⊎◌, Bool, true, false, List, [], ◌∷◌, length, Some, None, refl, ap, sym, ◌∙◌, inl, inr, ⊎_elim, subst}
 use Rattle.std.specs.Prelude.{if◌then◌else◌, slice_index}
 use Rattle.std.specs.List.{AllByRecursion as Every}
-use Rattle.std.proofs.lemmas.Bool.{eq-eqb, ne_eqb, eqb-true, eqb-false, cases_eq}
-use Rattle.std.proofs.lemmas.List.{get_or-set_same, get_or-set_other}
+use Rattle.std.proofs.lemmas.Bool.{eqb-true, eqb-false, cases_eq}
 use Rattle.hl_words.specs.declared.view.Touch.{Touch}
 use Rattle.hl_words.specs.declared.view.Touch.TheVariants.{Stored, Loaded, Changed, Called, Looked, Met}
 use Rattle.hl_words.specs.declared.view.RiderView.{RiderView}
-use Rattle.hl_words.specs.Rule.{last_store, IsQuiet, HasStore, EachRider, SomeRider, IsElsewhere, IsFound, IsLawful, IsCell, TouchBy, by_rider, left_by, held, IsUpTo, IsLookUpTo, Finds, IsSerial, touches_of, AreNamed, HasMet, AreMet, HasOneOrder}
-use Rattle.hl_words.proofs.Cut.{every_weaker, every_at}
+use Rattle.hl_words.specs.Rule.{last_store, IsQuiet, HasStore, EachRider, IsElsewhere, IsFound, IsLawful, IsCell, TouchBy, left_by, held, Finds, IsSerial, touches_of, HasOneOrder}
 use Rattle.hl_words.proofs.Orders.{own_more, there}
 
 -- a touch that stores into the cell, and one that does not

@@ -5,10 +5,10 @@ use Rattle.std.specs.List.{AllByRecursion as Every}
 use Rattle.std.proofs.lemmas.Bool.{eqb-true, cases_eq}
 use Rattle.std.proofs.lemmas.List.{append-nil}
 use Rattle.hl_words.specs.declared.view.Touch.{Touch}
-use Rattle.hl_words.specs.declared.view.Touch.TheVariants.{Loaded, Called, Met}
+use Rattle.hl_words.specs.declared.view.Touch.TheVariants.{Loaded, Called}
 use Rattle.hl_words.specs.declared.view.RiderView.{RiderView}
-use Rattle.hl_words.specs.Rule.{last_store, TouchBy, by_rider, held, IsUpTo, Finds, IsSerial, touches_of, AreMet, HasOneOrder}
-use Rattle.hl_words.specs.Past.{IsLoad, HasAll, HasOnly, HasCalls, HasNoCalls, LoadsAfterMet, LoadsAfterCalled, LoadsBetween, CallsAfterMet, LoadsOfOne, LoadsOfTold, LoadsOfOneBetween, BeginsAfter, IsQuietBetween, LoadsOfNewest}
+use Rattle.hl_words.specs.Rule.{last_store, TouchBy, by_rider, held, touches_of, HasOneOrder}
+use Rattle.hl_words.specs.Past.{HasOnly, HasNoCalls, LoadsOfOne, LoadsOfTold, LoadsOfOneBetween, BeginsAfter, IsQuietBetween, LoadsOfNewest}
 use Rattle.hl_words.proofs.Cut.{every_back}
 use Rattle.hl_words.proofs.Orders.{there, own_more}
 use Rattle.hl_words.proofs.Lawful.{Puts, Passes, puts_or_passes, last_either}

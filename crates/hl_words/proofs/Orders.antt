@@ -1,13 +1,13 @@
 -- The one order of all touches: what one touch more makes of it, that riders may change places in it, and that the clauses on each cell and each rider follow from it.
-use Rattle.std.proofs.Common.{◌≡◌, ◌≢◌, ℕ, zero, suc, ◌+◌, ◌<◌, ◌≤◌, ◌==◌, ◌⊎◌, Bool, true, false, List, [], ◌∷◌, ◌++◌, length, set, Some, None, slice_get, refl, ap, sym, ◌∙◌, inl, inr, ⊎_elim, subst, arith, length-append}
+use Rattle.std.proofs.Common.{◌≡◌, ◌≢◌, ℕ, zero, suc, ◌+◌, ◌<◌, ◌≤◌, ◌==◌, Bool, true, false, List, [], ◌∷◌, ◌++◌, length, set, Some, slice_get, refl, ap, sym, ◌∙◌, ⊎_elim, subst, arith, length-append}
 use Rattle.std.specs.Prelude.{if◌then◌else◌, slice_index}
 use Rattle.std.specs.List.{AllByRecursion as Every}
-use Rattle.std.proofs.lemmas.Bool.{eq-eqb, ne_eqb, eqb-true, eqb-false, cases_eq}
+use Rattle.std.proofs.lemmas.Bool.{eq-eqb, ne_eqb, cases_eq}
 use Rattle.std.proofs.lemmas.List.{get_or-set_same, get_or-set_other}
 use Rattle.hl_words.specs.declared.view.Touch.{Touch}
 use Rattle.hl_words.specs.declared.view.Touch.TheVariants.{Stored, Loaded, Changed, Called, Looked, Met}
 use Rattle.hl_words.specs.declared.view.RiderView.{RiderView}
-use Rattle.hl_words.specs.Rule.{last_store, IsQuiet, HasStore, EachRider, SomeRider, IsElsewhere, IsFound, IsLawful, IsCell, TouchBy, by_rider, left_by, held, IsUpTo, IsLookUpTo, Finds, IsSerial, touches_of, AreNamed, HasMet, AreMet, HasOneOrder}
+use Rattle.hl_words.specs.Rule.{EachRider, SomeRider, TouchBy, by_rider, left_by, held, IsUpTo, IsLookUpTo, Finds, IsSerial, touches_of, AreNamed, HasMet, AreMet, HasOneOrder}
 use Rattle.hl_words.proofs.Cut.{every_weaker, every_at}
 
 module _ {X : Type 0} where

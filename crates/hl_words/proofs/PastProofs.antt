@@ -1,17 +1,15 @@
 -- What travels with a call and with a past, by the one order.
-use Rattle.std.proofs.Common.{◌≡◌, ◌≢◌, ℕ, zero, suc, ◌<◌, ◌≤◌, ◌==◌, ◌⊎◌, Bool, true, false, List, [], ◌∷◌, ◌++◌, length, Some, None, slice_get, refl, ap, sym, ◌∙◌, inl, inr, ⊎_elim, subst, arith, append_assoc, length-append}
-use Rattle.std.specs.Prelude.{if◌then◌else◌, unwrap_or}
+use Rattle.std.proofs.Common.{◌≡◌, ℕ, ◌≤◌, ◌==◌, ◌⊎◌, Bool, true, false, List, [], ◌∷◌, ◌++◌, length, Some, slice_get, refl, ap, sym, ◌∙◌, inl, inr, ⊎_elim, subst, arith, append_assoc, length-append}
+use Rattle.std.specs.Prelude.{if◌then◌else◌}
 use Rattle.std.specs.List.{AllByRecursion as Every}
-use Rattle.std.proofs.lemmas.Bool.{eqb-true, cases_eq}
-use Rattle.std.proofs.lemmas.List.{append-nil}
+use Rattle.std.proofs.lemmas.Bool.{eqb-true}
 use Rattle.hl_words.specs.declared.view.Touch.{Touch}
 use Rattle.hl_words.specs.declared.view.Touch.TheVariants.{Loaded, Called, Met}
 use Rattle.hl_words.specs.declared.view.RiderView.{RiderView}
-use Rattle.hl_words.specs.Rule.{last_store, TouchBy, by_rider, held, IsUpTo, Finds, IsSerial, touches_of, AreMet, HasOneOrder}
-use Rattle.hl_words.specs.Past.{IsLoad, HasAll, HasOnly, HasCalls, HasNoCalls, LoadsAfterMet, LoadsAfterCalled, LoadsBetween, CallsAfterMet, LoadsOfOne, LoadsOfTold, LoadsOfOneBetween, BeginsAfter, IsQuietBetween, LoadsOfNewest}
+use Rattle.hl_words.specs.Rule.{TouchBy, by_rider, IsUpTo, Finds, IsSerial, touches_of, AreMet, HasOneOrder}
+use Rattle.hl_words.specs.Past.{IsLoad, HasAll, HasCalls, HasNoCalls, LoadsAfterMet, LoadsAfterCalled, LoadsBetween, CallsAfterMet}
 use Rattle.hl_words.proofs.Cut.{every_back}
-use Rattle.hl_words.proofs.Orders.{there, own_more}
-use Rattle.hl_words.proofs.Lawful.{Puts, Passes, puts_or_passes, last_either}
+use Rattle.hl_words.proofs.Orders.{own_more}
 
 -- the touches of two lists
 pub touches_both : (i : ℕ) (xs ys : List TouchBy) → touches_of i (xs ++ ys) ≡ touches_of i xs ++ touches_of i ys

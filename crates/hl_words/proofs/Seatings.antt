@@ -1,29 +1,26 @@
 -- What seats give and take keeps the rule: riders, pasts and calls, and the master's own stores.
-use Rattle.std.proofs.Common.{◌≡◌, ℕ, zero, suc, ◌+◌, ◌-◌, ◌<◌, ◌≤◌, List, [], ◌∷◌, ◌++◌, length, set, drop, replicate, Some, slice_get, refl, ap, sym, ◌∙◌, subst, arith, append_assoc, length-append}
-use Rattle.std.specs.Prelude.{slice_index, ◌==◌, ◌%◌, ◌^◌, Bool, true, false, if◌then◌else◌}
-use prog.Atomic.{either}
+use Rattle.std.proofs.Common.{◌≡◌, ℕ, zero, suc, ◌+◌, ◌≤◌, List, [], ◌∷◌, ◌++◌, length, set, drop, replicate, Some, slice_get, refl, ap, sym, ◌∙◌, subst, arith, append_assoc, length-append}
+use Rattle.std.specs.Prelude.{slice_index}
 use Rattle.std.specs.List.{AllByRecursion as Every}
-use Rattle.std.proofs.lemmas.List.{append-nil, length-set, set-get_or, length-replicate}
+use Rattle.std.proofs.lemmas.List.{append-nil, length-set, length-replicate}
 use mathlib.Core.Option.{some, none, some-injective, some-ne-none}
 use lib.ListN.{get_elem?}
 use Rattle.atomic_table.proofs.Lists.{set_else, set_again}
 use Rattle.atomic_table.specs.Table.{Me, step, keeps, Allows, Splits, Joins, Enters, opening, Final, Seen}
-use Rattle.hl_words.specs.declared.view.Touch.{Touch}
-use Rattle.hl_words.specs.declared.view.Touch.TheVariants.{Stored, Loaded, Changed, Called, Looked, Met}
+use Rattle.hl_words.specs.declared.view.Touch.TheVariants.{Called, Met}
 use Rattle.hl_words.specs.declared.view.Known.{Known}
 use Rattle.hl_words.specs.declared.view.OffsetWords.{OffsetWords}
 use Rattle.hl_words.specs.declared.view.RiderView.{RiderView}
 use Rattle.hl_words.specs.declared.view.SeatView.{SeatView}
 use Rattle.hl_words.specs.declared.view.Room.{Room}
 use Rattle.hl_words.specs.declared.which.Which.{Which}
-use Rattle.hl_words.specs.declared.which.Which.TheVariants.{ReadOnly, Head, Ended}
-use Rattle.hl_words.specs.Views.{place_of, no_offsets, offset_of, greatest_of, with_offset, fresh, fresh_from, touched, added, exchanged, with_loaded, looked, past_of, told, called}
-use Rattle.hl_words.specs.Rule.{IsUpTo, HasOneOrder, IsRuled}
-use Rattle.hl_words.specs.Seats.{master_seat, knows_seat, rider_seat, spent_seat, first_seat, riders_in, HasPast, IsKnown, CallsUpTo, IsKept, Holds, Stores, Loads, Adds, Exchanges, Looks, Sets, left_seat, right_seat, joined_seat, left_called, right_called, same_seat, shown_seat, copied_seat, told_seat, attested_seat, Blanks}
-use Rattle.hl_words.proofs.Cut.{every_front, every_back, every_append, every_weaker, every_set, every_elem}
+use Rattle.hl_words.specs.Views.{place_of, no_offsets, offset_of, with_offset, fresh, fresh_from, past_of, told, called}
+use Rattle.hl_words.specs.Rule.{HasOneOrder, IsRuled}
+use Rattle.hl_words.specs.Seats.{master_seat, knows_seat, rider_seat, spent_seat, first_seat, riders_in, HasPast, IsKnown, CallsUpTo, IsKept, Holds, Sets, left_seat, right_seat, joined_seat, left_called, right_called, same_seat, shown_seat, copied_seat, told_seat, attested_seat, Blanks}
+use Rattle.hl_words.proofs.Cut.{every_front, every_back, every_append, every_set, every_elem}
 use Rattle.hl_words.proofs.Line.{line_wide, line_at, line_set}
 use Rattle.hl_words.proofs.Orders.{at_place, some_changed, some_to_front, some_from_front}
-use Rattle.hl_words.proofs.Standing.{IsStanding, Below, no_loads, no_stores, standing_from, ruled_from, to_front, from_front, after_store, after_change, after_load, after_call, after_told, after_look, after_set, found_offset}
+use Rattle.hl_words.proofs.Standing.{IsStanding, Below, no_loads, no_stores, standing_from, ruled_from, to_front, from_front, after_call, after_told, after_set}
 use Rattle.hl_words.proofs.Steps.{AllKnown, Nothing, calls_more, known_more, master_after, parted, past_more, rider_kept}
 
 -- any seat

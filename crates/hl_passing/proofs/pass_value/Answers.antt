@@ -1,4 +1,4 @@
-use Rattle.std.proofs.Common.{◌≡◌, List, [], ◌∷◌, ◌++◌, map, rules}
+use Rattle.std.proofs.Common.{◌≡◌, [], ◌∷◌, rules}
 use Rattle.hl_passing.proofs.Passing.{passes, answered, both_are}
 use Rattle.hl_passing.proofs.pass_value.Goals as goal
 

@@ -49,7 +49,16 @@ impl<L: Realm> Words<L> {
         scribe: Scribe<L>,
         riders: Vec<Rider<L>>,
         pasts: Option<Vec<Past<L>>>,
-    ) -> Result<LastWords, (Words<L>, Master<L>, Scribe<L>, Vec<Rider<L>>, Option<Vec<Past<L>>>)>
+    ) -> Result<
+        LastWords,
+        (
+            Words<L>,
+            Master<L>,
+            Scribe<L>,
+            Vec<Rider<L>>,
+            Option<Vec<Past<L>>>,
+        ),
+    >
         ensures all { OnOk result (length riders.items ≡ self.riders) }
         ensures total { OnOk result (master.total ≡ sum_by (λ r. r.share) riders.items) }
         ensures cells { IfOk result (λ last. last.cells ≡ self.cells) }
