@@ -1,7 +1,7 @@
 -- Calls that entered nothing.
 use Rattle.std.proofs.Common.{◌≡◌, ℕ, ◌+◌, [], ◌∷◌, refl, ap, ◌∙◌, arith}
 use Rattle.hl_history.specs.Lists.{entry}
-use Rattle.hl_words.specs.States.{RiderState}
+use Rattle.hl_words.specs.States.{RiderState, with_call}
 use Rattle.hl_keeper.specs.Keepers.{KeeperState}
 use Rattle.hl_domain.specs.Domains.{DomainState, LeavesUnderLock, no_step}
 use Rattle.hl_crew.specs.Waits.{Waits}
@@ -17,5 +17,5 @@ waits_one {old} left =
     record {
       more = entry left.list [] ∷ [];
       empty = (refl, tt);
-      is = left.entered ∙ ap (λ (n : ℕ). record { view = old.view; share = n; calls = entry left.list [] ∷ old.calls }) same;
+      is = left.entered ∙ ap (λ (n : ℕ). with_call (entry left.list []) (record { view = old.view; share = n; calls = old.calls })) same;
     }
