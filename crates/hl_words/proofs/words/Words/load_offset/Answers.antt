@@ -5,6 +5,9 @@ use Rattle.hl_words.proofs.Steps.{looks_allowed}
 use Rattle.hl_words.proofs.words.Words.load_offset.Goals as goal
 use Rattle.hl_words.proofs.words.Words.load_offset.Goals.{in-ReadOnly, in-Head, in-Ended}
 
+pub returns-clause-view : goal.returns-clause-view
+returns-clause-view g c = search rules
+
 pub load-requires : goal.load-requires
 load-requires g c =
     let t = c.self.invariant in
@@ -38,6 +41,3 @@ returns-clause-rises g c =
       | in-Head w ↦ rw (w.result-is, w.in-Head.is, ← c.rider.view_is) (w.load-in-Head.ensures.2.1 0 (first_rider c.rider.inside.seat.me.0) at)
       | in-Ended w ↦ rw (w.result-is, w.in-Ended.is, ← c.rider.view_is) (w.load-in-Ended.ensures.2.1 0 (first_rider c.rider.inside.seat.me.0) at)
     ]
-
-pub returns-clause-view : goal.returns-clause-view
-returns-clause-view g c = search rules
