@@ -11,6 +11,7 @@
 //! | `protected` | a thread that settles and cuts with a pass in its hands, and asks who holds it up |
 //! | `keeps_up` | when a pass that is kept up refreshes, and when it doesn't |
 //! | `turns` | two threads that bump a new domain |
+//! | `passing` | two threads that pass a value |
 //! | `sums` | two threads that add to a counter of a new domain |
 //! | `limits` | the greatest sizes, stamps and journals, and a chain of jobs |
 //! | `wide` | sizes that an engine wants |
@@ -48,6 +49,8 @@ mod keeps_up;
 mod limits;
 #[cfg(test)]
 mod opened;
+#[cfg(test)]
+mod passing;
 #[cfg(test)]
 mod play;
 #[cfg(test)]

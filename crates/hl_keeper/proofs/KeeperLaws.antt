@@ -23,7 +23,7 @@ use Rattle.hl_keeper.proofs.StampLaws.{acquires_in-nil, acquires_in-stay, slot_s
 
 module _ {F : Type 0} where
   -- a keeper that was just opened
-  pub opened : (core : State (KeptRecord F)) (journal : JournalState) (limit : ℕ) (stamps : List ℕ) (stamp : ℕ) (master : MasterState) (sizes : Sizes) → Stands job_tag core [] → core.sizes ≡ sizes → journal ≡ record { base = base_of sizes []; cut = 0; steps = []; limit = limit } → stamps ≡ replicate sizes.slots 0 → stamp ≤ steps_most → master ≡ record { offsets = no_offsets; total = 0 }
+  pub opened : (core : State (KeptRecord F)) (journal : JournalState) (limit : ℕ) (stamps : List ℕ) (stamp : ℕ) (master : MasterState) (sizes : Sizes) → Stands job_tag core [] → core.sizes ≡ sizes → journal ≡ record { base = base_of sizes []; cut = 0; steps = []; limit = limit } → stamps ≡ replicate sizes.slots 0 → stamp ≤ steps_most → master ≡ record { offsets = no_offsets; total = 0; called = 0 }
       → KeeperStands {F = F} (record { core = core; base = journal.base; cut = journal.cut; journal = journal.steps; limit = journal.limit; stamps = stamps; stamp = stamp; acquired = 0; offsets = master.offsets; total = master.total; called = master.called }) []
   opened core journal limit stamps stamp master sizes st same j s most m = record {
     core_stands = st;

@@ -1,12 +1,11 @@
 -- The master's seat deals out riders one after another.
 use Rattle.std.proofs.Common.{◌≡◌, ℕ, zero, suc, ◌+◌, ◌-◌, ◌<◌, List, [], ◌∷◌, ◌++◌, replicate, take, drop, refl, ap, sym, ◌∙◌, subst, arith, length, length-append}
 use Rattle.std.specs.Prelude.{slice_index_or}
-use Rattle.std.proofs.lemmas.List.{replicate_more}
 use Rattle.atomic_table.specs.Table.{Me}
 use Rattle.hl_history.specs.declared.view.Entry.{Entry}
 use Rattle.hl_history.specs.States.{GatheredState}
 use Rattle.hl_words.specs.declared.view.SeatView.{SeatView}
-use Rattle.hl_words.specs.Views.{no_offsets, fresh, fresh_from, unused}
+use Rattle.hl_words.specs.Views.{no_offsets, fresh, fresh_from}
 use Rattle.hl_words.specs.Seats.{seat_of, rider_seat, left_seat, right_seat}
 use Rattle.hl_words.specs.States.{RiderState, first_rider, AreTied, new_rider, new_riders}
 

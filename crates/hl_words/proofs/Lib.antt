@@ -1,4 +1,5 @@
 pub mod Cut
+pub mod Line
 pub mod Orders
 pub mod Standing
 pub mod Steps

@@ -357,7 +357,6 @@ puts_or_passes c (Changed d found v) = by (d == c) refl
       last = λ l. ap (λ (x : Bool). if x then Some v else last_store c l) e;
       quiet = λ before l f z q. (eqb-false d c e, q);
     }
-
 puts_or_passes c (Called met left) = inr record {
   leaves = λ w. refl;
   last = λ l. refl;
@@ -446,7 +445,6 @@ last_has c v (Changed d found w ∷ before) e = by (d == c) refl e (last_has c v
     by : (b : Bool) → (d == c) ≡ b → (if b then Some w else last_store c before) ≡ Some v → (last_store c before ≡ Some v → HasStore c v before) → ((d ≡ c) × (w ≡ v)) ⊎ HasStore c v before
     by true same is rest = inl (eqb-true d c same, cc is)
     by false same is rest = inr (rest is)
-
 last_has c v (Called met left ∷ before) e = last_has c v before e
 last_has c v (Looked which x ∷ before) e = last_has c v before e
 last_has c v (Met name count ∷ before) e = last_has c v before e

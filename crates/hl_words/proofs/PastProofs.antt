@@ -1,17 +1,16 @@
 -- What travels with a call and with a past, by the one order.
-use Rattle.std.proofs.Common.{◌≡◌, ◌≢◌, ℕ, zero, suc, ◌+◌, ◌<◌, ◌≤◌, ◌==◌, ◌⊎◌, Bool, true, false, List, [], ◌∷◌, ◌++◌, length, Some, None, slice_get, refl, ap, sym, ◌∙◌, inl, inr, ⊎_elim, subst, arith, append_assoc, length-append}
+use Rattle.std.proofs.Common.{◌≡◌, ◌≢◌, ℕ, zero, suc, ◌<◌, ◌≤◌, ◌==◌, ◌⊎◌, Bool, true, false, List, [], ◌∷◌, ◌++◌, length, Some, None, slice_get, refl, ap, sym, ◌∙◌, inl, inr, ⊎_elim, subst, arith, append_assoc, length-append}
 use Rattle.std.specs.Prelude.{if◌then◌else◌, unwrap_or}
 use Rattle.std.specs.List.{AllByRecursion as Every}
 use Rattle.std.proofs.lemmas.Bool.{eqb-true, cases_eq}
 use Rattle.std.proofs.lemmas.List.{append-nil}
 use Rattle.hl_words.specs.declared.view.Touch.{Touch}
 use Rattle.hl_words.specs.declared.view.Touch.TheVariants.{Loaded, Called, Met}
-use Rattle.hl_words.specs.declared.view.OffsetWords.{OffsetWords}
 use Rattle.hl_words.specs.declared.view.RiderView.{RiderView}
-use Rattle.hl_words.specs.Rule.{last_store, EachRider, TouchBy, by_rider, left_by, held, IsUpTo, Finds, IsSerial, touches_of, AreNamed, AreMet, HasMet, HasOneOrder, IsRuled}
-use Rattle.hl_words.specs.Past.{IsLoad, HasAll, HasOnly, HasCalls, HasNoCalls, LoadsAfterMet, LoadsAfterCalled, LoadsBetween, CallsAfterMet, LoadsOfOne, LoadsOfTold, LoadsOfOneBetween, EndsBefore, BeginsAfter, IsQuietBetween, LoadsOfNewest}
+use Rattle.hl_words.specs.Rule.{last_store, TouchBy, by_rider, held, IsUpTo, Finds, IsSerial, touches_of, AreMet, HasOneOrder}
+use Rattle.hl_words.specs.Past.{IsLoad, HasAll, HasOnly, HasCalls, HasNoCalls, LoadsAfterMet, LoadsAfterCalled, LoadsBetween, CallsAfterMet, LoadsOfOne, LoadsOfTold, LoadsOfOneBetween, BeginsAfter, IsQuietBetween, LoadsOfNewest}
 use Rattle.hl_words.proofs.Cut.{every_back}
-use Rattle.hl_words.proofs.Orders.{there, within, own_more, Puts, Passes, puts_or_passes, last_either}
+use Rattle.hl_words.proofs.Orders.{there, own_more, Puts, Passes, puts_or_passes, last_either}
 
 -- the touches of two lists
 pub touches_both : (i : ℕ) (xs ys : List TouchBy) → touches_of i (xs ++ ys) ≡ touches_of i xs ++ touches_of i ys
@@ -52,7 +51,7 @@ cut_at i (s ∷ order) newer t older e = by (λ n h. cut_at i order n t older h)
 
 module _ {X : Type 0} where
   -- two places of one list: the one comes first, or they are the same, or the other comes first
-  compared : (xs : List X) (a : X)  (ar ys : List X) (b : X) (bs : List X) → xs ++ a ∷ ar ≡ ys ++ b ∷ bs
+  compared : (xs : List X) (a : X) (ar ys : List X) (b : X) (bs : List X) → xs ++ a ∷ ar ≡ ys ++ b ∷ bs
       → ((mid : List X) × (ar ≡ mid ++ b ∷ bs)) ⊎ (((a ≡ b) × (ar ≡ bs)) ⊎ ((mid : List X) × (bs ≡ mid ++ a ∷ ar)))
   compared [] a ar [] b bs e = let h : a ≡ b = cc e in let t : ar ≡ bs = cc e in inr (inl (h, t))
   compared [] a ar (y ∷ ys) b bs e = let t : ar ≡ ys ++ b ∷ bs = cc e in inl (ys, t)
@@ -258,8 +257,7 @@ loads_between cells words stores riders i k c v met begun done left r f last bet
     let own = newer ++ Loaded c v ∷ rest in
     let m = Met r.name (length own) in
     let a = load_before cells words riders h i k c v done left r f last own newer rest newest middle (more ++ told) refl ati atk mine others in
-    let its : f.touches ≡ ((newest ++ Called done left ∷ (middle ++ m ∷ [])) ++ more) ++ told = others ∙ its_end newest middle (more ++ told) (Called done left) m ∙ sym (append_assoc (newest ++ Called done left ∷ (middle ++ m ∷ [])) more told) in
-    (
+    let its : f.touches ≡ ((newest ++ Called done left ∷ (middle ++ m ∷ [])) ++ more) ++ told = others ∙ its_end newest middle (more ++ told) (Called done left) m ∙ sym (append_assoc (newest ++ Called done left ∷ (middle ++ m ∷ [])) more told) in (
       a.0,
       load_at cells words riders h i c v a.1 a.0 a.2,
       told_calls cells words riders h i k met begun f ((newest ++ Called done left ∷ (middle ++ m ∷ [])) ++ more) told first oldest between earlier a.1 a.0 (by_rider i (Loaded c v)) refl atk its a.2 a.3,

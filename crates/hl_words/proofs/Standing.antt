@@ -169,26 +169,26 @@ module _ (front : List RiderView) (r : RiderView) (back : List RiderView) where
       (every_back (Below last) front (r ∷ back) h.offset).0
 
   -- a cell found, and changed in the same step
-  pub after_change : (cells : ℕ) (words : List ℕ) (last : OffsetWords) (c v : ℕ) → c < cells → length words ≡ cells + 19
-      → IsStanding cells words last (front ++ r ∷ back) → IsStanding cells (set words c v) last (front ++ touched (Changed c (slice_index words c) v) r ∷ back)
-  after_change cells words last c v less width h =
-      let t = Changed c (slice_index words c) v in
+  pub after_change : (cells : ℕ) (words : List ℕ) (last : OffsetWords) (c found v : ℕ) → c < cells → length words ≡ cells + 19 → found ≡ slice_index words c
+      → IsStanding cells words last (front ++ r ∷ back) → IsStanding cells (set words c v) last (front ++ touched (Changed c found v) r ∷ back)
+  after_change cells words last c found v less width is h =
+      let t = Changed c found v in
       let q = touched t r in
       changed cells words (set words c v) last q h
-      (order_more cells words (set words c v) front r q back t refl refl h.order (h.order.1.last c less) tt (put_last cells words c v less width h.order.0 h.order.1.last))
+      (order_more cells words (set words c v) front r q back t refl refl h.order (is ∙ h.order.1.last c less) tt (put_last cells words c v less width h.order.0 h.order.1.last))
       (get_or-set_other words c (cells + 8) v 0 (λ e. omega arith))
       (get_or-set_other words c (cells + 9) v 0 (λ e. omega arith))
       (get_or-set_other words c (cells + 10) v 0 (λ e. omega arith))
       (every_back (Below last) front (r ∷ back) h.offset).0
 
   -- a load of a cell
-  pub after_load : (cells : ℕ) (words : List ℕ) (last : OffsetWords) (c : ℕ) → c < cells
-      → IsStanding cells words last (front ++ r ∷ back) → IsStanding cells words last (front ++ touched (Loaded c (slice_index words c)) r ∷ back)
-  after_load cells words last c less h =
-      let t = Loaded c (slice_index words c) in
+  pub after_load : (cells : ℕ) (words : List ℕ) (last : OffsetWords) (c found : ℕ) → c < cells → found ≡ slice_index words c
+      → IsStanding cells words last (front ++ r ∷ back) → IsStanding cells words last (front ++ touched (Loaded c found) r ∷ back)
+  after_load cells words last c found less is h =
+      let t = Loaded c found in
       let q = touched t r in
       changed cells words words last q h
-      (order_more cells words words front r q back t refl refl h.order (h.order.1.last c less) tt h.order.1.last)
+      (order_more cells words words front r q back t refl refl h.order (is ∙ h.order.1.last c less) tt h.order.1.last)
       refl
       refl
       refl

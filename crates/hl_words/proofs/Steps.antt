@@ -1,5 +1,5 @@
 -- Each step of the table keeps its rule, whatever the table is when the step is taken.
-use Rattle.std.proofs.Common.{◌≡◌, ℕ, zero, suc, ◌+◌, ◌<◌, ◌≤◌, List, [], ◌∷◌, ◌++◌, length, map, set, replicate, Some, slice_get, refl, ap, sym, ◌∙◌, subst, arith, append_assoc, length-append}
+use Rattle.std.proofs.Common.{◌≡◌, ℕ, zero, suc, ◌+◌, ◌-◌, ◌<◌, ◌≤◌, List, [], ◌∷◌, ◌++◌, length, set, drop, replicate, Some, slice_get, refl, ap, sym, ◌∙◌, subst, arith, append_assoc, length-append}
 use Rattle.std.specs.Prelude.{slice_index, ◌==◌, ◌%◌, ◌^◌, Bool, true, false, if◌then◌else◌}
 use prog.Atomic.{either}
 use Rattle.std.specs.List.{AllByRecursion as Every}
@@ -18,9 +18,10 @@ use Rattle.hl_words.specs.declared.view.Room.{Room}
 use Rattle.hl_words.specs.declared.which.Which.{Which}
 use Rattle.hl_words.specs.declared.which.Which.TheVariants.{ReadOnly, Head, Ended}
 use Rattle.hl_words.specs.Views.{place_of, no_offsets, offset_of, greatest_of, with_offset, fresh, fresh_from, touched, added, exchanged, with_loaded, looked, past_of, told, called}
-use Rattle.hl_words.specs.Rule.{SomeRider, IsUpTo, AreNamed, HasOneOrder, IsRuled}
-use Rattle.hl_words.specs.Seats.{seat_of, master_seat, knows_seat, rider_seat, spent_seat, first_seat, riders_in, HasPast, IsKnown, CallsUpTo, IsKept, Holds, Stores, Loads, Adds, Exchanges, Looks, with_store, Sets, left_seat, right_seat, joined_seat, left_called, right_called, same_seat, shown_seat, copied_seat, told_seat, attested_seat, Blanks}
+use Rattle.hl_words.specs.Rule.{IsUpTo, HasOneOrder, IsRuled}
+use Rattle.hl_words.specs.Seats.{master_seat, knows_seat, rider_seat, spent_seat, first_seat, riders_in, HasPast, IsKnown, CallsUpTo, IsKept, Holds, Stores, Loads, Adds, Exchanges, Looks, Sets, left_seat, right_seat, joined_seat, left_called, right_called, same_seat, shown_seat, copied_seat, told_seat, attested_seat, Blanks}
 use Rattle.hl_words.proofs.Cut.{every_front, every_back, every_append, every_weaker, every_set, every_elem}
+use Rattle.hl_words.proofs.Line.{line_wide, line_at, line_set}
 use Rattle.hl_words.proofs.Orders.{at_place, some_changed, some_to_front, some_from_front}
 use Rattle.hl_words.proofs.Standing.{IsStanding, Below, no_loads, no_stores, standing_from, ruled_from, to_front, from_front, after_store, after_change, after_load, after_call, after_told, after_look, after_set, found_offset}
 
@@ -82,14 +83,14 @@ past_more past r q h k = (k.0 ++ h.0, k.1 ∙ ap (λ (l : List Touch). k.0 ++ l)
 -- one rider's view and some words change
 rider_kept : (room : Room) (words after : List ℕ) (views : List SeatView) (id : ℕ) (r q : RiderView) → IsKept room words views → get_elem? views id ≡ some (rider_seat r) → length after ≡ length words
     → q.name ≡ r.name → HasPast r.touches q → ((n : ℕ) → CallsUpTo n r → CallsUpTo n q)
-    → ((front back : List RiderView) (last : OffsetWords) → riders_in views ≡ front ++ r ∷ back → IsStanding room.cells words last (front ++ r ∷ back) → IsStanding room.cells after last (front ++ q ∷ back))
+    → ((front back : List RiderView) (last : OffsetWords) → riders_in views ≡ front ++ r ∷ back → IsStanding room.cells (drop 8 words) last (front ++ r ∷ back) → IsStanding room.cells (drop 8 after) last (front ++ q ∷ back))
     → IsKept room after (set views id (rider_seat q))
 rider_kept room words after views id r q h at width named longer fits move =
     let p = parted views id (rider_seat r) at in
     let m = master_after views id h.master (rider_seat r) (rider_seat q) h.seat at refl refl in
     let now = p.after (rider_seat q) in
-    let standing = standing_from room.cells words h.master.offsets (p.front ++ r ∷ p.back) (subst (λ l. IsRuled room.cells words h.master.offsets l) p.before h.ruled) in
-    let moved = ruled_from room.cells after h.master.offsets (p.front ++ q ∷ p.back) (move p.front p.back h.master.offsets p.before standing) in
+    let standing = standing_from room.cells (drop 8 words) h.master.offsets (p.front ++ r ∷ p.back) (subst (λ l. IsRuled room.cells (drop 8 words) h.master.offsets l) p.before h.ruled) in
+    let moved = ruled_from room.cells (drop 8 after) h.master.offsets (p.front ++ q ∷ p.back) (move p.front p.back h.master.offsets p.before standing) in
     let n = h.master.called in
     let calls : Every (CallsUpTo n) (p.front ++ r ∷ p.back) = subst (λ l. Every (CallsUpTo n) l) p.before h.called in
     let ends = every_back (CallsUpTo n) p.front (r ∷ p.back) calls in
@@ -102,64 +103,76 @@ rider_kept room words after views id r q h at width named longer fits move =
       seat = m.1;
       width = width ∙ h.width;
       count = ap length now ∙ length-append p.front (q ∷ p.back) ∙ sym (length-append p.front (r ∷ p.back)) ∙ sym (ap length p.before) ∙ h.count;
-      ruled = subst (λ l. IsRuled room.cells after m.0.offsets l) (sym now) (subst (λ o. IsRuled room.cells after o (p.front ++ q ∷ p.back)) (sym m.2) moved);
+      ruled = subst (λ l. IsRuled room.cells (drop 8 after) m.0.offsets l) (sym now) (subst (λ o. IsRuled room.cells (drop 8 after) o (p.front ++ q ∷ p.back)) (sym m.2) moved);
       called = subst (λ l. Every (CallsUpTo m.0.called) l) (sym now) (subst (λ c. Every (CallsUpTo c) (p.front ++ q ∷ p.back)) (sym m.3) called_now);
       known = known_more (riders_in views) (riders_in (set views id (rider_seat q))) (set views id (rider_seat q)) grows (every_set (λ (v : SeatView). Every (IsKnown (riders_in views)) v.known) views id (rider_seat q) h.known tt);
     }
 
 -- what the rule says of the words and of one rider
 standing_at : (room : Room) (words : List ℕ) (views : List SeatView) (id : ℕ) (r : RiderView) → (h : IsKept room words views) → (at : get_elem? views id ≡ some (rider_seat r))
-    → IsStanding room.cells words h.master.offsets ((parted views id (rider_seat r) at).front ++ r ∷ (parted views id (rider_seat r) at).back)
+    → IsStanding room.cells (drop 8 words) h.master.offsets ((parted views id (rider_seat r) at).front ++ r ∷ (parted views id (rider_seat r) at).back)
 standing_at room words views id r h at =
     let p = parted views id (rider_seat r) at in
-    standing_from room.cells words h.master.offsets (p.front ++ r ∷ p.back) (subst (λ l. IsRuled room.cells words h.master.offsets l) p.before h.ruled)
+    standing_from room.cells (drop 8 words) h.master.offsets (p.front ++ r ∷ p.back) (subst (λ l. IsRuled room.cells (drop 8 words) h.master.offsets l) p.before h.ruled)
 
 module _ (room : Room) (slots : ℕ) (id : ℕ) where
-  pub stores_allowed : (me : Me Nothing SeatView) (r : RiderView) (c v : ℕ) → me ≡ (rider_seat r, []) → c < room.cells
-      → Allows (Holds room) slots id me c (λ _. v) (λ _. Stores (step slots c v 0 none) me v)
-  stores_allowed me r c v is less = subst (λ (m : Me Nothing SeatView). Allows (Holds room) slots id m c (λ _. v) (λ _. Stores (step slots c v 0 none) m v)) (sym is)
-      (λ s h homes at bound. (
-        rider_seat (touched (Stored c v) r),
-        keeps,
-        tt,
-        rider_kept room s.words (set s.words c v) s.views id r (touched (Stored c v) r) h at (length-set s.words c v) refl (Stored c v ∷ [], refl) (λ n e. (tt, e)) (λ front back last b k. after_store front r back room.cells s.words last c v less h.width k),
-        refl,
-      ))
-
-  pub loads_allowed : (me : Me Nothing SeatView) (r : RiderView) (c : ℕ) → me ≡ (rider_seat r, []) → c < room.cells
-      → Allows (Holds room) slots id me c (λ n. n) (Loads (step slots c 0 0 none) me)
-  loads_allowed me r c is less = subst (λ (m : Me Nothing SeatView). Allows (Holds room) slots id m c (λ n. n) (Loads (step slots c 0 0 none) m)) (sym is)
-      (λ s h homes at bound. let q = touched (Loaded c (slice_index s.words c)) r in (
+  pub stores_allowed : (me : Me Nothing SeatView) (r : RiderView) (w v : ℕ) → me ≡ (rider_seat r, []) → 8 ≤ w → w - 8 < room.cells
+      → Allows (Holds room) slots id me w (λ _. v) (λ _. Stores (step slots w v 0 none) me v)
+  stores_allowed me r w v is behind less = subst (λ (m : Me Nothing SeatView). Allows (Holds room) slots id m w (λ _. v) (λ _. Stores (step slots w v 0 none) m v)) (sym is)
+      (λ s h homes at bound. let q = touched (Stored (w - 8) v) r in (
         rider_seat q,
         keeps,
         tt,
-        subst (λ ws. IsKept room ws (set s.views id (rider_seat q))) (sym (set-get_or s.words c 0))
-            (rider_kept room s.words s.words s.views id r q h at refl refl (Loaded c (slice_index s.words c) ∷ [], refl) (λ n e. (tt, e)) (λ front back last b k. after_load front r back room.cells s.words last c less k)),
+        rider_kept room s.words (set s.words w v) s.views id r q h at (length-set s.words w v) refl (Stored (w - 8) v ∷ [], refl) (λ n e. (tt, e))
+            (λ front back last b k.
+            subst (λ ws. IsStanding room.cells ws last (front ++ q ∷ back)) (sym (line_set s.words w (w - 8) v (omega (arith, behind))))
+            (after_store front r back room.cells (drop 8 s.words) last (w - 8) v less (line_wide room.cells s.words h.width) k)),
         refl,
       ))
+
+  -- a rider loads a cell
+  loaded : (words : List ℕ) (views : List SeatView) (r : RiderView) (w : ℕ) → 8 ≤ w → w - 8 < room.cells → IsKept room words views → get_elem? views id ≡ some (rider_seat r)
+      → IsKept room (set words w (slice_index words w)) (set views id (rider_seat (touched (Loaded (w - 8) (slice_index words w)) r)))
+  loaded words views r w behind less h at =
+      let found = slice_index words w in
+      let q = touched (Loaded (w - 8) found) r in
+      subst (λ ws. IsKept room ws (set views id (rider_seat q))) (sym (set-get_or words w 0))
+      (rider_kept room words words views id r q h at refl refl (Loaded (w - 8) found ∷ [], refl) (λ n e. (tt, e))
+      (λ front back last b k. after_load front r back room.cells (drop 8 words) last (w - 8) found less (line_at words w (w - 8) (omega (arith, behind))) k))
+
+  pub loads_allowed : (me : Me Nothing SeatView) (r : RiderView) (w : ℕ) → me ≡ (rider_seat r, []) → 8 ≤ w → w - 8 < room.cells
+      → Allows (Holds room) slots id me w (λ n. n) (Loads (step slots w 0 0 none) me)
+  loads_allowed me r w is behind less = subst (λ (m : Me Nothing SeatView). Allows (Holds room) slots id m w (λ n. n) (Loads (step slots w 0 0 none) m)) (sym is)
+      (λ s h homes at bound. (rider_seat (touched (Loaded (w - 8) (slice_index s.words w)) r), keeps, tt, loaded s.words s.views r w behind less h at, refl))
 
   -- a rider changes a cell, in one step
-  changed : (words : List ℕ) (views : List SeatView) (r : RiderView) (c v : ℕ) → c < room.cells → IsKept room words views → get_elem? views id ≡ some (rider_seat r)
-      → IsKept room (set words c v) (set views id (rider_seat (touched (Changed c (slice_index words c) v) r)))
-  changed words views r c v less h at =
-      rider_kept room words (set words c v) views id r (touched (Changed c (slice_index words c) v) r) h at (length-set words c v) refl (Changed c (slice_index words c) v ∷ [], refl) (λ n e. (tt, e)) (λ front back last b k. after_change front r back room.cells words last c v less h.width k)
+  changed : (words : List ℕ) (views : List SeatView) (r : RiderView) (w v : ℕ) → 8 ≤ w → w - 8 < room.cells → IsKept room words views → get_elem? views id ≡ some (rider_seat r)
+      → IsKept room (set words w v) (set views id (rider_seat (touched (Changed (w - 8) (slice_index words w) v) r)))
+  changed words views r w v behind less h at =
+      let found = slice_index words w in
+      let q = touched (Changed (w - 8) found v) r in
+      let place : w ≡ 8 + (w - 8) = omega (arith, behind) in
+      rider_kept room words (set words w v) views id r q h at (length-set words w v) refl (Changed (w - 8) found v ∷ [], refl) (λ n e. (tt, e))
+      (λ front back last b k.
+      subst (λ ws. IsStanding room.cells ws last (front ++ q ∷ back)) (sym (line_set words w (w - 8) v place))
+      (after_change front r back room.cells (drop 8 words) last (w - 8) found v less (line_wide room.cells words h.width) (line_at words w (w - 8) place) k))
 
-  pub adds_allowed : (me : Me Nothing SeatView) (r : RiderView) (c more : ℕ) → me ≡ (rider_seat r, []) → c < room.cells
-      → Allows (Holds room) slots id me c (λ n. (n + more) % 2 ^ 64) (Adds (step slots c more 0 none) me)
-  adds_allowed me r c more is less = subst (λ (m : Me Nothing SeatView). Allows (Holds room) slots id m c (λ n. (n + more) % 2 ^ 64) (Adds (step slots c more 0 none) m)) (sym is)
-      (λ s h homes at bound. let found = slice_index s.words c in (
-        rider_seat (added c more found r),
+  pub adds_allowed : (me : Me Nothing SeatView) (r : RiderView) (w more : ℕ) → me ≡ (rider_seat r, []) → 8 ≤ w → w - 8 < room.cells
+      → Allows (Holds room) slots id me w (λ n. (n + more) % 2 ^ 64) (Adds (step slots w more 0 none) me)
+  adds_allowed me r w more is behind less = subst (λ (m : Me Nothing SeatView). Allows (Holds room) slots id m w (λ n. (n + more) % 2 ^ 64) (Adds (step slots w more 0 none) m)) (sym is)
+      (λ s h homes at bound. let found = slice_index s.words w in (
+        rider_seat (added (w - 8) more found r),
         keeps,
         tt,
-        changed s.words s.views r c ((found + more) % 2 ^ 64) less h at,
+        changed s.words s.views r w ((found + more) % 2 ^ 64) behind less h at,
         refl,
       ))
 
-  pub exchanges_allowed : (me : Me Nothing SeatView) (r : RiderView) (c old new : ℕ) → me ≡ (rider_seat r, []) → c < room.cells
-      → Allows (Holds room) slots id me c (λ n. either (n == old) new n) (Exchanges (step slots c old new none) me)
-  exchanges_allowed me r c old new is less = subst (λ (m : Me Nothing SeatView). Allows (Holds room) slots id m c (λ n. either (n == old) new n) (Exchanges (step slots c old new none) m)) (sym is)
-      (λ s h homes at bound. let found = slice_index s.words c in (
-        rider_seat (exchanged c old new found r),
+  pub exchanges_allowed : (me : Me Nothing SeatView) (r : RiderView) (w old new : ℕ) → me ≡ (rider_seat r, []) → 8 ≤ w → w - 8 < room.cells
+      → Allows (Holds room) slots id me w (λ n. either (n == old) new n) (Exchanges (step slots w old new none) me)
+  exchanges_allowed me r w old new is behind less = subst (λ (m : Me Nothing SeatView). Allows (Holds room) slots id m w (λ n. either (n == old) new n) (Exchanges (step slots w old new none) m)) (sym is)
+      (λ s h homes at bound. let found = slice_index s.words w in (
+        rider_seat (exchanged (w - 8) old new found r),
         keeps,
         tt,
         kept s.words s.views h at (found == old),
@@ -167,22 +180,19 @@ module _ (room : Room) (slots : ℕ) (id : ℕ) where
       ))
     where
       kept : (words : List ℕ) (views : List SeatView) → IsKept room words views → get_elem? views id ≡ some (rider_seat r) → (same : Bool)
-          → let found = slice_index words c in
-          IsKept room (set words c (either same new found)) (set views id (rider_seat (if same then touched (Changed c found new) r else touched (Loaded c found) r)))
-      kept words views h at true = changed words views r c new less h at
-      kept words views h at false =
-          let q = touched (Loaded c (slice_index words c)) r in
-          subst (λ ws. IsKept room ws (set views id (rider_seat q))) (sym (set-get_or words c 0))
-          (rider_kept room words words views id r q h at refl refl (Loaded c (slice_index words c) ∷ [], refl) (λ n e. (tt, e)) (λ front back last b k. after_load front r back room.cells words last c less k))
+          → let found = slice_index words w in
+          IsKept room (set words w (either same new found)) (set views id (rider_seat (if same then touched (Changed (w - 8) found new) r else touched (Loaded (w - 8) found) r)))
+      kept words views h at true = changed words views r w new behind less h at
+      kept words views h at false = loaded words views r w behind less h at
 
-  pub looks_allowed : (me : Me Nothing SeatView) (r : RiderView) (which : Which) (i : ℕ) → me ≡ (rider_seat r, []) → i ≡ place_of which room.cells
+  pub looks_allowed : (me : Me Nothing SeatView) (r : RiderView) (which : Which) (i : ℕ) → me ≡ (rider_seat r, []) → i ≡ 8 + place_of which room.cells
       → Allows (Holds room) slots id me i (λ n. n) (Looks which (step slots i 0 0 none) me)
   looks_allowed me r which i is place = subst (λ (m : Me Nothing SeatView). Allows (Holds room) slots id m i (λ n. n) (Looks which (step slots i 0 0 none) m)) (sym is)
       (λ s h homes at bound.
       let x = slice_index s.words i in
       let q = with_loaded which x r in
-      let found : (last : OffsetWords) (riders : List RiderView) → IsStanding room.cells s.words last riders → x ≡ offset_of which last =
-      λ last riders k. ap (slice_index s.words) place ∙ found_offset which room.cells s.words last riders k in
+      let found : (last : OffsetWords) (riders : List RiderView) → IsStanding room.cells (drop 8 s.words) last riders → x ≡ offset_of which last =
+      λ last riders k. line_at s.words i (place_of which room.cells) place ∙ found_offset which room.cells (drop 8 s.words) last riders k in
       let now = standing_at room s.words s.views id r h at in
       let p = parted s.views id (rider_seat r) at in
       let below = (every_back (Below h.master.offsets) p.front (r ∷ p.back) now.offset).0 in (
@@ -190,7 +200,7 @@ module _ (room : Room) (slots : ℕ) (id : ℕ) where
         keeps,
         tt,
         subst (λ ws. IsKept room ws (set s.views id (rider_seat q))) (sym (set-get_or s.words i 0))
-            (rider_kept room s.words s.words s.views id r q h at refl refl (Looked which x ∷ [], refl) (λ n e. (tt, e)) (λ front back last b k. after_look front r back room.cells s.words last which x (found last (front ++ r ∷ back) k) k)),
+            (rider_kept room s.words s.words s.views id r q h at refl refl (Looked which x ∷ [], refl) (λ n e. (tt, e)) (λ front back last b k. after_look front r back room.cells (drop 8 s.words) last which x (found last (front ++ r ∷ back) k) k)),
         (refl, only x r (at_most which h.master.offsets r x (found h.master.offsets (p.front ++ r ∷ p.back) now) below)),
       ))
     where
@@ -213,7 +223,7 @@ riders_in-push (u ∷ us) w = ap (λ l. u.riders ++ l) (riders_in-push us w) ∙
 
 module _ (room : Room) where
   -- the master's steps are those of seat 0
-  pub sets_allowed : (slots id : ℕ) (me : Me Nothing SeatView) (m : ℕ) (last : OffsetWords) (which : Which) (i x : ℕ) → id ≡ 0 → me ≡ (master_seat m last [], []) → i ≡ place_of which room.cells → offset_of which last ≤ x
+  pub sets_allowed : (slots id : ℕ) (me : Me Nothing SeatView) (m : ℕ) (last : OffsetWords) (which : Which) (i x : ℕ) → id ≡ 0 → me ≡ (master_seat m last [], []) → i ≡ 8 + place_of which room.cells → offset_of which last ≤ x
       → Allows (Holds room) slots id me i (λ _. x) (λ _. Sets which (step slots i x 0 none) me x)
   sets_allowed slots id me m last which i x first is place le =
       subst (λ (k : ℕ). Allows (Holds room) slots k me i (λ _. x) (λ _. Sets which (step slots i x 0 none) me x)) (sym first)
@@ -226,14 +236,16 @@ module _ (room : Room) where
           let same : v ≡ master_seat m last [] = some-injective v (master_seat m last []) at in
           let mine : h.master ≡ master_seat m last [] = sym (some-injective v h.master h.seat) ∙ same in
           let flat : riders_in (v ∷ views) ≡ riders_in views = ap (λ (u : SeatView). u.riders ++ riders_in views) same in
-          let ruled = subst (λ l. IsRuled room.cells words last l) flat (subst (λ (u : SeatView). IsRuled room.cells words u.offsets (riders_in (v ∷ views))) mine h.ruled) in
-          let now = ruled_from room.cells (set words (place_of which room.cells) x) (with_offset which x last) (riders_in views) (after_set which room.cells words last (riders_in views) x h.width le (standing_from room.cells words last (riders_in views) ruled)) in
+          let used = drop 8 words in
+          let ruled = subst (λ l. IsRuled room.cells used last l) flat (subst (λ (u : SeatView). IsRuled room.cells used u.offsets (riders_in (v ∷ views))) mine h.ruled) in
+          let now = ruled_from room.cells (set used (place_of which room.cells) x) (with_offset which x last) (riders_in views)
+          (after_set which room.cells used last (riders_in views) x (line_wide room.cells words h.width) le (standing_from room.cells used last (riders_in views) ruled)) in
           record {
             master = master_seat m (with_offset which x last) [];
             seat = refl;
             width = length-set words i x ∙ h.width;
             count = sym (ap length flat) ∙ h.count;
-            ruled = subst (λ k. IsRuled room.cells (set words k x) (with_offset which x last) (riders_in views)) (sym place) now;
+            ruled = subst (λ ws. IsRuled room.cells ws (with_offset which x last) (riders_in views)) (sym (line_set words i (place_of which room.cells) x place)) now;
             called = subst (λ l. Every (CallsUpTo m) l) flat (subst (λ (u : SeatView). Every (CallsUpTo u.called) (riders_in (v ∷ views))) mine h.called);
             known = (tt, subst (λ l. AllKnown l views) flat h.known.1);
           }
@@ -248,7 +260,7 @@ module _ (room : Room) where
         seat = h.seat;
         width = h.width;
         count = ap length flat ∙ h.count;
-        ruled = subst (λ l. IsRuled room.cells words h.master.offsets l) (sym flat) h.ruled;
+        ruled = subst (λ l. IsRuled room.cells (drop 8 words) h.master.offsets l) (sym flat) h.ruled;
         called = subst (λ l. Every (CallsUpTo h.master.called) l) (sym flat) h.called;
         known = subst (λ l. AllKnown l ((u ∷ us) ++ w ∷ [])) (sym flat) (every_append (λ (v : SeatView). Every (IsKnown (riders_in (u ∷ us))) v.known) (u ∷ us) (w ∷ []) h.known (knows, tt));
       }
@@ -256,20 +268,21 @@ module _ (room : Room) where
   -- a rider is dealt out, and may change
   dealt : (words : List ℕ) (u : SeatView) (us : List SeatView) (last : OffsetWords) (r q : RiderView) (rs : List RiderView) (m n : ℕ) (known : List Known) → (h : IsKept room words (u ∷ us)) → u ≡ full_seat last (r ∷ rs) m known
       → m ≤ n → q.name ≡ r.name → HasPast r.touches q → (CallsUpTo n r → CallsUpTo n q)
-      → ((back : List RiderView) → Every (CallsUpTo m) (r ∷ back) → IsStanding room.cells words last (r ∷ back) → IsStanding room.cells words last (q ∷ back))
+      → ((back : List RiderView) → Every (CallsUpTo m) (r ∷ back) → IsStanding room.cells (drop 8 words) last (r ∷ back) → IsStanding room.cells (drop 8 words) last (q ∷ back))
       → IsKept room words (full_seat last rs n known ∷ (us ++ rider_seat q ∷ []))
   dealt words u us last r q rs m n known h same le named longer fits move =
       let w = rider_seat q in
+      let used = drop 8 words in
       let others = rs ++ riders_in us in
       let old : riders_in (u ∷ us) ≡ r ∷ others = ap (λ (x : SeatView). x.riders ++ riders_in us) same in
       let flat : rs ++ riders_in (us ++ w ∷ []) ≡ others ++ q ∷ [] = ap (λ l. rs ++ l) (riders_in-push us w) ∙ sym (append_assoc rs (riders_in us) (q ∷ [])) in
       let mine : h.master ≡ full_seat last (r ∷ rs) m known = sym (some-injective u h.master h.seat) ∙ same in
       let known_calls : Every (CallsUpTo m) (r ∷ others) = subst (λ l. Every (CallsUpTo m) l) old (subst (λ (x : SeatView). Every (CallsUpTo x.called) (riders_in (u ∷ us))) mine h.called) in
       let calls : Every (CallsUpTo n) (r ∷ others) = calls_more m n le (r ∷ others) known_calls in
-      let ruled : IsRuled room.cells words last (r ∷ others) = subst (λ l. IsRuled room.cells words last l) old (subst (λ (x : SeatView). IsRuled room.cells words x.offsets (riders_in (u ∷ us))) mine h.ruled) in
-      let moved : IsStanding room.cells words last (q ∷ others) = move others known_calls (standing_from room.cells words last (r ∷ others) ruled) in
-      let full : IsStanding room.cells words last (q ∷ (others ++ [])) = subst (λ l. IsStanding room.cells words last (q ∷ l)) (sym (append-nil others)) moved in
-      let now = ruled_from room.cells words last (others ++ q ∷ []) (from_front others q [] room.cells words last full) in
+      let ruled : IsRuled room.cells used last (r ∷ others) = subst (λ l. IsRuled room.cells used last l) old (subst (λ (x : SeatView). IsRuled room.cells used x.offsets (riders_in (u ∷ us))) mine h.ruled) in
+      let moved : IsStanding room.cells used last (q ∷ others) = move others known_calls (standing_from room.cells used last (r ∷ others) ruled) in
+      let full : IsStanding room.cells used last (q ∷ (others ++ [])) = subst (λ l. IsStanding room.cells used last (q ∷ l)) (sym (append-nil others)) moved in
+      let now = ruled_from room.cells used last (others ++ q ∷ []) (from_front others q [] room.cells used last full) in
       let grows : (k : Known) → IsKnown (riders_in (u ∷ us)) k → IsKnown (rs ++ riders_in (us ++ w ∷ [])) k =
       λ k s. subst (λ l. IsKnown l k) (sym flat)
       (some_from_front others q [] (λ x. (x.name ≡ k.name) × HasPast k.touches x)
@@ -280,7 +293,7 @@ module _ (room : Room) where
         seat = refl;
         width = h.width;
         count = ap length flat ∙ omega (arith, length-append others (q ∷ []), ap length old, h.count);
-        ruled = subst (λ l. IsRuled room.cells words last l) (sym flat) now;
+        ruled = subst (λ l. IsRuled room.cells used last l) (sym flat) now;
         called = subst (λ l. Every (CallsUpTo n) l) (sym flat) (every_append (CallsUpTo n) others (q ∷ []) calls.1 (fits calls.0, tt));
         known = known_more (riders_in (u ∷ us)) (rs ++ riders_in (us ++ w ∷ [])) (full_seat last rs n known ∷ (us ++ w ∷ [])) grows
             (subst (λ (x : SeatView). Every (IsKnown (riders_in (u ∷ us))) x.known) same h.known.0, every_append (λ (v : SeatView). Every (IsKnown (riders_in (u ∷ us))) v.known) us (w ∷ []) h.known.1 (tt, tt));
@@ -310,7 +323,7 @@ module _ (room : Room) where
       kept words [] h at = absurd (some-ne-none (master_seat m last (r ∷ [])) (sym at))
       kept words (u ∷ us) h at =
           dealt words u us last r (called m n r) [] m n [] h (some-injective u (master_seat m last (r ∷ [])) at) le refl (Called m n ∷ [], refl) (λ e. (omega arith, e))
-          (λ back each st. after_call [] r back room.cells words last m n le each st)
+          (λ back each st. after_call [] r back room.cells (drop 8 words) last m n le each st)
 
   -- a load makes a seat for nobody
   pub blanks : (slots : ℕ) (v : SeatView) → Enters (Holds room) slots 0 (λ n w. Blanks (step slots 0 0 0 none) (v, []) n (w, []))
@@ -347,7 +360,7 @@ module _ (room : Room) where
         seat = m.1;
         width = h.width;
         count = ap length flat ∙ h.count;
-        ruled = subst (λ l. IsRuled room.cells words m.0.offsets l) (sym flat) (subst (λ o. IsRuled room.cells words o (riders_in views)) (sym m.2) h.ruled);
+        ruled = subst (λ l. IsRuled room.cells (drop 8 words) m.0.offsets l) (sym flat) (subst (λ o. IsRuled room.cells (drop 8 words) o (riders_in views)) (sym m.2) h.ruled);
         called = subst (λ l. Every (CallsUpTo m.0.called) l) (sym flat) (subst (λ c. Every (CallsUpTo c) (riders_in views)) (sym m.3) h.called);
         known = subst (λ l. AllKnown l (set views id spent_seat)) (sym flat) (every_set (λ (v : SeatView). Every (IsKnown (riders_in views)) v.known) views id spent_seat h.known tt);
       }
@@ -364,7 +377,7 @@ module _ (room : Room) where
         seat = m.1;
         width = h.width;
         count = ap length flat ∙ h.count;
-        ruled = subst (λ l. IsRuled room.cells words m.0.offsets l) (sym flat) (subst (λ o. IsRuled room.cells words o (riders_in views)) (sym m.2) h.ruled);
+        ruled = subst (λ l. IsRuled room.cells (drop 8 words) m.0.offsets l) (sym flat) (subst (λ o. IsRuled room.cells (drop 8 words) o (riders_in views)) (sym m.2) h.ruled);
         called = subst (λ l. Every (CallsUpTo m.0.called) l) (sym flat) (subst (λ c. Every (CallsUpTo c) (riders_in views)) (sym m.3) h.called);
         known = subst (λ l. AllKnown l (set views id w)) (sym flat) (every_set (λ (x : SeatView). Every (IsKnown (riders_in views)) x.known) views id w h.known knows);
       }
@@ -381,7 +394,7 @@ module _ (room : Room) where
           let new : SeatView = rider_seat (told k r) in
           let knows : Every (IsKnown (riders_in views)) (k ∷ []) = every_elem (λ (x : SeatView). Every (IsKnown (riders_in views)) x.known) views other (knows_seat k) h.known (sym (set_else views id other new apart) ∙ there) in
           let mid : IsKept room words (set views id new) =
-          rider_kept room words words views id r (told k r) h at refl refl (Met k.name (length k.touches) ∷ [], refl) (λ n e. (tt, e)) (λ front back last b st. after_told front r back room.cells words last k (subst (λ l. IsKnown l k) b knows.0) st) in
+          rider_kept room words words views id r (told k r) h at refl refl (Met k.name (length k.touches) ∷ [], refl) (λ n e. (tt, e)) (λ front back last b st. after_told front r back room.cells (drop 8 words) last k (subst (λ l. IsKnown l k) b knows.0) st) in
           cleared words (set views id new) other k mid there
 
   -- any seat takes what a past tells
@@ -416,8 +429,9 @@ module _ (room : Room) where
           let old : riders_in (u ∷ us) ≡ front ++ r ∷ p.back = ap (λ (x : SeatView). x.riders ++ riders_in us) same ∙ ap (λ l. v.riders ++ l) p.before ∙ sym (append_assoc v.riders p.front (r ∷ p.back)) in
           let flat : r ∷ (v.riders ++ riders_in (set us k spent_seat)) ≡ r ∷ (front ++ p.back) = ap (λ l. r ∷ l) (ap (λ l. v.riders ++ l) gone ∙ sym (append_assoc v.riders p.front p.back)) in
           let mine : h.master ≡ v = sym (some-injective u h.master h.seat) ∙ same in
-          let ruled = subst (λ l. IsRuled room.cells words v.offsets l) old (subst (λ (x : SeatView). IsRuled room.cells words x.offsets (riders_in (u ∷ us))) mine h.ruled) in
-          let now = ruled_from room.cells words v.offsets (r ∷ (front ++ p.back)) (to_front front r p.back room.cells words v.offsets (standing_from room.cells words v.offsets (front ++ r ∷ p.back) ruled)) in
+          let used = drop 8 words in
+          let ruled = subst (λ l. IsRuled room.cells used v.offsets l) old (subst (λ (x : SeatView). IsRuled room.cells used x.offsets (riders_in (u ∷ us))) mine h.ruled) in
+          let now = ruled_from room.cells used v.offsets (r ∷ (front ++ p.back)) (to_front front r p.back room.cells used v.offsets (standing_from room.cells used v.offsets (front ++ r ∷ p.back) ruled)) in
           let calls : Every (CallsUpTo v.called) (front ++ r ∷ p.back) = subst (λ l. Every (CallsUpTo v.called) l) old (subst (λ (x : SeatView). Every (CallsUpTo x.called) (riders_in (u ∷ us))) mine h.called) in
           let ends = every_back (CallsUpTo v.called) front (r ∷ p.back) calls in
           let all : Every (CallsUpTo v.called) (r ∷ (front ++ p.back)) = (ends.0, every_append (CallsUpTo v.called) front p.back (every_front (CallsUpTo v.called) front (r ∷ p.back) calls) ends.1) in
@@ -428,7 +442,7 @@ module _ (room : Room) where
             seat = refl;
             width = h.width;
             count = ap length flat ∙ omega (arith, length-append front p.back, length-append front (r ∷ p.back), ap length old, h.count);
-            ruled = subst (λ l. IsRuled room.cells words v.offsets l) (sym flat) now;
+            ruled = subst (λ l. IsRuled room.cells used v.offsets l) (sym flat) now;
             called = subst (λ l. Every (CallsUpTo v.called) l) (sym flat) all;
             known = known_more (riders_in (u ∷ us)) (r ∷ (v.riders ++ riders_in (set us k spent_seat))) (joined_seat v (rider_seat r) ∷ set us k spent_seat) grows
                 (subst (λ (x : SeatView). Every (IsKnown (riders_in (u ∷ us))) x.known) same h.known.0, every_set (λ (x : SeatView). Every (IsKnown (riders_in (u ∷ us))) x.known) us k spent_seat h.known.1 tt);
@@ -436,37 +450,37 @@ module _ (room : Room) where
 
   -- at the end the master's seat stands for all riders, and knows what the pasts tell that it took back
   pub ends : (words : List ℕ) (slots : List Nothing) (m : ℕ) (last : OffsetWords) (riders : List RiderView) (ks : List Known) (id : ℕ) (v : SeatView) → id ≡ 0 → v ≡ full_seat last riders m ks → length riders ≡ room.riders
-      → Final (Seen (Holds room) id v) words slots → IsRuled room.cells words last riders × Every (IsKnown riders) ks
+      → Final (Seen (Holds room) id v) words slots → IsRuled room.cells (drop 8 words) last riders × Every (IsKnown riders) ks
   ends words slots m last riders ks id v first is all f =
       let s = f.0 in
       let at : get_elem? s.views 0 ≡ some (full_seat last riders m ks) = ap (get_elem? s.views) (sym first) ∙ f.1.1 ∙ ap some is in
       let both = told_at s.words s.views f.1.0 at in
-      (subst (λ ws. IsRuled room.cells ws last riders) f.2 both.0, both.1)
+      (subst (λ ws. IsRuled room.cells (drop 8 ws) last riders) f.2 both.0, both.1)
     where
       none_left : (xs ys : List RiderView) → length (xs ++ ys) ≡ length xs → xs ++ ys ≡ xs
       none_left xs [] e = append-nil xs
       none_left xs (y ∷ ys) e = absurd (omega (arith, length-append xs (y ∷ ys)))
 
-      told_at : (words : List ℕ) (views : List SeatView) → IsKept room words views → get_elem? views 0 ≡ some (full_seat last riders m ks) → IsRuled room.cells words last riders × Every (IsKnown riders) ks
+      told_at : (words : List ℕ) (views : List SeatView) → IsKept room words views → get_elem? views 0 ≡ some (full_seat last riders m ks) → IsRuled room.cells (drop 8 words) last riders × Every (IsKnown riders) ks
       told_at words [] h at = absurd (some-ne-none (full_seat last riders m ks) (sym at))
       told_at words (u ∷ us) h at =
           let same : u ≡ full_seat last riders m ks = some-injective u (full_seat last riders m ks) at in
           let mine : h.master ≡ full_seat last riders m ks = sym (some-injective u h.master h.seat) ∙ same in
           let flat : riders_in (u ∷ us) ≡ riders ++ riders_in us = ap (λ (x : SeatView). x.riders ++ riders_in us) same in
           let whole : riders ++ riders_in us ≡ riders = none_left riders (riders_in us) (sym (ap length flat) ∙ h.count ∙ sym all) in (
-            subst (λ l. IsRuled room.cells words last l) (flat ∙ whole) (subst (λ (x : SeatView). IsRuled room.cells words x.offsets (riders_in (u ∷ us))) mine h.ruled),
+            subst (λ l. IsRuled room.cells (drop 8 words) last l) (flat ∙ whole) (subst (λ (x : SeatView). IsRuled room.cells (drop 8 words) x.offsets (riders_in (u ∷ us))) mine h.ruled),
             subst (λ l. Every (IsKnown l) ks) (flat ∙ whole) (subst (λ (x : SeatView). Every (IsKnown (riders_in (u ∷ us))) x.known) same h.known.0),
           )
 
   -- nothing was done yet
-  pub begins : (words : List ℕ) → words ≡ replicate (room.cells + 19) 0 → Holds room (opening words [] (first_seat room))
+  pub begins : (words : List ℕ) → words ≡ replicate (room.cells + 27) 0 → Holds room (opening words [] (first_seat room))
   begins words is = subst (λ ws. IsKept room ws (first_seat room ∷ [])) (sym is)
       record {
         master = first_seat room;
         seat = refl;
-        width = length-replicate (room.cells + 19) 0;
+        width = length-replicate (room.cells + 27) 0;
         count = ap length flat ∙ long room.riders 0;
-        ruled = subst (λ l. IsRuled room.cells (replicate (room.cells + 19) 0) no_offsets l) (sym flat) (ruled_from room.cells (replicate (room.cells + 19) 0) no_offsets (fresh_from 0 room.riders) standing);
+        ruled = subst (λ l. IsRuled room.cells used no_offsets l) (sym flat) (ruled_from room.cells used no_offsets (fresh_from 0 room.riders) standing);
         called = subst (λ l. Every (CallsUpTo 0) l) (sym flat) (each (CallsUpTo 0) (λ k. tt) room.riders 0);
         known = (tt, tt);
       }
@@ -483,6 +497,12 @@ module _ (room : Room) where
       zeros (suc n) zero = refl
       zeros (suc n) (suc i) = zeros n i
 
+      used : List ℕ
+      used = drop 8 (replicate (room.cells + 27) 0)
+
+      empty : (i : ℕ) → slice_index used i ≡ 0
+      empty i = sym (line_at (replicate (room.cells + 27) 0) (8 + i) i refl) ∙ zeros (room.cells + 27) (8 + i)
+
       each : (P : RiderView → Type 0) → ((k : ℕ) → P (fresh k)) → (n k : ℕ) → Every P (fresh_from k n)
       each P p zero k = tt
       each P p (suc n) k = (p k, each P p n (suc k))
@@ -492,25 +512,25 @@ module _ (room : Room) where
       untouched (suc n) k zero r e = let is : fresh k ≡ r = cc e in (sym (ap (λ (x : RiderView). x.touches) is), omega (arith, ap (λ (x : RiderView). x.name) is))
       untouched (suc n) k (suc i) r e = let h = untouched n (suc k) i r e in (h.0, omega (arith, h.1))
 
-      order : HasOneOrder room.cells (replicate (room.cells + 19) 0) (fresh_from 0 room.riders)
+      order : HasOneOrder room.cells used (fresh_from 0 room.riders)
       order = (
         [],
         record {
           serial = tt;
           each = λ i r e. (untouched room.riders 0 i r e).0;
           theirs = tt;
-          last = λ c less. zeros (room.cells + 19) c;
+          last = λ c less. empty c;
           met = tt;
           names = λ i j r q a b e. omega (arith, (untouched room.riders 0 i r a).1, (untouched room.riders 0 j q b).1, e);
         },
       )
 
-      standing : IsStanding room.cells (replicate (room.cells + 19) 0) no_offsets (fresh_from 0 room.riders)
+      standing : IsStanding room.cells used no_offsets (fresh_from 0 room.riders)
       standing = record {
         order = order;
-        read_only = zeros (room.cells + 19) (room.cells + 8);
-        head = zeros (room.cells + 19) (room.cells + 9);
-        ended = zeros (room.cells + 19) (room.cells + 10);
+        read_only = empty (room.cells + 8);
+        head = empty (room.cells + 9);
+        ended = empty (room.cells + 10);
         never_falls = (no_stores, no_stores, no_stores);
         offset = each (Below no_offsets) (λ k. (no_loads, no_loads, no_loads)) room.riders 0;
       }

@@ -1,5 +1,5 @@
 -- What a seat stands for once a past or a rider was joined in.
-use Rattle.std.proofs.Common.{◌≡◌, ℕ, List, [], ◌∷◌, refl, ap, sym, ◌∙◌, subst}
+use Rattle.std.proofs.Common.{◌≡◌, ℕ, List, [], ◌∷◌, ap, sym, ◌∙◌}
 use Rattle.std.specs.List.{AllByRecursion as Every}
 use Rattle.std.specs.Prelude.{slice_index_or, Option, None, Some, IfSome}
 use Rattle.std.proofs.lemmas.List.{append-nil}

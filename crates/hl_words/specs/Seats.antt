@@ -1,5 +1,5 @@
 -- The rule as a rule of a table's seats, and what each step tells its seat.
-use Rattle.std.specs.Prelude.{ℕ, ◌≡◌, ◌+◌, ◌≤◌, List, [], ◌∷◌, ◌++◌, length, map, take, drop}
+use Rattle.std.specs.Prelude.{ℕ, ◌≡◌, ◌+◌, ◌-◌, ◌≤◌, List, [], ◌∷◌, ◌++◌, length, map, take, drop}
 use Rattle.std.specs.List.{AllByRecursion}
 use mathlib.Core.Option.{some}
 use lib.ListN.{get_elem?}
@@ -56,15 +56,15 @@ IsKnown riders k = SomeRider (λ i r. (r.name ≡ k.name) × HasPast k.touches r
 abbrev pub CallsUpTo : ℕ → RiderView → Type 0
 CallsUpTo n r = AllByRecursion (IsUpTo n) r.touches
 
--- The table has the cells and, eight words apart, the master's three words; the seats stand for all riders,
--- and the rule holds, the master having seat 0; no call left more steps than the master knows; what each past tells
--- was done
+-- The table has eight unused words, then the cells and, eight words apart, the master's three words; the seats stand
+-- for all riders, and the rule holds, the master having seat 0; no call left more steps than the master knows; what
+-- each past tells was done
 pub record IsKept (room : Room) (words : List ℕ) (views : List SeatView) : Type 0 where
   pub master : SeatView
   pub seat : get_elem? views 0 ≡ some master
-  pub width : length words ≡ room.cells + 19
+  pub width : length words ≡ room.cells + 27
   pub count : length (riders_in views) ≡ room.riders
-  pub ruled : IsRuled room.cells words master.offsets (riders_in views)
+  pub ruled : IsRuled room.cells (drop 8 words) master.offsets (riders_in views)
   pub called : AllByRecursion (CallsUpTo master.called) (riders_in views)
   pub known : AllByRecursion (λ v. AllByRecursion (IsKnown (riders_in views)) v.known) views
 
@@ -81,21 +81,22 @@ at_first f (r ∷ rs) = f r ∷ rs
 abbrev pub moved : (RiderView → RiderView) → SeatView → SeatView
 moved f v = seat_of v.offsets (at_first f v.riders)
 
--- of a store into a cell: the rider's view has it
+-- of a store into a cell, which lies eight words behind its number: the rider's view has it
 abbrev pub Stores : Step (Unit {0}) → Me (Unit {0}) SeatView → ℕ → Me (Unit {0}) SeatView → Type 0
-Stores s before found after = after ≡ (moved (touched (Stored s.word s.first)) before.0, before.1)
+Stores s before found after = after ≡ (moved (touched (Stored (s.word - 8) s.first)) before.0, before.1)
 
 -- of a load of a cell: the rider's view has it
 abbrev pub Loads : Step (Unit {0}) → Me (Unit {0}) SeatView → ℕ → Me (Unit {0}) SeatView → Type 0
-Loads s before found after = after ≡ (moved (touched (Loaded s.word found)) before.0, before.1)
+Loads s before found after = after ≡ (moved (touched (Loaded (s.word - 8) found)) before.0, before.1)
 
 -- of an add to a cell: the rider's view has the change
 abbrev pub Adds : Step (Unit {0}) → Me (Unit {0}) SeatView → ℕ → Me (Unit {0}) SeatView → Type 0
-Adds s before found after = after ≡ (moved (added s.word s.first found) before.0, before.1)
+Adds s before found after = after ≡ (moved (added (s.word - 8) s.first found) before.0, before.1)
 
 -- of a compare and exchange of a cell: the rider's view has the change, or else the load
 abbrev pub Exchanges : Step (Unit {0}) → Me (Unit {0}) SeatView → ℕ → Me (Unit {0}) SeatView → Type 0
-Exchanges s before found after = after ≡ (moved (exchanged s.word s.first s.second found) before.0, before.1)
+Exchanges s before found after =
+    after ≡ (moved (exchanged (s.word - 8) s.first s.second found) before.0, before.1)
 
 -- of a load of a word of the master's: the rider's view has it, and the rider loaded no greater one before
 abbrev pub Looks : Which → Step (Unit {0}) → Me (Unit {0}) SeatView → ℕ → Me (Unit {0}) SeatView → Type 0

@@ -56,7 +56,7 @@ pub record WordsState : Type 0 where
   pub cells : ℕ
   pub riders : ℕ
 
--- the words at their end: so many cells, and then the master's three words
+-- the words at their end, without the unused ones before the cells: so many cells, and then the master's three words
 pub record LastState : Type 0 where
   pub cells : ℕ
   pub words : List ℕ
@@ -78,11 +78,11 @@ IsSeedOf name parts table seed = (seed.name ≡ name) × (seed.riders ≡ parts)
 abbrev pub first_rider : SeatView → RiderView
 first_rider v = slice_index_or v.riders 0 unused
 
--- the first table of a seed, or that of words: its rule is that of this room, and it has the cells and three
--- words more
+-- the first table of a seed, or that of words: its rule is that of this room, and it has the cells and 27 words
+-- more, of which three are the master's
 pub record IsTableOf (room : Room) (key : Room) (table : TableId) : Type 0 where
   pub key_is : key ≡ room
-  pub words_are : table.words ≡ room.cells + 19
+  pub words_are : table.words ≡ room.cells + 27
   pub no_slot : table.slots ≡ 0
   pub few : room.cells ≤ 2 ^ 36
   pub some : 1 ≤ room.riders

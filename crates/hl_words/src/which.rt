@@ -9,13 +9,17 @@ pub enum Which {
     Ended,
 }
 
-/// Where each of the three words lies, counted from the end of the cells. All threads load them, and any thread may store
-/// into the last cell, so eight words (a line of a cache) lie between. The three are stored seldom, and loaded together.
-pub(crate) const READ_ONLY_AT: usize = 8;
+/// Where the cells begin. Calls under the lock and pasts load the row's first word, and any thread may store into a
+/// cell. So eight words (a line of a cache) lie unused before the first cell: else such a load would contend with stores.
+pub(crate) const FIRST: usize = 8;
 
-pub(crate) const HEAD_AT: usize = 9;
+/// Where each of the three words lies, the number of cells not counted. All threads load them, and any thread may store
+/// into the last cell, so eight words lie between. The three are stored seldom, and loaded together.
+pub(crate) const READ_ONLY_AT: usize = FIRST + 8;
 
-pub(crate) const ENDED_AT: usize = 10;
+pub(crate) const HEAD_AT: usize = FIRST + 9;
+
+pub(crate) const ENDED_AT: usize = FIRST + 10;
 
 /// How many words the row has beside the cells: eight more behind the three.
-pub(crate) const MORE: usize = 19;
+pub(crate) const MORE: usize = FIRST + 19;

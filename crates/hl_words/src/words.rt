@@ -15,7 +15,7 @@ use crate::rule::{
 };
 use crate::seed::{HistoryOf, Realm, Scribe, Seed, WordTable};
 use crate::view::Room;
-use crate::which::{ENDED_AT, HEAD_AT, READ_ONLY_AT, Which};
+use crate::which::{ENDED_AT, FIRST, HEAD_AT, READ_ONLY_AT, Which};
 use hl_history::History;
 use hl_model::Fault;
 use std::alloc::Global;
@@ -123,7 +123,7 @@ impl<L: Realm> Words<L> {
         ensures { rider.new ≡ with_view (stored cell value rider.old.view) rider.old }
     {
         let shared = &self.table.shared;
-        shared.store::<StoreCell>(&mut rider.seat, cell as usize, value);
+        shared.store::<StoreCell>(&mut rider.seat, FIRST + cell as usize, value);
     }
 
     /// Loads a cell. The rider's view has the load; that its value is lawful is what `close` tells of all loads.
@@ -133,7 +133,7 @@ impl<L: Realm> Words<L> {
         ensures { rider.new ≡ with_view (loaded cell result rider.old.view) rider.old }
     {
         let shared = &self.table.shared;
-        shared.load::<LoadCell>(&mut rider.seat, cell as usize)
+        shared.load::<LoadCell>(&mut rider.seat, FIRST + cell as usize)
     }
 
     /// Adds a number to a cell, modulo 2^64, in one step: no store of another rider comes between its
@@ -144,7 +144,7 @@ impl<L: Realm> Words<L> {
         ensures { rider.new ≡ with_view (added cell more result rider.old.view) rider.old }
     {
         let shared = &self.table.shared;
-        shared.fetch_add::<AddCell>(&mut rider.seat, cell as usize, more)
+        shared.fetch_add::<AddCell>(&mut rider.seat, FIRST + cell as usize, more)
     }
 
     /// Stores the new value into a cell if the old one stands there, in one step. Returns what it
@@ -154,7 +154,7 @@ impl<L: Realm> Words<L> {
         ensures { rider.new ≡ with_view (exchanged cell old new result rider.old.view) rider.old }
     {
         let shared = &self.table.shared;
-        shared.compare_exchange::<ExchangeCell>(&mut rider.seat, cell as usize, old, new)
+        shared.compare_exchange::<ExchangeCell>(&mut rider.seat, FIRST + cell as usize, old, new)
     }
 
     /// Stores one of the master's words: an offset in words of the log, or an epoch. The caller sees to it that it

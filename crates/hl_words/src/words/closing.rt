@@ -171,7 +171,9 @@ impl<L: Realm> Words<L> {
     {
         while let Some(past) = pasts.pop() {
             let Past { badge, of: _ } = past;
-            self.table.shared.join_seat::<Attest>(seat, badge.into_seat());
+            self.table
+                .shared
+                .join_seat::<Attest>(seat, badge.into_seat());
         }
     }
 

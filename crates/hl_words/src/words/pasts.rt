@@ -45,6 +45,7 @@ impl<L: Realm> Words<L> {
         ensures { rider.new ≡ with_view (told past rider.old.view) rider.old }
     {
         let Past { badge, of: _ } = past;
-        self.table.shared.join_seat::<Tell>(&mut rider.seat, badge.into_seat());
+        let shared = &self.table.shared;
+        shared.join_seat::<Tell>(&mut rider.seat, badge.into_seat());
     }
 }

@@ -27,6 +27,13 @@ returns-in-Ok g c =
     let m = by_one (Acquire c.args.t) at e.keeps.0 c.journal-before.ensures (e.made _ at.stands) in
     record { met = call_left (call_of (Acquire c.args.t) c.args.rider c.note.new.rider) (Ok (with_rider c.note.new.rider c.in-Ok.pass)) m (c.rider_mut.ensures.value ∙ acquired_grew (e.made _ at.stands)) c.note.ensures.rider c.note.ensures.rises ((λ A st. reseated c.note.new.rider (e.made A st)), e.keeps) }
 
+pub note-requires-in-Err : goal.note-requires-in-Err
+note-requires-in-Err g c =
+    let held = c.deref_mut-2.invariant in
+    let at = held.at in
+    let e = c.in-Err.ensures in
+    may_note (by_one (Acquire c.args.t) at e.keeps.0 c.journal-before.ensures (e.made _ at.stands)) held.noted
+
 pub invariant_of-t-13 : goal.invariant_of-t-13
 invariant_of-t-13 g c =
     let held = c.deref_mut-2.invariant in

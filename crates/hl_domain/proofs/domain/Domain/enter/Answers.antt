@@ -29,6 +29,13 @@ returns-in-Ok g c =
     let m = subst (λ (z : Sizes). Moved (setup_of c.args.self.now) c.deref_mut-2.inside.scribe (Acquire (least_free z c.deref_mut-2.inside.scribe) ∷ []) c.journal-before.result.now c.deref_mut-2.inside.keeper c.enter.new.self) at.sizes_are (by_one (Acquire (least_free c.deref_mut-2.inside.keeper.core.sizes c.deref_mut-2.inside.scribe)) at e.keeps.0 c.journal-before.ensures (e.made _ at.stands)) in
     record { met = call_left (enter_call c.args.self.now.sizes c.args.rider c.note.new.rider) (Ok (with_rider c.note.new.rider c.in-Ok.pass)) m (c.rider_mut.ensures.value ∙ acquired_grew (e.made _ at.stands)) c.note.ensures.rider c.note.ensures.rises ((λ A st. reseated c.note.new.rider (e.made A st)), e.keeps) }
 
+pub note-requires-in-Err : goal.note-requires-in-Err
+note-requires-in-Err g c =
+    let held = c.deref_mut-2.invariant in
+    let at = held.at in
+    let e = c.in-Err.ensures in
+    may_note (by_one (Acquire (least_free c.deref_mut-2.inside.keeper.core.sizes c.deref_mut-2.inside.scribe)) at e.keeps.0 c.journal-before.ensures (e.made _ at.stands)) held.noted
+
 pub invariant_of-t-12 : goal.invariant_of-t-12
 invariant_of-t-12 g c =
     let held = c.deref_mut-2.invariant in

@@ -28,6 +28,13 @@ returns-in-Ok-clause-met g c =
     let m = by_pass c.args.pass.touches (Release c.args.pass.slot) at e.keeps.0 c.journal-before.ensures (e.made _ at.stands) in
     call_left (pass_call c.args.pass (Release c.args.pass.slot) c.note.new.rider) (Ok c.note.new.rider) m (released_grew (Release c.args.pass.slot) c.args.pass (e.made _ at.stands)) c.note.ensures.rider c.note.ensures.rises ((λ A st. accepted_as c.note.new.rider (e.made A st)), e.keeps)
 
+pub note-requires-in-Err : goal.note-requires-in-Err
+note-requires-in-Err g c =
+    let held = c.deref_mut-2.invariant in
+    let at = held.at in
+    let e = c.in-Err.ensures in
+    may_note (by_pass c.args.pass.touches (Release c.args.pass.slot) at e.keeps.0 c.journal-before.ensures (e.made _ at.stands)) held.noted
+
 pub invariant_of-t-12 : goal.invariant_of-t-12
 invariant_of-t-12 g c =
     let held = c.deref_mut-2.invariant in

@@ -1,5 +1,4 @@
-use Rattle.std.proofs.Common.{arith, sym, ap, ◌∙◌}
-use Rattle.std.proofs.lemmas.Grind.{common_steps}
+use Rattle.std.proofs.Common.{arith, sym, ◌∙◌}
 use Rattle.hl_words.specs.States.{known_by}
 use Rattle.hl_words.proofs.Steps.{attests}
 use Rattle.hl_words.proofs.Told.{of_past}

@@ -1,4 +1,4 @@
-use Rattle.std.proofs.Common.{rules, sym, ap, ◌∙◌, arith}
+use Rattle.std.proofs.Common.{sym, ap, ◌∙◌, arith}
 use Rattle.hl_words.specs.Seats.{first_seat}
 use Rattle.hl_words.specs.States.{first_rider}
 use Rattle.hl_words.proofs.Steps.{blanks, joins}

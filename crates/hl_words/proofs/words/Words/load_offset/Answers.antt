@@ -11,7 +11,7 @@ load-requires g c =
     let r = c.rider.invariant in
     let key = c.self.inside.table.shared.key in
     let cells = ap (λ k. k.cells) t.0.key_is in
-    (r.1 ∙ sym t.1, omega (arith, t.0.words_are), looks_allowed key c.self.inside.table.shared.table_id.slots c.rider.inside.seat.id c.rider.inside.seat.me _ ReadOnly (c.self.inside.room.cells + 8) r.0 (omega (arith, cells)))
+    (r.1 ∙ sym t.1, omega (arith, t.0.words_are), looks_allowed key c.self.inside.table.shared.table_id.slots c.rider.inside.seat.id c.rider.inside.seat.me _ ReadOnly (c.self.inside.room.cells + 16) r.0 (omega (arith, cells)))
 
 pub load-requires-in-Head : goal.load-requires-in-Head
 load-requires-in-Head g c =
@@ -19,7 +19,7 @@ load-requires-in-Head g c =
     let r = c.rider.invariant in
     let key = c.self.inside.table.shared.key in
     let cells = ap (λ k. k.cells) t.0.key_is in
-    (r.1 ∙ sym t.1, omega (arith, t.0.words_are), looks_allowed key c.self.inside.table.shared.table_id.slots c.rider.inside.seat.id c.rider.inside.seat.me _ Head (c.self.inside.room.cells + 9) r.0 (omega (arith, cells)))
+    (r.1 ∙ sym t.1, omega (arith, t.0.words_are), looks_allowed key c.self.inside.table.shared.table_id.slots c.rider.inside.seat.id c.rider.inside.seat.me _ Head (c.self.inside.room.cells + 17) r.0 (omega (arith, cells)))
 
 pub load-requires-in-Ended : goal.load-requires-in-Ended
 load-requires-in-Ended g c =
@@ -27,7 +27,7 @@ load-requires-in-Ended g c =
     let r = c.rider.invariant in
     let key = c.self.inside.table.shared.key in
     let cells = ap (λ k. k.cells) t.0.key_is in
-    (r.1 ∙ sym t.1, omega (arith, t.0.words_are), looks_allowed key c.self.inside.table.shared.table_id.slots c.rider.inside.seat.id c.rider.inside.seat.me _ Ended (c.self.inside.room.cells + 10) r.0 (omega (arith, cells)))
+    (r.1 ∙ sym t.1, omega (arith, t.0.words_are), looks_allowed key c.self.inside.table.shared.table_id.slots c.rider.inside.seat.id c.rider.inside.seat.me _ Ended (c.self.inside.room.cells + 18) r.0 (omega (arith, cells)))
 
 pub returns-clause-rises : goal.returns-clause-rises
 returns-clause-rises g c =

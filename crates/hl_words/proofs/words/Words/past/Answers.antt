@@ -1,4 +1,4 @@
-use Rattle.std.proofs.Common.{rules, sym, ap, ◌∙◌, arith}
+use Rattle.std.proofs.Common.{sym, ap, ◌∙◌, arith}
 use Rattle.hl_words.specs.States.{first_rider}
 use Rattle.hl_words.proofs.Steps.{shows}
 use Rattle.hl_words.proofs.words.Words.past.Goals as goal

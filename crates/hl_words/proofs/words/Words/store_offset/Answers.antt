@@ -13,7 +13,7 @@ store-requires g c =
     let seat = c.master.inside.seat in
     let asked : offset_of ReadOnly c.args.master.now.offsets ≤ c.args.offset = subst (λ (w : Which). offset_of w c.args.master.now.offsets ≤ c.args.offset) c.in-ReadOnly.is c.requires in
     let rises : newest seat.me.0.offsets.read_only ≤ c.args.offset = omega (arith, asked, ap (λ s. newest s.offsets.read_only) c.master.view_is) in
-    (m.1 ∙ sym t.1, omega (arith, t.0.words_are), sets_allowed key c.self.inside.table.shared.table_id.slots seat.id seat.me seat.me.0.called seat.me.0.offsets ReadOnly (c.self.inside.room.cells + 8) c.args.offset m.0.first m.0.knows (omega (arith, ap (λ k. k.cells) t.0.key_is)) rises)
+    (m.1 ∙ sym t.1, omega (arith, t.0.words_are), sets_allowed key c.self.inside.table.shared.table_id.slots seat.id seat.me seat.me.0.called seat.me.0.offsets ReadOnly (c.self.inside.room.cells + 16) c.args.offset m.0.first m.0.knows (omega (arith, ap (λ k. k.cells) t.0.key_is)) rises)
 
 pub store-requires-in-Head : goal.store-requires-in-Head
 store-requires-in-Head g c =
@@ -23,7 +23,7 @@ store-requires-in-Head g c =
     let seat = c.master.inside.seat in
     let asked : offset_of Head c.args.master.now.offsets ≤ c.args.offset = subst (λ (w : Which). offset_of w c.args.master.now.offsets ≤ c.args.offset) c.in-Head.is c.requires in
     let rises : newest seat.me.0.offsets.head ≤ c.args.offset = omega (arith, asked, ap (λ s. newest s.offsets.head) c.master.view_is) in
-    (m.1 ∙ sym t.1, omega (arith, t.0.words_are), sets_allowed key c.self.inside.table.shared.table_id.slots seat.id seat.me seat.me.0.called seat.me.0.offsets Head (c.self.inside.room.cells + 9) c.args.offset m.0.first m.0.knows (omega (arith, ap (λ k. k.cells) t.0.key_is)) rises)
+    (m.1 ∙ sym t.1, omega (arith, t.0.words_are), sets_allowed key c.self.inside.table.shared.table_id.slots seat.id seat.me seat.me.0.called seat.me.0.offsets Head (c.self.inside.room.cells + 17) c.args.offset m.0.first m.0.knows (omega (arith, ap (λ k. k.cells) t.0.key_is)) rises)
 
 pub store-requires-in-Ended : goal.store-requires-in-Ended
 store-requires-in-Ended g c =
@@ -33,7 +33,7 @@ store-requires-in-Ended g c =
     let seat = c.master.inside.seat in
     let asked : offset_of Ended c.args.master.now.offsets ≤ c.args.offset = subst (λ (w : Which). offset_of w c.args.master.now.offsets ≤ c.args.offset) c.in-Ended.is c.requires in
     let rises : newest seat.me.0.offsets.ended ≤ c.args.offset = omega (arith, asked, ap (λ s. newest s.offsets.ended) c.master.view_is) in
-    (m.1 ∙ sym t.1, omega (arith, t.0.words_are), sets_allowed key c.self.inside.table.shared.table_id.slots seat.id seat.me seat.me.0.called seat.me.0.offsets Ended (c.self.inside.room.cells + 10) c.args.offset m.0.first m.0.knows (omega (arith, ap (λ k. k.cells) t.0.key_is)) rises)
+    (m.1 ∙ sym t.1, omega (arith, t.0.words_are), sets_allowed key c.self.inside.table.shared.table_id.slots seat.id seat.me seat.me.0.called seat.me.0.offsets Ended (c.self.inside.room.cells + 18) c.args.offset m.0.first m.0.knows (omega (arith, ap (λ k. k.cells) t.0.key_is)) rises)
 
 pub returns : goal.returns
 returns g c = search rules

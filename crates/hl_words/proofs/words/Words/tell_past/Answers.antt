@@ -1,4 +1,4 @@
-use Rattle.std.proofs.Common.{rules, sym, ap, ◌∙◌, arith}
+use Rattle.std.proofs.Common.{sym, ap, ◌∙◌, arith}
 use Rattle.hl_words.specs.States.{first_rider, known_by}
 use Rattle.hl_words.proofs.Steps.{tells}
 use Rattle.hl_words.proofs.Told.{of_past}

@@ -1,4 +1,4 @@
-use Rattle.std.proofs.Common.{sym, ap, ◌∙◌, arith}
+use Rattle.std.proofs.Common.{arith}
 use Rattle.hl_words.proofs.Steps.{calls}
 use Rattle.hl_words.proofs.words.calls.call_at.Goals as goal
 
