@@ -1,5 +1,5 @@
 -- What riders' touches of a cell add up to after a call, after an add, and at the end.
-use Rattle.std.proofs.Common.{◌≡◌, ℕ, zero, suc, ◌+◌, ◌%◌, ◌^◌, ◌<◌, List, [], ◌∷◌, map, refl, sym, ap, ◌∙◌, subst, arith}
+use Rattle.std.proofs.Common.{◌≡◌, ℕ, zero, suc, ◌+◌, ◌%◌, ◌^◌, ◌<◌, List, [], ◌∷◌, refl, sym, ap, ◌∙◌, subst, arith}
 use Rattle.std.specs.Prelude.{Some, slice_get, slice_index}
 use Rattle.std.specs.List.{sum}
 use Rattle.std.proofs.lemmas.List.Sums.{sum_by-cons}
@@ -38,14 +38,6 @@ module _ (cell : ℕ) where
         subst (λ n. AddsUp cell n new) same (b.adds_up (total + a.more) (a.adds_up total up));
   }
 
-  -- calls before and after change no sum
-  pub within_calls : (s : ℕ) (first old new last : List Touch) → AddsNothing first old → AddsMore cell s old new → AddsNothing new last → AddsMore cell s first last
-  within_calls s first old new last before a after = record {
-    more = a.more;
-    sum_is = a.sum_is;
-    adds_up = λ total up. after cell (total + a.more) (a.adds_up total (before cell total up));
-  }
-
 -- an add that was not refused
 pub one_more : AddsAddUp → (sizes : Sizes) (a found number : ℕ) (old new : PassRecord) → number < 2 ^ 64 → new ≡ with_change sizes a found ((found + number) % 2 ^ 64) old → AddsMore (cell_at sizes a) number old.rider.view.touches new.rider.view.touches
 unfolding with_change
@@ -78,7 +70,9 @@ sum_of_two word s t a b w p q =
 pub ends_at_sum : {F : Type 0} → NoAddIsLost → (sizes : Sizes) (riders : List RiderState) (one two : RiderState) (ending : EndingState F) (cell s t : ℕ) (first second : List Touch) → IsEnding sizes riders ending → riders ≡ one ∷ two ∷ [] → cell < ending.words.cells
     → AddsUp cell 0 first → AddsUp cell 0 second → AddsMore cell s first one.view.touches → AddsMore cell t second two.view.touches
     → slice_index ending.words.words cell ≡ (s + t) % 2 ^ 64
-ends_at_sum law sizes riders one two ending cell s t first second ends are less none none_either a b =
+ends_at_sum law sizes riders one two ending cell s t first second ends are less first_none second_none a b =
     let end : IsEnding sizes (one ∷ two ∷ []) ending = subst (λ l. IsEnding sizes l ending) are ends in
-    let word = law ending.words.cells ending.words.words _ (one.view ∷ two.view ∷ []) cell (a.more ∷ b.more ∷ []) end.ruled less refl (each_of_two cell a.more b.more one.view two.view (a.adds_up 0 none) (b.adds_up 0 none_either)) in
-    sum_of_two (slice_index ending.words.words cell) s t a.more b.more word a.sum_is b.sum_is
+    let m = 0 + a.more in
+    let n = 0 + b.more in
+    let word = law ending.words.cells ending.words.words _ (one.view ∷ two.view ∷ []) cell (m ∷ n ∷ []) end.ruled less refl (each_of_two cell m n one.view two.view (a.adds_up 0 first_none) (b.adds_up 0 second_none)) in
+    sum_of_two (slice_index ending.words.words cell) s t m n word (omega (arith, a.sum_is)) (omega (arith, b.sum_is))

@@ -17,6 +17,7 @@ mod anew;
 ghost use Rattle.std.specs.Prelude.{◌≡◌, ◌+◌, ◌%◌, ◌^◌, IfSome};
 ghost use Rattle.hl_words.specs.Laws.{AddsUp};
 ghost use Rattle.hl_keeper.specs.Passes.{cell_at};
+ghost use Rattle.hl_sums.specs.Adding.{AddsMore};
 
 use adder::add_all;
 pub use anew::add_anew;
@@ -83,8 +84,14 @@ where
     let shared = &domain;
     let ((first, one), (second, two)) = join(
         rt,
-        move || add_all(rt, shared, one, counter, first),
-        move || add_all(rt, shared, two, counter, second),
+        move || -> (u64, Rider<L>)
+            ensures { let cell = cell_at shared.entry.now.sizes counter
+                in AddsMore cell result.0 one.view.touches result.1.view.touches }
+        { add_all(rt, shared, one, counter, first) },
+        move || -> (u64, Rider<L>)
+            ensures { let cell = cell_at shared.entry.now.sizes counter
+                in AddsMore cell result.0 two.view.touches result.1.view.touches }
+        { add_all(rt, shared, two, counter, second) },
     );
     let mut riders = Vec::new(alloc);
     riders.push(one).ok()?;
