@@ -12,6 +12,7 @@
 //! | `keeps_up` | when a pass that is kept up refreshes, and when it doesn't |
 //! | `turns` | two threads that bump a new domain |
 //! | `passing` | two threads that pass a value |
+//! | `sums` | two threads that add to a counter of a new domain |
 //! | `limits` | the greatest sizes, stamps and journals, and a chain of jobs |
 //! | `wide` | sizes that an engine wants |
 //! | `follow`, `play` | plays an example; what is asked, with the values that the calls use |
@@ -60,6 +61,8 @@ mod refusals;
 mod shared;
 #[cfg(test)]
 mod strangers;
+#[cfg(test)]
+mod sums;
 #[cfg(test)]
 mod turns;
 #[cfg(test)]

@@ -1,53 +1,108 @@
-//! A caller of the words' laws: riders add numbers to a cell, and at the end the cell holds their sum.
+//! Two threads add to one counter at the same time, and no add is lost.
+//!
+//! Each of two threads adds its numbers to a counter of one domain, in no order that anyone sets, and tells what it added
+//! in all. Once the domain is closed, the counter's word is the sum of what both tell, modulo 2^64.
+//!
+//! A thread's own calls say what it found in the counter's cell and what it left there, and nothing of what the other
+//! thread did in between. From such sentences nothing follows about the word at the end: both may have found a 0 there,
+//! and then one of the two adds would be lost. Closing the domain says what joins them: all that the riders did to cells
+//! has ONE order, in which each add found what the newest store before it left. The law
+//! [`no_add_is_lost`](hl_words::laws::no_add_is_lost) says what follows from that, and a caller has it by calling it. All
+//! that the proof knows of a domain is the contracts of its calls, and of words that law and one more.
 #![tactic(auto)]
 
-ghost use Rattle.std.specs.Prelude.{◌≡◌, ◌+◌, ◌%◌, ◌^◌, ◌<◌, ℕ, List, length, map, Some, slice_get, IfOk};
-ghost use Rattle.std.specs.List.{sum};
-ghost use Rattle.hl_words.specs.Rule.{EachRider};
+mod adder;
+mod anew;
+
+ghost use Rattle.std.specs.Prelude.{◌≡◌, ◌+◌, ◌%◌, ◌^◌, IfSome};
 ghost use Rattle.hl_words.specs.Laws.{AddsUp};
-ghost use Rattle.hl_words.specs.States.{RiderState};
-ghost use Rattle.hl_model.specs.Sizes.{Sizes};
-ghost use Rattle.hl_domain.specs.Domains.{IsEnding};
+ghost use Rattle.hl_keeper.specs.Passes.{cell_at};
+ghost use Rattle.hl_sums.specs.Adding.{AddsMore};
 
-use hl_action::{Promise, Task};
-use hl_domain::Ending;
-use hl_words::{Master, Realm, Rider, Words};
+use adder::add_all;
+pub use anew::add_anew;
+use hl_domain::{Domain, Epochs, Promise, Realm, Rider, Task};
+use hl_model::cell_of;
+use hl_words::laws;
+use std::alloc::Global;
+use std::sync::Wait;
+use std::thread::{Threads, join};
 
-/// Adds one number to a cell. What the rider's touches of the cell add up to grows by it.
-pub fn add<L: Realm>(words: &Words<L>, rider: &mut Rider<L>, cell: u64, number: u64)
-    requires { cell < words.now.cells }
-    ensures { (total : ℕ) → AddsUp cell total rider.old.view.touches → AddsUp cell (total + number) rider.new.view.touches }
-{
-    words.fetch_add_cell(rider, cell, number);
+/// What two threads say that they added to a counter, and the counter's word.
+#[derive(Clone, Copy, Debug, PartialEq, Eq)]
+pub struct Sums {
+    /// What the first thread says that it added in all, modulo 2^64.
+    pub first: u64,
+    /// What the second thread says that it added in all, modulo 2^64.
+    pub second: u64,
+    /// What the counter's word is once the domain was closed.
+    pub word: u64,
 }
 
-/// Ends the words, and tells what a cell holds: where each rider touched it by loads and adds alone, the sum of all
-/// numbers that were added, modulo 2^64.
-pub fn close_sum<L: Realm>(
-    words: Words<L>,
-    master: Master<L>,
-    riders: Vec<Rider<L>>,
-    cell: u64,
-) -> Result<u64, (Words<L>, Master<L>, Vec<Rider<L>>)>
-    requires { cell < words.cells }
-    ensures { IfOk result (λ held. (totals : List ℕ) → length totals ≡ length riders.items
-        → EachRider (λ i r. (total : ℕ) → slice_get totals i ≡ Some total → AddsUp cell total r.touches)
-        (map (λ r. r.view) riders.items) → held ≡ sum totals % 2 ^ 64) }
-{
-    match words.close(master, riders) {
-        Ok(last) => Ok(last.cell(cell)),
-        Err(back) => Err(back),
-    }
+/// A counter, and the numbers that two threads are to add to it.
+#[derive(Clone, Copy)]
+pub struct Adds<'a> {
+    /// The address of the counter's word.
+    pub counter: u64,
+    /// The first thread's numbers.
+    pub first: &'a [u64],
+    /// The second thread's numbers.
+    pub second: &'a [u64],
 }
 
-/// What a cell held when a domain ended: where each rider touched it by loads and adds alone, the sum of all numbers
-/// that were added, modulo 2^64.
-pub fn ending_sum<F: Task, P: Promise>(ending: &Ending<F, P>, cell: u64) -> u64
-    requires { cell < ending.now.words.cells }
-    ensures { (sizes : Sizes) (riders : List RiderState) (totals : List ℕ) → IsEnding sizes riders ending.now
-        → length totals ≡ length riders
-        → EachRider (λ i r. (total : ℕ) → slice_get totals i ≡ Some total → AddsUp cell total r.touches)
-        (map (λ r. r.view) riders) → result ≡ sum totals % 2 ^ 64 }
+/// Each of a domain's two riders adds its numbers to a counter, in a thread of its own; then the domain is closed. The
+/// counter's word is the sum of what the two threads say that they added. Before, the riders did nothing to the counter's
+/// cell, or added 0 in all.
+///
+/// A number whose add was refused, as where the pass has no room for a touch, is in no sum. `None` if memory was refused;
+/// then the domain is given up. Its close isn't refused, since both riders are there.
+pub fn add_by_two<R, E, F, P, L>(
+    rt: &R,
+    alloc: Global,
+    domain: Domain<E, F, P, L>,
+    one: Rider<L>,
+    two: Rider<L>,
+    adds: Adds<'_>,
+) -> Option<Sums>
+where
+    R: Threads + Wait + Sync,
+    E: Epochs + Drop + Send,
+    F: Task + Send,
+    P: Promise + Send,
+    L: Realm + Send + Sync,
+    requires both { domain.riders ≡ 2 }
+    requires new { let cell = cell_at domain.sizes adds.counter
+        in AddsUp cell 0 one.view.touches × AddsUp cell 0 two.view.touches }
+    ensures { IfSome result (λ sums. sums.word ≡ (sums.first + sums.second) % 2 ^ 64) }
 {
-    ending.words.cell(cell)
+    let Adds {
+        counter,
+        first,
+        second,
+    } = adds;
+    let cell = cell_of(domain.params(), counter);
+    let shared = &domain;
+    let ((first, one), (second, two)) = join(
+        rt,
+        move || -> (u64, Rider<L>)
+            ensures { let cell = cell_at shared.entry.now.sizes counter
+                in AddsMore cell result.0 one.view.touches result.1.view.touches }
+        { add_all(rt, shared, one, counter, first) },
+        move || -> (u64, Rider<L>)
+            ensures { let cell = cell_at shared.entry.now.sizes counter
+                in AddsMore cell result.0 two.view.touches result.1.view.touches }
+        { add_all(rt, shared, two, counter, second) },
+    );
+    let mut riders = Vec::new(alloc);
+    riders.push(one).ok()?;
+    riders.push(two).ok()?;
+    let Ok(ending) = domain.close(riders) else {
+        unreachable!()
+    };
+    laws::no_add_is_lost();
+    Some(Sums {
+        first,
+        second,
+        word: ending.words.cell(cell),
+    })
 }
