@@ -43,7 +43,7 @@ mod domain;
 pub use domain::Domain;
 pub use hl_keeper::{
     Action, AnyAnswer, ArrayVec, Ask, Base, Broom, CountTable, Drain, Ending, Epochs, Fault,
-    Firing, FrameState, HasSizes, Holder, Keeper, Kept, Lease, Load, Master, NoJob, PageJob, Past,
-    Params, Pass, Promise, Ran, RawSizes, Ready, Realm, Reply, Rider, ScanTable, Seed, Six, Sizes,
-    Snapshot, Step, Task, View, Words, unlocked, worked,
+    Firing, FrameState, HasSizes, Holder, Keeper, Kept, Lease, Load, Master, NoJob, PageJob,
+    Params, Pass, Past, Promise, Ran, RawSizes, Ready, Realm, Reply, Rider, ScanTable, Seed, Six,
+    Sizes, Snapshot, Step, Task, View, Words, unlocked, worked,
 };

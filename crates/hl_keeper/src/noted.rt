@@ -28,7 +28,9 @@ impl<E: Epochs, F: Task, P: Promise, L: Realm> Keeper<E, F, P, L> {
         ensures rises { IsOf scribe.old rider.old.calls }
     {
         let Keeper {
-            journal, master, ..
+            journal,
+            master,
+            ..
         } = self;
         words.enter(master, scribe, rider, &journal.steps.as_slice()[before..]);
     }
