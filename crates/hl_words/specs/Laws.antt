@@ -95,4 +95,5 @@ Meets c values (Met name count ∷ before) = Meets c values before
 abbrev pub NoRiderGoesBack : Type 0
 NoRiderGoesBack = (cells : ℕ) (words : List ℕ) (stores : OffsetWords) (riders : List RiderView) (c : ℕ)
     → IsRuled cells words stores riders → c < cells
-    → (values : List ℕ) × (slice_index words c ≡ newest values) × EachRider (λ i r. Meets c values r.touches) riders
+    → (values : List ℕ) × (slice_index words c ≡ newest values)
+    × EachRider (λ i r. Meets c values r.touches) riders

@@ -30,7 +30,8 @@ HasCalls riders n before = (j met left : ℕ) (q : RiderView) (later past : List
 -- nothing that riders did after calls that met more steps than n
 abbrev pub HasNoCalls : List RiderView → ℕ → List TouchBy → Type 0
 HasNoCalls riders n before = (j met left : ℕ) (q : RiderView) (later past : List Touch)
-    → slice_get riders j ≡ Some q → q.touches ≡ later ++ Called met left ∷ past → n < met → HasOnly j past before
+    → slice_get riders j ≡ Some q → q.touches ≡ later ++ Called met left ∷ past → n < met
+    → HasOnly j past before
 
 -- A load after its rider was told what another did finds it, or what was stored since
 abbrev pub LoadsAfterMet : Type 0

@@ -12,7 +12,7 @@ use Rattle.hl_words.specs.declared.view.OffsetWords.{OffsetWords}
 use Rattle.hl_words.specs.declared.view.RiderView.{RiderView}
 use Rattle.hl_words.specs.declared.view.SeatView.{SeatView}
 use Rattle.hl_words.specs.declared.view.Room.{Room}
-use Rattle.hl_words.specs.Views.{fresh, unused, called}
+use Rattle.hl_words.specs.Views.{no_offsets, fresh, unused, called}
 use Rattle.hl_words.specs.Seats.{master_seat, spent_seat}
 use Rattle.atomic_table.specs.Table.{Me}
 
@@ -29,6 +29,10 @@ pub record MasterState : Type 0 where
   pub offsets : OffsetWords
   pub total : ℕ
   pub called : ℕ
+
+-- the master before its first store
+abbrev pub new_master : MasterState
+new_master = record { offsets = no_offsets; total = 0; called = 0 }
 
 -- the master once a call was noted that left all steps
 abbrev pub all_called : MasterState → MasterState

@@ -22,7 +22,11 @@ impl<L: Realm> Model for Master<L> {
 
     ghost Value = { MasterState };
 
-    ghost view = { λ m. record { offsets = m.seat.me.0.offsets; total = m.total; called = m.seat.me.0.called } };
+    ghost view = { λ m. record {
+      offsets = m.seat.me.0.offsets;
+      total = m.total;
+      called = m.seat.me.0.called;
+    } };
 
     ghost invariant = { λ m. IsMasterSeat m.seat.me.0.called m.seat.me.0.offsets [] m.seat.id m.seat.me
         × (m.seat.table_id ≡ L.table.words) × (m.book.total ≡ m.total) × (m.total ≤ 2 ^ 62)

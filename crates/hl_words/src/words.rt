@@ -1,7 +1,7 @@
 ghost use Rattle.std.specs.Prelude.{◌≡◌, ◌<◌, ◌≤◌, [], IfOk, IfErr};
 ghost use Rattle.hl_model.specs.declared.fault.Fault.TheVariants.{OutOfMemory};
-ghost use Rattle.hl_words.specs.Views.{no_offsets, offset_of, greatest_of, with_offset, stored, loaded, added, exchanged, with_loaded, looked};
-ghost use Rattle.hl_words.specs.States.{IsSeedOf, new_riders, with_view};
+ghost use Rattle.hl_words.specs.Views.{offset_of, greatest_of, with_offset, stored, loaded, added, exchanged, with_loaded, looked};
+ghost use Rattle.hl_words.specs.States.{IsSeedOf, new_master, new_riders, with_view};
 
 mod calls;
 mod closing;
@@ -54,7 +54,7 @@ impl<L: Realm> Words<L> {
         requires { IsSeedOf L.name L.parts L.table seed }
         ensures words { IfOk result
             (λ opened. opened.0 ≡ record { cells = seed.cells; riders = seed.riders }) }
-        ensures master { IfOk result (λ opened. opened.1 ≡ record { offsets = no_offsets; total = 0; called = 0 }) }
+        ensures master { IfOk result (λ opened. opened.1 ≡ new_master) }
         ensures riders { IfOk result (λ opened. opened.2.items ≡ new_riders seed.riders) }
         ensures memory { IfErr result (λ fault. fault ≡ OutOfMemory) }
     {
@@ -72,7 +72,7 @@ impl<L: Realm> Words<L> {
         requires { IsSeedOf L.name L.parts L.table seed }
         ensures words { IfOk result
             (λ opened. opened.0 ≡ record { cells = seed.cells; riders = seed.riders }) }
-        ensures master { IfOk result (λ opened. opened.1 ≡ record { offsets = no_offsets; total = 0; called = 0 }) }
+        ensures master { IfOk result (λ opened. opened.1 ≡ new_master) }
         ensures list { IfOk result (λ opened. opened.2 ≡ []) }
         ensures riders { IfOk result (λ opened. opened.3.items ≡ new_riders seed.riders) }
         ensures memory { IfErr result (λ fault. fault ≡ OutOfMemory) }

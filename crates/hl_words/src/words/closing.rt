@@ -136,7 +136,8 @@ impl<L: Realm> Words<L> {
     // Takes the riders back.
     fn gather(&self, ended: &mut Ended<L>, mut riders: Vec<Rider<L>>)
         requires seat { let old = ended.old.seat
-            in (old.table_id ≡ L.table.words) × IsMasterSeat old.me.0.called old.me.0.offsets [] old.id old.me }
+            in (old.table_id ≡ L.table.words)
+            × IsMasterSeat old.me.0.called old.me.0.offsets [] old.id old.me }
         ensures seat { let old = ended.old.seat
             in let new = ended.new.seat
             in (new.table_id ≡ L.table.words)
