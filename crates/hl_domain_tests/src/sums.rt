@@ -1,4 +1,5 @@
-//! Two threads that add to a counter of a new domain: which adds are refused, where the word is the sum of what they say.
+//! Two threads that add to a counter of a new domain: which adds are refused, where the word is the sum of those that
+//! aren't.
 use hl_sums::add_anew;
 use std::test::Fail;
 

@@ -7,7 +7,8 @@ use hl_words::laws;
 use std::sync::Wait;
 
 /// Adds each number to the counter, and hands the rider back beside the sum, modulo 2^64, of those whose add was not
-/// refused. Whatever the rider's touches of the counter's cell added up to before, they add up to that and the sum more.
+/// refused. Whatever the rider's touches of the counter's cell added up to before, they add up to that and the sum
+/// more.
 pub(crate) fn add_all<E: Epochs + Drop, F: Task, P: Promise, L: Realm>(
     rt: &impl Wait,
     domain: &Domain<E, F, P, L>,

@@ -21,8 +21,8 @@ const JOURNAL: u64 = 71;
 const STAMP: u64 = 2000;
 
 /// Opens a small domain, places a counter there, and lets each of two threads add its numbers to it, as [`add_by_two`]
-/// tells. A thread adds 32 of its numbers at most. That the counter is placed, and none of these adds is refused, is not
-/// proved: a test sees it.
+/// tells. A thread adds 32 of its numbers at most. That the counter is placed, and that none of these adds is refused,
+/// is not proved: a test sees it.
 ///
 /// `None` if memory was refused, or the counter was.
 pub fn add_anew<R: Threads + Wait + Sync>(

@@ -1,14 +1,14 @@
 //! Two threads add to one counter at the same time, and no add is lost.
 //!
-//! Each of two threads adds its numbers to a counter of one domain, in no order that anyone sets, and tells what it added
-//! in all. Once the domain is closed, the counter's word is the sum of what both tell, modulo 2^64.
+//! Each of two threads adds its numbers to a counter of one domain, in no order that anyone sets, and tells what it
+//! added in all. Once the domain is closed, the counter's word is the sum of what both tell, modulo 2^64.
 //!
 //! A thread's own calls say what it found in the counter's cell and what it left there, and nothing of what the other
 //! thread did in between. From such sentences nothing follows about the word at the end: both may have found a 0 there,
-//! and then one of the two adds would be lost. Closing the domain says what joins them: all that the riders did to cells
-//! has ONE order, in which each add found what the newest store before it left. The law
-//! [`no_add_is_lost`](hl_words::laws::no_add_is_lost) says what follows from that, and a caller has it by calling it. All
-//! that the proof knows of a domain is the contracts of its calls, and of words that law and one more.
+//! and then one of the two adds would be lost. Closing the domain says what joins them: all that the riders did to
+//! cells has ONE order, in which each add found what the newest store before it left. What follows from that is the law
+//! [`no_add_is_lost`](hl_words::laws::no_add_is_lost), which a caller has by calling it. All that the proof knows of a
+//! domain is the contracts of its calls, and of words that law and one more.
 #![tactic(auto)]
 
 mod adder;
@@ -51,11 +51,13 @@ pub struct Adds<'a> {
 }
 
 /// Each of a domain's two riders adds its numbers to a counter, in a thread of its own; then the domain is closed. The
-/// counter's word is the sum of what the two threads say that they added. Before, the riders did nothing to the counter's
-/// cell, or added 0 in all.
+/// counter's word is the sum of what the two threads say that they added. Before, the riders did nothing to the
+/// counter's cell, or added 0 in all.
 ///
-/// A number whose add was refused, as where the pass has no room for a touch, is in no sum. `None` if memory was refused;
-/// then the domain is given up. Its close isn't refused, since both riders are there.
+/// A number whose add was refused, as where the pass has no room for a touch, is in no sum. That an add is accepted is
+/// not proved.
+///
+/// `None` if memory was refused; then the domain is given up. Its close isn't refused, since both riders are there.
 pub fn add_by_two<R, E, F, P, L>(
     rt: &R,
     alloc: Global,
