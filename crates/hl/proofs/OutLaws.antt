@@ -1,15 +1,19 @@
 -- What threads returned, in the order of their numbers.
-use Rattle.std.proofs.Common.{◌≡◌, ℕ, ◌+◌, ◌<◌, ◌≤◌, List, [], ◌∷◌, ◌++◌, map, length, slice_index_or, ap, sym, ◌∙◌, subst, Option, Some, None, Result, Ok, Err, IfOk, IfSome, option_map, Vec, vec_len, vec_capacity, arith}
+use Rattle.std.proofs.Common.{◌≡◌, ℕ, zero, suc, ◌+◌, ◌-◌, ◌<◌, ◌≤◌, Bool, true, false, List, [], ◌∷◌, ◌++◌, map, length, slice_index_or, refl, ap, sym, ◌∙◌, subst, subst₂, Option, Some, None, Result, Ok, Err, IfOk, IfSome, option_map, Vec, vec_len, vec_capacity, arith, ltb-true, ltb-false}
+use Rattle.std.specs.Prelude.{nat_lt}
 use Rattle.std.proofs.Common.{Global}
-use Rattle.std.proofs.lemmas.List.{get_or-map, length-map, length-append}
+use Rattle.std.proofs.lemmas.List.{get_or-map, get_or_append_left, get_or-append_right, length-map, length-append}
 use Rattle.std.specs.Iterator.Runs.{CollectsByExtend}
 use Rattle.std.specs.Fn.{FnReturns}
 use Rattle.std.specs.Fork.{GivesJobs}
 use Rattle.std.specs.declared.alloc.AllocError.{AllocError}
 use denote.Param.Members.{Shared}
 use Rattle.hl_model.specs.declared.fault.Fault.{Fault}
-use Rattle.hl_words.specs.States.{RiderState}
-use Rattle.hl.specs.Closings.{AreReturned, AllReturned}
+use Rattle.hl_words.specs.States.{RiderState, new_rider, new_riders}
+use Rattle.hl_words.proofs.Dealing.{new_long}
+use Rattle.hl_domain.specs.Domains.{DomainState}
+use Rattle.hl.specs.Sessions.{SessionState}
+use Rattle.hl.specs.Closings.{rider_at, Tells, AreReturned, AllReturned}
 
 -- how long a row is that one was put behind
 one_longer : {X : Type 0} (xs : List X) (x : X) (old new : ℕ) → old ≡ length xs → new ≡ old + 1 → new ≡ length (xs ++ (x ∷ []))
@@ -24,26 +28,65 @@ pub read_at : {X : Type 0} (P : X → Type 0) (at : Option X) (x : X) → option
 read_at P (Some y) x reads holds = let same : y ≡ x = cc in subst P same holds
 read_at P None x reads holds = absurd cc
 
--- results are taken by their places from pairs of a result and a rider
-returned_of : {Out R : Type 0} (Returns : ℕ → Out → Type 0) (pairs : List (Result Out Fault × R)) → ((i : ℕ) (pair : Result Out Fault × R) → i < length pairs → IfOk (slice_index_or pairs i pair).0 (Returns i)) → AreReturned Returns (map (λ one. one.0) pairs)
-returned_of Returns [] each i d within = absurd (omega (arith, within))
-returned_of Returns (one ∷ pairs) each i d within =
-    let inside : i < length (one ∷ pairs) = subst (λ n. i < n) (length-map (one ∷ pairs) (λ x. x.0)) within in
-    subst (λ x. IfOk x (Returns i)) (sym (get_or-map (λ x. x.0) (one ∷ pairs) i one d inside)) (each i one inside)
+-- the new rider at a place is that of its name
+new_at : (n i : ℕ) (none : RiderState) → i < n → slice_index_or (new_riders n) i none ≡ new_rider i
+new_at zero i none within = absurd (omega (arith, within))
+new_at (suc n) i none within = by_test (new_at n i none) (nat_lt i n) refl
+  where
+    by_test : (i < n → slice_index_or (new_riders n) i none ≡ new_rider i) → (t : Bool) → nat_lt i n ≡ t → slice_index_or (new_riders n ++ new_rider n ∷ []) i none ≡ new_rider i
+    by_test before true e =
+        let less = ltb-true i n e in
+        get_or_append_left (new_riders n) (new_rider n ∷ []) none i (omega (arith, less, new_long n)) ∙ before less
+    by_test before false e =
+        let same : i ≡ n = omega (arith, ltb-false i n e, within) in
+        let first : i - n ≡ 0 = omega (arith, same) in
+        get_or-append_right (new_riders n) (new_rider n ∷ []) n i none (new_long n) (omega (arith, same)) ∙ ap (λ k. slice_index_or (new_rider n ∷ []) k none) first ∙ ap new_rider (sym same)
 
--- what is left of jobs that carry their own places, where each call returns what is said of its job's number
-pub work_returned : {Out R F : Type 0} (Returns : ℕ → Out → Type 0) (g : Shared F ((ℕ × R) × Unit {0}) (Result Out Fault × R)) (f : F) (jobs : Vec (ℕ × R) Global) (count : ℕ) (result : Result (Vec (Result Out Fault × R) Global) AllocError) → length jobs.items ≡ count → ((i : ℕ) (job : ℕ × R) → i < length jobs.items → (slice_index_or jobs.items i job).0 ≡ i) → ((job : ℕ × R) (one : Result Out Fault × R) → FnReturns g f (job, tt) one → IfOk one.0 (Returns job.0)) → IfOk result (λ v. vec_len v ≡ vec_len jobs) → IfOk result (λ v. GivesJobs g f jobs.items v.items) → IfOk result (λ worked. (length worked.items ≡ count) × AreReturned Returns (map (λ one. one.0) worked.items))
-work_returned Returns g f jobs count (Ok worked) long numbered calls len each =
-    let all : length worked.items ≡ length jobs.items = omega (arith, worked.ok, jobs.ok, len) in (
-      all ∙ long,
-      returned_of Returns worked.items (λ i pair within.
-          let inside : i < length jobs.items = subst (λ n. i < n) all within in
-          let gives = (each i pair inside).1 in
-          let place : gives.job.0 ≡ i = sym (ap (λ job. job.0) (gives.job_is gives.job)) ∙ numbered i gives.job inside in
-          subst (λ n. IfOk (slice_index_or worked.items i pair).0 (Returns n)) place (calls gives.job _ gives.call)),
-    )
-work_returned Returns g f jobs count (Err error) long numbered calls len each = tt
+-- of threads of one log, of whose sessions so much holds
+module _ {Out : Type 0} (F : Type 0) (log : DomainState) (Returns : ℕ → SessionState → SessionState → Out → Type 0) where
+  -- results and riders are taken by their places from pairs of both
+  returned_of : (olds : ℕ → RiderState) (pairs : List (Result Out Fault × RiderState))
+      → ((i : ℕ) (pair : Result Out Fault × RiderState) → i < length pairs → Tells F log (Returns i) (olds i) (slice_index_or pairs i pair).1 (slice_index_or pairs i pair).0)
+      → AreReturned F log Returns olds (map (λ one. one.0) pairs) (map (λ one. one.1) pairs)
+  returned_of olds pairs each i d within =
+      let inside : i < length pairs = subst (λ n. i < n) (length-map pairs (λ x. x.0)) within in
+      subst₂ (λ (x : Result Out Fault) (r : RiderState). Tells F log (Returns i) (olds i) r x)
+      (sym (get_or-map (λ x. x.0) pairs i (d, new_rider i) d inside)) (sym (get_or-map (λ x. x.1) pairs i (d, new_rider i) (new_rider i) inside)) (each i (d, new_rider i) inside)
 
--- what is known by the number of riders at hand is known by another that is the same
-pub all_counted : {Out : Type 0} (Returns : ℕ → Out → Type 0) (count other : ℕ) (outs : Result (Vec (Result Out Fault) Global) Fault) (riders : List RiderState) → count ≡ other → IfOk outs (λ outs. AllReturned Returns count outs.items riders) → IfOk outs (λ outs. AllReturned Returns other outs.items riders)
-all_counted Returns count other outs riders same known = subst (λ n. IfOk outs (λ outs. AllReturned Returns n outs.items riders)) same known
+  -- what is left of jobs that carry their own places and riders, where each call returns what is said of its job's
+  pub work_returned : {C : Type 0} (g : Shared C ((ℕ × RiderState) × Unit {0}) (Result Out Fault × RiderState)) (f : C) (jobs : Vec (ℕ × RiderState) Global) (olds : List RiderState) (result : Result (Vec (Result Out Fault × RiderState) Global) AllocError)
+      → olds ≡ map (λ job. job.1) jobs.items → ((i : ℕ) (job : ℕ × RiderState) → i < length jobs.items → (slice_index_or jobs.items i job).0 ≡ i)
+      → ((job : ℕ × RiderState) (one : Result Out Fault × RiderState) → FnReturns g f (job, tt) one → Tells F log (Returns job.0) job.1 one.1 one.0)
+      → IfOk result (λ v. vec_len v ≡ vec_len jobs) → IfOk result (λ v. GivesJobs g f jobs.items v.items)
+      → IfOk result (λ worked. (length worked.items ≡ length olds) × AreReturned F log Returns (rider_at olds) (map (λ one. one.0) worked.items) (map (λ one. one.1) worked.items))
+  work_returned g f jobs olds (Ok worked) same numbered calls len each =
+      let all : length worked.items ≡ length jobs.items = omega (arith, worked.ok, jobs.ok, len) in (
+        all ∙ sym (ap length same ∙ length-map jobs.items (λ job. job.1)),
+        returned_of (rider_at olds) worked.items (λ i pair within.
+            let inside : i < length jobs.items = subst (λ n. i < n) all within in
+            let gives = (each i pair inside).1 in
+            let place : gives.job.0 ≡ i = sym (ap (λ job. job.0) (gives.job_is gives.job)) ∙ numbered i gives.job inside in
+            let rider : gives.job.1 ≡ rider_at olds i = sym (ap (λ job. job.1) (gives.job_is gives.job)) ∙ sym (get_or-map (λ job. job.1) jobs.items i gives.job (new_rider i) inside) ∙ ap (λ l. rider_at l i) (sym same) in
+            subst₂ (λ (n : ℕ) (r : RiderState). Tells F log (Returns n) r (slice_index_or worked.items i pair).1 (slice_index_or worked.items i pair).0) place rider (calls gives.job _ gives.call)),
+      )
+  work_returned g f jobs olds (Err error) same numbered calls len each = tt
+
+  -- results and riders of threads whose riders were new, with a crew's riders behind
+  pub with_crew : (all olds crew : List RiderState) (outs : List (Result Out Fault)) (news back : List RiderState)
+      → all ≡ new_riders log.riders → all ≡ olds ++ crew → length outs ≡ length olds → length news ≡ length olds → length crew ≡ 4 → length back ≡ 4
+      → AreReturned F log Returns (rider_at olds) outs news → AllReturned F log Returns outs (news ++ back)
+  with_crew all olds crew outs news back new parts long many four others each =
+      let count : length olds + 4 ≡ log.riders = omega (arith, ap length parts, length-append olds crew, four, ap length new, new_long log.riders) in
+      record {
+        back = length-append news back ∙ omega (arith, count, others, many);
+        threads = omega (arith, count, long);
+        each = λ number other within.
+            let here : number < length olds = omega (arith, within, long) in
+            let old : rider_at olds number ≡ new_rider number = sym (get_or_append_left olds crew (new_rider number) number here) ∙ ap (λ l. rider_at l number) (sym parts ∙ new) ∙ new_at log.riders number (new_rider number) (omega (arith, here, count)) in
+            let now : rider_at news number ≡ rider_at (news ++ back) number = sym (get_or_append_left news back (new_rider number) number (omega (arith, here, many))) in
+            subst₂ (λ (r s : RiderState). Tells F log (Returns number) r s (slice_index_or outs number other)) old now (each number other within);
+      }
+
+-- what is known of one log is known of another that is the same
+pub all_of_same : {Out : Type 0} (F : Type 0) (log other : DomainState) (Returns : ℕ → SessionState → SessionState → Out → Type 0) (outs : Result (Vec (Result Out Fault) Global) Fault) (riders : List RiderState) → log ≡ other → IfOk outs (λ outs. AllReturned F log Returns outs.items riders) → IfOk outs (λ outs. AllReturned F other Returns outs.items riders)
+all_of_same F log other Returns outs riders same known = subst (λ l. IfOk outs (λ outs. AllReturned F l Returns outs.items riders)) same known

@@ -1,12 +1,12 @@
 -- A session, and how its slot was found.
 use Rattle.std.specs.Prelude.{◌≡◌, ℕ, Ok, Err, Result}
 use Rattle.hl_model.specs.declared.fault.Fault.{Fault}
-use Rattle.hl_model.specs.declared.step.Step.TheVariants.{Acquire}
+use Rattle.hl_model.specs.declared.step.Step.TheVariants.{Acquire, Release}
 use Rattle.hl_words.specs.States.{RiderState}
 use Rattle.hl_keeper.specs.Passes.{PassRecord, with_rider}
 use Rattle.hl_core.specs.Holding.{least_free}
-use Rattle.hl_keeper.specs.Calls.{Makes, MakesAt, pass_after}
-use Rattle.hl_domain.specs.Domains.{DomainState, call_of, enter_call, MakesUnderLock}
+use Rattle.hl_keeper.specs.Calls.{call_fault, Makes, MakesAt, MakesTouched, pass_after}
+use Rattle.hl_domain.specs.Domains.{DomainState, call_of, pass_call, enter_call, MakesUnderLock}
 use Rattle.hl.specs.declared.refused.Refused.{Refused}
 
 -- a session: its log, and its pass there
@@ -52,6 +52,13 @@ Entered F log rider result =
     MakesUnderLock F log (enter_call log.sizes rider (seated result)) (pass_of result)
     (λ old. MakesAt old (λ A. Acquire (least_free old.core.sizes A))
     (λ A. pass_after old (least_free old.core.sizes A) (seated result) A))
+
+-- a session was asked to end, and answered as a release of its slot does
+abbrev pub Left : (F : Type 0) → SessionState → Result RiderState (Refused SessionState) → Type 0
+Left F session result =
+    let p = session.pass in
+    MakesUnderLock F session.log (pass_call p (Release p.slot) (unseated result)) (fault_alone result)
+    (λ old. MakesTouched old p (Release p.slot) (λ A. call_fault old A p (Release p.slot)) (λ A. unseated result))
 
 -- the same session, but for its rider
 abbrev pub KeepsAllButRider : SessionState → SessionState → Type 0

@@ -42,7 +42,7 @@ pub use hl_epoch::{Epochs, ScanTable};
 pub use hl_image::{HexWriter, MemoryWriter, PageWriter};
 pub use hl_laws::Base;
 pub use hl_model::{Fault, HasSizes, Params, RawSizes, Reply, Six, Sizes, Snapshot, Step, View};
-pub use hl_words::{OffsetWords, Realm, Rider, RiderView, Seed, Touch, Words};
+pub use hl_words::{OffsetWords, Past, Realm, Rider, RiderView, Seed, Touch, Words};
 pub use log::Log;
 pub use open::{Closed, with_log};
 pub use opening::Opening;

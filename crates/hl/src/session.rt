@@ -1,13 +1,14 @@
 //! A thread's time in a slot of a log.
 ghost use Rattle.std.specs.Prelude.{◌≡◌, ◌+◌, ◌-◌, ◌/◌, ◌^◌, ◌≤◌, ◌++◌, Ok, true, false, IfOk, IfErr, MatchResult};
-ghost use Rattle.hl_model.specs.declared.step.Step.TheVariants.{Release as RELEASE, Allocate as ALLOCATE};
+ghost use Rattle.hl_model.specs.declared.step.Step.TheVariants.{Allocate as ALLOCATE};
 ghost use Rattle.hl_model.specs.Offsets.{place_of, tail};
 ghost use Rattle.hl_keeper.specs.Passes.{seen, with_rider, with_tail};
 ghost use Rattle.hl_keeper.specs.Calls.{call_fault, MakesTouched};
 ghost use Rattle.hl_keeper.specs.Leases.{placed};
 ghost use Rattle.hl_domain.specs.Domains.{pass_call, with_held, after_news, stays_current, MakesUnderLock, Refreshed};
-ghost use Rattle.hl.specs.Sessions.{with_pass, fault_alone, unseated, Asked, Entered};
+ghost use Rattle.hl.specs.Sessions.{with_pass, Asked, Entered, Left};
 
+mod pasts;
 mod rider;
 mod words;
 
@@ -174,11 +175,7 @@ impl<'a, R: Wait, L: Realm, F: Task, P: Promise, E: Epochs + Drop> Session<'a, R
     ///
     /// Faults, with the session handed back: `JournalFull`.
     pub fn leave(self) -> Result<Rider<L>, Refused<Session<'a, R, L, F, P, E>>>
-        ensures met { let p = self.entry.pass
-            in let call = pass_call p (RELEASE p.slot) (unseated result)
-            in MakesUnderLock F self.entry.log call (fault_alone result) (λ old.
-            MakesTouched old p (RELEASE p.slot) (λ A. call_fault old A p (RELEASE p.slot))
-            (λ A. unseated result)) }
+        ensures met { Left F self.entry result }
         ensures back { IfErr result (λ refused. refused.back
             ≡ with_pass (with_rider refused.back.pass.rider self.entry.pass) self.entry) }
     {

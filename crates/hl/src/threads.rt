@@ -1,10 +1,11 @@
 //! A log that threads use beside a crew, opened and closed by one call.
-ghost use Rattle.std.specs.Prelude.{◌≡◌, ◌+◌, ℕ, List, map, length, true, false, Err, IfOk, IfErr, ⊤};
+ghost use Rattle.std.specs.Prelude.{◌≡◌, ◌++◌, ℕ, List, map, length, true, false, Err, IfOk, IfErr, ⊤};
 ghost use Rattle.hl_model.specs.declared.fault.Fault.TheVariants.{OutOfMemory, Size};
-ghost use Rattle.hl_words.specs.States.{IsSeedOf};
-ghost use Rattle.hl.specs.Openings.{of_sizes, IsInRange};
-ghost use Rattle.hl.specs.Crews.{can_run};
-ghost use Rattle.hl.specs.Closings.{IsClosed, AreReturned, AllReturned};
+ghost use Rattle.hl_words.specs.States.{IsSeedOf, new_riders};
+ghost use Rattle.hl.specs.Openings.{of_sizes, opened_as, IsInRange};
+ghost use Rattle.hl.specs.Sessions.{SessionState};
+ghost use Rattle.hl.specs.Crews.{can_run, riders_of};
+ghost use Rattle.hl.specs.Closings.{rider_at, IsClosed, Tells, AreReturned, AllReturned};
 
 use crate::crew::{Crew, CrewReport, CrewRiders, is_for};
 use crate::log::Log;
@@ -34,8 +35,9 @@ pub trait Work<R: Wait> {
     /// What holds of a page whose image the device took; nothing, unless a program says so.
     ghost took: { Self → ℕ → List ℕ → Type 0 } = { λ _ _ _. ⊤ };
 
-    /// What holds of what a thread of this number returns; nothing, unless a program says so.
-    ghost returns: { Self → ℕ → Self.Out → Type 0 } = { λ _ _ _. ⊤ };
+    /// What holds of the session of a thread of this number before `run` and after it, and of what it returns; nothing,
+    /// unless a program says so. A session shows contracts its rider, and so each call that the thread made.
+    ghost returns: { Self → ℕ → SessionState → SessionState → Self.Out → Type 0 } = { λ _ _ _ _ _. ⊤ };
 
     /// What the thread of this number does in its session; threads are counted from 0.
     fn run<L: Realm + Send + Sync>(
@@ -44,7 +46,7 @@ pub trait Work<R: Wait> {
         session: &mut Session<R, L, Self::Job>,
         number: u64,
     ) -> Self::Out
-        ensures { returns self.now number result };
+        ensures { returns self.now number session.old session.new result };
 
     /// Writes the image of a page to the program's device: whether it did, and then what `took` says holds. Two writers of the
     /// crew call it.
@@ -62,8 +64,11 @@ type Worked<L, T> = (Result<T, Fault>, Rider<L>);
 /// log. Each thread is in a session while it works, and the crew serves until all have ended. A
 /// rider whose thread can't be made works after another, in that one's thread.
 ///
-/// Where `out` is `Ok`, its places are the threads' numbers: each holds what that thread returned,
-/// of which `Work::returns` holds, or its fault; and no rider is missing.
+/// Where `out` is `Ok`, its places are the threads' numbers, and no rider is missing: in `IsClosed` the threads' riders
+/// stand in their order before the crew's four. Each place holds what that thread returned, and then its rider, new at
+/// first, entered a session of this log, was in it as `Work::returns` says, and left it. Or it holds the fault by which
+/// the rider was refused its session, or the thread, once it had run, couldn't leave its own. So what a thread's calls
+/// met and did is tied to the one list of the ending.
 ///
 /// If the crew's own thread can't be made, the riders work without a crew, and it serves after them: a rider that waits
 /// for a frame then waits for good.
@@ -84,7 +89,7 @@ pub fn with_threads<R: Threads + Wait + Sync, P: Work<R> + Sync, S: HasSizes>(
         → IfErr result (λ fault. fault ≡ OutOfMemory) }
     ensures closed { let o = of_sizes S.sizes_of opening
         in IfOk result (IsClosed o (λ out riders. IfOk out
-        (λ outs. AllReturned (P.returns work.now) o.riders outs.items riders))) }
+        (λ outs. AllReturned P.Job (opened_as o) (P.returns work.now) outs.items riders))) }
 {
     threads_of_sizes(rt, alloc, opening.of_sizes(), duty, work)
 }
@@ -100,7 +105,7 @@ fn threads_of_sizes<R: Threads + Wait + Sync, P: Work<R> + Sync>(
     ensures size { can_run opening duty ≡ false → result ≡ Err Size }
     ensures memory { can_run opening duty ≡ true → IfErr result (λ fault. fault ≡ OutOfMemory) }
     ensures closed { IfOk result (IsClosed opening (λ out riders. IfOk out
-        (λ outs. AllReturned (P.returns work.now) opening.riders outs.items riders))) }
+        (λ outs. AllReturned P.Job (opened_as opening) (P.returns work.now) outs.items riders))) }
 {
     if !has_room(&opening, duty) {
         return Err(Fault::Size);
@@ -133,7 +138,7 @@ fn threads_over<L: Realm + Send + Sync, R: Threads + Wait + Sync, P: Work<R> + S
     requires range { IsInRange opening }
     ensures memory { IfErr result (λ fault. fault ≡ OutOfMemory) }
     ensures closed { IfOk result (IsClosed opening (λ out riders. IfOk out
-        (λ outs. AllReturned (P.returns work.now) opening.riders outs.items riders))) }
+        (λ outs. AllReturned P.Job (opened_as opening) (P.returns work.now) outs.items riders))) }
 {
     let (log, riders) = Log::<L, P::Job>::open(alloc, seed, opening.journal, opening.stamp)?;
     let (out, riders) = run_all(rt, alloc, &log, riders, duty, work);
@@ -153,7 +158,8 @@ fn run_all<L: Realm + Send + Sync, R: Threads + Wait + Sync, P: Work<R> + Sync>(
     duty: Duty,
     work: &P,
 ) -> (Result<Outs<P::Out>, Fault>, Vec<Rider<L>>)
-    ensures { IfOk result.0 (λ outs. AllReturned (P.returns work.now) (length riders.items) outs.items
+    requires new { riders.items ≡ new_riders log.now.riders }
+    ensures { IfOk result.0 (λ outs. AllReturned P.Job log.now (P.returns work.now) outs.items
         result.1.items) }
 {
     let Some(crew) = CrewRiders::take_from(&mut riders) else {
@@ -166,7 +172,8 @@ fn run_all<L: Realm + Send + Sync, R: Threads + Wait + Sync, P: Work<R> + Sync>(
         || serve_behind(rt, alloc, log, crew, duty, work, &stop),
         || -> Result<Vec<Worked<L, P::Out>>, AllocError>
             ensures { IfOk result (λ worked. (length worked.items ≡ length riders.items)
-                × AreReturned (P.returns work.entry.now) (map (λ one. one.0) worked.items)) }
+                × AreReturned P.Job log.entry.now (P.returns work.entry.now) (rider_at riders.items)
+                (map (λ one. one.0) worked.items) (map (λ one. one.1) worked.items)) }
         { work_to_the_stop(rt, alloc, log, riders, work, &stop) },
     );
     let Ok(worked) = worked else {
@@ -185,7 +192,7 @@ fn gather<L: Realm, T: Drop>(
     crew: CrewRiders<L>,
 ) -> Result<(Outs<T>, Vec<Rider<L>>), Fault>
     ensures outs { IfOk result (λ all. all.0.items ≡ map (λ one. one.0) worked.items) }
-    ensures riders { IfOk result (λ all. length all.1.items ≡ length worked.items + 4) }
+    ensures riders { IfOk result (λ all. all.1.items ≡ map (λ one. one.1) worked.items ++ riders_of crew) }
 {
     let parted: Result<(Outs<T>, Vec<Rider<L>>), AllocError> = worked.into_iter().unzip(alloc);
     let Ok((outs, mut riders)) = parted else {
@@ -205,7 +212,8 @@ fn work_to_the_stop<L: Realm + Send + Sync, R: Threads + Wait + Sync, P: Work<R>
     stop: &Stop,
 ) -> Result<Vec<Worked<L, P::Out>>, AllocError>
     ensures { IfOk result (λ worked. (length worked.items ≡ length riders.items)
-        × AreReturned (P.returns work.now) (map (λ one. one.0) worked.items)) }
+        × AreReturned P.Job log.now (P.returns work.now) (rider_at riders.items)
+        (map (λ one. one.0) worked.items) (map (λ one. one.1) worked.items)) }
 {
     let worked = work_all(rt, alloc, log, riders, work, stop);
     stop.give();
@@ -222,14 +230,15 @@ fn work_all<L: Realm + Send + Sync, R: Threads + Wait + Sync, P: Work<R> + Sync>
     stop: &Stop,
 ) -> Result<Vec<Worked<L, P::Out>>, AllocError>
     ensures { IfOk result (λ worked. (length worked.items ≡ length riders.items)
-        × AreReturned (P.returns work.now) (map (λ one. one.0) worked.items)) }
+        × AreReturned P.Job log.now (P.returns work.now) (rider_at riders.items)
+        (map (λ one. one.0) worked.items) (map (λ one. one.1) worked.items)) }
 {
     let jobs = riders.into_iter().enumerate().collect::<Vec<_>>(alloc)?;
     thread::map_vec(
         rt,
         jobs,
         &|job: (usize, Rider<L>)| -> Worked<L, P::Out>
-            ensures { IfOk result.0 (P.returns work.entry.now job.0) }
+            ensures { Tells P.Job log.entry.now (P.returns work.entry.now job.0) job.1 result.1 result.0 }
         { work_one(rt, log, job.1, job.0 as u64, work, stop) },
     )
 }
@@ -243,7 +252,7 @@ fn work_one<L: Realm + Send + Sync, R: Wait, P: Work<R>>(
     work: &P,
     stop: &Stop,
 ) -> Worked<L, P::Out>
-    ensures { IfOk result.0 (P.returns work.now number) }
+    ensures { Tells P.Job log.now (P.returns work.now number) rider result.1 result.0 }
 {
     let mut session = match Session::enter(rt, log, rider) {
         Ok(session) => session.beside(stop),

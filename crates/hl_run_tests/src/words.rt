@@ -1,6 +1,5 @@
 ghost use Rattle.std.specs.Prelude.{◌≡◌, ◌+◌, ◌<◌, ◌≤◌};
-ghost use Rattle.hl_words.specs.States.{IsSeedOf};
-ghost use Rattle.hl_words.specs.Views.{no_offsets};
+ghost use Rattle.hl_words.specs.States.{IsSeedOf, new_master};
 
 use hl_model::Params;
 use hl_words::{Master, Realm, Rider, Seed, Which, Words};
@@ -49,7 +48,7 @@ fn use_words<L: Realm + Send + Sync, R: Threads + Abort + Sync>(
     riders: &mut Vec<Rider<L>>,
 ) -> Result<Rider<L>, Fail>
     requires cells { words.now.cells ≡ 8 }
-    requires master { master.old ≡ record { offsets = no_offsets; total = 0 } }
+    requires master { master.old ≡ new_master }
 {
     let mut other = riders.pop().ok_or("a rider")?;
     let mut rider = riders.pop().ok_or("a rider")?;

@@ -1,5 +1,4 @@
-use Rattle.std.proofs.Common.{◌+◌, map, length, ap, ◌∙◌}
-use Rattle.std.proofs.lemmas.List.{length-map, length-append}
+use Rattle.std.proofs.Common.{◌++◌, map, ap, ◌∙◌}
 use Rattle.std.specs.Vec.Iter.{into_iter_items}
 use Rattle.hl.specs.Crews.{riders_of}
 use Rattle.hl.proofs.OutLaws.{row_by_items}
@@ -18,5 +17,4 @@ returns-clause-riders g c =
     let items = (c.into_iter.ensures.runs run.0 run.0.seen).4 run.2 in
     let all = items ∙ ap into_iter_items run.1 ∙ c.into_iter.ensures.rest in
     let parted = (run.3.1 row_by_items).0 ∙ ap (map (λ one. one.1)) all in
-    ap length c.in_ok-put_back.ensures ∙ length-append c.in-Ok.riders.items (riders_of c.args.crew)
-    ∙ ap (λ n. n + 4) (ap length parted ∙ length-map c.args.worked.items (λ one. one.1))
+    c.in_ok-put_back.ensures ∙ ap (λ l. l ++ riders_of c.args.crew) parted

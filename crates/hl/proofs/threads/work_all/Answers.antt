@@ -1,4 +1,4 @@
-use Rattle.std.proofs.Common.{rules, arith, ◌≡◌, ◌<◌, length, slice_index_or, ap, sym, ◌∙◌, subst, Some, option_map}
+use Rattle.std.proofs.Common.{rules, arith, ◌≡◌, ◌<◌, map, length, slice_index_or, ap, sym, ◌∙◌, subst, Some, option_map}
 use Rattle.std.specs.Vec.Iter.{into_iter_items}
 use Rattle.hl.proofs.OutLaws.{work_returned, read_at}
 use Rattle.hl.proofs.threads.work_all.Goals as goal
@@ -10,11 +10,11 @@ returns g c =
     let source = numbers.1 in
     let whole = source.2.1 ∙ run.2 in
     let from = ap into_iter_items source.1 ∙ c.into_iter.ensures.rest in
-    let all = (c.into_iter.ensures.runs source.0 source.0.seen).1 whole in
-    let long : length c.in_ok-jobs.jobs.items ≡ length c.args.riders.items =
-    ap length run.3.0 ∙ sym run.0.long ∙ sym source.2.0.0 ∙ all ∙ ap length from in
-    work_returned (g.P.Work.returns c.args.work.now) _ _ c.in_ok-jobs.jobs (length c.args.riders.items) c.map_vec.result
-    long
+    let all = (c.into_iter.ensures.runs source.0 source.0.seen).4 whole in
+    let same : c.args.riders.items ≡ map (λ job. job.1) c.in_ok-jobs.jobs.items =
+    sym from ∙ sym all ∙ source.2.0.1 ∙ ap (map (λ job. job.1)) (sym run.3.0) in
+    work_returned _ c.args.log.now (g.P.Work.returns c.args.work.now) _ _ c.in_ok-jobs.jobs c.args.riders.items c.map_vec.result
+    same
     (λ i job within.
     let inside : i < run.0.len = omega (arith, within, run.0.long, ap length run.3.0) in
     let reads = subst (λ xs. option_map (λ y. y) (run.0.at i) ≡ Some (slice_index_or xs i job)) (sym run.3.0) (run.0.reads i job inside) in

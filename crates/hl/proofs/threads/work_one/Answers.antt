@@ -1,0 +1,19 @@
+use Rattle.std.proofs.Common.{rules, inr}
+use Rattle.hl.proofs.threads.work_one.Goals as goal
+
+-- it entered and ran, and its leave was refused
+pub returns-in-Err-leave : goal.returns-in-Err-leave
+returns-in-Err-leave g c =
+    inr (
+      c.run-out.result,
+      c.in-Err-leave.field-0.back,
+      search rules,
+      record {
+        first = c.in-Ok.session;
+        last = c.run-out.new.session;
+        entered = search rules;
+        log_is = search rules;
+        ran = search rules;
+        met = search rules;
+      },
+    )

@@ -1,0 +1,201 @@
+-- Calls of one list that made one bump each were answered different tickets.
+use Rattle.std.proofs.Common.{◌≡◌, ◌≢◌, ℕ, zero, suc, ◌+◌, ◌<◌, ◌≤◌, Bool, true, false, List, [], ◌∷◌, ◌++◌, map, length, slice_index, slice_index_or, refl, ap, sym, ◌∙◌, subst, arith, append_assoc, length-append, ltb-true, ltb-false, Some, Ok, Err, Result, IfOk, MatchResult, Vec, Global}
+use Rattle.std.specs.Prelude.{nat_lt, ◌&&◌, if◌then◌else◌}
+use Rattle.std.specs.List.{AllByRecursion as Every, sum_by}
+use Rattle.std.specs.Result.{result_ok}
+use Rattle.std.proofs.lemmas.Bool.{lt-ltb, le-leb}
+use Rattle.std.proofs.lemmas.List.{get_or-map, length-map}
+use Rattle.std.proofs.lemmas.List.Sums.{sum_by-cons, sum_by-append, get_or-le-sum_by}
+use Rattle.hl_model.specs.declared.fault.Fault.{Fault}
+use Rattle.hl_model.specs.declared.fault.Fault.TheVariants.{Stranger}
+use Rattle.hl_model.specs.declared.step.Step.{Step}
+use Rattle.hl_model.specs.declared.step.Step.TheVariants.{Settle, Release}
+use Rattle.hl_model.specs.Epochs.{is_bump, current_epoch}
+use Rattle.hl_model.specs.Actions.{bumps}
+use Rattle.hl_model.specs.Sizes.{Sizes}
+use Rattle.hl_laws.proofs.ActionLaws.{bumps-push, current_epoch-bumps}
+use Rattle.hl_history.specs.declared.view.Entry.{Entry}
+use Rattle.hl_history.specs.Lists.{Begins, entry, enters_at, entered_at, IsOf, IsOneList}
+use Rattle.hl_words.specs.States.{RiderState, new_rider}
+use Rattle.hl_keeper.specs.Endings.{EndingState}
+use Rattle.hl_domain.specs.Domains.{DomainState, IsEnding}
+use Rattle.hl.specs.declared.open.Closed.{Closed}
+use Rattle.hl.specs.declared.opening.Opening.{Opening}
+use Rattle.hl.specs.Sessions.{SessionState}
+use Rattle.hl.specs.Openings.{opened_as}
+use Rattle.hl.specs.Closings.{rider_at, IsClosed, Stood, Tells, AllReturned}
+use Rattle.hl_tickets.specs.Tickets.{Bumped, AreTickets}
+use Rattle.hl_tickets.proofs.Numbers.{all_there}
+
+abbrev bump_at : List Step → Entry
+bump_at list = entry list (Settle ∷ [])
+
+-- a diary whose newest call but one made a bump, with this ticket
+record Drawn (calls : List Entry) (ticket : ℕ) : Type 0 where
+  newest : Entry
+  list : List Step
+  earlier : List Entry
+  calls_are : calls ≡ newest ∷ bump_at list ∷ earlier
+  ticket_is : ticket ≡ bumps (list ++ Settle ∷ [])
+
+-- of two beginnings of one list, the shorter begins the longer
+shorter_begins : (xs ys list : List Step) → Begins xs list → Begins ys list → length xs ≤ length ys → Begins xs ys
+shorter_begins [] ys list h k le = (ys, refl)
+shorter_begins (x ∷ xs) [] list h k le = absurd (omega (arith, le))
+shorter_begins (x ∷ xs) (y ∷ ys) [] h k le = absurd (let e = h.1 in cc)
+shorter_begins (x ∷ xs) (y ∷ ys) (z ∷ zs) h k le =
+    let a : zs ≡ xs ++ h.0 = (let e = h.1 in cc) in
+    let b : zs ≡ ys ++ k.0 = (let e = k.1 in cc) in
+    let same : y ≡ x = (let e = h.1 in let f = k.1 in cc) in
+    let r = shorter_begins xs ys zs (h.0, a) (k.0, b) (omega (arith, le)) in
+    (r.0, ap (λ (u : Step). u ∷ ys) same ∙ ap (λ l. x ∷ l) r.1)
+
+bumps-append : (xs ys : List Step) → bumps (xs ++ ys) ≡ bumps xs + bumps ys
+unfolding bumps
+bumps-append xs ys = sum_by-append (λ s. if is_bump s then 1 else 0) xs ys
+
+-- one more bump
+one_more : (list : List Step) → bumps (list ++ Settle ∷ []) ≡ bumps list + 1
+one_more list = bumps-push list Settle
+
+-- two places of a sum
+sum_two : {X : Type 0} (f : X → ℕ) (xs : List X) (i j : ℕ) (d : X) → i < j → j < length xs → f (slice_index_or xs i d) + f (slice_index_or xs j d) ≤ sum_by f xs
+sum_two f [] i j d less within = absurd (omega (arith, within))
+sum_two f (x ∷ xs) zero zero d less within = absurd (omega (arith, less))
+sum_two f (x ∷ xs) zero (suc j) d less within = omega (arith, sum_by-cons f x xs, get_or-le-sum_by f xs j d (omega (arith, within)))
+sum_two f (x ∷ xs) (suc i) zero d less within = absurd (omega (arith, less))
+sum_two f (x ∷ xs) (suc i) (suc j) d less within = omega (arith, sum_by-cons f x xs, sum_two f xs i j d (omega (arith, less)) (omega (arith, within)))
+
+every_at : {X : Type 0} (P : X → Type 0) (xs : List X) (i : ℕ) (d : X) → Every P xs → i < length xs → P (slice_index_or xs i d)
+every_at P [] i d h within = absurd (omega (arith, within))
+every_at P (x ∷ xs) zero d h within = h.0
+every_at P (x ∷ xs) (suc i) d h within = every_at P xs i d h.1 (omega (arith, within))
+
+-- a call that met a list of this length and made one step entered the step at this place
+enters_here : (list : List Step) → enters_at (length list) (bump_at list) ≡ 1
+enters_here list =
+    let n = length list in
+    ap (λ b. if b && nat_lt n (n + 1) then 1 else 0) (le-leb n n (omega arith)) ∙ ap (λ b. if b then 1 else 0) (lt-ltb n (n + 1) (omega arith))
+
+enters_drawn : (calls : List Entry) (ticket : ℕ) (d : Drawn calls ticket) → 1 ≤ entered_at (length d.list) calls
+enters_drawn calls ticket d =
+    subst (λ c. 1 ≤ entered_at (length d.list) c) (sym d.calls_are)
+    (let f = enters_at (length d.list) in omega (arith, sum_by-cons f d.newest (bump_at d.list ∷ d.earlier), sum_by-cons f (bump_at d.list) d.earlier, enters_here d.list))
+
+begins_drawn : (A : List Step) (calls : List Entry) (ticket : ℕ) (d : Drawn calls ticket) → IsOf A calls → Begins (d.list ++ Settle ∷ []) A
+begins_drawn A calls ticket d h = (subst (λ c. IsOf A c) d.calls_are h).begins.1.0
+
+-- of two calls that met beginnings of one list, the one that met less was answered less
+less_first : (A : List Step) (a b : ℕ) (l m : List Step) → a ≡ bumps (l ++ Settle ∷ []) → b ≡ bumps (m ++ Settle ∷ []) → Begins (l ++ Settle ∷ []) A → Begins (m ++ Settle ∷ []) A → length l < length m → a < b
+less_first A a b l m e f h k less =
+    let behind : Begins m A = ((Settle ∷ []) ++ k.0, k.1 ∙ append_assoc m (Settle ∷ []) k.0) in
+    let r = shorter_begins (l ++ Settle ∷ []) m A h behind (omega (arith, length-append l (Settle ∷ []), less)) in
+    let n : bumps m ≡ bumps (l ++ Settle ∷ []) + bumps r.0 = ap bumps r.1 ∙ bumps-append (l ++ Settle ∷ []) r.0 in
+    omega (arith, e, f, n, one_more m)
+
+-- two diaries of one list
+module _ (A : List Step) (diaries : List (List Entry)) (one : IsOneList A diaries) (i j : ℕ) (less : i < j) (within : j < length diaries) (a b : ℕ) (d : Drawn (slice_index_or diaries i []) a) (e : Drawn (slice_index_or diaries j []) b) where
+  first_begins : Begins (d.list ++ Settle ∷ []) A
+  first_begins = begins_drawn A (slice_index_or diaries i []) a d (every_at (IsOf A) diaries i [] one.each (omega (arith, less, within)))
+
+  second_begins : Begins (e.list ++ Settle ∷ []) A
+  second_begins = begins_drawn A (slice_index_or diaries j []) b e (every_at (IsOf A) diaries j [] one.each within)
+
+  -- the two calls did not meet the same list
+  unlike : length d.list ≡ length e.list → ⊥
+  unlike same =
+      let p = length d.list in
+      let h = first_begins in
+      let in_list : p < length A = omega (arith, ap length h.1, length-append (d.list ++ Settle ∷ []) h.0, length-append d.list (Settle ∷ [])) in
+      let first : 1 ≤ entered_at p (slice_index_or diaries i []) = enters_drawn (slice_index_or diaries i []) a d in
+      let second : 1 ≤ entered_at p (slice_index_or diaries j []) = subst (λ q. 1 ≤ entered_at q (slice_index_or diaries j [])) (sym same) (enters_drawn (slice_index_or diaries j []) b e) in
+      omega (arith, one.once p in_list, sum_two (entered_at p) diaries i j [] less within, first, second)
+
+  two_apart : a ≡ b → ⊥
+  two_apart equal = by_test (nat_lt (length d.list) (length e.list)) (nat_lt (length e.list) (length d.list)) refl refl
+    where
+      by_test : (x y : Bool) → nat_lt (length d.list) (length e.list) ≡ x → nat_lt (length e.list) (length d.list) ≡ y → ⊥
+      by_test true y p q =
+          let below = less_first A a b d.list e.list d.ticket_is e.ticket_is first_begins second_begins (ltb-true (length d.list) (length e.list) p) in
+          omega (arith, below, equal)
+      by_test false true p q =
+          let below = less_first A b a e.list d.list e.ticket_is d.ticket_is second_begins first_begins (ltb-true (length e.list) (length d.list) q) in
+          omega (arith, below, equal)
+      by_test false false p q = unlike (omega (arith, ltb-false (length d.list) (length e.list) p, ltb-false (length e.list) (length d.list) q))
+
+-- what a thread's session is said to have done
+abbrev pub Bumps : ℕ → SessionState → SessionState → Result ℕ Fault → Type 0
+Bumps number first last out = IfOk out (Bumped first.pass.rider.calls last.pass.rider.calls)
+
+-- a thread's rider drew its ticket
+drawn_of : {J : Type 0} (log : DomainState) (number : ℕ) (old new : RiderState) (ticket : ℕ) → Stood J log (Bumps number) old (Ok new) (Ok ticket) → Drawn new.calls ticket
+drawn_of log number old new ticket s =
+    let newest = entry s.met.list (s.last.pass.touches ++ Release s.last.pass.slot ∷ []) in
+    record {
+      newest = newest;
+      list = s.ran.list;
+      earlier = s.first.pass.rider.calls;
+      calls_are = ap (λ (r : RiderState). r.calls) s.met.entered ∙ ap (λ cs. newest ∷ cs) s.ran.calls_are;
+      ticket_is = s.ran.ticket_is;
+    }
+
+module _ {F J : Type 0} (o : Opening Sizes) (outs : List (Result (Result ℕ Fault) Fault)) (riders : List RiderState) (ending : EndingState F) (tickets : List ℕ) (epoch : ℕ) (all : AllReturned J (opened_as o) Bumps outs riders) (end : IsEnding o.params riders ending) (are : outs ≡ map (λ t. Ok (Ok t)) tickets) (at_end : epoch ≡ ending.snapshot.epoch) where
+  many : length outs ≡ length tickets
+  many = ap length are ∙ length-map tickets (λ t. Ok (Ok t))
+
+  inside : (n : ℕ) → n < length tickets → n < length riders
+  inside n within = omega (arith, within, many, all.threads, all.back)
+
+  drawn : (n : ℕ) → n < length tickets → Drawn (slice_index_or (map (λ r. r.calls) riders) n []) (slice_index tickets n)
+  drawn n within =
+      let t = slice_index tickets n in
+      let is : slice_index_or outs n (Ok (Ok 0)) ≡ Ok (Ok t) = ap (λ l. slice_index_or l n (Ok (Ok 0))) are ∙ get_or-map (λ t. Ok (Ok t)) tickets n 0 (Ok (Ok 0)) within in
+      let told = all.each n (Ok (Ok 0)) (omega (arith, within, many)) in
+      let mine = drawn_of (opened_as o) n (new_rider n) (rider_at riders n) t (subst (λ (x : Result (Result ℕ Fault) Fault). Tells J (opened_as o) (Bumps n) (new_rider n) (rider_at riders n) x) is told) in
+      subst (λ d. Drawn d t) (sym (get_or-map (λ r. r.calls) riders n (new_rider n) [] (inside n within))) mine
+
+  apart : (i j : ℕ) → i < j → j < length tickets → slice_index tickets i ≢ slice_index tickets j
+  apart i j less within =
+      let A : List Step = end.steps_cut ++ ending.journal in
+      let ds : List (List Entry) = map (λ r. r.calls) riders in
+      let long : length ds ≡ length riders = length-map riders (λ r. r.calls) in
+      two_apart A ds end.one_list i j less (omega (arith, long, inside j within)) (slice_index tickets i) (slice_index tickets j) (drawn i (omega (arith, less, within))) (drawn j within)
+
+  within : (i : ℕ) → i < length tickets → (1 ≤ slice_index tickets i) × (slice_index tickets i < epoch)
+  within i here =
+      let A : List Step = end.steps_cut ++ ending.journal in
+      let ds : List (List Entry) = map (λ r. r.calls) riders in
+      let long : length ds ≡ length riders = length-map riders (λ r. r.calls) in
+      let last : epoch ≡ current_epoch A = at_end ∙ ap (λ s. s.epoch) end.snapshot_is in
+      let d = drawn i here in
+      let h = begins_drawn A (slice_index_or ds i []) (slice_index tickets i) d (every_at (IsOf A) ds i [] end.one_list.each (omega (arith, long, inside i here))) in
+      let n : bumps A ≡ bumps (d.list ++ Settle ∷ []) + bumps h.0 = ap bumps h.1 ∙ bumps-append (d.list ++ Settle ∷ []) h.0 in
+      (omega (arith, d.ticket_is, one_more d.list), omega (arith, d.ticket_is, n, last, current_epoch-bumps A))
+
+  tickets_of : AreTickets o.riders tickets epoch
+  tickets_of =
+      record {
+        many = omega (arith, many, all.threads);
+        apart = apart;
+        within = within;
+        all = λ exact. all_there tickets (length tickets) refl (λ i here. (let w = within i here in (w.0, omega (arith, w.1, exact)))) apart;
+      }
+
+-- a result whose value is there
+pub ok_is : {X Y : Type 0} (r : Result X Y) (x : X) → Some x ≡ result_ok r → r ≡ Ok x
+ok_is (Ok y) x e = cc
+ok_is (Err y) x e = absurd cc
+
+-- what the threads' log left, where no thread was refused
+pub tickets_left : {F : Type 0} (J : Type 0) (o : Opening Sizes) (result : Result (Closed (Result (Vec (Result (Result ℕ Fault) Fault) Global) Fault) F) Fault) (closed : Closed (Result (Vec (Result (Result ℕ Fault) Fault) Global) Fault) F)
+    (outs : Vec (Result (Result ℕ Fault) Fault) Global) (ending : EndingState F) (tickets : List ℕ) (epoch : ℕ)
+    → result ≡ Ok closed → closed.out ≡ Ok outs → closed.ending ≡ Ok ending → outs.items ≡ map (λ t. Ok (Ok t)) tickets → epoch ≡ ending.snapshot.epoch
+    → IfOk result (IsClosed o (λ out riders. IfOk out (λ outs. AllReturned J (opened_as o) Bumps outs.items riders)))
+    → AreTickets o.riders tickets epoch
+tickets_left {F} J o result closed outs ending tickets epoch opened outs_are ending_is are at_end told =
+    let left : IsClosed o (λ out riders. IfOk out (λ outs. AllReturned J (opened_as o) Bumps outs.items riders)) closed =
+    subst (λ k. IfOk k (IsClosed o (λ out riders. IfOk out (λ outs. AllReturned J (opened_as o) Bumps outs.items riders)))) opened told in
+    let riders = left.riders in
+    let all : AllReturned J (opened_as o) Bumps outs.items riders = subst (λ k. IfOk k (λ outs. AllReturned J (opened_as o) Bumps outs.items riders)) outs_are left.left in
+    let end = subst (λ k. MatchResult k (λ ending. (length riders ≡ o.riders) × IsEnding o.params riders ending) (λ fault. (fault ≡ Stranger o.stamp) × (length riders ≢ o.riders))) ending_is left.ending in
+    tickets_of o outs.items riders ending tickets epoch all end.1 are at_end
