@@ -43,6 +43,7 @@ impl<R: Wait> Work<R> for OneBump {
 }
 
 /// What threads were answered that bumped once each, in the order of their numbers, and the epoch at the end.
+#[derive(Drop)]
 pub struct Tickets {
     pub tickets: Vec<u64>,
     pub epoch: u64,
