@@ -195,6 +195,24 @@ each_thread_refused_to_a_log() {
     [ "$status" = 0 ] && [ "$threads" = 5 ] || { echo "it made $threads threads"; return 1; }
 }
 
+# Each call for memory is refused in turn to a log with one thread of work. Its program then ends with status 1, or does
+# without; a crew that nobody stopped would never end.
+each_call_refused_to_a_log() {
+    local status call calls _ done_without=0
+    refused REFUSED_CALL=0 "$pace" idle 0
+    [ "$status" = 0 ] && read -r calls _ < "$room/counted" || return 1
+    [ "$calls" -gt 30 ] || { echo "it made $calls calls"; return 1; }
+    for call in $(seq "$calls"); do
+        refused "REFUSED_CALL=$call" "$pace" idle 0
+        case "$status" in
+            0) done_without="$((done_without + 1))" ;;
+            1) ;;
+            *) echo "without call $call it ended with status $status" && return 1 ;;
+        esac
+    done
+    [ "$done_without" -le 8 ] || { echo "it did without $done_without of its calls"; return 1; }
+}
+
 if has_all "memory refused call by call" cc; then
     check "the library that refuses" cc -std=c11 -O1 -Wall -Wextra -Werror -fPIC -shared \
         "$scripts/cases/refuse.c" -o "$room/refuse.so"
@@ -210,6 +228,7 @@ if has_all "memory refused call by call" cc; then
     check "each call for memory refused in a race with cuts" each_call_refused --cut
     check "each thread refused in a race" each_thread_refused
     check "each thread refused to a log" each_thread_refused_to_a_log
+    check "each call for memory refused to a log" each_call_refused_to_a_log
 fi
 
 # A domain of the greatest sizes wants 512 GiB for its words. The bound is for systems that promise more than they have.

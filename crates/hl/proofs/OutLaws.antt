@@ -1,5 +1,5 @@
 -- What threads returned, in the order of their numbers.
-use Rattle.std.proofs.Common.{◌≡◌, ℕ, zero, suc, ◌+◌, ◌-◌, ◌<◌, ◌≤◌, Bool, true, false, List, [], ◌∷◌, ◌++◌, map, length, slice_index_or, refl, ap, sym, ◌∙◌, subst, subst₂, Option, Some, None, Result, Ok, Err, IfOk, IfSome, option_map, Vec, vec_len, vec_capacity, arith, ltb-true, ltb-false}
+use Rattle.std.proofs.Common.{◌≡◌, ℕ, zero, suc, ◌+◌, ◌-◌, ◌<◌, ◌≤◌, Bool, true, false, List, [], ◌∷◌, ◌++◌, map, length, slice_index_or, refl, ap, sym, ◌∙◌, subst, subst₂, Option, Some, None, Result, Ok, Err, IsOk, IfOk, IfErr, IfSome, MatchResult, option_map, Vec, vec_len, vec_capacity, arith, ltb-true, ltb-false}
 use Rattle.std.specs.Prelude.{nat_lt}
 use Rattle.std.proofs.Common.{Global}
 use Rattle.std.proofs.lemmas.List.{get_or-map, get_or_append_left, get_or-append_right, length-map, length-append}
@@ -9,11 +9,12 @@ use Rattle.std.specs.Fork.{GivesJobs}
 use Rattle.std.specs.declared.alloc.AllocError.{AllocError}
 use denote.Param.Members.{Shared}
 use Rattle.hl_model.specs.declared.fault.Fault.{Fault}
+use Rattle.hl_model.specs.declared.fault.Fault.TheVariants.{OutOfMemory}
 use Rattle.hl_words.specs.States.{RiderState, new_rider, new_riders}
 use Rattle.hl_words.proofs.Dealing.{new_long}
 use Rattle.hl_domain.specs.Domains.{DomainState}
 use Rattle.hl.specs.Sessions.{SessionState}
-use Rattle.hl.specs.Closings.{rider_at, Tells, AreReturned, AllReturned}
+use Rattle.hl.specs.Closings.{rider_at, Tells, AreReturned, AllReturned, AreAllReturned}
 
 -- how long a row is that one was put behind
 one_longer : {X : Type 0} (xs : List X) (x : X) (old new : ℕ) → old ≡ length xs → new ≡ old + 1 → new ≡ length (xs ++ (x ∷ []))
@@ -87,6 +88,16 @@ module _ {Out : Type 0} (F : Type 0) (log : DomainState) (Returns : ℕ → Sess
             subst₂ (λ (r s : RiderState). Tells F log (Returns number) r s (slice_index_or outs number other)) old now (each number other within);
       }
 
+-- what all threads returned, where the crew served, or why it was refused
+pub gathered : {Out S : Type 0} (F : Type 0) (log : DomainState) (Returns : ℕ → SessionState → SessionState → Out → Type 0) (served : Result S Fault) (outs : Result (Vec (Result Out Fault) Global) Fault) (returned : List (Result Out Fault)) (riders : List RiderState)
+    → MatchResult served (λ _. IsOk outs) (λ fault. outs ≡ Err fault) → IfErr served (λ fault. fault ≡ OutOfMemory) → IfOk outs (λ outs. outs.items ≡ returned) → AllReturned F log Returns returned riders
+    → AreAllReturned F log Returns outs riders
+gathered F log Returns served (Ok outs) returned riders told memory are all = subst (λ l. AllReturned F log Returns l riders) (sym are) all
+gathered F log Returns (Ok end) (Err fault) returned riders told memory are all = absurd (let e : false ≡ true = told in cc)
+gathered F log Returns (Err refused) (Err fault) returned riders told memory are all =
+    let same : fault ≡ refused = cc told in
+    same ∙ memory
+
 -- what is known of one log is known of another that is the same
-pub all_of_same : {Out : Type 0} (F : Type 0) (log other : DomainState) (Returns : ℕ → SessionState → SessionState → Out → Type 0) (outs : Result (Vec (Result Out Fault) Global) Fault) (riders : List RiderState) → log ≡ other → IfOk outs (λ outs. AllReturned F log Returns outs.items riders) → IfOk outs (λ outs. AllReturned F other Returns outs.items riders)
-all_of_same F log other Returns outs riders same known = subst (λ l. IfOk outs (λ outs. AllReturned F l Returns outs.items riders)) same known
+pub all_of_same : {Out : Type 0} (F : Type 0) (log other : DomainState) (Returns : ℕ → SessionState → SessionState → Out → Type 0) (outs : Result (Vec (Result Out Fault) Global) Fault) (riders : List RiderState) → log ≡ other → AreAllReturned F log Returns outs riders → AreAllReturned F other Returns outs riders
+all_of_same F log other Returns outs riders same known = subst (λ l. AreAllReturned F l Returns outs riders) same known

@@ -1,7 +1,8 @@
 -- What is left of a log that was opened and closed by one call.
-use Rattle.std.specs.Prelude.{◌≡◌, ◌≢◌, ◌<◌, ◌+◌, ◌⊎◌, ℕ, Result, Ok, Err, MatchResult, List, length, slice_index_or}
+use Rattle.std.specs.Prelude.{◌≡◌, ◌≢◌, ◌<◌, ◌+◌, ◌⊎◌, ℕ, Result, Ok, Err, MatchResult, List, length, slice_index_or, Vec}
+use Rattle.std.specs.declared.alloc.Global.{Global}
 use Rattle.hl_model.specs.declared.fault.Fault.{Fault}
-use Rattle.hl_model.specs.declared.fault.Fault.TheVariants.{Stranger}
+use Rattle.hl_model.specs.declared.fault.Fault.TheVariants.{OutOfMemory, Stranger}
 use Rattle.hl_model.specs.Sizes.{Sizes}
 use Rattle.hl_words.specs.States.{RiderState, new_rider}
 use Rattle.hl_domain.specs.Domains.{DomainState, IsEnding}
@@ -69,3 +70,10 @@ pub record AllReturned {Out : Type 0} (F : Type 0) (log : DomainState)
   pub back : length riders ≡ log.riders
   pub threads : length outs + 4 ≡ log.riders
   pub each : AreReturned F log Returns new_rider outs riders
+
+-- so it is, or memory or a thread was refused once the threads had begun
+abbrev pub AreAllReturned : {Out : Type 0} → (F : Type 0) → DomainState
+    → (ℕ → SessionState → SessionState → Out → Type 0)
+    → Result (Vec (Result Out Fault) Global) Fault → List RiderState → Type 0
+AreAllReturned F log Returns outs riders =
+    MatchResult outs (λ outs. AllReturned F log Returns outs.items riders) (λ fault. fault ≡ OutOfMemory)

@@ -1,13 +1,14 @@
 //! A crew's riders, writers and counts by their names.
-ghost use Rattle.std.specs.Prelude.{◌≡◌, ◌+◌, ◌<◌, ◌++◌, [], ◌∷◌, true, false, Err, IfErr, IfNone, IfSome, MatchResult, length};
+ghost use Rattle.std.specs.Prelude.{◌≡◌, ◌+◌, ◌<◌, ◌++◌, [], ◌∷◌, true, false, Ok, Err, IfOk, IfErr, IfNone, IfSome, MatchResult, length};
 ghost use Rattle.hl_model.specs.declared.fault.Fault.TheVariants.{OutOfMemory, Size};
+ghost use Rattle.hl_crew.specs.Ordered.{duty_orders};
 ghost use Rattle.hl.specs.Openings.{was_refused};
-ghost use Rattle.hl.specs.Crews.{can_serve, riders_of};
+ghost use Rattle.hl.specs.Crews.{can_serve, crew_of, riders_of};
 
 use crate::log::Log;
 use crate::refused::Refused;
 use hl_action::{Promise, Task};
-use hl_crew::{CrewEnd, Duty, Gate, Stop, serve};
+use hl_crew::{CrewEnd, Duty, Gate, Orders, Stop, serve};
 use hl_epoch::Epochs;
 use hl_image::PageWriter;
 use hl_model::{Fault, Sizes};
@@ -126,7 +127,7 @@ pub struct CrewReport<L: Realm, W> {
 
 impl<L: Realm, W> Crew<L, W> {
     /// Serves a log until its stop is given: a flusher, two writers and a cleaner, each in a thread
-    /// of its own. [`CrewReport::of`] gives the crew back out of what this returns.
+    /// of its own. [`CrewReport::of`] gives the crew back out of what this returns, which also tells the duty's orders.
     ///
     /// Faults, with the crew handed back: `Size` if the duty was checked for another number of
     /// frames; `OutOfMemory` if memory or a thread was refused. What was done until then stays
@@ -151,6 +152,7 @@ impl<L: Realm, W> Crew<L, W> {
         ensures size { can_serve log.now.sizes duty ≡ false → result ≡ Err (was_refused Size self) }
         ensures memory { can_serve log.now.sizes duty ≡ true
             → IfErr result (λ refused. refused.fault ≡ OutOfMemory) }
+        ensures orders { IfOk result (λ end. end.orders ≡ duty_orders duty) }
     {
         if !is_for(duty, log.params()) {
             return Err(Refused {
@@ -210,6 +212,7 @@ impl<L: Realm, W> CrewReport<L, W> {
             written,
             failed,
             strangers,
+            ..
         } = end;
         let [first, second] = writers;
         CrewReport {
@@ -222,5 +225,28 @@ impl<L: Realm, W> CrewReport<L, W> {
             failed,
             strangers,
         }
+    }
+}
+
+/// That a crew has served until it ended, and by which orders. Only its end has such.
+#[derive(Drop)]
+pub(crate) struct Served {
+    orders: Orders,
+}
+
+/// The riders of a crew, and whether it has served or why it was refused. Its writers are dropped.
+pub(crate) fn parted<L: Realm, W: Drop>(
+    end: Result<CrewEnd<L, W>, Refused<Crew<L, W>>>,
+) -> (CrewRiders<L>, Result<Served, Fault>)
+    ensures riders { riders_of result.0 ≡ crew_of end }
+    ensures served { MatchResult end (λ end. result.1 ≡ Ok (record { orders = end.orders }))
+        (λ refused. result.1 ≡ Err refused.fault) }
+{
+    match end {
+        Ok(end) => {
+            let orders = end.orders();
+            (CrewReport::of(end).crew.riders, Ok(Served { orders }))
+        }
+        Err(Refused { fault, back }) => (back.riders, Err(fault)),
     }
 }

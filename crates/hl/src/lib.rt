@@ -33,7 +33,7 @@ mod threads;
 pub use crew::{Crew, CrewReport, CrewRiders};
 pub use hl_action::{AnyAnswer, Firing, Kept, NoJob, Promise, Ran, Ready, Task};
 pub use hl_counts::CountTable;
-pub use hl_crew::{CrewEnd, Duty, Gate, OpenGate, Stop, run_crew, serve};
+pub use hl_crew::{CrewEnd, Cuts, Duty, Gate, OpenGate, Orders, Stop, run_crew, serve};
 pub use hl_domain::{
     ArrayVec, Broom, Domain, Ending, FrameState, Holder, Keeper, Lease, Load, PageJob, Pass,
 };

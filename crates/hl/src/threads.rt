@@ -1,13 +1,14 @@
 //! A log that threads use beside a crew, opened and closed by one call.
-ghost use Rattle.std.specs.Prelude.{◌≡◌, ◌++◌, ℕ, List, map, length, true, false, Err, IfOk, IfErr, ⊤};
+ghost use Rattle.std.specs.Prelude.{◌≡◌, ◌++◌, ◌≤◌, ℕ, List, map, length, true, false, Err, IsOk, IfOk, IfErr, MatchResult, ⊤};
 ghost use Rattle.hl_model.specs.declared.fault.Fault.TheVariants.{OutOfMemory, Size};
 ghost use Rattle.hl_words.specs.States.{IsSeedOf, new_riders};
+ghost use Rattle.hl_crew.specs.Ordered.{duty_orders};
 ghost use Rattle.hl.specs.Openings.{of_sizes, opened_as, IsInRange};
 ghost use Rattle.hl.specs.Sessions.{SessionState};
-ghost use Rattle.hl.specs.Crews.{can_run, riders_of};
-ghost use Rattle.hl.specs.Closings.{rider_at, IsClosed, Tells, AreReturned, AllReturned};
+ghost use Rattle.hl.specs.Crews.{can_run, can_serve, riders_of};
+ghost use Rattle.hl.specs.Closings.{rider_at, IsClosed, Tells, AreReturned, AreAllReturned};
 
-use crate::crew::{Crew, CrewReport, CrewRiders, is_for};
+use crate::crew::{Crew, CrewRiders, Served, is_for, parted};
 use crate::log::Log;
 use crate::open::Closed;
 use crate::opening::Opening;
@@ -75,8 +76,8 @@ type Worked<L, T> = (Result<T, Fault>, Rider<L>);
 ///
 /// Faults: `Size` if the opening is out of range, has fewer than four riders, or another number of
 /// frames than the duty was checked for; `OutOfMemory` if memory was refused before the threads
-/// ran. What is refused later is told by `out`: a refused crew gives its riders back, so that the
-/// log is closed; riders that are lost with the threads' row are missing at the end.
+/// ran. What is refused later is told by `out`, which is then `OutOfMemory`: a refused crew gives its
+/// riders back, so that the log is closed; riders that are lost with the threads' row are missing at the end.
 pub fn with_threads<R: Threads + Wait + Sync, P: Work<R> + Sync, S: HasSizes>(
     rt: &R,
     alloc: Global,
@@ -88,8 +89,7 @@ pub fn with_threads<R: Threads + Wait + Sync, P: Work<R> + Sync, S: HasSizes>(
     ensures memory { can_run (of_sizes S.sizes_of opening) duty ≡ true
         → IfErr result (λ fault. fault ≡ OutOfMemory) }
     ensures closed { let o = of_sizes S.sizes_of opening
-        in IfOk result (IsClosed o (λ out riders. IfOk out
-        (λ outs. AllReturned P.Job (opened_as o) (P.returns work.now) outs.items riders))) }
+        in IfOk result (IsClosed o (AreAllReturned P.Job (opened_as o) (P.returns work.now))) }
 {
     threads_of_sizes(rt, alloc, opening.of_sizes(), duty, work)
 }
@@ -104,8 +104,8 @@ fn threads_of_sizes<R: Threads + Wait + Sync, P: Work<R> + Sync>(
 ) -> Result<Closed<Result<Outs<P::Out>, Fault>, P::Job>, Fault>
     ensures size { can_run opening duty ≡ false → result ≡ Err Size }
     ensures memory { can_run opening duty ≡ true → IfErr result (λ fault. fault ≡ OutOfMemory) }
-    ensures closed { IfOk result (IsClosed opening (λ out riders. IfOk out
-        (λ outs. AllReturned P.Job (opened_as opening) (P.returns work.now) outs.items riders))) }
+    ensures closed { IfOk result (IsClosed opening
+        (AreAllReturned P.Job (opened_as opening) (P.returns work.now))) }
 {
     if !has_room(&opening, duty) {
         return Err(Fault::Size);
@@ -119,6 +119,8 @@ fn threads_of_sizes<R: Threads + Wait + Sync, P: Work<R> + Sync>(
 fn has_room(opening: &Opening<Sizes>, duty: Duty) -> bool
     ensures value { result ≡ can_run opening.now duty }
     ensures range { result ≡ true → IsInRange opening.now }
+    ensures four { result ≡ true → 4 ≤ opening.now.riders }
+    ensures duty { result ≡ true → can_serve opening.now.params duty ≡ true }
 {
     opening.is_in_range() && 4 <= opening.riders && is_for(duty, opening.params)
 }
@@ -136,9 +138,11 @@ fn threads_over<L: Realm + Send + Sync, R: Threads + Wait + Sync, P: Work<R> + S
     requires sizes { (seed.sizes ≡ opening.params) × (seed.riders ≡ opening.riders) }
     requires named { (seed.sizes ≡ L.sizes) × (opening.stamp ≡ L.stamp) × (opening.journal ≡ L.limit) }
     requires range { IsInRange opening }
+    requires four { 4 ≤ opening.riders }
+    requires duty { can_serve opening.params duty ≡ true }
     ensures memory { IfErr result (λ fault. fault ≡ OutOfMemory) }
-    ensures closed { IfOk result (IsClosed opening (λ out riders. IfOk out
-        (λ outs. AllReturned P.Job (opened_as opening) (P.returns work.now) outs.items riders))) }
+    ensures closed { IfOk result (IsClosed opening
+        (AreAllReturned P.Job (opened_as opening) (P.returns work.now))) }
 {
     let (log, riders) = Log::<L, P::Job>::open(alloc, seed, opening.journal, opening.stamp)?;
     let (out, riders) = run_all(rt, alloc, &log, riders, duty, work);
@@ -159,17 +163,21 @@ fn run_all<L: Realm + Send + Sync, R: Threads + Wait + Sync, P: Work<R> + Sync>(
     work: &P,
 ) -> (Result<Outs<P::Out>, Fault>, Vec<Rider<L>>)
     requires new { riders.items ≡ new_riders log.now.riders }
-    ensures { IfOk result.0 (λ outs. AllReturned P.Job log.now (P.returns work.now) outs.items
-        result.1.items) }
+    requires four { 4 ≤ log.now.riders }
+    requires duty { can_serve log.now.sizes duty ≡ true }
+    ensures { AreAllReturned P.Job log.now (P.returns work.now) result.0 result.1.items }
 {
     let Some(crew) = CrewRiders::take_from(&mut riders) else {
         return (Err(Fault::Size), riders);
     };
     let stop = Stop::new();
     // If the first one's thread can't be made, it runs after the second: a crew that ran first would wait for its stop.
-    let ((crew, ended), worked) = thread::join(
+    let ((crew, served), worked) = thread::join(
         rt,
-        || serve_behind(rt, alloc, log, crew, duty, work, &stop),
+        || -> (CrewRiders<L>, Result<Served, Fault>)
+            requires { can_serve log.now.sizes duty ≡ true }
+            ensures { IfErr result.1 (λ fault. fault ≡ OutOfMemory) }
+        { serve_behind(rt, alloc, log, crew, duty, work, &stop) },
         || -> Result<Vec<Worked<L, P::Out>>, AllocError>
             ensures { IfOk result (λ worked. (length worked.items ≡ length riders.items)
                 × AreReturned P.Job log.entry.now (P.returns work.entry.now) (rider_at riders.items)
@@ -179,9 +187,30 @@ fn run_all<L: Realm + Send + Sync, R: Threads + Wait + Sync, P: Work<R> + Sync>(
     let Ok(worked) = worked else {
         return (Err(Fault::OutOfMemory), Vec::new(alloc));
     };
-    match gather(alloc, worked, crew) {
-        Ok((outs, riders)) => (ended.map(|_| outs), riders),
+    match gather_all(alloc, worked, crew, served) {
+        Ok(all) => all,
         Err(fault) => (Err(fault), Vec::new(alloc)),
+    }
+}
+
+// What each thread returned, or why the crew was refused, and all riders.
+fn gather_all<L: Realm, T: Drop>(
+    alloc: Global,
+    worked: Vec<Worked<L, T>>,
+    crew: CrewRiders<L>,
+    served: Result<Served, Fault>,
+) -> Result<(Result<Outs<T>, Fault>, Vec<Rider<L>>), Fault>
+    ensures outs { IfOk result (λ all. IfOk all.0
+        (λ outs. outs.items ≡ map (λ one. one.0) worked.items)) }
+    ensures served { IfOk result (λ all. MatchResult served
+        (λ _. IsOk all.0) (λ fault. all.0 ≡ Err fault)) }
+    ensures riders { IfOk result (λ all. all.1.items ≡ map (λ one. one.1) worked.items ++ riders_of crew) }
+    ensures memory { IfErr result (λ fault. fault ≡ OutOfMemory) }
+{
+    let (outs, riders) = gather(alloc, worked, crew)?;
+    match served {
+        Ok(_served) => Ok((Ok(outs), riders)),
+        Err(fault) => Ok((Err(fault), riders)),
     }
 }
 
@@ -193,6 +222,7 @@ fn gather<L: Realm, T: Drop>(
 ) -> Result<(Outs<T>, Vec<Rider<L>>), Fault>
     ensures outs { IfOk result (λ all. all.0.items ≡ map (λ one. one.0) worked.items) }
     ensures riders { IfOk result (λ all. all.1.items ≡ map (λ one. one.1) worked.items ++ riders_of crew) }
+    ensures memory { IfErr result (λ fault. fault ≡ OutOfMemory) }
 {
     let parted: Result<(Outs<T>, Vec<Rider<L>>), AllocError> = worked.into_iter().unzip(alloc);
     let Ok((outs, mut riders)) = parted else {
@@ -274,7 +304,11 @@ fn serve_behind<L: Realm + Send + Sync, R: Threads + Wait + Sync, P: Work<R> + S
     duty: Duty,
     work: &P,
     stop: &Stop,
-) -> (CrewRiders<L>, Result<(), Fault>) {
+) -> (CrewRiders<L>, Result<Served, Fault>)
+    requires { can_serve log.now.sizes duty ≡ true }
+    ensures { MatchResult result.1
+        (λ served. served.orders ≡ duty_orders duty) (λ fault. fault ≡ OutOfMemory) }
+{
     let first = Sink::new(rt, work);
     let second = Sink::new(rt, work);
     let crew = Crew {
@@ -282,8 +316,5 @@ fn serve_behind<L: Realm + Send + Sync, R: Threads + Wait + Sync, P: Work<R> + S
         first,
         second,
     };
-    match crew.serve(rt, alloc, log, &OpenGate, duty, stop) {
-        Ok(end) => (CrewReport::of(end).crew.riders, Ok(())),
-        Err(Refused { fault, back }) => (back.riders, Err(fault)),
-    }
+    parted(crew.serve(rt, alloc, log, &OpenGate, duty, stop))
 }

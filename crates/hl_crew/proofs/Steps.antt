@@ -1,8 +1,7 @@
 -- What a call left under the lock, said by less.
-use Rattle.std.proofs.Common.{◌≡◌, ℕ, Result, List, subst}
-use Rattle.hl_model.specs.declared.step.Step.{Step}
+use Rattle.std.proofs.Common.{◌≡◌, ℕ, Result, subst}
 use Rattle.hl_words.specs.States.{RiderState}
-use Rattle.hl_domain.specs.Domains.{DomainState, Call, UnderLock, LeavesUnderLock}
+use Rattle.hl_domain.specs.Domains.{DomainState, Call, LeavesUnderLock}
 use Rattle.hl_keeper.specs.Keepers.{KeeperState}
 use Rattle.hl_crew.specs.declared.messages.Over.{Over}
 use Rattle.hl_crew.specs.declared.orders.Cuts.{Cuts}
@@ -19,15 +18,6 @@ leaves f left = record {
   entered = left.entered;
   rises = left.rises;
   holds = f left.before left.after left.holds;
-}
-
--- what a call without a rider met is said by less
-pub sees : {F : Type 0} {domain : DomainState} {H K : KeeperState F → List Step → Type 0} → ((keeper : KeeperState F) (A : List Step) → H keeper A → K keeper A) → UnderLock F domain H → UnderLock F domain K
-sees f under = record {
-  keeper = under.keeper;
-  list = under.list;
-  met = under.met;
-  holds = f under.keeper under.list under.holds;
 }
 
 -- how an action that was run was answered, under other names

@@ -15,7 +15,7 @@ pub waits_one : {F : Type 0} {domain : DomainState} {H : KeeperState F → Keepe
 waits_one {old} left =
     let same : old.share + 0 ≡ old.share = omega arith in
     record {
-      more = entry left.list [] ∷ [];
+      more = record { was = left.before.cut; now = left.after.cut; call = entry left.list [] } ∷ [];
       empty = (refl, tt);
-      is = left.entered ∙ ap (λ (n : ℕ). with_call (entry left.list []) (record { view = old.view; share = n; calls = old.calls })) same;
+      is = left.entered ∙ ap (λ (n : ℕ). with_call left.before.cut left.after.cut (entry left.list []) (record { view = old.view; share = n; calls = old.calls })) same;
     }

@@ -1,7 +1,7 @@
 -- How a rider cuts the journal.
 use Rattle.std.specs.Prelude.{◌≡◌, ◌+◌, Bool, true, false, [], length, nat_lt}
 use Rattle.hl_words.specs.States.{RiderState}
-use Rattle.hl_domain.specs.Domains.{DomainState, UnderLock, LeavesUnderLock, no_step}
+use Rattle.hl_domain.specs.Domains.{DomainState, LeavesUnderLock, no_step}
 use Rattle.hl_crew.specs.declared.orders.Cuts.{Cuts}
 use Rattle.hl_crew.specs.declared.orders.Cuts.TheVariants.{Never, EachTurn, Above}
 
@@ -17,11 +17,13 @@ module _ (F : Type 0) (domain : DomainState) where
   MakesRoom true old new = CutsJournal old new
   MakesRoom false old new = new ≡ old
 
-  -- the journal was cut at a turn's end as was ordered: where the orders name a number of steps, if it had
-  -- more
+  -- the journal was cut at a turn's end as was ordered: where the orders name a number of steps, if it had more when
+  -- the rider looked
   abbrev pub EndsTurn : Cuts → RiderState → RiderState → Type 0
   EndsTurn Never old new = new ≡ old
   EndsTurn EachTurn old new = CutsJournal old new
   EndsTurn (Above steps) old new =
-      (is_cut : Bool) × UnderLock F domain (λ keeper A. is_cut ≡ nat_lt steps (length keeper.journal))
-      × MakesRoom is_cut old new
+      (is_cut : Bool) × (mid : RiderState)
+      × LeavesUnderLock F domain (no_step old mid)
+      (λ before after. (after ≡ before) × (is_cut ≡ nat_lt steps (length before.journal)))
+      × MakesRoom is_cut mid new

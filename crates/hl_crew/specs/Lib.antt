@@ -4,6 +4,7 @@ pub mod Flushes
 pub mod Goes
 pub mod Lags
 pub mod Looks
+pub mod Ordered
 pub mod Overs
 pub mod Pouches
 pub mod Runs

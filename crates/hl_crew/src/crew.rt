@@ -1,12 +1,13 @@
 ghost use Rattle.std.specs.Prelude.{◌≡◌, IfOk, IfErr};
 ghost use Rattle.hl_crew.specs.Lags.{IsLag};
+ghost use Rattle.hl_crew.specs.Ordered.{duty_orders, run_orders};
 ghost use Rattle.hl_model.specs.declared.fault.Fault.TheVariants.{OutOfMemory};
 
 use crate::duty::Duty;
 use crate::gate::Gate;
-use crate::hands::Hands;
+use crate::hands::{CrewEnd, Hands};
 use crate::messages::Channels;
-use crate::orders::{Cuts, Orders};
+use crate::orders::Orders;
 use crate::shared::Shared;
 use crate::stop::Stop;
 use crate::term::{Term, Turns};
@@ -22,26 +23,11 @@ use std::alloc::Global;
 use std::sync::Wait;
 use std::thread::Threads;
 
-/// What a crew hands back.
-#[derive(Drop)]
-pub struct CrewEnd<L: Realm, W> {
-    /// The riders, in their order.
-    pub riders: [Rider<L>; 4],
-    /// The page writers, in their order.
-    pub writers: [W; 2],
-    /// How many flushes were answered as ended well.
-    pub written: u64,
-    /// How many flushes were answered as failed.
-    pub failed: u64,
-    /// How many acknowledgements named a page that the flusher didn't hold.
-    pub strangers: u64,
-}
-
 /// Runs a crew on a domain for a given number of turns: a flusher, two writers and a cleaner, each
 /// in a thread of its own. Of the riders the first is the flusher's, the next two are the writers',
 /// the last is the cleaner's. About `mutable` pages at the tail may be written and about `resident`
 /// may be read: `1 <= mutable <= resident <= F`. If `cut` is true, the journal is cut at the end of
-/// each of the flusher's turns.
+/// each of the flusher's turns. The end tells these three as the orders that it ran by.
 ///
 /// With as many resident pages as frames, the head never passes the page whose frame the page above
 /// the tail needs, and no frame comes free: [`Duty`] excludes that.
@@ -70,13 +56,10 @@ where
     W: PageWriter + Send,
     G: Gate + Sync,
     requires { IsLag domain.now.sizes.frames mutable resident }
-    ensures { IfErr result (λ back. back.0 ≡ OutOfMemory) }
+    ensures orders { IfOk result (λ end. end.orders ≡ run_orders mutable resident cut) }
+    ensures err { IfErr result (λ back. back.0 ≡ OutOfMemory) }
 {
-    let orders = Orders {
-        mutable,
-        resident,
-        cuts: Cuts::of_turns(cut),
-    };
+    let orders = Orders::of_run(mutable, resident, cut);
     let term = Turns { most: turns };
     let hands = Hands::of(riders, first, second);
     run_until(rt, alloc, domain, hands, gate, orders, &term)
@@ -84,7 +67,7 @@ where
 
 /// Runs a crew on a domain, as [`run_crew`] does, until its stop is given: it sleeps while there is
 /// nothing to do, and ends once nothing is in flight. If the journal is full, it cuts it where the
-/// duty lets it; else a full journal ends it before its stop.
+/// duty lets it; else a full journal ends it before its stop. The end tells the duty's orders.
 ///
 /// A thread that has entered a page may wake it by [`Stop::ring`]; a crew that nobody wakes looks at least
 /// every 160 milliseconds, and sooner after it had something to do.
@@ -111,13 +94,14 @@ where
     W: PageWriter + Send,
     G: Gate + Sync,
     requires { duty.frames ≡ domain.now.sizes.frames }
-    ensures { IfErr result (λ back. back.0 ≡ OutOfMemory) }
+    ensures orders { IfOk result (λ end. end.orders ≡ duty_orders duty) }
+    ensures err { IfErr result (λ back. back.0 ≡ OutOfMemory) }
 {
     let hands = Hands::of(riders, first, second);
     run_until(rt, alloc, domain, hands, gate, Orders::of(duty), stop)
 }
 
-// Runs a crew as long as its term says.
+// Runs a crew by these orders, as long as its term says.
 fn run_until<R, E, F, P, L, W, G, T>(
     rt: &R,
     alloc: Global,
@@ -137,13 +121,14 @@ where
     G: Gate + Sync,
     T: Term<R> + Sync,
     requires { IsLag domain.now.sizes.frames orders.mutable orders.resident }
-    ensures { IfErr result (λ back. back.0 ≡ OutOfMemory) }
+    ensures orders { IfOk result (λ end. end.orders ≡ orders) }
+    ensures err { IfErr result (λ back. back.0 ≡ OutOfMemory) }
 {
     let Ok((channels, first, second)) = open_rows(alloc, domain.params()) else {
         return hands.hand_back(None);
     };
-    let shared = Shared::of(channels, hands);
-    let whole = run_threads(rt, domain, gate, &shared, first, second, orders, term);
+    let shared = Shared::of(orders, channels, hands);
+    let whole = run_threads(rt, domain, gate, &shared, first, second, term);
     shared.end().hand_back(whole)
 }
 

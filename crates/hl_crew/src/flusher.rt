@@ -7,16 +7,16 @@ ghost use Rattle.hl_crew.specs.Pouches.{load_count};
 ghost use Rattle.hl_crew.specs.Runs.{MakesTurn, MakesOne, MakesTurns, MakesLast, MakesAll};
 
 use crate::counts::Counts;
-use crate::messages::{Channels, Over};
-use crate::orders::{Cuts, Orders};
+use crate::messages::Over;
+use crate::orders::Cuts;
 use crate::pouch::Pouch;
+use crate::shared::Shared;
 use crate::term::Term;
 use hl_action::{Promise, Task};
 use hl_domain::Domain;
 use hl_epoch::Epochs;
 use hl_words::{Realm, Rider};
-use std::sync::{Mutex, Wait};
-use std::thread::Parker;
+use std::sync::Wait;
 
 mod acknowledgements;
 mod actions;
@@ -25,11 +25,10 @@ mod pages;
 
 /// What the flusher works on.
 #[derive(Drop)]
-pub(crate) struct Flusher<'x, R, E: Epochs, F: Task, P: Promise, L: Realm> {
+pub(crate) struct Flusher<'x, R, E: Epochs, F: Task, P: Promise, L: Realm, W> {
     pub(crate) rt: &'x R,
     pub(crate) domain: &'x Domain<E, F, P, L>,
-    pub(crate) channels: &'x Channels,
-    pub(crate) orders: Orders,
+    pub(crate) shared: &'x Shared<L, W>,
 }
 
 /// What the flusher has of its own.
@@ -38,44 +37,34 @@ pub(crate) struct FlusherState<L: Realm> {
     pub(crate) counts: Counts,
 }
 
-impl<R: Wait, E: Epochs + Drop, F: Task, P: Promise, L: Realm> Flusher<'_, R, E, F, P, L> {
+impl<R: Wait, E: Epochs + Drop, F: Task, P: Promise, L: Realm, W> Flusher<'_, R, E, F, P, L, W> {
     /// Makes its turns until they are over, and then those that leave nothing to do. After each it wakes the cleaner.
-    pub(crate) fn run<T: Term<R>>(&self, own: &Mutex<FlusherState<L>>, term: &T, cleaner: &Parker)
-        requires { let orders = self.now.orders
+    pub(crate) fn run<T: Term<R>>(&self, term: &T)
+        requires { let orders = self.now.shared.now.orders
             in IsLag self.now.domain.now.sizes.frames orders.mutable orders.resident }
     {
-        let mut own = own.lock(self.rt);
+        let mut own = self.shared.flusher.lock(self.rt);
         let own = &mut *own;
-        let _ = self.make_all_turns(own, term, cleaner);
+        let _ = self.make_all_turns(own, term);
     }
 
     // Makes turns until they are over, and then the last ones, unless one of the former has failed.
-    fn make_all_turns<T: Term<R>>(
-        &self,
-        own: &mut FlusherState<L>,
-        term: &T,
-        cleaner: &Parker,
-    ) -> Result<(), Over>
-        requires { let orders = self.now.orders
+    fn make_all_turns<T: Term<R>>(&self, own: &mut FlusherState<L>, term: &T) -> Result<(), Over>
+        requires { let orders = self.now.shared.now.orders
             in IsLag self.now.domain.now.sizes.frames orders.mutable orders.resident }
-        ensures { MakesAll F self.now.domain.now self.now.orders (T.has_turn term.now)
+        ensures { MakesAll F self.now.domain.now self.now.shared.now.orders (T.has_turn term.now)
             (T.is_over term.now) (T.most_last term.now) result
             (own_of own.old.rider own.old.counts) (own_of own.new.rider own.new.counts) }
     {
-        self.make_turns(own, term, cleaner)?;
-        self.make_last_turns(own, cleaner, term.last_turns())
+        self.make_turns(own, term)?;
+        self.make_last_turns(own, term.last_turns())
     }
 
     // Makes turns until they are over, or the first after which it can't go on. After a turn that got nowhere it rests.
-    fn make_turns<T: Term<R>>(
-        &self,
-        own: &mut FlusherState<L>,
-        term: &T,
-        cleaner: &Parker,
-    ) -> Result<(), Over>
-        requires { let orders = self.now.orders
+    fn make_turns<T: Term<R>>(&self, own: &mut FlusherState<L>, term: &T) -> Result<(), Over>
+        requires { let orders = self.now.shared.now.orders
             in IsLag self.now.domain.now.sizes.frames orders.mutable orders.resident }
-        ensures { MakesTurns F self.now.domain.now self.now.orders (T.has_turn term.now)
+        ensures { MakesTurns F self.now.domain.now self.now.shared.now.orders (T.has_turn term.now)
             (T.is_over term.now) result
             (own_of own.old.rider own.old.counts) (own_of own.new.rider own.new.counts) }
     {
@@ -85,7 +74,7 @@ impl<R: Wait, E: Epochs + Drop, F: Task, P: Promise, L: Realm> Flusher<'_, R, E,
             if !term.goes_on(made) {
                 return Ok(());
             }
-            let moved = match self.make_turn(own, cleaner) {
+            let moved = match self.make_turn(own) {
                 Ok(moved) => moved,
                 Err(over) => return Err(over),
             };
@@ -101,19 +90,14 @@ impl<R: Wait, E: Epochs + Drop, F: Task, P: Promise, L: Realm> Flusher<'_, R, E,
     }
 
     // Makes at most this many turns, up to the first that got nowhere.
-    fn make_last_turns(
-        &self,
-        own: &mut FlusherState<L>,
-        cleaner: &Parker,
-        most: u64,
-    ) -> Result<(), Over>
-        requires { let orders = self.now.orders
+    fn make_last_turns(&self, own: &mut FlusherState<L>, most: u64) -> Result<(), Over>
+        requires { let orders = self.now.shared.now.orders
             in IsLag self.now.domain.now.sizes.frames orders.mutable orders.resident }
-        ensures { UpTo (MakesLast F self.now.domain.now self.now.orders) most result
+        ensures { UpTo (MakesLast F self.now.domain.now self.now.shared.now.orders) most result
             (own_of own.old.rider own.old.counts) (own_of own.new.rider own.new.counts) }
     {
         for _ in 0..most {
-            match self.make_turn(own, cleaner) {
+            match self.make_turn(own) {
                 Ok(true) => {}
                 Ok(false) => return Ok(()),
                 Err(over) => return Err(over),
@@ -125,19 +109,19 @@ impl<R: Wait, E: Epochs + Drop, F: Task, P: Promise, L: Realm> Flusher<'_, R, E,
     // Makes a turn, and wakes the cleaner. True if the turn entered a step and no write of a page
     // failed. A full journal that may be cut doesn't end the turns: what is left of this one is
     // made in the next. If the cut finds nothing, another thread has cut before.
-    fn make_turn(&self, own: &mut FlusherState<L>, cleaner: &Parker) -> Result<bool, Over>
-        requires { let orders = self.now.orders
+    fn make_turn(&self, own: &mut FlusherState<L>) -> Result<bool, Over>
+        requires { let orders = self.now.shared.now.orders
             in IsLag self.now.domain.now.sizes.frames orders.mutable orders.resident }
-        ensures { MakesOne F self.now.domain.now self.now.orders result
+        ensures { MakesOne F self.now.domain.now self.now.shared.now.orders result
             (own_of own.old.rider own.old.counts) (own_of own.new.rider own.new.counts) }
     {
         let share = own.rider.share();
         let failed = own.counts.failed;
         let made = self.turn(own);
-        cleaner.unpark();
+        self.shared.sleeper.unpark();
         match made {
             Ok(()) => Ok(own.rider.share() != share && own.counts.failed == failed),
-            Err(Over::Full) if self.orders.makes_room() => {
+            Err(Over::Full) if self.shared.orders().makes_room() => {
                 self.domain.cut(self.rt, &mut own.rider);
                 Ok(true)
             }
@@ -147,9 +131,9 @@ impl<R: Wait, E: Epochs + Drop, F: Task, P: Promise, L: Realm> Flusher<'_, R, E,
 
     // One turn: the lag, the actions, the pages, and the cut.
     fn turn(&self, own: &mut FlusherState<L>) -> Result<(), Over>
-        requires { let orders = self.now.orders
+        requires { let orders = self.now.shared.now.orders
             in IsLag self.now.domain.now.sizes.frames orders.mutable orders.resident }
-        ensures { MakesTurn F self.now.domain.now self.now.orders result
+        ensures { MakesTurn F self.now.domain.now self.now.shared.now.orders result
             (own_of own.old.rider own.old.counts) (own_of own.new.rider own.new.counts) }
     {
         self.keep_lag(&mut own.rider)?;
@@ -167,7 +151,7 @@ impl<R: Wait, E: Epochs + Drop, F: Task, P: Promise, L: Realm> Flusher<'_, R, E,
     fn flush(&self, own: &mut FlusherState<L>, pouch: &mut Pouch) -> Result<(), Over>
         requires { pouch.old ≡ replicate 4 None }
         ensures none { OnOk result (load_count pouch.new ≡ 0) }
-        ensures flushes { AreFlushed F self.now.domain.now self.now.orders.cuts result
+        ensures flushes { AreFlushed F self.now.domain.now self.now.shared.now.orders.cuts result
             (own_of own.old.rider own.old.counts) (own_of own.new.rider own.new.counts) }
     {
         let mut sent = 0;
@@ -179,12 +163,12 @@ impl<R: Wait, E: Epochs + Drop, F: Task, P: Promise, L: Realm> Flusher<'_, R, E,
 
     // Cuts the journal, if the orders say so for this turn's end.
     fn end_turn(&self, rider: &mut Rider<L>)
-        ensures { EndsTurn F self.now.domain.now self.now.orders.cuts rider.old rider.new }
+        ensures { EndsTurn F self.now.domain.now self.now.shared.now.orders.cuts rider.old rider.new }
     {
-        let is_wanted = match self.orders.cuts {
+        let is_wanted = match self.shared.orders().cuts() {
             Cuts::Never => false,
             Cuts::EachTurn => true,
-            Cuts::Above(steps) => self.domain.snapshot(self.rt).1 > steps,
+            Cuts::Above(steps) => self.domain.snapshot_by(self.rt, rider).1 > steps,
         };
         if is_wanted {
             self.domain.cut(self.rt, rider);

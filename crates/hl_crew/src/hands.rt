@@ -1,14 +1,40 @@
-ghost use Rattle.std.specs.Prelude.{◌≡◌, [], ◌∷◌, IfOk, IfErr, IsOk, IsSome, ◌↔◌};
+ghost use Rattle.std.specs.Prelude.{◌≡◌, [], ◌∷◌, IfOk, IfErr, IsOk, IsSome, IfSome, ◌↔◌};
 ghost use Rattle.hl_crew.specs.Counting.{nothing};
 ghost use Rattle.hl_model.specs.declared.fault.Fault.TheVariants.{OutOfMemory};
 
 use crate::counts::Counts;
-use crate::crew::CrewEnd;
 use crate::flusher::FlusherState;
-use crate::threads::Whole;
+use crate::orders::Orders;
+use crate::whole::Whole;
 use crate::writer::WriterState;
 use hl_model::Fault;
 use hl_words::{Realm, Rider};
+
+/// What a crew hands back.
+#[derive(Drop)]
+pub struct CrewEnd<L: Realm, W> {
+    /// The riders, in their order.
+    pub riders: [Rider<L>; 4],
+    /// The page writers, in their order.
+    pub writers: [W; 2],
+    /// How many flushes were answered as ended well.
+    pub written: u64,
+    /// How many flushes were answered as failed.
+    pub failed: u64,
+    /// How many acknowledgements named a page that the flusher didn't hold.
+    pub strangers: u64,
+    // Of the threads that were made: only `hand_back` makes an end.
+    orders: Orders,
+}
+
+impl<L: Realm, W> CrewEnd<L, W> {
+    /// What its threads ran by.
+    pub fn orders(&self) -> Orders
+        ensures { result ≡ self.now.orders }
+    {
+        self.orders
+    }
+}
 
 /// What each thread of a crew has of its own.
 pub(crate) struct Hands<L: Realm, W> {
@@ -45,8 +71,8 @@ impl<L: Realm, W> Hands<L, W> {
         }
     }
 
-    /// What a crew hands back, each at its place: with what was counted if all its threads were
-    /// made, else `OutOfMemory`.
+    /// What a crew hands back, each at its place: with what was counted, and what its threads ran by, if all of them
+    /// were made, else `OutOfMemory`.
     pub(crate) fn hand_back(
         self,
         whole: Option<Whole>,
@@ -58,6 +84,7 @@ impl<L: Realm, W> Hands<L, W> {
         ensures counts { IfOk result (λ end. (end.written ≡ self.flusher.counts.written)
             × (end.failed ≡ self.flusher.counts.failed)
             × (end.strangers ≡ self.flusher.counts.strangers)) }
+        ensures orders { IfOk result (λ end. IfSome whole (λ whole. end.orders ≡ whole.orders)) }
         ensures back { IfErr result (λ back. (back.0 ≡ OutOfMemory)
             × (back.1 ≡ self.flusher.rider ∷ self.first.rider ∷ self.second.rider ∷ self.cleaner ∷ [])
             × (back.2 ≡ self.first.pages) × (back.3 ≡ self.second.pages)) }
@@ -78,15 +105,16 @@ impl<L: Realm, W> Hands<L, W> {
             cleaner,
         } = self;
         let riders = [flushing, writing, also_writing, cleaner];
-        if whole.is_none() {
+        let Some(whole) = whole else {
             return Err((Fault::OutOfMemory, riders, first, second));
-        }
+        };
         Ok(CrewEnd {
             riders,
             writers: [first, second],
             written: counts.written,
             failed: counts.failed,
             strangers: counts.strangers,
+            orders: whole.orders(),
         })
     }
 }

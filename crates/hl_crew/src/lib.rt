@@ -44,9 +44,10 @@
 //!
 //! # What is proved of it
 //!
-//! Of a crew as a whole: that riders and page writers come back is in its types, that no refusal is
-//! other than `OutOfMemory` a clause. Inside, of each function that does a step: what it made under
-//! the domain's lock, in what order, and what it counted. A flusher's turn keeps the lag that was
+//! Of a crew as a whole: that riders and page writers come back is in its types. That no refusal is
+//! other than `OutOfMemory` is a clause, and so is what all its threads ran by, which
+//! [`CrewEnd::orders`] tells. Inside, of each function that does a step: what it made under the
+//! domain's lock, in what order, and what it counted. A flusher's turn keeps the lag that was
 //! ordered, by steps in their order up to the first that is refused, and ends if the journal is
 //! full; if its actions end well, it ran each that it took and answered it done, up to four; it
 //! takes sealed pages, up to four, or to the first take that finds none; it answers pages that it
@@ -66,9 +67,10 @@
 //!
 //! | Module | What it has |
 //! |---|---|
-//! | `crew`, `threads`, `shared`, `hands` | the calls; the threads; what they share; what each has of its own |
+//! | `crew`, `threads`, `whole`, `shared` | the calls; the threads; that all were made; what they share |
+//! | `hands` | what each thread has of its own; what comes back |
 //! | `duty`, `stop` | what a crew that serves is told; what ends it |
-//! | `orders`, `term` | what the flusher is told; for how long it runs |
+//! | `orders`, `term` | what all its threads run by; for how long |
 //! | `flusher`, and in it `lag`, `actions`, `pages`, `acknowledgements` | the flusher's turn, a part each |
 //! | `writer`, and in it `buffers` and `write`; `cleaner` | the other threads |
 //! | `pouch` | the pages that wait for their acknowledgement |
@@ -89,10 +91,13 @@ mod shared;
 mod stop;
 mod term;
 mod threads;
+mod whole;
 mod writer;
 
-pub use crew::{CrewEnd, run_crew, serve};
+pub use crew::{run_crew, serve};
 pub use duty::Duty;
 pub use gate::{Gate, OpenGate};
+pub use hands::CrewEnd;
+pub use orders::{Cuts, Orders};
 pub use pouch::Pouch;
 pub use stop::Stop;

@@ -1,10 +1,11 @@
-ghost use Rattle.std.specs.Prelude.{◌≡◌, ◌&&◌, if◌then◌else◌, ℕ, Some, None};
-ghost use Rattle.hl_crew.specs.declared.orders.Cuts.TheVariants.{EachTurn, Never};
+ghost use Rattle.std.specs.Prelude.{◌≡◌, ◌&&◌};
 ghost use Rattle.hl_crew.specs.Cutting.{MakesRoom};
 ghost use Rattle.hl_crew.specs.Lags.{makes_room};
+ghost use Rattle.hl_crew.specs.Ordered.{duty_orders, run_orders};
 ghost use Rattle.hl_crew.specs.Overs.{is_full};
 
 use crate::duty::Duty;
+use crate::shared::Shared;
 use hl_action::{Promise, Task};
 use hl_domain::Domain;
 use hl_epoch::Epochs;
@@ -15,9 +16,9 @@ use std::sync::Wait;
 /// How often what ends something is tried again, while the journal is full and is cut.
 pub(crate) const ATTEMPTS: u64 = 1_000;
 
-/// When the flusher cuts the journal.
+/// When a crew cuts the journal.
 #[derive(Clone, Copy, Debug, PartialEq, Eq)]
-pub(crate) enum Cuts {
+pub enum Cuts {
     /// Never.
     Never,
     /// At the end of each turn. A full journal ends the turns all the same.
@@ -26,30 +27,19 @@ pub(crate) enum Cuts {
     Above(u64),
 }
 
-impl Cuts {
-    /// At the end of each turn, or never.
-    pub(crate) fn of_turns(cut: bool) -> Cuts
-        ensures { result ≡ (if cut then EachTurn else Never) }
-    {
-        if cut { Cuts::EachTurn } else { Cuts::Never }
-    }
-}
-
-/// What the flusher is told: how many pages at the tail may be written and how many may be read, and when it cuts.
-#[derive(Clone, Copy)]
-pub(crate) struct Orders {
-    pub(crate) mutable: u64,
-    pub(crate) resident: u64,
-    pub(crate) cuts: Cuts,
+/// What a crew runs by: how many pages at the tail may be written and how many may be read, and when it cuts. Only
+/// what a crew is given makes them.
+#[derive(Clone, Copy, Debug, PartialEq, Eq)]
+pub struct Orders {
+    mutable: u64,
+    resident: u64,
+    cuts: Cuts,
 }
 
 impl Orders {
-    /// Those of a duty.
+    /// Those of a crew that serves by this duty.
     pub(crate) fn of(duty: Duty) -> Orders
-        ensures mutable { result.mutable ≡ duty.mutable }
-        ensures resident { result.resident ≡ duty.resident }
-        ensures above { (steps : ℕ) → duty.cut_above ≡ Some steps → result.cuts ≡ Cuts.Above steps }
-        ensures never { duty.cut_above ≡ None → result.cuts ≡ Cuts.Never }
+        ensures { result ≡ duty_orders duty }
     {
         Orders {
             mutable: duty.mutable(),
@@ -61,6 +51,38 @@ impl Orders {
         }
     }
 
+    /// Those of a crew that makes a number of turns, and cuts at the end of each, or never.
+    pub(crate) fn of_run(mutable: u64, resident: u64, cut: bool) -> Orders
+        ensures { result ≡ run_orders mutable resident cut }
+    {
+        Orders {
+            mutable,
+            resident,
+            cuts: if cut { Cuts::EachTurn } else { Cuts::Never },
+        }
+    }
+
+    /// How many pages at the tail may be written.
+    pub fn mutable(self) -> u64
+        ensures { result ≡ self.mutable }
+    {
+        self.mutable
+    }
+
+    /// How many pages at the tail may be read.
+    pub fn resident(self) -> u64
+        ensures { result ≡ self.resident }
+    {
+        self.resident
+    }
+
+    /// When the journal is cut.
+    pub fn cuts(self) -> Cuts
+        ensures { result ≡ self.cuts }
+    {
+        self.cuts
+    }
+
     /// Whether a full journal is cut, so that the turns go on.
     pub(crate) fn makes_room(self) -> bool
         ensures { result ≡ makes_room self.cuts }
@@ -69,18 +91,18 @@ impl Orders {
     }
 }
 
-/// Whether what met this fault is to be tried again: the journal was full, and was cut, as these orders say.
-pub(crate) fn make_room<R: Wait, E: Epochs + Drop, F: Task, P: Promise, L: Realm>(
+/// Whether what met this fault is to be tried again: the journal was full, and was cut, as the crew's orders say.
+pub(crate) fn make_room<R: Wait, E: Epochs + Drop, F: Task, P: Promise, L: Realm, W>(
     rt: &R,
     domain: &Domain<E, F, P, L>,
-    orders: Orders,
+    shared: &Shared<L, W>,
     rider: &mut Rider<L>,
     fault: &Fault,
 ) -> bool
     ensures room { MakesRoom F domain.now result rider.old rider.new }
-    ensures answer { result ≡ (makes_room orders.cuts && is_full fault.now) }
+    ensures answer { result ≡ (makes_room shared.now.orders.cuts && is_full fault.now) }
 {
-    let is_cut = orders.makes_room() && matches!(fault, Fault::JournalFull);
+    let is_cut = shared.orders().makes_room() && matches!(fault, Fault::JournalFull);
     if is_cut {
         domain.cut(rt, rider);
     }

@@ -1,4 +1,4 @@
-ghost use Rattle.std.specs.Prelude.{◌≡◌, true, false, ◌&&◌, IsSome, IfNone};
+ghost use Rattle.std.specs.Prelude.{◌≡◌, IfSome};
 ghost use Rattle.std.specs.Thread.{IsSend, IsSync};
 ghost use Rattle.hl_crew.specs.Lags.{IsLag};
 
@@ -6,9 +6,9 @@ use crate::cleaner::Cleaner;
 use crate::flusher::Flusher;
 use crate::gate::Gate;
 use crate::messages::{Channels, Message};
-use crate::orders::Orders;
 use crate::shared::Shared;
 use crate::term::Term;
+use crate::whole::Whole;
 use crate::writer::{Buffers, Writer, WriterState};
 use hl_action::{Promise, Task};
 use hl_domain::Domain;
@@ -20,24 +20,6 @@ use std::sync::{Mutex, Wait};
 use std::thread;
 use std::thread::Threads;
 
-/// That each thread of a crew was made. Only the call that makes them can tell.
-#[derive(Drop)]
-pub(crate) struct Whole {
-    threads: u64,
-}
-
-// Whether the writers, the cleaner and the flusher were made.
-fn whole_of(first: bool, second: bool, cleaner: bool, flusher: bool) -> Option<Whole>
-    ensures made { IsSome result → (first ≡ true) × (second ≡ true) × (cleaner ≡ true) × (flusher ≡ true) }
-    ensures missing { IfNone result ((first && (second && (cleaner && flusher))) ≡ false) }
-{
-    if first && second && cleaner && flusher {
-        Some(Whole { threads: 4 })
-    } else {
-        None
-    }
-}
-
 /// Runs the threads until all have ended; each writer has buffers of its own. `None` if a thread couldn't be made:
 /// those made are stopped.
 pub(crate) fn run_threads<'x, R, E, F, P, L, W, G, T>(
@@ -47,7 +29,6 @@ pub(crate) fn run_threads<'x, R, E, F, P, L, W, G, T>(
     shared: &'x Shared<L, W>,
     first: Buffers,
     second: Buffers,
-    orders: Orders,
     term: &'x T,
 ) -> Option<Whole>
 where
@@ -61,7 +42,9 @@ where
     T: Term<R> + Sync,
     requires first { first ≡ domain.now.sizes.page_size }
     requires second { second ≡ domain.now.sizes.page_size }
-    requires lag { IsLag domain.now.sizes.frames orders.mutable orders.resident }
+    requires lag { let orders = shared.now.orders
+        in IsLag domain.now.sizes.frames orders.mutable orders.resident }
+    ensures { IfSome result (λ whole. whole.orders ≡ shared.now.orders) }
 {
     thread::scope(
         thread::scope_env(),
@@ -77,7 +60,9 @@ where
             requires term_shared { IsSync T.row }
             requires first { first ≡ domain.now.sizes.page_size }
             requires second { second ≡ domain.now.sizes.page_size }
-            requires lag { IsLag domain.now.sizes.frames orders.mutable orders.resident }
+            requires lag { let orders = shared.now.orders
+                in IsLag domain.now.sizes.frames orders.mutable orders.resident }
+            ensures { IfSome result (λ whole. whole.orders ≡ shared.entry.now.orders) }
         {
             let first = scope
                 .spawn(
@@ -85,30 +70,33 @@ where
                         requires { first ≡ domain.now.sizes.page_size }
                     { write_pages(rt, domain, gate, &shared.channels, &shared.first, first) },
                 )
-                .is_ok();
+                .ok();
             let second = scope
                 .spawn(
                     move ||
                         requires { second ≡ domain.now.sizes.page_size }
                     { write_pages(rt, domain, gate, &shared.channels, &shared.second, second) },
                 )
-                .is_ok();
+                .ok();
             let cleaner = scope
-                .spawn(move || clean_pages(rt, domain, shared, orders, term))
-                .is_ok();
-            let others = first && second && cleaner;
-            let flusher = others
-                && scope
+                .spawn(move || clean_pages(rt, domain, shared, term))
+                .ok();
+            let flusher = if first.is_some() && second.is_some() && cleaner.is_some() {
+                scope
                     .spawn(
                         move ||
-                            requires { IsLag domain.now.sizes.frames orders.mutable orders.resident }
-                        { flush_pages(rt, domain, shared, orders, term) },
+                            requires { let orders = shared.now.orders
+                                in IsLag domain.now.sizes.frames orders.mutable orders.resident }
+                        { flush_pages(rt, domain, shared, term) },
                     )
-                    .is_ok();
-            if !flusher {
+                    .ok()
+            } else {
+                None
+            };
+            if flusher.is_none() {
                 end_flusher(rt, shared);
             }
-            whole_of(first, second, cleaner, flusher)
+            Whole::of(shared.orders(), first, second, cleaner, flusher)
         },
     )
 }
@@ -118,7 +106,6 @@ fn flush_pages<R, E, F, P, L, W, T>(
     rt: &R,
     domain: &Domain<E, F, P, L>,
     shared: &Shared<L, W>,
-    orders: Orders,
     term: &T,
 )
 where
@@ -128,15 +115,11 @@ where
     P: Promise,
     L: Realm,
     T: Term<R>,
-    requires { IsLag domain.now.sizes.frames orders.mutable orders.resident }
+    requires { let orders = shared.now.orders
+        in IsLag domain.now.sizes.frames orders.mutable orders.resident }
 {
-    let flusher = Flusher {
-        rt,
-        domain,
-        channels: &shared.channels,
-        orders,
-    };
-    flusher.run(&shared.flusher, term, &shared.sleeper);
+    let flusher = Flusher { rt, domain, shared };
+    flusher.run(term);
     end_flusher(rt, shared);
 }
 
@@ -173,7 +156,6 @@ fn clean_pages<R, E, F, P, L, W, T>(
     rt: &R,
     domain: &Domain<E, F, P, L>,
     shared: &Shared<L, W>,
-    orders: Orders,
     term: &T,
 )
 where
@@ -184,14 +166,8 @@ where
     L: Realm,
     T: Term<R>,
 {
-    let cleaner = Cleaner {
-        rt,
-        domain,
-        orders,
-        has_ended: &shared.has_ended,
-        sleeper: &shared.sleeper,
-    };
-    cleaner.run(&shared.cleaner, term);
+    let cleaner = Cleaner { rt, domain, shared };
+    cleaner.run(term);
 }
 
 // The flusher makes no more turns: each writer is told to stop, and the cleaner is woken.

@@ -239,6 +239,7 @@ fn left_of<R: Wait, E: Epochs + Drop, L: Realm>(
         written,
         failed,
         strangers,
+        ..
     } = end;
     let [flushing, first, second, cleaning] = &riders;
     Left {

@@ -17,7 +17,8 @@ use Rattle.hl_drain.specs.Lists.{Lists}
 use Rattle.hl_action.specs.Jobs.{KeptRecord, ReadyRecord}
 use Rattle.hl_history.specs.Lists.{entry, IsOf, IsOneList}
 use Rattle.hl_words.specs.declared.view.OffsetWords.{OffsetWords}
-use Rattle.hl_words.specs.Rule.{IsRuled}
+use Rattle.hl_words.specs.declared.view.Extent.{Extent}
+use Rattle.hl_words.specs.Rule.{IsRuledAt}
 use Rattle.hl_words.specs.States.{RiderState, AreTied, with_call}
 use Rattle.hl_core.specs.Standing.{State}
 use Rattle.hl_keeper.specs.Keepers.{job_tag, KeeperState, KeeperStands, all_noted}
@@ -27,7 +28,7 @@ use Rattle.hl_keeper.specs.Calls.{Replied, Stays, made, entered, without_back}
 use Rattle.hl_keeper.specs.Endings.{EndingState}
 use Rattle.hl_keeper.specs.Stores.{stores_of}
 use Rattle.hl_keeper.proofs.KeeperLaws.{counted}
-use Rattle.hl_domain.specs.Domains.{DomainState, Setup, setup_of, IsAt, HeldState, IsHeld, Call, LeavesUnderLock, LeavesHeld, IsEnding, no_step, answered, steps_if, with_held}
+use Rattle.hl_domain.specs.Domains.{DomainState, Setup, setup_of, IsAt, HeldState, extent_at, IsHeld, Call, LeavesUnderLock, LeavesHeld, IsEnding, no_step, answered, steps_if, with_held}
 
 -- the list that a call leaves has the steps of its answer behind the one that it met
 list_of_made : {X : Type 0} (fault : Option Fault) (x : X) (result : Result X Fault) (A : List Step) (s : Step) → result ≡ unless_fault fault x → made fault A s ≡ A ++ steps_if result (s ∷ [])
@@ -135,11 +136,9 @@ pub record Moved {F : Type 0} (setup : Setup) (list steps journal : List Step) (
   pub journal_is : journal ≡ old.journal
 
 module _ {F : Type 0} where
-  -- what lies under the lock stands at its list
-  pub met_held : {setup : Setup} {guarded now : HeldState F} {k : KeeperState F} {A : List Step} → IsHeld setup guarded → now ≡ guarded → record { keeper = k; list = A } ≡ now → IsAt setup A k
-  met_held {setup} {k} {A} held value view =
-      let own : IsHeld setup (record { keeper = k; list = A }) = subst (IsHeld setup) (sym (view ∙ value)) held in
-      own.at
+  -- what lies under the lock stands at its list, and noted all calls
+  pub met_held : {setup : Setup} {guarded now : HeldState F} {k : KeeperState F} {A : List Step} → IsHeld setup guarded → now ≡ guarded → record { keeper = k; list = A } ≡ now → IsHeld setup (record { keeper = k; list = A })
+  met_held {setup} {k} {A} held value view = subst (IsHeld setup) (sym (view ∙ value)) held
 
   -- by what a keeper is left at, which kept its sizes, its stamp, its room and what was cut
   moved : {setup : Setup} {A journal : List Step} {old new : KeeperState F} (steps : List Step) → IsAt setup A old → Stays old new → journal ≡ old.journal → KeeperStands new (A ++ steps) → Moved setup A steps journal old new
@@ -181,8 +180,8 @@ module _ {F : Type 0} {setup : Setup} {A steps journal : List Step} {old new : K
   steps_behind = ap (drop (length journal)) journal_grows ∙ drop_at journal steps (length journal) refl
 
   -- so the call may be noted
-  pub may_note : old.called ≡ length A → (length journal ≤ length new.journal) × (new.called ≡ length A) × (new.total ≡ length A + length (drop (length journal) new.journal))
-  may_note noted = (longer, m.called ∙ noted, omega (arith, m.left.stands.total_is, length-append A steps, ap length steps_behind))
+  pub may_note : old.called ≡ extent_at old.cut A → (length journal ≤ length new.journal) × (new.called.steps ≡ length A) × (new.called.cut ≤ new.cut) × (new.total ≡ length A + length (drop (length journal) new.journal))
+  may_note noted = (longer, ap (λ e. e.steps) (m.called ∙ noted), omega (arith, ap (λ e. e.cut) (m.called ∙ noted), m.cut), omega (arith, m.left.stands.total_is, length-append A steps, ap length steps_behind))
 
   -- the keeper stands at the list behind which those steps were noted
   pub stands_at : {list : List Step} → list ≡ A ++ drop (length journal) new.journal → IsAt setup list new
@@ -217,7 +216,7 @@ pub noted_at : {F : Type 0} {setup : Setup} {A : List Step} {k k' : KeeperState 
 noted_at {F} {setup} {A} {k} same at =
     subst (λ (z : KeeperState F). IsHeld setup (record { keeper = z; list = A })) (sym same) (record {
       at = record { stands = stands_noted at.stands; sizes_are = at.sizes_are; stamp_is = at.stamp_is; limit_is = at.limit_is };
-      noted = at.stands.total_is;
+      noted = ap (λ n. record { steps = n; cut = k.cut }) at.stands.total_is;
     })
 
 -- a keeper that was cut stands where it stood
@@ -233,18 +232,27 @@ cut_at met core stamp limit stands = record {
 pub still_at : {F : Type 0} {setup : Setup} {A list : List Step} {k : KeeperState F} → list ≡ A ++ [] → IsAt setup A k → IsAt setup list k
 still_at {setup} {A} {k} same at = subst (λ (z : List Step). IsAt setup z k) (sym (same ∙ append-nil A)) at
 
+-- what the diary of its rider has after a call
+entered_so : {F X : Type 0} {setup : Setup} {A journal : List Step} {old new : KeeperState F} {mid : RiderState} → old.called ≡ extent_at old.cut A → (call : Call) (result : Result X Fault)
+    → Moved setup A (steps_if result (call.steps A)) journal old new → mid ≡ with_share (length (steps_if result (call.steps A))) call.old
+    → call.new ≡ with_call new.called.cut new.cut (entry A (drop (length journal) new.journal)) mid
+    → call.new ≡ with_call old.cut new.cut (entry A (steps_if result (call.steps A))) (with_share (length (steps_if result (call.steps A))) call.old)
+entered_so {A} {journal} {old} {new} {mid} called call result m grows noted =
+    noted ∙ ap (λ n. with_call n new.cut (entry A (drop (length journal) new.journal)) mid) (ap (λ (e : Extent). e.cut) (m.called ∙ called))
+    ∙ ap (λ z. with_call old.cut new.cut (entry A z) mid) (steps_behind m) ∙ ap (with_call old.cut new.cut (entry A (steps_if result (call.steps A)))) grows
+
 -- it is a call of a rider: what it met, what it left, and what its diary has then
-pub call_left : {F X : Type 0} {domain : DomainState} {A journal : List Step} {old new : KeeperState F} {mid : RiderState} {Holds : KeeperState F → KeeperState F → Type 0} (call : Call) (result : Result X Fault)
+pub call_left : {F X : Type 0} {domain : DomainState} {A journal : List Step} {old new : KeeperState F} {mid : RiderState} {Holds : KeeperState F → KeeperState F → Type 0} → old.called ≡ extent_at old.cut A → (call : Call) (result : Result X Fault)
     → Moved (setup_of domain) A (steps_if result (call.steps A)) journal old new → mid ≡ with_share (length (steps_if result (call.steps A))) call.old
-    → call.new ≡ with_call (entry A (drop (length journal) new.journal)) mid → IsOf A mid.calls → Holds old new
+    → call.new ≡ with_call new.called.cut new.cut (entry A (drop (length journal) new.journal)) mid → IsOf A mid.calls → Holds old new
     → LeavesUnderLock F domain (answered result call) Holds
-call_left {A} {old} {new} {mid} call result m grows noted rises holds = record {
+call_left {A} {old} {new} {mid} called call result m grows noted rises holds = record {
   list = A;
   before = old;
   after = new;
   met = m.met;
   left = m.left;
-  entered = noted ∙ ap (λ z. with_call (entry A z) mid) (steps_behind m) ∙ ap (with_call (entry A (steps_if result (call.steps A)))) grows;
+  entered = entered_so called call result m grows noted;
   rises = subst (λ (r : RiderState). IsOf A r.calls) grows rises;
   holds = holds;
 }
@@ -253,8 +261,8 @@ call_left {A} {old} {new} {mid} call result m grows noted rises holds = record {
 pub call_held : {F X : Type 0} {setup : Setup} {A journal list : List Step} {old new : KeeperState F} {mid : RiderState} {Holds : KeeperState F → KeeperState F → Type 0} (call : Call) (result : Result X Fault)
     → Moved setup A (steps_if result (call.steps A)) journal old new → mid ≡ with_share (length (steps_if result (call.steps A))) call.old
     → list ≡ A ++ drop (length journal) new.journal
-    → call.new ≡ with_call (entry A (drop (length journal) new.journal)) mid → IsOf A mid.calls → Holds old new
-    → (last : KeeperState F) → last ≡ all_noted new → old.called ≡ length A
+    → call.new ≡ with_call new.called.cut new.cut (entry A (drop (length journal) new.journal)) mid → IsOf A mid.calls → Holds old new
+    → (last : KeeperState F) → last ≡ all_noted new → old.called ≡ extent_at old.cut A
     → LeavesHeld setup (answered result call) Holds (record { keeper = old; list = A }) (record { keeper = last; list = list })
 call_held {A} {old} {new} {mid} call result m grows listed noted rises holds last same called = record {
   after = new;
@@ -262,7 +270,7 @@ call_held {A} {old} {new} {mid} call result m grows listed noted rises holds las
   left = stands_at m listed;
   noted = same;
   list_is = listed ∙ ap (λ z. A ++ z) (steps_behind m);
-  entered = noted ∙ ap (λ z. with_call (entry A z) mid) (steps_behind m) ∙ ap (with_call (entry A (steps_if result (call.steps A)))) grows;
+  entered = entered_so called call result m grows noted;
   rises = subst (λ (r : RiderState). IsOf A r.calls) grows rises;
   holds = holds;
 }
@@ -282,15 +290,15 @@ under_lock {domain} {call} {old} {new} h = record {
 
 -- it is a call that makes no step
 pub quiet_call : {F : Type 0} {domain : DomainState} {A : List Step} {old new : KeeperState F} {before mid after : RiderState} {Holds : KeeperState F → KeeperState F → Type 0}
-    → IsAt (setup_of domain) A old → IsAt (setup_of domain) A new → mid ≡ before → after ≡ with_call (entry A []) mid → IsOf A mid.calls → Holds old new
+    → new.called ≡ extent_at old.cut A → IsAt (setup_of domain) A old → IsAt (setup_of domain) A new → mid ≡ before → after ≡ with_call new.called.cut new.cut (entry A []) mid → IsOf A mid.calls → Holds old new
     → LeavesUnderLock F domain (no_step before after) Holds
-quiet_call {domain} {A} {old} {new} {before} met left same noted rises holds = record {
+quiet_call {domain} {A} {old} {new} {before} {mid} called met left same noted rises holds = record {
   list = A;
   before = old;
   after = new;
   met = met;
   left = subst (λ (z : List Step). IsAt (setup_of domain) z new) (sym (append-nil A)) left;
-  entered = noted ∙ ap (with_call (entry A [])) (same ∙ sym (no_share before));
+  entered = noted ∙ ap (λ n. with_call n new.cut (entry A []) mid) (ap (λ (e : Extent). e.cut) called) ∙ ap (with_call old.cut new.cut (entry A [])) (same ∙ sym (no_share before));
   rises = subst (λ (r : RiderState). IsOf A r.calls) same rises;
   holds = holds;
 }
@@ -300,9 +308,13 @@ pub at_same : {F : Type 0} (setup : Setup) (k k' : KeeperState F) (A A' : List S
 at_same setup k k' A A' keeper list at =
     subst (λ (z : List Step). IsAt setup z k') (sym list) (subst (λ (z : KeeperState _). IsAt setup A z) (sym keeper) at)
 
+pub called_same : {F : Type 0} (k k' : KeeperState F) (A A' : List Step) → k' ≡ k → A' ≡ A → k.called ≡ extent_at k.cut A → k'.called ≡ extent_at k'.cut A'
+called_same k k' A A' keeper list called =
+    ap (λ (z : KeeperState _). z.called) keeper ∙ called ∙ ap (λ (z : KeeperState _). extent_at z.cut A) (sym keeper) ∙ ap (extent_at k'.cut) (sym list)
+
 -- what is left of a keeper that was closed
-pub ending_of : {F : Type 0} (sizes : Sizes) (riders : List RiderState) (list : List Step) (k : KeeperState F) (e : EndingState F) → KeeperStands k list → k.core.sizes ≡ sizes → e.base ≡ k.base → e.cut ≡ k.cut → e.journal ≡ k.journal → e.left ≡ k.core.drain → ((A : List Step) → KeeperStands k A → e.snapshot ≡ snapshot_of k.core.sizes A) → k.total ≡ sum_by (λ r. r.share) riders → IsOneList list (map (λ r. r.calls) riders) → IsRuled e.words.cells e.words.words k.offsets (map (λ r. r.view) riders) → AllByRecursion (λ (r : RiderState). AreTied r.view.touches r.calls) riders → e.words.cells ≡ sizes.frames * sizes.page_size → IsEnding sizes riders e
-ending_of {F} sizes riders A k e st same base cut journal left quantities total one ruled tied cells = record {
+pub ending_of : {F : Type 0} (sizes : Sizes) (riders : List RiderState) (list : List Step) (k : KeeperState F) (e : EndingState F) → KeeperStands k list → k.core.sizes ≡ sizes → e.base ≡ k.base → e.cut ≡ k.cut → e.journal ≡ k.journal → e.left ≡ k.core.drain → ((A : List Step) → KeeperStands k A → e.snapshot ≡ snapshot_of k.core.sizes A) → k.total ≡ sum_by (λ r. r.share) riders → IsOneList list (map (λ r. r.calls) riders) → k.called ≡ extent_at k.cut list → IsRuledAt e.words.cells e.words.words k.offsets k.called (map (λ r. r.view) riders) → AllByRecursion (λ (r : RiderState). AreTied r.view.touches r.calls) riders → e.words.cells ≡ sizes.frames * sizes.page_size → IsEnding sizes riders e
+ending_of {F} sizes riders A k e st same base cut journal left quantities total one called ruled tied cells = record {
   steps_cut = st.steps_cut;
   accepted = subst (λ (z : Sizes). IsAccepted z (st.steps_cut ++ e.journal)) same (subst (λ (z : List Step). IsAccepted k.core.sizes z) list st.core_stands.accepted);
   one_list = subst (λ (z : List Step). IsOneList z (map (λ r. r.calls) riders)) list one;
@@ -311,7 +323,8 @@ ending_of {F} sizes riders A k e st same base cut journal left quantities total 
   snapshot_is = quantities A st ∙ ap (snapshot_of k.core.sizes) list ∙ ap (λ z. snapshot_of z (st.steps_cut ++ e.journal)) same;
   pending_are = ap (λ (z : Lists (KeptRecord F)). map (waiting_of job_tag) z.pending) left ∙ st.core_stands.pending_is ∙ ap pending list;
   taken_are = ap (λ (z : Lists (KeptRecord F)). z.taken) left ∙ st.core_stands.taken_is ∙ ap taken list;
-  ruled = subst (λ (z : OffsetWords). IsRuled e.words.cells e.words.words z (map (λ r. r.view) riders)) (st.stores_are ∙ ap stores_of list) ruled;
+  ruled = subst (λ (z : Extent). IsRuledAt e.words.cells e.words.words (stores_of (st.steps_cut ++ e.journal)) z (map (λ r. r.view) riders)) (called ∙ ap (extent_at k.cut) list ∙ ap (λ n. extent_at n (st.steps_cut ++ e.journal)) (sym cut))
+      (subst (λ (z : OffsetWords). IsRuledAt e.words.cells e.words.words z k.called (map (λ r. r.view) riders)) (st.stores_are ∙ ap stores_of list) ruled);
   tied = tied;
   cells_are = cells;
   sum = omega (arith, cut, ap length journal, counted k A st, total);

@@ -14,7 +14,8 @@ use Rattle.hl_model.specs.Snapshots.{snapshot_of}
 use Rattle.hl_drain.specs.Actions.{waiting_of}
 use Rattle.hl_core.specs.Holding.{least_free}
 use Rattle.hl_history.specs.Lists.{entry, IsOf, IsOneList}
-use Rattle.hl_words.specs.Rule.{IsRuled}
+use Rattle.hl_words.specs.declared.view.Extent.{Extent}
+use Rattle.hl_words.specs.Rule.{IsRuledAt}
 use Rattle.hl_words.specs.States.{RiderState, AreTied, with_call}
 use Rattle.hl_keeper.specs.Keepers.{job_tag, KeeperState, KeeperStands, all_noted}
 use Rattle.hl_keeper.specs.Passes.{PassRecord, seen, with_share, with_rider, with_news, is_current, last_read_only, last_head, last_ended}
@@ -61,10 +62,14 @@ pub record HeldState (F : Type 0) : Type 0 where
   pub keeper : KeeperState F
   pub list : List Step
 
--- the keeper was set up so, stands at the list, and noted the calls of all its steps
+-- how far the list is, where so many of its steps are cut
+abbrev pub extent_at : ℕ → List Step → Extent
+extent_at cut list = record { steps = length list; cut = cut }
+
+-- the keeper was set up so, stands at the list, and noted the calls of all its steps and all its cuts
 pub record IsHeld {F : Type 0} (setup : Setup) (held : HeldState F) : Type 0 where
   pub at : IsAt setup held.list held.keeper
-  pub noted : held.keeper.called ≡ length held.list
+  pub noted : held.keeper.called ≡ extent_at held.keeper.cut held.list
 
 -- a call of a rider: what it puts behind the list that it meets, and the rider before and after it
 pub record Call : Type 0 where
@@ -94,13 +99,15 @@ abbrev pub answered : {X : Type 0} → Result X Fault → Call → Call
 answered result call =
     record { steps = λ list. steps_if result (call.steps list); old = call.old; new = call.new }
 
--- a rider after a call that met this list, and put these steps behind it
-abbrev pub with_entry : List Step → List Step → RiderState → RiderState
-with_entry list steps r = with_call (entry list steps) (with_share (length steps) r)
+-- a rider after a call that met this list, of which so many steps were cut, and put these steps behind it, with so many
+-- cut then
+abbrev pub with_entry : ℕ → ℕ → List Step → List Step → RiderState → RiderState
+with_entry was now list steps r = with_call was now (entry list steps) (with_share (length steps) r)
 
 -- what a call met under the lock, and what it left there: a keeper that stood at the list of all steps, and
 -- one that stands at this list and the call's steps behind it. The rider's newest call is of exactly that
--- list and those steps, and the list begins with what each earlier one left. This holds of both keepers
+-- list and those steps, with as many cut as the one keeper has cut and the other; and the list begins with what each
+-- earlier one left. This holds of both keepers
 pub record LeavesUnderLock
     (F : Type 0) (domain : DomainState) (call : Call) (Holds : KeeperState F → KeeperState F → Type 0)
     : Type 0 where
@@ -109,7 +116,7 @@ pub record LeavesUnderLock
   pub after : KeeperState F
   pub met : IsAt (setup_of domain) list before
   pub left : IsAt (setup_of domain) (list ++ call.steps list) after
-  pub entered : call.new ≡ with_entry list (call.steps list) call.old
+  pub entered : call.new ≡ with_entry before.cut after.cut list (call.steps list) call.old
   pub rises : IsOf list call.old.calls
   pub holds : Holds before after
 
@@ -123,7 +130,7 @@ pub record LeavesHeld
   pub left : IsAt setup new.list after
   pub noted : new.keeper ≡ all_noted after
   pub list_is : new.list ≡ old.list ++ call.steps old.list
-  pub entered : call.new ≡ with_entry old.list (call.steps old.list) call.old
+  pub entered : call.new ≡ with_entry old.keeper.cut after.cut old.list (call.steps old.list) call.old
   pub rises : IsOf old.list call.old.calls
   pub holds : Holds old.keeper after
 
@@ -180,8 +187,8 @@ releaser (Err back) = back.1.rider
 -- the steps that were cut and then the journal are an accepted list, which is the one list of all that these
 -- riders' calls met and made; the base is that of the steps cut; the snapshot is that of both, and so are the
 -- actions left; the riders entered as many steps as both have; the rule of the words holds of what they
--- hold, of the raises, shifts and bumps of both, and of exactly what these riders stored and loaded; and among that
--- stand the calls of the list
+-- hold, of the raises, shifts and bumps of both, and of exactly what these riders stored and loaded; among that stand
+-- the calls of the list, the newest of which left it so long and with so many steps cut
 pub record IsEnding {F : Type 0} (sizes : Sizes) (riders : List RiderState) (ending : EndingState F)
     : Type 0 where
   pub steps_cut : List Step
@@ -192,8 +199,8 @@ pub record IsEnding {F : Type 0} (sizes : Sizes) (riders : List RiderState) (end
   pub snapshot_is : ending.snapshot ≡ snapshot_of sizes (steps_cut ++ ending.journal)
   pub pending_are : map (waiting_of job_tag) ending.left.pending ≡ pending (steps_cut ++ ending.journal)
   pub taken_are : ending.left.taken ≡ taken (steps_cut ++ ending.journal)
-  pub ruled : IsRuled ending.words.cells ending.words.words (stores_of (steps_cut ++ ending.journal))
-      (map (λ r. r.view) riders)
+  pub ruled : IsRuledAt ending.words.cells ending.words.words (stores_of (steps_cut ++ ending.journal))
+      (extent_at ending.cut (steps_cut ++ ending.journal)) (map (λ r. r.view) riders)
   pub tied : AllByRecursion (λ r. AreTied r.view.touches r.calls) riders
   pub cells_are : ending.words.cells ≡ sizes.frames * sizes.page_size
   pub sum : ending.cut + length ending.journal ≡ sum_by (λ r. r.share) riders

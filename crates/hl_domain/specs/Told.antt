@@ -1,13 +1,23 @@
--- What the calls of a rider meet that was told of another's: the contract of a function of the module laws.
-use Rattle.std.specs.Prelude.{ℕ, suc, ◌≡◌, List, [], ◌∷◌, ◌++◌, length, Some, slice_get}
+-- What the calls of a rider meet that met no fewer steps than another's left, or was told of them. Each statement is the
+-- contract of a function of the module laws.
+use Rattle.std.specs.Prelude.{ℕ, suc, ◌≡◌, ◌+◌, ◌≤◌, List, [], ◌∷◌, ◌++◌, length, Some, slice_get}
 use Rattle.hl_model.specs.Sizes.{Sizes}
 use Rattle.hl_history.specs.declared.view.Entry.{Entry}
 use Rattle.hl_history.specs.Lists.{Begins, left_by}
+use Rattle.hl_words.specs.declared.view.Extent.{Extent}
 use Rattle.hl_words.specs.declared.view.Touch.{Touch}
 use Rattle.hl_words.specs.declared.view.Touch.TheVariants.{Stored, Loaded, Changed, Called, Looked, Met}
 use Rattle.hl_words.specs.States.{RiderState}
 use Rattle.hl_keeper.specs.Endings.{EndingState}
 use Rattle.hl_domain.specs.Domains.{IsEnding}
+
+-- A call that met no fewer steps than another left met a list that begins with what that one left
+abbrev pub LaterCallsBegin : Type 0 → Type 0
+LaterCallsBegin F = (sizes : Sizes) (riders : List RiderState) (ending : EndingState F) (i j m n : ℕ)
+    (r q : RiderState) (e d : Entry)
+    → IsEnding sizes riders ending → slice_get riders i ≡ Some r → slice_get riders j ≡ Some q
+    → slice_get r.calls m ≡ Some e → slice_get q.calls n ≡ Some d
+    → length d.before + length d.steps ≤ length e.before → Begins (left_by d) e.before
 
 -- how many of these touches are calls
 abbrev pub calls_in : List Touch → ℕ
@@ -24,7 +34,8 @@ calls_in (Met name count ∷ before) = calls_in before
 -- that of the i-th
 abbrev pub ToldCallsBegin : Type 0 → Type 0
 ToldCallsBegin F = (sizes : Sizes) (riders : List RiderState) (ending : EndingState F)
-    (i j met left first n : ℕ) (r q : RiderState) (newer between earlier later recent older : List Touch)
+    (i j : ℕ) (met left first n : Extent) (r q : RiderState)
+    (newer between earlier later recent older : List Touch)
     → IsEnding sizes riders ending → slice_get riders i ≡ Some r → slice_get riders j ≡ Some q
     → let past = recent ++ Called first n ∷ older
     in r.view.touches ≡ newer ++ Called met left ∷ (between ++ Met q.view.name (length past) ∷ earlier)

@@ -1,7 +1,13 @@
 //! What follows from a domain's ending: the contract of a function that does nothing.
-ghost use Rattle.hl_domain.specs.Told.{ToldCallsBegin};
+ghost use Rattle.hl_domain.specs.Told.{LaterCallsBegin, ToldCallsBegin};
 
 use hl_action::Task;
+
+/// A call that met no fewer steps than another left met a list that begins with what that one left. So a number of steps
+/// that goes from thread to thread carries the order of their calls.
+pub fn later_calls_begin<F: Task>()
+    ensures { LaterCallsBegin F }
+{}
 
 /// A call of a rider that was told another's past met a list that begins with what each call in that past left. So who
 /// was told of a bump is answered a greater number.

@@ -279,8 +279,8 @@ release 0
 ",
 };
 
-// An action and two pages are taken, and a pass is acquired, which fills the journal: each locked call that makes a
-// step is refused.
+// An action and two pages are taken, and a pass is acquired, which fills the journal: each locked call of a line that
+// makes a step is refused. The snapshot that follows each of them shows that it has left the lock.
 const FULL_AT_WORK: Example = Example {
     riders: 3,
     journal: 21,

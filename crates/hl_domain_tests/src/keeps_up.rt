@@ -1,8 +1,10 @@
-//! A pass that is kept up: no step enters while nothing is new, and a refresh does once something is.
+//! A pass that is kept up: no step enters while nothing is new, and a refresh does once something is, if the journal has
+//! room.
 use crate::jobs::{Anything, Pages, Tells, passed, released};
 use crate::opened::{Opening, Turn, make_over_both};
 use hl_domain::{Ending, Pass};
 use hl_epoch::Epochs;
+use hl_model::Fault;
 use hl_words::{Realm, Rider};
 use std::process::Abort;
 use std::sync::Wait;
@@ -24,9 +26,9 @@ impl Turn for KeepsUp {
         Ok(())
     }
 
-    // The steps of the pass, a bump and a raise.
+    // The steps of the pass, two bumps and a raise were cut, before the release.
     fn see(&self, rt: &impl Abort, ending: &Ending<Tells, Anything>) {
-        assert_eq!(rt; ending.journal.len(), 41);
+        assert!(rt; ending.cut == 41 && ending.journal.len() == 1);
     }
 }
 
@@ -39,6 +41,7 @@ fn keep_through<E: Epochs + Drop, L: Realm>(
 ) -> Result<Rider<L>, Fail> {
     let mut pass = passed(domain.enter(rt, rider))?;
     keep_while_it_moves(rt, domain, &mut pass, other);
+    refuse_while_full(rt, domain, &mut pass, other);
     Ok(released(domain.release(rt, pass))?)
 }
 
@@ -63,6 +66,19 @@ fn keep_while_it_moves<E: Epochs + Drop, L: Realm>(
     keep(rt, domain, pass, 38, 2);
 }
 
+// A bump fills the journal: neither the pass's refresh nor a lease has room, and neither keeps the lock.
+fn refuse_while_full<E: Epochs + Drop, L: Realm>(
+    rt: &(impl Wait + Abort),
+    domain: &Pages<E, L>,
+    pass: &mut Pass<L>,
+    other: &mut Rider<L>,
+) {
+    assert_eq!(rt; domain.bare(rt, other), Ok(2));
+    assert_eq!(rt; domain.keep_up(rt, pass), Err(Fault::JournalFull));
+    assert!(rt; matches!(domain.lease(rt, pass, 1), Err(Fault::JournalFull)));
+    assert_eq!(rt; domain.cut(rt, other), 41);
+}
+
 // Keeps the pass up: then it has entered so many steps in all, and its slot has this epoch.
 fn keep<E: Epochs + Drop, L: Realm>(
     rt: &(impl Wait + Abort),
@@ -78,5 +94,5 @@ fn keep<E: Epochs + Drop, L: Realm>(
 
 #[test]
 fn a_pass_keeps_up(rt: HostRuntime) -> Result<(), Fail> {
-    make_over_both(&rt, rt.alloc(), &Opening::small(100)?, &KeepsUp)
+    make_over_both(&rt, rt.alloc(), &Opening::small(41)?, &KeepsUp)
 }

@@ -5,8 +5,8 @@ use std::test::Fail;
 #[test]
 fn a_past_is_found_by_the_other_thread(rt: HostRuntime) -> Result<(), Fail> {
     for _ in 0..100_000 {
-        if let Some(found) = pass_anew(&rt, rt.alloc(), 41) {
-            assert_eq!(rt; found, 41);
+        if let Some(passed) = pass_anew(&rt, rt.alloc(), 41) {
+            assert_eq!(rt; passed.found, 41);
             return Ok(());
         }
     }

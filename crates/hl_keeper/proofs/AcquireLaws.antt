@@ -13,6 +13,7 @@ use Rattle.hl_model.specs.Views.{view_of}
 use Rattle.hl_model.specs.Replies.{fault_of, unless_fault}
 use Rattle.hl_laws.proofs.DrainLaws.{two_faults}
 use Rattle.hl_action.specs.Jobs.{KeptRecord}
+use Rattle.hl_words.specs.declared.view.Extent.{Extent}
 use Rattle.hl_words.specs.declared.view.OffsetWords.{OffsetWords}
 use Rattle.hl_words.specs.States.{RiderState}
 use Rattle.hl_core.specs.Standing.{State}
@@ -47,7 +48,7 @@ module _ {F : Type 0} (keeper : KeeperState F) (A : List Step) (t : ℕ) (st : K
       }
 
   -- its pass has the slot's stamp and view
-  pub acquire_made : (u : Unit {0}) (core : State (KeptRecord F)) (slot : Slot) (journal : JournalState) (stamps : List ℕ) (acquired : ℕ) (offsets : OffsetWords) (total called : ℕ) (rider after : RiderState) (pass : PassRecord) → Ok u ≡ unless_fault (room_fault keeper 1) (tt {0}) → Stepped job_tag keeper.core A (Acquire t) core (Ok (entered_reply slot))
+  pub acquire_made : (u : Unit {0}) (core : State (KeptRecord F)) (slot : Slot) (journal : JournalState) (stamps : List ℕ) (acquired : ℕ) (offsets : OffsetWords) (total : ℕ) (called : Extent) (rider after : RiderState) (pass : PassRecord) → Ok u ≡ unless_fault (room_fault keeper 1) (tt {0}) → Stepped job_tag keeper.core A (Acquire t) core (Ok (entered_reply slot))
       → journal ≡ with_steps (Acquire t ∷ []) (journal_of keeper) → acquired ≡ keeper.acquired + 1 → stamps ≡ set keeper.stamps t (keeper.stamp + acquired) → offsets ≡ keeper.offsets → total ≡ keeper.total + 1 → after ≡ with_share 1 rider → pass ≡ new_pass t (keeper.stamp + acquired) slot after
       → Replied (step_fault keeper A (Acquire t)) (acquired_pass keeper t rider A) (made (step_fault keeper A (Acquire t)) A (Acquire t)) (moved keeper core journal stamps acquired offsets total called) (Ok pass)
   acquire_made u core slot journal stamps acquired offsets total called rider after pass room stepped j a s o n r p =

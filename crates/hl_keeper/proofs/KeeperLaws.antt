@@ -8,9 +8,10 @@ use Rattle.hl_model.specs.Sizes.{Sizes}
 use Rattle.hl_model.specs.Offsets.{read_only, head}
 use Rattle.hl_laws.proofs.OffsetLaws.{read_only-nil, head-nil}
 use Rattle.hl_action.specs.Jobs.{KeptRecord}
+use Rattle.hl_words.specs.declared.view.Extent.{Extent}
 use Rattle.hl_words.specs.declared.view.OffsetWords.{OffsetWords}
-use Rattle.hl_words.specs.States.{MasterState}
-use Rattle.hl_words.specs.Views.{newest, no_offsets}
+use Rattle.hl_words.specs.States.{MasterState, new_master}
+use Rattle.hl_words.specs.Views.{newest}
 use Rattle.hl_core.specs.Standing.{State, Stands}
 use Rattle.hl_keeper.specs.Journals.{JournalState, journal_of, with_steps}
 use Rattle.hl_keeper.specs.Keepers.{job_tag, KeeperState, KeeperStands, steps_most}
@@ -23,7 +24,7 @@ use Rattle.hl_keeper.proofs.StampLaws.{acquires_in-nil, acquires_in-stay, slot_s
 
 module _ {F : Type 0} where
   -- a keeper that was just opened
-  pub opened : (core : State (KeptRecord F)) (journal : JournalState) (limit : ℕ) (stamps : List ℕ) (stamp : ℕ) (master : MasterState) (sizes : Sizes) → Stands job_tag core [] → core.sizes ≡ sizes → journal ≡ record { base = base_of sizes []; cut = 0; steps = []; limit = limit } → stamps ≡ replicate sizes.slots 0 → stamp ≤ steps_most → master ≡ record { offsets = no_offsets; total = 0; called = 0 }
+  pub opened : (core : State (KeptRecord F)) (journal : JournalState) (limit : ℕ) (stamps : List ℕ) (stamp : ℕ) (master : MasterState) (sizes : Sizes) → Stands job_tag core [] → core.sizes ≡ sizes → journal ≡ record { base = base_of sizes []; cut = 0; steps = []; limit = limit } → stamps ≡ replicate sizes.slots 0 → stamp ≤ steps_most → master ≡ new_master
       → KeeperStands {F = F} (record { core = core; base = journal.base; cut = journal.cut; journal = journal.steps; limit = journal.limit; stamps = stamps; stamp = stamp; acquired = 0; offsets = master.offsets; total = master.total; called = master.called }) []
   opened core journal limit stamps stamp master sizes st same j s most m = record {
     core_stands = st;
@@ -71,7 +72,7 @@ module _ {F : Type 0} where
   room-none keeper n h = full-none (journal_of keeper) n h
 
   -- a keeper whose core has gone on, with other stamps, offset words and counts
-  abbrev pub moved : KeeperState F → State (KeptRecord F) → JournalState → List ℕ → ℕ → OffsetWords → ℕ → ℕ → KeeperState F
+  abbrev pub moved : KeeperState F → State (KeptRecord F) → JournalState → List ℕ → ℕ → OffsetWords → ℕ → Extent → KeeperState F
   moved old core journal stamps acquired offsets total called = record { core = core; base = journal.base; cut = journal.cut; journal = journal.steps; limit = journal.limit; stamps = stamps; stamp = old.stamp; acquired = acquired; offsets = offsets; total = total; called = called }
 
   -- the count of acquires and the stamps are those of a list
@@ -87,7 +88,7 @@ module _ {F : Type 0} where
   }
 
   -- it stands where its core does
-  pub grown : (old : KeeperState F) (A xs : List Step) (core : State (KeptRecord F)) (journal : JournalState) (stamps : List ℕ) (acquired : ℕ) (offsets : OffsetWords) (total called : ℕ) → KeeperStands old A → room_fault old (length xs) ≡ None
+  pub grown : (old : KeeperState F) (A xs : List Step) (core : State (KeptRecord F)) (journal : JournalState) (stamps : List ℕ) (acquired : ℕ) (offsets : OffsetWords) (total : ℕ) (called : Extent) → KeeperStands old A → room_fault old (length xs) ≡ None
       → Stands job_tag core (A ++ xs) → core.sizes ≡ old.core.sizes → journal ≡ with_steps xs (journal_of old) → Stamped old (A ++ xs) stamps acquired
       → offsets ≡ stores_of (A ++ xs) → newest offsets.read_only ≡ read_only (A ++ xs) → newest offsets.head ≡ head (A ++ xs) → total ≡ old.total + length xs
       → KeeperStands (moved old core journal stamps acquired offsets total called) (A ++ xs)

@@ -13,6 +13,7 @@ use Rattle.hl_laws.proofs.ActionLaws.{bumps-push}
 use Rattle.hl_laws.proofs.NoFaultLaws.{unless_err, unless_ok, raise-none, shift-none}
 use Rattle.hl_laws.proofs.OffsetLaws.{read_only-stay, head-stay, read_only-raise, head-shift}
 use Rattle.hl_action.specs.Jobs.{KeptRecord}
+use Rattle.hl_words.specs.declared.view.Extent.{Extent}
 use Rattle.hl_words.specs.declared.view.OffsetWords.{OffsetWords}
 use Rattle.hl_words.specs.declared.which.Which.TheVariants.{ReadOnly, Head, Ended}
 use Rattle.hl_words.specs.Views.{newest, with_offset}
@@ -72,7 +73,7 @@ module _ {F : Type 0} where
       (step_fits keeper A s u room ∙ unless_err (fault_of keeper.core.sizes A s) f (answer_of keeper.core.sizes A (A ++ s ∷ []) s) stepped.reply)
 
   -- a keeper that accepted one step
-  pub core_made : {X : Type 0} (keeper : KeeperState F) (A : List Step) (s : Step) (u : Unit {0}) (core : State (KeptRecord F)) (r : Reply) (v x : X) (journal : JournalState) (stamps : List ℕ) (acquired : ℕ) (offsets : OffsetWords) (total called : ℕ)
+  pub core_made : {X : Type 0} (keeper : KeeperState F) (A : List Step) (s : Step) (u : Unit {0}) (core : State (KeptRecord F)) (r : Reply) (v x : X) (journal : JournalState) (stamps : List ℕ) (acquired : ℕ) (offsets : OffsetWords) (total : ℕ) (called : Extent)
       → KeeperStands keeper A → Ok u ≡ unless_fault (room_fault keeper 1) (tt {0}) → Stepped job_tag keeper.core A s core (Ok r) → v ≡ x → journal ≡ with_steps (s ∷ []) (journal_of keeper) → Stamped keeper (A ++ s ∷ []) stamps acquired → Follow A s offsets → total ≡ keeper.total + 1
       → Replied (step_fault keeper A s) x (made (step_fault keeper A s) A s) (moved keeper core journal stamps acquired offsets total called) (Ok v)
   core_made keeper A s u core r v x journal stamps acquired offsets total called st room stepped e j stamped follow t = record {

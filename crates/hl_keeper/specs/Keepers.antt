@@ -5,6 +5,7 @@ use Rattle.hl_model.specs.Sizes.{Sizes}
 use Rattle.hl_model.specs.Offsets.{read_only, head}
 use Rattle.hl_model.specs.Bases.{Base, base_of}
 use Rattle.hl_action.specs.Jobs.{KeptRecord}
+use Rattle.hl_words.specs.declared.view.Extent.{Extent}
 use Rattle.hl_words.specs.declared.view.OffsetWords.{OffsetWords}
 use Rattle.hl_words.specs.Views.{newest}
 use Rattle.hl_core.specs.Standing.{State, Stands}
@@ -17,7 +18,8 @@ job_tag kept = kept.tag
 
 -- what a keeper keeps: a core; the base of the steps that were cut, and how many these are; the steps since,
 -- and how many it may keep; each slot's stamp, the domain's own, and how many acquires were accepted; the
--- master's stores of its words, how many steps riders entered in all, and how many of them calls that were noted
+-- master's stores of its words, how many steps riders entered in all, and how many steps there were, and how many of
+-- them cut, when the newest call was noted
 pub record KeeperState (F : Type 0) : Type 0 where
   pub core : State (KeptRecord F)
   pub base : Base
@@ -29,7 +31,11 @@ pub record KeeperState (F : Type 0) : Type 0 where
   pub acquired : ℕ
   pub offsets : OffsetWords
   pub total : ℕ
-  pub called : ℕ
+  pub called : Extent
+
+-- how many steps there are, and how many of them are cut
+abbrev pub extent_of : {F : Type 0} → KeeperState F → Extent
+extent_of k = record { steps = k.total; cut = k.cut }
 
 -- the keeper once all calls were noted
 abbrev pub all_noted : {F : Type 0} → KeeperState F → KeeperState F
@@ -44,7 +50,7 @@ all_noted k = record {
   acquired = k.acquired;
   offsets = k.offsets;
   total = k.total;
-  called = k.total;
+  called = extent_of k;
 }
 
 -- how many steps a keeper counts in all, and the greatest stamp of a domain

@@ -5,9 +5,10 @@ ghost use Rattle.hl_model.specs.declared.fault.Fault.TheVariants.{OutOfMemory};
 ghost use Rattle.hl_model.specs.declared.step.Step.{Step as STEP};
 ghost use Rattle.hl_model.specs.Snapshots.{snapshot_of};
 ghost use Rattle.hl_history.specs.Lists.{IsOneList};
-ghost use Rattle.hl_words.specs.Rule.{IsRuled};
+ghost use Rattle.hl_words.specs.Rule.{IsRuledAt};
 ghost use Rattle.hl_words.specs.Seats.{IsKnown};
 ghost use Rattle.hl_words.specs.States.{AreTied, IsSeedOf, new_riders};
+ghost use Rattle.hl_words.specs.Views.{no_extent};
 ghost use Rattle.hl_keeper.specs.Keepers.{KeeperStands, steps_most};
 
 use crate::ending::Ending;
@@ -103,7 +104,7 @@ impl<E: Epochs + Drop, F: Task, P: Promise, L: Realm> Keeper<E, F, P, L> {
         ensures sizes { IfOk result (λ opened. opened.0.core.sizes ≡ seed.sizes) }
         ensures limit { IfOk result (λ opened. opened.0.limit ≡ journal) }
         ensures stamp { IfOk result (λ opened. (opened.0.stamp ≡ stamp) × (opened.0.acquired ≡ 0)) }
-        ensures called { IfOk result (λ opened. opened.0.called ≡ 0) }
+        ensures called { IfOk result (λ opened. opened.0.called ≡ no_extent) }
         ensures words { IfOk result (λ opened.
             opened.1 ≡ record { cells = seed.sizes.frames * seed.sizes.page_size; riders = seed.riders }) }
         ensures riders { IfOk result (λ opened. opened.2.items ≡ new_riders seed.riders) }
@@ -134,7 +135,7 @@ impl<E: Epochs + Drop, F: Task, P: Promise, L: Realm> Keeper<E, F, P, L> {
         ensures sizes { IfOk result (λ opened. opened.0.core.sizes ≡ seed.sizes) }
         ensures limit { IfOk result (λ opened. opened.0.limit ≡ journal) }
         ensures stamp { IfOk result (λ opened. (opened.0.stamp ≡ stamp) × (opened.0.acquired ≡ 0)) }
-        ensures called { IfOk result (λ opened. opened.0.called ≡ 0) }
+        ensures called { IfOk result (λ opened. opened.0.called ≡ no_extent) }
         ensures words { IfOk result (λ opened.
             opened.1 ≡ record { cells = seed.sizes.frames * seed.sizes.page_size; riders = seed.riders }) }
         ensures list { IfOk result (λ opened. opened.2 ≡ []) }
@@ -169,8 +170,8 @@ impl<E: Epochs + Drop, F: Task, P: Promise, L: Realm> Keeper<E, F, P, L> {
         ensures quantities { (A : List STEP) → KeeperStands self A
             → IfOk result (λ ending. ending.snapshot ≡ snapshot_of self.core.sizes A) }
         ensures sum { OnOk result (self.total ≡ sum_by (λ r. r.share) riders.items) }
-        ensures words { IfOk result (λ ending. IsRuled words.cells ending.words.words self.offsets
-            (map (λ r. r.view) riders.items)) }
+        ensures words { IfOk result (λ ending. IsRuledAt words.cells ending.words.words self.offsets
+            self.called (map (λ r. r.view) riders.items)) }
         ensures cells { IfOk result (λ ending. ending.words.cells ≡ words.cells) }
         ensures all { OnOk result (length riders.items ≡ words.riders) }
         ensures missing { IfErr result (λ _. length riders.items ≢ words.riders) }
@@ -231,8 +232,8 @@ impl<E: Epochs + Drop, F: Task, P: Promise, L: Realm> Keeper<E, F, P, L> {
         ensures quantities { (A : List STEP) → KeeperStands self A
             → IfOk result (λ ending. ending.snapshot ≡ snapshot_of self.core.sizes A) }
         ensures sum { OnOk result (self.total ≡ sum_by (λ r. r.share) riders.items) }
-        ensures words { IfOk result (λ ending. IsRuled words.cells ending.words.words self.offsets
-            (map (λ r. r.view) riders.items)) }
+        ensures words { IfOk result (λ ending. IsRuledAt words.cells ending.words.words self.offsets
+            self.called (map (λ r. r.view) riders.items)) }
         ensures cells { IfOk result (λ ending. ending.words.cells ≡ words.cells) }
         ensures list { OnOk result (IsOneList scribe (map (λ r. r.calls) riders.items)) }
         ensures tied { OnOk result (AllByRecursion (λ r. AreTied r.view.touches r.calls) riders.items) }

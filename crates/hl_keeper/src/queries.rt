@@ -29,6 +29,13 @@ impl<E: Epochs, F: Task, P: Promise, L: Realm> Keeper<E, F, P, L> {
         &self.journal.steps
     }
 
+    /// How many steps riders entered in all.
+    pub fn steps(&self) -> u64
+        ensures { (A : List STEP) → KeeperStands self.now A → result ≡ length A }
+    {
+        self.master.total()
+    }
+
     /// All quantities, the number of steps since the last cut, and the number of steps cut in all.
     pub fn snapshot(&self) -> (Snapshot, u64, u64)
         ensures quantities { (A : List STEP) → KeeperStands self.now A

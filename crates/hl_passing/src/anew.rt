@@ -1,8 +1,9 @@
 //! A value that is passed in words of its own.
-ghost use Rattle.std.specs.Prelude.{◌≡◌, ◌<◌, IfSome};
+ghost use Rattle.std.specs.Prelude.{ℕ, ◌≡◌, ◌<◌, IfSome};
 ghost use Rattle.hl_words.specs.States.{IsSeedOf};
+ghost use Rattle.hl_passing.specs.Passes.{IsPassed};
 
-use crate::{Letter, Opened, pass_value};
+use crate::{Letter, Opened, Passed, pass_value};
 use hl_model::Params;
 use hl_words::{Realm, Seed, Words};
 use std::alloc::Global;
@@ -13,8 +14,8 @@ use std::thread::Threads;
 /// Opens eight words, and passes a value from one thread to another, as [`pass_value`] tells.
 ///
 /// `None` if no past was there yet, or memory was refused.
-pub fn pass_anew<R: Threads + Wait + Sync>(rt: &R, alloc: Global, value: u64) -> Option<u64>
-    ensures { IfSome result (λ found. found ≡ value) }
+pub fn pass_anew<R: Threads + Wait + Sync>(rt: &R, alloc: Global, value: u64) -> Option<Passed>
+    ensures { IfSome result (λ passed. (cells : ℕ) × IsPassed cells 0 value passed) }
 {
     let params = Params::checked(4, 2, 1, 1)?;
     let seed = Seed::make(alloc, params, 2).ok()?;
@@ -22,13 +23,13 @@ pub fn pass_anew<R: Threads + Wait + Sync>(rt: &R, alloc: Global, value: u64) ->
 }
 
 // The same over the words of a seed.
-fn pass_over<R, L>(rt: &R, alloc: Global, seed: Seed, value: u64) -> Option<u64>
+fn pass_over<R, L>(rt: &R, alloc: Global, seed: Seed, value: u64) -> Option<Passed>
 where
     R: Threads + Wait + Sync,
     L: Realm + Send + Sync,
     requires seed { IsSeedOf L.name L.parts L.table seed }
     requires two { (seed.riders ≡ 2) × (0 < seed.cells) }
-    ensures { IfSome result (λ found. found ≡ value) }
+    ensures { IfSome result (λ passed. (cells : ℕ) × IsPassed cells 0 value passed) }
 {
     let (words, master, mut riders) = Words::<L>::open(alloc, seed).ok()?;
     let two = riders.pop()?;

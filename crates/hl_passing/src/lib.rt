@@ -11,10 +11,11 @@ mod anew;
 ghost use Rattle.std.specs.Prelude.{◌≡◌, ◌<◌, IfSome, length};
 ghost use Rattle.hl_words.specs.declared.view.Touch.TheVariants.{Met as MET};
 ghost use Rattle.hl_words.specs.Views.{fresh, stored, touched, loaded};
+ghost use Rattle.hl_passing.specs.Passes.{IsPassed};
 
 pub use anew::pass_anew;
 use hl_words::past_laws::loads_of_told;
-use hl_words::{Master, Past, Realm, Rider, Words};
+use hl_words::{LastWords, Master, Past, Realm, Rider, Words};
 use std::alloc::Global;
 use std::sync::{Mutex, Wait};
 use std::thread::{Threads, join};
@@ -39,6 +40,15 @@ pub struct Letter {
     pub cell: u64,
     /// The value.
     pub value: u64,
+}
+
+/// A value that was passed.
+#[derive(Drop)]
+pub struct Passed {
+    /// The value that the second thread found.
+    pub found: u64,
+    /// The words at their end.
+    pub last: LastWords,
 }
 
 // The past of the rider of the name 0, which has one touch.
@@ -89,16 +99,16 @@ fn load_told<L: Realm>(
 }
 
 /// One thread stores a value and leaves its past under a plain lock; the other loads the cell if it finds that past, and
-/// then finds the value.
+/// then finds the value. Neither does anything else, and the words are ended with both.
 ///
 /// `None` if no past was there yet, if memory was refused, or if the words have a rider that is none of these two.
-pub fn pass_value<R, L>(rt: &R, alloc: Global, opened: Opened<L>, letter: Letter) -> Option<u64>
+pub fn pass_value<R, L>(rt: &R, alloc: Global, opened: Opened<L>, letter: Letter) -> Option<Passed>
 where
     R: Threads + Wait + Sync,
     L: Realm + Send + Sync,
     requires cell { letter.cell < opened.words.cells }
     requires new { (opened.one.view ≡ fresh 0) × (opened.two.view ≡ fresh 1) }
-    ensures { IfSome result (λ found. found ≡ letter.value) }
+    ensures { IfSome result (IsPassed opened.words.cells letter.cell letter.value) }
 {
     loads_of_told();
     let Opened {
@@ -126,8 +136,7 @@ where
     let mut riders = Vec::new(alloc);
     riders.push(one).ok()?;
     riders.push(two).ok()?;
-    match words.close(master, riders) {
-        Ok(_) => found,
-        Err(_) => None,
-    }
+    let found = found?;
+    let last = words.close(master, riders).ok()?;
+    Some(Passed { found, last })
 }

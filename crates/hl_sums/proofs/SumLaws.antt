@@ -10,14 +10,14 @@ use Rattle.hl_words.specs.declared.view.RiderView.{RiderView}
 use Rattle.hl_words.specs.Rule.{EachRider}
 use Rattle.hl_words.specs.States.{RiderState}
 use Rattle.hl_words.specs.Laws.{AddsUp, AddsAddUp, NoAddIsLost}
-use Rattle.hl_keeper.specs.Endings.{EndingState}
 use Rattle.hl_keeper.specs.Passes.{PassRecord, cell_at, with_change}
 use Rattle.hl_domain.specs.Domains.{with_entry, IsEnding}
-use Rattle.hl_sums.specs.Adding.{AddsMore, AddsNothing}
+use Rattle.hl_sums.specs.declared.Sums.{Sums}
+use Rattle.hl_sums.specs.Adding.{AddsMore, AddsNothing, Added, AddedUp}
 
 -- a call touches no cell
-pub call_adds_nothing : (list steps : List Step) (old new : RiderState) → new ≡ with_entry list steps old → AddsNothing old.view.touches new.view.touches
-call_adds_nothing list steps old new is cell total h = subst (λ (r : RiderState). AddsUp cell total r.view.touches) (sym is) h
+pub call_adds_nothing : (was now : ℕ) (list steps : List Step) (old new : RiderState) → new ≡ with_entry was now list steps old → AddsNothing old.view.touches new.view.touches
+call_adds_nothing was now list steps old new is cell total h = subst (λ (r : RiderState). AddsUp cell total r.view.touches) (sym is) h
 
 module _ (cell : ℕ) where
   -- nothing is a sum of 0
@@ -66,13 +66,26 @@ sum_of_two word s t a b w p q =
     let is : word ≡ (a + b) % 2 ^ 64 = w ∙ ap (λ n. n % 2 ^ 64) both in
     omega (arith, is, p, q)
 
+-- what a rider's touches add up to that added so much to nothing
+added_in_all : (cell s : ℕ) (first touches : List Touch) → AddsUp cell 0 first → AddsMore cell s first touches → Added cell s touches
+added_in_all cell s first touches none a = record { total = 0 + a.more; sum_is = omega (arith, a.sum_is); adds_up = a.adds_up 0 none }
+
 -- what a cell holds where a domain was closed, to which both of its riders added
-pub ends_at_sum : {F : Type 0} → NoAddIsLost → (sizes : Sizes) (riders : List RiderState) (one two : RiderState) (ending : EndingState F) (cell s t : ℕ) (first second : List Touch) → IsEnding sizes riders ending → riders ≡ one ∷ two ∷ [] → cell < ending.words.cells
-    → AddsUp cell 0 first → AddsUp cell 0 second → AddsMore cell s first one.view.touches → AddsMore cell t second two.view.touches
-    → slice_index ending.words.words cell ≡ (s + t) % 2 ^ 64
-ends_at_sum law sizes riders one two ending cell s t first second ends are less first_none second_none a b =
+pub ends_at_sum : {F P : Type 0} → NoAddIsLost → (sizes : Sizes) (riders : List RiderState) (one two : RiderState) (cell : ℕ) (sums : Sums F P) (first second : List Touch) → IsEnding sizes riders sums.ending → riders ≡ one ∷ two ∷ [] → cell < sums.ending.words.cells
+    → AddsUp cell 0 first → AddsUp cell 0 second → AddsMore cell sums.first first one.view.touches → AddsMore cell sums.second second two.view.touches → sums.word ≡ slice_index sums.ending.words.words cell
+    → AddedUp sizes cell sums
+ends_at_sum law sizes riders one two cell sums first second ends are less first_none second_none a b held =
+    let ending = sums.ending in
     let end : IsEnding sizes (one ∷ two ∷ []) ending = subst (λ l. IsEnding sizes l ending) are ends in
-    let m = 0 + a.more in
-    let n = 0 + b.more in
-    let word = law ending.words.cells ending.words.words _ (one.view ∷ two.view ∷ []) cell (m ∷ n ∷ []) end.ruled less refl (each_of_two cell m n one.view two.view (a.adds_up 0 first_none) (b.adds_up 0 second_none)) in
-    sum_of_two (slice_index ending.words.words cell) s t m n word (omega (arith, a.sum_is)) (omega (arith, b.sum_is))
+    let p = added_in_all cell sums.first first one.view.touches first_none a in
+    let q = added_in_all cell sums.second second two.view.touches second_none b in
+    let word = law ending.words.cells ending.words.words _ (one.view ∷ two.view ∷ []) cell (p.total ∷ q.total ∷ []) end.ruled.rule less refl (each_of_two cell p.total q.total one.view two.view p.adds_up q.adds_up) in
+    record {
+      one = one;
+      two = two;
+      ends = end;
+      first_is = p;
+      second_is = q;
+      word_is = held;
+      sum_is = held ∙ sum_of_two (slice_index ending.words.words cell) sums.first sums.second p.total q.total word p.sum_is q.sum_is;
+    }

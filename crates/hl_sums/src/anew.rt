@@ -1,7 +1,8 @@
 //! Two threads that add to a counter of a new domain of their own.
-ghost use Rattle.std.specs.Prelude.{◌≡◌, ◌+◌, ◌%◌, ◌^◌, IfSome};
+ghost use Rattle.std.specs.Prelude.{ℕ, ◌≡◌, IfSome};
 ghost use Rattle.hl_words.specs.States.{IsSeedOf};
-ghost use Rattle.hl_sums.specs.Adding.{AddsNothing};
+ghost use Rattle.hl_model.specs.Sizes.{Sizes as SIZES};
+ghost use Rattle.hl_sums.specs.Adding.{AddsNothing, AddedUp};
 
 use crate::adder::leave;
 use crate::{Adds, Sums, add_by_two};
@@ -30,8 +31,8 @@ pub fn add_anew<R: Threads + Wait + Sync>(
     alloc: Global,
     first: &[u64],
     second: &[u64],
-) -> Option<Sums>
-    ensures { IfSome result (λ sums. sums.word ≡ (sums.first + sums.second) % 2 ^ 64) }
+) -> Option<Sums<NoJob, AnyAnswer>>
+    ensures { IfSome result (λ sums. (sizes : SIZES) × (cell : ℕ) × AddedUp sizes cell sums) }
 {
     let params = Params::checked(4, 2, 2, 1)?;
     let seed = Seed::make(alloc, params, 2).ok()?;
@@ -39,14 +40,20 @@ pub fn add_anew<R: Threads + Wait + Sync>(
 }
 
 // The same over the words of a seed.
-fn add_over<R, L>(rt: &R, alloc: Global, seed: Seed, first: &[u64], second: &[u64]) -> Option<Sums>
+fn add_over<R, L>(
+    rt: &R,
+    alloc: Global,
+    seed: Seed,
+    first: &[u64],
+    second: &[u64],
+) -> Option<Sums<NoJob, AnyAnswer>>
 where
     R: Threads + Wait + Sync,
     L: Realm + Send + Sync,
     requires seed { IsSeedOf L.name L.parts L.table seed }
     requires both { seed.riders ≡ 2 }
     requires named { (seed.sizes ≡ L.sizes) × (2000 ≡ L.stamp) × (71 ≡ L.limit) }
-    ensures { IfSome result (λ sums. sums.word ≡ (sums.first + sums.second) % 2 ^ 64) }
+    ensures { IfSome result (λ sums. (sizes : SIZES) × (cell : ℕ) × AddedUp sizes cell sums) }
 {
     let (domain, mut riders) = Domain::<CountTable, NoJob, AnyAnswer, L>::open(
         alloc, seed, JOURNAL, STAMP,

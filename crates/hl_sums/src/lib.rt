@@ -14,29 +14,31 @@
 mod adder;
 mod anew;
 
-ghost use Rattle.std.specs.Prelude.{◌≡◌, ◌+◌, ◌%◌, ◌^◌, IfSome};
+ghost use Rattle.std.specs.Prelude.{◌≡◌, IfSome};
 ghost use Rattle.hl_words.specs.Laws.{AddsUp};
 ghost use Rattle.hl_keeper.specs.Passes.{cell_at};
-ghost use Rattle.hl_sums.specs.Adding.{AddsMore};
+ghost use Rattle.hl_sums.specs.Adding.{AddsMore, AddedUp};
 
 use adder::add_all;
 pub use anew::add_anew;
-use hl_domain::{Domain, Epochs, Promise, Realm, Rider, Task};
+use hl_domain::{Domain, Ending, Epochs, Promise, Realm, Rider, Task};
 use hl_model::cell_of;
 use hl_words::laws;
 use std::alloc::Global;
 use std::sync::Wait;
 use std::thread::{Threads, join};
 
-/// What two threads say that they added to a counter, and the counter's word.
-#[derive(Clone, Copy, Debug, PartialEq, Eq)]
-pub struct Sums {
+/// What two threads say that they added to a counter, the counter's word, and what is left of its domain.
+#[derive(Drop)]
+pub struct Sums<F: Task, P: Promise> {
     /// What the first thread says that it added in all, modulo 2^64.
     pub first: u64,
     /// What the second thread says that it added in all, modulo 2^64.
     pub second: u64,
     /// What the counter's word is once the domain was closed.
     pub word: u64,
+    /// What is left of the domain.
+    pub ending: Ending<F, P>,
 }
 
 /// A counter, and the numbers that two threads are to add to it.
@@ -50,9 +52,9 @@ pub struct Adds<'a> {
     pub second: &'a [u64],
 }
 
-/// Each of a domain's two riders adds its numbers to a counter, in a thread of its own; then the domain is closed. The
-/// counter's word is the sum of what the two threads say that they added. Before, the riders did nothing to the
-/// counter's cell, or added 0 in all.
+/// Each of a domain's two riders adds its numbers to a counter, in a thread of its own; then the domain is closed. What
+/// each thread says that it added is what its rider's adds make in all, and the counter's word is the sum of both. Before,
+/// the riders did nothing to the counter's cell, or added 0 in all.
 ///
 /// A number whose add was refused, as where the pass has no room for a touch, is in no sum. That an add is accepted is
 /// not proved.
@@ -65,7 +67,7 @@ pub fn add_by_two<R, E, F, P, L>(
     one: Rider<L>,
     two: Rider<L>,
     adds: Adds<'_>,
-) -> Option<Sums>
+) -> Option<Sums<F, P>>
 where
     R: Threads + Wait + Sync,
     E: Epochs + Drop + Send,
@@ -75,7 +77,7 @@ where
     requires both { domain.riders ≡ 2 }
     requires new { let cell = cell_at domain.sizes adds.counter
         in AddsUp cell 0 one.view.touches × AddsUp cell 0 two.view.touches }
-    ensures { IfSome result (λ sums. sums.word ≡ (sums.first + sums.second) % 2 ^ 64) }
+    ensures { IfSome result (AddedUp domain.sizes (cell_at domain.sizes adds.entry.counter)) }
 {
     let Adds {
         counter,
@@ -106,5 +108,6 @@ where
         first,
         second,
         word: ending.words.cell(cell),
+        ending,
     })
 }

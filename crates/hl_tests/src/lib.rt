@@ -1,17 +1,19 @@
 //! The tests of the parts that the core and scripts are made of, of what no clause says: refused memory,
 //! devices that fail, no fault at the greatest numbers, drops, printed text, exact turns, and one happy path of
 //! what the built program doesn't call. Each module tries the crate that it is named after, `tables` both tables
-//! of epochs, `report` that of `hl_monitor`, `refused` the type of `hl` for refusals, `tickets` the call of `hl_tickets`
-//! once. What else a clause says is tested nowhere; that the clauses mean what was meant is shown by the examples that
-//! the built program is run on.
+//! of epochs, `report` that of `hl_monitor`, `refused` the type of `hl` for refusals, `log` its threads, `crew` its crew,
+//! `tickets` the calls of `hl_tickets` once. What else a clause says is tested nowhere; that the clauses mean what was
+//! meant is shown by the examples that the built program is run on.
 //!
 //! This crate has no code beside its tests: a crate with tests is proved twice, so only this one,
 //! `hl_run_tests`, `hl_domain_tests` and `hl_crew_tests` have any. It stands on every part that the program needs,
-//! on `hl` for the text of a refusal, and on `hl_tickets`.
+//! on `hl`, and on `hl_tickets`.
 #![tactic(auto)]
 
 #[cfg(test)]
 mod action;
+#[cfg(test)]
+mod crew;
 #[cfg(test)]
 mod drain;
 #[cfg(test)]
@@ -20,6 +22,8 @@ mod frames;
 mod image;
 #[cfg(test)]
 mod line;
+#[cfg(test)]
+mod log;
 #[cfg(test)]
 mod offsets;
 #[cfg(test)]

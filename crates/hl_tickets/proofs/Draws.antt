@@ -1,10 +1,10 @@
 -- Calls of one list that made one bump each were answered different tickets.
-use Rattle.std.proofs.Common.{◌≡◌, ◌≢◌, ℕ, zero, suc, ◌+◌, ◌<◌, ◌≤◌, Bool, true, false, List, [], ◌∷◌, ◌++◌, map, length, slice_index, slice_index_or, refl, ap, sym, ◌∙◌, subst, arith, append_assoc, length-append, ltb-true, ltb-false, Some, Ok, Err, Result, IfOk, MatchResult, Vec, Global}
+use Rattle.std.proofs.Common.{◌≡◌, ◌≢◌, ℕ, zero, suc, ◌+◌, ◌<◌, ◌≤◌, Bool, true, false, List, [], ◌∷◌, ◌++◌, map, length, slice_index, slice_index_or, refl, ap, sym, ◌∙◌, subst, arith, append_assoc, length-append, ltb-true, ltb-false, Some, Ok, Err, Result, IfOk, MatchResult, slice_get, Vec, Global}
 use Rattle.std.specs.Prelude.{nat_lt, ◌&&◌, if◌then◌else◌}
 use Rattle.std.specs.List.{AllByRecursion as Every, sum_by}
-use Rattle.std.specs.Result.{result_ok}
 use Rattle.std.proofs.lemmas.Bool.{lt-ltb, le-leb}
 use Rattle.std.proofs.lemmas.List.{get_or-map, length-map}
+use Rattle.std.proofs.lemmas.Option.{slice_get_within, get_or_from_slice_get, slice_get-get_or}
 use Rattle.std.proofs.lemmas.List.Sums.{sum_by-cons, sum_by-append, get_or-le-sum_by}
 use Rattle.hl_model.specs.declared.fault.Fault.{Fault}
 use Rattle.hl_model.specs.declared.fault.Fault.TheVariants.{Stranger}
@@ -21,10 +21,9 @@ use Rattle.hl_keeper.specs.Endings.{EndingState}
 use Rattle.hl_domain.specs.Domains.{DomainState, IsEnding}
 use Rattle.hl.specs.declared.open.Closed.{Closed}
 use Rattle.hl.specs.declared.opening.Opening.{Opening}
-use Rattle.hl.specs.Sessions.{SessionState}
 use Rattle.hl.specs.Openings.{opened_as}
-use Rattle.hl.specs.Closings.{rider_at, IsClosed, Stood, Tells, AllReturned}
-use Rattle.hl_tickets.specs.Tickets.{Bumped, AreTickets}
+use Rattle.hl.specs.Closings.{rider_at, IsClosed, Stood, Tells, AllReturned, AreAllReturned}
+use Rattle.hl_tickets.specs.Tickets.{bumps_once, AreTickets}
 use Rattle.hl_tickets.proofs.Numbers.{all_there}
 
 abbrev bump_at : List Step → Entry
@@ -50,12 +49,12 @@ shorter_begins (x ∷ xs) (y ∷ ys) (z ∷ zs) h k le =
     let r = shorter_begins xs ys zs (h.0, a) (k.0, b) (omega (arith, le)) in
     (r.0, ap (λ (u : Step). u ∷ ys) same ∙ ap (λ l. x ∷ l) r.1)
 
-bumps-append : (xs ys : List Step) → bumps (xs ++ ys) ≡ bumps xs + bumps ys
+pub bumps-append : (xs ys : List Step) → bumps (xs ++ ys) ≡ bumps xs + bumps ys
 unfolding bumps
 bumps-append xs ys = sum_by-append (λ s. if is_bump s then 1 else 0) xs ys
 
 -- one more bump
-one_more : (list : List Step) → bumps (list ++ Settle ∷ []) ≡ bumps list + 1
+pub one_more : (list : List Step) → bumps (list ++ Settle ∷ []) ≡ bumps list + 1
 one_more list = bumps-push list Settle
 
 -- two places of a sum
@@ -66,7 +65,7 @@ sum_two f (x ∷ xs) zero (suc j) d less within = omega (arith, sum_by-cons f x 
 sum_two f (x ∷ xs) (suc i) zero d less within = absurd (omega (arith, less))
 sum_two f (x ∷ xs) (suc i) (suc j) d less within = omega (arith, sum_by-cons f x xs, sum_two f xs i j d (omega (arith, less)) (omega (arith, within)))
 
-every_at : {X : Type 0} (P : X → Type 0) (xs : List X) (i : ℕ) (d : X) → Every P xs → i < length xs → P (slice_index_or xs i d)
+pub every_at : {X : Type 0} (P : X → Type 0) (xs : List X) (i : ℕ) (d : X) → Every P xs → i < length xs → P (slice_index_or xs i d)
 every_at P [] i d h within = absurd (omega (arith, within))
 every_at P (x ∷ xs) zero d h within = h.0
 every_at P (x ∷ xs) (suc i) d h within = every_at P xs i d h.1 (omega (arith, within))
@@ -123,12 +122,8 @@ module _ (A : List Step) (diaries : List (List Entry)) (one : IsOneList A diarie
           omega (arith, below, equal)
       by_test false false p q = unlike (omega (arith, ltb-false (length d.list) (length e.list) p, ltb-false (length e.list) (length d.list) q))
 
--- what a thread's session is said to have done
-abbrev pub Bumps : ℕ → SessionState → SessionState → Result ℕ Fault → Type 0
-Bumps number first last out = IfOk out (Bumped first.pass.rider.calls last.pass.rider.calls)
-
 -- a thread's rider drew its ticket
-drawn_of : {J : Type 0} (log : DomainState) (number : ℕ) (old new : RiderState) (ticket : ℕ) → Stood J log (Bumps number) old (Ok new) (Ok ticket) → Drawn new.calls ticket
+drawn_of : {J : Type 0} (log : DomainState) (number : ℕ) (old new : RiderState) (ticket : ℕ) → Stood J log (bumps_once number) old (Ok new) (Ok ticket) → Drawn new.calls ticket
 drawn_of log number old new ticket s =
     let newest = entry s.met.list (s.last.pass.touches ++ Release s.last.pass.slot ∷ []) in
     record {
@@ -139,63 +134,60 @@ drawn_of log number old new ticket s =
       ticket_is = s.ran.ticket_is;
     }
 
-module _ {F J : Type 0} (o : Opening Sizes) (outs : List (Result (Result ℕ Fault) Fault)) (riders : List RiderState) (ending : EndingState F) (tickets : List ℕ) (epoch : ℕ) (all : AllReturned J (opened_as o) Bumps outs riders) (end : IsEnding o.params riders ending) (are : outs ≡ map (λ t. Ok (Ok t)) tickets) (at_end : epoch ≡ ending.snapshot.epoch) where
-  many : length outs ≡ length tickets
-  many = ap length are ∙ length-map tickets (λ t. Ok (Ok t))
+module _ {F J : Type 0} (o : Opening Sizes) (outs : List (Result (Result ℕ Fault) Fault)) (riders : List RiderState) (ending : EndingState F) (all : AllReturned J (opened_as o) bumps_once outs riders) (end : IsEnding o.params riders ending) where
+  abbrev calls_of : List (List Entry)
+  calls_of = map (λ r. r.calls) riders
 
-  inside : (n : ℕ) → n < length tickets → n < length riders
-  inside n within = omega (arith, within, many, all.threads, all.back)
+  long : length calls_of ≡ length outs + 4
+  long = length-map riders (λ r. r.calls) ∙ all.back ∙ sym all.threads
 
-  drawn : (n : ℕ) → n < length tickets → Drawn (slice_index_or (map (λ r. r.calls) riders) n []) (slice_index tickets n)
-  drawn n within =
-      let t = slice_index tickets n in
-      let is : slice_index_or outs n (Ok (Ok 0)) ≡ Ok (Ok t) = ap (λ l. slice_index_or l n (Ok (Ok 0))) are ∙ get_or-map (λ t. Ok (Ok t)) tickets n 0 (Ok (Ok 0)) within in
-      let told = all.each n (Ok (Ok 0)) (omega (arith, within, many)) in
-      let mine = drawn_of (opened_as o) n (new_rider n) (rider_at riders n) t (subst (λ (x : Result (Result ℕ Fault) Fault). Tells J (opened_as o) (Bumps n) (new_rider n) (rider_at riders n) x) is told) in
-      subst (λ d. Drawn d t) (sym (get_or-map (λ r. r.calls) riders n (new_rider n) [] (inside n within))) mine
+  drawn : (n t : ℕ) → slice_get outs n ≡ Some (Ok (Ok t)) → Drawn (slice_index_or calls_of n []) t
+  drawn n t at =
+      let within = slice_get_within outs n (Ok (Ok t)) at in
+      let told = all.each n (Ok (Ok 0)) within in
+      let is : slice_index_or outs n (Ok (Ok 0)) ≡ Ok (Ok t) = get_or_from_slice_get outs n (Ok (Ok t)) (Ok (Ok 0)) at in
+      let mine = drawn_of (opened_as o) n (new_rider n) (rider_at riders n) t (subst (λ (x : Result (Result ℕ Fault) Fault). Tells J (opened_as o) (bumps_once n) (new_rider n) (rider_at riders n) x) is told) in
+      subst (λ d. Drawn d t) (sym (get_or-map (λ r. r.calls) riders n (new_rider n) [] (omega (arith, within, all.threads, all.back)))) mine
 
-  apart : (i j : ℕ) → i < j → j < length tickets → slice_index tickets i ≢ slice_index tickets j
-  apart i j less within =
+  apart : (i j a b : ℕ) → i < j → slice_get outs i ≡ Some (Ok (Ok a)) → slice_get outs j ≡ Some (Ok (Ok b)) → a ≢ b
+  apart i j a b less first second =
+      two_apart (end.steps_cut ++ ending.journal) calls_of end.one_list i j less (omega (arith, long, slice_get_within outs j (Ok (Ok b)) second)) a b (drawn i a first) (drawn j b second)
+
+  within : (i a : ℕ) → slice_get outs i ≡ Some (Ok (Ok a)) → (1 ≤ a) × (a < ending.snapshot.epoch)
+  within i a at =
       let A : List Step = end.steps_cut ++ ending.journal in
-      let ds : List (List Entry) = map (λ r. r.calls) riders in
-      let long : length ds ≡ length riders = length-map riders (λ r. r.calls) in
-      two_apart A ds end.one_list i j less (omega (arith, long, inside j within)) (slice_index tickets i) (slice_index tickets j) (drawn i (omega (arith, less, within))) (drawn j within)
-
-  within : (i : ℕ) → i < length tickets → (1 ≤ slice_index tickets i) × (slice_index tickets i < epoch)
-  within i here =
-      let A : List Step = end.steps_cut ++ ending.journal in
-      let ds : List (List Entry) = map (λ r. r.calls) riders in
-      let long : length ds ≡ length riders = length-map riders (λ r. r.calls) in
-      let last : epoch ≡ current_epoch A = at_end ∙ ap (λ s. s.epoch) end.snapshot_is in
-      let d = drawn i here in
-      let h = begins_drawn A (slice_index_or ds i []) (slice_index tickets i) d (every_at (IsOf A) ds i [] end.one_list.each (omega (arith, long, inside i here))) in
+      let last : ending.snapshot.epoch ≡ current_epoch A = ap (λ s. s.epoch) end.snapshot_is in
+      let d = drawn i a at in
+      let h = begins_drawn A (slice_index_or calls_of i []) a d (every_at (IsOf A) calls_of i [] end.one_list.each (omega (arith, long, slice_get_within outs i (Ok (Ok a)) at))) in
       let n : bumps A ≡ bumps (d.list ++ Settle ∷ []) + bumps h.0 = ap bumps h.1 ∙ bumps-append (d.list ++ Settle ∷ []) h.0 in
       (omega (arith, d.ticket_is, one_more d.list), omega (arith, d.ticket_is, n, last, current_epoch-bumps A))
 
-  tickets_of : AreTickets o.riders tickets epoch
+  -- a ticket at its place among answers that are all tickets
+  ticket_at : (tickets : List ℕ) → outs ≡ map (λ t. Ok (Ok t)) tickets → (i : ℕ) → i < length tickets → slice_get outs i ≡ Some (Ok (Ok (slice_index tickets i)))
+  ticket_at tickets are i inside =
+      ap (λ l. slice_get l i) are ∙ slice_get-get_or (map (λ t. Ok (Ok t)) tickets) i (Ok (Ok 0)) (omega (arith, inside, length-map {B = Result (Result ℕ Fault) Fault} tickets (λ t. Ok (Ok t)))) ∙ ap Some (get_or-map (λ t. Ok (Ok t)) tickets i 0 (Ok (Ok 0)) inside)
+
+  tickets_of : AreTickets o.riders outs ending.snapshot.epoch
   tickets_of =
       record {
-        many = omega (arith, many, all.threads);
+        many = all.threads;
         apart = apart;
         within = within;
-        all = λ exact. all_there tickets (length tickets) refl (λ i here. (let w = within i here in (w.0, omega (arith, w.1, exact)))) apart;
+        all = λ tickets are exact. all_there tickets (length tickets) refl
+            (λ i here. (let w = within i (slice_index tickets i) (ticket_at tickets are i here) in (w.0, omega (arith, w.1, exact))))
+            (λ i j less inside. apart i j (slice_index tickets i) (slice_index tickets j) less (ticket_at tickets are i (omega (arith, less, inside))) (ticket_at tickets are j inside));
       }
 
--- a result whose value is there
-pub ok_is : {X Y : Type 0} (r : Result X Y) (x : X) → Some x ≡ result_ok r → r ≡ Ok x
-ok_is (Ok y) x e = cc
-ok_is (Err y) x e = absurd cc
-
--- what the threads' log left, where no thread was refused
-pub tickets_left : {F : Type 0} (J : Type 0) (o : Opening Sizes) (result : Result (Closed (Result (Vec (Result (Result ℕ Fault) Fault) Global) Fault) F) Fault) (closed : Closed (Result (Vec (Result (Result ℕ Fault) Fault) Global) Fault) F)
-    (outs : Vec (Result (Result ℕ Fault) Fault) Global) (ending : EndingState F) (tickets : List ℕ) (epoch : ℕ)
-    → result ≡ Ok closed → closed.out ≡ Ok outs → closed.ending ≡ Ok ending → outs.items ≡ map (λ t. Ok (Ok t)) tickets → epoch ≡ ending.snapshot.epoch
-    → IfOk result (IsClosed o (λ out riders. IfOk out (λ outs. AllReturned J (opened_as o) Bumps outs.items riders)))
-    → AreTickets o.riders tickets epoch
-tickets_left {F} J o result closed outs ending tickets epoch opened outs_are ending_is are at_end told =
-    let left : IsClosed o (λ out riders. IfOk out (λ outs. AllReturned J (opened_as o) Bumps outs.items riders)) closed =
-    subst (λ k. IfOk k (IsClosed o (λ out riders. IfOk out (λ outs. AllReturned J (opened_as o) Bumps outs.items riders)))) opened told in
-    let riders = left.riders in
-    let all : AllReturned J (opened_as o) Bumps outs.items riders = subst (λ k. IfOk k (λ outs. AllReturned J (opened_as o) Bumps outs.items riders)) outs_are left.left in
-    let end = subst (λ k. MatchResult k (λ ending. (length riders ≡ o.riders) × IsEnding o.params riders ending) (λ fault. (fault ≡ Stranger o.stamp) × (length riders ≢ o.riders))) ending_is left.ending in
-    tickets_of o outs.items riders ending tickets epoch all end.1 are at_end
+-- what the threads' log left
+pub tickets_left : {F : Type 0} (J : Type 0) (o : Opening Sizes) (result : Result (Closed (Result (Vec (Result (Result ℕ Fault) Fault) Global) Fault) F) Fault)
+    → IfOk result (IsClosed o (AreAllReturned J (opened_as o) bumps_once))
+    → IfOk result (λ drawn. IfOk drawn.out (λ outs. IfOk drawn.ending (λ ending. AreTickets o.riders outs.items ending.snapshot.epoch)))
+tickets_left {F} J o (Ok closed) told = by_parts closed.out closed.ending told.riders told.left told.ending
+  where
+    by_parts : (out : Result (Vec (Result (Result ℕ Fault) Fault) Global) Fault) (ending : Result (EndingState F) Fault) (riders : List RiderState) → AreAllReturned J (opened_as o) bumps_once out riders
+        → MatchResult ending (λ ending. (length riders ≡ o.riders) × IsEnding o.params riders ending) (λ fault. (fault ≡ Stranger o.stamp) × (length riders ≢ o.riders))
+        → IfOk out (λ outs. IfOk ending (λ ending. AreTickets o.riders outs.items ending.snapshot.epoch))
+    by_parts (Ok outs) (Ok ending) riders all end = tickets_of o outs.items riders ending all end.1
+    by_parts (Ok outs) (Err fault) riders all end = tt
+    by_parts (Err fault) ending riders all end = tt
+tickets_left J o (Err fault) told = tt

@@ -2,12 +2,24 @@
 //!
 //! No two threads are answered the same ticket, and each ticket is at least 1 and below the epoch at the end. The
 //! crew bumps too, so that a ticket may be greater than the number of threads.
+//!
+//! [`draw_in_turn`] has an order: a thread tells another how many steps there were after its bump, through a plain lock,
+//! and the other sees that there are no fewer before its own. Then its own ticket is greater.
 #![tactic(auto)]
 
-ghost use Rattle.std.specs.Prelude.{◌≡◌, map, IfSome, Ok};
-ghost use Rattle.hl_tickets.specs.Tickets.{AreTickets};
+mod in_turn;
 
-use hl::{Ask, Duty, Fault, HasSizes, NoJob, Opening, Realm, Session, Work, with_threads};
+ghost use Rattle.std.specs.Prelude.{◌≡◌, true, false, Err, IfOk, IfErr};
+ghost use Rattle.hl_model.specs.declared.fault.Fault.TheVariants.{OutOfMemory, Size};
+ghost use Rattle.hl.specs.Openings.{of_sizes, opened_as};
+ghost use Rattle.hl.specs.Crews.{can_run};
+ghost use Rattle.hl.specs.Closings.{IsClosed, AreAllReturned};
+ghost use Rattle.hl_tickets.specs.Tickets.{Bumped, bumps_once, AreTickets};
+
+use hl::{
+    Ask, Closed, Duty, Fault, HasSizes, NoJob, Opening, Outs, Realm, Session, Work, with_threads,
+};
+pub use in_turn::{InTurn, draw_in_turn};
 use std::alloc::Global;
 use std::sync::Wait;
 use std::thread::Threads;
@@ -16,14 +28,13 @@ use std::thread::Threads;
 struct OneBump;
 
 impl<R: Wait> Work<R> for OneBump {
-    ghost use Rattle.std.specs.Prelude.{IfOk};
-    ghost use Rattle.hl_tickets.specs.Tickets.{Bumped};
+    ghost use Rattle.hl_tickets.specs.Tickets.{bumps_once};
 
     type Job = NoJob;
 
     type Out = Result<u64, Fault>;
 
-    ghost returns = { λ _ _ first last out. IfOk out (Bumped first.pass.rider.calls last.pass.rider.calls) };
+    ghost returns = { λ _. bumps_once };
 
     fn run<L: Realm + Send + Sync>(
         &self,
@@ -31,10 +42,7 @@ impl<R: Wait> Work<R> for OneBump {
         session: &mut Session<R, L>,
         _number: u64,
     ) -> Result<u64, Fault> {
-        match session.bump(Ask::Settle) {
-            Ok(ticket) => Ok(ticket),
-            Err(refused) => Err(refused.fault),
-        }
+        bump_once(session)
     }
 
     fn write_page(&self, _rt: &R, _page: u64, _image: &[u8]) -> bool {
@@ -42,42 +50,36 @@ impl<R: Wait> Work<R> for OneBump {
     }
 }
 
-/// What threads were answered that bumped once each, in the order of their numbers, and the epoch at the end.
-#[derive(Drop)]
-pub struct Tickets {
-    pub tickets: Vec<u64>,
-    pub epoch: u64,
+// Bumps, and returns the ticket.
+fn bump_once<R: Wait, L: Realm>(session: &mut Session<R, L>) -> Result<u64, Fault>
+    ensures { IfOk result (Bumped session.old.pass.rider.calls session.new.pass.rider.calls) }
+{
+    match session.bump(Ask::Settle) {
+        Ok(ticket) => Ok(ticket),
+        Err(refused) => Err(refused.fault),
+    }
 }
 
-/// Opens a log, lets each of its threads bump once beside the crew, and closes it.
+/// What threads left that bumped once each: their answers in the order of their numbers, and what is left of their log.
+pub type Drawn = Closed<Result<Outs<Result<u64, Fault>>, Fault>>;
+
+/// Opens a log, lets each of its threads bump once beside the crew, and closes it: what they left. Of the threads that
+/// weren't refused no two have the same ticket, whether or not others were.
 ///
-/// `None` if a thread was refused, if memory was refused, or if the opening doesn't fit the duty.
+/// Faults, those of `with_threads`: `Size` if the opening doesn't fit the duty, `OutOfMemory`.
 pub fn draw<R: Threads + Wait + Sync, S: HasSizes>(
     rt: &R,
     alloc: Global,
     opening: Opening<S>,
     duty: Duty,
-) -> Option<Tickets>
-    ensures { IfSome result (λ drawn. AreTickets opening.riders drawn.tickets.items drawn.epoch) }
+) -> Result<Drawn, Fault>
+    ensures size { can_run (of_sizes S.sizes_of opening) duty ≡ false → result ≡ Err Size }
+    ensures memory { can_run (of_sizes S.sizes_of opening) duty ≡ true
+        → IfErr result (λ fault. fault ≡ OutOfMemory) }
+    ensures closed { let o = of_sizes S.sizes_of opening
+        in IfOk result (IsClosed o (AreAllReturned NoJob (opened_as o) bumps_once)) }
+    ensures tickets { IfOk result (λ drawn. IfOk drawn.out (λ outs. IfOk drawn.ending
+        (λ ending. AreTickets opening.riders outs.items ending.snapshot.epoch))) }
 {
-    let closed = with_threads(rt, alloc, opening, duty, &OneBump).ok()?;
-    let outs = closed.out.ok()?;
-    let ending = closed.ending.ok()?;
-    let tickets = all_of(alloc, outs)?;
-    Some(Tickets {
-        tickets,
-        epoch: ending.snapshot.epoch,
-    })
-}
-
-// The tickets, if no thread was refused.
-fn all_of(alloc: Global, outs: Vec<Result<Result<u64, Fault>, Fault>>) -> Option<Vec<u64>>
-    ensures { IfSome result (λ tickets. outs.items ≡ map (λ t. Ok (Ok t)) tickets.items) }
-{
-    let mut tickets = Vec::new(alloc);
-    for out in outs {
-        let ticket = out.ok()?.ok()?;
-        tickets.push(ticket).ok()?;
-    }
-    Some(tickets)
+    with_threads(rt, alloc, opening, duty, &OneBump)
 }

@@ -12,8 +12,8 @@ use Rattle.hl_history.specs.declared.view.Entry.{Entry}
 use Rattle.hl_history.specs.Lists.{entry, enters_at, entered_at, IsOneList}
 use Rattle.hl_history.proofs.Calls.{to_front}
 use Rattle.hl_words.specs.States.{RiderState}
-use Rattle.hl_keeper.specs.Endings.{EndingState}
 use Rattle.hl_domain.specs.Domains.{IsEnding}
+use Rattle.hl_turns.specs.declared.Turns.{Turns}
 use Rattle.hl_turns.specs.Turns.{Bumped, IsInTurn}
 
 -- a call that met this list, and made one bump there
@@ -88,16 +88,15 @@ unfolding current_epoch
 third_epoch n A e same = e ∙ ap current_epoch same
 
 -- what two riders were answered who bumped once each, and the current epoch where their domain was closed
-pub in_turn : {F : Type 0} (sizes : Sizes) (one two : RiderState) (ending : EndingState F) (a b n : ℕ) → Bumped a one.calls → Bumped b two.calls → IsEnding sizes (one ∷ two ∷ []) ending → n ≡ ending.snapshot.epoch
-    → IsInTurn (record { one = a; two = b; epoch = n })
-in_turn sizes one two ending a b n p q end e =
-    let A : List Step = end.steps_cut ++ ending.journal in
+pub in_turn : {F P : Type 0} (sizes : Sizes) (one two : RiderState) (t : Turns F P) → Bumped t.one one.calls → Bumped t.two two.calls → IsEnding sizes (one ∷ two ∷ []) t.ending → t.epoch ≡ t.ending.snapshot.epoch → IsInTurn sizes t
+in_turn sizes one two t p q end e =
+    let A : List Step = end.steps_cut ++ t.ending.journal in
     let first : IsOneList A (one.calls ∷ (bump_at q.list ∷ []) ∷ []) = subst (λ d. IsOneList A (one.calls ∷ d ∷ [])) q.calls_are end.one_list in
     let both : AreBoth A p.list q.list = subst (λ d. IsOneList A (d ∷ (bump_at q.list ∷ []) ∷ [])) p.calls_are first in
-    let t = turns A p.list q.list both in
-    let epoch : n ≡ current_epoch A = e ∙ ap (λ s. s.epoch) end.snapshot_is in
-    (sides t.0, third_epoch n A epoch t.1)
+    let order = turns A p.list q.list both in
+    let epoch : t.epoch ≡ current_epoch A = e ∙ ap (λ s. s.epoch) end.snapshot_is in
+    record { one = one; two = two; first = p; second = q; ends = end; numbers = sides order.0; epoch_is = third_epoch t.epoch A epoch order.1 }
   where
-    sides : AreTurns p.list q.list → ((a ≡ 1) × (b ≡ 2)) ⊎ ((b ≡ 1) × (a ≡ 2))
-    sides (inl k) = inl (first_number a p.list p.number_is k.0, second_number b q.list q.number_is k.1)
-    sides (inr k) = inr (first_number b q.list q.number_is k.0, second_number a p.list p.number_is k.1)
+    sides : AreTurns p.list q.list → ((t.one ≡ 1) × (t.two ≡ 2)) ⊎ ((t.two ≡ 1) × (t.one ≡ 2))
+    sides (inl k) = inl (first_number t.one p.list p.number_is k.0, second_number t.two q.list q.number_is k.1)
+    sides (inr k) = inr (first_number t.two q.list q.number_is k.0, second_number t.one p.list p.number_is k.1)

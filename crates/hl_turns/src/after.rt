@@ -1,25 +1,28 @@
 //! A bump of which another thread was told: that one's own bump has a greater number.
-ghost use Rattle.std.specs.Prelude.{◌≡◌, ◌<◌, IfSome, length};
+ghost use Rattle.std.specs.Prelude.{◌≡◌, IfSome, length};
 ghost use Rattle.hl_words.specs.States.{IsSeedOf, new_rider};
-ghost use Rattle.hl_turns.specs.After.{BumpedFirst, BumpedTold};
+ghost use Rattle.hl_model.specs.Sizes.{Sizes as SIZES};
+ghost use Rattle.hl_turns.specs.After.{BumpedFirst, BumpedTold, InOrder};
 
 use hl_counts::CountTable;
 use hl_domain::laws::told_calls_begin;
 use hl_domain::{
-    AnyAnswer, Domain, Epochs, NoJob, Params, Past, Promise, Realm, Rider, Seed, Task,
+    AnyAnswer, Domain, Ending, Epochs, NoJob, Params, Past, Promise, Realm, Rider, Seed, Task,
 };
 use std::alloc::Global;
 use std::marker::Brand;
 use std::sync::{Mutex, Wait};
 use std::thread::{Threads, join};
 
-/// What two riders were answered, of whom the second was told of the first one's bump.
-#[derive(Clone, Copy, Debug, PartialEq, Eq)]
-pub struct Numbers {
+/// What two riders were answered, of whom the second was told of the first one's bump, and what is left of their domain.
+#[derive(Drop)]
+pub struct Numbers<F: Task, P: Promise> {
     /// The number of the epoch that the first rider ended.
     pub first: u64,
     /// The number of the epoch that the second rider ended.
     pub second: u64,
+    /// What is left of the domain.
+    pub ending: Ending<F, P>,
 }
 
 /// How many steps the domain's journal may have: one for each thread.
@@ -31,8 +34,11 @@ const STAMP: u64 = 2001;
 /// Opens a small domain, and lets two threads end an epoch there one after the other, as [`bump_after`] tells.
 ///
 /// `None` if no past was there yet, or memory was refused.
-pub fn bump_after_anew<R: Threads + Wait + Sync>(rt: &R, alloc: Global) -> Option<Numbers>
-    ensures { IfSome result (λ numbers. numbers.first < numbers.second) }
+pub fn bump_after_anew<R: Threads + Wait + Sync>(
+    rt: &R,
+    alloc: Global,
+) -> Option<Numbers<NoJob, AnyAnswer>>
+    ensures { IfSome result (λ numbers. (sizes : SIZES) × InOrder sizes numbers) }
 {
     let params = Params::checked(4, 2, 1, 1)?;
     let seed = Seed::make(alloc, params, 2).ok()?;
@@ -40,14 +46,14 @@ pub fn bump_after_anew<R: Threads + Wait + Sync>(rt: &R, alloc: Global) -> Optio
 }
 
 // The same over the words of a seed.
-fn bump_over<R, L>(rt: &R, alloc: Global, seed: Seed) -> Option<Numbers>
+fn bump_over<R, L>(rt: &R, alloc: Global, seed: Seed) -> Option<Numbers<NoJob, AnyAnswer>>
 where
     R: Threads + Wait + Sync,
     L: Realm + Send + Sync,
     requires seed { IsSeedOf L.name L.parts L.table seed }
     requires two { seed.riders ≡ 2 }
     requires named { (seed.sizes ≡ L.sizes) × (2001 ≡ L.stamp) × (2 ≡ L.limit) }
-    ensures { IfSome result (λ numbers. numbers.first < numbers.second) }
+    ensures { IfSome result (λ numbers. (sizes : SIZES) × InOrder sizes numbers) }
 {
     let (domain, mut riders) = Domain::<CountTable, NoJob, AnyAnswer, L>::open(
         alloc, seed, JOURNAL, STAMP,
@@ -65,7 +71,7 @@ struct Sent<L: Realm> {
 }
 
 /// One thread ends an epoch and leaves its past under a plain lock; the other ends one if it finds that past, and closes
-/// the domain. The number of the first one's epoch is below that of the other's.
+/// the domain. Neither does anything else. The number of the first one's epoch is below that of the other's.
 ///
 /// `None` if a call was refused, if no past was there yet, if memory was refused, or if the domain has a rider that is
 /// none of these two; then the domain is given up.
@@ -75,7 +81,7 @@ pub fn bump_after<R, E, F, P, L>(
     domain: Domain<E, F, P, L>,
     one: Rider<L>,
     two: Rider<L>,
-) -> Option<Numbers>
+) -> Option<Numbers<F, P>>
 where
     R: Threads + Wait + Sync,
     E: Epochs + Drop + Send,
@@ -83,7 +89,7 @@ where
     P: Promise + Send,
     L: Realm + Send + Sync,
     requires new { (one ≡ new_rider 0) × (two ≡ new_rider 1) }
-    ensures { IfSome result (λ numbers. numbers.first < numbers.second) }
+    ensures { IfSome result (InOrder domain.sizes) }
 {
     told_calls_begin::<F>();
     let lock: Mutex<Option<Sent<L>>> = Mutex::new(None);
@@ -102,9 +108,13 @@ where
     let mut riders = Vec::new(alloc);
     riders.push(one).ok()?;
     riders.push(two).ok()?;
-    domain.close(riders).ok()?;
+    let ending = domain.close(riders).ok()?;
     let (first, second) = (first?, second?);
-    Some(Numbers { first, second })
+    Some(Numbers {
+        first,
+        second,
+        ending,
+    })
 }
 
 // Ends the current epoch, and leaves the rider's past under the lock.

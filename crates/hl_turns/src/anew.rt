@@ -1,6 +1,7 @@
 //! Two threads that bump a new domain of their own.
 ghost use Rattle.std.specs.Prelude.{◌≡◌, IfSome};
 ghost use Rattle.hl_words.specs.States.{IsSeedOf};
+ghost use Rattle.hl_model.specs.Sizes.{Sizes as SIZES};
 ghost use Rattle.hl_turns.specs.Turns.{IsInTurn};
 
 use crate::{Turns, bump_in_turn};
@@ -21,8 +22,8 @@ const STAMP: u64 = 2000;
 /// refused is not proved: a test sees it.
 ///
 /// `None` if memory was refused.
-pub fn bump_anew<R: Threads + Wait + Sync>(rt: &R, alloc: Global) -> Option<Turns>
-    ensures { IfSome result IsInTurn }
+pub fn bump_anew<R: Threads + Wait + Sync>(rt: &R, alloc: Global) -> Option<Turns<NoJob, AnyAnswer>>
+    ensures { IfSome result (λ turns. (sizes : SIZES) × IsInTurn sizes turns) }
 {
     let params = Params::checked(4, 2, 1, 1)?;
     let seed = Seed::make(alloc, params, 2).ok()?;
@@ -30,13 +31,13 @@ pub fn bump_anew<R: Threads + Wait + Sync>(rt: &R, alloc: Global) -> Option<Turn
 }
 
 // The same over the words of a seed.
-fn bump_over<R, L>(rt: &R, alloc: Global, seed: Seed) -> Option<Turns>
+fn bump_over<R, L>(rt: &R, alloc: Global, seed: Seed) -> Option<Turns<NoJob, AnyAnswer>>
 where
     R: Threads + Wait + Sync,
     L: Realm + Send + Sync,
     requires seed { IsSeedOf L.name L.parts L.table seed }
     requires named { (seed.sizes ≡ L.sizes) × (2000 ≡ L.stamp) × (2 ≡ L.limit) }
-    ensures { IfSome result IsInTurn }
+    ensures { IfSome result (λ turns. (sizes : SIZES) × IsInTurn sizes turns) }
 {
     let (domain, mut riders) = Domain::<CountTable, NoJob, AnyAnswer, L>::open(
         alloc, seed, JOURNAL, STAMP,

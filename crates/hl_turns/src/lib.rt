@@ -22,20 +22,23 @@ ghost use Rattle.hl_turns.specs.Turns.{Bumped, IsInTurn};
 
 pub use after::{Numbers, bump_after, bump_after_anew};
 pub use anew::bump_anew;
-use hl_domain::{Domain, Epochs, Promise, Realm, Rider, Task};
+use hl_domain::{Domain, Ending, Epochs, Promise, Realm, Rider, Task};
 use std::alloc::Global;
 use std::sync::Wait;
 use std::thread::{Threads, join};
 
-/// What two riders were answered who bumped at the same time, and the current epoch after both.
-#[derive(Clone, Copy, Debug, PartialEq, Eq)]
-pub struct Turns {
+/// What two riders were answered who bumped at the same time, the current epoch after both, and what is left of their
+/// domain.
+#[derive(Drop)]
+pub struct Turns<F: Task, P: Promise> {
     /// The number of the epoch that the first rider ended.
     pub one: u64,
     /// The number of the epoch that the second rider ended.
     pub two: u64,
     /// The current epoch of the domain once it was closed.
     pub epoch: u64,
+    /// What is left of the domain.
+    pub ending: Ending<F, P>,
 }
 
 /// Each of two riders, neither of which has made a call, ends the current epoch of a domain in a thread of its own;
@@ -49,7 +52,7 @@ pub fn bump_in_turn<R, E, F, P, L>(
     domain: Domain<E, F, P, L>,
     one: Rider<L>,
     two: Rider<L>,
-) -> Option<Turns>
+) -> Option<Turns<F, P>>
 where
     R: Threads + Wait + Sync,
     E: Epochs + Drop + Send,
@@ -57,7 +60,7 @@ where
     P: Promise + Send,
     L: Realm + Send + Sync,
     requires new { (one.calls ≡ []) × (two.calls ≡ []) }
-    ensures { IfSome result IsInTurn }
+    ensures { IfSome result (IsInTurn domain.sizes) }
 {
     let shared = &domain;
     let ((first, one), (second, two)) = join(
@@ -80,6 +83,7 @@ where
         one: first,
         two: second,
         epoch: ending.snapshot.epoch,
+        ending,
     })
 }
 

@@ -1,5 +1,6 @@
 pub mod Cut
 pub mod Line
+pub mod CallOrder
 pub mod Orders
 pub mod Lawful
 pub mod Standing

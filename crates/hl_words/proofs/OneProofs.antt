@@ -4,6 +4,7 @@ use Rattle.std.specs.Prelude.{if◌then◌else◌, unwrap_or}
 use Rattle.std.specs.List.{AllByRecursion as Every}
 use Rattle.std.proofs.lemmas.Bool.{eqb-true, cases_eq}
 use Rattle.std.proofs.lemmas.List.{append-nil}
+use Rattle.hl_words.specs.declared.view.Extent.{Extent}
 use Rattle.hl_words.specs.declared.view.Touch.{Touch}
 use Rattle.hl_words.specs.declared.view.Touch.TheVariants.{Loaded, Called}
 use Rattle.hl_words.specs.declared.view.RiderView.{RiderView}
@@ -159,14 +160,14 @@ only_before : (riders : List RiderView) (done j : ℕ) (q : RiderView) (late res
 only_before riders done j q late rest before front none at is after whole =
     ⊎_elim
     (λ (nothing : late ≡ []). (front, sym (ap (λ (l : List Touch). l ++ rest) nothing) ∙ sym is ∙ whole))
-    (λ (call : (met left : ℕ) × (later : List Touch) × (late ≡ later ++ Called met left ∷ []) × (done < met)).
+    (λ (call : (met left : Extent) × (later : List Touch) × (late ≡ later ++ Called met left ∷ []) × (done < met.steps)).
     none j call.0 call.1 q call.2 rest at (is ∙ ap (λ (l : List Touch). l ++ rest) call.3 ∙ append_assoc call.2 (Called call.0 call.1 ∷ []) rest) call.4)
     after
 
 -- so a rider's quiet touches hold all that it did in the newer part
-module _ (cells : ℕ) (words : List ℕ) (riders : List RiderView) (h : HasOneOrder cells words riders) (c done j first n : ℕ) (front newer base : List TouchBy)
+module _ (cells : ℕ) (words : List ℕ) (riders : List RiderView) (h : HasOneOrder cells words riders) (c done j : ℕ) (first n : Extent) (front newer base : List TouchBy)
     (whole : h.0 ≡ newer ++ (front ++ by_rider j (Called first n) ∷ base)) (late_none : HasNoCalls riders done (front ++ by_rider j (Called first n) ∷ base)) where
-  quiet_front : (k : ℕ) (r : RiderView) → slice_get riders k ≡ Some r → IsQuietBetween c n done r.touches → last_store c (touches_of k front) ≡ None
+  quiet_front : (k : ℕ) (r : RiderView) → slice_get riders k ≡ Some r → IsQuietBetween c n.steps done r.touches → last_store c (touches_of k front) ≡ None
   quiet_front k r at q =
       let before : List TouchBy = front ++ by_rider j (Called first n) ∷ base in
       let all : r.touches ≡ touches_of k newer ++ touches_of k before = h.1.each k r at ∙ ap (touches_of k) whole ∙ touches_both k newer before in
@@ -179,7 +180,7 @@ module _ (cells : ℕ) (words : List ℕ) (riders : List RiderView) (h : HasOneO
           let quiet : q.quiet ≡ rest ++ (touches_of k front ++ touches_of k (by_rider j (Called first n) ∷ base)) = sym (append-nil q.quiet) ∙ ap (λ (l : List Touch). q.quiet ++ l) (sym e) ∙ parts in
           none_begin c (touches_of k front) (touches_of k (by_rider j (Called first n) ∷ base)) (none_end c rest (touches_of k front ++ touches_of k (by_rider j (Called first n) ∷ base)) (sym (ap (last_store c) quiet) ∙ q.none))
 
-      called : (rest : List Touch) → q.quiet ++ q.old ≡ rest ++ (touches_of k front ++ touches_of k (by_rider j (Called first n) ∷ base)) → ((met left : ℕ) × (past : List Touch) × (q.old ≡ Called met left ∷ past) × (left < n)) → last_store c (touches_of k front) ≡ None
+      called : (rest : List Touch) → q.quiet ++ q.old ≡ rest ++ (touches_of k front ++ touches_of k (by_rider j (Called first n) ∷ base)) → ((met left : Extent) × (past : List Touch) × (q.old ≡ Called met left ∷ past) × (left.steps < n.steps)) → last_store c (touches_of k front) ≡ None
       called rest parts o =
           let calls = after_call cells words riders h j first n (newer ++ front) base (whole ∙ sym (append_assoc newer front (by_rider j (Called first n) ∷ base))) in
           let is : r.touches ≡ (q.late ++ q.quiet) ++ Called o.0 o.1 ∷ o.2 = q.all ∙ sym (append_assoc q.late q.quiet q.old) ∙ ap (λ (l : List Touch). (q.late ++ q.quiet) ++ l) o.3 in
@@ -194,7 +195,7 @@ module _ (cells : ℕ) (words : List ℕ) (riders : List RiderView) (h : HasOneO
           none_begin c (touches_of k front) (touches_of k one ++ has.0) (none_end c rest middle (sym (ap (last_store c) quiet) ∙ q.none))
 
 pub loads_of_newest : LoadsOfNewest
-loads_of_newest cells words stores riders i j c v begun done first n m left w q before late middle recent older ruled at load calls no_calls others is after silent low stored =
+loads_of_newest cells words stores riders i j c v begun done w first n m left q before late middle recent older ruled at load calls no_calls others is after silent low stored =
     let h = ruled.order in
     let front0 : List TouchBy = load.newer ++ by_rider i (Loaded c v) ∷ [] in
     let parts : h.0 ≡ front0 ++ before = load.whole ∙ sym (append_assoc load.newer (by_rider i (Loaded c v) ∷ []) before) in
@@ -216,7 +217,7 @@ loads_of_newest cells words stores riders i j c v begun done first n m left w q 
     ∙ of_one_since c j a.front (by_rider j (Called first n) ∷ a.before) quiet
     ∙ ap (λ o. unwrap_or o (held c (by_rider j (Called first n) ∷ a.before))) (ap (last_store c) own ∙ none_front c all.0 (Called m left ∷ recent) since ∙ stored)
   where
-    own_front : (j : ℕ) (newest older : List Touch) (first n : ℕ) (before front base : List TouchBy) → before ≡ front ++ by_rider j (Called first n) ∷ base → touches_of j base ≡ older → touches_of j before ≡ newest ++ Called first n ∷ older → touches_of j front ≡ newest
+    own_front : (j : ℕ) (newest older : List Touch) (first n : Extent) (before front base : List TouchBy) → before ≡ front ++ by_rider j (Called first n) ∷ base → touches_of j base ≡ older → touches_of j before ≡ newest ++ Called first n ∷ older → touches_of j front ≡ newest
     own_front j newest older first n before front base whole own shape =
         same_front (touches_of j front) newest (Called first n ∷ older)
         (ap (λ (l : List Touch). touches_of j front ++ l) (sym (own_more j (Called first n) base ∙ ap (λ (l : List Touch). Called first n ∷ l) own)) ∙ sym (touches_both j front (by_rider j (Called first n) ∷ base)) ∙ sym (ap (touches_of j) whole) ∙ shape)

@@ -7,7 +7,7 @@ use Rattle.std.proofs.lemmas.List.{get_or-set_same, get_or-set_other}
 use Rattle.hl_words.specs.declared.view.Touch.{Touch}
 use Rattle.hl_words.specs.declared.view.Touch.TheVariants.{Stored, Loaded, Changed, Called, Looked, Met}
 use Rattle.hl_words.specs.declared.view.RiderView.{RiderView}
-use Rattle.hl_words.specs.Rule.{EachRider, SomeRider, TouchBy, by_rider, left_by, held, IsUpTo, IsLookUpTo, Finds, IsSerial, touches_of, AreNamed, HasMet, AreMet, HasOneOrder}
+use Rattle.hl_words.specs.Rule.{EachRider, SomeRider, TouchBy, by_rider, left_by, held, called_by, last_called, IsLookUpTo, Finds, IsSerial, touches_of, AreNamed, HasMet, AreMet, HasOneOrder}
 use Rattle.hl_words.proofs.Cut.{every_weaker, every_at}
 
 module _ {X : Type 0} where
@@ -123,41 +123,29 @@ met_last name count cells words riders h s = (s.0, s.1, s.2, (s.3.0, subst (λ (
 
 -- a rider takes one touch more
 pub order_more : (cells : ℕ) (words after : List ℕ) (front : List RiderView) (r q : RiderView) (back : List RiderView) (t : Touch) → q.name ≡ r.name → q.touches ≡ t ∷ r.touches → (h : HasOneOrder cells words (front ++ r ∷ back))
-    → Finds h.0 t → HasMet (front ++ r ∷ back) h.0 t → ((c : ℕ) → c < cells → slice_index after c ≡ left_by c t (held c h.0)) → HasOneOrder cells after (front ++ q ∷ back)
+    → Finds h.0 t → HasMet (front ++ r ∷ back) h.0 t → ((c : ℕ) → c < cells → slice_index after c ≡ left_by c t (held c h.0))
+    → (o : HasOneOrder cells after (front ++ q ∷ back)) × (last_called o.0 ≡ called_by t (last_called h.0))
 order_more cells words after front r q back t named same h finds met last =
     let n = length front in (
-      by_rider n t ∷ h.0,
-      record {
-        serial = (finds, h.1.serial);
-        each = each_middle front r q back (λ i. touches_of i h.0) (λ i. touches_of i (by_rider n t ∷ h.0)) h.1.each
-            (same ∙ ap (λ (l : List Touch). t ∷ l) (h.1.each n r (at_place front r back)) ∙ sym (own_more n t h.0))
-            (λ i apart. other_more i n t h.0 (λ e. apart (sym e)));
-        theirs = (
-          within (front ++ q ∷ back) n q (at_place front q back),
-          every_weaker (λ (s : TouchBy). s.rider < length (front ++ r ∷ back)) (λ (s : TouchBy). s.rider < length (front ++ q ∷ back)) h.0
-              (λ s less. omega (arith, less, length-append front (r ∷ back), length-append front (q ∷ back))) h.1.theirs,
-        );
-        last = last;
-        met = (met_changed front r q back named h.0 t met, are_met_changed front r q back named h.0 h.1.met);
-        names = named_changed front r q back named h.1.names;
-      },
+      (
+        by_rider n t ∷ h.0,
+        record {
+          serial = (finds, h.1.serial);
+          each = each_middle front r q back (λ i. touches_of i h.0) (λ i. touches_of i (by_rider n t ∷ h.0)) h.1.each
+              (same ∙ ap (λ (l : List Touch). t ∷ l) (h.1.each n r (at_place front r back)) ∙ sym (own_more n t h.0))
+              (λ i apart. other_more i n t h.0 (λ e. apart (sym e)));
+          theirs = (
+            within (front ++ q ∷ back) n q (at_place front q back),
+            every_weaker (λ (s : TouchBy). s.rider < length (front ++ r ∷ back)) (λ (s : TouchBy). s.rider < length (front ++ q ∷ back)) h.0
+                (λ s less. omega (arith, less, length-append front (r ∷ back), length-append front (q ∷ back))) h.1.theirs,
+          );
+          last = last;
+          met = (met_changed front r q back named h.0 t met, are_met_changed front r q back named h.0 h.1.met);
+          names = named_changed front r q back named h.1.names;
+        },
+      ),
+      refl,
     )
-
--- a rider takes none, and no cell changes
-pub order_same : (cells : ℕ) (words after : List ℕ) (front : List RiderView) (r q : RiderView) (back : List RiderView) → q.name ≡ r.name → q.touches ≡ r.touches → ((c : ℕ) → c < cells → slice_index after c ≡ slice_index words c)
-    → HasOneOrder cells words (front ++ r ∷ back) → HasOneOrder cells after (front ++ q ∷ back)
-order_same cells words after front r q back named same keeps h = (
-  h.0,
-  record {
-    serial = h.1.serial;
-    each = each_middle front r q back (λ i. touches_of i h.0) (λ i. touches_of i h.0) h.1.each (same ∙ h.1.each (length front) r (at_place front r back)) (λ i apart. refl);
-    theirs = every_weaker (λ (s : TouchBy). s.rider < length (front ++ r ∷ back)) (λ (s : TouchBy). s.rider < length (front ++ q ∷ back)) h.0
-        (λ s less. omega (arith, less, length-append front (r ∷ back), length-append front (q ∷ back))) h.1.theirs;
-    last = λ c less. keeps c less ∙ h.1.last c less;
-    met = are_met_changed front r q back named h.0 h.1.met;
-    names = named_changed front r q back named h.1.names;
-  },
-)
 
 -- what the cells hold after a store into one of them
 pub put_last : (cells : ℕ) (words : List ℕ) (c v : ℕ) → c < cells → length words ≡ cells + 19 → (order : List TouchBy) → ((d : ℕ) → d < cells → slice_index words d ≡ held d order)
@@ -177,6 +165,10 @@ held_renamed : (f : ℕ → ℕ) (c : ℕ) (order : List TouchBy) → held c (re
 held_renamed f c [] = refl
 held_renamed f c (t ∷ before) = ap (left_by c t.touch) (held_renamed f c before)
 
+called_renamed : (f : ℕ → ℕ) (order : List TouchBy) → last_called (renamed f order) ≡ last_called order
+called_renamed f [] = refl
+called_renamed f (t ∷ before) = ap (called_by t.touch) (called_renamed f before)
+
 every_renamed : (P : Touch → Type 0) (f : ℕ → ℕ) (order : List TouchBy) → Every (λ (t : TouchBy). P t.touch) order → Every (λ (t : TouchBy). P t.touch) (renamed f order)
 every_renamed P f [] h = tt
 every_renamed P f (t ∷ before) h = (h.0, every_renamed P f before h.1)
@@ -185,7 +177,7 @@ finds_renamed : (f : ℕ → ℕ) (before : List TouchBy) (t : Touch) → Finds 
 finds_renamed f before (Stored d v) h = tt
 finds_renamed f before (Loaded d v) h = h ∙ sym (held_renamed f d before)
 finds_renamed f before (Changed d w v) h = h ∙ sym (held_renamed f d before)
-finds_renamed f before (Called met left) h = (h.0, every_renamed (IsUpTo met) f before h.1)
+finds_renamed f before (Called met left) h = (h.0 ∙ sym (called_renamed f before), h.1)
 finds_renamed f before (Looked which x) h = every_renamed (IsLookUpTo which x) f before h
 finds_renamed f before (Met name count) h = tt
 
@@ -234,17 +226,20 @@ are_met_renamed f g back forth riders after same [] h = tt
 are_met_renamed f g back forth riders after same (t ∷ before) h = (met_renamed f g back forth riders after same before t.touch h.0, are_met_renamed f g back forth riders after same before h.1)
 
 order_renamed : (cells : ℕ) (words : List ℕ) (riders after : List RiderView) (f g : ℕ → ℕ) → ((k : ℕ) → g (f k) ≡ k) → ((k : ℕ) → f (g k) ≡ k) → ((j : ℕ) → slice_get after j ≡ slice_get riders (g j))
-    → HasOneOrder cells words riders → HasOneOrder cells words after
+    → (h : HasOneOrder cells words riders) → (o : HasOneOrder cells words after) × (last_called o.0 ≡ last_called h.0)
 order_renamed cells words riders after f g back forth same h = (
-  renamed f h.0,
-  record {
-    serial = serial_renamed f h.0 h.1.serial;
-    each = λ j r e. h.1.each (g j) r (sym (same j) ∙ e) ∙ sym (own_renamed f g back forth j h.0);
-    theirs = theirs_renamed f g riders after back same h.0 h.1.theirs;
-    last = λ c less. h.1.last c less ∙ sym (held_renamed f c h.0);
-    met = are_met_renamed f g back forth riders after same h.0 h.1.met;
-    names = λ i j r q ati atj e. sym (forth i) ∙ ap f (h.1.names (g i) (g j) r q (sym (same i) ∙ ati) (sym (same j) ∙ atj) e) ∙ forth j;
-  },
+  (
+    renamed f h.0,
+    record {
+      serial = serial_renamed f h.0 h.1.serial;
+      each = λ j r e. h.1.each (g j) r (sym (same j) ∙ e) ∙ sym (own_renamed f g back forth j h.0);
+      theirs = theirs_renamed f g riders after back same h.0 h.1.theirs;
+      last = λ c less. h.1.last c less ∙ sym (held_renamed f c h.0);
+      met = are_met_renamed f g back forth riders after same h.0 h.1.met;
+      names = λ i j r q ati atj e. sym (forth i) ∙ ap f (h.1.names (g i) (g j) r q (sym (same i) ∙ ati) (sym (same j) ∙ atj) e) ∙ forth j;
+    },
+  ),
+  called_renamed f h.0,
 )
 
 -- the numbers where one goes to the front past n others: `ahead` of what was, `behind` of what is
@@ -290,13 +285,13 @@ moved_at (x ∷ front) r back (suc (suc j)) = moved_at front r back (suc j)
 
 module _ (front : List RiderView) (r : RiderView) (back : List RiderView) (cells : ℕ) (words : List ℕ) where
   -- one rider comes to the front
-  pub order_to_front : HasOneOrder cells words (front ++ r ∷ back) → HasOneOrder cells words (r ∷ (front ++ back))
+  pub order_to_front : (h : HasOneOrder cells words (front ++ r ∷ back)) → (o : HasOneOrder cells words (r ∷ (front ++ back))) × (last_called o.0 ≡ last_called h.0)
   order_to_front h =
       let n = length front in
       order_renamed cells words (front ++ r ∷ back) (r ∷ (front ++ back)) (ahead n) (behind n) (behind_ahead n) (ahead_behind n) (moved_at front r back) h
 
   -- or goes from it
-  pub order_from_front : HasOneOrder cells words (r ∷ (front ++ back)) → HasOneOrder cells words (front ++ r ∷ back)
+  pub order_from_front : (h : HasOneOrder cells words (r ∷ (front ++ back))) → (o : HasOneOrder cells words (front ++ r ∷ back)) × (last_called o.0 ≡ last_called h.0)
   order_from_front h =
       let n = length front in
       order_renamed cells words (r ∷ (front ++ back)) (front ++ r ∷ back) (behind n) (ahead n) (ahead_behind n) (behind_ahead n)

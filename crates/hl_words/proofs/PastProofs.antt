@@ -3,11 +3,13 @@ use Rattle.std.proofs.Common.{◌≡◌, ℕ, ◌≤◌, ◌==◌, ◌⊎◌, Bo
 use Rattle.std.specs.Prelude.{if◌then◌else◌}
 use Rattle.std.specs.List.{AllByRecursion as Every}
 use Rattle.std.proofs.lemmas.Bool.{eqb-true}
+use Rattle.hl_words.specs.declared.view.Extent.{Extent}
 use Rattle.hl_words.specs.declared.view.Touch.{Touch}
 use Rattle.hl_words.specs.declared.view.Touch.TheVariants.{Loaded, Called, Met}
 use Rattle.hl_words.specs.declared.view.RiderView.{RiderView}
-use Rattle.hl_words.specs.Rule.{TouchBy, by_rider, IsUpTo, Finds, IsSerial, touches_of, AreMet, HasOneOrder}
+use Rattle.hl_words.specs.Rule.{TouchBy, by_rider, RisesTo, IsSerial, touches_of, AreMet, HasOneOrder}
 use Rattle.hl_words.specs.Past.{IsLoad, HasAll, HasCalls, HasNoCalls, LoadsAfterMet, LoadsAfterCalled, LoadsBetween, CallsAfterMet}
+use Rattle.hl_words.proofs.CallOrder.{IsUpTo, met_all}
 use Rattle.hl_words.proofs.Cut.{every_back}
 use Rattle.hl_words.proofs.Orders.{own_more}
 
@@ -74,13 +76,13 @@ met_end riders (t ∷ newer) rest h = met_end riders newer rest h.1
 
 module _ (cells : ℕ) (words : List ℕ) (riders : List RiderView) (h : HasOneOrder cells words riders) where
   -- a call stands before each one that left more steps, with all that its rider did before
-  pub after_call : (k first n : ℕ) (front before : List TouchBy) → h.0 ≡ front ++ by_rider k (Called first n) ∷ before → HasCalls riders n before
+  pub after_call : (k : ℕ) (first n : Extent) (front before : List TouchBy) → h.0 ≡ front ++ by_rider k (Called first n) ∷ before → HasCalls riders n.steps before
   after_call k first n front before whole j m left q later past at is less =
       let its = by_rider k (Called first n) in
       let own_call = by_rider j (Called m left) in
       let c = cut_at j h.0 later (Called m left) past (sym (h.1.each j q at) ∙ is) in
       let serial : IsSerial (c.front ++ own_call ∷ c.before) = subst IsSerial c.whole h.1.serial in
-      let found : Finds c.before (Called m left) = (serial_end c.front (own_call ∷ c.before) serial).0 in
+      let found = serial_end c.front (own_call ∷ c.before) serial in
       let own : touches_of j (own_call ∷ c.before) ≡ Called m left ∷ past = own_more j (Called m left) c.before ∙ ap (λ (l : List Touch). Called m left ∷ l) c.own in
       ⊎_elim
       (λ (here : (mid : List TouchBy) × (before ≡ mid ++ own_call ∷ c.before)).
@@ -90,33 +92,33 @@ module _ (cells : ℕ) (words : List ℕ) (riders : List RiderView) (h : HasOneO
       (λ (same : (its ≡ own_call) × (before ≡ c.before)).
       let alike : Called first n ≡ Called m left = ap (λ (t : TouchBy). t.touch) same.0 in
       let number : n ≡ left = cc alike in
-      absurd (omega (arith, number, less)))
+      absurd (omega (arith, ap (λ e. e.steps) number, less)))
       (λ (there : (mid : List TouchBy) × (c.before ≡ mid ++ its ∷ before)).
-      let at_most : n ≤ m = (every_back (λ (t : TouchBy). IsUpTo m t.touch) there.0 (its ∷ before) (subst (Every (λ (t : TouchBy). IsUpTo m t.touch)) there.1 found.1)).0 in
-      absurd (omega (arith, at_most, found.0, less)))
+      let at_most : RisesTo n m = (every_back (λ (t : TouchBy). IsUpTo m t.touch) there.0 (its ∷ before) (subst (Every (λ (t : TouchBy). IsUpTo m t.touch)) there.1 (met_all j m left c.before found))).0 in
+      absurd (omega (arith, at_most.0, found.0.1.0, less)))
       other)
       (compared front its before c.front own_call c.before (sym whole ∙ c.whole))
 
   -- and nothing that a rider did after a call stands before one that met fewer
-  before_call : (k n last : ℕ) (front rest between before : List TouchBy) → h.0 ≡ front ++ by_rider k (Called n last) ∷ rest → rest ≡ between ++ before → HasNoCalls riders n before
+  before_call : (k : ℕ) (n last : Extent) (front rest between before : List TouchBy) → h.0 ≡ front ++ by_rider k (Called n last) ∷ rest → rest ≡ between ++ before → HasNoCalls riders n.steps before
   before_call k n last front rest between before whole has j m left q later past at is less =
       let its = by_rider k (Called n last) in
       let own_call = by_rider j (Called m left) in
       let c = cut_at j h.0 later (Called m left) past (sym (h.1.each j q at) ∙ is) in
       let serial : IsSerial (front ++ its ∷ rest) = subst IsSerial whole h.1.serial in
-      let most : Every (λ (t : TouchBy). IsUpTo n t.touch) rest = (serial_end front (its ∷ rest) serial).0.1 in
+      let most : Every (λ (t : TouchBy). IsUpTo n t.touch) rest = met_all k n last rest (serial_end front (its ∷ rest) serial) in
       let other_serial : IsSerial (c.front ++ own_call ∷ c.before) = subst IsSerial c.whole h.1.serial in
-      let grew : m ≤ left = (serial_end c.front (own_call ∷ c.before) other_serial).0.0 in
+      let grew : RisesTo m left = (serial_end c.front (own_call ∷ c.before) other_serial).0.1 in
       ⊎_elim
       (λ (here : (mid : List TouchBy) × (rest ≡ mid ++ own_call ∷ c.before)).
-      let at_most : left ≤ n = (every_back (λ (t : TouchBy). IsUpTo n t.touch) here.0 (own_call ∷ c.before) (subst (Every (λ (t : TouchBy). IsUpTo n t.touch)) here.1 most)).0 in
-      absurd (omega (arith, at_most, grew, less)))
+      let at_most : RisesTo left n = (every_back (λ (t : TouchBy). IsUpTo n t.touch) here.0 (own_call ∷ c.before) (subst (Every (λ (t : TouchBy). IsUpTo n t.touch)) here.1 most)).0 in
+      absurd (omega (arith, at_most.0, grew.0, less)))
       (λ (other : ((its ≡ own_call) × (rest ≡ c.before)) ⊎ ((mid : List TouchBy) × (c.before ≡ mid ++ its ∷ rest))).
       ⊎_elim
       (λ (same : (its ≡ own_call) × (rest ≡ c.before)).
       let alike : Called n last ≡ Called m left = ap (λ (t : TouchBy). t.touch) same.0 in
       let number : n ≡ m = cc alike in
-      absurd (omega (arith, number, less)))
+      absurd (omega (arith, ap (λ e. e.steps) number, less)))
       (λ (there : (mid : List TouchBy) × (c.before ≡ mid ++ its ∷ rest)).
       let front2 : List TouchBy = there.0 ++ its ∷ between in
       let parts : c.before ≡ front2 ++ before = there.1 ∙ ap (λ (l : List TouchBy). there.0 ++ its ∷ l) has ∙ sym (append_assoc there.0 (its ∷ between) before) in
@@ -190,8 +192,8 @@ calls_after_met cells words stores riders i j met left first n r q newer between
     let a = cut_at i h.0 newer (Called met left) (between ++ t ∷ earlier) (sym (h.1.each i r ati) ∙ mine) in
     let b = cut_at i a.before between t earlier a.own in
     let has = after_met cells words riders h i j q (a.front ++ own ∷ b.front) b.before later past (joined a.front b.front own (by_rider i t) a.before b.before h.0 a.whole b.whole) atj others in
-    let found : Finds a.before (Called met left) = (serial_end a.front (own ∷ a.before) (subst IsSerial a.whole h.1.serial)).0 in
-    let all : Every (λ (x : TouchBy). IsUpTo met x.touch) b.before = every_end (λ (x : TouchBy). IsUpTo met x.touch) a.before b.front b.before (by_rider i t) b.whole found.1 in
+    let found = met_all i met left a.before (serial_end a.front (own ∷ a.before) (subst IsSerial a.whole h.1.serial)) in
+    let all : Every (λ (x : TouchBy). IsUpTo met x.touch) b.before = every_end (λ (x : TouchBy). IsUpTo met x.touch) a.before b.front b.before (by_rider i t) b.whole found in
     let theirs : Every (IsUpTo met) (has.0 ++ past) = subst (Every (IsUpTo met)) has.1 (own_every (IsUpTo met) j b.before all) in
     let own_calls : Every (IsUpTo met) past = every_back (IsUpTo met) has.0 past theirs in
     let parts : Every (IsUpTo met) (recent ++ Called first n ∷ older) = subst (Every (IsUpTo met)) calls own_calls in
@@ -205,7 +207,7 @@ loads_after_called cells words stores riders i c v m n r newer between earlier r
     let b = cut_at i a.before between t earlier a.own in
     let has = after_call cells words riders h i m n (a.front ++ by_rider i (Loaded c v) ∷ b.front) b.before (joined a.front b.front (by_rider i (Loaded c v)) (by_rider i t) a.before b.before h.0 a.whole b.whole) in
     let parts : (b.front ++ by_rider i t ∷ []) ++ b.before ≡ a.before = append_assoc b.front (by_rider i t ∷ []) b.before ∙ sym b.whole in
-    (a.before, load_at cells words riders h i c v a.front a.before a.whole, subst (HasCalls riders n) parts (calls_more riders n (b.front ++ by_rider i t ∷ []) b.before has))
+    (a.before, load_at cells words riders h i c v a.front a.before a.whole, subst (HasCalls riders n.steps) parts (calls_more riders n.steps (b.front ++ by_rider i t ∷ []) b.before has))
 
 -- a list cut twice
 in_two : (b1 b2 g1 g2 all : List TouchBy) (t u : TouchBy) → all ≡ b1 ++ t ∷ b2 → b2 ≡ g1 ++ u ∷ g2 → (b1 ++ t ∷ (g1 ++ u ∷ [])) ++ g2 ≡ all
@@ -221,21 +223,21 @@ module _ (cells : ℕ) (words : List ℕ) (riders : List RiderView) (h : HasOneO
       cut_at i before (all.0 ++ newer) t rest (all.1 ∙ ap (λ (x : List Touch). all.0 ++ x) is ∙ sym (append_assoc all.0 newer (t ∷ rest)))
 
   -- so do the calls that met fewer steps than one of which a rider was told
-  told_calls : (i k first n : ℕ) (f : RiderView) (its told newer oldest between earlier : List Touch) (front before : List TouchBy) (t : TouchBy) → told ≡ newer ++ Called first n ∷ oldest → slice_get riders k ≡ Some f → f.touches ≡ its ++ told
-      → h.0 ≡ front ++ t ∷ before → touches_of i before ≡ between ++ Met f.name (length told) ∷ earlier → HasCalls riders n before
+  told_calls : (i k : ℕ) (first n : Extent) (f : RiderView) (its told newer oldest between earlier : List Touch) (front before : List TouchBy) (t : TouchBy) → told ≡ newer ++ Called first n ∷ oldest → slice_get riders k ≡ Some f → f.touches ≡ its ++ told
+      → h.0 ≡ front ++ t ∷ before → touches_of i before ≡ between ++ Met f.name (length told) ∷ earlier → HasCalls riders n.steps before
   told_calls i k first n f its told newer oldest between earlier front before t is at theirs whole own =
       let m = Met f.name (length told) in
       let b = cut_at i before between m earlier own in
       let whole_b : h.0 ≡ (front ++ t ∷ b.front) ++ by_rider i m ∷ b.before = joined front b.front t (by_rider i m) before b.before h.0 whole b.whole in
       let g = told_cut i k (Called first n) f its told newer oldest (front ++ t ∷ b.front) b.before is at theirs whole_b in
       let whole_g = joined (front ++ t ∷ b.front) g.front (by_rider i m) (by_rider k (Called first n)) b.before g.before h.0 whole_b g.whole in
-      subst (HasCalls riders n) (in_two b.front b.before g.front g.before before (by_rider i m) (by_rider k (Called first n)) b.whole g.whole)
-      (calls_more riders n (b.front ++ by_rider i m ∷ (g.front ++ by_rider k (Called first n) ∷ [])) g.before (after_call cells words riders h k first n ((front ++ t ∷ b.front) ++ by_rider i m ∷ g.front) g.before whole_g))
+      subst (HasCalls riders n.steps) (in_two b.front b.before g.front g.before before (by_rider i m) (by_rider k (Called first n)) b.whole g.whole)
+      (calls_more riders n.steps (b.front ++ by_rider i m ∷ (g.front ++ by_rider k (Called first n) ∷ [])) g.before (after_call cells words riders h k first n ((front ++ t ∷ b.front) ++ by_rider i m ∷ g.front) g.before whole_g))
 
   -- a load of which a rider was told before a call
-  load_before : (i k c v n late : ℕ) (r f : RiderView) (last own newer rest newest middle told : List Touch) → own ≡ newer ++ Loaded c v ∷ rest → slice_get riders i ≡ Some r → slice_get riders k ≡ Some f → r.touches ≡ last ++ own
+  load_before : (i k c v : ℕ) (n late : Extent) (r f : RiderView) (last own newer rest newest middle told : List Touch) → own ≡ newer ++ Loaded c v ∷ rest → slice_get riders i ≡ Some r → slice_get riders k ≡ Some f → r.touches ≡ last ++ own
       → f.touches ≡ newest ++ Called n late ∷ (middle ++ Met r.name (length own) ∷ told)
-      → (before : List TouchBy) × (front : List TouchBy) × (h.0 ≡ front ++ by_rider i (Loaded c v) ∷ before) × (touches_of i before ≡ rest) × HasNoCalls riders n before
+      → (before : List TouchBy) × (front : List TouchBy) × (h.0 ≡ front ++ by_rider i (Loaded c v) ∷ before) × (touches_of i before ≡ rest) × HasNoCalls riders n.steps before
   load_before i k c v n late r f last own newer rest newest middle told is ati atk mine theirs =
       let m = Met r.name (length own) in
       let l = by_rider i (Loaded c v) in

@@ -8,23 +8,24 @@ use lib.ListN.{get_elem?}
 use Rattle.atomic_table.proofs.Lists.{set_else, set_again}
 use Rattle.atomic_table.specs.Table.{Me, step, keeps, Allows, Splits, Joins, Enters, opening, Final, Seen}
 use Rattle.hl_words.specs.declared.view.Touch.TheVariants.{Called, Met}
+use Rattle.hl_words.specs.declared.view.Extent.{Extent}
 use Rattle.hl_words.specs.declared.view.Known.{Known}
 use Rattle.hl_words.specs.declared.view.OffsetWords.{OffsetWords}
 use Rattle.hl_words.specs.declared.view.RiderView.{RiderView}
 use Rattle.hl_words.specs.declared.view.SeatView.{SeatView}
 use Rattle.hl_words.specs.declared.view.Room.{Room}
 use Rattle.hl_words.specs.declared.which.Which.{Which}
-use Rattle.hl_words.specs.Views.{place_of, no_offsets, offset_of, with_offset, fresh, fresh_from, past_of, told, called}
-use Rattle.hl_words.specs.Rule.{HasOneOrder, IsRuled}
-use Rattle.hl_words.specs.Seats.{master_seat, knows_seat, rider_seat, spent_seat, first_seat, riders_in, HasPast, IsKnown, CallsUpTo, IsKept, Holds, Sets, left_seat, right_seat, joined_seat, left_called, right_called, same_seat, shown_seat, copied_seat, told_seat, attested_seat, Blanks}
-use Rattle.hl_words.proofs.Cut.{every_front, every_back, every_append, every_set, every_elem}
+use Rattle.hl_words.specs.Views.{place_of, no_offsets, offset_of, with_offset, fresh, fresh_from, past_of, told, called, no_extent}
+use Rattle.hl_words.specs.Rule.{RisesTo, HasOneOrder, IsRuledAt}
+use Rattle.hl_words.specs.Seats.{master_seat, knows_seat, rider_seat, spent_seat, first_seat, riders_in, HasPast, IsKnown, IsKept, Holds, Sets, left_seat, right_seat, joined_seat, left_called, right_called, same_seat, shown_seat, copied_seat, told_seat, attested_seat, Blanks}
+use Rattle.hl_words.proofs.Cut.{every_append, every_set, every_elem}
 use Rattle.hl_words.proofs.Line.{line_wide, line_at, line_set}
 use Rattle.hl_words.proofs.Orders.{at_place, some_changed, some_to_front, some_from_front}
 use Rattle.hl_words.proofs.Standing.{IsStanding, Below, no_loads, no_stores, standing_from, ruled_from, to_front, from_front, after_call, after_told, after_set}
-use Rattle.hl_words.proofs.Steps.{AllKnown, Nothing, calls_more, known_more, master_after, parted, past_more, rider_kept}
+use Rattle.hl_words.proofs.Steps.{AllKnown, Nothing, known_more, master_after, parted, past_more, same_master, rider_kept}
 
 -- any seat
-abbrev pub full_seat : OffsetWords → List RiderView → ℕ → List Known → SeatView
+abbrev pub full_seat : OffsetWords → List RiderView → Extent → List Known → SeatView
 full_seat last riders m known = record { offsets = last; riders = riders; called = m; known = known }
 
 riders_in-push : (views : List SeatView) (w : SeatView) → riders_in (views ++ w ∷ []) ≡ riders_in views ++ w.riders
@@ -33,7 +34,7 @@ riders_in-push (u ∷ us) w = ap (λ l. u.riders ++ l) (riders_in-push us w) ∙
 
 module _ (room : Room) where
   -- the master's steps are those of seat 0
-  pub sets_allowed : (slots id : ℕ) (me : Me Nothing SeatView) (m : ℕ) (last : OffsetWords) (which : Which) (i x : ℕ) → id ≡ 0 → me ≡ (master_seat m last [], []) → i ≡ 8 + place_of which room.cells → offset_of which last ≤ x
+  pub sets_allowed : (slots id : ℕ) (me : Me Nothing SeatView) (m : Extent) (last : OffsetWords) (which : Which) (i x : ℕ) → id ≡ 0 → me ≡ (master_seat m last [], []) → i ≡ 8 + place_of which room.cells → offset_of which last ≤ x
       → Allows (Holds room) slots id me i (λ _. x) (λ _. Sets which (step slots i x 0 none) me x)
   sets_allowed slots id me m last which i x first is place le =
       subst (λ (k : ℕ). Allows (Holds room) slots k me i (λ _. x) (λ _. Sets which (step slots i x 0 none) me x)) (sym first)
@@ -47,16 +48,15 @@ module _ (room : Room) where
           let mine : h.master ≡ master_seat m last [] = sym (some-injective v h.master h.seat) ∙ same in
           let flat : riders_in (v ∷ views) ≡ riders_in views = ap (λ (u : SeatView). u.riders ++ riders_in views) same in
           let used = drop 8 words in
-          let ruled = subst (λ l. IsRuled room.cells used last l) flat (subst (λ (u : SeatView). IsRuled room.cells used u.offsets (riders_in (v ∷ views))) mine h.ruled) in
-          let now = ruled_from room.cells (set used (place_of which room.cells) x) (with_offset which x last) (riders_in views)
-          (after_set which room.cells used last (riders_in views) x (line_wide room.cells words h.width) le (standing_from room.cells used last (riders_in views) ruled)) in
+          let ruled = subst (λ l. IsRuledAt room.cells used last m l) flat (subst (λ (u : SeatView). IsRuledAt room.cells used u.offsets u.called (riders_in (v ∷ views))) mine h.ruled) in
+          let now = ruled_from room.cells (set used (place_of which room.cells) x) (with_offset which x last) m (riders_in views)
+          (after_set which room.cells used last m (riders_in views) x (line_wide room.cells words h.width) le (standing_from room.cells used last m (riders_in views) ruled)) in
           record {
             master = master_seat m (with_offset which x last) [];
             seat = refl;
             width = length-set words i x ∙ h.width;
             count = sym (ap length flat) ∙ h.count;
-            ruled = subst (λ ws. IsRuled room.cells ws (with_offset which x last) (riders_in views)) (sym (line_set words i (place_of which room.cells) x place)) now;
-            called = subst (λ l. Every (CallsUpTo m) l) flat (subst (λ (u : SeatView). Every (CallsUpTo u.called) (riders_in (v ∷ views))) mine h.called);
+            ruled = subst (λ ws. IsRuledAt room.cells ws (with_offset which x last) m (riders_in views)) (sym (line_set words i (place_of which room.cells) x place)) now;
             known = (tt, subst (λ l. AllKnown l views) flat h.known.1);
           }
 
@@ -70,29 +70,26 @@ module _ (room : Room) where
         seat = h.seat;
         width = h.width;
         count = ap length flat ∙ h.count;
-        ruled = subst (λ l. IsRuled room.cells (drop 8 words) h.master.offsets l) (sym flat) h.ruled;
-        called = subst (λ l. Every (CallsUpTo h.master.called) l) (sym flat) h.called;
+        ruled = subst (λ l. IsRuledAt room.cells (drop 8 words) h.master.offsets h.master.called l) (sym flat) h.ruled;
         known = subst (λ l. AllKnown l ((u ∷ us) ++ w ∷ [])) (sym flat) (every_append (λ (v : SeatView). Every (IsKnown (riders_in (u ∷ us))) v.known) (u ∷ us) (w ∷ []) h.known (knows, tt));
       }
 
   -- a rider is dealt out, and may change
-  dealt : (words : List ℕ) (u : SeatView) (us : List SeatView) (last : OffsetWords) (r q : RiderView) (rs : List RiderView) (m n : ℕ) (known : List Known) → (h : IsKept room words (u ∷ us)) → u ≡ full_seat last (r ∷ rs) m known
-      → m ≤ n → q.name ≡ r.name → HasPast r.touches q → (CallsUpTo n r → CallsUpTo n q)
-      → ((back : List RiderView) → Every (CallsUpTo m) (r ∷ back) → IsStanding room.cells (drop 8 words) last (r ∷ back) → IsStanding room.cells (drop 8 words) last (q ∷ back))
+  dealt : (words : List ℕ) (u : SeatView) (us : List SeatView) (last : OffsetWords) (r q : RiderView) (rs : List RiderView) (m n : Extent) (known : List Known) → (h : IsKept room words (u ∷ us)) → u ≡ full_seat last (r ∷ rs) m known
+      → q.name ≡ r.name → HasPast r.touches q
+      → ((back : List RiderView) → IsStanding room.cells (drop 8 words) last m (r ∷ back) → IsStanding room.cells (drop 8 words) last n (q ∷ back))
       → IsKept room words (full_seat last rs n known ∷ (us ++ rider_seat q ∷ []))
-  dealt words u us last r q rs m n known h same le named longer fits move =
+  dealt words u us last r q rs m n known h same named longer move =
       let w = rider_seat q in
       let used = drop 8 words in
       let others = rs ++ riders_in us in
       let old : riders_in (u ∷ us) ≡ r ∷ others = ap (λ (x : SeatView). x.riders ++ riders_in us) same in
       let flat : rs ++ riders_in (us ++ w ∷ []) ≡ others ++ q ∷ [] = ap (λ l. rs ++ l) (riders_in-push us w) ∙ sym (append_assoc rs (riders_in us) (q ∷ [])) in
       let mine : h.master ≡ full_seat last (r ∷ rs) m known = sym (some-injective u h.master h.seat) ∙ same in
-      let known_calls : Every (CallsUpTo m) (r ∷ others) = subst (λ l. Every (CallsUpTo m) l) old (subst (λ (x : SeatView). Every (CallsUpTo x.called) (riders_in (u ∷ us))) mine h.called) in
-      let calls : Every (CallsUpTo n) (r ∷ others) = calls_more m n le (r ∷ others) known_calls in
-      let ruled : IsRuled room.cells used last (r ∷ others) = subst (λ l. IsRuled room.cells used last l) old (subst (λ (x : SeatView). IsRuled room.cells used x.offsets (riders_in (u ∷ us))) mine h.ruled) in
-      let moved : IsStanding room.cells used last (q ∷ others) = move others known_calls (standing_from room.cells used last (r ∷ others) ruled) in
-      let full : IsStanding room.cells used last (q ∷ (others ++ [])) = subst (λ l. IsStanding room.cells used last (q ∷ l)) (sym (append-nil others)) moved in
-      let now = ruled_from room.cells used last (others ++ q ∷ []) (from_front others q [] room.cells used last full) in
+      let ruled : IsRuledAt room.cells used last m (r ∷ others) = subst (λ l. IsRuledAt room.cells used last m l) old (subst (λ (x : SeatView). IsRuledAt room.cells used x.offsets x.called (riders_in (u ∷ us))) mine h.ruled) in
+      let moved : IsStanding room.cells used last n (q ∷ others) = move others (standing_from room.cells used last m (r ∷ others) ruled) in
+      let full : IsStanding room.cells used last n (q ∷ (others ++ [])) = subst (λ l. IsStanding room.cells used last n (q ∷ l)) (sym (append-nil others)) moved in
+      let now = ruled_from room.cells used last n (others ++ q ∷ []) (from_front others q [] room.cells used last n full) in
       let grows : (k : Known) → IsKnown (riders_in (u ∷ us)) k → IsKnown (rs ++ riders_in (us ++ w ∷ [])) k =
       λ k s. subst (λ l. IsKnown l k) (sym flat)
       (some_from_front others q [] (λ x. (x.name ≡ k.name) × HasPast k.touches x)
@@ -103,8 +100,7 @@ module _ (room : Room) where
         seat = refl;
         width = h.width;
         count = ap length flat ∙ omega (arith, length-append others (q ∷ []), ap length old, h.count);
-        ruled = subst (λ l. IsRuled room.cells used last l) (sym flat) now;
-        called = subst (λ l. Every (CallsUpTo n) l) (sym flat) (every_append (CallsUpTo n) others (q ∷ []) calls.1 (fits calls.0, tt));
+        ruled = subst (λ l. IsRuledAt room.cells used last n l) (sym flat) now;
         known = known_more (riders_in (u ∷ us)) (rs ++ riders_in (us ++ w ∷ [])) (full_seat last rs n known ∷ (us ++ w ∷ [])) grows
             (subst (λ (x : SeatView). Every (IsKnown (riders_in (u ∷ us))) x.known) same h.known.0, every_append (λ (v : SeatView). Every (IsKnown (riders_in (u ∷ us))) v.known) us (w ∷ []) h.known.1 (tt, tt));
       }
@@ -113,17 +109,17 @@ module _ (room : Room) where
   pub deals : (id : ℕ) (v : SeatView) → id ≡ 0 → Splits (Holds room) id v (left_seat v) (right_seat v)
   deals id v first = subst (λ (k : ℕ). Splits (Holds room) k v (left_seat v) (right_seat v)) (sym first) (λ s h at. kept s.words s.views v.offsets v.riders v.called v.known h at)
     where
-      kept : (words : List ℕ) (views : List SeatView) (last : OffsetWords) (riders : List RiderView) (m : ℕ) (known : List Known) → IsKept room words views → get_elem? views 0 ≡ some (full_seat last riders m known)
+      kept : (words : List ℕ) (views : List SeatView) (last : OffsetWords) (riders : List RiderView) (m : Extent) (known : List Known) → IsKept room words views → get_elem? views 0 ≡ some (full_seat last riders m known)
           → IsKept room words (set views 0 (left_seat (full_seat last riders m known)) ++ right_seat (full_seat last riders m known) ∷ [])
       kept words [] last riders m known h at = absurd (some-ne-none (full_seat last riders m known) (sym at))
       kept words (u ∷ us) last riders m known h at = by_riders riders (some-injective u (full_seat last riders m known) at)
         where
           by_riders : (riders : List RiderView) → u ≡ full_seat last riders m known → IsKept room words (left_seat (full_seat last riders m known) ∷ (us ++ right_seat (full_seat last riders m known) ∷ []))
           by_riders [] same = subst (λ (x : SeatView). IsKept room words (x ∷ (us ++ spent_seat ∷ []))) same (pushed words (u ∷ us) spent_seat h refl tt)
-          by_riders (r ∷ rs) same = dealt words u us last r r rs m m known h same (omega arith) refl ([], refl) (λ e. e) (λ back e st. st)
+          by_riders (r ∷ rs) same = dealt words u us last r r rs m m known h same refl ([], refl) (λ back st. st)
 
   -- a rider is dealt out that made a call
-  pub calls : (n : ℕ) (id : ℕ) (me : Me Nothing SeatView) (m : ℕ) (last : OffsetWords) (r : RiderView) → id ≡ 0 → me ≡ (master_seat m last (r ∷ []), []) → m ≤ n → Splits (Holds room) id me.0 (left_called n me.0) (right_called n me.0)
+  pub calls : (n : Extent) (id : ℕ) (me : Me Nothing SeatView) (m : Extent) (last : OffsetWords) (r : RiderView) → id ≡ 0 → me ≡ (master_seat m last (r ∷ []), []) → RisesTo m n → Splits (Holds room) id me.0 (left_called n me.0) (right_called n me.0)
   calls n id me m last r first is le =
       subst (λ (k : ℕ). Splits (Holds room) k me.0 (left_called n me.0) (right_called n me.0)) (sym first)
       (subst (λ (x : Me Nothing SeatView). Splits (Holds room) 0 x.0 (left_called n x.0) (right_called n x.0)) (sym is) (λ s h at. kept s.words s.views h at))
@@ -132,8 +128,8 @@ module _ (room : Room) where
           → IsKept room words (set views 0 (master_seat n last []) ++ rider_seat (called m n r) ∷ [])
       kept words [] h at = absurd (some-ne-none (master_seat m last (r ∷ [])) (sym at))
       kept words (u ∷ us) h at =
-          dealt words u us last r (called m n r) [] m n [] h (some-injective u (master_seat m last (r ∷ [])) at) le refl (Called m n ∷ [], refl) (λ e. (omega arith, e))
-          (λ back each st. after_call [] r back room.cells (drop 8 words) last m n le each st)
+          dealt words u us last r (called m n r) [] m n [] h (some-injective u (master_seat m last (r ∷ [])) at) refl (Called m n ∷ [], refl)
+          (λ back st. after_call [] r back room.cells (drop 8 words) last m n le st)
 
   -- a load makes a seat for nobody
   pub blanks : (slots : ℕ) (v : SeatView) → Enters (Holds room) slots 0 (λ n w. Blanks (step slots 0 0 0 none) (v, []) n (w, []))
@@ -170,8 +166,7 @@ module _ (room : Room) where
         seat = m.1;
         width = h.width;
         count = ap length flat ∙ h.count;
-        ruled = subst (λ l. IsRuled room.cells (drop 8 words) m.0.offsets l) (sym flat) (subst (λ o. IsRuled room.cells (drop 8 words) o (riders_in views)) (sym m.2) h.ruled);
-        called = subst (λ l. Every (CallsUpTo m.0.called) l) (sym flat) (subst (λ c. Every (CallsUpTo c) (riders_in views)) (sym m.3) h.called);
+        ruled = subst (λ l. IsRuledAt room.cells (drop 8 words) m.0.offsets m.0.called l) (sym flat) (same_master room.cells (drop 8 words) h.master m.0 (riders_in views) m.2 m.3 h.ruled);
         known = subst (λ l. AllKnown l (set views id spent_seat)) (sym flat) (every_set (λ (v : SeatView). Every (IsKnown (riders_in views)) v.known) views id spent_seat h.known tt);
       }
 
@@ -187,8 +182,7 @@ module _ (room : Room) where
         seat = m.1;
         width = h.width;
         count = ap length flat ∙ h.count;
-        ruled = subst (λ l. IsRuled room.cells (drop 8 words) m.0.offsets l) (sym flat) (subst (λ o. IsRuled room.cells (drop 8 words) o (riders_in views)) (sym m.2) h.ruled);
-        called = subst (λ l. Every (CallsUpTo m.0.called) l) (sym flat) (subst (λ c. Every (CallsUpTo c) (riders_in views)) (sym m.3) h.called);
+        ruled = subst (λ l. IsRuledAt room.cells (drop 8 words) m.0.offsets m.0.called l) (sym flat) (same_master room.cells (drop 8 words) h.master m.0 (riders_in views) m.2 m.3 h.ruled);
         known = subst (λ l. AllKnown l (set views id w)) (sym flat) (every_set (λ (x : SeatView). Every (IsKnown (riders_in views)) x.known) views id w h.known knows);
       }
 
@@ -204,7 +198,7 @@ module _ (room : Room) where
           let new : SeatView = rider_seat (told k r) in
           let knows : Every (IsKnown (riders_in views)) (k ∷ []) = every_elem (λ (x : SeatView). Every (IsKnown (riders_in views)) x.known) views other (knows_seat k) h.known (sym (set_else views id other new apart) ∙ there) in
           let mid : IsKept room words (set views id new) =
-          rider_kept room words words views id r (told k r) h at refl refl (Met k.name (length k.touches) ∷ [], refl) (λ n e. (tt, e)) (λ front back last b st. after_told front r back room.cells (drop 8 words) last k (subst (λ l. IsKnown l k) b knows.0) st) in
+          rider_kept room words words views id r (told k r) h at refl refl (Met k.name (length k.touches) ∷ [], refl) (λ front back last m b st. after_told front r back room.cells (drop 8 words) last m k (subst (λ l. IsKnown l k) b knows.0) st) in
           cleared words (set views id new) other k mid there
 
   -- any seat takes what a past tells
@@ -240,11 +234,8 @@ module _ (room : Room) where
           let flat : r ∷ (v.riders ++ riders_in (set us k spent_seat)) ≡ r ∷ (front ++ p.back) = ap (λ l. r ∷ l) (ap (λ l. v.riders ++ l) gone ∙ sym (append_assoc v.riders p.front p.back)) in
           let mine : h.master ≡ v = sym (some-injective u h.master h.seat) ∙ same in
           let used = drop 8 words in
-          let ruled = subst (λ l. IsRuled room.cells used v.offsets l) old (subst (λ (x : SeatView). IsRuled room.cells used x.offsets (riders_in (u ∷ us))) mine h.ruled) in
-          let now = ruled_from room.cells used v.offsets (r ∷ (front ++ p.back)) (to_front front r p.back room.cells used v.offsets (standing_from room.cells used v.offsets (front ++ r ∷ p.back) ruled)) in
-          let calls : Every (CallsUpTo v.called) (front ++ r ∷ p.back) = subst (λ l. Every (CallsUpTo v.called) l) old (subst (λ (x : SeatView). Every (CallsUpTo x.called) (riders_in (u ∷ us))) mine h.called) in
-          let ends = every_back (CallsUpTo v.called) front (r ∷ p.back) calls in
-          let all : Every (CallsUpTo v.called) (r ∷ (front ++ p.back)) = (ends.0, every_append (CallsUpTo v.called) front p.back (every_front (CallsUpTo v.called) front (r ∷ p.back) calls) ends.1) in
+          let ruled = subst (λ l. IsRuledAt room.cells used v.offsets v.called l) old (subst (λ (x : SeatView). IsRuledAt room.cells used x.offsets x.called (riders_in (u ∷ us))) mine h.ruled) in
+          let now = ruled_from room.cells used v.offsets v.called (r ∷ (front ++ p.back)) (to_front front r p.back room.cells used v.offsets v.called (standing_from room.cells used v.offsets v.called (front ++ r ∷ p.back) ruled)) in
           let grows : (x : Known) → IsKnown (riders_in (u ∷ us)) x → IsKnown (r ∷ (v.riders ++ riders_in (set us k spent_seat))) x =
           λ x s. subst (λ l. IsKnown l x) (sym flat) (some_to_front front r p.back (λ y. (y.name ≡ x.name) × HasPast x.touches y) (subst (λ l. IsKnown l x) old s)) in
           record {
@@ -252,33 +243,32 @@ module _ (room : Room) where
             seat = refl;
             width = h.width;
             count = ap length flat ∙ omega (arith, length-append front p.back, length-append front (r ∷ p.back), ap length old, h.count);
-            ruled = subst (λ l. IsRuled room.cells used v.offsets l) (sym flat) now;
-            called = subst (λ l. Every (CallsUpTo v.called) l) (sym flat) all;
+            ruled = subst (λ l. IsRuledAt room.cells used v.offsets v.called l) (sym flat) now;
             known = known_more (riders_in (u ∷ us)) (r ∷ (v.riders ++ riders_in (set us k spent_seat))) (joined_seat v (rider_seat r) ∷ set us k spent_seat) grows
                 (subst (λ (x : SeatView). Every (IsKnown (riders_in (u ∷ us))) x.known) same h.known.0, every_set (λ (x : SeatView). Every (IsKnown (riders_in (u ∷ us))) x.known) us k spent_seat h.known.1 tt);
           }
 
   -- at the end the master's seat stands for all riders, and knows what the pasts tell that it took back
-  pub ends : (words : List ℕ) (slots : List Nothing) (m : ℕ) (last : OffsetWords) (riders : List RiderView) (ks : List Known) (id : ℕ) (v : SeatView) → id ≡ 0 → v ≡ full_seat last riders m ks → length riders ≡ room.riders
-      → Final (Seen (Holds room) id v) words slots → IsRuled room.cells (drop 8 words) last riders × Every (IsKnown riders) ks
+  pub ends : (words : List ℕ) (slots : List Nothing) (m : Extent) (last : OffsetWords) (riders : List RiderView) (ks : List Known) (id : ℕ) (v : SeatView) → id ≡ 0 → v ≡ full_seat last riders m ks → length riders ≡ room.riders
+      → Final (Seen (Holds room) id v) words slots → IsRuledAt room.cells (drop 8 words) last m riders × Every (IsKnown riders) ks
   ends words slots m last riders ks id v first is all f =
       let s = f.0 in
       let at : get_elem? s.views 0 ≡ some (full_seat last riders m ks) = ap (get_elem? s.views) (sym first) ∙ f.1.1 ∙ ap some is in
       let both = told_at s.words s.views f.1.0 at in
-      (subst (λ ws. IsRuled room.cells (drop 8 ws) last riders) f.2 both.0, both.1)
+      (subst (λ ws. IsRuledAt room.cells (drop 8 ws) last m riders) f.2 both.0, both.1)
     where
       none_left : (xs ys : List RiderView) → length (xs ++ ys) ≡ length xs → xs ++ ys ≡ xs
       none_left xs [] e = append-nil xs
       none_left xs (y ∷ ys) e = absurd (omega (arith, length-append xs (y ∷ ys)))
 
-      told_at : (words : List ℕ) (views : List SeatView) → IsKept room words views → get_elem? views 0 ≡ some (full_seat last riders m ks) → IsRuled room.cells (drop 8 words) last riders × Every (IsKnown riders) ks
+      told_at : (words : List ℕ) (views : List SeatView) → IsKept room words views → get_elem? views 0 ≡ some (full_seat last riders m ks) → IsRuledAt room.cells (drop 8 words) last m riders × Every (IsKnown riders) ks
       told_at words [] h at = absurd (some-ne-none (full_seat last riders m ks) (sym at))
       told_at words (u ∷ us) h at =
           let same : u ≡ full_seat last riders m ks = some-injective u (full_seat last riders m ks) at in
           let mine : h.master ≡ full_seat last riders m ks = sym (some-injective u h.master h.seat) ∙ same in
           let flat : riders_in (u ∷ us) ≡ riders ++ riders_in us = ap (λ (x : SeatView). x.riders ++ riders_in us) same in
           let whole : riders ++ riders_in us ≡ riders = none_left riders (riders_in us) (sym (ap length flat) ∙ h.count ∙ sym all) in (
-            subst (λ l. IsRuled room.cells (drop 8 words) last l) (flat ∙ whole) (subst (λ (x : SeatView). IsRuled room.cells (drop 8 words) x.offsets (riders_in (u ∷ us))) mine h.ruled),
+            subst (λ l. IsRuledAt room.cells (drop 8 words) last m l) (flat ∙ whole) (subst (λ (x : SeatView). IsRuledAt room.cells (drop 8 words) x.offsets x.called (riders_in (u ∷ us))) mine h.ruled),
             subst (λ l. Every (IsKnown l) ks) (flat ∙ whole) (subst (λ (x : SeatView). Every (IsKnown (riders_in (u ∷ us))) x.known) same h.known.0),
           )
 
@@ -290,8 +280,7 @@ module _ (room : Room) where
         seat = refl;
         width = length-replicate (room.cells + 27) 0;
         count = ap length flat ∙ long room.riders 0;
-        ruled = subst (λ l. IsRuled room.cells used no_offsets l) (sym flat) (ruled_from room.cells used no_offsets (fresh_from 0 room.riders) standing);
-        called = subst (λ l. Every (CallsUpTo 0) l) (sym flat) (each (CallsUpTo 0) (λ k. tt) room.riders 0);
+        ruled = subst (λ l. IsRuledAt room.cells used no_offsets no_extent l) (sym flat) (ruled_from room.cells used no_offsets no_extent (fresh_from 0 room.riders) standing);
         known = (tt, tt);
       }
     where
@@ -335,9 +324,10 @@ module _ (room : Room) where
         },
       )
 
-      standing : IsStanding room.cells used no_offsets (fresh_from 0 room.riders)
+      standing : IsStanding room.cells used no_offsets no_extent (fresh_from 0 room.riders)
       standing = record {
         order = order;
+        called_is = refl;
         read_only = empty (room.cells + 8);
         head = empty (room.cells + 9);
         ended = empty (room.cells + 10);

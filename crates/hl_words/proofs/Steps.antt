@@ -8,7 +8,8 @@ use mathlib.Core.Option.{some, none, some-injective, some-ne-none}
 use lib.ListN.{get_elem?}
 use Rattle.atomic_table.specs.Table.{Me, step, keeps, Allows}
 use Rattle.hl_words.specs.declared.view.Touch.{Touch}
-use Rattle.hl_words.specs.declared.view.Touch.TheVariants.{Stored, Loaded, Changed, Called, Looked, Met}
+use Rattle.hl_words.specs.declared.view.Touch.TheVariants.{Stored, Loaded, Changed, Looked}
+use Rattle.hl_words.specs.declared.view.Extent.{Extent}
 use Rattle.hl_words.specs.declared.view.Known.{Known}
 use Rattle.hl_words.specs.declared.view.OffsetWords.{OffsetWords}
 use Rattle.hl_words.specs.declared.view.RiderView.{RiderView}
@@ -17,9 +18,9 @@ use Rattle.hl_words.specs.declared.view.Room.{Room}
 use Rattle.hl_words.specs.declared.which.Which.{Which}
 use Rattle.hl_words.specs.declared.which.Which.TheVariants.{ReadOnly, Head, Ended}
 use Rattle.hl_words.specs.Views.{place_of, offset_of, greatest_of, touched, added, exchanged, with_loaded, looked}
-use Rattle.hl_words.specs.Rule.{IsUpTo, IsRuled}
-use Rattle.hl_words.specs.Seats.{rider_seat, riders_in, HasPast, IsKnown, CallsUpTo, IsKept, Holds, Stores, Loads, Adds, Exchanges, Looks}
-use Rattle.hl_words.proofs.Cut.{every_front, every_back, every_append, every_weaker, every_set}
+use Rattle.hl_words.specs.Rule.{IsRuledAt}
+use Rattle.hl_words.specs.Seats.{rider_seat, riders_in, HasPast, IsKnown, IsKept, Holds, Stores, Loads, Adds, Exchanges, Looks}
+use Rattle.hl_words.proofs.Cut.{every_back, every_weaker, every_set}
 use Rattle.hl_words.proofs.Line.{line_wide, line_at, line_set}
 use Rattle.hl_words.proofs.Orders.{some_changed}
 use Rattle.hl_words.proofs.Standing.{IsStanding, Below, standing_from, ruled_from, after_store, after_change, after_load, after_look, found_offset}
@@ -63,37 +64,26 @@ pub known_more : (riders after : List RiderView) (views : List SeatView) → ((k
 known_more riders after views grows h =
     every_weaker (λ (v : SeatView). Every (IsKnown riders) v.known) (λ (v : SeatView). Every (IsKnown after) v.known) views (λ v e. every_weaker (IsKnown riders) (IsKnown after) v.known grows e) h
 
--- a greater number fits as well
-up_to_more : (m n : ℕ) → m ≤ n → (t : Touch) → IsUpTo m t → IsUpTo n t
-up_to_more m n le (Stored d v) h = tt
-up_to_more m n le (Loaded d v) h = tt
-up_to_more m n le (Changed d w v) h = tt
-up_to_more m n le (Called met left) h = omega (arith, le, h)
-up_to_more m n le (Looked w x) h = tt
-up_to_more m n le (Met name count) h = tt
-
-pub calls_more : (m n : ℕ) → m ≤ n → (riders : List RiderView) → Every (CallsUpTo m) riders → Every (CallsUpTo n) riders
-calls_more m n le riders h = every_weaker (CallsUpTo m) (CallsUpTo n) riders (λ r e. every_weaker (IsUpTo m) (IsUpTo n) r.touches (up_to_more m n le) e) h
-
 -- what a rider made, it made where it made more since
 pub past_more : (past : List Touch) (r q : RiderView) → HasPast past r → HasPast r.touches q → HasPast past q
 past_more past r q h k = (k.0 ++ h.0, k.1 ∙ ap (λ (l : List Touch). k.0 ++ l) h.1 ∙ sym (append_assoc k.0 h.0 past))
 
+-- another seat that knows as much
+pub same_master : (cells : ℕ) (words : List ℕ) (m u : SeatView) (riders : List RiderView) → u.offsets ≡ m.offsets → u.called ≡ m.called → IsRuledAt cells words m.offsets m.called riders → IsRuledAt cells words u.offsets u.called riders
+same_master cells words m u riders stores calls h = subst (λ e. IsRuledAt cells words u.offsets e riders) (sym calls) (subst (λ o. IsRuledAt cells words o m.called riders) (sym stores) h)
+
 -- one rider's view and some words change
 pub rider_kept : (room : Room) (words after : List ℕ) (views : List SeatView) (id : ℕ) (r q : RiderView) → IsKept room words views → get_elem? views id ≡ some (rider_seat r) → length after ≡ length words
-    → q.name ≡ r.name → HasPast r.touches q → ((n : ℕ) → CallsUpTo n r → CallsUpTo n q)
-    → ((front back : List RiderView) (last : OffsetWords) → riders_in views ≡ front ++ r ∷ back → IsStanding room.cells (drop 8 words) last (front ++ r ∷ back) → IsStanding room.cells (drop 8 after) last (front ++ q ∷ back))
+    → q.name ≡ r.name → HasPast r.touches q
+    → ((front back : List RiderView) (last : OffsetWords) (m : Extent) → riders_in views ≡ front ++ r ∷ back → IsStanding room.cells (drop 8 words) last m (front ++ r ∷ back) → IsStanding room.cells (drop 8 after) last m (front ++ q ∷ back))
     → IsKept room after (set views id (rider_seat q))
-rider_kept room words after views id r q h at width named longer fits move =
+rider_kept room words after views id r q h at width named longer move =
     let p = parted views id (rider_seat r) at in
     let m = master_after views id h.master (rider_seat r) (rider_seat q) h.seat at refl refl in
     let now = p.after (rider_seat q) in
-    let standing = standing_from room.cells (drop 8 words) h.master.offsets (p.front ++ r ∷ p.back) (subst (λ l. IsRuled room.cells (drop 8 words) h.master.offsets l) p.before h.ruled) in
-    let moved = ruled_from room.cells (drop 8 after) h.master.offsets (p.front ++ q ∷ p.back) (move p.front p.back h.master.offsets p.before standing) in
     let n = h.master.called in
-    let calls : Every (CallsUpTo n) (p.front ++ r ∷ p.back) = subst (λ l. Every (CallsUpTo n) l) p.before h.called in
-    let ends = every_back (CallsUpTo n) p.front (r ∷ p.back) calls in
-    let called_now : Every (CallsUpTo n) (p.front ++ q ∷ p.back) = every_append (CallsUpTo n) p.front (q ∷ p.back) (every_front (CallsUpTo n) p.front (r ∷ p.back) calls) (fits n ends.0, ends.1) in
+    let standing = standing_from room.cells (drop 8 words) h.master.offsets n (p.front ++ r ∷ p.back) (subst (λ l. IsRuledAt room.cells (drop 8 words) h.master.offsets n l) p.before h.ruled) in
+    let moved = ruled_from room.cells (drop 8 after) h.master.offsets n (p.front ++ q ∷ p.back) (move p.front p.back h.master.offsets n p.before standing) in
     let grows : (k : Known) → IsKnown (riders_in views) k → IsKnown (riders_in (set views id (rider_seat q))) k =
     λ k s. subst (λ l. IsKnown l k) (sym now)
     (some_changed (λ i x. (x.name ≡ k.name) × HasPast k.touches x) (λ i x. (x.name ≡ k.name) × HasPast k.touches x) p.front r q p.back (λ y. (named ∙ y.0, past_more k.touches r q y.1 longer)) (λ i x y. y) (subst (λ l. IsKnown l k) p.before s)) in
@@ -102,17 +92,16 @@ rider_kept room words after views id r q h at width named longer fits move =
       seat = m.1;
       width = width ∙ h.width;
       count = ap length now ∙ length-append p.front (q ∷ p.back) ∙ sym (length-append p.front (r ∷ p.back)) ∙ sym (ap length p.before) ∙ h.count;
-      ruled = subst (λ l. IsRuled room.cells (drop 8 after) m.0.offsets l) (sym now) (subst (λ o. IsRuled room.cells (drop 8 after) o (p.front ++ q ∷ p.back)) (sym m.2) moved);
-      called = subst (λ l. Every (CallsUpTo m.0.called) l) (sym now) (subst (λ c. Every (CallsUpTo c) (p.front ++ q ∷ p.back)) (sym m.3) called_now);
+      ruled = subst (λ l. IsRuledAt room.cells (drop 8 after) m.0.offsets m.0.called l) (sym now) (same_master room.cells (drop 8 after) h.master m.0 (p.front ++ q ∷ p.back) m.2 m.3 moved);
       known = known_more (riders_in views) (riders_in (set views id (rider_seat q))) (set views id (rider_seat q)) grows (every_set (λ (v : SeatView). Every (IsKnown (riders_in views)) v.known) views id (rider_seat q) h.known tt);
     }
 
 -- what the rule says of the words and of one rider
 pub standing_at : (room : Room) (words : List ℕ) (views : List SeatView) (id : ℕ) (r : RiderView) → (h : IsKept room words views) → (at : get_elem? views id ≡ some (rider_seat r))
-    → IsStanding room.cells (drop 8 words) h.master.offsets ((parted views id (rider_seat r) at).front ++ r ∷ (parted views id (rider_seat r) at).back)
+    → IsStanding room.cells (drop 8 words) h.master.offsets h.master.called ((parted views id (rider_seat r) at).front ++ r ∷ (parted views id (rider_seat r) at).back)
 standing_at room words views id r h at =
     let p = parted views id (rider_seat r) at in
-    standing_from room.cells (drop 8 words) h.master.offsets (p.front ++ r ∷ p.back) (subst (λ l. IsRuled room.cells (drop 8 words) h.master.offsets l) p.before h.ruled)
+    standing_from room.cells (drop 8 words) h.master.offsets h.master.called (p.front ++ r ∷ p.back) (subst (λ l. IsRuledAt room.cells (drop 8 words) h.master.offsets h.master.called l) p.before h.ruled)
 
 module _ (room : Room) (slots : ℕ) (id : ℕ) where
   pub stores_allowed : (me : Me Nothing SeatView) (r : RiderView) (w v : ℕ) → me ≡ (rider_seat r, []) → 8 ≤ w → w - 8 < room.cells
@@ -122,10 +111,10 @@ module _ (room : Room) (slots : ℕ) (id : ℕ) where
         rider_seat q,
         keeps,
         tt,
-        rider_kept room s.words (set s.words w v) s.views id r q h at (length-set s.words w v) refl (Stored (w - 8) v ∷ [], refl) (λ n e. (tt, e))
-            (λ front back last b k.
-            subst (λ ws. IsStanding room.cells ws last (front ++ q ∷ back)) (sym (line_set s.words w (w - 8) v (omega (arith, behind))))
-            (after_store front r back room.cells (drop 8 s.words) last (w - 8) v less (line_wide room.cells s.words h.width) k)),
+        rider_kept room s.words (set s.words w v) s.views id r q h at (length-set s.words w v) refl (Stored (w - 8) v ∷ [], refl)
+            (λ front back last m b k.
+            subst (λ ws. IsStanding room.cells ws last m (front ++ q ∷ back)) (sym (line_set s.words w (w - 8) v (omega (arith, behind))))
+            (after_store front r back room.cells (drop 8 s.words) last m (w - 8) v less (line_wide room.cells s.words h.width) k)),
         refl,
       ))
 
@@ -136,8 +125,8 @@ module _ (room : Room) (slots : ℕ) (id : ℕ) where
       let found = slice_index words w in
       let q = touched (Loaded (w - 8) found) r in
       subst (λ ws. IsKept room ws (set views id (rider_seat q))) (sym (set-get_or words w 0))
-      (rider_kept room words words views id r q h at refl refl (Loaded (w - 8) found ∷ [], refl) (λ n e. (tt, e))
-      (λ front back last b k. after_load front r back room.cells (drop 8 words) last (w - 8) found less (line_at words w (w - 8) (omega (arith, behind))) k))
+      (rider_kept room words words views id r q h at refl refl (Loaded (w - 8) found ∷ [], refl)
+      (λ front back last m b k. after_load front r back room.cells (drop 8 words) last m (w - 8) found less (line_at words w (w - 8) (omega (arith, behind))) k))
 
   pub loads_allowed : (me : Me Nothing SeatView) (r : RiderView) (w : ℕ) → me ≡ (rider_seat r, []) → 8 ≤ w → w - 8 < room.cells
       → Allows (Holds room) slots id me w (λ n. n) (Loads (step slots w 0 0 none) me)
@@ -151,10 +140,10 @@ module _ (room : Room) (slots : ℕ) (id : ℕ) where
       let found = slice_index words w in
       let q = touched (Changed (w - 8) found v) r in
       let place : w ≡ 8 + (w - 8) = omega (arith, behind) in
-      rider_kept room words (set words w v) views id r q h at (length-set words w v) refl (Changed (w - 8) found v ∷ [], refl) (λ n e. (tt, e))
-      (λ front back last b k.
-      subst (λ ws. IsStanding room.cells ws last (front ++ q ∷ back)) (sym (line_set words w (w - 8) v place))
-      (after_change front r back room.cells (drop 8 words) last (w - 8) found v less (line_wide room.cells words h.width) (line_at words w (w - 8) place) k))
+      rider_kept room words (set words w v) views id r q h at (length-set words w v) refl (Changed (w - 8) found v ∷ [], refl)
+      (λ front back last m b k.
+      subst (λ ws. IsStanding room.cells ws last m (front ++ q ∷ back)) (sym (line_set words w (w - 8) v place))
+      (after_change front r back room.cells (drop 8 words) last m (w - 8) found v less (line_wide room.cells words h.width) (line_at words w (w - 8) place) k))
 
   pub adds_allowed : (me : Me Nothing SeatView) (r : RiderView) (w more : ℕ) → me ≡ (rider_seat r, []) → 8 ≤ w → w - 8 < room.cells
       → Allows (Holds room) slots id me w (λ n. (n + more) % 2 ^ 64) (Adds (step slots w more 0 none) me)
@@ -190,8 +179,8 @@ module _ (room : Room) (slots : ℕ) (id : ℕ) where
       (λ s h homes at bound.
       let x = slice_index s.words i in
       let q = with_loaded which x r in
-      let found : (last : OffsetWords) (riders : List RiderView) → IsStanding room.cells (drop 8 s.words) last riders → x ≡ offset_of which last =
-      λ last riders k. line_at s.words i (place_of which room.cells) place ∙ found_offset which room.cells (drop 8 s.words) last riders k in
+      let found : (last : OffsetWords) (m : Extent) (riders : List RiderView) → IsStanding room.cells (drop 8 s.words) last m riders → x ≡ offset_of which last =
+      λ last m riders k. line_at s.words i (place_of which room.cells) place ∙ found_offset which room.cells (drop 8 s.words) last m riders k in
       let now = standing_at room s.words s.views id r h at in
       let p = parted s.views id (rider_seat r) at in
       let below = (every_back (Below h.master.offsets) p.front (r ∷ p.back) now.offset).0 in (
@@ -199,8 +188,8 @@ module _ (room : Room) (slots : ℕ) (id : ℕ) where
         keeps,
         tt,
         subst (λ ws. IsKept room ws (set s.views id (rider_seat q))) (sym (set-get_or s.words i 0))
-            (rider_kept room s.words s.words s.views id r q h at refl refl (Looked which x ∷ [], refl) (λ n e. (tt, e)) (λ front back last b k. after_look front r back room.cells (drop 8 s.words) last which x (found last (front ++ r ∷ back) k) k)),
-        (refl, only x r (at_most which h.master.offsets r x (found h.master.offsets (p.front ++ r ∷ p.back) now) below)),
+            (rider_kept room s.words s.words s.views id r q h at refl refl (Looked which x ∷ [], refl) (λ front back last m b k. after_look front r back room.cells (drop 8 s.words) last m which x (found last m (front ++ r ∷ back) k) k)),
+        (refl, only x r (at_most which h.master.offsets r x (found h.master.offsets h.master.called (p.front ++ r ∷ p.back) now) below)),
       ))
     where
       at_most : (which : Which) (last : OffsetWords) (r : RiderView) (x : ℕ) → x ≡ offset_of which last → Below last r → greatest_of which (looked r.touches) ≤ x

@@ -6,9 +6,10 @@ use Rattle.hl_model.specs.Lists.{greatest}
 use Rattle.hl_words.specs.declared.view.Touch.{Touch}
 use Rattle.hl_words.specs.declared.view.Touch.TheVariants.{Stored, Loaded, Changed, Called, Looked, Met}
 use Rattle.hl_words.specs.declared.which.Which.{Which}
+use Rattle.hl_words.specs.declared.view.Extent.{Extent}
 use Rattle.hl_words.specs.declared.view.OffsetWords.{OffsetWords}
 use Rattle.hl_words.specs.declared.view.RiderView.{RiderView}
-use Rattle.hl_words.specs.Views.{newest, looked}
+use Rattle.hl_words.specs.Views.{newest, looked, no_extent}
 
 -- what these touches last stored into the cell; the newest stands first
 abbrev pub last_store : ℕ → List Touch → Option ℕ
@@ -97,14 +98,23 @@ abbrev pub held : ℕ → List TouchBy → ℕ
 held c [] = 0
 held c (t ∷ before) = left_by c t.touch (held c before)
 
--- no call that left more steps than n
-abbrev pub IsUpTo : ℕ → Touch → Type 0
-IsUpTo n (Stored d v) = Unit {0}
-IsUpTo n (Loaded d v) = Unit {0}
-IsUpTo n (Changed d found v) = Unit {0}
-IsUpTo n (Called met left) = left ≤ n
-IsUpTo n (Looked which x) = Unit {0}
-IsUpTo n (Met name count) = Unit {0}
+-- how far the newest call left the one list after this touch, if it was so far before it
+abbrev pub called_by : Touch → Extent → Extent
+called_by (Stored d v) e = e
+called_by (Loaded d v) e = e
+called_by (Changed d found v) e = e
+called_by (Called met left) e = left
+called_by (Looked which x) e = e
+called_by (Met name count) e = e
+
+-- how far the newest call of these touches left it, and nowhere before any; the newest stands first
+abbrev pub last_called : List TouchBy → Extent
+last_called [] = no_extent
+last_called (t ∷ before) = called_by t.touch (last_called before)
+
+-- neither number falls
+abbrev pub RisesTo : Extent → Extent → Type 0
+RisesTo met left = (met.steps ≤ left.steps) × (met.cut ≤ left.cut)
 
 -- no load of this word of the master's that gave more than n
 abbrev pub IsLookUpTo : Which → ℕ → Touch → Type 0
@@ -115,13 +125,13 @@ IsLookUpTo w n (Called met left) = Unit {0}
 IsLookUpTo w n (Looked which x) = which ≡ w → x ≤ n
 IsLookUpTo w n (Met name count) = Unit {0}
 
--- what the touch found in its cell is what the cell held after those before it; a call met all steps that
--- earlier calls left; and a load of a word of the master's gave no less than earlier ones did
+-- what the touch found in its cell is what the cell held after those before it; a call met the one list where the
+-- newest call before it left it; and a load of a word of the master's gave no less than earlier ones did
 abbrev pub Finds : List TouchBy → Touch → Type 0
 Finds before (Stored d v) = Unit {0}
 Finds before (Loaded d v) = v ≡ held d before
 Finds before (Changed d found v) = found ≡ held d before
-Finds before (Called met left) = (met ≤ left) × AllByRecursion (λ t. IsUpTo met t.touch) before
+Finds before (Called met left) = (met ≡ last_called before) × RisesTo met left
 Finds before (Looked which x) = AllByRecursion (λ t. IsLookUpTo which x t.touch) before
 Finds before (Met name count) = Unit {0}
 
@@ -156,9 +166,9 @@ abbrev pub AreMet : List RiderView → List TouchBy → Type 0
 AreMet riders [] = Unit {0}
 AreMet riders (t ∷ before) = HasMet riders before t.touch × AreMet riders before
 
--- One order of all touches: each load and each change found what the newest store before it left; each call met no
--- fewer steps than those before it left; what a rider was told of stands before; of each rider it has just that rider's
--- touches, in the rider's order, and no other touch; and each cell holds what the newest store there left
+-- One order of all touches: each load and each change found what the newest store before it left; each call met the one
+-- list where the newest call before it left it; what a rider was told of stands before; of each rider it has just that
+-- rider's touches, in the rider's order, and no other touch; and each cell holds what the newest store there left
 pub record IsOneOrder (cells : ℕ) (words : List ℕ) (riders : List RiderView)
     (order : List TouchBy) : Type 0 where
   pub serial : IsSerial order
@@ -197,3 +207,9 @@ pub record IsRuled (cells : ℕ) (words : List ℕ) (stores : OffsetWords)
       (λ i r. AreLoads stores.read_only (looked r.touches).read_only
       × AreLoads stores.head (looked r.touches).head
       × AreLoads stores.ended (looked r.touches).ended) riders
+
+-- the rule, and the newest call of the order left the one list so far
+pub record IsRuledAt (cells : ℕ) (words : List ℕ) (stores : OffsetWords) (called : Extent)
+    (riders : List RiderView) : Type 0 where
+  pub rule : IsRuled cells words stores riders
+  pub called_is : last_called rule.order.0 ≡ called

@@ -6,26 +6,27 @@ use lib.ListN.{get_elem?}
 use Rattle.atomic_table.specs.Table.{State, Me, Step}
 use Rattle.hl_words.specs.declared.view.Touch.{Touch}
 use Rattle.hl_words.specs.declared.view.Touch.TheVariants.{Stored, Loaded}
+use Rattle.hl_words.specs.declared.view.Extent.{Extent}
 use Rattle.hl_words.specs.declared.view.Known.{Known}
 use Rattle.hl_words.specs.declared.view.OffsetWords.{OffsetWords}
 use Rattle.hl_words.specs.declared.view.RiderView.{RiderView}
 use Rattle.hl_words.specs.declared.view.SeatView.{SeatView}
 use Rattle.hl_words.specs.declared.view.Room.{Room}
 use Rattle.hl_words.specs.declared.which.Which.{Which}
-use Rattle.hl_words.specs.Views.{no_offsets, greatest_of, with_offset, fresh_from, touched, added, exchanged, with_loaded, looked, past_of, told, called}
-use Rattle.hl_words.specs.Rule.{EachRider, SomeRider, IsUpTo, IsRuled}
+use Rattle.hl_words.specs.Views.{no_offsets, greatest_of, with_offset, fresh_from, touched, added, exchanged, with_loaded, looked, past_of, told, called, no_extent}
+use Rattle.hl_words.specs.Rule.{EachRider, SomeRider, IsRuledAt}
 
 -- a seat that knows these stores of the master's words, and stands for these riders
 abbrev pub seat_of : OffsetWords → List RiderView → SeatView
-seat_of last riders = record { offsets = last; riders = riders; called = 0; known = [] }
+seat_of last riders = record { offsets = last; riders = riders; called = no_extent; known = [] }
 
--- the master's seat, which knows these stores, stands for these riders, and knows how many steps the newest call left
-abbrev pub master_seat : ℕ → OffsetWords → List RiderView → SeatView
+-- the master's seat, which knows these stores, stands for these riders, and knows how far the newest call left the list
+abbrev pub master_seat : Extent → OffsetWords → List RiderView → SeatView
 master_seat called last riders = record { offsets = last; riders = riders; called = called; known = [] }
 
 -- a past's seat
 abbrev pub knows_seat : Known → SeatView
-knows_seat k = record { offsets = no_offsets; riders = []; called = 0; known = k ∷ [] }
+knows_seat k = record { offsets = no_offsets; riders = []; called = no_extent; known = k ∷ [] }
 
 -- a rider's seat
 abbrev pub rider_seat : RiderView → SeatView
@@ -52,20 +53,15 @@ HasPast past r = (more : List Touch) × (r.touches ≡ more ++ past)
 abbrev pub IsKnown : List RiderView → Known → Type 0
 IsKnown riders k = SomeRider (λ i r. (r.name ≡ k.name) × HasPast k.touches r) riders
 
--- no call of the rider left more steps than n
-abbrev pub CallsUpTo : ℕ → RiderView → Type 0
-CallsUpTo n r = AllByRecursion (IsUpTo n) r.touches
-
 -- The table has eight unused words, then the cells and, eight words apart, the master's three words; the seats stand
--- for all riders, and the rule holds, the master having seat 0; no call left more steps than the master knows; what
+-- for all riders, and the rule holds, the master having seat 0, which knows how far the newest call left the list; what
 -- each past tells was done
 pub record IsKept (room : Room) (words : List ℕ) (views : List SeatView) : Type 0 where
   pub master : SeatView
   pub seat : get_elem? views 0 ≡ some master
   pub width : length words ≡ room.cells + 27
   pub count : length (riders_in views) ≡ room.riders
-  pub ruled : IsRuled room.cells (drop 8 words) master.offsets (riders_in views)
-  pub called : AllByRecursion (CallsUpTo master.called) (riders_in views)
+  pub ruled : IsRuledAt room.cells (drop 8 words) master.offsets master.called (riders_in views)
   pub known : AllByRecursion (λ v. AllByRecursion (IsKnown (riders_in views)) v.known) views
 
 -- the rule of the table
@@ -130,13 +126,13 @@ abbrev pub joined_seat : SeatView → SeatView → SeatView
 joined_seat v w =
     record { offsets = v.offsets; riders = w.riders ++ v.riders; called = v.called; known = v.known }
 
--- the seat without its first rider, which made a call that left so many steps
-abbrev pub left_called : ℕ → SeatView → SeatView
-left_called n v = record { offsets = v.offsets; riders = drop 1 v.riders; called = n; known = v.known }
+-- the seat without its first rider, which made a call that left the list so far
+abbrev pub left_called : Extent → SeatView → SeatView
+left_called e v = record { offsets = v.offsets; riders = drop 1 v.riders; called = e; known = v.known }
 
 -- a seat with that rider alone, which made the call
-abbrev pub right_called : ℕ → SeatView → SeatView
-right_called n v = seat_of no_offsets (map (called v.called n) (take 1 v.riders))
+abbrev pub right_called : Extent → SeatView → SeatView
+right_called e v = seat_of no_offsets (map (called v.called e) (take 1 v.riders))
 
 -- the seat as it is
 abbrev pub same_seat : SeatView → SeatView
@@ -144,11 +140,11 @@ same_seat v = v
 
 -- a past's seat, of what the riders of a seat did
 abbrev pub shown_seat : SeatView → SeatView
-shown_seat v = record { offsets = no_offsets; riders = []; called = 0; known = map past_of v.riders }
+shown_seat v = record { offsets = no_offsets; riders = []; called = no_extent; known = map past_of v.riders }
 
 -- another of the same
 abbrev pub copied_seat : SeatView → SeatView
-copied_seat v = record { offsets = no_offsets; riders = []; called = 0; known = v.known }
+copied_seat v = record { offsets = no_offsets; riders = []; called = no_extent; known = v.known }
 
 -- the rider after it was told all this
 abbrev pub told_all : List Known → RiderView → RiderView

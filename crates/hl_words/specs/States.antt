@@ -7,12 +7,13 @@ use Rattle.hl_history.specs.declared.view.Entry.{Entry}
 use Rattle.hl_history.specs.States.{GatheredState}
 use Rattle.hl_words.specs.declared.view.Touch.{Touch}
 use Rattle.hl_words.specs.declared.view.Touch.TheVariants.{Stored, Loaded, Changed, Called, Looked, Met}
+use Rattle.hl_words.specs.declared.view.Extent.{Extent}
 use Rattle.hl_words.specs.declared.view.Known.{Known}
 use Rattle.hl_words.specs.declared.view.OffsetWords.{OffsetWords}
 use Rattle.hl_words.specs.declared.view.RiderView.{RiderView}
 use Rattle.hl_words.specs.declared.view.SeatView.{SeatView}
 use Rattle.hl_words.specs.declared.view.Room.{Room}
-use Rattle.hl_words.specs.Views.{no_offsets, fresh, unused, called}
+use Rattle.hl_words.specs.Views.{no_offsets, fresh, unused, called, no_extent}
 use Rattle.hl_words.specs.Seats.{master_seat, spent_seat}
 use Rattle.atomic_table.specs.Table.{Me}
 
@@ -23,20 +24,21 @@ pub record RiderState : Type 0 where
   pub share : ℕ
   pub calls : List Entry
 
--- the master's stores of its words, how many journal steps were entered in all, and how many the newest call left
--- that was noted
+-- the master's stores of its words, how many journal steps were entered in all, and how far the newest call that was
+-- noted left the one list
 pub record MasterState : Type 0 where
   pub offsets : OffsetWords
   pub total : ℕ
-  pub called : ℕ
+  pub called : Extent
 
 -- the master before its first store
 abbrev pub new_master : MasterState
-new_master = record { offsets = no_offsets; total = 0; called = 0 }
+new_master = record { offsets = no_offsets; total = 0; called = no_extent }
 
--- the master once a call was noted that left all steps
-abbrev pub all_called : MasterState → MasterState
-all_called m = record { offsets = m.offsets; total = m.total; called = m.total }
+-- the master once a call was noted that left all steps, so many of them cut
+abbrev pub all_called : ℕ → MasterState → MasterState
+all_called cut m =
+    record { offsets = m.offsets; total = m.total; called = record { steps = m.total; cut = cut } }
 
 -- the tables of one seed: that of its words, and that of its one list
 pub record Tables : Type 0 where
@@ -93,7 +95,7 @@ pub record IsTableOf (room : Room) (key : Room) (table : TableId) : Type 0 where
   pub at_most : room.riders ≤ 2048
 
 -- the master's seat, which is the table's first and has no slot
-pub record IsMasterSeat (called : ℕ) (last : OffsetWords) (riders : List RiderView) (id : ℕ)
+pub record IsMasterSeat (called : Extent) (last : OffsetWords) (riders : List RiderView) (id : ℕ)
     (me : Me (Unit {0}) SeatView) : Type 0 where
   pub first : id ≡ 0
   pub knows : me ≡ (master_seat called last riders, [])
@@ -102,10 +104,19 @@ pub record IsMasterSeat (called : ℕ) (last : OffsetWords) (riders : List Rider
 abbrev pub with_view : RiderView → RiderState → RiderState
 with_view view r = record { view = view; share = r.share; calls = r.calls }
 
--- a rider with one call more, which stands among its touches too
-abbrev pub with_call : Entry → RiderState → RiderState
-with_call call r = record {
-  view = called (length call.before) (length call.before + length call.steps) r.view;
+-- how far the one list was when a call met it, of which so many steps were cut
+abbrev pub extent_met : ℕ → Entry → Extent
+extent_met cut call = record { steps = length call.before; cut = cut }
+
+-- how far the call left it, of which so many were cut then
+abbrev pub extent_left : ℕ → Entry → Extent
+extent_left cut call = record { steps = length call.before + length call.steps; cut = cut }
+
+-- a rider with one call more, which stands among its touches too: of the list that it met so many steps were cut, and of
+-- the list that it left so many
+abbrev pub with_call : ℕ → ℕ → Entry → RiderState → RiderState
+with_call was now call r = record {
+  view = called (extent_met was call) (extent_left now call) r.view;
   share = r.share;
   calls = call ∷ r.calls;
 }
@@ -119,8 +130,8 @@ AreTied (Stored d v ∷ before) calls = AreTied before calls
 AreTied (Loaded d v ∷ before) calls = AreTied before calls
 AreTied (Changed d found v ∷ before) calls = AreTied before calls
 AreTied (Called met left ∷ before) [] = ⊥
-AreTied (Called met left ∷ before) (call ∷ calls) = (met ≡ length call.before)
-    × (left ≡ length call.before + length call.steps) × AreTied before calls
+AreTied (Called met left ∷ before) (call ∷ calls) = (met.steps ≡ length call.before)
+    × (left.steps ≡ length call.before + length call.steps) × AreTied before calls
 AreTied (Looked which x ∷ before) calls = AreTied before calls
 AreTied (Met name count ∷ before) calls = AreTied before calls
 

@@ -3,6 +3,7 @@ use Rattle.std.specs.Prelude.{ℕ, zero, suc, ◌+◌, ◌%◌, ◌^◌, ◌==�
 use Rattle.hl_model.specs.Lists.{greatest}
 use Rattle.hl_words.specs.declared.view.Touch.{Touch}
 use Rattle.hl_words.specs.declared.view.Touch.TheVariants.{Stored, Loaded, Changed, Called, Looked, Met}
+use Rattle.hl_words.specs.declared.view.Extent.{Extent}
 use Rattle.hl_words.specs.declared.view.Known.{Known}
 use Rattle.hl_words.specs.declared.view.OffsetWords.{OffsetWords}
 use Rattle.hl_words.specs.declared.view.RiderView.{RiderView}
@@ -104,6 +105,10 @@ past_of r = record { name = r.name; touches = r.touches }
 abbrev pub told : Known → RiderView → RiderView
 told k r = touched (Met k.name (length k.touches)) r
 
--- the view after a call under the master's lock, which met so many steps and left so many
-abbrev pub called : ℕ → ℕ → RiderView → RiderView
+-- the one list before its first step
+abbrev pub no_extent : Extent
+no_extent = record { steps = 0; cut = 0 }
+
+-- the view after a call under the master's lock, which met the one list so far and left it so far
+abbrev pub called : Extent → Extent → RiderView → RiderView
 called met left r = touched (Called met left) r

@@ -15,8 +15,8 @@
 //! - a **rider**: its touches, which are its stores into cells, its loads and changes of cells, its loads of the master's
 //!   words, its calls, and what it was told, in the order in which it made them; its share: how many journal steps it
 //!   entered; and its calls once more: the list that each met, and the steps that it put behind;
-//! - the **master**: its stores of each of its words, how many journal steps all riders entered, and how many of them calls
-//!   that were noted;
+//! - the **master**: its stores of each of its words, how many journal steps all riders entered, and where the newest call
+//!   that was noted left the one list: with how many steps, of which how many were cut;
 //! - the **scribe**: the one list of steps;
 //! - a **past**: the touches of a rider up to a moment. It takes no bytes, and may go to another thread, by a channel or
 //!   under a lock; the rider there is told it by `Words::tell_past`;
@@ -32,7 +32,7 @@
 //! - of each rider it has just that rider's touches, in the rider's order;
 //! - each load of a cell, and each change in one step, found what the newest store before it left there, or 0 before any;
 //! - a cell holds what the newest store left;
-//! - each call met no fewer steps than the calls before it left, so the calls stand in the order of the one list;
+//! - each call met the one list where the newest call before it left it, with as many steps, of which as many were cut;
 //! - a load of one of the master's words gave no less than those before it;
 //! - what a rider was told stands before.
 //!
@@ -72,6 +72,6 @@ pub use master::Master;
 pub use past::Past;
 pub use rider::Rider;
 pub use seed::{HistoryOf, Realm, Scribe, Seed};
-pub use view::{Known, OffsetWords, RiderView, Touch};
+pub use view::{Extent, Known, OffsetWords, RiderView, Touch};
 pub use which::Which;
 pub use words::Words;

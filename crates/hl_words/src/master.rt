@@ -6,7 +6,7 @@ use std::marker::Model;
 use std::sync::ledger::{Book, Share};
 
 /// The right to store its three words, and to count journal steps. Contracts see its stores, how many steps all riders
-/// entered, and how many there were when the newest call was noted.
+/// entered, and how far the newest call that was noted left the one list.
 #[derive(Drop)]
 pub struct Master<L: Realm> {
     pub(crate) seat: WordSeat,
@@ -30,7 +30,7 @@ impl<L: Realm> Model for Master<L> {
 
     ghost invariant = { λ m. IsMasterSeat m.seat.me.0.called m.seat.me.0.offsets [] m.seat.id m.seat.me
         × (m.seat.table_id ≡ L.table.words) × (m.book.total ≡ m.total) × (m.total ≤ 2 ^ 62)
-        × (m.seat.me.0.called ≤ m.total) × (m.share.parts ≡ 0) × (m.share.amount ≡ 0) };
+        × (m.seat.me.0.called.steps ≤ m.total) × (m.share.parts ≡ 0) × (m.share.amount ≡ 0) };
 }
 
 impl<L: Realm> Master<L> {

@@ -8,7 +8,7 @@ pub fn loads_after_met()
     ensures { LoadsAfterMet }
 {}
 
-/// A load after a call of its rider finds what riders did before calls that met fewer steps, or what was stored since.
+/// A load after a call of its rider finds what riders did before calls that left fewer steps, or what was stored since.
 pub fn loads_after_called()
     ensures { LoadsAfterCalled }
 {}

@@ -160,26 +160,28 @@ impl Split<SeatView> for Again {
     ghost right = { copied_seat };
 }
 
-/// How many steps there are after a call, which a program picks.
+/// How far a call left the one list, which a program picks.
 pub trait Place {
-    ghost use Rattle.std.specs.Prelude.{ℕ};
+    ghost use Rattle.hl_words.specs.declared.view.Extent.{Extent};
 
-    ghost steps: { ℕ };
+    ghost left: { Extent };
 }
 
 impl Place for Brand {
-    ghost steps = { 0 };
+    ghost use Rattle.hl_words.specs.Views.{no_extent};
+
+    ghost left = { no_extent };
 }
 
-/// How the master's seat deals a rider out that made a call which left so many steps.
+/// How the master's seat deals a rider out that made a call which left the list so far.
 pub struct CallAt<S: Place>(PhantomData<S>);
 
 impl<S: Place> Split<SeatView> for CallAt<S> {
     ghost use Rattle.hl_words.specs.Seats.{left_called, right_called};
 
-    ghost left = { left_called S.steps };
+    ghost left = { left_called S.left };
 
-    ghost right = { right_called S.steps };
+    ghost right = { right_called S.left };
 }
 
 /// How the master's seat deals a rider out, and takes one back in.

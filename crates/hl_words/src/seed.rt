@@ -72,7 +72,7 @@ impl Model for Seed {
     ghost use Rattle.std.specs.Prelude.{◌≡◌, ◌*◌};
     ghost use Rattle.hl_words.specs.States.{SeedState, IsTableOf, IsMasterSeat};
     ghost use Rattle.hl_words.specs.Seats.{first_seat};
-    ghost use Rattle.hl_words.specs.Views.{no_offsets};
+    ghost use Rattle.hl_words.specs.Views.{no_offsets, no_extent};
 
     ghost Value = { SeedState };
 
@@ -85,7 +85,7 @@ impl Model for Seed {
     } };
 
     ghost invariant = { λ s. IsTableOf s.room s.table.shared.key s.table.shared.table_id
-        × IsMasterSeat 0 no_offsets (first_seat s.room).riders s.seat.id s.seat.me
+        × IsMasterSeat no_extent no_offsets (first_seat s.room).riders s.seat.id s.seat.me
         × (s.seat.table_id ≡ s.table.shared.table_id) × (s.blank.parts ≡ s.room.riders)
         × (s.history.diaries ≡ s.room.riders)
         × (s.room.cells ≡ s.params.frames * s.params.page_size) };

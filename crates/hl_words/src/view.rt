@@ -11,13 +11,19 @@ pub enum Touch {
     /// It found the one value in the cell and stored the other there, in one step: no store of another rider came
     /// between.
     Changed { cell: u64, found: u64, value: u64 },
-    /// It made a call under the lock where the master lies: the one list had `met` steps then, and `left` after it. It
-    /// changed no cell.
-    Called { met: u64, left: u64 },
+    /// It made a call under the lock where the master lies: the one list was so far when the call met it, and so far
+    /// after it. It changed no cell.
+    Called { met: Extent, left: Extent },
     /// It loaded the value from this word of the master's.
     Looked { which: Which, value: u64 },
     /// It was told what the rider of this name had done, up to so many of its touches. It changed no cell.
     Met { name: u64, count: u64 },
+}
+
+/// How far the one list was at a moment: how many steps it had, and how many of them were cut.
+pub struct Extent {
+    pub steps: u64,
+    pub cut: u64,
 }
 
 /// What a past tells: the rider of this name had made these touches, the newest first.
@@ -48,8 +54,8 @@ pub struct RiderView {
 pub struct SeatView {
     pub offsets: OffsetWords,
     pub riders: LinkedList<RiderView>,
-    /// The master's: how many steps the newest call left.
-    pub called: u64,
+    /// The master's: how far the newest call left the one list.
+    pub called: Extent,
     /// A past's: what it tells.
     pub known: LinkedList<Known>,
 }

@@ -1,4 +1,4 @@
-//! What a session's rider did, told to another session. Neither call takes the lock.
+//! What a session's rider did, told to another session. No call here takes the lock.
 ghost use Rattle.std.specs.Prelude.{◌≡◌};
 ghost use Rattle.hl_words.specs.States.{with_view};
 ghost use Rattle.hl_words.specs.Views.{past_of, told};
@@ -18,6 +18,14 @@ impl<'a, R: Wait, L: Realm, F: Task, P: Promise, E: Epochs + Drop> Session<'a, R
         ensures same { self.new ≡ self.old }
     {
         self.log.past(self.pass.rider_mut())
+    }
+
+    /// The same past once more, to be told to one more session.
+    pub fn past_again(&self, past: &mut Past<L>) -> Past<L>
+        ensures copy { result ≡ past.old }
+        ensures same { past.new ≡ past.old }
+    {
+        self.log.past_again(past)
     }
 
     /// Tells the session the past of another. All of it stands before what this session does from now on, in the one order

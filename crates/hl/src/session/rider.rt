@@ -1,5 +1,5 @@
-//! What a thread does in its slot as a rider: bumps, takes, dones and cuts. The session's own touches stay, and enter at
-//! its next locked call.
+//! What a thread does in its slot as a rider: bumps, takes, dones, cuts, and how long the one list is. The session's own
+//! touches stay, and enter at its next locked call.
 ghost use Rattle.std.specs.Prelude.{◌≡◌, ◌+◌, List, [], ◌∷◌, ◌++◌, length, OnErr, IfOk, IfErr};
 ghost use Rattle.hl_model.specs.declared.step.Step.{Step as STEP};
 ghost use Rattle.hl_model.specs.declared.step.Step.TheVariants.{Take as TAKE, Done as DONE};
@@ -87,5 +87,21 @@ impl<'a, R: Wait, L: Realm, F: Task, P: Promise, E: Epochs + Drop> Session<'a, R
         ensures kept { KeepsAllButRider self.old self.new }
     {
         self.log.cut(self.rt, self.pass.rider_mut())
+    }
+
+    /// How many steps the one list has now. It is never refused.
+    ///
+    /// The number carries the order of calls to another thread, by any message. One thread sends it after what it did. The
+    /// other asks for the number itself, and if that is no less, each later call of its session meets a list that begins
+    /// with what the first one's calls left (`hl_domain::laws::later_calls_begin`), and once it has refreshed, its loads
+    /// find what was stored there, or what was stored since (`hl_words::past_laws::loads_after_called`). It never is less,
+    /// but no clause can know that.
+    pub fn steps(&mut self) -> u64
+        ensures met { let call = no_step self.old.pass.rider self.new.pass.rider
+            in LeavesUnderLock F self.old.log call (λ old new. (new ≡ old)
+            × ((A : List STEP) → KeeperStands old A → result ≡ length A)) }
+        ensures kept { KeepsAllButRider self.old self.new }
+    {
+        self.log.steps_by(self.rt, self.pass.rider_mut())
     }
 }

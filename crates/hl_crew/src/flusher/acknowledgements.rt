@@ -16,7 +16,7 @@ use hl_model::Fault;
 use hl_words::{Realm, Rider};
 use std::sync::Wait;
 
-impl<R: Wait, E: Epochs + Drop, F: Task, P: Promise, L: Realm> Flusher<'_, R, E, F, P, L> {
+impl<R: Wait, E: Epochs + Drop, F: Task, P: Promise, L: Realm, W> Flusher<'_, R, E, F, P, L, W> {
     /// Receives this many acknowledgements, and answers each through the pouch. One whose page
     /// isn't there is a stranger.
     pub(crate) fn answer_acknowledged(
@@ -25,12 +25,12 @@ impl<R: Wait, E: Epochs + Drop, F: Task, P: Promise, L: Realm> Flusher<'_, R, E,
         pouch: &mut Pouch,
         sent: u64,
     ) -> Result<(), Over>
-        ensures { UpTo (TellsNext F self.now.domain.now self.now.orders.cuts) sent result
+        ensures { UpTo (TellsNext F self.now.domain.now self.now.shared.now.orders.cuts) sent result
             (hold_of own.old.rider own.old.counts pouch.old)
             (hold_of own.new.rider own.new.counts pouch.new) }
     {
         for _ in 0..sent {
-            let Ok(told) = self.channels.acknowledged.recv(self.rt) else {
+            let Ok(told) = self.shared.channels.acknowledged.recv(self.rt) else {
                 return Err(Over::Lost);
             };
             self.answer(own, pouch, told)?;
@@ -46,7 +46,7 @@ impl<R: Wait, E: Epochs + Drop, F: Task, P: Promise, L: Realm> Flusher<'_, R, E,
         pouch: &mut Pouch,
         told: Acknowledgement,
     ) -> Result<(), Over>
-        ensures { Tells F self.now.domain.now self.now.orders.cuts told.page told.ok result
+        ensures { Tells F self.now.domain.now self.now.shared.now.orders.cuts told.page told.ok result
             (hold_of own.old.rider own.old.counts pouch.old)
             (hold_of own.new.rider own.new.counts pouch.new) }
     {
@@ -64,7 +64,7 @@ impl<R: Wait, E: Epochs + Drop, F: Task, P: Promise, L: Realm> Flusher<'_, R, E,
         pouch: &mut Pouch,
     ) -> Result<(), Over>
         ensures none { OnOk result (load_count pouch.new ≡ 0) }
-        ensures fails { UpTo (FailsNext F self.now.domain.now self.now.orders.cuts)
+        ensures fails { UpTo (FailsNext F self.now.domain.now self.now.shared.now.orders.cuts)
             (load_count pouch.old) result
             (hold_of own.old.rider own.old.counts pouch.old)
             (hold_of own.new.rider own.new.counts pouch.new) }
@@ -84,7 +84,7 @@ impl<R: Wait, E: Epochs + Drop, F: Task, P: Promise, L: Realm> Flusher<'_, R, E,
         ok: bool,
     ) -> Result<(), Over>
         ensures held { (at : ℕ) → position (is_of page) pouch.old ≡ Some at
-            → AnswersPage F self.now.domain.now self.now.orders.cuts page ok result
+            → AnswersPage F self.now.domain.now self.now.shared.now.orders.cuts page ok result
             (hold_of own.old.rider own.old.counts pouch.old)
             (hold_of own.new.rider own.new.counts pouch.new) }
         ensures fewer { OnOk result (load_count pouch.new + 1 ≡ load_count pouch.old) }
@@ -111,7 +111,7 @@ impl<R: Wait, E: Epochs + Drop, F: Task, P: Promise, L: Realm> Flusher<'_, R, E,
             → (result ≡ Err NotInFlight) × (pouch.new ≡ pouch.old) × (rider.new ≡ rider.old) }
         ensures held { (at : ℕ) → position (is_of page) pouch.old ≡ Some at
             → Answers page at pouch.old pouch.new result (λ stamp.
-            Tries F self.now.domain.now self.now.orders.cuts
+            Tries F self.now.domain.now self.now.shared.now.orders.cuts
             (EndsFlush F self.now.domain.now page ok stamp) result rider.old rider.new) }
         ensures fewer { OnOk result (load_count pouch.new + 1 ≡ load_count pouch.old) }
     {
@@ -119,7 +119,7 @@ impl<R: Wait, E: Epochs + Drop, F: Task, P: Promise, L: Realm> Flusher<'_, R, E,
             match pouch.answer(self.rt, self.domain, rider, page, ok) {
                 Ok(flushed) => return Ok(flushed),
                 Err(fault) => {
-                    if !make_room(self.rt, self.domain, self.orders, rider, &fault) {
+                    if !make_room(self.rt, self.domain, self.shared, rider, &fault) {
                         return Err(fault);
                     }
                 }

@@ -16,10 +16,10 @@ use std::sync::Wait;
 /// How many actions are taken in a turn.
 const ACTIONS: u64 = 4;
 
-impl<R: Wait, E: Epochs + Drop, F: Task, P: Promise, L: Realm> Flusher<'_, R, E, F, P, L> {
+impl<R: Wait, E: Epochs + Drop, F: Task, P: Promise, L: Realm, W> Flusher<'_, R, E, F, P, L, W> {
     /// Takes at most four actions, one after another, runs each, and answers it done.
     pub(crate) fn run_actions(&self, rider: &mut Rider<L>) -> Result<(), Over>
-        ensures { UpTo (RunsAction F self.now.domain.now self.now.orders.cuts) 4 result
+        ensures { UpTo (RunsAction F self.now.domain.now self.now.shared.now.orders.cuts) 4 result
             rider.old rider.new }
     {
         for _ in 0..ACTIONS {
@@ -34,7 +34,8 @@ impl<R: Wait, E: Epochs + Drop, F: Task, P: Promise, L: Realm> Flusher<'_, R, E,
 
     // Takes an action, runs it and answers it done. False if none is ready.
     fn run_action(&self, rider: &mut Rider<L>) -> Result<bool, Over>
-        ensures { RunsAction F self.now.domain.now self.now.orders.cuts 0 result rider.old rider.new }
+        ensures { RunsAction F self.now.domain.now self.now.shared.now.orders.cuts 0 result
+            rider.old rider.new }
     {
         match self.domain.take(self.rt, rider) {
             Ok(ready) => {
@@ -50,7 +51,7 @@ impl<R: Wait, E: Epochs + Drop, F: Task, P: Promise, L: Realm> Flusher<'_, R, E,
 
     // Answers an action that was run. What is refused is given up.
     fn finish(&self, rider: &mut Rider<L>, ran: Ran) -> Result<(), Over>
-        ensures { Finishes F self.now.domain.now self.now.orders.cuts ran.origin ran.ticket result
+        ensures { Finishes F self.now.domain.now self.now.shared.now.orders.cuts ran.origin ran.ticket result
             rider.old rider.new }
     {
         match self.answer_action(rider, ran) {
@@ -64,7 +65,7 @@ impl<R: Wait, E: Epochs + Drop, F: Task, P: Promise, L: Realm> Flusher<'_, R, E,
 
     // As `Domain::done`; and again, up to a thousand times, while the journal is full and may be cut.
     fn answer_action(&self, rider: &mut Rider<L>, ran: Ran) -> Result<Reply, (Fault, Ran)>
-        ensures tries { Tries F self.now.domain.now self.now.orders.cuts
+        ensures tries { Tries F self.now.domain.now self.now.shared.now.orders.cuts
             (EndsAction F self.now.domain.now ran.origin ran.ticket) (without_back result)
             rider.old rider.new }
         ensures refused { IfErr result (λ back. back.1 ≡ ran) }
@@ -74,7 +75,7 @@ impl<R: Wait, E: Epochs + Drop, F: Task, P: Promise, L: Realm> Flusher<'_, R, E,
             match self.domain.done(self.rt, rider, ran) {
                 Ok(reply) => return Ok(reply),
                 Err((fault, back)) => {
-                    if !make_room(self.rt, self.domain, self.orders, rider, &fault) {
+                    if !make_room(self.rt, self.domain, self.shared, rider, &fault) {
                         return Err((fault, back));
                     }
                     ran = back;

@@ -14,20 +14,25 @@ use hl_model::{Fault, Sizes, Snapshot, Step};
 use hl_words::{Realm, Rider};
 use std::sync::Wait;
 
-impl<R: Wait, E: Epochs + Drop, F: Task, P: Promise, L: Realm> Flusher<'_, R, E, F, P, L> {
+impl<R: Wait, E: Epochs + Drop, F: Task, P: Promise, L: Realm, W> Flusher<'_, R, E, F, P, L, W> {
     /// If no action waits or is taken, makes the lag's steps, up to the first that is refused.
     ///
     /// With as many resident pages as frames, the head never passes page N - F, N being the number
     /// of pages up to the tail, and page N needs that page's frame: then no frame comes free.
     pub(crate) fn keep_lag(&self, rider: &mut Rider<L>) -> Result<(), Over>
-        requires { let orders = self.now.orders
+        requires { let orders = self.now.shared.now.orders
             in IsLag self.now.domain.now.sizes.frames orders.mutable orders.resident }
-        ensures { let orders = self.now.orders
+        ensures { let orders = self.now.shared.now.orders
             in KeepsLag F self.now.domain.now orders.mutable orders.resident result rider.old rider.new }
     {
         let (now, _, _) = self.domain.snapshot(self.rt);
-        let (mutable, resident) = (self.orders.mutable, self.orders.resident);
-        let wanted = steps_wanted(self.domain.params(), &now, mutable, resident);
+        let orders = self.shared.orders();
+        let wanted = steps_wanted(
+            self.domain.params(),
+            &now,
+            orders.mutable(),
+            orders.resident(),
+        );
         end_of(self.make_all(rider, wanted.as_slice()))
     }
 

@@ -167,6 +167,21 @@ impl<E: Epochs + Drop, F: Task, P: Promise, L: Realm> Domain<E, F, P, L> {
         told
     }
 
+    /// How many steps the one list has, by a rider: its newest call met exactly them.
+    ///
+    /// The number can go to another thread: a call there that meets no fewer met all that this rider's calls left
+    /// ([`later_calls_begin`](crate::laws::later_calls_begin)).
+    pub fn steps_by(&self, rt: &impl Wait, rider: &mut Rider<L>) -> u64
+        ensures met { LeavesUnderLock F self.now (no_step rider.old rider.new) (λ old new. (new ≡ old)
+            × ((A : List STEP) → KeeperStands old A → result ≡ length A)) }
+    {
+        let mut guard = self.lock(rt);
+        let Held { keeper, scribe, .. } = &mut *guard;
+        let steps = keeper.steps();
+        keeper.note_quiet(&self.words, scribe, rider);
+        steps
+    }
+
     /// All quantities, the number of steps since the last cut, and the number of steps cut in all.
     pub fn snapshot(&self, rt: &impl Wait) -> (Snapshot, u64, u64)
         ensures met { UnderLock F self.now (λ k A. (result.0 ≡ snapshot_of k.core.sizes A)

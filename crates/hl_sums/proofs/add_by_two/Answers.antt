@@ -24,4 +24,4 @@ returns g c =
     c.cell.ensures ∙ ap (slice_index c.ending.inside.words.words) same ∙ ap (λ (e : EndingState _). slice_index e.words.words cell) c.ending.view_is in
     let first : AddsMore cell r.0.0 c.args.one.view.touches one.view.touches = c.join-first.ensures.first in
     let second : AddsMore cell r.1.0 c.args.two.view.touches two.view.touches = c.join-first.ensures.second in
-    held ∙ ends_at_sum c.no_add_is_lost.ensures sizes c.push-2.new.self.items one two ending cell r.0.0 r.1.0 c.args.one.view.touches c.args.two.view.touches c.in-Ok.ensures.ending riders within c.requires.new.0 c.requires.new.1 first second
+    ends_at_sum c.no_add_is_lost.ensures sizes c.push-2.new.self.items one two cell (record { first = r.0.0; second = r.1.0; word = c.cell.result; ending = ending }) c.args.one.view.touches c.args.two.view.touches c.in-Ok.ensures.ending riders within c.requires.new.0 c.requires.new.1 first second held

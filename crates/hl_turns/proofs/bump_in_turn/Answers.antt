@@ -23,4 +23,4 @@ returns g c =
     let first : Bumped a one.calls = subst (λ k. IfSome k (λ m. Bumped m one.calls)) a_is c.join-one.ensures.first in
     let second : Bumped b two.calls = subst (λ k. IfSome k (λ m. Bumped m two.calls)) b_is c.join-one.ensures.second in
     let ended : IsEnding sizes c.push-2.new.self.items ending = subst (λ k. IfOk k (IsEnding sizes c.push-2.new.self.items)) closed c.close.ensures.ending in
-    in_turn sizes one two ending a b n first second (subst (λ l. IsEnding sizes l ending) riders ended) n_is
+    in_turn sizes one two (record { one = a; two = b; epoch = n; ending = ending }) first second (subst (λ l. IsEnding sizes l ending) riders ended) n_is

@@ -3,7 +3,7 @@ ghost use Rattle.std.specs.Prelude.{◌≡◌, ◌≢◌, ◌==◌, ◌+◌, [],
 ghost use Rattle.std.specs.Option.{IfSome};
 ghost use Rattle.std.specs.List.{sum_by, AllByRecursion};
 ghost use Rattle.hl_history.specs.Lists.{IsOneList};
-ghost use Rattle.hl_words.specs.Rule.{IsRuled};
+ghost use Rattle.hl_words.specs.Rule.{IsRuledAt};
 ghost use Rattle.hl_words.specs.Seats.{IsKnown, knowing};
 ghost use Rattle.hl_words.specs.States.{AreTied, IsMasterSeat, with_diaries, with_no_diaries, known_to_all};
 
@@ -20,7 +20,8 @@ use std::sync::ledger::Share;
 impl<L: Realm> Words<L> {
     /// Ends the words, and tells what each one holds. If a rider is missing, all is handed back. Else
     /// the master's total is the sum of the riders' shares, and the rule holds of what the words hold,
-    /// of the master's stores, and of exactly what these riders stored and loaded.
+    /// of the master's stores, of exactly what these riders stored and loaded, and of their calls, the
+    /// newest of which left the one list where the master knows it.
     pub fn close(
         self,
         master: Master<L>,
@@ -29,8 +30,8 @@ impl<L: Realm> Words<L> {
         ensures all { OnOk result (length riders.items ≡ self.riders) }
         ensures total { OnOk result (master.total ≡ sum_by (λ r. r.share) riders.items) }
         ensures cells { IfOk result (λ last. last.cells ≡ self.cells) }
-        ensures rule { IfOk result
-            (λ last. IsRuled self.cells last.words master.offsets (map (λ r. r.view) riders.items)) }
+        ensures rule { IfOk result (λ last.
+            IsRuledAt self.cells last.words master.offsets master.called (map (λ r. r.view) riders.items)) }
         ensures missing { IfErr result (λ _. length riders.items ≢ self.riders) }
         ensures back { IfErr result (λ back. (back.0 ≡ self) × (back.1 ≡ master) × (back.2 ≡ riders)) }
     {
@@ -62,8 +63,8 @@ impl<L: Realm> Words<L> {
         ensures all { OnOk result (length riders.items ≡ self.riders) }
         ensures total { OnOk result (master.total ≡ sum_by (λ r. r.share) riders.items) }
         ensures cells { IfOk result (λ last. last.cells ≡ self.cells) }
-        ensures rule { IfOk result
-            (λ last. IsRuled self.cells last.words master.offsets (map (λ r. r.view) riders.items)) }
+        ensures rule { IfOk result (λ last.
+            IsRuledAt self.cells last.words master.offsets master.called (map (λ r. r.view) riders.items)) }
         ensures list { OnOk result (IsOneList scribe (map (λ r. r.calls) riders.items)) }
         ensures tied { OnOk result (AllByRecursion (λ r. AreTied r.view.touches r.calls) riders.items) }
         ensures known { OnOk result (IfSome pasts
@@ -96,7 +97,7 @@ impl<L: Realm> Words<L> {
         requires { length riders.items ≡ self.riders }
         ensures total { master.total ≡ sum_by (λ r. r.share) riders.items }
         ensures cells { result.cells ≡ self.cells }
-        ensures rule { IsRuled self.cells result.words master.offsets (map (λ r. r.view) riders.items) }
+        ensures rule { IsRuledAt self.cells result.words master.offsets master.called (map (λ r. r.view) riders.items) }
         ensures list { IfSome scribe (λ list. IsOneList list (map (λ r. r.calls) riders.items)) }
         ensures known { IfSome pasts
             (λ all. AllByRecursion (IsKnown (map (λ r. r.view) riders.items)) all.items) }

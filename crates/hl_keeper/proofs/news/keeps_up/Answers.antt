@@ -1,7 +1,6 @@
-use Rattle.std.proofs.Common.{rules, sym, ap, ◌∙◌}
+use Rattle.std.proofs.Common.{ap, ◌∙◌}
 use Rattle.hl_words.specs.Views.{newest, looked}
 use Rattle.hl_keeper.specs.Passes.{PassRecord, is_current, with_news}
-use Rattle.hl_keeper.proofs.PassLaws.{looks_on}
 use Rattle.hl_keeper.proofs.NewsLaws.{loaded_all_three, news_is, current_rider}
 use Rattle.hl_keeper.proofs.news.keeps_up.Goals as goal
 

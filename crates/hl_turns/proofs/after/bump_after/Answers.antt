@@ -2,7 +2,7 @@ use Rattle.std.proofs.Common.{rules, ◌≡◌, [], ◌∷◌, ℕ, Ok, Some, If
 use Rattle.hl_words.specs.States.{RiderState}
 use Rattle.hl_domain.specs.Domains.{IsEnding}
 use Rattle.hl_turns.specs.After.{BumpedFirst, BumpedTold}
-use Rattle.hl_turns.proofs.Greater.{in_order}
+use Rattle.hl_turns.proofs.Greater.{told_later}
 use Rattle.hl_turns.proofs.after.bump_after.Goals as goal
 
 pub returns : goal.returns
@@ -12,7 +12,7 @@ returns g c =
     let two : RiderState = r.1.1 in
     let a : ℕ = c.in_ok-first.first in
     let b : ℕ = c.in_ok-second.second in
-    let ending = c.in_ok-ok-3.field-0 in
+    let ending = c.in_ok-ending.ending in
     let sizes = c.args.domain.sizes in
     let a_is : r.0.0 ≡ Some a = search rules in
     let b_is : r.1.0 ≡ Some b = search rules in
@@ -21,4 +21,4 @@ returns g c =
     let first : BumpedFirst a one = subst (λ k. IfSome k (λ m. BumpedFirst m one)) a_is c.join-one.ensures.first in
     let second : BumpedTold b two = subst (λ k. IfSome k (λ m. BumpedTold m two)) b_is c.join-one.ensures.second in
     let ended : IsEnding sizes c.push-2.new.self.items ending = subst (λ k. IfOk k (IsEnding sizes c.push-2.new.self.items)) closed c.close.ensures.ending in
-    in_order sizes one two ending a b c.told_calls_begin.ensures first second (subst (λ l. IsEnding sizes l ending) riders ended)
+    told_later sizes one two (record { first = a; second = b; ending = ending }) c.told_calls_begin.ensures first second (subst (λ l. IsEnding sizes l ending) riders ended)

@@ -12,7 +12,7 @@ loop-preserved g c =
     let domain = c.args.self.now.domain.now in
     let same = c.loop.invariant.0 in (
       c.in-Err.ensures.refused ∙ same,
-      tries_again F domain c.args.self.now.orders.cuts (EndsClean F domain c.args.broom) _ c.in-Err.fault _ _ _ _
+      tries_again F domain c.args.self.now.shared.now.orders.cuts (EndsClean F domain c.args.broom) _ c.in-Err.fault _ _ _ _
           c.loop.invariant.1 (rw same at c.in-Err.ensures.met)
           c.if-not-make_room.ensures.answer c.if-not-make_room.ensures.room,
     )
@@ -21,14 +21,14 @@ pub returns-in-Ok-clause-tries : goal.returns-in-Ok-clause-tries
 returns-in-Ok-clause-tries g c =
     let F = g.row.F.Denot in
     let domain = c.args.self.now.domain.now in
-    tries_accepted F domain c.args.self.now.orders.cuts (EndsClean F domain c.args.broom) _ _ _ _ _ (omega arith)
+    tries_accepted F domain c.args.self.now.shared.now.orders.cuts (EndsClean F domain c.args.broom) _ _ _ _ _ (omega arith)
     c.loop.invariant.1 (rw c.loop.invariant.0 at c.in-Ok.ensures.met)
 
 pub returns-then-not-make_room-clause-tries : goal.returns-then-not-make_room-clause-tries
 returns-then-not-make_room-clause-tries g c =
     let F = g.row.F.Denot in
     let domain = c.args.self.now.domain.now in
-    tries_refused F domain c.args.self.now.orders.cuts (EndsClean F domain c.args.broom) _ c.in-Err.fault _ _ _ _ (omega arith)
+    tries_refused F domain c.args.self.now.shared.now.orders.cuts (EndsClean F domain c.args.broom) _ c.in-Err.fault _ _ _ _ (omega arith)
     c.loop.invariant.1 (rw c.loop.invariant.0 at c.in-Err.ensures.met)
     c.if-not-make_room.ensures.answer c.if-not-make_room.ensures.room
 
@@ -36,5 +36,5 @@ pub returns-clause-tries : goal.returns-clause-tries
 returns-clause-tries g c =
     let F = g.row.F.Denot in
     let domain = c.args.self.now.domain.now in
-    tries_all F domain c.args.self.now.orders.cuts (EndsClean F domain c.args.broom) _ _ _ _ _ (omega arith)
+    tries_all F domain c.args.self.now.shared.now.orders.cuts (EndsClean F domain c.args.broom) _ _ _ _ _ (omega arith)
     c.loop.invariant.1 (rw c.loop.invariant.0 at c.clean_done-2.ensures.met)

@@ -9,5 +9,5 @@ invariant-loop g l =
     let F = g.row.F.Denot in
     let domain = l.self.domain.now in
     (l.broom ≡ l.initial.broom)
-    × Followed (TriesAgain F domain l.self.orders.cuts (EndsClean F domain l.initial.broom))
+    × Followed (TriesAgain F domain l.self.shared.now.orders.cuts (EndsClean F domain l.initial.broom))
     l.counter l.initial.rider l.rider

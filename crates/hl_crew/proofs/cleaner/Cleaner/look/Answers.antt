@@ -9,5 +9,5 @@ not_no P false is holds = absurd cc
 
 pub returns-then-has_ended-clause-found : goal.returns-then-has_ended-clause-found
 returns-then-has_ended-clause-found g c = λ ended more.
-    not_no (λ found. Finds g.row.F.Denot c.args.self.now.domain.now c.args.self.now.orders.cuts (Ok found) c.args.rider.now c.find.new.rider)
+    not_no (λ found. Finds g.row.F.Denot c.args.self.now.domain.now c.args.self.now.shared.now.orders.cuts (Ok found) c.args.rider.now c.find.new.rider)
     c.in-Ok.found more c.in-Ok.ensures

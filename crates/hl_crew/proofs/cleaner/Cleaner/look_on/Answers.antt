@@ -17,7 +17,7 @@ loop-preserved g c =
     let has = c.if-not-cleans_on.ensures in (
       before.0 + 1,
       told_more _ _ _ before.1 c.saturating_add-looks.ensures,
-      followed_more (LooksNext g.row.F.Denot c.args.self.now.domain.now c.args.self.now.orders.cuts (g.T.Term.has_look c.args.term.now)) _ _ _ _ before.2
+      followed_more (LooksNext g.row.F.Denot c.args.self.now.domain.now c.args.self.now.shared.now.orders.cuts (g.T.Term.has_look c.args.term.now)) _ _ _ _ before.2
           (goes_on _ true has.last refl, subst (g.T.Term.has_look c.args.term.now) before.1 (has.on refl), c.in-Ok.ensures.looks),
     )
 

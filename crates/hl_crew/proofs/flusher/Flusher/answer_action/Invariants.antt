@@ -10,5 +10,5 @@ invariant-loop g l =
     let domain = l.self.domain.now in
     let ran = l.initial.ran in
     (l.ran ≡ ran)
-    × Followed (TriesAgain F domain l.self.orders.cuts (EndsAction F domain ran.origin ran.ticket))
+    × Followed (TriesAgain F domain l.self.shared.now.orders.cuts (EndsAction F domain ran.origin ran.ticket))
     l.counter l.initial.rider l.rider

@@ -8,7 +8,7 @@ use Rattle.hl_crew.proofs.flusher.Flusher.answer_others.Given as goal
 abbrev pub invariant-loop-page : goal.invariant-loop-page
 invariant-loop-page g l =
     (answered : ℕ) × (load_count l.pouch + answered ≡ load_count l.initial.pouch)
-    × Followed (FailsNext g.row.F.Denot l.self.domain.now l.self.orders.cuts) answered
+    × Followed (FailsNext g.row.F.Denot l.self.domain.now l.self.shared.now.orders.cuts) answered
     (hold_of l.initial.own.rider l.initial.own.counts l.initial.pouch) (hold_of l.own.rider l.own.counts l.pouch)
 
 -- each turn answers one of the pages that are left

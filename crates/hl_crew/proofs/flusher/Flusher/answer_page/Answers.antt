@@ -21,7 +21,7 @@ loop-preserved g c =
       λ at job place held.
           let told = held_is at place in
           let same : told.job ≡ job = one_load c.args.pouch.now at told.job job told.held held in
-          tries_again F domain c.args.self.now.orders.cuts (EndsFlush F domain c.args.page c.args.ok job.stamp) _ c.in-Err.fault _ _ _ _
+          tries_again F domain c.args.self.now.shared.now.orders.cuts (EndsFlush F domain c.args.page c.args.ok job.stamp) _ c.in-Err.fault _ _ _ _
           (before.2 at job place held) (rw same at told.met)
           c.if-not-make_room.ensures.answer c.if-not-make_room.ensures.room,
     )
@@ -38,7 +38,7 @@ returns-in-Ok-clause-held g c =
       job = told.job;
       held = told.held;
       page_is = told.page_is;
-      met = tries_accepted F domain c.args.self.now.orders.cuts (EndsFlush F domain c.args.page c.args.ok told.job.stamp) _ _ _ _ _ most
+      met = tries_accepted F domain c.args.self.now.shared.now.orders.cuts (EndsFlush F domain c.args.page c.args.ok told.job.stamp) _ _ _ _ _ most
           (c.loop.invariant.2 at told.job place told.held) told.met;
       left = told.left;
     }
@@ -62,7 +62,7 @@ returns-then-not-make_room-clause-held g c =
       job = told.job;
       held = told.held;
       page_is = told.page_is;
-      met = tries_refused F domain c.args.self.now.orders.cuts (EndsFlush F domain c.args.page c.args.ok told.job.stamp) _ c.in-Err.fault _ _ _ _ most
+      met = tries_refused F domain c.args.self.now.shared.now.orders.cuts (EndsFlush F domain c.args.page c.args.ok told.job.stamp) _ c.in-Err.fault _ _ _ _ most
           (c.loop.invariant.2 at told.job place told.held) told.met
           c.if-not-make_room.ensures.answer c.if-not-make_room.ensures.room;
       left = told.left;
@@ -87,7 +87,7 @@ returns-clause-held g c =
       job = told.job;
       held = told.held;
       page_is = told.page_is;
-      met = tries_all F domain c.args.self.now.orders.cuts (EndsFlush F domain c.args.page c.args.ok told.job.stamp) _ _ _ _ _ all
+      met = tries_all F domain c.args.self.now.shared.now.orders.cuts (EndsFlush F domain c.args.page c.args.ok told.job.stamp) _ _ _ _ _ all
           (c.loop.invariant.2 at told.job place told.held) told.met;
       left = told.left;
     }

@@ -15,5 +15,5 @@ invariant-loop g l =
     let place = position (is_of l.page) l.initial.pouch in
     (l.pouch ≡ l.initial.pouch) × (place ≡ None → l.rider ≡ l.initial.rider)
     × ((at : ℕ) (job : PageJob) → place ≡ Some at → slice_get l.initial.pouch at ≡ Some (Some job)
-    → Followed (TriesAgain F domain l.self.orders.cuts (EndsFlush F domain l.page l.ok job.stamp))
+    → Followed (TriesAgain F domain l.self.shared.now.orders.cuts (EndsFlush F domain l.page l.ok job.stamp))
     l.counter l.initial.rider l.rider)

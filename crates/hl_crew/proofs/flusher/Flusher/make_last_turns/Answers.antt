@@ -5,17 +5,17 @@ use Rattle.hl_crew.proofs.flusher.Flusher.make_last_turns.Goals as goal
 
 pub loop-preserved : goal.loop-preserved
 loop-preserved g c =
-    followed_more (MakesLast g.row.F.Denot c.args.self.now.domain.now c.args.self.now.orders) _ _ _ _ c.loop.invariant
+    followed_more (MakesLast g.row.F.Denot c.args.self.now.domain.now c.args.self.now.shared.now.orders) _ _ _ _ c.loop.invariant
     (rw c.in-Ok-true.field-0-test at c.in-Ok-true.ensures)
 
 pub returns-in-Ok-false : goal.returns-in-Ok-false
 returns-in-Ok-false g c =
-    up_to_none (MakesLast g.row.F.Denot c.args.self.now.domain.now c.args.self.now.orders) _ _ _ _ _ (omega arith) c.loop.invariant
+    up_to_none (MakesLast g.row.F.Denot c.args.self.now.domain.now c.args.self.now.shared.now.orders) _ _ _ _ _ (omega arith) c.loop.invariant
     (rw c.in-Ok-false.field-0-test at c.in-Ok-false.ensures)
 
 pub returns-in-Err : goal.returns-in-Err
 returns-in-Err g c =
-    up_to_failed (MakesLast g.row.F.Denot c.args.self.now.domain.now c.args.self.now.orders) _ _ _ _ _ _ (omega arith) c.loop.invariant
+    up_to_failed (MakesLast g.row.F.Denot c.args.self.now.domain.now c.args.self.now.shared.now.orders) _ _ _ _ _ _ (omega arith) c.loop.invariant
     c.in-Err.ensures
 
 pub returns : goal.returns

@@ -12,7 +12,7 @@ loop-preserved g c =
     let before = c.loop.invariant in (
       before.0 + 1,
       told_more _ _ _ before.1 c.saturating_add-made.ensures,
-      followed_more (MakesAny g.row.F.Denot c.args.self.now.domain.now c.args.self.now.orders (g.T.Term.has_turn c.args.term.now)) _ _ _ _ before.2
+      followed_more (MakesAny g.row.F.Denot c.args.self.now.domain.now c.args.self.now.shared.now.orders (g.T.Term.has_turn c.args.term.now)) _ _ _ _ before.2
           (subst (g.T.Term.has_turn c.args.term.now) before.1 (c.if-not-goes_on.ensures.on refl), c.in-Ok.moved, c.in-Ok.ensures),
     )
 

@@ -8,5 +8,5 @@ use Rattle.hl_crew.proofs.flusher.Flusher.make_turns.Given as goal
 abbrev pub invariant-loop : goal.invariant-loop
 invariant-loop g l =
     (count : ℕ) × (l.made ≡ told_count count)
-    × Followed (MakesAny g.row.F.Denot l.self.domain.now l.self.orders (g.T.Term.has_turn l.term)) count
+    × Followed (MakesAny g.row.F.Denot l.self.domain.now l.self.shared.now.orders (g.T.Term.has_turn l.term)) count
     (own_of l.initial.own.rider l.initial.own.counts) (own_of l.own.rider l.own.counts)

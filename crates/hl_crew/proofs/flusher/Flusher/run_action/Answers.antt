@@ -11,7 +11,7 @@ returns-in_err-finish-in-Ok g c =
       c.in-Ok.ready,
       c.take.new.rider,
       leaves (λ before after h. h.0) c.in-Ok.ensures.met,
-      finishes_of g.row.F.Denot c.args.self.now.domain.now c.args.self.now.orders.cuts _ _ _ _ (Err c.in_err-finish-in-Ok.field-0.0) c.take.new.rider c.finish.new.rider c.run.ensures.origin c.run.ensures.ticket c.in_err-finish-in-Ok.ensures,
+      finishes_of g.row.F.Denot c.args.self.now.domain.now c.args.self.now.shared.now.orders.cuts _ _ _ _ (Err c.in_err-finish-in-Ok.field-0.0) c.take.new.rider c.finish.new.rider c.run.ensures.origin c.run.ensures.ticket c.in_err-finish-in-Ok.ensures,
     ))
 
 pub returns-in_ok-finish-in-Ok : goal.returns-in_ok-finish-in-Ok
@@ -19,7 +19,7 @@ returns-in_ok-finish-in-Ok g c = record {
   ready = c.in-Ok.ready;
   mid = c.take.new.rider;
   taken = leaves (λ before after h. h.0) c.in-Ok.ensures.met;
-  done = finishes_of g.row.F.Denot c.args.self.now.domain.now c.args.self.now.orders.cuts _ _ _ _ (Ok tt) c.take.new.rider c.finish.new.rider c.run.ensures.origin c.run.ensures.ticket c.in_ok-finish-in-Ok.ensures;
+  done = finishes_of g.row.F.Denot c.args.self.now.domain.now c.args.self.now.shared.now.orders.cuts _ _ _ _ (Ok tt) c.take.new.rider c.finish.new.rider c.run.ensures.origin c.run.ensures.ticket c.in_ok-finish-in-Ok.ensures;
 }
 
 pub returns-in-Empty : goal.returns-in-Empty

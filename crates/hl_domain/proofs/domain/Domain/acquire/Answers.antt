@@ -22,10 +22,11 @@ invariant_of-guard g c =
 
 pub returns-in-Ok : goal.returns-in-Ok
 returns-in-Ok g c =
-    let at = met_held c.lock-guard.ensures c.deref_mut.ensures.value c.deref_mut-2.view_is in
+    let held = met_held c.lock-guard.ensures c.deref_mut.ensures.value c.deref_mut-2.view_is in
+    let at = held.at in
     let e = c.in-Ok.ensures in
     let m = by_one (Acquire c.args.t) at e.keeps.0 c.journal-before.ensures (e.made _ at.stands) in
-    record { met = call_left (call_of (Acquire c.args.t) c.args.rider c.note.new.rider) (Ok (with_rider c.note.new.rider c.in-Ok.pass)) m (c.rider_mut.ensures.value ∙ acquired_grew (e.made _ at.stands)) c.note.ensures.rider c.note.ensures.rises ((λ A st. reseated c.note.new.rider (e.made A st)), e.keeps) }
+    record { met = call_left held.noted (call_of (Acquire c.args.t) c.args.rider c.note.new.rider) (Ok (with_rider c.note.new.rider c.in-Ok.pass)) m (c.rider_mut.ensures.value ∙ acquired_grew (e.made _ at.stands)) c.note.ensures.rider c.note.ensures.rises ((λ A st. reseated c.note.new.rider (e.made A st)), e.keeps) }
 
 pub note-requires-in-Err : goal.note-requires-in-Err
 note-requires-in-Err g c =
@@ -43,7 +44,8 @@ invariant_of-t-13 g c =
 
 pub returns : goal.returns
 returns g c =
-    let at = met_held c.lock-guard.ensures c.deref_mut.ensures.value c.deref_mut-2.view_is in
+    let held = met_held c.lock-guard.ensures c.deref_mut.ensures.value c.deref_mut-2.view_is in
+    let at = held.at in
     let e = c.in-Err.ensures in
     let m = by_one (Acquire c.args.t) at e.keeps.0 c.journal-before.ensures (e.made _ at.stands) in
-    record { met = call_left {X = PassRecord} (call_of (Acquire c.args.t) c.args.rider c.note-in-Err.new.rider) (Err c.in-Err.fault) m (stayed c.args.rider c.in-Err.rider e.refused) c.note-in-Err.ensures.rider c.note-in-Err.ensures.rises ((λ A st. refused_as _ (e.made A st)), e.keeps) }
+    record { met = call_left {X = PassRecord} held.noted (call_of (Acquire c.args.t) c.args.rider c.note-in-Err.new.rider) (Err c.in-Err.fault) m (stayed c.args.rider c.in-Err.rider e.refused) c.note-in-Err.ensures.rider c.note-in-Err.ensures.rises ((λ A st. refused_as _ (e.made A st)), e.keeps) }

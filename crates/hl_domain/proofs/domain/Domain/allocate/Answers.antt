@@ -23,14 +23,16 @@ invariant_of-deref_mut g c =
 
 pub returns-clause-met : goal.returns-clause-met
 returns-clause-met g c =
-    let at = met_held c.lock-guard.ensures c.deref_mut.ensures.value c.deref_mut-2.view_is in
+    let held = met_held c.lock-guard.ensures c.deref_mut.ensures.value c.deref_mut-2.view_is in
+    let at = held.at in
     let e = c.allocate-placed.ensures in
-    call_left (pass_call c.args.pass.now (Allocate c.args.pass.now.slot c.args.n) c.note.new.rider) c.allocate-placed.result (by_pass c.args.pass.now.touches (Allocate c.args.pass.now.slot c.args.n) at e.keeps.0 c.journal-before.ensures (e.made _ at.stands)) (c.rider_mut.ensures.value ∙ rested_grew c.allocate-placed.result (λ _. c.args.pass.now.epoch) (λ a. with_tail (a + c.args.n) (seen c.args.pass.now)) (Allocate c.args.pass.now.slot c.args.n) c.args.pass.now c.allocate-placed.new.pass e.pass) c.note.ensures.rider c.note.ensures.rises (e.made, e.keeps)
+    call_left held.noted (pass_call c.args.pass.now (Allocate c.args.pass.now.slot c.args.n) c.note.new.rider) c.allocate-placed.result (by_pass c.args.pass.now.touches (Allocate c.args.pass.now.slot c.args.n) at e.keeps.0 c.journal-before.ensures (e.made _ at.stands)) (c.rider_mut.ensures.value ∙ rested_grew c.allocate-placed.result (λ _. c.args.pass.now.epoch) (λ a. with_tail (a + c.args.n) (seen c.args.pass.now)) (Allocate c.args.pass.now.slot c.args.n) c.args.pass.now c.allocate-placed.new.pass e.pass) c.note.ensures.rider c.note.ensures.rises (e.made, e.keeps)
 
 pub returns-clause-pass : goal.returns-clause-pass
 returns-clause-pass g c = rested_held c.allocate-placed.result (λ _. c.args.pass.now.epoch) (λ a. with_tail (a + c.args.n) (seen c.args.pass.now)) c.args.pass.now c.allocate-placed.new.pass c.note.new.rider c.allocate-placed.ensures.pass
 
 pub returns-clause-one_page : goal.returns-clause-one_page
 returns-clause-one_page g c =
-    let at = met_held c.lock-guard.ensures c.deref_mut.ensures.value c.deref_mut-2.view_is in
+    let held = met_held c.lock-guard.ensures c.deref_mut.ensures.value c.deref_mut-2.view_is in
+    let at = held.at in
     subst (λ (z : Sizes). IfOk c.allocate-placed.result (λ a. a / z.page_size ≡ (a + c.args.n - 1) / z.page_size)) at.sizes_are c.allocate-placed.ensures.one_page

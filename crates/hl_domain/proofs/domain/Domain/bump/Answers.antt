@@ -22,9 +22,10 @@ invariant_of-deref_mut g c =
 
 pub returns-clause-met : goal.returns-clause-met
 returns-clause-met g c =
-    let at = met_held c.lock-guard.ensures c.deref_mut.ensures.value c.deref_mut-2.view_is in
+    let held = met_held c.lock-guard.ensures c.deref_mut.ensures.value c.deref_mut-2.view_is in
+    let at = held.at in
     let e = c.bump-bumped.ensures in
-    call_left (call_of (asking job_tag c.args.ask) c.args.rider.now c.note.new.rider) (without_back c.bump-bumped.result) (by_one (asking job_tag c.args.ask) at e.stays c.journal-before.ensures (e.made _ at.stands)) (grew_without c.bump-bumped.result (asking job_tag c.args.ask ∷ []) _ _ e.rider) c.note.ensures.rider c.note.ensures.rises (e.made, e.stays, e.jobs, kept c.bump-bumped.result c.args.ask _ e.refused)
+    call_left held.noted (call_of (asking job_tag c.args.ask) c.args.rider.now c.note.new.rider) (without_back c.bump-bumped.result) (by_one (asking job_tag c.args.ask) at e.stays c.journal-before.ensures (e.made _ at.stands)) (grew_without c.bump-bumped.result (asking job_tag c.args.ask ∷ []) _ _ e.rider) c.note.ensures.rider c.note.ensures.rises (e.made, e.stays, e.jobs, kept c.bump-bumped.result c.args.ask _ e.refused)
 
 pub returns-clause-refused : goal.returns-clause-refused
 returns-clause-refused g c = handed_back c.bump-bumped.result c.args.ask _ c.bump-bumped.ensures.refused

@@ -21,6 +21,7 @@ invariant_of-deref_mut g c =
 
 pub returns-clause-met : goal.returns-clause-met
 returns-clause-met g c =
-    let at = met_held c.lock-guard.ensures c.deref_mut.ensures.value c.deref_mut-2.view_is in
+    let held = met_held c.lock-guard.ensures c.deref_mut.ensures.value c.deref_mut-2.view_is in
+    let at = held.at in
     let e = c.flush_done-ended.ensures in
-    call_left (call_of (FlushDone c.args.load.page c.args.ok) c.args.rider.now c.note.new.rider) (without_back c.flush_done-ended.result) (by_one (FlushDone c.args.load.page c.args.ok) at e.keeps.0 c.journal-before.ensures (e.made _ at.stands)) (grew_without c.flush_done-ended.result (FlushDone c.args.load.page c.args.ok ∷ []) _ _ e.rider) c.note.ensures.rider c.note.ensures.rises (e.made, e.keeps)
+    call_left held.noted (call_of (FlushDone c.args.load.page c.args.ok) c.args.rider.now c.note.new.rider) (without_back c.flush_done-ended.result) (by_one (FlushDone c.args.load.page c.args.ok) at e.keeps.0 c.journal-before.ensures (e.made _ at.stands)) (grew_without c.flush_done-ended.result (FlushDone c.args.load.page c.args.ok ∷ []) _ _ e.rider) c.note.ensures.rider c.note.ensures.rises (e.made, e.keeps)

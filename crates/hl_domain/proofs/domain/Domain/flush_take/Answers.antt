@@ -20,6 +20,7 @@ invariant_of-deref_mut g c =
 
 pub returns : goal.returns
 returns g c =
-    let at = met_held c.lock-guard.ensures c.deref_mut.ensures.value c.deref_mut-2.view_is in
+    let held = met_held c.lock-guard.ensures c.deref_mut.ensures.value c.deref_mut-2.view_is in
+    let at = held.at in
     let e = c.flush_take-taken.ensures in
-    record { met = call_left (call_of FlushTake c.args.rider.now c.note.new.rider) c.flush_take-taken.result (by_one FlushTake at e.keeps.0 c.journal-before.ensures (e.made _ at.stands)) (grew c.flush_take-taken.result (FlushTake ∷ []) _ _ e.rider) c.note.ensures.rider c.note.ensures.rises (e.made, e.keeps) }
+    record { met = call_left held.noted (call_of FlushTake c.args.rider.now c.note.new.rider) c.flush_take-taken.result (by_one FlushTake at e.keeps.0 c.journal-before.ensures (e.made _ at.stands)) (grew c.flush_take-taken.result (FlushTake ∷ []) _ _ e.rider) c.note.ensures.rider c.note.ensures.rises (e.made, e.keeps) }

@@ -20,6 +20,7 @@ invariant_of-deref_mut g c =
 
 pub returns-clause-met : goal.returns-clause-met
 returns-clause-met g c =
-    let at = met_held c.lock-guard.ensures c.deref_mut.ensures.value c.deref_mut-2.view_is in
+    let held = met_held c.lock-guard.ensures c.deref_mut.ensures.value c.deref_mut-2.view_is in
+    let at = held.at in
     let e = c.raise-raised.ensures in
-    call_left (call_of (Raise c.args.x) c.args.rider.now c.note.new.rider) c.raise-raised.result (by_one (Raise c.args.x) at e.keeps.0 c.journal-before.ensures (e.made _ at.stands)) (grew c.raise-raised.result (Raise c.args.x ∷ []) _ _ e.rider) c.note.ensures.rider c.note.ensures.rises (e.made, e.keeps)
+    call_left held.noted (call_of (Raise c.args.x) c.args.rider.now c.note.new.rider) c.raise-raised.result (by_one (Raise c.args.x) at e.keeps.0 c.journal-before.ensures (e.made _ at.stands)) (grew c.raise-raised.result (Raise c.args.x ∷ []) _ _ e.rider) c.note.ensures.rider c.note.ensures.rises (e.made, e.keeps)

@@ -20,14 +20,15 @@ invariant_of-deref_mut g c =
 
 pub returns : goal.returns
 returns g c =
-    let at = met_held c.lock-guard.ensures c.deref_mut.ensures.value c.deref_mut-2.view_is in
+    let held = met_held c.lock-guard.ensures c.deref_mut.ensures.value c.deref_mut-2.view_is in
+    let at = held.at in
     let e = c.refresh-refreshed.ensures in
     let p = c.args.pass.now in
     let mid = c.refresh-refreshed.new.pass in
     let m = by_pass p.touches (Refresh p.slot) at e.keeps.0 c.journal-before.ensures (e.made _ at.stands) in
     let grew = c.rider_mut.ensures.value ∙ rested_grew c.refresh-refreshed.result (λ _. mid.epoch) (λ v. v) (Refresh p.slot) p mid e.pass in
     record {
-      met = call_left (pass_call p (Refresh p.slot) c.note.new.rider) c.refresh-refreshed.result m grew c.note.ensures.rider c.note.ensures.rises ((e.made, e.epoch), e.keeps);
+      met = call_left held.noted (pass_call p (Refresh p.slot) c.note.new.rider) c.refresh-refreshed.result m grew c.note.ensures.rider c.note.ensures.rises ((e.made, e.epoch), e.keeps);
       pass = rested_held c.refresh-refreshed.result (λ _. mid.epoch) (λ v. v) p mid c.note.new.rider e.pass;
       fresh = e.fresh;
     }

@@ -20,6 +20,7 @@ invariant_of-deref_mut g c =
 
 pub returns-clause-met : goal.returns-clause-met
 returns-clause-met g c =
-    let at = met_held c.lock-guard.ensures c.deref_mut.ensures.value c.deref_mut-2.view_is in
+    let held = met_held c.lock-guard.ensures c.deref_mut.ensures.value c.deref_mut-2.view_is in
+    let at = held.at in
     let e = c.shift-shifted.ensures in
-    call_left (call_of (Shift c.args.x) c.args.rider.now c.note.new.rider) c.shift-shifted.result (by_one (Shift c.args.x) at e.keeps.0 c.journal-before.ensures (e.made _ at.stands)) (grew c.shift-shifted.result (Shift c.args.x ∷ []) _ _ e.rider) c.note.ensures.rider c.note.ensures.rises (e.made, e.keeps)
+    call_left held.noted (call_of (Shift c.args.x) c.args.rider.now c.note.new.rider) c.shift-shifted.result (by_one (Shift c.args.x) at e.keeps.0 c.journal-before.ensures (e.made _ at.stands)) (grew c.shift-shifted.result (Shift c.args.x ∷ []) _ _ e.rider) c.note.ensures.rider c.note.ensures.rises (e.made, e.keeps)

@@ -1,4 +1,4 @@
-use Rattle.std.proofs.Common.{refl}
+use Rattle.std.proofs.Common.{refl, ap, arith}
 use Rattle.hl_domain.proofs.DomainLaws.{met_held, still_at, noted_at, quiet_call}
 use Rattle.hl_domain.proofs.domain.Domain.snapshot_by.Goals as goal
 
@@ -8,10 +8,11 @@ invariant_of-deref_mut g c = noted_at c.note_quiet.ensures.keeper (still_at c.no
 pub note_quiet-requires : goal.note_quiet-requires
 note_quiet-requires g c =
     let held = c.deref_mut-2.invariant in
-    (held.noted, held.at.stands.total_is)
+    (ap (λ x. x.steps) held.noted, omega (arith, ap (λ x. x.cut) held.noted), held.at.stands.total_is)
 
 pub returns : goal.returns
 returns g c =
-    let at = met_held c.lock-guard.ensures c.deref_mut.ensures.value c.deref_mut-2.view_is in
+    let held = met_held c.lock-guard.ensures c.deref_mut.ensures.value c.deref_mut-2.view_is in
+    let at = held.at in
     let e = c.snapshot-told.ensures in
-    record { met = quiet_call at at refl c.note_quiet.ensures.rider c.note_quiet.ensures.rises (refl, e.quantities, e.steps, e.cut) }
+    record { met = quiet_call held.noted at at refl c.note_quiet.ensures.rider c.note_quiet.ensures.rises (refl, e.quantities, e.steps, e.cut) }

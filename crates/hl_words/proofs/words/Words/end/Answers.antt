@@ -1,8 +1,8 @@
 use Rattle.std.proofs.Common.{◌≡◌, ℕ, map, length, drop, sym, ap, ◌∙◌, subst, rules}
 use Rattle.std.specs.Slots.{slots_items}
 use Rattle.std.proofs.lemmas.List.{length-map}
-use Rattle.hl_words.specs.States.{RiderState, known_to_all}
-use Rattle.hl_words.specs.Rule.{IsRuled}
+use Rattle.hl_words.specs.States.{MasterState, RiderState, known_to_all}
+use Rattle.hl_words.specs.Rule.{IsRuledAt}
 use Rattle.hl_words.proofs.Seatings.{ends}
 use Rattle.hl_words.proofs.Told.{attested, known_back}
 use Rattle.hl_words.proofs.words.Words.end.Goals as goal
@@ -21,8 +21,9 @@ returns-clause-rule g c =
     let knows = attested _ _ riders _ c.gather.new.ended.seat.me seat.me c.gather.ensures.seat.1.knows e.2 in
     let both = ends key words (slots_items c.close_with.result.slots) c.master.inside.seat.me.0.called c.master.inside.seat.me.0.offsets riders (known_to_all (λ all. all.items) c.args.pasts) seat.id seat.me.0 (e.1 ∙ c.gather.ensures.seat.1.first) knows all c.close_with.ensures.values.2 in
     let cells : key.cells ≡ c.args.self.cells = ap (λ k. k.cells) t.key_is ∙ ap (λ w. w.cells) c.self.view_is in
-    let told = subst (λ (n : ℕ). IsRuled n (drop 8 words) c.args.master.offsets riders) cells (subst (λ o. IsRuled key.cells (drop 8 words) o riders) (ap (λ m. m.offsets) c.master.view_is) both.0) in
-    subst (λ ws. IsRuled c.args.self.cells ws c.args.master.offsets riders) (sym (ap (λ l. l.words) c.of.ensures)) told
+    let mine = subst (λ (m : MasterState). IsRuledAt key.cells (drop 8 words) m.offsets m.called riders) c.master.view_is both.0 in
+    let told = subst (λ (n : ℕ). IsRuledAt n (drop 8 words) c.args.master.offsets c.args.master.called riders) cells mine in
+    subst (λ ws. IsRuledAt c.args.self.cells ws c.args.master.offsets c.args.master.called riders) (sym (ap (λ l. l.words) c.of.ensures)) told
 
 -- and what the pasts told was done
 pub returns-clause-known : goal.returns-clause-known
