@@ -186,6 +186,16 @@ check "the page of no script" no_page 1 "$room/absent"
 check "the page of no line" no_page 2 "$scripts/../examples/empty_input.script"
 check "a word too many for a page" no_page 2 "$of.script" more
 
+# The pages of docs/pages are what ./hl view makes of their examples. Where one is old:
+# ./hl view examples/NAME.script > docs/pages/NAME.html
+page_as_committed() {
+    "$scripts/view" "$program" "$scripts/../examples/$1.script" | cmp "$scripts/../docs/pages/$1.html"
+}
+
+for page in first_action fuzzy_region stale_reader; do
+    check "the page docs/pages/$page.html" page_as_committed "$page"
+done
+
 # In a browser a page goes to each line, without an error and without a request, and shows there what the program
 # answers and tells after that line. Two slots a line are written by hand, on standard input: shows NAME LINE..
 shows() {
@@ -212,13 +222,21 @@ slot 1 not protected
 slot 0 2 8 0 8
 slot 1 not protected
 END
-    check "the page of stale_reader in a browser" shows stale_reader 6 19 29 << 'END'
+    check "the page of stale_reader in a browser" shows stale_reader 6 19 30 << 'END'
 slot 0 1 0 0 8
 slot 1 1 0 0 8
 slot 0 3 8 4 8
 slot 1 2 8 0 8
 slot 0 3 8 4 9
 slot 1 3 8 4 8
+END
+    check "the page of first_action in a browser" shows first_action 9 << 'END'
+slot 0 2 0 0 0
+slot 1 not protected
+END
+    check "the page of fuzzy_region in a browser" shows fuzzy_region 12 << 'END'
+slot 0 2 4 0 4
+slot 1 2 4 0 4
 END
 else
     echo "left out: pages in a browser, since there is no Chromium here"

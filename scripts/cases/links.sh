@@ -1,0 +1,7 @@
+# Each link of the pages leads to a file or a folder of the repository, and each page is linked from another.
+
+links_lead() {
+    python3 -B "$scripts/shown/links.py" "$scripts/.."
+}
+
+check "the links of the pages" links_lead

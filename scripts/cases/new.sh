@@ -1,0 +1,31 @@
+# A project of one's own, as ./hl new makes it: its program runs, its edit can be applied, and what is there is left alone.
+
+top="$(cd "$scripts/.." && pwd)"
+project="$room/project"
+
+makes_a_project() {
+    "$top/hl" new "$project" && (cd "$project/crates/first_log" && rt try > "$room/tail") && cmp "$room/tail" "$project/crates/first_log/stdout"
+}
+
+# The text that the project's edit replaces stands once in the file that it names.
+edit_fits() {
+    local edit file old
+    for edit in "$project"/crates/first_log/must-fail/*.edit; do
+        file="$(sed -n 's/^file: //p' "$edit")"
+        old="$(sed -n 's/^old: //p' "$edit")"
+        [ "$(grep -cF -- "$old" "$project/crates/first_log/$file")" = 1 ] || return
+    done
+}
+
+leaves_what_is_there() {
+    local status=0
+    mkdir -p "$room/full" && echo mine > "$room/full/file"
+    "$top/hl" new "$room/full" || status=$?
+    [ "$status" = 2 ] && [ "$(ls -A "$room/full")" = file ] && [ "$(cat "$room/full/file")" = mine ]
+}
+
+if has_all 'a project of one'"'"'s own' rt; then
+    check 'a new project runs' makes_a_project
+    check 'the edit of a new project fits' edit_fits
+    check 'a folder that is not empty is no project' leaves_what_is_there
+fi
