@@ -20,6 +20,9 @@
 #include <stdint.h>
 
 #define HL_VERSION "0.1.0"
+#define HL_VERSION_MAJOR 0
+#define HL_VERSION_MINOR 1
+#define HL_VERSION_PATCH 0
 
 #ifdef __cplusplus
 extern "C" {
@@ -76,8 +79,12 @@ enum hl_fault {
     HL_WINDOW_FULL = 32,
     /* no fault of the rules: */
     HL_OUT_OF_RANGE = 254, /* a size, a frame, a place in a list or a number of pages */
-    HL_NO_CORE = 255       /* no core is open at the handle; for an opening: one is */
+    HL_NO_CORE = 255,      /* no core is open at the handle */
+    HL_IS_OPEN = 255       /* of an opening: a core is open at the handle already, and stays */
 };
+
+/* The version of this header: that of the archive that was installed beside it. */
+static inline const char *hl_version(void) { return HL_VERSION; }
 
 /* The name of a fault, as docs/RULES.md has it, or of a code; "accepted" for 0, and "unknown" for others. */
 static inline const char *hl_fault_name(uint64_t number) {
@@ -168,7 +175,7 @@ typedef struct hl_lag_steps {
  */
 
 /* Opens a core at the empty list: page_size words a page, a power of two from 4 to 4,096; 2 to 256 frames; 1 to 64
- * slots; 1 to 64 places in the drain list. 0 where it did. HL_NO_CORE where one is open already, which stays;
+ * slots; 1 to 64 places in the drain list. 0 where it did. HL_IS_OPEN where one is open already, which stays;
  * HL_OUT_OF_RANGE where a size is; HL_OUT_OF_MEMORY where malloc refused. */
 uint64_t hl_open(hl_core *core, uint64_t page_size, uint64_t frames, uint64_t slots, uint64_t drain_places);
 

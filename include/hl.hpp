@@ -3,7 +3,7 @@
 // hl.h on, whose comments say what each does and what refuses it; docs/RULES.md has the rules.
 //
 // No call throws, unless you ask for it: by value() of an answer, or by HL_EXCEPTIONS, which adds constructors that do.
-// An answer is a std::expected where the library has it (hl_answers.hpp).
+// hl_answers.hpp has the answers.
 //
 // One thread at a time uses a core and its slots: keep them under one lock. hl_log.hpp has a log for many threads.
 #ifndef HL_HPP
@@ -19,6 +19,7 @@
 #include <utility>
 
 namespace hl {
+inline namespace HL_FORM {
 
 // ---- What calls tell ----
 
@@ -27,6 +28,11 @@ struct View {
     Word read_only;
     Word head;
     Word tail;
+
+    constexpr bool operator==(const View &other) const noexcept {
+        return read_only == other.read_only && head == other.head && tail == other.tail;
+    }
+    constexpr bool operator!=(const View &other) const noexcept { return !(*this == other); }
 };
 
 /// What a slot learns by entering an epoch.
@@ -186,10 +192,21 @@ class Sizes {
 
 namespace detail {
 
+/// An open core's handle. Of each slot it knows how often it changed hands, so that a slot's former holder is known.
+struct Held {
+    Held() = default;
+    Held(const Held &) = delete;
+    Held &operator=(const Held &) = delete;
+    ~Held() { hl_free(&core); }
+
+    hl_core core{};
+    std::unique_ptr<Word[]> times;
+};
+
 /// Makes a call of this core, or of one that isn't open.
-template <class Call, class... Words> auto ask(Call call, hl_core *core, Words... words) noexcept {
+template <class Call, class... Words> auto ask(Call call, Held *held, Words... words) noexcept {
     hl_core none{};
-    return call(core ? core : &none, words...);
+    return call(held ? &held->core : &none, words...);
 }
 
 inline Refused refused(Word number, Word first = 0, Word second = 0) noexcept {
@@ -237,63 +254,75 @@ inline Offsets offsets_of(const hl_offsets &six) noexcept {
 // ---- A slot ----
 
 /// A protected slot of a core, which is released where it goes out of scope. The core must outlive it, and may be moved
-/// meanwhile. After release() and keep(), and where it was moved from, it is of no core: its calls answer NoCore.
+/// meanwhile. After release() and keep(), and where it was moved from, it is of no core: its calls answer NoCore. Once
+/// the core released it by its number it isn't protected, whoever has that slot then: its calls answer NotProtected.
 class Slot {
   public:
     Slot(Slot &&other) noexcept
-        : core_(std::exchange(other.core_, nullptr)), number_(other.number_), entered_(other.entered_) {}
+        : held_(std::exchange(other.held_, nullptr)), number_(other.number_), time_(other.time_),
+          entered_(other.entered_) {}
+    /// The slot that was here is released, and the other one's is here.
     Slot &operator=(Slot &&other) noexcept {
-        std::swap(core_, other.core_);
-        std::swap(number_, other.number_);
-        std::swap(entered_, other.entered_);
+        Slot taken(std::move(other));
+        std::swap(held_, taken.held_);
+        std::swap(number_, taken.number_);
+        std::swap(time_, taken.time_);
+        std::swap(entered_, taken.entered_);
         return *this;
     }
-    ~Slot() {
-        if (core_) hl_release(core_, number_);
-    }
+    ~Slot() { (void)release(); }
 
     Word number() const noexcept { return number_; }
     /// What it learned by its acquire, or by its last refresh.
     const Entered &entered() const noexcept { return entered_; }
 
     [[nodiscard]] Result<Entered> refresh() {
-        auto now = detail::entered(detail::ask(hl_refresh, core_, number_));
+        auto now = detail::entered(ask<hl_outcome>(hl_refresh));
         if (now) entered_ = *now;
         return now;
     }
-    [[nodiscard]] Result<Word> allocate(Word words) {
-        return detail::one(detail::ask(hl_allocate, core_, number_, words));
-    }
+    [[nodiscard]] Result<Word> allocate(Word words) { return detail::one(ask<hl_brief>(hl_allocate, words)); }
     [[nodiscard]] Result<View> look(Word read_only, Word head) {
-        return detail::made(detail::ask(hl_look, core_, number_, read_only, head), detail::view_of);
+        return detail::made(ask<hl_outcome>(hl_look, read_only, head), detail::view_of);
     }
     /// Whether it may write the word at an address. The word is yours to write.
-    [[nodiscard]] Result<void> may_write(Word address) {
-        return detail::nothing(detail::ask(hl_write, core_, number_, address, Word{0}));
+    [[nodiscard]] Result<void> may_write(Word address) const {
+        return detail::nothing(ask<hl_brief>(hl_write, address, Word{0}));
     }
     /// Whether it may read the word at an address.
-    [[nodiscard]] Result<void> may_read(Word address) {
-        return detail::nothing(detail::ask(hl_read, core_, number_, address));
-    }
+    [[nodiscard]] Result<void> may_read(Word address) const { return detail::nothing(ask<hl_brief>(hl_read, address)); }
 
     /// Releases it now.
-    [[nodiscard]] Result<void> release() {
-        auto told = detail::nothing(detail::ask(hl_release, core_, number_));
-        core_ = nullptr;
+    [[nodiscard]] Result<void> release() noexcept {
+        auto told = detail::nothing(ask<hl_brief>(hl_release));
+        if (told.has_value()) held_->times[number_]++;
+        held_ = nullptr;
         return told;
     }
     /// Leaves the slot protected, for calls of the core by its number.
     Word keep() noexcept {
-        core_ = nullptr;
+        held_ = nullptr;
         return number_;
     }
 
   private:
     friend class Core;
-    Slot(hl_core *core, Word number, Entered entered) noexcept : core_(core), number_(number), entered_(entered) {}
+    Slot(detail::Held *held, Word number, Entered entered) noexcept
+        : held_(held), number_(number), time_(held->times[number]), entered_(entered) {}
 
-    hl_core *core_;
+    /// Makes a call of its core for the slot, if the slot is still its own.
+    template <class Told, class Call, class... Words> Told ask(Call call, Words... words) const noexcept {
+        if (held_ && held_->times[number_] != time_) {
+            Told told{};
+            told.number = HL_NOT_PROTECTED;
+            return told;
+        }
+        return detail::ask(call, held_, number_, words...);
+    }
+
+    detail::Held *held_;
     Word number_;
+    Word time_;
     Entered entered_;
 };
 
@@ -305,10 +334,12 @@ class Core {
     /// A core at the empty list. OutOfMemory: malloc refused.
     [[nodiscard]] static Result<Core> open(Sizes sizes) {
         Core core;
-        core.at_.reset(new (std::nothrow) hl_core{});
+        core.at_.reset(new (std::nothrow) detail::Held);
         if (!core.at_) return Refused(Refusal{Fault::OutOfMemory});
+        core.at_->times.reset(new (std::nothrow) Word[sizes.slots()]{});
+        if (!core.at_->times) return Refused(Refusal{Fault::OutOfMemory});
         Word number =
-            hl_open_wide(core.at_.get(), sizes.page_size(), sizes.frames(), sizes.slots(), sizes.drain_places());
+            hl_open_wide(&core.at_->core, sizes.page_size(), sizes.frames(), sizes.slots(), sizes.drain_places());
         if (number != 0) return detail::refused(number);
         return core;
     }
@@ -319,7 +350,7 @@ class Core {
 #endif
 
     /// Its handle, for calls of hl.h; null where it was moved from.
-    hl_core *handle() noexcept { return at_.get(); }
+    hl_core *handle() noexcept { return at_ ? &at_->core : nullptr; }
 
     /// Protects a slot until what this answers goes out of scope. A core that goes away at once has none: it must
     /// outlive what it gives.
@@ -332,17 +363,22 @@ class Core {
     [[nodiscard]] Result<Entered> refresh(Word slot) {
         return detail::entered(detail::ask(hl_refresh, at_.get(), slot));
     }
-    [[nodiscard]] Result<void> release(Word slot) { return detail::nothing(detail::ask(hl_release, at_.get(), slot)); }
+    /// Releases a slot by its number; a Slot of that number that is still there is of nobody then.
+    [[nodiscard]] Result<void> release(Word slot) {
+        auto told = detail::nothing(detail::ask(hl_release, at_.get(), slot));
+        if (told.has_value()) at_->times[slot]++;
+        return told;
+    }
     [[nodiscard]] Result<Word> allocate(Word slot, Word words) {
         return detail::one(detail::ask(hl_allocate, at_.get(), slot, words));
     }
     [[nodiscard]] Result<View> look(Word slot, Word read_only, Word head) {
         return detail::made(detail::ask(hl_look, at_.get(), slot, read_only, head), detail::view_of);
     }
-    [[nodiscard]] Result<void> may_write(Word slot, Word address) {
+    [[nodiscard]] Result<void> may_write(Word slot, Word address) const {
         return detail::nothing(detail::ask(hl_write, at_.get(), slot, address, Word{0}));
     }
-    [[nodiscard]] Result<void> may_read(Word slot, Word address) {
+    [[nodiscard]] Result<void> may_read(Word slot, Word address) const {
         return detail::nothing(detail::ask(hl_read, at_.get(), slot, address));
     }
 
@@ -364,14 +400,14 @@ class Core {
         return detail::one(detail::ask(hl_clean_done, at_.get(), page));
     }
 
-    [[nodiscard]] Result<Offsets> offsets() {
+    [[nodiscard]] Result<Offsets> offsets() const {
         hl_offsets six = detail::ask(hl_six, at_.get());
         if (six.number != 0) return detail::refused(six.number);
         return detail::offsets_of(six);
     }
     /// The old name of offsets().
-    [[nodiscard]] [[deprecated("use offsets()")]] Result<Offsets> six() { return offsets(); }
-    [[nodiscard]] Result<Snapshot> snapshot() {
+    [[nodiscard]] [[deprecated("use offsets()")]] Result<Offsets> six() const { return offsets(); }
+    [[nodiscard]] Result<Snapshot> snapshot() const {
         hl_quantities all = detail::ask(hl_snapshot, at_.get());
         if (all.number != 0) return detail::refused(all.number);
         const Word *frames = all.frames;
@@ -385,41 +421,35 @@ class Core {
     }
     /// The steps that a flusher makes next, for whoever wants about so many pages at the tail to be written and about
     /// so many to be read; hl_lag says more. OutOfRange: not 1 <= mutable_pages <= resident_pages < frames.
-    [[nodiscard]] Result<Lag> lag(Word mutable_pages, Word resident_pages) {
+    [[nodiscard]] Result<Lag> lag(Word mutable_pages, Word resident_pages) const {
         hl_lag_steps told = detail::ask(hl_lag, at_.get(), mutable_pages, resident_pages);
         if (told.number != 0) return detail::refused(told.number);
         return Lag(told);
     }
-    [[nodiscard]] Result<Pending> pending(Word place) {
+    [[nodiscard]] Result<Pending> pending(Word place) const {
         return detail::made(detail::ask(hl_pending, at_.get(), place), [](const hl_outcome &it) {
             return Pending{it.a, static_cast<Kind>(it.b), it.c, it.d};
         });
     }
-    [[nodiscard]] Result<Frame> frame(Word frame) {
+    [[nodiscard]] Result<Frame> frame(Word frame) const {
         return detail::made(detail::ask(hl_frame, at_.get(), frame), [](const hl_outcome &it) {
             return Frame{static_cast<FrameState>(it.a), it.b == 1 ? std::optional<Word>(it.c) : std::nullopt};
         });
     }
     /// None where the slot isn't protected, or there is no such slot.
-    [[nodiscard]] Result<std::optional<View>> view(Word slot) {
+    [[nodiscard]] Result<std::optional<View>> view(Word slot) const {
         return detail::made(detail::ask(hl_view, at_.get(), slot), [](const hl_outcome &it) {
             return it.a == 1 ? std::optional<View>(detail::view_of(it)) : std::nullopt;
         });
     }
 
   private:
-    struct Free {
-        void operator()(hl_core *core) const noexcept {
-            hl_free(core);
-            delete core;
-        }
-    };
-
     Core() = default;
 
-    std::unique_ptr<hl_core, Free> at_;
+    std::unique_ptr<detail::Held> at_;
 };
 
+} // namespace HL_FORM
 } // namespace hl
 
 #endif

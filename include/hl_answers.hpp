@@ -1,7 +1,13 @@
-// What calls of hl.hpp are answered: a value, or the fault that refused the call. An answer is a std::expected where
-// the library has it, and else has the calls of it that are used most.
+// What calls of hl.hpp are answered: a value, or the fault that refused the call. An answer has the calls of
+// std::expected that are used most. It is one type in every form of C++, so that objects of C++17 and of C++23 may be
+// linked into one program. Objects that are built with exceptions and without have two, by their names: those that hand
+// one to the other don't link.
 #ifndef HL_ANSWERS_HPP
 #define HL_ANSWERS_HPP
+
+#if __cplusplus < 201703L && (!defined(_MSVC_LANG) || _MSVC_LANG < 201703L)
+#error "hl for C++ wants C++17 or later; hl.h is for C and for earlier forms of C++"
+#endif
 
 #include "hl.h"
 
@@ -11,14 +17,15 @@
 #include <type_traits>
 #include <utility>
 #include <variant>
-#if __has_include(<version>)
-#include <version>
-#endif
-#if defined(__cpp_lib_expected) && __cpp_lib_expected >= 202202L
-#include <expected>
+
+#if defined(__cpp_exceptions)
+#define HL_FORM throwing
+#else
+#define HL_FORM ending
 #endif
 
 namespace hl {
+inline namespace HL_FORM {
 
 /// A word of the log, and every number that a call takes or tells.
 using Word = std::uint64_t;
@@ -99,16 +106,13 @@ struct Refusal {
     constexpr const char *name() const noexcept { return hl::name(fault); }
     constexpr bool operator==(Fault other) const noexcept { return fault == other; }
     constexpr bool operator!=(Fault other) const noexcept { return fault != other; }
+    constexpr bool operator==(const Refusal &other) const noexcept {
+        return fault == other.fault && first == other.first && second == other.second;
+    }
+    constexpr bool operator!=(const Refusal &other) const noexcept { return !(*this == other); }
 };
 
 // ---- Answers ----
-
-#if defined(__cpp_lib_expected) && __cpp_lib_expected >= 202202L
-
-template <class T> using Result = std::expected<T, Refusal>;
-using Refused = std::unexpected<Refusal>;
-
-#else
 
 /// What value() of a refused answer throws.
 class BadAccess : public std::exception {
@@ -140,11 +144,14 @@ class Refused {
 #endif
 }
 
-/// A value, or a refusal, with the calls of std::expected that are used most. value() throws BadAccess, or ends the
-/// program where exceptions are off; `*` and `->` want an answer that has a value. Of an answer that goes away at once
-/// both give the value itself, where std::expected gives a reference into it.
+/// A value, or a refusal, with the calls of std::expected that are used most. value() throws BadAccess, whose what() is
+/// the fault's name, or ends the program where exceptions are off; `*` and `->` want an answer that has a value. Of an
+/// answer that goes away at once both give the value itself, where std::expected gives a reference into it.
 template <class T> class [[nodiscard]] Result {
   public:
+    using value_type = T;
+    using error_type = Refusal;
+
     Result(T value) : held_(std::in_place_index<0>, std::move(value)) {}
     Result(Refused refused) : held_(std::in_place_index<1>, refused.error()) {}
 
@@ -162,6 +169,16 @@ template <class T> class [[nodiscard]] Result {
     const T &value() const & { return check(), **this; }
     T value() && { return check(), *std::move(*this); }
     T value_or(T other) const & { return has_value() ? **this : std::move(other); }
+    /// What a function of the value answers, which is a Result; or the refusal.
+    template <class Call> auto and_then(Call call) && -> decltype(call(std::declval<T>())) {
+        if (!has_value()) return Refused(error());
+        return call(*std::move(*this));
+    }
+    /// What a function makes of the value; or the refusal.
+    template <class Call> auto transform(Call call) && -> Result<decltype(call(std::declval<T>()))> {
+        if (!has_value()) return Refused(error());
+        return call(*std::move(*this));
+    }
 
   private:
     void check() const {
@@ -174,6 +191,9 @@ template <class T> class [[nodiscard]] Result {
 /// An answer without a value.
 template <> class [[nodiscard]] Result<void> {
   public:
+    using value_type = void;
+    using error_type = Refusal;
+
     Result() = default;
     Result(Refused refused) : refusal_(refused.error()) {}
 
@@ -188,8 +208,7 @@ template <> class [[nodiscard]] Result<void> {
     std::optional<Refusal> refusal_;
 };
 
-#endif
-
+} // namespace HL_FORM
 } // namespace hl
 
 #endif

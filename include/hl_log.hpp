@@ -19,6 +19,7 @@
 #include <vector>
 
 namespace hl {
+inline namespace HL_FORM {
 
 // ---- The journal ----
 
@@ -134,12 +135,14 @@ class Pass {
     Pass(Pass &&other) noexcept
         : shared_(std::exchange(other.shared_, nullptr)), slot_(other.slot_), view_(other.view_),
           has_looked_(other.has_looked_), touches_(std::move(other.touches_)) {}
+    /// The slot that was here is released, and the other one's is here.
     Pass &operator=(Pass &&other) noexcept {
-        std::swap(shared_, other.shared_);
-        std::swap(slot_, other.slot_);
-        std::swap(view_, other.view_);
-        std::swap(has_looked_, other.has_looked_);
-        std::swap(touches_, other.touches_);
+        Pass taken(std::move(other));
+        std::swap(shared_, taken.shared_);
+        std::swap(slot_, taken.slot_);
+        std::swap(view_, taken.view_);
+        std::swap(has_looked_, taken.has_looked_);
+        std::swap(touches_, taken.touches_);
         return *this;
     }
     ~Pass() {
@@ -233,9 +236,11 @@ class Pass {
 class Flush {
   public:
     Flush(Flush &&other) noexcept : shared_(std::exchange(other.shared_, nullptr)), page_(other.page_) {}
+    /// The page that was here ends as where it goes out of scope, and the other one's is here.
     Flush &operator=(Flush &&other) noexcept {
-        std::swap(shared_, other.shared_);
-        std::swap(page_, other.page_);
+        Flush taken(std::move(other));
+        std::swap(shared_, taken.shared_);
+        std::swap(page_, taken.page_);
         return *this;
     }
     ~Flush() {
@@ -245,12 +250,19 @@ class Flush {
     /// Its number: its first word has the address page() * page_size.
     Word page() const noexcept { return page_; }
 
-    /// Copies its words, as many as a page has, without the lock.
-    void copy(Word *words) const noexcept {
-        if (!shared_) return;
+    /// Copies its words without the lock, into room for as many as a page has. OutOfRange: there is room for another
+    /// number. NoCore where it was done before, or moved from.
+    [[nodiscard]] Result<void> copy(Word *words, std::size_t count) const noexcept {
+        if (!shared_) return detail::refused(HL_NO_CORE);
+        if (count != shared_->sizes.page_size()) return detail::refused(HL_OUT_OF_RANGE);
         std::atomic<Word> *cells = shared_->page(page_);
-        for (Word i = 0; i < shared_->sizes.page_size(); i++)
+        for (std::size_t i = 0; i < count; i++)
             words[i] = cells[i].load(std::memory_order_acquire);
+        return {};
+    }
+    /// The same, into room that nobody looks at.
+    [[deprecated("say for how many words there is room")]] void copy(Word *words) const noexcept {
+        if (shared_) (void)copy(words, shared_->sizes.page_size());
     }
 
     /// It is on the device: the flushed offset. NoCore where it was done before, or moved from.
@@ -272,9 +284,11 @@ class Flush {
 class Clean {
   public:
     Clean(Clean &&other) noexcept : shared_(std::exchange(other.shared_, nullptr)), page_(other.page_) {}
+    /// The page that was here ends as where it goes out of scope, and the other one's is here.
     Clean &operator=(Clean &&other) noexcept {
-        std::swap(shared_, other.shared_);
-        std::swap(page_, other.page_);
+        Clean taken(std::move(other));
+        std::swap(shared_, taken.shared_);
+        std::swap(page_, taken.page_);
         return *this;
     }
     ~Clean() {
@@ -397,6 +411,7 @@ class Log {
     std::unique_ptr<detail::Shared> shared_;
 };
 
+} // namespace HL_FORM
 } // namespace hl
 
 #endif

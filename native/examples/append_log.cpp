@@ -51,7 +51,7 @@ static void serve(hl::Log &log, std::fstream &file, Word seal_below) {
         log.done(action->ticket).value();
     while (auto page = log.flush_take()) {
         std::array<Word, PAGE_SIZE> words;
-        page->copy(words.data());
+        page->copy(words.data(), words.size()).value();
         file.seekp(static_cast<std::streamoff>(page->page() * sizeof words));
         file.write(reinterpret_cast<const char *>(words.data()), sizeof words);
         // A page that isn't done would go back, to be taken again; this program gives up.

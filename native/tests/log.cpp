@@ -74,7 +74,7 @@ static void end_flush(hl::Log &log, Hands &hands, Random &random) {
     hl::Flush page = std::move(hands.flushes.back());
     hands.flushes.pop_back();
     std::vector<Word> words(log.sizes().page_size());
-    page.copy(words.data());
+    (void)page.copy(words.data(), words.size());
     if (random.below(5) != 0) (void)page.done();
 }
 
@@ -260,8 +260,8 @@ static bool is_the_way_of_a_page() {
     { auto given_back = log.flush_take().value(); }
     hl::Flush page = log.flush_take().value();
     Word words[4] = {1, 1, 1, 1};
-    page.copy(words);
-    well = well && words[0] == 0 && words[2] == 0 && words[3] == 8 && page.done().value() == 4;
+    well = well && page.copy(words, 3).error() == hl::Fault::OutOfRange && words[0] == 1;
+    well = well && page.copy(words, 4).has_value() && words[0] == 0 && words[2] == 0 && words[3] == 8 && page.done().value() == 4;
 
     // Nor the shift.
     well = well && log.shift(4) && writer.load(3).value() == 8 && writer.look().head == 4;

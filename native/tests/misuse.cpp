@@ -3,6 +3,7 @@
 
 #include <cstdio>
 #include <cstring>
+#include <optional>
 #include <type_traits>
 #include <utility>
 
@@ -103,6 +104,25 @@ static void slots() {
         wants("a second action in one place", one.bump(1), hl::Fault::DrainFull);
     }
     is("a slot is released where it goes out of scope", one.acquire(0).has_value());
+    {
+        hl::Slot first = one.acquire(0).value();
+        hl::Slot second = one.acquire(1).value();
+        first = std::move(second);
+        is("a slot that another takes the place of is released", one.snapshot()->protected_slots == 1);
+        is("the slot that took its place", first.number() == 1 && first.refresh().has_value());
+        wants("the place that it came from", second.refresh(), hl::Fault::NoCore);
+    }
+    {
+        auto former = std::make_optional(one.acquire(0).value());
+        is("a slot that is released by its number", one.release(0).has_value());
+        hl::Slot next = one.acquire(0).value();
+        wants("its former holder", former->refresh(), hl::Fault::NotProtected);
+        wants("a release by its former holder", former->release(), hl::Fault::NotProtected);
+        former = one.acquire(1).value();
+        is("one more that is released by its number", one.release(1).has_value());
+        former.reset();
+        is("the next holder stays", next.refresh().has_value() && one.snapshot()->protected_slots == 1);
+    }
     is("one that is kept isn't", one.acquire(1).value().keep() == 1 && one.snapshot()->protected_slots == 1);
 }
 
@@ -138,11 +158,36 @@ static void a_log() {
         wants("a store by a pass that was moved", pass.store(0, 1), hl::Fault::NoCore);
     }
     is("a pass releases its slot", log.acquire(0).has_value());
+    {
+        hl::Log two = hl::Log::open(hl::Sizes::checked(4, 2, 2, 1).value()).value();
+        hl::Pass first = two.acquire(0).value();
+        hl::Pass second = two.acquire(1).value();
+        first = std::move(second);
+        is("a pass that another takes the place of is released", two.snapshot().protected_slots == 1);
+        is("the pass that took its place", first.slot() == 1 && first.refresh().has_value());
+        wants("the place that a pass came from", second.refresh(), hl::Fault::NoCore);
+    }
     hl::Log other = std::move(log);
     wants("a step of a log that was moved", log.take(), hl::Fault::NoCore);
     wants("a lag of a log that was moved", log.lag(1, 1), hl::Fault::NoCore);
     wants("an acquire of a log that was moved", log.acquire(0), hl::Fault::NoCore);
     is("the log that it was moved to", other.snapshot().epoch == 1);
+}
+
+// What an answer leads to.
+static void chained() {
+    hl::Core one = core();
+    auto number = one.acquire(0).transform([](hl::Slot slot) { return slot.keep(); });
+    is("a function of a value", number.has_value() && *number == 0);
+    auto address = one.acquire(1).and_then([](hl::Slot slot) { return slot.allocate(4); });
+    is("an answer behind another", address.has_value() && *address == 0);
+    wants("a function of no value", one.acquire(0).transform([](hl::Slot slot) { return slot.keep(); }),
+          hl::Fault::Occupied);
+    wants("no answer behind a refusal", one.acquire(0).and_then([](hl::Slot slot) { return slot.allocate(4); }),
+          hl::Fault::Occupied);
+    hl::Result<hl::Word> busy = one.acquire(1)->allocate(5);
+    is("refusals", busy.error() == hl::Refusal{hl::Fault::Size, 0, 0} && busy.error() != hl::Refusal{hl::Fault::Size, 1, 0});
+    is("views", hl::View{1, 2, 3} == hl::View{1, 2, 3} && hl::View{1, 2, 3} != hl::View{1, 2, 4});
 }
 
 static bool same(const hl::Offsets &x, const hl::Offsets &y) {
@@ -167,13 +212,13 @@ static void old_name() {
 #pragma GCC diagnostic pop
 
 static void thrown() {
-    bool caught = false;
+    const char *what = "";
     try {
         (void)core().take().value();
-    } catch (const std::exception &) {
-        caught = true;
+    } catch (const std::exception &thrown) {
+        what = thrown.what();
     }
-    is("value() of a refused answer throws", caught);
+    is("value() of a refused answer throws the fault's name", std::strcmp(what, "Empty") == 0);
 }
 
 int main() {
@@ -185,6 +230,7 @@ int main() {
     a_log();
     old_name();
     thrown();
+    chained();
     std::printf("misuse in C++: %d wrong\n", wrong);
     return wrong != 0;
 }

@@ -51,6 +51,28 @@ log_in_cpp() {
         answers_journals "$room/cpp_journals"
 }
 
+# A program of two objects, of C++17 and of a later form, hands answers from one to the other.
+of_two_forms() {
+    local flags form program="$top/native/tests/two_forms.cpp"
+    flags="$(alone pkg-config --cflags --libs hl)" || return
+    for form in c++23 c++2b c++20; do
+        ! alone c++ -std="$form" -fsyntax-only -x c++ /dev/null 2> /dev/null || break
+    done
+    # The flags of pkg-config are apart by blanks.
+    alone c++ -std=c++17 -Wall -Wextra -pedantic -Werror -DANSWERS -c "$program" $flags -o "$room/answers.o" &&
+        alone c++ -std="$form" -Wall -Wextra -pedantic -Werror "$program" "$room/answers.o" $flags -o "$room/app" &&
+        alone timeout 100 "$room/app"
+}
+
+# An older form of C++ is told which it wants.
+refuses_old_forms() {
+    local flags
+    flags="$(alone pkg-config --cflags hl)" || return
+    echo '#include <hl.hpp>' > "$room/old.cpp"
+    ! alone c++ -std=c++14 $flags -fsyntax-only "$room/old.cpp" 2> "$room/errors" &&
+        grep -q 'hl for C++ wants C++17 or later' "$room/errors"
+}
+
 by_cmake() {
     mkdir -p "$room/cmake"
     cat > "$room/cmake/CMakeLists.txt" << LISTS
@@ -58,9 +80,8 @@ cmake_minimum_required(VERSION 3.13)
 project(app CXX)
 set(CMAKE_CXX_STANDARD 17)
 find_package(hl $(cat "$top/VERSION") REQUIRED)
-find_package(Threads REQUIRED)
 add_executable(app "$top/native/examples/append_log.cpp")
-target_link_libraries(app hl::hl Threads::Threads)
+target_link_libraries(app hl::hl)
 LISTS
     alone cmake -S "$room/cmake" -B "$room/cmake/build" -DCMAKE_PREFIX_PATH="$installed" &&
         alone cmake --build "$room/cmake/build" && alone timeout 100 "$room/cmake/build/app" "$room/cmake.log"
@@ -94,6 +115,7 @@ one_version() {
         "share/hl/rust/Cargo.toml:version = \"$version\""; do
         grep -qxF "${place#*:}" "$installed/${place%%:*}" || { echo "${place%%:*} tells another version"; return 1; }
     done
+    [ "$(sed -n 's/^#define HL_VERSION_[A-Z]* //p' "$installed/include/hl.h" | paste -sd .)" = "$version" ] || return
     grep -q "^## $version\$" "$top/CHANGELOG.md"
 }
 
@@ -108,6 +130,8 @@ if has_all "what ./hl install lays out" ld objcopy nm ar rt; then
     if path=/usr/bin:/bin has_all "programs in C++" c++ pkg-config; then
         check "a core in C++" builds_and_runs c++ c++17 native/tests/core.cpp
         check "misuse in C++" builds_and_runs c++ c++17 native/tests/misuse.cpp
+        check "two forms of C++ in one program" of_two_forms
+        check "a form of C++ that is too old" refuses_old_forms
         check "a log in C++ beside the core" log_in_cpp
         if path=/usr/bin:/bin has_all "programs by CMake" cmake make; then
             check "an append-only log in C++ by CMake" by_cmake

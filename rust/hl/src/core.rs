@@ -4,7 +4,7 @@ use crate::raw::{self, Brief, Handle, Outcome};
 use crate::{
     Action, Done, Entered, Fault, Frame, Kind, LagStep, Offsets, Pending, Sizes, Slot, Snapshot, View,
 };
-use std::cell::UnsafeCell;
+use std::cell::{Cell, UnsafeCell};
 
 /// The proved core: epochs, stored actions, offsets and page frames. It is freed where it is dropped.
 ///
@@ -50,6 +50,8 @@ use std::cell::UnsafeCell;
 pub struct Core {
     handle: UnsafeCell<Handle>,
     sizes: Sizes,
+    // How often each slot was released, so that a slot's former holder is known.
+    releases: Vec<Cell<u64>>,
 }
 
 // SAFETY: hl.h allows a handle to go from thread to thread.
@@ -58,9 +60,16 @@ unsafe impl Send for Core {}
 impl Core {
     /// A core at the empty list. [`Fault::OutOfMemory`] where memory was refused.
     pub fn open(sizes: Sizes) -> Result<Core, Fault> {
+        let slots = sizes.slots() as usize;
+        let mut releases = Vec::new();
+        releases
+            .try_reserve_exact(slots)
+            .map_err(|_| Fault::OutOfMemory)?;
+        releases.resize(slots, Cell::new(0));
         let core = Core {
             handle: UnsafeCell::new(Handle::CLOSED),
             sizes,
+            releases,
         };
         let (pages, frames) = (sizes.page_size(), sizes.frames());
         // SAFETY: the handle is all zero, and nobody else has it.
@@ -100,10 +109,17 @@ impl Core {
             .map(entered)
     }
 
-    /// The slot is protected no longer. NoSlot, NotProtected.
+    /// The slot is protected no longer; a [`Slot`] of that number that is still there is of nobody then. NoSlot,
+    /// NotProtected.
     pub fn release(&self, slot: u64) -> Result<(), Fault> {
-        self.ask_briefly(|core| unsafe { raw::hl_release(core, slot) })
-            .map(drop)
+        self.ask_briefly(|core| unsafe { raw::hl_release(core, slot) })?;
+        self.releases[slot as usize].set(self.releases_of(slot) + 1);
+        Ok(())
+    }
+
+    /// How often a slot was released.
+    pub(crate) fn releases_of(&self, slot: u64) -> u64 {
+        self.releases[slot as usize].get()
     }
 
     /// Ends the current epoch, and stores a job of this tag: its ticket. DrainFull, EpochsSpent, WindowFull.

@@ -13,6 +13,7 @@ use std::fmt;
 /// # Ok::<(), Fault>(())
 /// ```
 #[derive(Clone, Copy, Debug, PartialEq, Eq, Hash)]
+#[non_exhaustive]
 pub enum Fault {
     /// There is no such slot.
     NoSlot,
@@ -29,7 +30,12 @@ pub enum Fault {
     /// No action is pending.
     Empty,
     /// The ticket of the oldest pending action, `front`, is above the safe epoch.
-    NotReady { front: u64, safe: u64 },
+    NotReady {
+        /// The ticket of the oldest pending action.
+        front: u64,
+        /// The safe epoch.
+        safe: u64,
+    },
     /// The ticket isn't that of an action that was taken and isn't done.
     NotTaken,
     /// The address isn't above the offset that it is to move.
@@ -43,15 +49,27 @@ pub enum Fault {
     /// A record of no word, or of more words than a page has.
     Size,
     /// The record would enter this page, whose frame isn't free.
-    Busy { page: u64 },
+    Busy {
+        /// The page that can't be entered.
+        page: u64,
+    },
     /// The record would end above 2^48.
     SpaceSpent,
     /// The address is below the view's read-only offset.
-    Below { read_only: u64 },
+    Below {
+        /// The view's read-only offset.
+        read_only: u64,
+    },
     /// The address is at the view's tail or above.
-    Beyond { tail: u64 },
+    Beyond {
+        /// The view's tail.
+        tail: u64,
+    },
     /// The address is below the view's head.
-    Evicted { head: u64 },
+    Evicted {
+        /// The view's head.
+        head: u64,
+    },
     /// No page waits to be flushed.
     NoneSealed,
     /// The page isn't being flushed.

@@ -4,7 +4,10 @@ use crate::{Done, Entered, Fault, View};
 use std::fmt;
 
 /// A call of a log, which prints as the line of a script (`docs/FORMATS.md`).
+///
+/// Each variant is the call of that name, with the numbers that it is told.
 #[derive(Clone, Copy, Debug, PartialEq, Eq)]
+#[allow(missing_docs)]
 pub enum Step {
     Acquire { slot: u64 },
     Refresh { slot: u64 },
@@ -28,7 +31,10 @@ pub enum Step {
 }
 
 /// What an accepted call told, which prints as the answer to its line.
+///
+/// Each variant is an answer's first word, with the numbers that the answer has.
 #[derive(Clone, Copy, Debug, PartialEq, Eq)]
+#[allow(missing_docs)]
 pub enum Reply {
     Entered(Entered),
     Left,
@@ -50,7 +56,9 @@ pub enum Reply {
 /// A call and its answer.
 #[derive(Clone, Copy, Debug, PartialEq, Eq)]
 pub struct Entry {
+    /// The call.
     pub step: Step,
+    /// What it was answered.
     pub reply: Result<Reply, Fault>,
 }
 

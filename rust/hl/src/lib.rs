@@ -12,6 +12,8 @@
 //! The crate links `libhl.a`, which `./hl install FOLDER` of hl's repository makes. It is found in the folder that
 //! `HL_DIR` names, by pkg-config, or in the installed folder that this crate lies in.
 
+#![warn(missing_docs)]
+
 mod core;
 mod fault;
 mod journal;

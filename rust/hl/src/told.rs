@@ -101,22 +101,29 @@ impl Sizes {
 /// What a slot sees of the log: it may write from `read_only`, and read from `head`, up to `tail`.
 #[derive(Clone, Copy, Debug, Default, PartialEq, Eq)]
 pub struct View {
+    /// It may write from here.
     pub read_only: u64,
+    /// It may read from here.
     pub head: u64,
+    /// It may write and read below this.
     pub tail: u64,
 }
 
 /// What a slot learns by entering an epoch.
 #[derive(Clone, Copy, Debug, PartialEq, Eq)]
 pub struct Entered {
+    /// The epoch that it entered.
     pub epoch: u64,
+    /// What it sees.
     pub view: View,
 }
 
 /// A taken action: its ticket, and its tag where it is a job.
 #[derive(Clone, Copy, Debug, PartialEq, Eq)]
 pub struct Action {
+    /// Its ticket.
     pub ticket: u64,
+    /// The tag of its job.
     pub tag: Option<u64>,
 }
 
@@ -145,28 +152,41 @@ pub enum Kind {
 /// A pending action.
 #[derive(Clone, Copy, Debug, PartialEq, Eq)]
 pub struct Pending {
+    /// Its ticket.
     pub ticket: u64,
+    /// What it is.
     pub kind: Kind,
 }
 
 /// A frame's state, with its page.
 #[derive(Clone, Copy, Debug, PartialEq, Eq)]
 pub enum Frame {
+    /// Its page may be written.
     Open(u64),
+    /// No slot writes its page any more.
     Sealed(u64),
+    /// Its page was written to the device.
     Flushed(u64),
+    /// No slot reads its page any more.
     Closed(u64),
+    /// It has no page.
     Free,
 }
 
 /// The offsets in their order, each at most the next.
 #[derive(Clone, Copy, Debug, Default, PartialEq, Eq)]
 pub struct Offsets {
+    /// No slot reads below it.
     pub closed: u64,
+    /// A slot that sees it reads from here.
     pub head: u64,
+    /// The pages below it are flushed.
     pub flushed: u64,
+    /// No slot writes below it.
     pub safe_read_only: u64,
+    /// A slot that sees it writes from here.
     pub read_only: u64,
+    /// Where the next record is placed.
     pub tail: u64,
 }
 
@@ -186,11 +206,17 @@ pub enum LagStep {
 /// All quantities.
 #[derive(Clone, Copy, Debug, Default, PartialEq, Eq)]
 pub struct Snapshot {
+    /// The current epoch.
     pub epoch: u64,
+    /// The safe epoch.
     pub safe: u64,
+    /// How many slots are protected.
     pub protected: u64,
+    /// How many actions are pending.
     pub pending: u64,
+    /// How many actions are taken and not done.
     pub taken: u64,
+    /// The six offsets.
     pub offsets: Offsets,
     /// How many frames are open, sealed, flushed, closed and free.
     pub frames: [u64; 5],

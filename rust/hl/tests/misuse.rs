@@ -175,6 +175,28 @@ fn slots_and_records() {
 }
 
 #[test]
+fn a_former_holder() -> Result<(), Fault> {
+    let core = Core::open(Sizes::checked(4, 2, 1, 1)?)?;
+    let mut former = core.acquire(0)?;
+    core.release(0)?;
+    let next = core.acquire(0)?;
+    assert_eq!(
+        former.refresh(),
+        Err(Fault::NotProtected),
+        "a former holder's call"
+    );
+    assert_eq!(
+        former.allocate(1),
+        Err(Fault::NotProtected),
+        "a former holder's record"
+    );
+    drop(former);
+    assert_eq!(core.snapshot().protected, 1, "the next holder stays");
+    assert_eq!(next.allocate(1)?, 0);
+    Ok(())
+}
+
+#[test]
 fn a_log_twice() {
     let log = Log::open(Sizes::checked(4, 2, 1, 1).unwrap()).unwrap();
     let mut pass = log.acquire(0).unwrap();
