@@ -130,6 +130,8 @@ impl<R: Wait + Clock> Work<R> for Waking {
         session: &mut Session<R, L>,
         _number: u64,
     ) -> Result<Looked, Fault> {
+        // The newest page stays mutable, so the first one raises nothing.
+        session.allocate(PAGE)?;
         let (mut woken, mut left) = (0_u64, 0_u64);
         for _ in 0..SLEEPS {
             woken = woken.saturating_add(looks_to_a_turn(rt, session, true)?);
