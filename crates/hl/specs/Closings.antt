@@ -23,7 +23,7 @@ pub record IsClosed {Out F : Type 0} (o : Opening Sizes) (Leaves : Out → List 
       (λ fault. (fault ≡ Stranger o.stamp) × (length riders ≢ o.riders))
 
 -- a rider entered a session of the log, a thread ran in it and returned a value of which so much holds, and its leave
--- was answered so
+-- was answered so; the session that it left is of the same log
 pub record Stood {Out : Type 0} (F : Type 0) (log : DomainState)
     (Returns : SessionState → SessionState → Out → Type 0) (old : RiderState)
     (left : Result RiderState (Refused SessionState)) (out : Out) : Type 0 where
@@ -32,6 +32,7 @@ pub record Stood {Out : Type 0} (F : Type 0) (log : DomainState)
   pub entered : Entered F log old (Ok first)
   pub log_is : first.log ≡ log
   pub ran : Returns first last out
+  pub log_stays : last.log ≡ log
   pub met : Left F last left
 
 -- why a thread has no result: its rider was refused a session, and is the one handed back; or it ran, and couldn't

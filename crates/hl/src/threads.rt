@@ -289,6 +289,9 @@ fn work_one<L: Realm + Send + Sync, R: Wait, P: Work<R>>(
         Err(Refused { fault, back }) => return (Err(fault), back),
     };
     let out = work.run(rt, &mut session, number);
+    // Of the session that `run` left no more is known than its type, and that says which log it is of.
+    session.log().known();
+    log.known();
     match session.leave() {
         Ok(rider) => (Ok(out), rider),
         Err(Refused { fault, back }) => (Err(fault), back.abandon()),

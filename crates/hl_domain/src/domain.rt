@@ -53,7 +53,7 @@ impl<E: Epochs, F: Task, P: Promise, L: Realm> Model for Domain<E, F, P, L> {
     } };
 
     ghost invariant = { λ d. (d.params ≡ L.sizes) × (d.stamp ≡ L.stamp)
-        × (d.words.cells ≡ d.params.frames * d.params.page_size) };
+        × (d.words.cells ≡ d.params.frames * d.params.page_size) × (d.words.riders ≡ L.parts) };
 }
 
 impl<E: Epochs + Drop, F: Task, P: Promise, L: Realm> Drop for Domain<E, F, P, L> {
@@ -203,6 +203,16 @@ impl<E: Epochs + Drop, F: Task, P: Promise, L: Realm> Domain<E, F, P, L> {
         ensures { result ≡ self.now.stamp }
     {
         self.stamp
+    }
+
+    /// What its type says of it: all domains of one realm have its sizes, its stamp, its journal's room and its number of
+    /// riders. For a caller that has a domain of which it knows nothing else.
+    #[inline(always)]
+    pub fn known(&self)
+        ensures { self.now
+            ≡ record { sizes = L.sizes; stamp = L.stamp; limit = L.limit; riders = L.parts } }
+    {
+        let _ = &self.words;
     }
 
     // Waits for the lock. What lies under it is a keeper that stands at the scribe's list.

@@ -14,6 +14,7 @@ returns-in-Err-leave g c =
         entered = search rules;
         log_is = search rules;
         ran = search rules;
+        log_stays = search rules;
         met = search rules;
       },
     )
