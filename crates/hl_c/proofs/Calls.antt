@@ -14,8 +14,8 @@ use Rattle.hl_model.specs.declared.fault.Fault.{Fault}
 use Rattle.hl_model.specs.declared.step.Reply.{Reply}
 use Rattle.hl_model.specs.declared.step.Step.{Step}
 use Rattle.hl_core.specs.Steps.{Made, job_in, take_told as core_told, CameOut}
-use Rattle.hl_c.specs.declared.outcome.Outcome.{Outcome}
-use Rattle.hl_c.specs.Outcomes.{told_of, take_told, taken_told, action_told, pending_told, no_core, out_of_range}
+use Rattle.hl_answers.specs.declared.outcome.Outcome.{Outcome}
+use Rattle.hl_answers.specs.Outcomes.{told_of, take_told, taken_told, action_told, pending_told, no_core, out_of_range}
 use Rattle.hl_c.specs.Doors.{Answers, Takes, Tells, StandsAt}
 use Rattle.hl_c.specs.Slots.{DoorRow}
 

@@ -5,8 +5,8 @@ use Rattle.hl_model.specs.declared.step.Step.TheVariants.{Raise, Settle, Shift, 
 use Rattle.hl_model.specs.declared.view.Six.{Six}
 use Rattle.hl_model.specs.Sizes.{Sizes}
 use Rattle.hl_lag.specs.Lag.{lag_of}
-use Rattle.hl_c.specs.declared.lag.LagOutcome.{LagOutcome}
-use Rattle.hl_c.specs.declared.lag.LagStep.{LagStep}
+use Rattle.hl_answers.specs.declared.lag.LagOutcome.{LagOutcome}
+use Rattle.hl_answers.specs.declared.lag.LagStep.{LagStep}
 
 -- a place of a lag with no step
 abbrev pub no_step : LagStep

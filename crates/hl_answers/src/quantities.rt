@@ -1,5 +1,5 @@
 ghost use Rattle.std.specs.Prelude.{◌≡◌};
-ghost use Rattle.hl_c.specs.Outcomes.{six_told, no_six, snapshot_told, no_snapshot};
+ghost use Rattle.hl_answers.specs.Outcomes.{six_told, no_six, snapshot_told, no_snapshot};
 
 use hl_model::{Six, Snapshot};
 
@@ -33,7 +33,7 @@ pub struct SnapshotOutcome {
 
 impl SixOutcome {
     #[inline(always)]
-    pub(crate) fn of(six: Six) -> SixOutcome
+    pub fn of(six: Six) -> SixOutcome
         ensures { result ≡ six_told six }
     {
         SixOutcome {
@@ -47,7 +47,7 @@ impl SixOutcome {
         }
     }
 
-    pub(crate) fn no_core() -> SixOutcome
+    pub fn no_core() -> SixOutcome
         ensures { result ≡ no_six }
     {
         SixOutcome {
@@ -63,7 +63,7 @@ impl SixOutcome {
 }
 
 impl SnapshotOutcome {
-    pub(crate) fn of(snapshot: Snapshot) -> SnapshotOutcome
+    pub fn of(snapshot: Snapshot) -> SnapshotOutcome
         ensures { result ≡ snapshot_told snapshot }
     {
         let six = SixOutcome::of(snapshot.six);
@@ -80,7 +80,7 @@ impl SnapshotOutcome {
         }
     }
 
-    pub(crate) fn no_core() -> SnapshotOutcome
+    pub fn no_core() -> SnapshotOutcome
         ensures { result ≡ no_snapshot }
     {
         let frames = [0; 5];

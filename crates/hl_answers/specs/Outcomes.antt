@@ -15,10 +15,10 @@ use Rattle.hl_action.specs.Firings.{FiringRecord}
 use Rattle.hl_model.specs.declared.step.Reply.{Reply}
 use Rattle.hl_model.specs.declared.step.Reply.TheVariants.{Entered, Left, Ticket, Bumped, Taken, Ran, Answer, Settled, Closed, Raised, Shifted, At, Looked, Written, Readable, Value, Page, Flushed, Freed}
 use Rattle.hl_model.specs.Faults.{number_of}
-use Rattle.hl_c.specs.declared.outcome.Brief.{Brief}
-use Rattle.hl_c.specs.declared.outcome.Outcome.{Outcome}
-use Rattle.hl_c.specs.declared.quantities.SixOutcome.{SixOutcome}
-use Rattle.hl_c.specs.declared.quantities.SnapshotOutcome.{SnapshotOutcome}
+use Rattle.hl_answers.specs.declared.outcome.Brief.{Brief}
+use Rattle.hl_answers.specs.declared.outcome.Outcome.{Outcome}
+use Rattle.hl_answers.specs.declared.quantities.SixOutcome.{SixOutcome}
+use Rattle.hl_answers.specs.declared.quantities.SnapshotOutcome.{SnapshotOutcome}
 
 -- an answer of these numbers
 abbrev pub accepted : ℕ → ℕ → ℕ → ℕ → Outcome

@@ -1,13 +1,13 @@
 ghost use Rattle.std.specs.Prelude.{◌≡◌, Ok, option_map, unwrap_or};
-ghost use Rattle.hl_c.specs.Outcomes.{told_of, fault_told, taken_told, frame_told, view_told, action_told, accepted, brief_of, no_core, out_of_range};
+ghost use Rattle.hl_answers.specs.Outcomes.{told_of, fault_told, taken_told, frame_told, view_told, action_told, accepted, brief_of, no_core, out_of_range};
 
 use hl_action::Firing;
 use hl_model::{Fault, FrameState, Kind, Reply, Tag, View, Waiting};
 
 /// The number of a call on a handle at which no core is open, and of an open on one at which one is.
-pub(crate) const NO_CORE: u64 = 255;
+pub const NO_CORE: u64 = 255;
 /// The number of a call with sizes, a place, a frame or the pages of a lag out of range.
-pub(crate) const OUT_OF_RANGE: u64 = 254;
+pub const OUT_OF_RANGE: u64 = 254;
 
 /// A reply as numbers: 0 and up to four numbers for an answer, the fault's number and up to two for a fault.
 #[repr(C)]
@@ -31,7 +31,7 @@ pub struct Brief {
 impl Outcome {
     /// Its number, and the first of those that it carries.
     #[inline(always)]
-    pub(crate) fn brief(self) -> Brief
+    pub fn brief(self) -> Brief
         ensures { result ≡ brief_of self }
     {
         Brief {
@@ -41,7 +41,7 @@ impl Outcome {
     }
 
     /// Of a call that was refused with no fault of the core's.
-    pub(crate) fn no_core() -> Outcome
+    pub fn no_core() -> Outcome
         ensures { result ≡ no_core }
     {
         Outcome {
@@ -53,7 +53,7 @@ impl Outcome {
         }
     }
 
-    pub(crate) fn out_of_range() -> Outcome
+    pub fn out_of_range() -> Outcome
         ensures { result ≡ out_of_range }
     {
         Outcome {
@@ -67,7 +67,7 @@ impl Outcome {
 
     /// An answer of these numbers.
     #[inline(always)]
-    pub(crate) fn accepted(a: u64, b: u64, c: u64, d: u64) -> Outcome
+    pub fn accepted(a: u64, b: u64, c: u64, d: u64) -> Outcome
         ensures { result ≡ accepted a b c d }
     {
         Outcome {
@@ -81,7 +81,7 @@ impl Outcome {
 
     /// A step's reply.
     #[inline(always)]
-    pub(crate) fn of(reply: Result<Reply, Fault>) -> Outcome
+    pub fn of(reply: Result<Reply, Fault>) -> Outcome
         ensures { result ≡ told_of reply }
     {
         match reply {
@@ -118,7 +118,7 @@ impl Outcome {
     }
 
     #[inline(always)]
-    pub(crate) fn of_fault(fault: Fault) -> Outcome
+    pub fn of_fault(fault: Fault) -> Outcome
         ensures { result ≡ fault_told fault }
     {
         let number = fault.number() as u64;
@@ -143,7 +143,7 @@ impl Outcome {
 
     /// What a take answers.
     #[inline(always)]
-    pub(crate) fn of_taken(taken: Result<(Firing, Option<Tag>), Fault>) -> Outcome
+    pub fn of_taken(taken: Result<(Firing, Option<Tag>), Fault>) -> Outcome
         ensures { result ≡ taken_told taken }
     {
         match taken {
@@ -159,7 +159,7 @@ impl Outcome {
     }
 
     /// A frame's state, and its page.
-    pub(crate) fn of_frame(state: FrameState, page: Option<u64>) -> Outcome
+    pub fn of_frame(state: FrameState, page: Option<u64>) -> Outcome
         ensures { result ≡ frame_told (state, page) }
     {
         let number = match state {
@@ -176,7 +176,7 @@ impl Outcome {
     }
 
     /// A slot's view.
-    pub(crate) fn of_view(view: Option<View>) -> Outcome
+    pub fn of_view(view: Option<View>) -> Outcome
         ensures { result ≡ view_told view }
     {
         match view {
@@ -186,7 +186,7 @@ impl Outcome {
     }
 
     /// A pending action, if there is one, of so many.
-    pub(crate) fn of_pending(found: Option<Waiting>, count: u64) -> Outcome
+    pub fn of_pending(found: Option<Waiting>, count: u64) -> Outcome
         ensures { result ≡ unwrap_or (option_map (action_told count) found) out_of_range }
     {
         match found {

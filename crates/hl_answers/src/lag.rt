@@ -1,5 +1,5 @@
 ghost use Rattle.std.specs.Prelude.{◌≡◌};
-ghost use Rattle.hl_c.specs.Lags.{no_step, step_told, step_at, lag_told, no_lag, lag_answer};
+ghost use Rattle.hl_answers.specs.Lags.{no_step, step_told, step_at, lag_told, no_lag, lag_answer};
 
 use crate::outcome::{NO_CORE, OUT_OF_RANGE};
 use hl_lag::lag_steps;
@@ -60,7 +60,7 @@ impl LagStep {
 impl LagOutcome {
     /// The lag of so many pages at these offsets.
     #[tactic(auto, unfolding(crate::specs::Lags::lag_answer))]
-    pub(crate) fn of(params: Sizes, six: Six, mutable: u64, resident: u64) -> LagOutcome
+    pub fn of(params: Sizes, six: Six, mutable: u64, resident: u64) -> LagOutcome
         ensures { result ≡ lag_answer params six mutable resident }
     {
         if 1 <= mutable && mutable <= resident && resident < params.frames() {
@@ -86,7 +86,7 @@ impl LagOutcome {
         }
     }
 
-    pub(crate) fn no_core() -> LagOutcome
+    pub fn no_core() -> LagOutcome
         ensures { result ≡ no_lag 255 }
     {
         LagOutcome::refused(NO_CORE)
