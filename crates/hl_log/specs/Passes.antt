@@ -1,9 +1,10 @@
 -- What a pass becomes.
-use Rattle.std.specs.Prelude.{ℕ, ◌==◌, Bool, ◌&&◌, Option, Result, Ok, Err, unwrap_or}
+use Rattle.std.specs.Prelude.{◌≡◌, ℕ, ◌==◌, Bool, ◌&&◌, Option, Result, Ok, Err, unwrap_or}
 use Rattle.hl_model.specs.declared.fault.Fault.{Fault}
 use Rattle.hl_model.specs.declared.step.Reply.{Reply}
 use Rattle.hl_model.specs.declared.step.Reply.TheVariants.{Entered}
 use Rattle.hl_model.specs.declared.view.View.{View}
+use Rattle.hl_log.specs.declared.log.Log.{Log}
 use Rattle.hl_log.specs.declared.pass.Pass.{Pass}
 use Rattle.hl_log.specs.declared.view.News.{News}
 use Rattle.hl_log.specs.Views.{raised}
@@ -64,3 +65,10 @@ stamped stamp p = record {
   view = p.view;
   news = p.news;
 }
+
+-- a pass of this log for a slot that it doesn't have yet: it saw nothing
+pub record IsVacant (log : Log) (slot : ℕ) (p : Pass) : Type 0 where
+  pub slot_is : p.slot ≡ slot
+  pub epoch_is : p.epoch ≡ 0
+  pub view_is : p.view ≡ record { read_only = 0; head = 0; tail = 0 }
+  pub words : p.shared.value ≡ log.shared.value

@@ -5,7 +5,7 @@ ghost use Rattle.hl_model.specs.declared.step.Step.TheVariants.{Acquire as ACQUI
 ghost use Rattle.hl_model.specs.Views.{slot_view};
 ghost use Rattle.hl_core.specs.Steps.{Made};
 ghost use Rattle.hl_log.specs.Logs.{StandsAt, IsStamped, next_stamp};
-ghost use Rattle.hl_log.specs.Passes.{rested, stamped, epoch_told};
+ghost use Rattle.hl_log.specs.Passes.{rested, stamped, epoch_told, IsVacant};
 
 use crate::call::epoch_told;
 use crate::log::Log;
@@ -17,7 +17,7 @@ use std::sync::Arc;
 impl Log {
     /// A pass that acts for no slot yet. None where the owners of the shared words can't be counted further.
     pub fn vacant(&self, slot: u64) -> Option<Pass>
-        ensures { IfSome result (λ pass. (pass.slot ≡ slot) × (pass.shared.value ≡ self.now.shared.value)) }
+        ensures { IfSome result (λ pass. IsVacant self.now slot pass) }
     {
         Some(Pass {
             shared: Arc::try_clone(&self.shared).ok()?,
