@@ -1,0 +1,3 @@
+pub mod LogValues
+pub mod PageValues
+pub mod PassValues
