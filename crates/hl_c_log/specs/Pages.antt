@@ -1,5 +1,5 @@
 -- What a call with a page makes of both handles.
-use Rattle.std.specs.Prelude.{◌≡◌, ℕ, ◌==◌, Bool, false, if◌then◌else◌, is_none, Option, Some, None, List, ◌⊎◌}
+use Rattle.std.specs.Prelude.{◌≡◌, ℕ, ◌==◌, Bool, if◌then◌else◌, is_none, Option, Some, None, List, ◌⊎◌}
 use Rattle.hl_model.specs.declared.fault.Fault.{Fault}
 use Rattle.hl_model.specs.declared.fault.Fault.TheVariants.{OutOfMemory}
 use Rattle.hl_model.specs.declared.step.Reply.TheVariants.{Page}
@@ -8,7 +8,7 @@ use Rattle.hl_model.specs.Replies.{reply_of, fault_of, extended, unless_fault, u
 use Rattle.hl_answers.specs.declared.outcome.Brief.{Brief}
 use Rattle.hl_answers.specs.Outcomes.{told_of, fault_told, brief_of, no_core}
 use Rattle.hl_log.specs.Logs.{StandsAt, IsBeside}
-use Rattle.hl_log.specs.Taken.{taking, unless_met, copy_fault, sweep_fault, swept}
+use Rattle.hl_log.specs.Taken.{taking, unless_met, copy_fault, sweep_fault, swept, IsFresh}
 use Rattle.hl_c_log.specs.Rows.{LogRow, PageRow}
 
 -- a log that stood at A gave a page, whose number the brief tells
@@ -21,31 +21,27 @@ pub record Given (old : LogRow.Denot) (A : List Step) (cleans : Bool) (new : Log
   pub standing : StandsAt new (extended old.core.sizes A (taking cleans))
   pub page : q.page ≡ brief.a
 
--- a page of this log, for this work, which has not begun
-pub record IsFresh (log : LogRow.Denot) (cleans : Bool) (q : PageRow.Denot) : Type 0 where
-  pub words : q.shared.value ≡ log.shared.value
-  pub origin : q.origin ≡ log.stamp
-  pub cleans_is : q.cleans ≡ cleans
-  pub swept_is : q.swept ≡ false
-
 -- a log refused a page: memory was refused, or the definitions refuse it at whatever list it stood
 abbrev pub Refused : LogRow.Denot → Step → Brief → Type 0
 Refused old step brief = (brief ≡ brief_of (fault_told OutOfMemory)) ⊎ ((A : List Step)
     → StandsAt old A
     → (fault : Fault) × (fault_of old.core.sizes A step ≡ Some fault) × (brief ≡ brief_of (fault_told fault)))
 
--- a take of a page: where one is there, or no log is open, nothing is changed, and the brief says so; else a page
--- is there, or it was refused, and nothing is changed
+-- a log gave a page for this work, or refused one and stays
+abbrev pub GivesOf : Bool → LogRow.Denot → LogRow.Denot → Option PageRow.Denot → Brief → Type 0
+GivesOf cleans old new None brief = (new ≡ old) × Refused old (taking cleans) brief
+GivesOf cleans old new (Some q) brief = IsBeside old new × IsFresh old cleans q
+    × ((A : List Step) → StandsAt old A → Given old A cleans new q brief)
+
+-- a take of a page: where one is there, or no log is open, nothing is changed, and the brief says so
 abbrev pub Gives : Bool → Option LogRow.Denot → Option PageRow.Denot → Option LogRow.Denot
     → Option PageRow.Denot
     → Brief
     → Type 0
 Gives cleans log (Some p) new left brief = (brief ≡ brief_of no_core) × (new ≡ log) × (left ≡ Some p)
 Gives cleans None None new left brief = (brief ≡ brief_of no_core) × (new ≡ None) × (left ≡ None)
-Gives cleans (Some old) None new None brief = (new ≡ Some old) × Refused old (taking cleans) brief
-Gives cleans (Some old) None new (Some q) brief =
-    (log : LogRow.Denot) × (new ≡ Some log) × IsBeside old log × IsFresh old cleans q
-    × ((A : List Step) → StandsAt old A → Given old A cleans log q brief)
+Gives cleans (Some old) None new left brief =
+    (log : LogRow.Denot) × (new ≡ Some log) × GivesOf cleans old log left brief
 
 -- a log that stood at A met this fault, and stays, or made the step as the definitions do
 pub record Ended (old : LogRow.Denot) (A : List Step) (fault : Option Fault) (step : Step)

@@ -76,14 +76,18 @@ Refused old step outcome = (outcome ≡ fault_told OutOfMemory) ⊎ ((A : List S
     → StandsAt old A
     → (fault : Fault) × (fault_of old.core.sizes A step ≡ Some fault) × (outcome ≡ fault_told fault))
 
--- an acquire: where a pass is there, or no log is open, nothing is changed, and the outcome says so; else the slot
--- is protected and its pass is there, or it was refused, and nothing is changed
+-- a log protected a slot, and its pass is there, or refused it and stays
+abbrev pub AcquiresOf : ℕ → LogRow.Denot → LogRow.Denot → Option PassRow.Denot → Outcome → Type 0
+AcquiresOf slot old new None outcome = (new ≡ old) × Refused old (Acquire slot) outcome
+AcquiresOf slot old new (Some q) outcome =
+    (A : List Step) → StandsAt old A → Acquired old A slot new q outcome
+
+-- an acquire: where a pass is there, or no log is open, nothing is changed, and the outcome says so
 abbrev pub Acquires : ℕ → Option LogRow.Denot → Option PassRow.Denot → Option LogRow.Denot
     → Option PassRow.Denot
     → Outcome
     → Type 0
 Acquires slot log (Some p) new left outcome = (outcome ≡ no_core) × (new ≡ log) × (left ≡ Some p)
 Acquires slot None None new left outcome = (outcome ≡ no_core) × (new ≡ None) × (left ≡ None)
-Acquires slot (Some old) None new None outcome = (new ≡ Some old) × Refused old (Acquire slot) outcome
-Acquires slot (Some old) None new (Some q) outcome = (log : LogRow.Denot) × (new ≡ Some log)
-    × ((A : List Step) → StandsAt old A → Acquired old A slot log q outcome)
+Acquires slot (Some old) None new left outcome =
+    (log : LogRow.Denot) × (new ≡ Some log) × AcquiresOf slot old log left outcome

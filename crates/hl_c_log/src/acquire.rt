@@ -2,7 +2,7 @@
 ghost use Rattle.std.specs.Prelude.{◌≡◌, None, IfSome};
 ghost use Rattle.hl_log.specs.Passes.{IsVacant};
 ghost use Rattle.hl_c_log.specs.Logs.{free_number};
-ghost use Rattle.hl_c_log.specs.Passes.{Acquires};
+ghost use Rattle.hl_c_log.specs.Passes.{Acquires, AcquiresOf};
 
 use crate::log_handle::LogHandle;
 use crate::pass_handle::PassHandle;
@@ -25,21 +25,31 @@ pub extern "C" fn hl_log_acquire(
     if pass.live != 0 {
         return Outcome::no_core();
     }
-    let Some(mut held) = log.take() else {
-        return Outcome::no_core();
-    };
-    let outcome = match vacant(alloc, &held, slot) {
-        Some(mut own) => {
-            let reply = held.acquire(&mut own);
-            if reply.is_ok() {
-                pass.put(own);
-            }
-            Outcome::of(reply)
+    match log.take() {
+        Some(mut held) => {
+            let outcome = acquired(alloc, &mut held, pass, slot);
+            log.put(held);
+            outcome
         }
+        None => Outcome::no_core(),
+    }
+}
+
+/// The same for a log and a handle with no pass.
+fn acquired(alloc: Global, log: &mut Log, pass: &mut PassHandle, slot: u64) -> Outcome
+    requires { pass.old.slot.value ≡ None }
+    ensures { AcquiresOf slot log.old log.new pass.new.slot.value result }
+{
+    match vacant(alloc, log, slot) {
+        Some(mut own) => match log.acquire(&mut own) {
+            Ok(reply) => {
+                pass.put(own);
+                Outcome::of(Ok(reply))
+            }
+            Err(fault) => Outcome::of_fault(fault),
+        },
         None => Outcome::of_fault(Fault::OutOfMemory),
-    };
-    log.put(held);
-    outcome
+    }
 }
 
 /// A pass on the heap that acts for no slot yet. None where memory was refused.

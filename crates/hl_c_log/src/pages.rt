@@ -3,14 +3,14 @@ ghost use Rattle.std.specs.Prelude.{◌≡◌, true, false, ◌==◌, if◌then�
 ghost use Rattle.std.specs.declared.option.Option.TheVariants.{None, Some};
 ghost use Rattle.hl_model.specs.declared.step.Step.TheVariants.{FlushDone as FLUSH_DONE, CleanDone as CLEAN_DONE};
 ghost use Rattle.hl_answers.specs.Outcomes.{brief_of, no_core};
-ghost use Rattle.hl_log.specs.Taken.{origin_fault, unswept_fault};
-ghost use Rattle.hl_c_log.specs.Pages.{Gives, Ends, IsFresh};
+ghost use Rattle.hl_log.specs.Taken.{origin_fault, unswept_fault, IsFresh};
+ghost use Rattle.hl_c_log.specs.Pages.{Gives, GivesOf, Ends};
 
 use crate::log_handle::LogHandle;
 use crate::page_handle::PageHandle;
 use hl_answers::{Brief, Outcome};
 use hl_log::{Log, Taken};
-use hl_model::Fault;
+use hl_model::{Fault, Reply};
 use std::alloc::Global;
 
 /// Takes the least sealed page that is neither flushed nor in flight: its number. 255 where there is a page already.
@@ -48,21 +48,31 @@ fn take_page(alloc: Global, log: &mut LogHandle, page: &mut PageHandle, cleans: 
     if page.live != 0 {
         return Outcome::no_core().brief();
     }
-    let Some(mut held) = log.take() else {
-        return Outcome::no_core().brief();
-    };
-    let outcome = match vacant(alloc, &held, cleans) {
-        Some(mut own) => {
-            let reply = held.take_page(&mut own);
-            if reply.is_ok() {
-                page.put(own);
-            }
-            Outcome::of(reply)
+    match log.take() {
+        Some(mut held) => {
+            let brief = taken(alloc, &mut held, page, cleans);
+            log.put(held);
+            brief
         }
-        None => Outcome::of_fault(Fault::OutOfMemory),
-    };
-    log.put(held);
-    outcome.brief()
+        None => Outcome::no_core().brief(),
+    }
+}
+
+/// The same for a log and a handle with no page.
+fn taken(alloc: Global, log: &mut Log, page: &mut PageHandle, cleans: bool) -> Brief
+    requires { page.old.slot.value ≡ None }
+    ensures { GivesOf cleans log.old log.new page.new.slot.value result }
+{
+    match vacant(alloc, log, cleans) {
+        Some(mut own) => match log.take_page(&mut own) {
+            Ok(number) => {
+                page.put(own);
+                Outcome::of(Ok(Reply::Page(number))).brief()
+            }
+            Err(fault) => Outcome::of_fault(fault).brief(),
+        },
+        None => Outcome::of_fault(Fault::OutOfMemory).brief(),
+    }
 }
 
 /// A page on the heap that is to be taken. None where memory was refused.

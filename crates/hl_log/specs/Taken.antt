@@ -3,7 +3,6 @@ use Rattle.std.specs.Prelude.{◌≡◌, ℕ, ◌==◌, Bool, true, false, if◌
 use Rattle.hl_model.specs.declared.fault.Fault.{Fault}
 use Rattle.hl_model.specs.declared.fault.Fault.TheVariants.{NotInFlight, NotCleaning, Size, Stranger}
 use Rattle.hl_model.specs.declared.step.Reply.{Reply}
-use Rattle.hl_model.specs.declared.step.Reply.TheVariants.{Page}
 use Rattle.hl_model.specs.declared.step.Step.{Step}
 use Rattle.hl_model.specs.declared.step.Step.TheVariants.{FlushTake, FlushDone, CleanTake, CleanDone}
 use Rattle.hl_model.specs.Replies.{reply_of, extended}
@@ -35,16 +34,22 @@ swept page = record {
 abbrev pub taking : Bool → Step
 taking cleans = if cleans then CleanTake else FlushTake
 
--- the page after a take that was told this
-abbrev pub taken_page : Result Reply Fault → Taken → Taken
-taken_page (Ok (Page number)) page = record {
+-- the page with a number
+abbrev pub numbered : ℕ → Taken → Taken
+numbered number page = record {
   shared = page.shared;
   origin = page.origin;
   page = number;
   cleans = page.cleans;
   swept = page.swept;
 }
-taken_page _ page = page
+
+-- a page of this log, for this work, which has not begun
+pub record IsFresh (log : Log) (cleans : Bool) (page : Taken) : Type 0 where
+  pub words : page.shared.value ≡ log.shared.value
+  pub origin_is : page.origin ≡ log.stamp
+  pub cleans_is : page.cleans ≡ cleans
+  pub swept_is : page.swept ≡ false
 
 -- the fault of the end of a page's work, before those of its step: the page is of another log
 abbrev pub origin_fault : Log → Taken → Option Fault

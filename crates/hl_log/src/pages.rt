@@ -1,10 +1,11 @@
 //! Pages that are taken, and the ends of the work on them.
-ghost use Rattle.std.specs.Prelude.{◌≡◌, IfSome, OnErr, false};
+ghost use Rattle.std.specs.Prelude.{◌≡◌, IfSome, IfOk, OnErr};
 ghost use Rattle.hl_model.specs.declared.step.Step.TheVariants.{FlushDone as FLUSH_DONE, CleanDone as CLEAN_DONE};
-ghost use Rattle.hl_core.specs.Steps.{is_acted};
+ghost use Rattle.hl_model.specs.declared.step.Reply.TheVariants.{Page as PAGE};
+ghost use Rattle.hl_core.specs.Steps.{Made, told};
 ghost use Rattle.hl_model.specs.Replies.{unless_fault};
-ghost use Rattle.hl_log.specs.Logs.{Moves, IsBeside};
-ghost use Rattle.hl_log.specs.Taken.{taking, taken_page, origin_fault, unswept_fault, Ends};
+ghost use Rattle.hl_log.specs.Logs.{IsBeside};
+ghost use Rattle.hl_log.specs.Taken.{taking, numbered, origin_fault, unswept_fault, Ends, IsFresh};
 
 use crate::log::Log;
 use crate::taken::Taken;
@@ -15,8 +16,7 @@ impl Log {
     /// A page that is to be taken, to be cleaned or else to be flushed. None where the owners of the shared words can't
     /// be counted further.
     pub fn vacant_page(&self, cleans: bool) -> Option<Taken>
-        ensures { IfSome result (λ page. (page.shared.value ≡ self.now.shared.value) × (page.origin ≡ self.now.stamp)
-            × (page.cleans ≡ cleans) × (page.swept ≡ false)) }
+        ensures { IfSome result (λ page. IsFresh self.now cleans page) }
     {
         Some(Taken {
             shared: Arc::try_clone(&self.shared).ok()?,
@@ -31,21 +31,19 @@ impl Log {
     /// flushed nor in flight: its number.
     ///
     /// Faults: `NoneClosed`, `NoneSealed`; then nothing is changed.
-    pub fn take_page(&mut self, page: &mut Taken) -> Result<Reply, Fault>
-        ensures made { Moves self.old (taking page.old.cleans) self.new result }
-        ensures page { page.new ≡ taken_page result page.old }
-        ensures refused { OnErr result (self.new ≡ self.old) }
+    pub fn take_page(&mut self, page: &mut Taken) -> Result<u64, Fault>
+        ensures made { Made (λ t. t.0) self.old.core (taking page.old.cleans) self.new.core (told PAGE result) }
+        ensures beside { IsBeside self.old self.new }
+        ensures page { IfOk result (λ number. page.new ≡ numbered number page.old) }
+        ensures refused { OnErr result ((self.new ≡ self.old) × (page.new ≡ page.old)) }
     {
-        let step = if page.cleans {
-            Step::CleanTake
+        let number = if page.cleans {
+            self.core.clean_take()?
         } else {
-            Step::FlushTake
+            self.core.flush_take()?
         };
-        let reply = self.core.act(&step)?;
-        if let Reply::Page(number) = reply {
-            page.page = number;
-        }
-        Ok(reply)
+        page.page = number;
+        Ok(number)
     }
 
     /// The flush of a page ended, well or not: the flushed offset.
