@@ -8,8 +8,9 @@ use Rattle.hl_model.specs.declared.view.View.{View}
 use Rattle.hl_model.specs.Sizes.{Sizes}
 use Rattle.hl_model.specs.Replies.{reply_of, fault_of, extended}
 use Rattle.hl_model.specs.Views.{slot_view}
+use Rattle.hl_answers.specs.declared.outcome.Brief.{Brief}
 use Rattle.hl_answers.specs.declared.outcome.Outcome.{Outcome}
-use Rattle.hl_answers.specs.Outcomes.{told_of, fault_told, no_core}
+use Rattle.hl_answers.specs.Outcomes.{told_of, fault_told, brief_of, no_core}
 use Rattle.hl_log.specs.Calls.{by_slot, call_reply, call_list, call_pass}
 use Rattle.hl_log.specs.Logs.{StandsAt, IsBeside, IsStamped, next_stamp}
 use Rattle.hl_log.specs.Passes.{epoch_told}
@@ -47,6 +48,17 @@ CallsBy kept step (Some log) (Some p) new left outcome =
     (after : LogRow.Denot) × (q : PassRow.Denot) × (new ≡ Some after) × (left ≡ kept outcome q)
     × IsBeside log after
     × ((A : List Step) → StandsAt log A → Called log A p (by_slot p.slot step) after q outcome)
+
+-- so for a step of which one number is told
+abbrev pub CallsBriefly : (Outcome → PassRow.Denot → Option PassRow.Denot) → Step → Option LogRow.Denot
+    → Option PassRow.Denot
+    → Option LogRow.Denot
+    → Option PassRow.Denot
+    → Brief
+    → Type 0
+CallsBriefly kept step log pass new left brief = (outcome : Outcome)
+    × CallsBy kept step log pass new left outcome
+    × (brief ≡ brief_of outcome)
 
 -- nothing is seen
 abbrev pub no_view : View
