@@ -20,7 +20,7 @@ impl Pass {
     pub fn store(&self, address: u64, word: u64) -> Result<(), Fault>
         ensures { result ≡ unless_fault (store_fault self.now.view address) tt }
     {
-        may_store(self.view, address)?;
+        self.may_store(address)?;
         let shared: &Shared = &self.shared;
         shared.cell(address).store(word, SeqCst);
         Ok(())
@@ -32,7 +32,7 @@ impl Pass {
         ensures { let met = store_fault self.now.view address
             in MatchResult result (λ _. met ≡ None) (λ fault. met ≡ Some fault) }
     {
-        may_store(self.view, address)?;
+        self.may_store(address)?;
         let shared: &Shared = &self.shared;
         Ok(shared.cell(address).fetch_add(more, SeqCst))
     }
@@ -44,7 +44,7 @@ impl Pass {
         ensures { let met = store_fault self.now.view address
             in MatchResult result (λ _. met ≡ None) (λ fault. met ≡ Some fault) }
     {
-        may_store(self.view, address)?;
+        self.may_store(address)?;
         let shared: &Shared = &self.shared;
         match shared.cell(address).compare_exchange(current, word, SeqCst, SeqCst) {
             Ok(found) | Err(found) => Ok(found),
@@ -88,5 +88,13 @@ impl Pass {
         let news = shared.news();
         self.news = news;
         is_current(self.view, self.epoch, news)
+    }
+
+    /// Whether it may store at an address.
+    #[inline(always)]
+    fn may_store(&self, address: u64) -> Result<(), Fault>
+        ensures { result ≡ unless_fault (store_fault self.now.view address) tt }
+    {
+        may_store(self.view, address)
     }
 }
