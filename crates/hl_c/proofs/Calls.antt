@@ -1,21 +1,18 @@
 -- What an export's calls come to.
-use Rattle.std.proofs.Common.{◌≡◌, ℕ, List, ◌∷◌, length, map, refl, sym, ap, ap₂, ◌∙◌, subst}
+use Rattle.std.proofs.Common.{◌≡◌, ℕ, List, length, refl, sym, ap, ap₂, ◌∙◌, subst}
 use Rattle.std.specs.Prelude.{Option, Some, Result, Ok, Err, IfOk, option_map, slice_get, unwrap_or}
 use Rattle.hl_model.specs.declared.action.Tag.{Tag}
 use Rattle.hl_model.specs.declared.action.Waiting.{Waiting}
 use Rattle.hl_model.specs.declared.step.Step.TheVariants.{Take}
-use Rattle.hl_model.specs.declared.step.Reply.TheVariants.{Taken}
 use Rattle.hl_model.specs.Actions.{pending}
 use Rattle.hl_action.specs.Firings.{FiringRecord}
-use Rattle.hl_drain.specs.declared.action.Action.{Action}
-use Rattle.hl_drain.specs.declared.action.Action.TheVariants.{Settle, Close, User}
-use Rattle.hl_drain.specs.Actions.{waiting_of}
 use Rattle.hl_model.specs.declared.fault.Fault.{Fault}
 use Rattle.hl_model.specs.declared.step.Reply.{Reply}
 use Rattle.hl_model.specs.declared.step.Step.{Step}
-use Rattle.hl_core.specs.Steps.{Made, job_in, take_told as core_told, CameOut}
-use Rattle.hl_c.specs.declared.outcome.Outcome.{Outcome}
-use Rattle.hl_c.specs.Outcomes.{told_of, take_told, taken_told, action_told, pending_told, no_core, out_of_range}
+use Rattle.hl_core.specs.Steps.{Made, take_told as core_told, CameOut}
+use Rattle.hl_answers.specs.declared.outcome.Outcome.{Outcome}
+use Rattle.hl_answers.specs.Outcomes.{told_of, take_told, taken_told, action_told, pending_told, no_core, out_of_range}
+use Rattle.hl_answers.proofs.Takes.{taken_is}
 use Rattle.hl_c.specs.Doors.{Answers, Takes, Tells, StandsAt}
 use Rattle.hl_c.specs.Slots.{DoorRow}
 
@@ -24,22 +21,6 @@ pub step_answers : (v w : Option DoorRow.Denot) (old new : DoorRow.Denot) (step 
     → v ≡ Some old → Made (λ t. t.0) old step new result → w ≡ Some new → outcome ≡ told_of result → Answers v step w outcome
 step_answers v w old new step outcome result was made is told = subst (λ (u : Option DoorRow.Denot). Answers u step w outcome) (sym was)
     (new, is, λ A stands. let m = made A stands in record { told = told ∙ ap told_of m.reply; sizes = m.sizes; standing = m.standing })
-
--- an action that came out is told as the first of the pending ones
-came : (ticket safe : ℕ) (action : Action Tag) (ws : List Waiting)
-    → taken_told (Ok (record { ticket = ticket; safe = safe }, job_in action)) ≡ take_told (Ok (Taken ticket)) (waiting_of (λ t. t.0) (ticket, action) ∷ ws)
-came ticket safe (Settle x) ws = refl
-came ticket safe (Close x) ws = refl
-came ticket safe (User job) ws = refl
-
--- what a take answers is told of the pending actions before it
-taken_is : (old new : DoorRow.Denot) (A : List Step) (result : Result (FiringRecord × Option Tag) Fault) → StandsAt old A
-    → IfOk result (λ taken. CameOut (λ t. t.0) old new taken.0.ticket taken.1) → taken_told result ≡ take_told (core_told result) (pending A)
-taken_is old new A (Err fault) stands out = refl
-taken_is old new A (Ok taken) stands out = let w = waiting_of (λ t. t.0) in
-    ap (λ (job : Option Tag). taken_told (Ok (taken.0, job))) out.job_is
-    ∙ came taken.0.ticket taken.0.safe out.action (map w new.drain.pending)
-    ∙ ap (take_told (Ok (Taken taken.0.ticket))) (sym (ap (map w) out.oldest) ∙ stands.pending_is)
 
 -- a core that was taken out, gave its oldest action and was put back
 pub take_answers : (v w : Option DoorRow.Denot) (old new : DoorRow.Denot) (outcome : Outcome) (result : Result (FiringRecord × Option Tag) Fault)

@@ -9,9 +9,9 @@ use Rattle.hl_model.specs.Sizes.{Sizes}
 use Rattle.hl_model.specs.Replies.{reply_of, extended}
 use Rattle.hl_core.specs.Standing.{Stands}
 use Rattle.hl_core.specs.Steps.{Made}
-use Rattle.hl_c.specs.declared.outcome.Brief.{Brief}
-use Rattle.hl_c.specs.declared.outcome.Outcome.{Outcome}
-use Rattle.hl_c.specs.Outcomes.{told_of, take_told, brief_of, no_core}
+use Rattle.hl_answers.specs.declared.outcome.Brief.{Brief}
+use Rattle.hl_answers.specs.declared.outcome.Outcome.{Outcome}
+use Rattle.hl_answers.specs.Outcomes.{told_of, take_told, brief_of, no_core}
 use Rattle.hl_c.specs.Slots.{DoorRow}
 
 -- a core stands at these steps

@@ -1,4 +1,2 @@
 pub mod Doors
-pub mod Lags
-pub mod Outcomes
 pub mod Slots

@@ -2,7 +2,7 @@ ghost use Rattle.hl_model.specs.declared.step.Step.TheVariants.{Bump as BUMP, Se
 ghost use Rattle.hl_c.specs.Doors.{Answers, AnswersBriefly, Takes};
 
 use crate::handle::Handle;
-use crate::outcome::{Brief, Outcome};
+use hl_answers::{Brief, Outcome};
 use hl_drain::Ask;
 use hl_model::{Reply, Step, Tag};
 

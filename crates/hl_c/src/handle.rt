@@ -1,9 +1,9 @@
 ghost use Rattle.std.specs.Prelude.{◌≡◌, IsSome, MatchOption};
 ghost use Rattle.std.specs.declared.option.Option.TheVariants.{None, Some};
-ghost use Rattle.hl_c.specs.Slots.{is_live};
+ghost use Rattle.hl_answers.specs.Slots.{is_live};
 
 use crate::door::Door;
-use crate::loose::Loose;
+use hl_answers::Loose;
 use crate::slot::Slot;
 use core::mem::{replace, replace_with};
 use std::alloc::Global;

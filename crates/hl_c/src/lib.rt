@@ -7,7 +7,7 @@
 //! # What is promised
 //!
 //! At whatever list of accepted steps the core stood, a step's answer is the definitions' reply after that
-//! list, as numbers (`told_of`, in `specs/Outcomes.antt`), and the core then stands at the list with the
+//! list, as numbers (`told_of`, of the library of answers), and the core then stands at the list with the
 //! step, where it was accepted (`Answers`, in `specs/Doors.antt`). The queries tell what the list has. A call
 //! on a handle at which no core is open answers 255 and changes nothing.
 //!
@@ -31,13 +31,9 @@
 mod bumps;
 mod door;
 mod handle;
-mod lag;
 mod log;
-mod loose;
 mod open;
-mod outcome;
 mod pages;
-mod quantities;
 mod queries;
 mod slot;
 mod slots;
@@ -47,12 +43,12 @@ mod threads;
 pub use bumps::{hl_bare, hl_bump, hl_close, hl_done, hl_settle, hl_take};
 pub use door::Door;
 pub use handle::Handle;
-pub use lag::{LagOutcome, LagStep};
+pub use hl_answers::{LagOutcome, LagStep};
 pub use log::{hl_allocate, hl_look, hl_raise, hl_read, hl_shift, hl_write};
 pub use open::{hl_free, hl_open, hl_open_wide};
-pub use outcome::{Brief, Outcome};
+pub use hl_answers::{Brief, Outcome};
 pub use pages::{hl_clean_done, hl_clean_take, hl_flush_done, hl_flush_take};
-pub use quantities::{SixOutcome, SnapshotOutcome};
+pub use hl_answers::{SixOutcome, SnapshotOutcome};
 pub use queries::{hl_frame, hl_lag, hl_pending, hl_six, hl_snapshot, hl_view};
 pub use slot::Slot;
 pub use slots::{hl_acquire, hl_refresh, hl_release};

@@ -4,7 +4,7 @@ ghost use Rattle.hl_c.specs.Doors.{Answers, AnswersBriefly};
 
 use crate::door::Door;
 use crate::handle::Handle;
-use crate::outcome::{Brief, Outcome};
+use hl_answers::{Brief, Outcome};
 use hl_model::{Fault, Reply, Step};
 
 /// Moves the read-only offset up to an address.

@@ -2,7 +2,7 @@ ghost use Rattle.hl_model.specs.declared.step.Step.TheVariants.{FlushTake as FLU
 ghost use Rattle.hl_c.specs.Doors.{Answers, AnswersBriefly};
 
 use crate::handle::Handle;
-use crate::outcome::Brief;
+use hl_answers::Brief;
 use hl_model::{Reply, Step};
 
 /// Takes the least sealed page that is neither flushed nor in flight.

@@ -4,13 +4,13 @@ ghost use Rattle.hl_model.specs.Frames.{frame_of};
 ghost use Rattle.hl_model.specs.Snapshots.{six, snapshot_of};
 ghost use Rattle.hl_model.specs.Views.{slot_view};
 ghost use Rattle.hl_c.specs.Doors.{Tells};
-ghost use Rattle.hl_c.specs.Lags.{lag_answer, no_lag};
-ghost use Rattle.hl_c.specs.Outcomes.{six_told, no_six, snapshot_told, no_snapshot, pending_told, frame_told, view_told, no_core, out_of_range};
+ghost use Rattle.hl_answers.specs.Lags.{lag_answer, no_lag};
+ghost use Rattle.hl_answers.specs.Outcomes.{six_told, no_six, snapshot_told, no_snapshot, pending_told, frame_told, view_told, no_core, out_of_range};
 
 use crate::handle::Handle;
-use crate::lag::LagOutcome;
-use crate::outcome::Outcome;
-use crate::quantities::{SixOutcome, SnapshotOutcome};
+use hl_answers::LagOutcome;
+use hl_answers::Outcome;
+use hl_answers::{SixOutcome, SnapshotOutcome};
 
 /// The six offsets.
 #[unsafe(no_mangle)]

@@ -2,10 +2,11 @@ ghost use Rattle.std.specs.Prelude.{◌≡◌, IsSome};
 ghost use Rattle.std.specs.declared.option.Option.{Option};
 ghost use Rattle.std.specs.declared.option.Option.TheVariants.{None, Some};
 ghost use Rattle.std.specs.Coded.{coded_option};
-ghost use Rattle.hl_c.specs.Slots.{DoorRow, kept};
+ghost use Rattle.hl_answers.specs.Slots.{kept};
+ghost use Rattle.hl_c.specs.Slots.{DoorRow};
 
 use crate::door::Door;
-use crate::loose::Loose;
+use hl_answers::Loose;
 use std::alloc::Global;
 use std::marker::Model;
 use std::ptr::null_mut;
@@ -19,7 +20,7 @@ pub struct Slot {
 }
 
 impl Model for Slot {
-    ghost also_owns = { λ s. kept s.alloc s.at s.value };
+    ghost also_owns = { λ s. kept DoorRow s.alloc s.at s.value };
 }
 
 impl Slot {

@@ -4,7 +4,7 @@ ghost use Rattle.hl_core.specs.Steps.{entered_reply};
 ghost use Rattle.hl_c.specs.Doors.{Answers, AnswersBriefly};
 
 use crate::handle::Handle;
-use crate::outcome::{Brief, Outcome};
+use hl_answers::{Brief, Outcome};
 use hl_model::{Reply, Slot, Step};
 
 /// The thread of a slot becomes protected: its epoch, and its view.

@@ -3,7 +3,7 @@ ghost use Rattle.hl_c.specs.Doors.{Answers, AnswersBriefly, MakesStep};
 
 use crate::door::Door;
 use crate::handle::Handle;
-use crate::outcome::{Brief, Outcome};
+use hl_answers::{Brief, Outcome};
 use hl_model::{Fault, Reply, Step};
 
 impl Handle {

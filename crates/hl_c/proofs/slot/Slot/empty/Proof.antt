@@ -24,7 +24,8 @@ use Rattle.std.specs.contracts.alloc.Global as heap
 use Rattle.std.proofs.alloc.Global.TheLaws as heap_laws
 use Rattle.std.specs.declared.option.Option.TheVariants.{None}
 use Rattle.std.proofs.raw_atomic.Walks.{proved_at, leaves}
-use Rattle.hl_c.proofs.Values.{both, slot_good, slot_in}
+use Rattle.hl_answers.proofs.Values.{both, slot_good}
+use Rattle.hl_c.proofs.Values.{slot_in}
 use Rattle.hl_c.specs.contracts.slot.Slot.empty.{ended, clauses}
 use Rattle.hl_c.specs.contracts.slot.Slot.empty.Key.{name as #self}
 use Rattle.hl_c.proofs.slot.Slot.empty.Statement.{statement}

@@ -28,8 +28,10 @@ use Rattle.std.specs.declared.option.Option.TheVariants.{Some}
 use Rattle.std.specs.declared.option.Option.{Option}
 use Rattle.std_alloc.specs.Box.Ownership.{box_owns}
 use Rattle.std.proofs.raw_atomic.Walks.{proved_at, leaves}
-use Rattle.hl_c.specs.Slots.{DoorRow, kept}
-use Rattle.hl_c.proofs.Values.{both, loose_good, lived, loose_in, slot_out, Slot}
+use Rattle.hl_answers.specs.Slots.{kept}
+use Rattle.hl_c.specs.Slots.{DoorRow}
+use Rattle.hl_answers.proofs.Values.{both, loose_good, lived, loose_in}
+use Rattle.hl_c.proofs.Values.{slot_out, Slot}
 use Rattle.hl_c.specs.contracts.slot.Slot.into_loose.{ended, clauses}
 use Rattle.hl_c.specs.contracts.slot.Slot.into_loose.Key.{name as #self}
 use Rattle.hl_c.proofs.slot.Slot.into_loose.Statement.{statement}
@@ -43,7 +45,7 @@ into_loose_spec 𝓤 𝓛 𝓜 𝓡 wired =
     proved_at 𝓛 En hs c 𝓜 𝓡 (Goes-blank 𝓛 0 (plain (λ _. Slot)) En.kept.0 (λ κs x f. tt), tt) #self fn (code.unfolded 𝓤 H 𝓜 𝓡 wired) (λ z are.
     let d = z.0.3.0 in let a = d.alloc in let Post : Val → SProp 𝓤 = (walk_of 𝓛 En hs c).post z in let Run : List Val → SProp 𝓤 = λ ws. WpFn 𝓤 H 𝓣.C 𝓣.Λ fn ws Post in
     qed 𝓛 ((raw (alive 𝓛 En.signature z.0.0 z.0.1) ⊛ ‵ (owns (types_at En.signature.params z.0.0) z.0.3 z.0.4)) ∷ raw (fact 𝓤 (IsSome d.value)) ∷ []) ∵ move ! (1 ∷ []) $ heard ! (IsSome d.value) (λ some. let x : R.Denot = (lived d.value some).0 in let is : d.value ≡ Some x = (lived d.value some).1 in split ! $ move ! (1 ∷ []) $ fsplit ! $
-    slot_out ! d z.0.4.0 (λ h us fits. rewrite ! 0 (λ (v : Option R.Denot). ‵ (kept a d.at v)) is refl $
+    slot_out ! d z.0.4.0 (λ h us fits. rewrite ! 0 (λ (v : Option R.Denot). ‵ (kept R a d.at v)) is refl $
     in_a_block ! d.at (λ p. box_owns (ghosts.dealloc_token a) R p x) (fst∗ 𝓤 (never 𝓤) (sem 𝓛 (ghosts.dealloc_token a (bare (lone R.mir)) null_ptr))) (λ b o e.
     let w : Val = both (vptr b o) h in let typed = loose_good R Z LZ ghosts b o h fits in
     let ws : z.0.4.0 ≡ w ∷ [] = subst (λ (p : Ptr). z.0.4.0 ≡ both (ptr_val p) h ∷ []) e us in

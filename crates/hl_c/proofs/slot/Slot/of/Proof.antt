@@ -24,7 +24,8 @@ use Rattle.std.specs.contracts.impls.GlobalAllocator.TheImpl.{ghosts}
 use Rattle.std.specs.declared.option.Option.TheVariants.{Some}
 use Rattle.std.proofs.raw_atomic.Walks.{proved_at, leaves}
 use Rattle.hl_c.specs.Slots.{DoorRow}
-use Rattle.hl_c.proofs.Values.{both, Loose, loose_good, loose_out, slot_in}
+use Rattle.hl_answers.proofs.Values.{both, Loose, loose_good, loose_out}
+use Rattle.hl_c.proofs.Values.{slot_in}
 use Rattle.hl_c.specs.contracts.slot.Slot.of.{ended, clauses}
 use Rattle.hl_c.specs.contracts.slot.Slot.of.Key.{name as #self}
 use Rattle.hl_c.proofs.slot.Slot.of.Statement.{statement}

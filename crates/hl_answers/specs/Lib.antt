@@ -1,0 +1,3 @@
+pub mod Lags
+pub mod Outcomes
+pub mod Slots

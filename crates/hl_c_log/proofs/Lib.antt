@@ -1,0 +1,6 @@
+pub mod LogCalls
+pub mod LogValues
+pub mod PageCalls
+pub mod PageValues
+pub mod PassCalls
+pub mod PassValues

@@ -1,0 +1,6 @@
+pub mod Holders
+pub mod Logs
+pub mod Pages
+pub mod Passes
+pub mod Rows
+pub mod Words

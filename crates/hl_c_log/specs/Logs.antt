@@ -1,0 +1,76 @@
+-- What a call makes of the handle of a log.
+use Rattle.std.specs.Prelude.{◌≡◌, ℕ, Option, Some, None, Result, List, [], ◌⊎◌}
+use Rattle.hl_model.specs.declared.step.Step.{Step}
+use Rattle.hl_model.specs.declared.step.Step.TheVariants.{Take}
+use Rattle.hl_model.specs.Actions.{pending}
+use Rattle.hl_model.specs.Sizes.{Sizes}
+use Rattle.hl_model.specs.Replies.{reply_of, extended}
+use Rattle.hl_answers.specs.declared.outcome.Brief.{Brief}
+use Rattle.hl_answers.specs.declared.outcome.Outcome.{Outcome}
+use Rattle.hl_answers.specs.Outcomes.{told_of, take_told, brief_of, no_core}
+use Rattle.hl_log.specs.Logs.{StandsAt, IsBeside}
+use Rattle.hl_c_log.specs.Rows.{LogRow}
+
+-- a log that stood at A told this of a step, and stands at the list with the step, where it was accepted
+pub record Moved (old : LogRow.Denot) (A : List Step) (step : Step) (new : LogRow.Denot)
+    (reply outcome : Outcome)
+    : Type 0 where
+  pub told : outcome ≡ reply
+  pub sizes : new.core.sizes ≡ old.core.sizes
+  pub standing : StandsAt new (extended old.core.sizes A step)
+
+-- the log that was open made the step, at whatever list it stood, and is open, with the same words and stamps;
+-- where none was, none is, and the outcome says so
+abbrev pub Answers : Option LogRow.Denot → Step → Option LogRow.Denot → Outcome → Type 0
+Answers None step new outcome = (outcome ≡ no_core) × (new ≡ None)
+Answers (Some old) step new outcome = (log : LogRow.Denot) × (new ≡ Some log) × IsBeside old log
+    × ((A : List Step) → StandsAt old A
+    → Moved old A step log (told_of (reply_of old.core.sizes A step)) outcome)
+
+-- so for a step of which one number is told
+abbrev pub AnswersBriefly : Option LogRow.Denot → Step → Option LogRow.Denot → Brief → Type 0
+AnswersBriefly old step new brief = (outcome : Outcome) × Answers old step new outcome
+    × (brief ≡ brief_of outcome)
+
+-- so for a take, whose outcome besides has the job
+abbrev pub Takes : Option LogRow.Denot → Option LogRow.Denot → Outcome → Type 0
+Takes None new outcome = (outcome ≡ no_core) × (new ≡ None)
+Takes (Some old) new outcome = (log : LogRow.Denot) × (new ≡ Some log) × IsBeside old log
+    × ((A : List Step) → StandsAt old A
+    → Moved old A Take log (take_told (reply_of old.core.sizes A Take) (pending A)) outcome)
+
+-- a query: its answer is of whatever list the log stood at, which stays; where none is open, it answers what it
+-- does then
+abbrev pub Tells : {X : Type 0} → Option LogRow.Denot → (Sizes → List Step → X) → X → Option LogRow.Denot
+    → X
+    → Type 0
+Tells None answer none new outcome = (outcome ≡ none) × (new ≡ None)
+Tells (Some log) answer none new outcome = (new ≡ Some log)
+    × ((A : List Step) → StandsAt log A → outcome ≡ answer log.core.sizes A)
+
+-- a log of these sizes and this stamp, at the empty list
+pub record IsOpened (sizes : Sizes) (stamp : ℕ) (log : LogRow.Denot) : Type 0 where
+  pub sizes_are : log.core.sizes ≡ sizes
+  pub stands : StandsAt log []
+  pub own : log.stamp ≡ stamp
+  pub last : log.last ≡ stamp
+
+-- an open of sizes in this range: 255 where a log is open, 254 where a size is out of range, 29 where memory
+-- was refused, and nothing is changed; else 0, and such a log is open
+abbrev pub Opens : (Sizes → Type 0) → Option LogRow.Denot → Sizes → ℕ → Option LogRow.Denot → ℕ → Type 0
+Opens InRange (Some log) sizes stamp new number = (number ≡ 255) × (new ≡ Some log)
+Opens InRange None sizes stamp (Some log) number = (number ≡ 0) × InRange sizes × IsOpened sizes stamp log
+Opens InRange None sizes stamp None number =
+    (InRange sizes × (number ≡ 29)) ⊎ (¬ InRange sizes × (number ≡ 254))
+
+-- the same, told the sizes if they are in range
+abbrev pub OpensWith : Option LogRow.Denot → Option Sizes → ℕ → Option LogRow.Denot → ℕ → Type 0
+OpensWith (Some log) sizes stamp new number = (number ≡ 255) × (new ≡ Some log)
+OpensWith None (Some sizes) stamp (Some log) number = (number ≡ 0) × IsOpened sizes stamp log
+OpensWith None (Some sizes) stamp None number = number ≡ 29
+OpensWith None None stamp new number = (number ≡ 254) × (new ≡ None)
+
+-- giving one back: 255 where there is none
+abbrev pub free_number : {X : Type 0} → Option X → ℕ
+free_number None = 255
+free_number (Some x) = 0

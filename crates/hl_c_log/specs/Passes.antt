@@ -1,0 +1,105 @@
+-- What a call of a pass, under the lock, makes of both handles.
+use Rattle.std.specs.Prelude.{◌≡◌, ℕ, ◌==◌, if◌then◌else◌, Option, Some, None, Result, List, unwrap_or, ◌⊎◌}
+use Rattle.hl_model.specs.declared.fault.Fault.{Fault}
+use Rattle.hl_model.specs.declared.fault.Fault.TheVariants.{OutOfMemory}
+use Rattle.hl_model.specs.declared.step.Step.{Step}
+use Rattle.hl_model.specs.declared.step.Step.TheVariants.{Acquire}
+use Rattle.hl_model.specs.declared.view.View.{View}
+use Rattle.hl_model.specs.Sizes.{Sizes}
+use Rattle.hl_model.specs.Replies.{reply_of, fault_of, extended}
+use Rattle.hl_model.specs.Views.{slot_view}
+use Rattle.hl_answers.specs.declared.outcome.Brief.{Brief}
+use Rattle.hl_answers.specs.declared.outcome.Outcome.{Outcome}
+use Rattle.hl_answers.specs.Outcomes.{told_of, fault_told, brief_of, no_core}
+use Rattle.hl_log.specs.Calls.{by_slot, call_reply, call_list, call_pass}
+use Rattle.hl_log.specs.Logs.{StandsAt, IsBeside, IsStamped, next_stamp}
+use Rattle.hl_log.specs.Passes.{epoch_told}
+use Rattle.hl_c_log.specs.Rows.{LogRow, PassRow}
+
+-- a log that stood at A told this of a pass's step: that the pass is a stranger, or the definitions' reply behind
+-- the list and what the pass saw; it stands at the list with both, or at A, and the pass has what its slot has
+pub record Called (old : LogRow.Denot) (A : List Step) (p : PassRow.Denot) (step : Step) (new : LogRow.Denot)
+    (q : PassRow.Denot) (outcome : Outcome)
+    : Type 0 where
+  pub told : outcome ≡ told_of (call_reply old A p step)
+  pub sizes : new.core.sizes ≡ old.core.sizes
+  pub standing : StandsAt new (call_list old A p step)
+  pub pass : q ≡ call_pass old A p step
+
+-- the handle keeps its pass
+abbrev pub stays : Outcome → PassRow.Denot → Option PassRow.Denot
+stays outcome q = Some q
+
+-- the handle keeps its pass where the call was refused
+abbrev pub leaves : Outcome → PassRow.Denot → Option PassRow.Denot
+leaves outcome q = if outcome.number == 0 then None else Some q
+
+-- a pass's step, whose slot is the pass's, was so made at whatever list the log stood, and both handles keep what
+-- they had, or the pass's as is told; where one has none, nothing is changed, and the outcome says so
+abbrev pub CallsBy : (Outcome → PassRow.Denot → Option PassRow.Denot) → Step → Option LogRow.Denot
+    → Option PassRow.Denot
+    → Option LogRow.Denot
+    → Option PassRow.Denot
+    → Outcome
+    → Type 0
+CallsBy kept step None pass new left outcome = (outcome ≡ no_core) × (new ≡ None) × (left ≡ pass)
+CallsBy kept step (Some log) None new left outcome = (outcome ≡ no_core) × (new ≡ Some log) × (left ≡ None)
+CallsBy kept step (Some log) (Some p) new left outcome =
+    (after : LogRow.Denot) × (q : PassRow.Denot) × (new ≡ Some after) × (left ≡ kept outcome q)
+    × IsBeside log after
+    × ((A : List Step) → StandsAt log A → Called log A p (by_slot p.slot step) after q outcome)
+
+-- so for a step of which one number is told
+abbrev pub CallsBriefly : (Outcome → PassRow.Denot → Option PassRow.Denot) → Step → Option LogRow.Denot
+    → Option PassRow.Denot
+    → Option LogRow.Denot
+    → Option PassRow.Denot
+    → Brief
+    → Type 0
+CallsBriefly kept step log pass new left brief = (outcome : Outcome)
+    × CallsBy kept step log pass new left outcome
+    × (brief ≡ brief_of outcome)
+
+-- nothing is seen
+abbrev pub no_view : View
+no_view = record { read_only = 0; head = 0; tail = 0 }
+
+-- a log that stood at A protected a slot, and this pass acts for it: it has the slot's view and epoch, and a stamp
+-- that no pass of the log had
+pub record Acquired (old : LogRow.Denot) (A : List Step) (slot : ℕ) (new : LogRow.Denot) (q : PassRow.Denot)
+    (outcome : Outcome)
+    : Type 0 where
+  pub told : outcome ≡ told_of (reply_of old.core.sizes A (Acquire slot))
+  pub accepted : fault_of old.core.sizes A (Acquire slot) ≡ None
+  pub sizes : new.core.sizes ≡ old.core.sizes
+  pub standing : StandsAt new (extended old.core.sizes A (Acquire slot))
+  pub stamps : IsStamped old slot new
+  pub slot_is : q.slot ≡ slot
+  pub stamp_is : q.stamp ≡ next_stamp old
+  pub epoch_is : q.epoch ≡ epoch_told (reply_of old.core.sizes A (Acquire slot)) 0
+  pub held_is : q.held
+      ≡ unwrap_or (slot_view old.core.sizes slot (extended old.core.sizes A (Acquire slot))) no_view
+  pub view_is : q.view ≡ q.held
+  pub words : q.shared.value ≡ old.shared.value
+
+-- a log refused a slot: memory was refused, or the definitions refuse it at whatever list it stood
+abbrev pub Refused : LogRow.Denot → Step → Outcome → Type 0
+Refused old step outcome = (outcome ≡ fault_told OutOfMemory) ⊎ ((A : List Step)
+    → StandsAt old A
+    → (fault : Fault) × (fault_of old.core.sizes A step ≡ Some fault) × (outcome ≡ fault_told fault))
+
+-- a log protected a slot, and its pass is there, or refused it and stays
+abbrev pub AcquiresOf : ℕ → LogRow.Denot → LogRow.Denot → Option PassRow.Denot → Outcome → Type 0
+AcquiresOf slot old new None outcome = (new ≡ old) × Refused old (Acquire slot) outcome
+AcquiresOf slot old new (Some q) outcome =
+    (A : List Step) → StandsAt old A → Acquired old A slot new q outcome
+
+-- an acquire: where a pass is there, or no log is open, nothing is changed, and the outcome says so
+abbrev pub Acquires : ℕ → Option LogRow.Denot → Option PassRow.Denot → Option LogRow.Denot
+    → Option PassRow.Denot
+    → Outcome
+    → Type 0
+Acquires slot log (Some p) new left outcome = (outcome ≡ no_core) × (new ≡ log) × (left ≡ Some p)
+Acquires slot None None new left outcome = (outcome ≡ no_core) × (new ≡ None) × (left ≡ None)
+Acquires slot (Some old) None new left outcome =
+    (log : LogRow.Denot) × (new ≡ Some log) × AcquiresOf slot old log left outcome

@@ -1,0 +1,38 @@
+-- What a call of a pass without the lock makes of its handle.
+use Rattle.std.specs.Prelude.{◌≡◌, ℕ, if◌then◌else◌, Option, Some, None}
+use Rattle.hl_model.specs.declared.step.Reply.TheVariants.{Value, Looked}
+use Rattle.hl_model.specs.Replies.{unless_fault}
+use Rattle.hl_model.specs.declared.fault.Fault.{Fault}
+use Rattle.hl_answers.specs.declared.outcome.Brief.{Brief}
+use Rattle.hl_answers.specs.declared.outcome.Outcome.{Outcome}
+use Rattle.hl_answers.specs.Outcomes.{brief_of, no_core, reply_told, told_of}
+use Rattle.hl_log.specs.Passes.{with_look, with_news}
+use Rattle.hl_log.specs.Views.{store_fault, load_fault, is_current}
+use Rattle.hl_c_log.specs.Rows.{PassRow}
+
+-- what is told of a fault, or of this word where there is none
+abbrev pub word_told : Option Fault → ℕ → Brief
+word_told fault found = brief_of (told_of (unless_fault fault (Value found)))
+
+-- a pass judged a store, or a change of a word that found this, by what it sees, and stays; where there is none,
+-- none is, and the brief says so
+abbrev pub Stores : Option PassRow.Denot → ℕ → ℕ → Option PassRow.Denot → Brief → Type 0
+Stores None a found new brief = (brief ≡ brief_of no_core) × (new ≡ None)
+Stores (Some p) a found new brief = (new ≡ Some p) × (brief ≡ word_told (store_fault p.view a) found)
+
+-- so a load that found this
+abbrev pub Loads : Option PassRow.Denot → ℕ → ℕ → Option PassRow.Denot → Brief → Type 0
+Loads None a found new brief = (brief ≡ brief_of no_core) × (new ≡ None)
+Loads (Some p) a found new brief = (new ≡ Some p) × (brief ≡ word_told (load_fault p.view a) found)
+
+-- a pass saw the offsets that it loaded, and tells what it sees
+abbrev pub Looks : Option PassRow.Denot → Option PassRow.Denot → Outcome → Type 0
+Looks None new outcome = (outcome ≡ no_core) × (new ≡ None)
+Looks (Some p) new outcome = (q : PassRow.Denot) × (new ≡ Some q) × (q ≡ with_look q.news p)
+    × (outcome ≡ reply_told (Looked q.view))
+
+-- a pass tells whether nothing that it loaded is new to it
+abbrev pub KeepsUp : Option PassRow.Denot → Option PassRow.Denot → ℕ → Type 0
+KeepsUp None new number = (number ≡ 255) × (new ≡ None)
+KeepsUp (Some p) new number = (q : PassRow.Denot) × (new ≡ Some q) × (q ≡ with_news q.news p)
+    × (number ≡ (if is_current p.view p.epoch q.news then 1 else 0))

@@ -1,0 +1,68 @@
+//! The door for threads, for C and C++: a log behind one handle, and a pass behind a handle for each thread.
+//!
+//! `include/hl_log.h` declares the calls, with what each answers. A handle is two words that C keeps and never reads. All
+//! bytes zero means that nothing is there.
+//!
+//! # What is promised
+//!
+//! Under the caller's lock: at whatever list of accepted steps the log stood, a step's answer is the definitions' reply
+//! after that list, as numbers, and the log then stands at the list with the step, where it was accepted (`Answers`, in
+//! `specs/Logs.antt`). A pass's step is answered 26 with the slot's stamp, where the slot isn't the pass's, and changes
+//! nothing; else as the definitions do behind the list and the pass's look, and the pass has what its slot has then
+//! (`CallsBy`, in `specs/Passes.antt`).
+//!
+//! Without it: a store and a load are judged by what the pass sees (`Stores` and `Loads`, in `specs/Words.antt`), and are
+//! one access of one word. That a word is stored is in the code alone: no clause tells what a word has.
+//!
+//! # Threads
+//!
+//! Each handle may go to another thread (`Send` is proved of what lies behind it), and one call at a time may use it. Calls
+//! on the log's handle are made under a lock of the caller's; a pass's handle is its thread's, as a page's is. The
+//! calls on these alone run at the same time as all others. No call waits.
+//!
+//! # How a call goes
+//!
+//! As in the door of a core: it takes the boxes out of their handles, makes the call, and puts them back. `LogHandle::step`
+//! is the one way of a step of the log, `by_pass` that of a pass's.
+#![tactic(auto)]
+
+mod acquire;
+mod by_pass;
+mod holders;
+mod log_handle;
+mod log_slot;
+mod open;
+mod page_handle;
+mod page_slot;
+mod page_words;
+mod pages;
+mod pass_handle;
+mod pass_slot;
+mod queries;
+mod step;
+mod steps;
+mod threads;
+mod words;
+
+pub use acquire::{hl_log_acquire, hl_pass_abandon};
+pub use by_pass::{hl_log_allocate, hl_log_refresh, hl_log_release};
+pub use hl_answers::{Brief, LagOutcome, LagStep, Outcome, SixOutcome, SnapshotOutcome};
+pub use log_handle::LogHandle;
+pub use log_slot::LogSlot;
+pub use open::{hl_log_free, hl_log_open, hl_log_open_wide};
+pub use page_handle::PageHandle;
+pub use page_slot::PageSlot;
+pub use page_words::{hl_log_copy_page, hl_log_sweep, hl_page_abandon};
+pub use pages::{hl_log_clean_done, hl_log_clean_take, hl_log_flush_done, hl_log_flush_take};
+pub use pass_handle::PassHandle;
+pub use pass_slot::PassSlot;
+pub use queries::{hl_log_holders, hl_log_lag, hl_log_six, hl_log_snapshot};
+pub use steps::{
+    hl_log_bare, hl_log_bump, hl_log_close, hl_log_done, hl_log_raise, hl_log_settle,
+    hl_log_shift, hl_log_take,
+};
+pub use threads::{sent_log, sent_page, sent_pass};
+pub use words::{
+    hl_pass_compare_exchange, hl_pass_fetch_add, hl_pass_keeps_up, hl_pass_load, hl_pass_look,
+    hl_pass_store,
+};

@@ -1,0 +1,135 @@
+//! Pages that are taken from a log, under the caller's lock.
+ghost use Rattle.std.specs.Prelude.{◌≡◌, true, false, ◌==◌, if◌then◌else◌, IfSome};
+ghost use Rattle.std.specs.declared.option.Option.TheVariants.{None, Some};
+ghost use Rattle.hl_model.specs.declared.step.Step.TheVariants.{FlushDone as FLUSH_DONE, CleanDone as CLEAN_DONE};
+ghost use Rattle.hl_answers.specs.Outcomes.{brief_of, no_core};
+ghost use Rattle.hl_log.specs.Taken.{origin_fault, unswept_fault, IsFresh};
+ghost use Rattle.hl_c_log.specs.Pages.{Gives, GivesOf, Ends};
+
+use crate::log_handle::LogHandle;
+use crate::page_handle::PageHandle;
+use hl_answers::{Brief, Outcome};
+use hl_log::{Log, Taken};
+use hl_model::{Fault, Reply};
+use std::alloc::Global;
+
+/// Takes the least sealed page that is neither flushed nor in flight: its number. 255 where there is a page already.
+#[unsafe(no_mangle)]
+pub extern "C" fn hl_log_flush_take(
+    alloc: Global,
+    log: &mut LogHandle,
+    page: &mut PageHandle,
+) -> Brief
+    ensures { Gives false log.old.slot.value page.old.slot.value
+        log.new.slot.value page.new.slot.value result }
+{
+    take_page(alloc, log, page, false)
+}
+
+/// Takes the least closed page that is neither freed nor being cleaned: its number. 255 where there is a page already.
+#[unsafe(no_mangle)]
+pub extern "C" fn hl_log_clean_take(
+    alloc: Global,
+    log: &mut LogHandle,
+    page: &mut PageHandle,
+) -> Brief
+    ensures { Gives true log.old.slot.value page.old.slot.value
+        log.new.slot.value page.new.slot.value result }
+{
+    take_page(alloc, log, page, true)
+}
+
+/// Takes a page, to be cleaned or else to be flushed.
+#[inline(always)]
+fn take_page(alloc: Global, log: &mut LogHandle, page: &mut PageHandle, cleans: bool) -> Brief
+    ensures { Gives cleans log.old.slot.value page.old.slot.value
+        log.new.slot.value page.new.slot.value result }
+{
+    if page.live != 0 {
+        return Outcome::no_core().brief();
+    }
+    match log.take() {
+        Some(mut held) => {
+            let brief = taken(alloc, &mut held, page, cleans);
+            log.put(held);
+            brief
+        }
+        None => Outcome::no_core().brief(),
+    }
+}
+
+/// The same for a log and a handle with no page.
+fn taken(alloc: Global, log: &mut Log, page: &mut PageHandle, cleans: bool) -> Brief
+    requires { page.old.slot.value ≡ None }
+    ensures { GivesOf cleans log.old log.new page.new.slot.value result }
+{
+    match vacant(alloc, log, cleans) {
+        Some(mut own) => match log.take_page(&mut own) {
+            Ok(number) => {
+                page.put(own);
+                Outcome::of(Ok(Reply::Page(number))).brief()
+            }
+            Err(fault) => Outcome::of_fault(fault).brief(),
+        },
+        None => Outcome::of_fault(Fault::OutOfMemory).brief(),
+    }
+}
+
+/// A page on the heap that is to be taken. None where memory was refused.
+fn vacant(alloc: Global, log: &Log, cleans: bool) -> Option<Box<Taken>>
+    ensures { IfSome result (λ page. IsFresh log.now cleans page.value) }
+{
+    let page = log.vacant_page(cleans)?;
+    Box::new(alloc, page).ok()
+}
+
+/// The flush of a page ended, well or not: the flushed offset. The page is given back where this was accepted.
+#[unsafe(no_mangle)]
+pub extern "C" fn hl_log_flush_done(log: &mut LogHandle, page: &mut PageHandle, ok: bool) -> Brief
+    ensures { Ends origin_fault (λ number. FLUSH_DONE number ok) log.old.slot.value page.old.slot.value
+        log.new.slot.value page.new.slot.value result }
+{
+    let Some(mut held) = log.take() else {
+        return Outcome::no_core().brief();
+    };
+    let Some(own) = page.take() else {
+        log.put(held);
+        return Outcome::no_core().brief();
+    };
+    let brief = Outcome::of(held.flush_done(&own, ok)).brief();
+    log.put(held);
+    give_back(page, own, brief.number);
+    brief
+}
+
+/// The words of a page are zeroed: its frame is free. The page is given back where this was accepted.
+#[unsafe(no_mangle)]
+pub extern "C" fn hl_log_clean_done(log: &mut LogHandle, page: &mut PageHandle) -> Brief
+    ensures { Ends unswept_fault CLEAN_DONE log.old.slot.value page.old.slot.value
+        log.new.slot.value page.new.slot.value result }
+{
+    let Some(mut held) = log.take() else {
+        return Outcome::no_core().brief();
+    };
+    let Some(own) = page.take() else {
+        log.put(held);
+        return Outcome::no_core().brief();
+    };
+    let brief = Outcome::of(held.clean_done(&own)).brief();
+    log.put(held);
+    give_back(page, own, brief.number);
+    brief
+}
+
+/// Puts a page back, but where its work ended.
+#[inline(always)]
+fn give_back(handle: &mut PageHandle, page: Box<Taken>, number: u64)
+    requires { handle.old.slot.value ≡ None }
+    ensures { handle.new.slot.value ≡ (if number == 0 then None else Some page.value) }
+{
+    if number == 0 {
+        drop(page);
+    } else {
+        handle.put(page);
+    }
+}

@@ -1,0 +1,121 @@
+//! The calls of a pass without the lock.
+ghost use Rattle.std.specs.Prelude.{◌≡◌, Result};
+ghost use Rattle.hl_model.specs.declared.step.Reply.TheVariants.{Value as VALUE};
+ghost use Rattle.hl_core.specs.Steps.{told};
+ghost use Rattle.hl_answers.specs.Outcomes.{brief_of, told_of, no_core};
+ghost use Rattle.hl_c_log.specs.Words.{Stores, Loads, Looks, KeepsUp};
+
+use crate::pass_handle::PassHandle;
+use hl_answers::{Brief, Outcome};
+use hl_model::{Fault, Reply};
+
+/// Stores a word.
+#[unsafe(no_mangle)]
+pub extern "C" fn hl_pass_store(pass: &mut PassHandle, address: u64, word: u64) -> Brief
+    ensures { Stores pass.old.slot.value address 0 pass.new.slot.value result }
+{
+    match pass.take() {
+        Some(own) => {
+            let stored = own.store(address, word);
+            pass.put(own);
+            word_told(stored.map(|()| 0))
+        }
+        None => no_pass(),
+    }
+}
+
+/// Adds to a word in one step: what it found.
+#[unsafe(no_mangle)]
+pub extern "C" fn hl_pass_fetch_add(pass: &mut PassHandle, address: u64, more: u64) -> Brief
+    ensures { Stores pass.old.slot.value address result.a pass.new.slot.value result }
+{
+    match pass.take() {
+        Some(own) => {
+            let found = own.fetch_add(address, more);
+            pass.put(own);
+            word_told(found)
+        }
+        None => no_pass(),
+    }
+}
+
+/// Stores a word where another stands, in one step: what it found.
+#[unsafe(no_mangle)]
+pub extern "C" fn hl_pass_compare_exchange(
+    pass: &mut PassHandle,
+    address: u64,
+    current: u64,
+    word: u64,
+) -> Brief
+    ensures { Stores pass.old.slot.value address result.a pass.new.slot.value result }
+{
+    match pass.take() {
+        Some(own) => {
+            let found = own.compare_exchange(address, current, word);
+            pass.put(own);
+            word_told(found)
+        }
+        None => no_pass(),
+    }
+}
+
+/// Loads a word.
+#[unsafe(no_mangle)]
+pub extern "C" fn hl_pass_load(pass: &mut PassHandle, address: u64) -> Brief
+    ensures { Loads pass.old.slot.value address result.a pass.new.slot.value result }
+{
+    match pass.take() {
+        Some(own) => {
+            let found = own.load(address);
+            pass.put(own);
+            word_told(found)
+        }
+        None => no_pass(),
+    }
+}
+
+/// Sees the offsets that rose: its view.
+#[unsafe(no_mangle)]
+pub extern "C" fn hl_pass_look(pass: &mut PassHandle) -> Outcome
+    ensures { Looks pass.old.slot.value pass.new.slot.value result }
+{
+    match pass.take() {
+        Some(mut own) => {
+            own.look();
+            let view = own.view();
+            pass.put(own);
+            Outcome::accepted(0, view.read_only, view.head, view.tail)
+        }
+        None => Outcome::no_core(),
+    }
+}
+
+/// Whether nothing is new to it: 1, or 0.
+#[unsafe(no_mangle)]
+pub extern "C" fn hl_pass_keeps_up(pass: &mut PassHandle) -> u64
+    ensures { KeepsUp pass.old.slot.value pass.new.slot.value result }
+{
+    match pass.take() {
+        Some(mut own) => {
+            let current = own.keeps_up();
+            pass.put(own);
+            if current { 1 } else { 0 }
+        }
+        None => 255,
+    }
+}
+
+/// What is told of a word, or of the fault in its place.
+#[inline(always)]
+fn word_told(found: Result<u64, Fault>) -> Brief
+    ensures { result ≡ brief_of (told_of (told VALUE found)) }
+{
+    Outcome::of(found.map(Reply::Value)).brief()
+}
+
+/// What a call without a pass answers.
+fn no_pass() -> Brief
+    ensures { result ≡ brief_of no_core }
+{
+    Outcome::no_core().brief()
+}

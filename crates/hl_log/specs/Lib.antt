@@ -1,0 +1,5 @@
+pub mod Calls
+pub mod Logs
+pub mod Passes
+pub mod Taken
+pub mod Views

@@ -1,0 +1,74 @@
+-- What a pass becomes.
+use Rattle.std.specs.Prelude.{◌≡◌, ℕ, ◌==◌, Bool, ◌&&◌, Option, Result, Ok, Err, unwrap_or}
+use Rattle.hl_model.specs.declared.fault.Fault.{Fault}
+use Rattle.hl_model.specs.declared.step.Reply.{Reply}
+use Rattle.hl_model.specs.declared.step.Reply.TheVariants.{Entered}
+use Rattle.hl_model.specs.declared.view.View.{View}
+use Rattle.hl_log.specs.declared.log.Log.{Log}
+use Rattle.hl_log.specs.declared.pass.Pass.{Pass}
+use Rattle.hl_log.specs.declared.view.News.{News}
+use Rattle.hl_log.specs.Views.{raised}
+
+-- the pass with these offsets loaded
+abbrev pub with_news : News → Pass → Pass
+with_news news p = record {
+  shared = p.shared;
+  slot = p.slot;
+  stamp = p.stamp;
+  epoch = p.epoch;
+  held = p.held;
+  view = p.view;
+  news = news;
+}
+
+-- the pass that has seen them
+abbrev pub with_look : News → Pass → Pass
+with_look news p = record {
+  shared = p.shared;
+  slot = p.slot;
+  stamp = p.stamp;
+  epoch = p.epoch;
+  held = p.held;
+  view = raised p.view news;
+  news = news;
+}
+
+-- the pass saw no offset without the lock that its slot didn't
+abbrev pub is_up : Pass → Bool
+is_up p = p.view.read_only == p.held.read_only && p.view.head == p.held.head
+
+-- the epoch of a slot that entered, else this one
+abbrev pub epoch_told : Result Reply Fault → ℕ → ℕ
+epoch_told (Ok (Entered epoch view)) e = epoch
+epoch_told _ e = e
+
+-- the pass where its slot has this view, if it is protected, and this epoch
+abbrev pub rested : Option View → ℕ → Pass → Pass
+rested view epoch p = record {
+  shared = p.shared;
+  slot = p.slot;
+  stamp = p.stamp;
+  epoch = epoch;
+  held = unwrap_or view p.view;
+  view = unwrap_or view p.view;
+  news = p.news;
+}
+
+-- the pass with a stamp of its own
+abbrev pub stamped : ℕ → Pass → Pass
+stamped stamp p = record {
+  shared = p.shared;
+  slot = p.slot;
+  stamp = stamp;
+  epoch = p.epoch;
+  held = p.held;
+  view = p.view;
+  news = p.news;
+}
+
+-- a pass of this log for a slot that it doesn't have yet: it saw nothing
+pub record IsVacant (log : Log) (slot : ℕ) (p : Pass) : Type 0 where
+  pub slot_is : p.slot ≡ slot
+  pub epoch_is : p.epoch ≡ 0
+  pub view_is : p.view ≡ record { read_only = 0; head = 0; tail = 0 }
+  pub words : p.shared.value ≡ log.shared.value

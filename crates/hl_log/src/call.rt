@@ -1,0 +1,90 @@
+//! The calls of a pass under the lock.
+ghost use Rattle.std.specs.Prelude.{◌≡◌, List, true};
+ghost use Rattle.hl_model.specs.declared.step.Step.{Step as STEP};
+ghost use Rattle.hl_model.specs.declared.step.Step.TheVariants.{Look as LOOK};
+ghost use Rattle.hl_model.specs.Replies.{extended};
+ghost use Rattle.hl_core.specs.Steps.{is_acted};
+ghost use Rattle.hl_log.specs.Calls.{by_slot, looked, Calls, IsCall};
+ghost use Rattle.hl_log.specs.Logs.{StandsAt, IsBeside};
+ghost use Rattle.hl_log.specs.Passes.{epoch_told};
+
+use crate::log::Log;
+use crate::pass::Pass;
+use hl_model::{Fault, Reply, Step};
+
+impl Log {
+    /// Makes a refresh, a release or an allocation of a pass, whose slot takes the place of the step's, behind what
+    /// the pass saw. The pass then has the epoch and the view of its slot.
+    ///
+    /// `Stranger`, with the slot's stamp, where the slot isn't the pass's: nothing is changed then. Else the faults of
+    /// the step; what the pass saw is entered with these too.
+    #[inline(always)]
+    pub fn call(&mut self, pass: &mut Pass, step: &Step) -> Result<Reply, Fault>
+        requires { IsCall step.now }
+        ensures { Calls self.old pass.old (by_slot pass.old.slot step.now) self.new pass.new result }
+    {
+        if !self.is_known(pass) {
+            return Err(Fault::Stranger {
+                stamp: self.stamp_at(pass.slot),
+            });
+        }
+        self.catch_up(pass);
+        let step = by_slot(pass.slot, *step);
+        let reply = self.core.act(&step);
+        pass.rest(self.core.view(pass.slot), epoch_told(reply, pass.epoch));
+        reply
+    }
+
+    /// Enters what the pass saw without the lock.
+    #[inline(always)]
+    fn catch_up(&mut self, pass: &Pass)
+        ensures sizes { self.new.core.sizes ≡ self.old.core.sizes }
+        ensures beside { IsBeside self.old self.new }
+        ensures standing { (A : List STEP) → StandsAt self.old A
+            → StandsAt self.new (looked self.old.core.sizes A pass.now) }
+    {
+        if !pass.is_up() {
+            self.look(pass);
+        }
+    }
+
+    /// Enters the offsets that the pass sees.
+    fn look(&mut self, pass: &Pass)
+        ensures sizes { self.new.core.sizes ≡ self.old.core.sizes }
+        ensures beside { IsBeside self.old self.new }
+        ensures standing { let p = pass.now
+            in (A : List STEP) → StandsAt self.old A
+            → StandsAt self.new
+            (extended self.old.core.sizes A (LOOK p.slot p.view.read_only p.view.head)) }
+    {
+        let _looked = self
+            .core
+            .look(pass.slot, pass.view.read_only, pass.view.head);
+    }
+}
+
+/// The step for a slot, of those that a slot makes.
+#[inline(always)]
+fn by_slot(t: u64, step: Step) -> Step
+    requires { IsCall step }
+    ensures value { result ≡ by_slot t step }
+    ensures acted { is_acted result ≡ true }
+{
+    match step {
+        Step::Refresh { .. } => Step::Refresh { t },
+        Step::Release { .. } => Step::Release { t },
+        Step::Allocate { n, .. } => Step::Allocate { t, n },
+        _ => step,
+    }
+}
+
+/// The epoch of a slot that entered, else this one.
+#[inline(always)]
+pub(crate) fn epoch_told(reply: Result<Reply, Fault>, epoch: u64) -> u64
+    ensures { result ≡ epoch_told reply epoch }
+{
+    match reply {
+        Ok(Reply::Entered { epoch, .. }) => epoch,
+        _ => epoch,
+    }
+}

@@ -1,0 +1,42 @@
+//! A log for threads under a lock of its caller's, with no brand: a [`Log`], and a [`Pass`] for each thread.
+//!
+//! The log has the core, and one call at a time uses it: its caller keeps it under a lock. What threads share with no lock,
+//! the words of the frames and three words that the log's calls store, lies in one block that the log and its passes own
+//! together, so a pass outlives its log safely.
+//!
+//! # What is promised
+//!
+//! At whatever list of accepted steps the log stood, [`Log::step`] answers as the definitions do after that list, and
+//! the log then stands at the list with the step, where it was accepted. A call of a pass, [`Log::call`], is answered
+//! that the pass is a stranger, with the slot's stamp, or as the definitions do behind the list and what the pass saw
+//! without the lock; the pass then has what its slot has (`Calls`, in `specs/Calls.antt`).
+//!
+//! A store is judged by what the pass sees, and is one store of one word; so are the load and the two changes in place.
+//! A look brings the offsets that it loaded, and the next call of the pass enters it into the list.
+//!
+//! # What isn't
+//!
+//! No clause tells what a word has, nor that the log's calls store the three words, which are meant to tell passes that
+//! something is new. A look may so bring offsets that are older than those of the log; it never falls below what the
+//! pass saw, and one that brought an offset that the log never had would be refused.
+#![tactic(auto)]
+
+mod acquire;
+mod call;
+mod judge;
+mod known;
+mod log;
+mod open;
+mod pages;
+mod pass;
+mod shared;
+mod step;
+mod taken;
+mod unlocked;
+mod view;
+
+pub use log::Log;
+pub use pass::Pass;
+pub use shared::Shared;
+pub use taken::Taken;
+pub use view::News;

@@ -1,0 +1,38 @@
+ghost use Rattle.std.specs.Prelude.{◌≡◌, IfSome, []};
+ghost use Rattle.hl_log.specs.Logs.{StandsAt};
+
+use crate::log::Log;
+use crate::shared::Shared;
+use hl_core::Core;
+use hl_counts::CountTable;
+use hl_model::{Sizes, Tag, filled};
+use std::alloc::Global;
+use std::sync::Arc;
+
+impl Log {
+    /// A log at the empty list: epoch 1, no slot protected, no action, all offsets and words 0. The stamp tells its
+    /// passes from those of other logs, if none of these has one near it. None where memory was refused.
+    pub fn open(alloc: Global, sizes: Sizes, stamp: u64) -> Option<Log>
+        ensures { IfSome result (λ log. StandsAt log [] × (log.core.sizes ≡ sizes)
+            × (log.stamp ≡ stamp) × (log.last ≡ stamp)) }
+    {
+        let core = Core::open(alloc, sizes).ok()?;
+        let shared = Arc::new(alloc, Shared::open(alloc, sizes)?).ok()?;
+        let stamps = filled(alloc, sizes.slots(), 0).ok()?;
+        Some(Log {
+            core,
+            shared,
+            stamps,
+            stamp,
+            last: stamp,
+        })
+    }
+
+    /// Its core, for queries.
+    #[inline(always)]
+    pub fn core(&self) -> &Core<CountTable, Tag>
+        ensures { result.now ≡ self.now.core }
+    {
+        &self.core
+    }
+}

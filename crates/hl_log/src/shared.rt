@@ -1,0 +1,78 @@
+ghost use Rattle.std.specs.Prelude.{◌≡◌, ◌*◌, ◌<◌, length, IfSome};
+
+use crate::view::News;
+use hl_model::{Sizes, cell_of};
+use std::alloc::Global;
+use std::sync::atomic::AtomicU64;
+use std::sync::atomic::Ordering::SeqCst;
+
+/// What a log and its passes share with no lock: the words of the frames, and three words that the log's calls store and
+/// passes load.
+#[derive(Drop)]
+pub struct Shared {
+    cells: Vec<AtomicU64>,
+    pub(crate) read_only: AtomicU64,
+    pub(crate) head: AtomicU64,
+    pub(crate) ended: AtomicU64,
+    pub(crate) sizes: Sizes,
+    ghost fits: { length cells.items ≡ sizes.frames * sizes.page_size },
+}
+
+impl Shared {
+    /// All words are 0. None where memory was refused.
+    pub(crate) fn open(alloc: Global, sizes: Sizes) -> Option<Shared>
+        ensures { IfSome result (λ shared. shared.sizes ≡ sizes) }
+    {
+        let count = sizes.frames() * sizes.page_size();
+        let mut cells = Vec::new(alloc);
+        for _ in 0..count {
+            if cells.push(AtomicU64::new(0)).is_err() {
+                return None;
+            }
+        }
+        if cells.len() as u64 != count {
+            return None;
+        }
+        Some(Shared {
+            cells,
+            read_only: AtomicU64::new(0),
+            head: AtomicU64::new(0),
+            ended: AtomicU64::new(0),
+            sizes,
+        })
+    }
+
+    /// The word of an address.
+    #[inline(always)]
+    pub(crate) fn cell(&self, address: u64) -> &AtomicU64 {
+        &self.cells[cell_of(self.sizes, address) as usize]
+    }
+
+    /// Both offset words, and this epoch.
+    #[inline(always)]
+    pub(crate) fn offsets(&self, ended: u64) -> News {
+        News {
+            read_only: self.read_only.load(SeqCst),
+            head: self.head.load(SeqCst),
+            ended,
+        }
+    }
+
+    /// All three words.
+    #[inline(always)]
+    pub(crate) fn news(&self) -> News {
+        let offsets = self.offsets(0);
+        News {
+            ended: self.ended.load(SeqCst),
+            ..offsets
+        }
+    }
+
+    /// The word at a place of the frame of a page.
+    pub(crate) fn word(&self, page: u64, place: u64) -> &AtomicU64
+        requires { place < self.now.sizes.page_size }
+    {
+        let first = page % self.sizes.frames() * self.sizes.page_size();
+        &self.cells[(first + place) as usize]
+    }
+}

@@ -1,0 +1,52 @@
+//! The steps that no pass makes.
+ghost use Rattle.std.specs.Prelude.{◌≡◌, OnErr, IfOk};
+ghost use Rattle.hl_model.specs.declared.step.Step.TheVariants.{Take as TAKE};
+ghost use Rattle.hl_core.specs.Steps.{Made, CameOut, take_told};
+ghost use Rattle.hl_log.specs.Logs.{Moves, IsOwn, IsBeside};
+
+use crate::log::Log;
+use crate::shared::Shared;
+use hl_action::Firing;
+use hl_model::{Fault, Reply, Step, Tag};
+use std::sync::atomic::Ordering::SeqCst;
+
+impl Log {
+    /// Makes a step that is no slot's and not a page's. Where it moved an offset or ended an epoch, the words tell
+    /// passes of it.
+    ///
+    /// The faults of the step; a refused one changes nothing.
+    #[inline(always)]
+    pub fn step(&mut self, step: &Step) -> Result<Reply, Fault>
+        requires { IsOwn step.now }
+        ensures made { Moves self.old step.now self.new result }
+        ensures refused { OnErr result (self.new ≡ self.old) }
+    {
+        let reply = self.core.step(step)?;
+        tell(&self.shared, reply);
+        Ok(reply)
+    }
+
+    /// Takes the oldest pending action: its firing, and its tag where it is a job's.
+    ///
+    /// Faults: `Empty`, `NotReady`.
+    #[inline(always)]
+    pub fn take(&mut self) -> Result<(Firing, Option<Tag>), Fault>
+        ensures made { Made (λ t. t.0) self.old.core TAKE self.new.core (take_told result) }
+        ensures out { IfOk result (λ taken. CameOut (λ t. t.0) self.old.core self.new.core taken.0.ticket taken.1) }
+        ensures beside { IsBeside self.old self.new }
+        ensures refused { OnErr result (self.new ≡ self.old) }
+    {
+        self.core.take()
+    }
+}
+
+/// Stores what an answer told of an offset or of the epoch.
+#[inline(always)]
+fn tell(shared: &Shared, reply: Reply) {
+    match reply {
+        Reply::Raised(read_only) => shared.read_only.store(read_only, SeqCst),
+        Reply::Shifted(head) => shared.head.store(head, SeqCst),
+        Reply::Ticket(ended) | Reply::Bumped(ended) => shared.ended.store(ended, SeqCst),
+        _ => {}
+    }
+}

@@ -1,0 +1,100 @@
+//! What a pass does without the lock.
+ghost use Rattle.std.specs.Prelude.{◌≡◌, None, Some, MatchResult};
+ghost use Rattle.hl_model.specs.Replies.{unless_fault};
+ghost use Rattle.hl_log.specs.Passes.{with_look, with_news};
+ghost use Rattle.hl_log.specs.Views.{store_fault, load_fault, is_current};
+
+use crate::judge::{may_load, may_store};
+use crate::pass::Pass;
+use crate::shared::Shared;
+use crate::view::{is_current, raised};
+use hl_model::Fault;
+use std::sync::atomic::Ordering::SeqCst;
+
+impl Pass {
+    /// Stores a word of 64 bits at an address of the log; addresses count words.
+    ///
+    /// Faults: `Below` where the address is below the read-only offset that the pass sees, `Beyond` where it isn't below
+    /// the tail that it sees.
+    #[inline(always)]
+    pub fn store(&self, address: u64, word: u64) -> Result<(), Fault>
+        ensures { result ≡ unless_fault (store_fault self.now.view address) tt }
+    {
+        self.may_store(address)?;
+        let shared: &Shared = &self.shared;
+        shared.cell(address).store(word, SeqCst);
+        Ok(())
+    }
+
+    /// Adds to the word of an address in one step, modulo 2^64: what it found. Faults as those of a store.
+    #[inline(always)]
+    pub fn fetch_add(&self, address: u64, more: u64) -> Result<u64, Fault>
+        ensures { let met = store_fault self.now.view address
+            in MatchResult result (λ _. met ≡ None) (λ fault. met ≡ Some fault) }
+    {
+        self.may_store(address)?;
+        let shared: &Shared = &self.shared;
+        Ok(shared.cell(address).fetch_add(more, SeqCst))
+    }
+
+    /// Stores a word where this one stands, in one step: what it found, which is the word looked for where it stored.
+    /// Faults as those of a store.
+    #[inline(always)]
+    pub fn compare_exchange(&self, address: u64, current: u64, word: u64) -> Result<u64, Fault>
+        ensures { let met = store_fault self.now.view address
+            in MatchResult result (λ _. met ≡ None) (λ fault. met ≡ Some fault) }
+    {
+        self.may_store(address)?;
+        let shared: &Shared = &self.shared;
+        match shared.cell(address).compare_exchange(current, word, SeqCst, SeqCst) {
+            Ok(found) | Err(found) => Ok(found),
+        }
+    }
+
+    /// Loads the word of an address.
+    ///
+    /// Faults: `Evicted` where the address is below the head that the pass sees, `Beyond` where it isn't below the tail
+    /// that it sees.
+    #[inline(always)]
+    pub fn load(&self, address: u64) -> Result<u64, Fault>
+        ensures { let met = load_fault self.now.view address
+            in MatchResult result (λ _. met ≡ None) (λ fault. met ≡ Some fault) }
+    {
+        may_load(self.view, address)?;
+        let shared: &Shared = &self.shared;
+        Ok(shared.cell(address).load(SeqCst))
+    }
+
+    /// Loads both offset words: each of the two offsets that the pass sees becomes the greater of its own and the loaded
+    /// one. The next call under the lock enters the look.
+    #[inline(always)]
+    pub fn look(&mut self)
+        ensures { self.new ≡ with_look self.new.news self.old }
+    {
+        let shared: &Shared = &self.shared;
+        let news = shared.offsets(self.news.ended);
+        self.view = raised(self.view, news);
+        self.news = news;
+    }
+
+    /// Loads all three words: whether none is new to the pass. Neither offset is then above the one that it sees, and its
+    /// epoch has not ended.
+    #[inline(always)]
+    pub fn keeps_up(&mut self) -> bool
+        ensures current { result ≡ is_current self.old.view self.old.epoch self.new.news }
+        ensures pass { self.new ≡ with_news self.new.news self.old }
+    {
+        let shared: &Shared = &self.shared;
+        let news = shared.news();
+        self.news = news;
+        is_current(self.view, self.epoch, news)
+    }
+
+    /// Whether it may store at an address.
+    #[inline(always)]
+    fn may_store(&self, address: u64) -> Result<(), Fault>
+        ensures { result ≡ unless_fault (store_fault self.now.view address) tt }
+    {
+        may_store(self.view, address)
+    }
+}
