@@ -55,6 +55,7 @@ enum class Fault : Word {
     NotInFlight = HL_NOT_IN_FLIGHT,
     NoneClosed = HL_NONE_CLOSED,
     NotCleaning = HL_NOT_CLEANING,
+    Stranger = HL_STRANGER,
     OutOfMemory = HL_OUT_OF_MEMORY,
     WindowFull = HL_WINDOW_FULL,
     OutOfRange = HL_OUT_OF_RANGE,
@@ -87,6 +88,7 @@ constexpr const char *name(Fault fault) noexcept {
     case Fault::NotInFlight: return "NotInFlight";
     case Fault::NoneClosed: return "NoneClosed";
     case Fault::NotCleaning: return "NotCleaning";
+    case Fault::Stranger: return "Stranger";
     case Fault::OutOfMemory: return "OutOfMemory";
     case Fault::WindowFull: return "WindowFull";
     case Fault::OutOfRange: return "OutOfRange";

@@ -53,7 +53,7 @@ typedef struct hl_page {
  * log is open. ---- */
 
 /* Opens a log at the empty list, all words 0: page_size words a page, a power of two from 4 to 4,096; 2 to 256 frames; 1
- * to 64 slots; 1 to 64 places in the drain list; a stamp. 0 where it did. HL_NO_CORE where one is open already, which
+ * to 64 slots; 1 to 64 places in the drain list; a stamp. 0 where it did. HL_IS_OPEN where one is open already, which
  * stays; HL_OUT_OF_RANGE where a size is; HL_OUT_OF_MEMORY where malloc refused. */
 uint64_t hl_log_open(
     hl_log *log, uint64_t page_size, uint64_t frames, uint64_t slots, uint64_t drain_places, uint64_t stamp);
