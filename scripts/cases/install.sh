@@ -119,8 +119,29 @@ one_version() {
     grep -q "^## $version\$" "$top/CHANGELOG.md"
 }
 
+# Packs an archive twice, unpacks it at another place, and answers a script and builds a program from there.
+packs() {
+    local flags unpacked="$room/unpacked/hl-$(cat "$top/VERSION")"
+    mkdir -p "$room/packed" "$room/unpacked"
+    "$top/hl" install --archive "$room/packed/once.tar.gz" && "$top/hl" install --archive "$room/packed/twice.tar.gz" &&
+        cmp "$room/packed/once.tar.gz" "$room/packed/twice.tar.gz" &&
+        (cd "$room/packed" && sha256sum --check --quiet once.tar.gz.sha256) &&
+        tar -C "$room/unpacked" -xzf "$room/packed/once.tar.gz" || return
+    alone "$unpacked/bin/hl_tool" run < "$top/examples/first_action.script" | cmp - "$top/examples/first_action.expected" ||
+        return
+    # The flags of pkg-config are apart by blanks.
+    flags="$(PKG_CONFIG_PATH="$unpacked/lib/pkgconfig" pkg-config --cflags --libs hl)" || return
+    alone cc -std=c11 "$unpacked/share/hl/examples/append_log.c" $flags -pthread -o "$room/app" &&
+        alone "$room/app" "$room/unpacked.log" > "$room/app.text" || return
+    alone cc -std=c11 "$unpacked/share/hl/examples/append_log.c" -I"$unpacked/include" -L"$unpacked/lib/shared" -lhl -pthread \
+        -o "$room/app" && LD_LIBRARY_PATH="$unpacked/lib/shared" "$room/app" "$room/shared.log" > "$room/app.text"
+}
+
 if has_all "what ./hl install lays out" ld objcopy nm ar rt; then
     check "install" installs
+    if path=/usr/bin:/bin has_all "the archive of it" cc pkg-config tar gzip sha256sum; then
+        check "an archive of what is installed" packs
+    fi
     check "one version" one_version
     if path=/usr/bin:/bin has_all "programs in C" cc pkg-config; then
         check "a script in C" answers_in_c
