@@ -13,6 +13,7 @@ use Rattle.hl_model.specs.declared.fault.Fault.TheVariants.{OutOfMemory}
 use Rattle.hl_words.specs.States.{RiderState, new_rider, new_riders}
 use Rattle.hl_words.proofs.Dealing.{new_long}
 use Rattle.hl_domain.specs.Domains.{DomainState}
+use Rattle.hl_crew.specs.Sweeps.{StoresToClean, StoreToClean}
 use Rattle.hl.specs.Sessions.{SessionState}
 use Rattle.hl.specs.Closings.{rider_at, Tells, AreReturned, AllReturned, AreAllReturned}
 
@@ -42,6 +43,38 @@ new_at (suc n) i none within = by_test (new_at n i none) (nat_lt i n) refl
         let same : i ≡ n = omega (arith, ltb-false i n e, within) in
         let first : i - n ≡ 0 = omega (arith, same) in
         get_or-append_right (new_riders n) (new_rider n ∷ []) n i none (new_long n) (omega (arith, same)) ∙ ap (λ k. slice_index_or (new_rider n ∷ []) k none) first ∙ ap new_rider (sym same)
+
+-- a new rider stored nothing
+new_stores : (name : ℕ) → StoresToClean (new_rider name)
+new_stores name has = absurd (let contrary : false ≡ true = has in cc)
+
+-- what holds of two rows holds of the one behind the other, and of the second alone
+both_store : (xs ys : List RiderState) → StoreToClean xs → StoreToClean ys → StoreToClean (xs ++ ys)
+both_store [] ys all others = others
+both_store (x ∷ xs) ys all others = (all.0, both_store xs ys all.1 others)
+
+last_store : (xs ys : List RiderState) → StoreToClean (xs ++ ys) → StoreToClean ys
+last_store [] ys all = all
+last_store (x ∷ xs) ys all = last_store xs ys all.1
+
+news_store : (n : ℕ) → StoreToClean (new_riders n)
+news_store zero = tt
+news_store (suc n) = both_store (new_riders n) (new_rider n ∷ []) (news_store n) (new_stores n, tt)
+
+-- the riders of a crew that were taken out of new ones store to clean
+pub crew_given : (n : ℕ) (all olds crew : List RiderState) → all ≡ new_riders n → all ≡ olds ++ crew → StoreToClean crew
+crew_given n all olds crew new parts = last_store olds crew (subst StoreToClean (sym new ∙ parts) (news_store n))
+
+-- the rider at a place stores to clean, where all do
+stores_at : (riders : List RiderState) (number name : ℕ) → StoreToClean riders → StoresToClean (slice_index_or riders number (new_rider name))
+stores_at [] number name all = new_stores name
+stores_at (r ∷ riders) zero name all = all.0
+stores_at (r ∷ riders) (suc number) name all = stores_at riders number name all.1
+
+-- and so at a place behind others
+stores_behind : (news back : List RiderState) (number : ℕ) → length news ≤ number → StoreToClean back → StoresToClean (rider_at (news ++ back) number)
+stores_behind news back number behind all =
+    subst StoresToClean (sym (get_or-append_right news back (length news) number (new_rider number) refl behind)) (stores_at back (number - length news) number all)
 
 -- of threads of one log, of whose sessions so much holds
 module _ {Out : Type 0} (F : Type 0) (log : DomainState) (Returns : ℕ → SessionState → SessionState → Out → Type 0) where
@@ -74,9 +107,9 @@ module _ {Out : Type 0} (F : Type 0) (log : DomainState) (Returns : ℕ → Sess
 
   -- results and riders of threads whose riders were new, with a crew's riders behind
   pub with_crew : (all olds crew : List RiderState) (outs : List (Result Out Fault)) (news back : List RiderState)
-      → all ≡ new_riders log.riders → all ≡ olds ++ crew → length outs ≡ length olds → length news ≡ length olds → length crew ≡ 4 → length back ≡ 4
+      → all ≡ new_riders log.riders → all ≡ olds ++ crew → length outs ≡ length olds → length news ≡ length olds → length crew ≡ 4 → length back ≡ 4 → StoreToClean back
       → AreReturned F log Returns (rider_at olds) outs news → AllReturned F log Returns outs (news ++ back)
-  with_crew all olds crew outs news back new parts long many four others each =
+  with_crew all olds crew outs news back new parts long many four others stores each =
       let count : length olds + 4 ≡ log.riders = omega (arith, ap length parts, length-append olds crew, four, ap length new, new_long log.riders) in
       record {
         back = length-append news back ∙ omega (arith, count, others, many);
@@ -86,6 +119,7 @@ module _ {Out : Type 0} (F : Type 0) (log : DomainState) (Returns : ℕ → Sess
             let old : rider_at olds number ≡ new_rider number = sym (get_or_append_left olds crew (new_rider number) number here) ∙ ap (λ l. rider_at l number) (sym parts ∙ new) ∙ new_at log.riders number (new_rider number) (omega (arith, here, count)) in
             let now : rider_at news number ≡ rider_at (news ++ back) number = sym (get_or_append_left news back (new_rider number) number (omega (arith, here, many))) in
             subst₂ (λ (r s : RiderState). Tells F log (Returns number) r s (slice_index_or outs number other)) old now (each number other within);
+        crew = λ number behind. stores_behind news back number (omega (arith, behind, long, many)) stores;
       }
 
 -- what all threads returned, where the crew served, or why it was refused

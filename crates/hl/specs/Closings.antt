@@ -1,11 +1,12 @@
 -- What is left of a log that was opened and closed by one call.
-use Rattle.std.specs.Prelude.{◌≡◌, ◌≢◌, ◌<◌, ◌+◌, ◌⊎◌, ℕ, Result, Ok, Err, MatchResult, List, length, slice_index_or, Vec}
+use Rattle.std.specs.Prelude.{◌≡◌, ◌≢◌, ◌<◌, ◌≤◌, ◌+◌, ◌⊎◌, ℕ, Result, Ok, Err, MatchResult, List, length, slice_index_or, Vec}
 use Rattle.std.specs.declared.alloc.Global.{Global}
 use Rattle.hl_model.specs.declared.fault.Fault.{Fault}
 use Rattle.hl_model.specs.declared.fault.Fault.TheVariants.{OutOfMemory, Stranger}
 use Rattle.hl_model.specs.Sizes.{Sizes}
 use Rattle.hl_words.specs.States.{RiderState, new_rider}
 use Rattle.hl_domain.specs.Domains.{DomainState, IsEnding}
+use Rattle.hl_crew.specs.Sweeps.{StoresToClean}
 use Rattle.hl.specs.declared.open.Closed.{Closed}
 use Rattle.hl.specs.declared.opening.Opening.{Opening}
 use Rattle.hl.specs.declared.refused.Refused.{Refused}
@@ -64,13 +65,15 @@ AreReturned {Out} F log Returns olds outs riders =
     → Tells F log (Returns number) (olds number) (rider_at riders number) (slice_index_or outs number other)
 
 -- a thread for each rider of the log, but the crew's four, has such a result, and its rider was the new one of its
--- number; all riders came back, those of the threads in their order before the crew's
+-- number; all riders came back, those of the threads in their order before the crew's, of which each stored into cells
+-- only if a call of its own took a page to clean
 pub record AllReturned {Out : Type 0} (F : Type 0) (log : DomainState)
     (Returns : ℕ → SessionState → SessionState → Out → Type 0)
     (outs : List (Result Out Fault)) (riders : List RiderState) : Type 0 where
   pub back : length riders ≡ log.riders
   pub threads : length outs + 4 ≡ log.riders
   pub each : AreReturned F log Returns new_rider outs riders
+  pub crew : (number : ℕ) → length outs ≤ number → StoresToClean (rider_at riders number)
 
 -- so it is, or memory or a thread was refused once the threads had begun
 abbrev pub AreAllReturned : {Out : Type 0} → (F : Type 0) → DomainState

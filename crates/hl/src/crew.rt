@@ -2,6 +2,7 @@
 ghost use Rattle.std.specs.Prelude.{◌≡◌, ◌+◌, ◌<◌, ◌++◌, [], ◌∷◌, true, false, Ok, Err, IfOk, IfErr, IfNone, IfSome, MatchResult, length};
 ghost use Rattle.hl_model.specs.declared.fault.Fault.TheVariants.{OutOfMemory, Size};
 ghost use Rattle.hl_crew.specs.Ordered.{duty_orders};
+ghost use Rattle.hl_crew.specs.Sweeps.{StoreToClean};
 ghost use Rattle.hl.specs.Openings.{was_refused};
 ghost use Rattle.hl.specs.Crews.{can_serve, crew_of, riders_of};
 
@@ -128,6 +129,7 @@ pub struct CrewReport<L: Realm, W> {
 impl<L: Realm, W> Crew<L, W> {
     /// Serves a log until its stop is given: a flusher, two writers and a cleaner, each in a thread
     /// of its own. [`CrewReport::of`] gives the crew back out of what this returns, which also tells the duty's orders.
+    /// Of what the crew stored the same is known as at [`serve`](fn@serve).
     ///
     /// Faults, with the crew handed back: `Size` if the duty was checked for another number of
     /// frames; `OutOfMemory` if memory or a thread was refused. What was done until then stays
@@ -153,6 +155,7 @@ impl<L: Realm, W> Crew<L, W> {
         ensures memory { can_serve log.now.sizes duty ≡ true
             → IfErr result (λ refused. refused.fault ≡ OutOfMemory) }
         ensures orders { IfOk result (λ end. end.orders ≡ duty_orders duty) }
+        ensures stores { StoreToClean (riders_of self.riders) → StoreToClean (crew_of result) }
     {
         if !is_for(duty, log.params()) {
             return Err(Refused {

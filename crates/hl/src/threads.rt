@@ -3,6 +3,7 @@ ghost use Rattle.std.specs.Prelude.{◌≡◌, ◌++◌, ◌≤◌, ℕ, List, m
 ghost use Rattle.hl_model.specs.declared.fault.Fault.TheVariants.{OutOfMemory, Size};
 ghost use Rattle.hl_words.specs.States.{IsSeedOf, new_riders};
 ghost use Rattle.hl_crew.specs.Ordered.{duty_orders};
+ghost use Rattle.hl_crew.specs.Sweeps.{StoreToClean};
 ghost use Rattle.hl.specs.Openings.{of_sizes, opened_as, IsInRange};
 ghost use Rattle.hl.specs.Sessions.{SessionState};
 ghost use Rattle.hl.specs.Crews.{can_run, can_serve, riders_of};
@@ -69,7 +70,8 @@ type Worked<L, T> = (Result<T, Fault>, Rider<L>);
 /// stand in their order before the crew's four. Each place holds what that thread returned, and then its rider, new at
 /// first, entered a session of this log, was in it as `Work::returns` says, and left it. Or it holds the fault by which
 /// the rider was refused its session, or the thread, once it had run, couldn't leave its own. So what a thread's calls
-/// met and did is tied to the one list of the ending.
+/// met and did is tied to the one list of the ending. Of the crew's riders none stored into a cell but one whose calls took
+/// a page to clean: where no page was closed, the threads alone changed words.
 ///
 /// If the crew's own thread can't be made, the riders work without a crew, and it serves after them: a rider that waits
 /// for a frame then waits for good.
@@ -176,7 +178,8 @@ fn run_all<L: Realm + Send + Sync, R: Threads + Wait + Sync, P: Work<R> + Sync>(
         rt,
         || -> (CrewRiders<L>, Result<Served, Fault>)
             requires { can_serve log.now.sizes duty ≡ true }
-            ensures { IfErr result.1 (λ fault. fault ≡ OutOfMemory) }
+            ensures memory { IfErr result.1 (λ fault. fault ≡ OutOfMemory) }
+            ensures stores { StoreToClean (riders_of crew) → StoreToClean (riders_of result.0) }
         { serve_behind(rt, alloc, log, crew, duty, work, &stop) },
         || -> Result<Vec<Worked<L, P::Out>>, AllocError>
             ensures { IfOk result (λ worked. (length worked.items ≡ length riders.items)
@@ -309,8 +312,9 @@ fn serve_behind<L: Realm + Send + Sync, R: Threads + Wait + Sync, P: Work<R> + S
     stop: &Stop,
 ) -> (CrewRiders<L>, Result<Served, Fault>)
     requires { can_serve log.now.sizes duty ≡ true }
-    ensures { MatchResult result.1
+    ensures served { MatchResult result.1
         (λ served. served.orders ≡ duty_orders duty) (λ fault. fault ≡ OutOfMemory) }
+    ensures stores { StoreToClean (riders_of riders) → StoreToClean (riders_of result.0) }
 {
     let first = Sink::new(rt, work);
     let second = Sink::new(rt, work);

@@ -5,5 +5,6 @@ pub mod GoesLaws
 pub mod TryLaws
 pub mod FlushLaws
 pub mod RunLaws
+pub mod SweepLaws
 pub mod OverLaws
 pub mod WaitLaws

@@ -8,6 +8,7 @@ pub mod Ordered
 pub mod Overs
 pub mod Pouches
 pub mod Runs
+pub mod Sweeps
 pub mod Tries
 pub mod Turns
 pub mod Waits

@@ -4,8 +4,10 @@ ghost use Rattle.hl_crew.specs.Looks.{LooksOn};
 ghost use Rattle.hl_crew.specs.Tries.{EndsClean, Tries};
 ghost use Rattle.hl_crew.specs.Turns.{Looks, Finds, Cleans, Frees};
 
+use crate::given::Given;
 use crate::messages::Over;
 use crate::orders::{ATTEMPTS, make_room};
+use crate::seats::Seat;
 use crate::shared::Shared;
 use crate::term::Term;
 use hl_action::{Promise, Task};
@@ -13,24 +15,23 @@ use hl_domain::{Broom, Domain};
 use hl_epoch::Epochs;
 use hl_model::Fault;
 use hl_words::{Realm, Rider};
-use std::sync::Wait;
 use std::sync::atomic::Ordering;
+use std::sync::{Mutex, Wait};
 
 /// What the cleaner works on.
 #[derive(Drop)]
-pub(crate) struct Cleaner<'x, R, E: Epochs, F: Task, P: Promise, L: Realm, W> {
+pub(crate) struct Cleaner<'x, R, E: Epochs, F: Task, P: Promise, L: Realm> {
     pub(crate) rt: &'x R,
     pub(crate) domain: &'x Domain<E, F, P, L>,
-    pub(crate) shared: &'x Shared<L, W>,
+    pub(crate) shared: &'x Shared,
 }
 
-impl<R: Wait, E: Epochs + Drop, F: Task, P: Promise, L: Realm, W> Cleaner<'_, R, E, F, P, L, W> {
+impl<R: Wait, E: Epochs + Drop, F: Task, P: Promise, L: Realm> Cleaner<'_, R, E, F, P, L> {
     /// Cleans closed pages until its turns are over. If none is closed, it sleeps until the flusher
     /// has made another turn, unless the flusher has ended.
-    pub(crate) fn run<T: Term<R>>(&self, term: &T) {
-        let mut rider = self.shared.cleaner.lock(self.rt);
-        let rider = &mut *rider;
-        let _ = self.look_on(rider, term);
+    pub(crate) fn run<T: Term<R>, K: Given>(&self, own: &Mutex<Seat<Rider<L>, K>>, term: &T) {
+        let mut seat = own.lock(self.rt);
+        let _ = self.look_on(&mut seat.own, term);
     }
 
     // Looks for a closed page again and again, as long as the term says, or until a look fails.

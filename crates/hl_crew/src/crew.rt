@@ -1,13 +1,16 @@
 ghost use Rattle.std.specs.Prelude.{◌≡◌, IfOk, IfErr};
 ghost use Rattle.hl_crew.specs.Lags.{IsLag};
 ghost use Rattle.hl_crew.specs.Ordered.{duty_orders, run_orders};
+ghost use Rattle.hl_crew.specs.Sweeps.{StoreToClean, riders_in};
 ghost use Rattle.hl_model.specs.declared.fault.Fault.TheVariants.{OutOfMemory};
 
 use crate::duty::Duty;
 use crate::gate::Gate;
+use crate::given::Given;
 use crate::hands::{CrewEnd, Hands};
 use crate::messages::Channels;
 use crate::orders::Orders;
+use crate::seats::Seats;
 use crate::shared::Shared;
 use crate::stop::Stop;
 use crate::term::{Term, Turns};
@@ -20,6 +23,7 @@ use hl_image::PageWriter;
 use hl_model::{Fault, Sizes};
 use hl_words::{Realm, Rider};
 use std::alloc::Global;
+use std::marker::Brand;
 use std::sync::Wait;
 use std::thread::Threads;
 
@@ -31,6 +35,9 @@ use std::thread::Threads;
 ///
 /// With as many resident pages as frames, the head never passes the page whose frame the page above
 /// the tail needs, and no frame comes free: [`Duty`] excludes that.
+///
+/// If no rider had stored into a cell, or only one that had taken a page to clean, so it is with the
+/// riders that come back: where the crew took no page to clean, they stored nothing.
 ///
 /// `OutOfMemory` if memory or a thread was refused; then riders and page writers are handed back.
 /// Steps that were made until then stay in the journal.
@@ -57,17 +64,20 @@ where
     G: Gate + Sync,
     requires { IsLag domain.now.sizes.frames mutable resident }
     ensures orders { IfOk result (λ end. end.orders ≡ run_orders mutable resident cut) }
+    ensures stores { StoreToClean riders → (IfOk result (λ end. StoreToClean end.riders)
+        × IfErr result (λ back. StoreToClean back.1)) }
     ensures err { IfErr result (λ back. back.0 ≡ OutOfMemory) }
 {
     let orders = Orders::of_run(mutable, resident, cut);
     let term = Turns { most: turns };
     let hands = Hands::of(riders, first, second);
-    run_until(rt, alloc, domain, hands, gate, orders, &term)
+    run_until::<R, E, F, P, L, W, G, Turns, Brand>(rt, alloc, domain, hands, gate, orders, &term)
 }
 
 /// Runs a crew on a domain, as [`run_crew`] does, until its stop is given: it sleeps while there is
 /// nothing to do, and ends once nothing is in flight. If the journal is full, it cuts it where the
-/// duty lets it; else a full journal ends it before its stop. The end tells the duty's orders.
+/// duty lets it; else a full journal ends it before its stop. The end tells the duty's orders. Of
+/// what the riders stored the same holds.
 ///
 /// A thread that has entered a page may wake it by [`Stop::ring`]; a crew that nobody wakes looks at least
 /// every 160 milliseconds, and sooner after it had something to do.
@@ -95,14 +105,17 @@ where
     G: Gate + Sync,
     requires { duty.frames ≡ domain.now.sizes.frames }
     ensures orders { IfOk result (λ end. end.orders ≡ duty_orders duty) }
+    ensures stores { StoreToClean riders → (IfOk result (λ end. StoreToClean end.riders)
+        × IfErr result (λ back. StoreToClean back.1)) }
     ensures err { IfErr result (λ back. back.0 ≡ OutOfMemory) }
 {
     let hands = Hands::of(riders, first, second);
-    run_until(rt, alloc, domain, hands, gate, Orders::of(duty), stop)
+    let orders = Orders::of(duty);
+    run_until::<R, E, F, P, L, W, G, Stop, Brand>(rt, alloc, domain, hands, gate, orders, stop)
 }
 
 // Runs a crew by these orders, as long as its term says.
-fn run_until<R, E, F, P, L, W, G, T>(
+fn run_until<R, E, F, P, L, W, G, T, K>(
     rt: &R,
     alloc: Global,
     domain: &Domain<E, F, P, L>,
@@ -120,16 +133,21 @@ where
     W: PageWriter + Send,
     G: Gate + Sync,
     T: Term<R> + Sync,
-    requires { IsLag domain.now.sizes.frames orders.mutable orders.resident }
+    K: Given + Send,
+    requires lag { IsLag domain.now.sizes.frames orders.mutable orders.resident }
+    requires given { K.riders ≡ riders_in hands }
     ensures orders { IfOk result (λ end. end.orders ≡ orders) }
+    ensures stores { StoreToClean K.riders → (IfOk result (λ end. StoreToClean end.riders)
+        × IfErr result (λ back. StoreToClean back.1)) }
     ensures err { IfErr result (λ back. back.0 ≡ OutOfMemory) }
 {
     let Ok((channels, first, second)) = open_rows(alloc, domain.params()) else {
         return hands.hand_back(None);
     };
-    let shared = Shared::of(orders, channels, hands);
-    let whole = run_threads(rt, domain, gate, &shared, first, second, term);
-    shared.end().hand_back(whole)
+    let shared = Shared::of(orders, channels);
+    let seats = Seats::<L, W, K>::of(hands);
+    let whole = run_threads(rt, domain, gate, &shared, &seats, first, second, term);
+    seats.end().hand_back(whole)
 }
 
 // All memory that a crew takes itself: the channels, and for each writer its buffers.

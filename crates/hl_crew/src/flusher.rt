@@ -7,16 +7,18 @@ ghost use Rattle.hl_crew.specs.Pouches.{load_count};
 ghost use Rattle.hl_crew.specs.Runs.{MakesTurn, MakesOne, MakesTurns, MakesLast, MakesAll};
 
 use crate::counts::Counts;
+use crate::given::Given;
 use crate::messages::Over;
 use crate::orders::Cuts;
 use crate::pouch::Pouch;
+use crate::seats::{HasRider, Seat};
 use crate::shared::Shared;
 use crate::term::Term;
 use hl_action::{Promise, Task};
 use hl_domain::Domain;
 use hl_epoch::Epochs;
 use hl_words::{Realm, Rider};
-use std::sync::Wait;
+use std::sync::{Mutex, Wait};
 
 mod acknowledgements;
 mod actions;
@@ -25,10 +27,10 @@ mod pages;
 
 /// What the flusher works on.
 #[derive(Drop)]
-pub(crate) struct Flusher<'x, R, E: Epochs, F: Task, P: Promise, L: Realm, W> {
+pub(crate) struct Flusher<'x, R, E: Epochs, F: Task, P: Promise, L: Realm> {
     pub(crate) rt: &'x R,
     pub(crate) domain: &'x Domain<E, F, P, L>,
-    pub(crate) shared: &'x Shared<L, W>,
+    pub(crate) shared: &'x Shared,
 }
 
 /// What the flusher has of its own.
@@ -37,15 +39,18 @@ pub(crate) struct FlusherState<L: Realm> {
     pub(crate) counts: Counts,
 }
 
-impl<R: Wait, E: Epochs + Drop, F: Task, P: Promise, L: Realm, W> Flusher<'_, R, E, F, P, L, W> {
+impl<L: Realm> HasRider for FlusherState<L> {
+    ghost rider_of = { λ own. own.rider };
+}
+
+impl<R: Wait, E: Epochs + Drop, F: Task, P: Promise, L: Realm> Flusher<'_, R, E, F, P, L> {
     /// Makes its turns until they are over, and then those that leave nothing to do. After each it wakes the cleaner.
-    pub(crate) fn run<T: Term<R>>(&self, term: &T)
+    pub(crate) fn run<T: Term<R>, K: Given>(&self, own: &Mutex<Seat<FlusherState<L>, K>>, term: &T)
         requires { let orders = self.now.shared.now.orders
             in IsLag self.now.domain.now.sizes.frames orders.mutable orders.resident }
     {
-        let mut own = self.shared.flusher.lock(self.rt);
-        let own = &mut *own;
-        let _ = self.make_all_turns(own, term);
+        let mut seat = own.lock(self.rt);
+        let _ = self.make_all_turns(&mut seat.own, term);
     }
 
     // Makes turns until they are over, and then the last ones, unless one of the former has failed.

@@ -46,7 +46,9 @@
 //!
 //! Of a crew as a whole: that riders and page writers come back is in its types. That no refusal is
 //! other than `OutOfMemory` is a clause, and so is what all its threads ran by, which
-//! [`CrewEnd::orders`] tells. Inside, of each function that does a step: what it made under the
+//! [`CrewEnd::orders`] tells. So is that a rider that comes back stored into cells only if a call of
+//! its own took a page to clean, where that held of all riders before: a crew that took no page to
+//! clean changed no word. Inside, of each function that does a step: what it made under the
 //! domain's lock, in what order, and what it counted. A flusher's turn keeps the lag that was
 //! ordered, by steps in their order up to the first that is refused, and ends if the journal is
 //! full; if its actions end well, it ran each that it took and answered it done, up to four; it
@@ -68,7 +70,7 @@
 //! | Module | What it has |
 //! |---|---|
 //! | `crew`, `threads`, `whole`, `shared` | the calls; the threads; that all were made; what they share |
-//! | `hands` | what each thread has of its own; what comes back |
+//! | `hands`, `seats`, `given` | what each thread has of its own; its lock; what comes back, and what of it is known |
 //! | `duty`, `stop` | what a crew that serves is told; what ends it |
 //! | `orders`, `term` | what all its threads run by; for how long |
 //! | `flusher`, and in it `lag`, `actions`, `pages`, `acknowledgements` | the flusher's turn, a part each |
@@ -83,10 +85,12 @@ mod crew;
 mod duty;
 mod flusher;
 mod gate;
+mod given;
 mod hands;
 mod messages;
 mod orders;
 mod pouch;
+mod seats;
 mod shared;
 mod stop;
 mod term;

@@ -92,10 +92,10 @@ impl Orders {
 }
 
 /// Whether what met this fault is to be tried again: the journal was full, and was cut, as the crew's orders say.
-pub(crate) fn make_room<R: Wait, E: Epochs + Drop, F: Task, P: Promise, L: Realm, W>(
+pub(crate) fn make_room<R: Wait, E: Epochs + Drop, F: Task, P: Promise, L: Realm>(
     rt: &R,
     domain: &Domain<E, F, P, L>,
-    shared: &Shared<L, W>,
+    shared: &Shared,
     rider: &mut Rider<L>,
     fault: &Fault,
 ) -> bool

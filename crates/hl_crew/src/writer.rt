@@ -1,8 +1,11 @@
 ghost use Rattle.std.specs.Prelude.{◌≡◌, true, false};
+ghost use Rattle.hl_crew.specs.Sweeps.{StoresNoMore};
 ghost use Rattle.hl_crew.specs.Writes.{IsWritten, IsNotWritten};
 
 use crate::gate::Gate;
+use crate::given::Given;
 use crate::messages::{Acknowledgement, Channels, Message};
+use crate::seats::{HasRider, Seat};
 use hl_action::{Promise, Task};
 use hl_domain::{Domain, PageJob};
 use hl_epoch::Epochs;
@@ -35,6 +38,10 @@ pub(crate) struct WriterState<L: Realm, W> {
     pub(crate) pages: W,
 }
 
+impl<L: Realm, W> HasRider for WriterState<L, W> {
+    ghost rider_of = { λ own. own.rider };
+}
+
 impl<R, E, F, P, L, G> Writer<'_, R, E, F, P, L, G>
 where
     R: Wait,
@@ -45,16 +52,27 @@ where
     G: Gate,
 {
     /// Writes the pages that are sent, and acknowledges each, until it is told to stop or a channel fails.
-    pub(crate) fn run<W: PageWriter>(&self, own: &Mutex<WriterState<L, W>>, mut buffers: Buffers)
+    pub(crate) fn run<W: PageWriter, K: Given>(
+        &self,
+        own: &Mutex<Seat<WriterState<L, W>, K>>,
+        mut buffers: Buffers,
+    )
         requires { buffers ≡ self.now.domain.now.sizes.page_size }
     {
-        let mut own = own.lock(self.rt);
-        let own = &mut *own;
+        let mut seat = own.lock(self.rt);
+        self.write_on(&mut seat.own, &mut buffers);
+    }
+
+    // Writes page after page, and acknowledges each. Its rider stores nothing.
+    fn write_on<W: PageWriter>(&self, own: &mut WriterState<L, W>, buffers: &mut Buffers)
+        requires { buffers.old ≡ self.now.domain.now.sizes.page_size }
+        ensures { StoresNoMore own.old.rider own.new.rider }
+    {
         for _ in self.rt.forever() {
             let Ok(Message::Write(job)) = self.channels.jobs_sent.recv(self.rt) else {
                 return;
             };
-            let told = self.acknowledge(own, &mut buffers, job);
+            let told = self.acknowledge(own, buffers, job);
             if self.channels.acknowledgements.send(self.rt, told).is_err() {
                 return;
             }

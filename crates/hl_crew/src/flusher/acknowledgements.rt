@@ -16,7 +16,7 @@ use hl_model::Fault;
 use hl_words::{Realm, Rider};
 use std::sync::Wait;
 
-impl<R: Wait, E: Epochs + Drop, F: Task, P: Promise, L: Realm, W> Flusher<'_, R, E, F, P, L, W> {
+impl<R: Wait, E: Epochs + Drop, F: Task, P: Promise, L: Realm> Flusher<'_, R, E, F, P, L> {
     /// Receives this many acknowledgements, and answers each through the pouch. One whose page
     /// isn't there is a stranger.
     pub(crate) fn answer_acknowledged(

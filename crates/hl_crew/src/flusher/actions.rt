@@ -16,7 +16,7 @@ use std::sync::Wait;
 /// How many actions are taken in a turn.
 const ACTIONS: u64 = 4;
 
-impl<R: Wait, E: Epochs + Drop, F: Task, P: Promise, L: Realm, W> Flusher<'_, R, E, F, P, L, W> {
+impl<R: Wait, E: Epochs + Drop, F: Task, P: Promise, L: Realm> Flusher<'_, R, E, F, P, L> {
     /// Takes at most four actions, one after another, runs each, and answers it done.
     pub(crate) fn run_actions(&self, rider: &mut Rider<L>) -> Result<(), Over>
         ensures { UpTo (RunsAction F self.now.domain.now self.now.shared.now.orders.cuts) 4 result

@@ -14,7 +14,7 @@ use hl_model::{Fault, Sizes, Snapshot, Step};
 use hl_words::{Realm, Rider};
 use std::sync::Wait;
 
-impl<R: Wait, E: Epochs + Drop, F: Task, P: Promise, L: Realm, W> Flusher<'_, R, E, F, P, L, W> {
+impl<R: Wait, E: Epochs + Drop, F: Task, P: Promise, L: Realm> Flusher<'_, R, E, F, P, L> {
     /// If no action waits or is taken, makes the lag's steps, up to the first that is refused.
     ///
     /// With as many resident pages as frames, the head never passes page N - F, N being the number

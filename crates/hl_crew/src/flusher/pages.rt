@@ -15,7 +15,7 @@ use std::sync::Wait;
 /// How many pages are sent in a turn, as many as a pouch holds.
 const PAGES: u64 = 4;
 
-impl<R: Wait, E: Epochs + Drop, F: Task, P: Promise, L: Realm, W> Flusher<'_, R, E, F, P, L, W> {
+impl<R: Wait, E: Epochs + Drop, F: Task, P: Promise, L: Realm> Flusher<'_, R, E, F, P, L> {
     /// Takes at most four pages to flush, puts each into the pouch, and sends it to the writers;
     /// counts those sent. If all is well, these are the pages of the pouch.
     pub(crate) fn send_pages(

@@ -1,4 +1,4 @@
-use Rattle.std.proofs.Common.{true, false, ap, sym, ◌∙◌, subst}
+use Rattle.std.proofs.Common.{true, ap, sym, ◌∙◌, subst}
 use Rattle.std.specs.Prelude.{nat_lt}
 use Rattle.hl_words.specs.States.{RiderState}
 use Rattle.hl_crew.specs.declared.orders.Orders.{Orders}

@@ -1,0 +1,6 @@
+use Rattle.std.proofs.Common.{rules}
+use Rattle.hl_crew.proofs.threads.run_threads.Goals as goal
+
+-- `search` finds these only where they are named
+pub scoped-requires : goal.scoped-requires
+scoped-requires g c = search (rules, c.requires.first, c.requires.second, c.requires.lag)
