@@ -1,5 +1,5 @@
 -- What the calls of a pass come to.
-use Rattle.std.proofs.Common.{◌≡◌, ℕ, List, Bool, true, false, cond, nat_eq, refl, sym, ap, ap₂, ◌∙◌, subst}
+use Rattle.std.proofs.Common.{◌≡◌, ℕ, List, Bool, true, false, cond, nat_eq, sym, ap, ◌∙◌, subst}
 use lib.Dec.{T}
 use Rattle.std.specs.Prelude.{Option, Some, None, Result}
 use Rattle.hl_model.specs.declared.fault.Fault.{Fault}
@@ -28,16 +28,22 @@ pub calls_by : (kept : Outcome → PassRow.Denot → Option PassRow.Denot) (step
     → IsMade lent lent_pass (by_slot lent_pass.slot step) new left result → outcome ≡ told_of result → CallsBy kept step v q w r outcome
 calls_by kept step v w q r old lent new p lent_pass left outcome result was had is stays_ same same_pass made told =
     let here : IsMade old p (by_slot p.slot step) new left result =
-        subst (λ (l : LogRow.Denot). IsMade l p (by_slot p.slot step) new left result) same (subst (λ (o : PassRow.Denot). IsMade lent o (by_slot o.slot step) new left result) same_pass made) in
+    subst (λ (l : LogRow.Denot). IsMade l p (by_slot p.slot step) new left result) same (subst (λ (o : PassRow.Denot). IsMade lent o (by_slot o.slot step) new left result) same_pass made) in
     subst (λ (u : Option LogRow.Denot). CallsBy kept step u q w r outcome) (sym was)
-    (subst (λ (u : Option PassRow.Denot). CallsBy kept step (Some old) u w r outcome) (sym had)
-    (new, left, is, stays_, here.calls.beside, λ A stands. let c = here.calls.called A stands in record {
-      told = told ∙ ap told_of c.reply;
-      sizes = c.sizes;
-      standing = c.standing;
-      pass = c.pass;
-      known = here.known A stands;
-    }))
+    (subst (λ (u : Option PassRow.Denot). CallsBy kept step (Some old) u w r outcome) (sym had) (
+      new,
+      left,
+      is,
+      stays_,
+      here.calls.beside,
+      λ A stands. let c = here.calls.called A stands in record {
+        told = told ∙ ap told_of c.reply;
+        sizes = c.sizes;
+        standing = c.standing;
+        pass = c.pass;
+        known = here.known A stands;
+      },
+    ))
 
 -- an outcome of no handle isn't that of an accepted call
 none_isn't : {X : Type 0} (outcome : Outcome) → outcome ≡ no_core → true ≡ nat_eq outcome.number 0 → X

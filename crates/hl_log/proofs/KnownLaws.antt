@@ -11,7 +11,7 @@ use Rattle.hl_model.specs.Sizes.{Sizes}
 use Rattle.hl_model.specs.Views.{slot_view}
 use Rattle.hl_log.specs.declared.log.Log.{Log}
 use Rattle.hl_log.specs.declared.pass.Pass.{Pass}
-use Rattle.hl_log.specs.Calls.{is_known, call_list, call_reply, call_pass, Called, KnownAt}
+use Rattle.hl_log.specs.Calls.{is_known, call_list, call_reply, Called, KnownAt}
 use Rattle.hl_log.specs.Logs.{IsBeside}
 use Rattle.hl_log.specs.Passes.{rested, epoch_told}
 use Rattle.hl_log.specs.Views.{same_view, has_view}

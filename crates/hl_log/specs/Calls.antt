@@ -50,7 +50,7 @@ abbrev pub call_pass : Log → List Step → Pass → Step → Pass
 call_pass log A p step =
     if is_known log A p
     then rested (slot_view log.core.sizes p.slot (call_list log A p step))
-        (epoch_told (call_reply log A p step) p.epoch) p
+    (epoch_told (call_reply log A p step) p.epoch) p
     else p
 
 -- a log that stood at A answered a pass's step so, and stands at that list
