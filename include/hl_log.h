@@ -15,7 +15,8 @@
  *
  * Threads: a handle may go from thread to thread, but one call at a time may use it. No call waits. Those that open,
  * acquire, and take a page take memory (by the program's malloc), and those that free, release, end the work on a page
- * and abandon give it back. A pass and a page own the words together with their log, so they may outlive it.
+ * and abandon give it back. A pass and a page own the words together with their log, so they may outlive it. Each call
+ * writes to its handles: keep a pass's on its thread's stack, or on a cache line of its own.
  *
  * Stamps: the k-th acquire of a log gives the slot the log's stamp plus k. So a pass is told from those of other logs,
  * and from one that had the slot before, if no log has a stamp near another's: take 2^32 times the number of the log,

@@ -1,6 +1,6 @@
 -- What an export's calls come to.
-use Rattle.std.proofs.Common.{◌≡◌, ℕ, List, length, refl, sym, ap, ap₂, ◌∙◌, subst}
-use Rattle.std.specs.Prelude.{Option, Some, Result, Ok, Err, IfOk, option_map, slice_get, unwrap_or}
+use Rattle.std.proofs.Common.{◌≡◌, ℕ, List, length, sym, ap, ap₂, ◌∙◌, subst}
+use Rattle.std.specs.Prelude.{Option, Some, Result, IfOk, option_map, slice_get, unwrap_or}
 use Rattle.hl_model.specs.declared.action.Tag.{Tag}
 use Rattle.hl_model.specs.declared.action.Waiting.{Waiting}
 use Rattle.hl_model.specs.declared.step.Step.TheVariants.{Take}

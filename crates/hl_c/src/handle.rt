@@ -3,9 +3,9 @@ ghost use Rattle.std.specs.declared.option.Option.TheVariants.{None, Some};
 ghost use Rattle.hl_answers.specs.Slots.{is_live};
 
 use crate::door::Door;
-use hl_answers::Loose;
 use crate::slot::Slot;
 use core::mem::{replace, replace_with};
+use hl_answers::Loose;
 use std::alloc::Global;
 
 /// What C keeps: a slot, and 1 where a core is open there. All bytes zero is a handle with none.

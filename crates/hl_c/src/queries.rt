@@ -8,9 +8,7 @@ ghost use Rattle.hl_answers.specs.Lags.{lag_answer, no_lag};
 ghost use Rattle.hl_answers.specs.Outcomes.{six_told, no_six, snapshot_told, no_snapshot, pending_told, frame_told, view_told, no_core, out_of_range};
 
 use crate::handle::Handle;
-use hl_answers::LagOutcome;
-use hl_answers::Outcome;
-use hl_answers::{SixOutcome, SnapshotOutcome};
+use hl_answers::{LagOutcome, Outcome, SixOutcome, SnapshotOutcome};
 
 /// The six offsets.
 #[unsafe(no_mangle)]

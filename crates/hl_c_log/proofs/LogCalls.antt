@@ -1,6 +1,6 @@
 -- What the calls on a log's handle come to.
-use Rattle.std.proofs.Common.{◌≡◌, ℕ, List, refl, sym, ap, ap₂, ◌∙◌, subst, take}
-use Rattle.std.specs.Prelude.{Option, Some, Result, Ok, Err, IfOk, slice_get}
+use Rattle.std.proofs.Common.{◌≡◌, ℕ, List, sym, ap, ap₂, ◌∙◌, subst, take}
+use Rattle.std.specs.Prelude.{Option, Some, Result, IfOk}
 use Rattle.hl_model.specs.declared.action.Tag.{Tag}
 use Rattle.hl_model.specs.declared.fault.Fault.{Fault}
 use Rattle.hl_model.specs.declared.step.Reply.{Reply}

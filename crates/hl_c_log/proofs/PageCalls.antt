@@ -1,5 +1,5 @@
 -- What the calls with a page come to.
-use Rattle.std.proofs.Common.{◌≡◌, ℕ, List, Bool, cond, nat_eq, refl, sym, ap, ◌∙◌, subst}
+use Rattle.std.proofs.Common.{◌≡◌, ℕ, Bool, cond, nat_eq, sym, ap, ◌∙◌, subst}
 use Rattle.std.specs.Prelude.{Option, Some, None, Result}
 use Rattle.hl_model.specs.declared.fault.Fault.{Fault}
 use Rattle.hl_model.specs.declared.step.Reply.{Reply}
@@ -17,7 +17,7 @@ pub ends_by : (fault : LogRow.Denot → PageRow.Denot → Option Fault) (step : 
     → Ended lent (fault lent lent_page) (step lent_page.page) new result → brief ≡ brief_of (told_of result) → Ends fault step v q w r brief
 ends_by fault step v w q r old lent new p lent_page brief result was had is left same same_page ends told =
     let here : Ended old (fault old p) (step p.page) new result =
-        subst (λ (l : LogRow.Denot). Ended l (fault l p) (step p.page) new result) same (subst (λ (o : PageRow.Denot). Ended lent (fault lent o) (step o.page) new result) same_page ends) in
+    subst (λ (l : LogRow.Denot). Ended l (fault l p) (step p.page) new result) same (subst (λ (o : PageRow.Denot). Ended lent (fault lent o) (step o.page) new result) same_page ends) in
     subst (λ (u : Option LogRow.Denot). Ends fault step u q w r brief) (sym was)
     (subst (λ (u : Option PageRow.Denot). Ends fault step (Some old) u w r brief) (sym had)
     (new, is, left, here.beside, λ A stands. let e = here.ended A stands in record { told = told ∙ ap (λ (o : Result Reply Fault). brief_of (told_of o)) e.reply; sizes = e.sizes; standing = e.standing }))

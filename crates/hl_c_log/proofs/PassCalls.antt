@@ -1,5 +1,5 @@
 -- What the calls of a pass come to.
-use Rattle.std.proofs.Common.{◌≡◌, ℕ, List, Bool, true, false, cond, nat_eq, refl, sym, ap, ap₂, ◌∙◌, subst}
+use Rattle.std.proofs.Common.{◌≡◌, ℕ, List, Bool, true, false, cond, nat_eq, sym, ap, ◌∙◌, subst}
 use lib.Dec.{T}
 use Rattle.std.specs.Prelude.{Option, Some, None, Result}
 use Rattle.hl_model.specs.declared.fault.Fault.{Fault}
@@ -8,24 +8,42 @@ use Rattle.hl_model.specs.declared.step.Step.{Step}
 use Rattle.hl_answers.specs.declared.outcome.Outcome.{Outcome}
 use Rattle.hl_answers.specs.Outcomes.{told_of, no_core, reply_told}
 use Rattle.hl_model.specs.declared.step.Reply.TheVariants.{Looked}
-use Rattle.hl_log.specs.Calls.{by_slot, Calls}
+use Rattle.hl_log.specs.Calls.{by_slot, is_known, call_list, Calls, KnownAt}
+use Rattle.hl_log.specs.Logs.{StandsAt}
 use Rattle.hl_log.specs.Passes.{with_look, with_news}
 use Rattle.hl_log.specs.Views.{is_current}
 use Rattle.hl_c_log.specs.Passes.{CallsBy, Acquires, AcquiresOf, stays, leaves}
 use Rattle.hl_c_log.specs.Rows.{LogRow, PassRow}
 use Rattle.hl_c_log.specs.Words.{Looks, KeepsUp}
 
+-- what a call made of both, and who the pass is then
+pub record IsMade (old : LogRow.Denot) (p : PassRow.Denot) (step : Step) (new : LogRow.Denot) (q : PassRow.Denot) (result : Result Reply Fault) : Type 0 where
+  pub calls : Calls old p step new q result
+  pub known : (A : List Step) → StandsAt old A → is_known old A p ≡ true → KnownAt new (call_list old A p step) q
+
 -- a log and a pass that were taken out, made the step and were put back
 pub calls_by : (kept : Outcome → PassRow.Denot → Option PassRow.Denot) (step : Step) (v w : Option LogRow.Denot) (q r : Option PassRow.Denot)
     (old lent new : LogRow.Denot) (p lent_pass left : PassRow.Denot) (outcome : Outcome) (result : Result Reply Fault)
     → v ≡ Some old → q ≡ Some p → w ≡ Some new → r ≡ kept outcome left → lent ≡ old → lent_pass ≡ p
-    → Calls lent lent_pass (by_slot lent_pass.slot step) new left result → outcome ≡ told_of result → CallsBy kept step v q w r outcome
-calls_by kept step v w q r old lent new p lent_pass left outcome result was had is stays_ same same_pass calls told =
-    let here : Calls old p (by_slot p.slot step) new left result =
-        subst (λ (l : LogRow.Denot). Calls l p (by_slot p.slot step) new left result) same (subst (λ (o : PassRow.Denot). Calls lent o (by_slot o.slot step) new left result) same_pass calls) in
+    → IsMade lent lent_pass (by_slot lent_pass.slot step) new left result → outcome ≡ told_of result → CallsBy kept step v q w r outcome
+calls_by kept step v w q r old lent new p lent_pass left outcome result was had is stays_ same same_pass made told =
+    let here : IsMade old p (by_slot p.slot step) new left result =
+    subst (λ (l : LogRow.Denot). IsMade l p (by_slot p.slot step) new left result) same (subst (λ (o : PassRow.Denot). IsMade lent o (by_slot o.slot step) new left result) same_pass made) in
     subst (λ (u : Option LogRow.Denot). CallsBy kept step u q w r outcome) (sym was)
-    (subst (λ (u : Option PassRow.Denot). CallsBy kept step (Some old) u w r outcome) (sym had)
-    (new, left, is, stays_, here.beside, λ A stands. let c = here.called A stands in record { told = told ∙ ap told_of c.reply; sizes = c.sizes; standing = c.standing; pass = c.pass }))
+    (subst (λ (u : Option PassRow.Denot). CallsBy kept step (Some old) u w r outcome) (sym had) (
+      new,
+      left,
+      is,
+      stays_,
+      here.calls.beside,
+      λ A stands. let c = here.calls.called A stands in record {
+        told = told ∙ ap told_of c.reply;
+        sizes = c.sizes;
+        standing = c.standing;
+        pass = c.pass;
+        known = here.known A stands;
+      },
+    ))
 
 -- an outcome of no handle isn't that of an accepted call
 none_isn't : {X : Type 0} (outcome : Outcome) → outcome ≡ no_core → true ≡ nat_eq outcome.number 0 → X

@@ -1,5 +1,5 @@
 -- Who holds the oldest pending action up, as numbers.
-use Rattle.std.specs.Prelude.{ℕ, Option, Some, None, List, length, take, slice_get}
+use Rattle.std.specs.Prelude.{ℕ, Option, Some, List, length, take, slice_get}
 use Rattle.hl_model.specs.declared.step.Step.{Step}
 use Rattle.hl_core.specs.declared.holders.Holder.{Holder}
 use Rattle.hl_core.specs.Holding.{holders, oldest}

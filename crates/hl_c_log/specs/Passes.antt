@@ -1,23 +1,23 @@
 -- What a call of a pass, under the lock, makes of both handles.
-use Rattle.std.specs.Prelude.{◌≡◌, ℕ, ◌==◌, if◌then◌else◌, Option, Some, None, Result, List, unwrap_or, ◌⊎◌}
+use Rattle.std.specs.Prelude.{◌≡◌, ℕ, ◌==◌, true, if◌then◌else◌, Option, Some, None, List, unwrap_or, ◌⊎◌}
 use Rattle.hl_model.specs.declared.fault.Fault.{Fault}
 use Rattle.hl_model.specs.declared.fault.Fault.TheVariants.{OutOfMemory}
 use Rattle.hl_model.specs.declared.step.Step.{Step}
 use Rattle.hl_model.specs.declared.step.Step.TheVariants.{Acquire}
 use Rattle.hl_model.specs.declared.view.View.{View}
-use Rattle.hl_model.specs.Sizes.{Sizes}
 use Rattle.hl_model.specs.Replies.{reply_of, fault_of, extended}
 use Rattle.hl_model.specs.Views.{slot_view}
 use Rattle.hl_answers.specs.declared.outcome.Brief.{Brief}
 use Rattle.hl_answers.specs.declared.outcome.Outcome.{Outcome}
 use Rattle.hl_answers.specs.Outcomes.{told_of, fault_told, brief_of, no_core}
-use Rattle.hl_log.specs.Calls.{by_slot, call_reply, call_list, call_pass}
+use Rattle.hl_log.specs.Calls.{by_slot, is_known, call_reply, call_list, call_pass, KnownAt}
 use Rattle.hl_log.specs.Logs.{StandsAt, IsBeside, IsStamped, next_stamp}
 use Rattle.hl_log.specs.Passes.{epoch_told}
 use Rattle.hl_c_log.specs.Rows.{LogRow, PassRow}
 
 -- a log that stood at A told this of a pass's step: that the pass is a stranger, or the definitions' reply behind
--- the list and what the pass saw; it stands at the list with both, or at A, and the pass has what its slot has
+-- the list and what the pass saw; it stands at the list with both, or at A, and the pass has what its slot has: one
+-- that was no stranger is none then, if its slot is still protected
 pub record Called (old : LogRow.Denot) (A : List Step) (p : PassRow.Denot) (step : Step) (new : LogRow.Denot)
     (q : PassRow.Denot) (outcome : Outcome)
     : Type 0 where
@@ -25,6 +25,7 @@ pub record Called (old : LogRow.Denot) (A : List Step) (p : PassRow.Denot) (step
   pub sizes : new.core.sizes ≡ old.core.sizes
   pub standing : StandsAt new (call_list old A p step)
   pub pass : q ≡ call_pass old A p step
+  pub known : is_known old A p ≡ true → KnownAt new (call_list old A p step) q
 
 -- the handle keeps its pass
 abbrev pub stays : Outcome → PassRow.Denot → Option PassRow.Denot
@@ -64,8 +65,8 @@ CallsBriefly kept step log pass new left brief = (outcome : Outcome)
 abbrev pub no_view : View
 no_view = record { read_only = 0; head = 0; tail = 0 }
 
--- a log that stood at A protected a slot, and this pass acts for it: it has the slot's view and epoch, and a stamp
--- that no pass of the log had
+-- a log that stood at A protected a slot, and this pass acts for it: it has the slot's view and epoch, and the next
+-- stamp; it is no stranger
 pub record Acquired (old : LogRow.Denot) (A : List Step) (slot : ℕ) (new : LogRow.Denot) (q : PassRow.Denot)
     (outcome : Outcome)
     : Type 0 where
@@ -81,6 +82,7 @@ pub record Acquired (old : LogRow.Denot) (A : List Step) (slot : ℕ) (new : Log
       ≡ unwrap_or (slot_view old.core.sizes slot (extended old.core.sizes A (Acquire slot))) no_view
   pub view_is : q.view ≡ q.held
   pub words : q.shared.value ≡ old.shared.value
+  pub known : KnownAt new (extended old.core.sizes A (Acquire slot)) q
 
 -- a log refused a slot: memory was refused, or the definitions refuse it at whatever list it stood
 abbrev pub Refused : LogRow.Denot → Step → Outcome → Type 0

@@ -58,8 +58,8 @@ pub use pass_handle::PassHandle;
 pub use pass_slot::PassSlot;
 pub use queries::{hl_log_holders, hl_log_lag, hl_log_six, hl_log_snapshot};
 pub use steps::{
-    hl_log_bare, hl_log_bump, hl_log_close, hl_log_done, hl_log_raise, hl_log_settle,
-    hl_log_shift, hl_log_take,
+    hl_log_bare, hl_log_bump, hl_log_close, hl_log_done, hl_log_raise, hl_log_settle, hl_log_shift,
+    hl_log_take,
 };
 pub use threads::{sent_log, sent_page, sent_pass};
 pub use words::{

@@ -1,5 +1,5 @@
 -- What a call of a pass, under the lock, makes of a log and of the pass.
-use Rattle.std.specs.Prelude.{◌≡◌, ℕ, ◌==◌, Bool, true, false, ◌&&◌, if◌then◌else◌, Result, Err, List}
+use Rattle.std.specs.Prelude.{◌≡◌, ℕ, ◌==◌, Bool, true, false, ◌&&◌, if◌then◌else◌, is_some, Result, Err, List}
 use Rattle.hl_model.specs.declared.fault.Fault.{Fault}
 use Rattle.hl_model.specs.declared.fault.Fault.TheVariants.{Stranger}
 use Rattle.hl_model.specs.declared.step.Reply.{Reply}
@@ -17,6 +17,10 @@ use Rattle.hl_log.specs.Views.{has_view}
 -- the pass is the one to which its slot belongs: its held view is the slot's, and it has the slot's stamp
 abbrev pub is_known : Log → List Step → Pass → Bool
 is_known log A p = has_view (slot_view log.core.sizes p.slot A) p.held && stamp_at log A p.slot == p.stamp
+
+-- the pass is so, if its slot is protected
+abbrev pub KnownAt : Log → List Step → Pass → Type 0
+KnownAt log A p = is_some (slot_view log.core.sizes p.slot A) ≡ true → is_known log A p ≡ true
 
 -- the list with what the pass saw without the lock
 abbrev pub looked : Sizes → List Step → Pass → List Step
@@ -46,7 +50,7 @@ abbrev pub call_pass : Log → List Step → Pass → Step → Pass
 call_pass log A p step =
     if is_known log A p
     then rested (slot_view log.core.sizes p.slot (call_list log A p step))
-        (epoch_told (call_reply log A p step) p.epoch) p
+    (epoch_told (call_reply log A p step) p.epoch) p
     else p
 
 -- a log that stood at A answered a pass's step so, and stands at that list

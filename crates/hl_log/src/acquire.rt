@@ -4,6 +4,8 @@ ghost use Rattle.hl_model.specs.declared.step.Step.{Step as STEP};
 ghost use Rattle.hl_model.specs.declared.step.Step.TheVariants.{Acquire as ACQUIRE};
 ghost use Rattle.hl_model.specs.Views.{slot_view};
 ghost use Rattle.hl_core.specs.Steps.{Made};
+ghost use Rattle.hl_model.specs.Replies.{extended};
+ghost use Rattle.hl_log.specs.Calls.{KnownAt};
 ghost use Rattle.hl_log.specs.Logs.{StandsAt, IsStamped, next_stamp};
 ghost use Rattle.hl_log.specs.Passes.{rested, stamped, epoch_told, IsVacant};
 
@@ -42,6 +44,9 @@ impl Log {
             in OnOk result ((A : List STEP) → StandsAt self.new A → pass.new
             ≡ stamped (next_stamp log)
             (rested (slot_view log.core.sizes p.slot A) (epoch_told result p.epoch) p)) }
+        ensures known { let step = ACQUIRE pass.old.slot
+            in (A : List STEP) → StandsAt self.old A
+            → OnOk result (KnownAt self.new (extended self.old.core.sizes A step) pass.new) }
     {
         let step = Step::Acquire { t: pass.slot };
         let reply = self.core.act(&step)?;

@@ -4,7 +4,7 @@ ghost use Rattle.hl_model.specs.declared.step.Step.{Step as STEP};
 ghost use Rattle.hl_model.specs.declared.step.Step.TheVariants.{Look as LOOK};
 ghost use Rattle.hl_model.specs.Replies.{extended};
 ghost use Rattle.hl_core.specs.Steps.{is_acted};
-ghost use Rattle.hl_log.specs.Calls.{by_slot, looked, Calls, IsCall};
+ghost use Rattle.hl_log.specs.Calls.{by_slot, call_list, looked, is_known, Calls, IsCall, KnownAt};
 ghost use Rattle.hl_log.specs.Logs.{StandsAt, IsBeside};
 ghost use Rattle.hl_log.specs.Passes.{epoch_told};
 
@@ -14,12 +14,25 @@ use hl_model::{Fault, Reply, Step};
 
 impl Log {
     /// Makes a refresh, a release or an allocation of a pass, whose slot takes the place of the step's, behind what
-    /// the pass saw. The pass then has the epoch and the view of its slot.
+    /// the pass saw. The pass then has the epoch and the view of its slot, so it is no stranger at its next call.
     ///
     /// `Stranger`, with the slot's stamp, where the slot isn't the pass's: nothing is changed then. Else the faults of
     /// the step; what the pass saw is entered with these too.
     #[inline(always)]
     pub fn call(&mut self, pass: &mut Pass, step: &Step) -> Result<Reply, Fault>
+        requires { IsCall step.now }
+        ensures made { Calls self.old pass.old (by_slot pass.old.slot step.now) self.new pass.new result }
+        ensures known { let old = self.old
+            in let p = pass.old
+            in (A : List STEP) → StandsAt old A → is_known old A p ≡ true
+            → KnownAt self.new (call_list old A p (by_slot p.slot step.now)) pass.new }
+    {
+        self.called(pass, step)
+    }
+
+    /// The same, with what it makes of both alone.
+    #[inline(always)]
+    fn called(&mut self, pass: &mut Pass, step: &Step) -> Result<Reply, Fault>
         requires { IsCall step.now }
         ensures { Calls self.old pass.old (by_slot pass.old.slot step.now) self.new pass.new result }
     {

@@ -46,7 +46,10 @@ impl Pass {
     {
         self.may_store(address)?;
         let shared: &Shared = &self.shared;
-        match shared.cell(address).compare_exchange(current, word, SeqCst, SeqCst) {
+        match shared
+            .cell(address)
+            .compare_exchange(current, word, SeqCst, SeqCst)
+        {
             Ok(found) | Err(found) => Ok(found),
         }
     }
