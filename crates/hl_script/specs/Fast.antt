@@ -4,10 +4,14 @@ use Rattle.hl_model.specs.declared.step.Step.{Step}
 use Rattle.hl_model.specs.declared.step.Step.TheVariants.{Bump}
 use Rattle.hl_model.specs.Sizes.{Sizes, AreNarrow}
 use Rattle.hl_cells.specs.Engines.{Whole, EngineStands}
+use Rattle.hl_line.specs.declared.line.Line.{Line}
 use Rattle.hl_action.specs.Firings.{FiringRecord}
 use Rattle.hl_action.specs.Jobs.{KeptRecord}
 use Rattle.hl_script.specs.Answers.{lacks_job}
 use Rattle.hl_script.specs.Text.{tags_on}
+use Rattle.hl_script.specs.Machine.{Stands}
+use Rattle.hl_script.specs.declared.fast.Jobs.{Jobs}
+use Rattle.hl_script.specs.declared.fast.Fast.{Fast}
 
 -- a job answers its tag + its ticket
 abbrev pub adds : ℕ → FiringRecord → ℕ → Type 0
@@ -24,3 +28,10 @@ pub record IsFast {F : Type 0} (shelf : List (Option (KeptRecord F))) (engine : 
   pub narrow : AreNarrow sizes
   pub standing : EngineStands engine A
   pub left : AreLeft has A shelf
+
+-- what an engine and a shelf of jobs stand at before the config, and behind it, in a script's lines
+abbrev pub FastStands : {E F : Type 0} → Option (Jobs F) → Option (Fast E F) → (ℕ → Bool) → List Line
+    → Type 0
+FastStands opening opened has before =
+    Stands (λ jobs has. has ≡ tags_on jobs.shelf) (λ fast has sizes A. IsFast fast.shelf fast.engine has sizes A)
+    opening opened has before

@@ -35,12 +35,14 @@
 //! | `lines` | the line that answers a step, and those that answer queries |
 //! | `sum` | the promise of the jobs |
 //! | `answers` | the texts of answers |
+//! | `answering` | an engine and a shelf as such a machine, for who reads the lines otherwise |
 //! | `laws` | what a caller can tell after `Stream` |
 //!
 //! A line is judged when its LF was read, when the input ended, or at its 81st byte; until then it isn't answered.
 //! Nothing is tried again after a fault of a stream, an interruption among them.
 #![tactic(auto)]
 
+mod answering;
 mod answers;
 mod fast;
 mod interpreter;
@@ -55,11 +57,14 @@ mod slow;
 mod stepping;
 mod sum;
 
+pub use answering::Answering;
 pub use answers::print_bad_line;
 pub use hl_action::{Call, Firing, Kept, Promise, Shelf, Task};
 pub use hl_cells::Engine;
 pub use hl_epoch::{Epochs, ScanTable};
 pub use hl_line::{Line, print_fault, print_line, print_reply, read_line};
 pub use hl_model::{Fault, Params, Reply, Step};
+pub use machine::Machine;
+pub use progress::may_follow;
 pub use run::{Finished, run_text, run_text_within, slow_text, slow_text_within};
 pub use sum::Sum;

@@ -9,7 +9,7 @@ use hl_model::Fault;
 use std::io::Write;
 
 /// What answers the lines of a script, one after another.
-pub(crate) trait Machine {
+pub trait Machine {
     // It has answered these good lines of a script whose tags have jobs where the test says so.
     ghost stands: { Self → (ℕ → Bool) → List Line → Type 0 };
 

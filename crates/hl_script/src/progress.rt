@@ -7,6 +7,15 @@ ghost use Rattle.hl_script.specs.Text.{count_of};
 use arrayvec::ArrayVec;
 use hl_line::Line;
 
+/// Whether a line may stand behind so many others: a config is the first line, and no other.
+#[inline(always)]
+pub fn may_follow(lines: u64, line: &Line) -> bool
+    ensures { (before : List Line) → lines ≡ length before → result ≡ may_stand before line.now }
+{
+    let is_config = matches!(line, Line::Config(_));
+    is_config == (lines == 0)
+}
+
 /// What a run keeps of its input.
 #[derive(Drop)]
 pub(crate) struct Progress {
@@ -38,8 +47,7 @@ impl Progress {
         ensures { (before : List Line)
             → self.now.lines ≡ length before → result ≡ may_stand before line.now }
     {
-        let is_config = matches!(line, Line::Config(_));
-        is_config == (self.lines == 0)
+        may_follow(self.lines, line)
     }
 
     /// How many steps were accepted. None where there was no line.

@@ -24,7 +24,7 @@ pub(crate) struct Script<O, S> {
     /// None before the config.
     pub(crate) opened: Option<S>,
     // What the answer to a step is made in.
-    line: AnswerLine,
+    pub(crate) line: AnswerLine,
 }
 
 impl<O: Opening<S> + Drop, S: Stepping + Drop> Machine for Script<O, S> {

@@ -1,0 +1,47 @@
+ghost use Rattle.std.specs.Prelude.{◌≡◌, ℕ, true, option_map, IfSome, List, length};
+ghost use Rattle.hl_line.specs.declared.line.Line.{Line as LINE};
+ghost use Rattle.hl_line.specs.Lines.{Fits};
+ghost use Rattle.hl_script.specs.Lines.{may_stand};
+ghost use Rattle.hl_judge.specs.Traces.{line_part, reply_part, entry_of, Entry};
+
+use hl_script::{Line, may_follow, read_line};
+
+/// What stands between a script's line and its reply.
+const ARROW: &[u8] = b" -> ";
+
+/// How many bytes a line of a trace has at most.
+pub(crate) const LONGEST: usize = 8276;
+
+/// The bytes before the first ` -> `, and those behind it. None where there is none.
+fn parted(bytes: &[u8]) -> Option<(&[u8], &[u8])>
+    ensures front { IfSome result (λ parts. parts.0.now ≡ line_part bytes.now) }
+    ensures back { option_map (λ parts. parts.1.now) result ≡ reply_part bytes.now }
+{
+    for at in 0..bytes.len() {
+        if bytes[at..].starts_with(ARROW) {
+            return Some((&bytes[..at], &bytes[at + ARROW.len()..]));
+        }
+    }
+    None
+}
+
+/// The script's line and the reply of a trace's line that stands behind so many others. None where it is no line of
+/// a trace: it is too long, has no ` -> `, or begins with no line that may stand there.
+pub(crate) fn entry(lines: u64, bytes: &[u8]) -> Option<(Line, &[u8])>
+    ensures exact { (before : List LINE) → lines ≡ length before
+        → option_map (λ e. (record { line = e.0; reply = e.1.now })) result ≡ entry_of before bytes.now }
+    ensures fits { IfSome result (λ e. Fits e.0) }
+    ensures stands { (before : List LINE) → lines ≡ length before
+        → IfSome result (λ e. may_stand before e.0 ≡ true) }
+{
+    if bytes.len() > LONGEST {
+        return None;
+    }
+    let (line, reply) = parted(bytes)?;
+    let line = read_line(line)?;
+    if may_follow(lines, &line) {
+        Some((line, reply))
+    } else {
+        None
+    }
+}
