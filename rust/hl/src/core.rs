@@ -1,5 +1,6 @@
 //! A core.
 
+use crate::answers;
 use crate::raw::{self, Brief, Handle, Outcome};
 use crate::{
     Action, Done, Entered, Fault, Frame, Kind, LagStep, Offsets, Pending, Sizes, Slot, Snapshot, View,
@@ -54,9 +55,6 @@ pub struct Core {
     releases: Vec<Cell<u64>>,
 }
 
-// SAFETY: hl.h allows a handle to go from thread to thread.
-unsafe impl Send for Core {}
-
 impl Core {
     /// A core at the empty list. [`Fault::OutOfMemory`] where memory was refused.
     pub fn open(sizes: Sizes) -> Result<Core, Fault> {
@@ -100,13 +98,13 @@ impl Core {
     /// Protects a slot until it is released by its number. NoSlot, Occupied.
     pub fn enter(&self, slot: u64) -> Result<Entered, Fault> {
         self.ask(|core| unsafe { raw::hl_acquire(core, slot) })
-            .map(entered)
+            .map(answers::entered)
     }
 
     /// The protected slot moves on to the current epoch, and sees the offsets as they are. NoSlot, NotProtected.
     pub fn refresh(&self, slot: u64) -> Result<Entered, Fault> {
         self.ask(|core| unsafe { raw::hl_refresh(core, slot) })
-            .map(entered)
+            .map(answers::entered)
     }
 
     /// The slot is protected no longer; a [`Slot`] of that number that is still there is of nobody then. NoSlot,
@@ -144,19 +142,14 @@ impl Core {
 
     /// Takes the oldest pending action. Empty, NotReady.
     pub fn take(&self) -> Result<Action, Fault> {
-        let told = self.ask(|core| unsafe { raw::hl_take(core) })?;
-        let (ticket, tag) = (told.a, (told.b == 1).then_some(told.c));
-        Ok(Action { ticket, tag })
+        self.ask(|core| unsafe { raw::hl_take(core) })
+            .map(answers::action)
     }
 
     /// A taken action was carried out. NotTaken.
     pub fn done(&self, ticket: u64) -> Result<Done, Fault> {
-        let told = self.ask(|core| unsafe { raw::hl_done(core, ticket) })?;
-        Ok(match told.b {
-            1 => Done::Job(told.a),
-            2 => Done::Settled(told.a),
-            _ => Done::Closed(told.a),
-        })
+        self.ask(|core| unsafe { raw::hl_done(core, ticket) })
+            .map(answers::done)
     }
 
     /// Moves the read-only offset up. NotAbove, AboveTail.
@@ -177,7 +170,7 @@ impl Core {
     /// The slot sees these two offsets. NoSlot, NotProtected, Stale.
     pub fn look(&self, slot: u64, read_only: u64, head: u64) -> Result<View, Fault> {
         self.ask(|core| unsafe { raw::hl_look(core, slot, read_only, head) })
-            .map(view_of)
+            .map(answers::view)
     }
 
     /// Whether the slot may write the word at an address, which is yours to write. NoSlot, NotProtected, Below, Beyond.
@@ -215,22 +208,13 @@ impl Core {
     /// The six offsets.
     pub fn offsets(&self) -> Offsets {
         // SAFETY: as in `ask`.
-        offsets_of(&unsafe { raw::hl_six(self.handle.get()) })
+        answers::offsets(&unsafe { raw::hl_six(self.handle.get()) })
     }
 
     /// All quantities.
     pub fn snapshot(&self) -> Snapshot {
         // SAFETY: as in `ask`.
-        let all = unsafe { raw::hl_snapshot(self.handle.get()) };
-        Snapshot {
-            epoch: all.epoch,
-            safe: all.safe,
-            protected: all.protected,
-            pending: all.pending,
-            taken: all.taken,
-            offsets: offsets_of(&all.six),
-            frames: all.frames,
-        }
+        answers::snapshot(&unsafe { raw::hl_snapshot(self.handle.get()) })
     }
 
     /// The steps that a flusher makes next, for whoever wants about `mutable` pages at the tail to be written and about
@@ -264,11 +248,7 @@ impl Core {
     /// ```
     pub fn lag(&self, mutable: u64, resident: u64) -> Result<impl Iterator<Item = LagStep>, Fault> {
         // SAFETY: as in `ask`.
-        let told = unsafe { raw::hl_lag(self.handle.get(), mutable, resident) };
-        match told.number {
-            0 => Ok(told.steps.into_iter().take(told.count as usize).map(lag_step)),
-            number => Err(Fault::of(number, 0, 0)),
-        }
+        answers::lag(unsafe { raw::hl_lag(self.handle.get(), mutable, resident) })
     }
 
     /// The pending actions, oldest first.
@@ -299,18 +279,14 @@ impl Core {
     /// A slot's view, where it is protected.
     pub fn view(&self, slot: u64) -> Option<View> {
         let told = self.ask(|core| unsafe { raw::hl_view(core, slot) }).ok()?;
-        (told.a == 1).then(|| view_of(told))
+        (told.a == 1).then(|| answers::view(told))
     }
 
     /// What a call of the library tells.
     // SAFETY of each call: the handle was opened, and is used by one call at a time, since a core is not `Sync` and no
     // call comes back to it.
     fn ask(&self, call: impl FnOnce(*mut Handle) -> Outcome) -> Result<Outcome, Fault> {
-        let told = call(self.handle.get());
-        match told.number {
-            0 => Ok(told),
-            number => Err(Fault::of(number, told.a, told.b)),
-        }
+        answers::accepted(call(self.handle.get()))
     }
 
     /// The one number that a call of the library tells.
@@ -323,40 +299,5 @@ impl Drop for Core {
     fn drop(&mut self) {
         // SAFETY: the handle is this core's alone; one that wasn't opened is left as it is.
         unsafe { raw::hl_free(self.handle.get()) };
-    }
-}
-
-fn view_of(told: Outcome) -> View {
-    View {
-        read_only: told.b,
-        head: told.c,
-        tail: told.d,
-    }
-}
-
-fn entered(told: Outcome) -> Entered {
-    Entered {
-        epoch: told.a,
-        view: view_of(told),
-    }
-}
-
-fn lag_step(step: raw::LagStep) -> LagStep {
-    match step.kind {
-        1 => LagStep::Raise(step.address),
-        2 => LagStep::Settle,
-        3 => LagStep::Shift(step.address),
-        _ => LagStep::Close,
-    }
-}
-
-fn offsets_of(six: &raw::Six) -> Offsets {
-    Offsets {
-        closed: six.closed,
-        head: six.head,
-        flushed: six.flushed,
-        safe_read_only: six.safe_read_only,
-        read_only: six.read_only,
-        tail: six.tail,
     }
 }

@@ -4,19 +4,19 @@
 //! | Take | For |
 //! |---|---|
 //! | [`Core`] | words, jobs and threads of your own: the proved core of `hl.h`, for one thread at a time |
-//! | [`Log`] | many threads: a core under a mutex, and words that threads store and load without it |
+//! | [`Log`] | many threads: the proved log of `hl_log.h` under a mutex, whose words threads store and load without it |
 //!
-//! The core's answers are proved; this crate, which hands them on, and the log's words are not. The log is compared
-//! with the core step by step (`tests/`).
+//! Every answer is that of a proved call; this crate, which hands them on, is not proved. Its log is compared with its core
+//! step by step (`tests/`).
 //!
 //! The crate links `libhl.a`, which `./hl install FOLDER` of hl's repository makes. It is found in the folder that
 //! `HL_DIR` names, by pkg-config, or in the installed folder that this crate lies in.
 
 #![warn(missing_docs)]
 
+mod answers;
 mod core;
 mod fault;
-mod journal;
 mod log;
 mod pages;
 mod pass;
@@ -26,13 +26,12 @@ mod told;
 
 pub use crate::core::Core;
 pub use fault::Fault;
-pub use journal::{Entry, Reply, Step};
 pub use log::Log;
 pub use pages::{Clean, Flush};
 pub use pass::Pass;
 pub use slot::Slot;
 pub use told::{
-    Action, Done, Entered, Frame, Kind, LagStep, Offsets, Pending, RawSizes, Sizes, Snapshot, View,
+    Action, Done, Entered, Frame, Holder, Kind, LagStep, Offsets, Pending, RawSizes, Sizes, Snapshot, View,
 };
 
 /// The version of hl.

@@ -1,14 +1,15 @@
-//! Not proved: a log for many threads, a core under a mutex beside words that need none. Tests compare it with the
-//! proved core step by step.
+//! A log for many threads, of which every decision is proved: a mutex around the proved log of `hl_log.h`.
 
-use crate::{
-    Action, Clean, Core, Done, Entry, Fault, Flush, LagStep, Offsets, Pass, Reply, Sizes, Snapshot, Step,
-};
+use crate::raw::{self, Brief, Handle, Outcome};
+use crate::{answers, Action, Clean, Done, Fault, Flush, Holder, LagStep, Offsets, Pass, Sizes, Snapshot};
 use std::sync::atomic::{AtomicU64, Ordering};
-use std::sync::{Mutex, MutexGuard, PoisonError};
+use std::sync::{Mutex, PoisonError};
 
-/// A log that threads share by a `&`: the quantities are a [`Core`]'s, under a mutex, and the words lie beside it, so
-/// that a [`Pass`] stores and loads them without it.
+/// Each log's stamp is 2^32 times its number, so that the stamps of its slots are no other log's.
+static LOGS: AtomicU64 = AtomicU64::new(0);
+
+/// A log that threads share by a `&`: its steps are made under a mutex, and a [`Pass`] stores and loads its words without
+/// it. What this crate adds to the proved log is that mutex, its handles that free themselves, and Rust's types.
 ///
 /// Each thread acquires a slot of its own. Whoever flushes raises the read-only offset and settles it, takes the sealed
 /// pages, copies them, shifts the head, closes what lies below it, and sweeps the closed pages.
@@ -37,47 +38,31 @@ use std::sync::{Mutex, MutexGuard, PoisonError};
 #[derive(Debug)]
 pub struct Log {
     sizes: Sizes,
-    locked: Mutex<Locked>,
-    // The two offsets that a look loads, stored under the lock.
-    read_only: AtomicU64,
-    head: AtomicU64,
-    cells: Box<[AtomicU64]>,
-    has_journal: bool,
-}
-
-/// What lies under the lock.
-#[derive(Debug)]
-pub(crate) struct Locked {
-    pub(crate) core: Core,
-    journal: Option<Vec<Entry>>,
+    handle: Mutex<Handle>,
 }
 
 impl Log {
     /// A log where nothing was done yet. [`Fault::OutOfMemory`] where memory was refused.
     pub fn open(sizes: Sizes) -> Result<Log, Fault> {
-        Log::with(sizes, None)
-    }
-
-    /// The same with a journal of all calls and their answers, which grows until it is taken. It is for tests: a pass
-    /// then keeps each of its stores, loads and looks until its next call that takes the lock.
-    pub fn with_journal(sizes: Sizes) -> Result<Log, Fault> {
-        Log::with(sizes, Some(Vec::new()))
-    }
-
-    fn with(sizes: Sizes, journal: Option<Vec<Entry>>) -> Result<Log, Fault> {
-        let core = Core::open(sizes)?;
-        let count = (sizes.page_size() * sizes.frames()) as usize;
-        let mut cells = Vec::new();
-        cells.try_reserve_exact(count).map_err(|_| Fault::OutOfMemory)?;
-        cells.resize_with(count, AtomicU64::default);
-        Ok(Log {
-            sizes,
-            has_journal: journal.is_some(),
-            locked: Mutex::new(Locked { core, journal }),
-            read_only: AtomicU64::new(0),
-            head: AtomicU64::new(0),
-            cells: cells.into_boxed_slice(),
-        })
+        let mut handle = Handle::CLOSED;
+        let stamp = (LOGS.fetch_add(1, Ordering::Relaxed) % (1 << 30)) << 32;
+        // SAFETY: the handle is all zero, and nobody else has it.
+        match unsafe {
+            raw::hl_log_open_wide(
+                &mut handle,
+                sizes.page_size(),
+                sizes.frames(),
+                sizes.slots(),
+                sizes.drain_places(),
+                stamp,
+            )
+        } {
+            0 => Ok(Log {
+                sizes,
+                handle: Mutex::new(handle),
+            }),
+            number => Err(Fault::of(number, 0, 0)),
+        }
     }
 
     /// The sizes that it was opened with.
@@ -85,156 +70,121 @@ impl Log {
         self.sizes
     }
 
-    /// Protects a slot until the pass is dropped. NoSlot, Occupied.
+    /// Protects a slot until the pass is dropped. NoSlot, Occupied, OutOfMemory.
     pub fn acquire(&self, slot: u64) -> Result<Pass<'_>, Fault> {
-        let entered = self.make(Step::Acquire { slot }, |core| core.enter(slot), Reply::Entered)?;
-        Ok(Pass::new(self, slot, entered.view))
+        let mut pass = Handle::CLOSED;
+        let entered = self
+            .ask(|log| unsafe { raw::hl_log_acquire(log, &mut pass, slot) })
+            .map(answers::entered)?;
+        Ok(Pass::new(self, pass, slot, entered.view))
     }
 
     /// Ends the current epoch, and stores a job of this tag: its ticket. DrainFull, EpochsSpent, WindowFull.
     pub fn bump(&self, tag: u64) -> Result<u64, Fault> {
-        self.make(Step::Bump { tag }, |core| core.bump(tag), Reply::Ticket)
+        self.ask_briefly(|log| unsafe { raw::hl_log_bump(log, tag) })
     }
 
     /// As a bump; its action raises the safe read-only offset to what the read-only offset is now.
     pub fn settle(&self) -> Result<u64, Fault> {
-        self.make(Step::Settle, Core::settle, Reply::Ticket)
+        self.ask_briefly(|log| unsafe { raw::hl_log_settle(log) })
     }
 
     /// As a bump; its action raises the closed offset to what the head is now.
     pub fn close(&self) -> Result<u64, Fault> {
-        self.make(Step::Close, Core::close, Reply::Ticket)
+        self.ask_briefly(|log| unsafe { raw::hl_log_close(log) })
     }
 
     /// Ends the current epoch, and stores nothing: the epoch that ended. EpochsSpent, WindowFull.
     pub fn bare(&self) -> Result<u64, Fault> {
-        self.make(Step::Bare, Core::bare, Reply::Bumped)
+        self.ask_briefly(|log| unsafe { raw::hl_log_bare(log) })
     }
 
     /// Takes the oldest pending action. Empty, NotReady.
     pub fn take(&self) -> Result<Action, Fault> {
-        self.make(Step::Take, Core::take, |action| Reply::Taken(action.ticket))
+        self.ask(|log| unsafe { raw::hl_log_take(log) })
+            .map(answers::action)
     }
 
     /// A taken action was carried out. NotTaken.
     pub fn done(&self, ticket: u64) -> Result<Done, Fault> {
-        self.make(Step::Done { ticket }, |core| core.done(ticket), Reply::Done)
+        self.ask(|log| unsafe { raw::hl_log_done(log, ticket) })
+            .map(answers::done)
     }
 
     /// Makes what lies below an address read-only for whoever looks from now on. NotAbove, AboveTail.
     pub fn raise(&self, to: u64) -> Result<u64, Fault> {
-        let word = |core: &Core| {
-            core.raise(to)
-                .inspect(|_| self.read_only.store(to, Ordering::Release))
-        };
-        self.make(Step::Raise { to }, word, Reply::Raised)
+        self.ask_briefly(|log| unsafe { raw::hl_log_raise(log, to) })
     }
 
     /// Moves the head up to a page's begin, at most to the flushed offset. NotAbove, NotPage, AboveFlushed.
     pub fn shift(&self, to: u64) -> Result<u64, Fault> {
-        let word = |core: &Core| core.shift(to).inspect(|_| self.head.store(to, Ordering::Release));
-        self.make(Step::Shift { to }, word, Reply::Shifted)
+        self.ask_briefly(|log| unsafe { raw::hl_log_shift(log, to) })
     }
 
-    /// Takes the least sealed page that is neither flushed nor in flight, to be copied. NoneSealed.
+    /// Takes the least sealed page that is neither flushed nor in flight, to be copied. NoneSealed, OutOfMemory.
     pub fn flush_take(&self) -> Result<Flush<'_>, Fault> {
-        let page = self.make(Step::FlushTake, Core::flush_take, Reply::Page)?;
-        Ok(Flush::new(self, page))
+        let mut page = Handle::CLOSED;
+        let number = self.ask_briefly(|log| unsafe { raw::hl_log_flush_take(log, &mut page) })?;
+        Ok(Flush::new(self, page, number))
     }
 
-    /// Takes the least closed page that is neither freed nor being cleaned, to be swept. NoneClosed.
+    /// Takes the least closed page that is neither freed nor being cleaned, to be swept. NoneClosed, OutOfMemory.
     pub fn clean_take(&self) -> Result<Clean<'_>, Fault> {
-        let page = self.make(Step::CleanTake, Core::clean_take, Reply::Page)?;
-        Ok(Clean::new(self, page))
+        let mut page = Handle::CLOSED;
+        let number = self.ask_briefly(|log| unsafe { raw::hl_log_clean_take(log, &mut page) })?;
+        Ok(Clean::new(self, page, number))
     }
 
     /// The six offsets.
     pub fn offsets(&self) -> Offsets {
-        self.lock().core.offsets()
+        answers::offsets(&self.locked(|log| unsafe { raw::hl_log_six(log) }))
     }
 
     /// All quantities.
     pub fn snapshot(&self) -> Snapshot {
-        self.lock().core.snapshot()
+        answers::snapshot(&self.locked(|log| unsafe { raw::hl_log_snapshot(log) }))
     }
 
-    /// As [`Core::lag`].
+    /// As [`Core::lag`](crate::Core::lag).
     pub fn lag(&self, mutable: u64, resident: u64) -> Result<impl Iterator<Item = LagStep>, Fault> {
-        self.lock().core.lag(mutable, resident)
+        answers::lag(self.locked(|log| unsafe { raw::hl_log_lag(log, mutable, resident) }))
     }
 
-    /// Takes what the journal has, and leaves it empty. Calls of a pass that took no lock are in it once the pass has
-    /// made one that does. Nothing where there is no journal.
-    pub fn take_journal(&self) -> Vec<Entry> {
-        self.lock()
-            .journal
-            .as_mut()
-            .map(std::mem::take)
-            .unwrap_or_default()
+    /// The slots that hold the oldest pending action up, least first: each has to refresh or to be released before a
+    /// take gives that action. None where no action is pending, and where the next take gives it.
+    pub fn holders(&self) -> Vec<Holder> {
+        self.locked(|log| {
+            (0..)
+                .map(|place| unsafe { raw::hl_log_holders(log, place) })
+                .map_while(|told| answers::accepted(told).ok())
+                .map(|told| Holder {
+                    slot: told.a,
+                    epoch: told.b,
+                    ticket: told.c,
+                })
+                .collect()
+        })
     }
 
-    pub(crate) fn has_journal(&self) -> bool {
-        self.has_journal
+    /// Makes a call of the library under the lock. No call leaves the log between two steps, so a thread that panicked
+    /// under it has spoilt nothing.
+    // SAFETY of each call: the handle was opened, and its lock is held.
+    pub(crate) fn locked<T>(&self, call: impl FnOnce(*mut Handle) -> T) -> T {
+        let mut handle = self.handle.lock().unwrap_or_else(PoisonError::into_inner);
+        call(&mut *handle)
     }
 
-    /// The lock. No call leaves the core between two steps, so a thread that panicked under it has spoilt nothing.
-    pub(crate) fn lock(&self) -> MutexGuard<'_, Locked> {
-        self.locked.lock().unwrap_or_else(PoisonError::into_inner)
+    pub(crate) fn ask(&self, call: impl FnOnce(*mut Handle) -> Outcome) -> Result<Outcome, Fault> {
+        answers::accepted(self.locked(call))
     }
 
-    /// Makes a step under the lock, and notes it.
-    pub(crate) fn make<T: Copy>(
-        &self,
-        step: Step,
-        call: impl FnOnce(&Core) -> Result<T, Fault>,
-        reply: impl FnOnce(T) -> Reply,
-    ) -> Result<T, Fault> {
-        self.lock().make(step, call, reply)
-    }
-
-    /// The read-only offset and the head as they were last stored.
-    pub(crate) fn offset_words(&self) -> (u64, u64) {
-        (
-            self.read_only.load(Ordering::Acquire),
-            self.head.load(Ordering::Acquire),
-        )
-    }
-
-    pub(crate) fn cell(&self, address: u64) -> &AtomicU64 {
-        &self.cells[self.sizes.cell_of(address)]
-    }
-
-    /// The cells of a page.
-    pub(crate) fn page(&self, page: u64) -> &[AtomicU64] {
-        let first = self.sizes.cell_of(page * self.sizes.page_size());
-        &self.cells[first..first + self.sizes.page_size() as usize]
+    pub(crate) fn ask_briefly(&self, call: impl FnOnce(*mut Handle) -> Brief) -> Result<u64, Fault> {
+        answers::number(self.locked(call))
     }
 }
 
-impl Locked {
-    /// Makes a step by a call of the core, and notes it with what it was told.
-    pub(crate) fn make<T: Copy>(
-        &mut self,
-        step: Step,
-        call: impl FnOnce(&Core) -> Result<T, Fault>,
-        reply: impl FnOnce(T) -> Reply,
-    ) -> Result<T, Fault> {
-        let told = call(&self.core);
-        self.note(step, told.map(reply));
-        told
-    }
-
-    /// Notes a step, where there is a journal.
-    fn note(&mut self, step: Step, reply: Result<Reply, Fault>) {
-        if let Some(journal) = &mut self.journal {
-            journal.push(Entry { step, reply });
-        }
-    }
-
-    /// Notes what a pass did without the lock.
-    pub(crate) fn enter(&mut self, touches: &mut Vec<Entry>) {
-        if let Some(journal) = &mut self.journal {
-            journal.append(touches);
-        }
+impl Drop for Log {
+    fn drop(&mut self) {
+        self.locked(|log| unsafe { raw::hl_log_free(log) });
     }
 }

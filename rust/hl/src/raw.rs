@@ -1,6 +1,6 @@
-//! The calls of `hl.h`.
+//! The calls of `hl.h` and `hl_log.h`.
 
-/// What the library keeps; all zero has no core.
+/// What the library keeps of a core, a log, a pass or a page; all zero has none.
 #[repr(C)]
 #[derive(Debug)]
 pub(crate) struct Handle {
@@ -8,11 +8,20 @@ pub(crate) struct Handle {
     live: u64,
 }
 
+// SAFETY: the headers allow a handle to go from thread to thread, and one call at a time to use it: a call takes it by a
+// `*mut`, and what gives one out sees to the rest.
+unsafe impl Send for Handle {}
+
 impl Handle {
     pub(crate) const CLOSED: Handle = Handle {
         at: std::ptr::null_mut(),
         live: 0,
     };
+
+    /// Whether it has something.
+    pub(crate) fn is_open(&self) -> bool {
+        self.live != 0
+    }
 }
 
 #[repr(C)]
@@ -116,4 +125,45 @@ extern "C" {
     pub(crate) fn hl_pending(core: *mut Handle, place: u64) -> Outcome;
     pub(crate) fn hl_frame(core: *mut Handle, frame: u64) -> Outcome;
     pub(crate) fn hl_view(core: *mut Handle, slot: u64) -> Outcome;
+
+    pub(crate) fn hl_log_open_wide(
+        log: *mut Handle,
+        page_size: u64,
+        frames: u64,
+        slots: u64,
+        drain_places: u64,
+        stamp: u64,
+    ) -> u64;
+    pub(crate) fn hl_log_free(log: *mut Handle) -> u64;
+    pub(crate) fn hl_log_acquire(log: *mut Handle, pass: *mut Handle, slot: u64) -> Outcome;
+    pub(crate) fn hl_log_refresh(log: *mut Handle, pass: *mut Handle) -> Outcome;
+    pub(crate) fn hl_log_allocate(log: *mut Handle, pass: *mut Handle, words: u64) -> Brief;
+    pub(crate) fn hl_log_release(log: *mut Handle, pass: *mut Handle) -> Brief;
+    pub(crate) fn hl_log_raise(log: *mut Handle, address: u64) -> Brief;
+    pub(crate) fn hl_log_shift(log: *mut Handle, address: u64) -> Brief;
+    pub(crate) fn hl_log_bump(log: *mut Handle, tag: u64) -> Brief;
+    pub(crate) fn hl_log_settle(log: *mut Handle) -> Brief;
+    pub(crate) fn hl_log_close(log: *mut Handle) -> Brief;
+    pub(crate) fn hl_log_bare(log: *mut Handle) -> Brief;
+    pub(crate) fn hl_log_take(log: *mut Handle) -> Outcome;
+    pub(crate) fn hl_log_done(log: *mut Handle, ticket: u64) -> Outcome;
+    pub(crate) fn hl_log_flush_take(log: *mut Handle, page: *mut Handle) -> Brief;
+    pub(crate) fn hl_log_flush_done(log: *mut Handle, page: *mut Handle, ok: bool) -> Brief;
+    pub(crate) fn hl_log_clean_take(log: *mut Handle, page: *mut Handle) -> Brief;
+    pub(crate) fn hl_log_clean_done(log: *mut Handle, page: *mut Handle) -> Brief;
+    pub(crate) fn hl_log_six(log: *mut Handle) -> Six;
+    pub(crate) fn hl_log_snapshot(log: *mut Handle) -> Quantities;
+    pub(crate) fn hl_log_lag(log: *mut Handle, mutable_pages: u64, resident_pages: u64) -> LagSteps;
+    pub(crate) fn hl_log_holders(log: *mut Handle, place: u64) -> Outcome;
+    pub(crate) fn hl_pass_store(pass: *mut Handle, address: u64, word: u64) -> Brief;
+    pub(crate) fn hl_pass_fetch_add(pass: *mut Handle, address: u64, more: u64) -> Brief;
+    pub(crate) fn hl_pass_compare_exchange(pass: *mut Handle, address: u64, current: u64, word: u64)
+        -> Brief;
+    pub(crate) fn hl_pass_load(pass: *mut Handle, address: u64) -> Brief;
+    pub(crate) fn hl_pass_look(pass: *mut Handle) -> Outcome;
+    pub(crate) fn hl_pass_keeps_up(pass: *mut Handle) -> u64;
+    pub(crate) fn hl_pass_abandon(pass: *mut Handle) -> u64;
+    pub(crate) fn hl_log_copy_page(page: *mut Handle, words: *mut u64, count: usize) -> Brief;
+    pub(crate) fn hl_log_sweep(page: *mut Handle) -> Brief;
+    pub(crate) fn hl_page_abandon(page: *mut Handle) -> u64;
 }

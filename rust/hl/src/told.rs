@@ -1,6 +1,7 @@
 //! Sizes, and what calls tell.
 
 use crate::Fault;
+use std::fmt;
 
 /// Sizes in their ranges.
 #[derive(Clone, Copy, Debug, PartialEq, Eq)]
@@ -109,6 +110,12 @@ pub struct View {
     pub tail: u64,
 }
 
+impl fmt::Display for View {
+    fn fmt(&self, f: &mut fmt::Formatter<'_>) -> fmt::Result {
+        write!(f, "view {} {} {}", self.read_only, self.head, self.tail)
+    }
+}
+
 /// What a slot learns by entering an epoch.
 #[derive(Clone, Copy, Debug, PartialEq, Eq)]
 pub struct Entered {
@@ -201,6 +208,17 @@ pub enum LagStep {
     Shift(u64),
     /// A close.
     Close,
+}
+
+/// A slot that holds up the oldest pending action: its epoch isn't above the action's ticket.
+#[derive(Clone, Copy, Debug, PartialEq, Eq)]
+pub struct Holder {
+    /// The slot.
+    pub slot: u64,
+    /// Its epoch.
+    pub epoch: u64,
+    /// The ticket of the action.
+    pub ticket: u64,
 }
 
 /// All quantities.

@@ -3,8 +3,10 @@
 
 mod common;
 
+use common::journal::{Entry, Step};
+use common::noted::{Clean, Flush, Log, Pass};
 use common::{replay, sizes, write_script, Random};
-use hl::{Clean, Entry, Fault, Flush, Log, Pass, Sizes, Step};
+use hl::{Fault, Sizes};
 use std::sync::atomic::{AtomicBool, Ordering};
 use std::thread;
 
@@ -139,7 +141,7 @@ fn compare(name: &str, log: &Log, words: usize) -> usize {
 /// One page's way: what each thread sees of it, and what its copy and its next words are.
 #[test]
 fn the_way_of_a_page() {
-    let log = Log::open(Sizes::checked(4, 2, 2, 4).unwrap()).unwrap();
+    let log = hl::Log::open(Sizes::checked(4, 2, 2, 4).unwrap()).unwrap();
     let (mut writer, mut reader) = (log.acquire(0).unwrap(), log.acquire(1).unwrap());
     assert_eq!((writer.allocate(4), writer.store(3, 7)), (Ok(0), Ok(())));
     assert_eq!(reader.load(3), Err(Fault::Beyond { tail: 0 }));
@@ -183,8 +185,58 @@ fn the_way_of_a_page() {
     );
 }
 
+/// Words are changed in one step, and each refusal is that of a store.
+#[test]
+fn changes_in_one_step() {
+    let log = hl::Log::open(Sizes::checked(4, 2, 1, 4).unwrap()).unwrap();
+    let mut pass = log.acquire(0).unwrap();
+    assert_eq!(pass.fetch_add(0, 1), Err(Fault::Beyond { tail: 0 }));
+    pass.allocate(4).unwrap();
+    assert_eq!(
+        (pass.fetch_add(3, 5), pass.fetch_add(3, u64::MAX)),
+        (Ok(0), Ok(5))
+    );
+    assert_eq!(pass.load(3), Ok(4), "modulo 2^64");
+    assert_eq!(
+        pass.compare_exchange(3, 5, 9),
+        Ok(Err(4)),
+        "another word stands there"
+    );
+    assert_eq!(pass.compare_exchange(3, 4, 9), Ok(Ok(4)));
+    assert_eq!(pass.load(3), Ok(9));
+    log.raise(4).unwrap();
+    pass.look();
+    assert_eq!(pass.fetch_add(3, 1), Err(Fault::Below { read_only: 4 }));
+    assert_eq!(pass.compare_exchange(3, 9, 1), Err(Fault::Below { read_only: 4 }));
+    assert_eq!(pass.load(3), Ok(9));
+}
+
+/// A slot that doesn't move on holds the oldest action up, and knows by itself that something is new.
+#[test]
+fn who_holds_up() {
+    let log = hl::Log::open(Sizes::checked(4, 2, 3, 4).unwrap()).unwrap();
+    let mut first = log.acquire(0).unwrap();
+    let mut last = log.acquire(2).unwrap();
+    assert!(log.holders().is_empty(), "no action is pending");
+    assert!(first.keeps_up() && last.keeps_up());
+    let ticket = log.bump(7).unwrap();
+    assert!(!first.keeps_up() && !last.keeps_up(), "an epoch has ended");
+    let holder = |slot| hl::Holder {
+        slot,
+        epoch: 1,
+        ticket,
+    };
+    assert_eq!(log.holders(), [holder(0), holder(2)]);
+    first.refresh().unwrap();
+    assert_eq!(log.holders(), [holder(2)]);
+    assert!(first.keeps_up());
+    drop(last);
+    assert!(log.holders().is_empty(), "the next take gives it");
+    assert_eq!(log.take().unwrap().ticket, ticket);
+}
+
 /// Each pass moves on, and the oldest action is carried out.
-fn refresh_and_serve(log: &Log, passes: [&mut Pass<'_>; 2]) {
+fn refresh_and_serve(log: &hl::Log, passes: [&mut hl::Pass<'_>; 2]) {
     for pass in passes {
         pass.refresh().unwrap();
     }
@@ -196,7 +248,7 @@ fn one_thread_with_many_slots() {
     let mut random = Random::new(47);
     let (mut made, mut round) = (0, 0);
     while made < steps() {
-        let log = Log::with_journal(sizes(round)).unwrap();
+        let log = Log::open(sizes(round)).unwrap();
         let mut passes: Vec<(Pass<'_>, Own)> = Vec::new();
         let (mut hands, mut words) = (Hands::default(), 0);
         for _ in 0..ROUND {
@@ -228,7 +280,7 @@ fn one_thread_with_many_slots() {
 fn four_threads_beside_a_flusher() {
     let (mut made, mut round) = (0, 0);
     while made < steps() {
-        let log = Log::with_journal(sizes(round)).unwrap();
+        let log = Log::open(sizes(round)).unwrap();
         let riding = AtomicBool::new(true);
         let words = thread::scope(|scope| {
             let riders: Vec<_> = (0..4)

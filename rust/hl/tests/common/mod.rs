@@ -1,6 +1,10 @@
 //! Random numbers, and a journal stepped through by a core and a plain row of words.
 
-use hl::{Core, Done, Entry, Fault, Reply, Sizes, Snapshot, Step};
+pub mod journal;
+pub mod noted;
+
+use hl::{Core, Done, Fault, Sizes, Snapshot};
+use journal::{Entry, Reply, Step};
 use std::collections::HashMap;
 use std::fmt::Write;
 

@@ -1,13 +1,12 @@
-//! Not proved: what a log notes of its calls, in the lines of a script.
+//! What tests note of a log's calls, in the lines of a script.
 
-use crate::{Done, Entered, Fault, View};
+use hl::{Done, Entered, Fault, View};
 use std::fmt;
 
 /// A call of a log, which prints as the line of a script (`docs/FORMATS.md`).
 ///
 /// Each variant is the call of that name, with the numbers that it is told.
 #[derive(Clone, Copy, Debug, PartialEq, Eq)]
-#[allow(missing_docs)]
 pub enum Step {
     Acquire { slot: u64 },
     Refresh { slot: u64 },
@@ -34,7 +33,6 @@ pub enum Step {
 ///
 /// Each variant is an answer's first word, with the numbers that the answer has.
 #[derive(Clone, Copy, Debug, PartialEq, Eq)]
-#[allow(missing_docs)]
 pub enum Reply {
     Entered(Entered),
     Left,
@@ -91,12 +89,6 @@ impl fmt::Display for Step {
             Step::CleanTake => write!(f, "clean take"),
             Step::CleanDone { page } => write!(f, "clean done {page}"),
         }
-    }
-}
-
-impl fmt::Display for View {
-    fn fmt(&self, f: &mut fmt::Formatter<'_>) -> fmt::Result {
-        write!(f, "view {} {} {}", self.read_only, self.head, self.tail)
     }
 }
 
