@@ -107,13 +107,13 @@ class Lag {
     const LagStep *end() const noexcept { return begin() + count_; }
     std::size_t size() const noexcept { return count_; }
 
-  private:
-    friend class Core;
+    /// As hl_lag tells them.
     explicit Lag(const hl_lag_steps &told) noexcept : count_(static_cast<std::size_t>(told.count)) {
         for (std::size_t i = 0; i < count_; i++)
             steps_[i] = {static_cast<LagKind>(told.steps[i].kind), told.steps[i].address};
     }
 
+  private:
     std::array<LagStep, 4> steps_{};
     std::size_t count_;
 };
@@ -247,6 +247,22 @@ inline Result<Done> done(const hl_outcome &told) {
 
 inline Offsets offsets_of(const hl_offsets &six) noexcept {
     return {six.closed, six.head, six.flushed, six.safe_read_only, six.read_only, six.tail};
+}
+
+inline Snapshot snapshot_of(const hl_quantities &all) noexcept {
+    const Word *frames = all.frames;
+    return {all.epoch,
+            all.safe,
+            all.protected_slots,
+            all.pending,
+            all.taken,
+            offsets_of(all.six),
+            {frames[0], frames[1], frames[2], frames[3], frames[4]}};
+}
+
+inline Result<Lag> lag_of(const hl_lag_steps &told) noexcept {
+    if (told.number != 0) return refused(told.number);
+    return Lag(told);
 }
 
 } // namespace detail
@@ -410,21 +426,12 @@ class Core {
     [[nodiscard]] Result<Snapshot> snapshot() const {
         hl_quantities all = detail::ask(hl_snapshot, at_.get());
         if (all.number != 0) return detail::refused(all.number);
-        const Word *frames = all.frames;
-        return Snapshot{all.epoch,
-                        all.safe,
-                        all.protected_slots,
-                        all.pending,
-                        all.taken,
-                        detail::offsets_of(all.six),
-                        {frames[0], frames[1], frames[2], frames[3], frames[4]}};
+        return detail::snapshot_of(all);
     }
     /// The steps that a flusher makes next, for whoever wants about so many pages at the tail to be written and about
     /// so many to be read; hl_lag says more. OutOfRange: not 1 <= mutable_pages <= resident_pages < frames.
     [[nodiscard]] Result<Lag> lag(Word mutable_pages, Word resident_pages) const {
-        hl_lag_steps told = detail::ask(hl_lag, at_.get(), mutable_pages, resident_pages);
-        if (told.number != 0) return detail::refused(told.number);
-        return Lag(told);
+        return detail::lag_of(detail::ask(hl_lag, at_.get(), mutable_pages, resident_pages));
     }
     [[nodiscard]] Result<Pending> pending(Word place) const {
         return detail::made(detail::ask(hl_pending, at_.get(), place), [](const hl_outcome &it) {

@@ -1,414 +1,330 @@
-// Not proved: a log for many threads in C++17, a core under a mutex beside words that need none. Tests compare it with
-// the proved core step by step.
+// A log for many threads in C++17, of which every decision is proved: the log of hl_log.h behind a mutex of its own. What
+// this header adds isn't proved: the mutex, handles that free themselves, and C++'s names and errors. Tests compare the
+// log with its core step by step.
 //
-// Each thread acquires a slot of its own and has a pass for it. Its stores, loads and looks take no lock: they are
-// judged by what the slot has seen, its view. Whoever flushes raises the read-only offset and settles it, takes the
+// Each thread acquires a slot of its own and has a pass for it. Its stores, loads, changes and looks take no lock: they
+// are judged by what the slot has seen, its view. Whoever flushes raises the read-only offset and settles it, takes the
 // sealed pages and copies them, shifts the head, closes what lies below it, and sweeps the closed pages. docs/RULES.md
 // has the rules.
+//
+// A pass and a page may outlive their log, and the log may be moved: what they share is kept until the last of them is
+// gone. No call throws.
 #ifndef HL_LOG_HPP
 #define HL_LOG_HPP
 
 #include "hl.hpp"
+#include "hl_log.h"
 
-#include <algorithm>
 #include <atomic>
-#include <memory>
+#include <cstddef>
 #include <mutex>
 #include <new>
 #include <utility>
-#include <vector>
 
 namespace hl {
 inline namespace HL_FORM {
 
-// ---- The journal ----
-
-enum class Call {
-    Acquire,
-    Refresh,
-    Release,
-    Bump,
-    Settle,
-    Close,
-    Bare,
-    Take,
-    Done,
-    Raise,
-    Shift,
-    Allocate,
-    Look,
-    Store,
-    Load,
-    FlushTake,
-    FlushDone,
-    CleanTake,
-    CleanDone,
-};
-
-/// A call, and its numbers in the order of docs/FORMATS.md; of FlushDone b is 1 where the flush went well.
-struct Step {
-    Call call;
-    Word a = 0;
-    Word b = 0;
-    Word c = 0;
-};
-
-/// A call and its answer, as hl.h tells answers; a load tells its word.
-struct Entry {
-    Step step;
-    hl_outcome told;
+/// A slot that holds up the oldest pending action: its epoch isn't above the action's ticket. count slots do.
+struct Holder {
+    Word slot;
+    Word epoch;
+    Word ticket;
+    Word count;
 };
 
 namespace detail {
 
-inline hl_outcome whole(hl_brief told) noexcept { return {told.number, told.a, 0, 0, 0}; }
-inline hl_brief brief(const hl_outcome &told) noexcept { return {told.number, told.a}; }
-
-/// Makes a step of a core. A store and a load are judged alone.
-inline hl_outcome step(hl_core *core, const Step &step) noexcept {
-    switch (step.call) {
-    case Call::Acquire: return hl_acquire(core, step.a);
-    case Call::Refresh: return hl_refresh(core, step.a);
-    case Call::Release: return whole(hl_release(core, step.a));
-    case Call::Bump: return whole(hl_bump(core, step.a));
-    case Call::Settle: return whole(hl_settle(core));
-    case Call::Close: return whole(hl_close(core));
-    case Call::Bare: return whole(hl_bare(core));
-    case Call::Take: return hl_take(core);
-    case Call::Done: return hl_done(core, step.a);
-    case Call::Raise: return whole(hl_raise(core, step.a));
-    case Call::Shift: return whole(hl_shift(core, step.a));
-    case Call::Allocate: return whole(hl_allocate(core, step.a, step.b));
-    case Call::Look: return hl_look(core, step.a, step.b, step.c);
-    case Call::Store: return whole(hl_write(core, step.a, step.b, step.c));
-    case Call::Load: return whole(hl_read(core, step.a, step.b));
-    case Call::FlushTake: return whole(hl_flush_take(core));
-    case Call::FlushDone: return whole(hl_flush_done(core, step.a, step.b == 1));
-    case Call::CleanTake: return whole(hl_clean_take(core));
-    case Call::CleanDone: return whole(hl_clean_done(core, step.a));
-    }
-    return {HL_OUT_OF_RANGE, 0, 0, 0, 0};
-}
-
-/// What a log's threads share.
-struct Shared {
-    Shared(Core opened, Sizes exact, bool keeps) noexcept : core(std::move(opened)), sizes(exact), has_journal(keeps) {}
+/// What a log, its passes and its pages share: the proved log, and its lock.
+struct Block {
+    Block() = default;
+    Block(const Block &) = delete;
+    Block &operator=(const Block &) = delete;
+    ~Block() { hl_log_free(&log); }
 
     std::mutex mutex;
-    // Under the mutex.
-    Core core;
-    std::vector<Entry> journal;
-    // Beside it. The two offsets that a look loads are stored under it.
-    const Sizes sizes;
-    const bool has_journal;
-    std::atomic<Word> read_only{0};
-    std::atomic<Word> head{0};
-    std::unique_ptr<std::atomic<Word>[]> cells;
-
-    std::atomic<Word> *cell(Word address) noexcept { return &cells[sizes.cell_of(address)]; }
-    std::atomic<Word> *page(Word page) noexcept { return cell(page * sizes.page_size()); }
-
-    /// Makes a step under the mutex, which the caller has, and notes it.
-    hl_outcome make_locked(const Step &step) {
-        hl_outcome told = detail::step(core.handle(), step);
-        if (told.number == 0 && step.call == Call::Raise) read_only.store(step.a, std::memory_order_release);
-        if (told.number == 0 && step.call == Call::Shift) head.store(step.a, std::memory_order_release);
-        if (has_journal) journal.push_back({step, told});
-        return told;
-    }
-
-    hl_outcome make(const Step &step) {
-        std::lock_guard<std::mutex> lock(mutex);
-        return make_locked(step);
-    }
+    hl_log log{};
+    // How many have it.
+    std::atomic<Word> owners{1};
 };
+
+/// One of those that have a block; the last one gives it back.
+class Shared {
+  public:
+    Shared() = default;
+    explicit Shared(Block *block) noexcept : block_(block) {}
+    Shared(const Shared &other) noexcept : block_(other.block_) {
+        if (block_) block_->owners.fetch_add(1, std::memory_order_relaxed);
+    }
+    Shared(Shared &&other) noexcept : block_(std::exchange(other.block_, nullptr)) {}
+    Shared &operator=(Shared other) noexcept {
+        std::swap(block_, other.block_);
+        return *this;
+    }
+    ~Shared() {
+        if (block_ && block_->owners.fetch_sub(1, std::memory_order_acq_rel) == 1) delete block_;
+    }
+
+    explicit operator bool() const noexcept { return block_ != nullptr; }
+
+    /// Makes a call of the log under its lock, or of one that isn't open.
+    template <class Call, class... Words> auto ask(Call call, Words... words) const noexcept {
+        hl_log none{};
+        if (!block_) return call(&none, words...);
+        std::lock_guard<std::mutex> lock(block_->mutex);
+        return call(&block_->log, words...);
+    }
+
+  private:
+    Block *block_ = nullptr;
+};
+
+/// A stamp for one more log: 2^32 times its number, so that the stamps of its slots are no other log's.
+inline Word next_stamp() noexcept {
+    static std::atomic<Word> logs{0};
+    return logs.fetch_add(1, std::memory_order_relaxed) % (Word{1} << 30) << 32;
+}
 
 } // namespace detail
 
 // ---- A slot's part ----
 
-/// A protected slot of a log, which is released where it goes out of scope. The log must outlive it, and may be moved
-/// meanwhile; one thread at a time uses a pass. Refresh often: a slot that doesn't holds back each action that was
-/// stored since. Threads may store to one word, and a load finds one of the words stored there.
+/// A protected slot of a log, which is released where it goes out of scope. One thread at a time uses a pass. Refresh
+/// often: a slot that doesn't holds back each action that was stored since. Threads may store to one word, and a load
+/// finds one of the words stored there. Where it was moved from its calls answer NoCore.
 class Pass {
   public:
     Pass(Pass &&other) noexcept
-        : shared_(std::exchange(other.shared_, nullptr)), slot_(other.slot_), view_(other.view_),
-          has_looked_(other.has_looked_), touches_(std::move(other.touches_)) {}
+        : shared_(std::move(other.shared_)), pass_(std::exchange(other.pass_, {})), slot_(other.slot_),
+          view_(other.view_) {}
     /// The slot that was here is released, and the other one's is here.
     Pass &operator=(Pass &&other) noexcept {
         Pass taken(std::move(other));
         std::swap(shared_, taken.shared_);
+        std::swap(pass_, taken.pass_);
         std::swap(slot_, taken.slot_);
         std::swap(view_, taken.view_);
-        std::swap(has_looked_, taken.has_looked_);
-        std::swap(touches_, taken.touches_);
         return *this;
     }
     ~Pass() {
-        if (shared_) make({Call::Release, slot_});
+        if (!shared_) return;
+        (void)shared_.ask(hl_log_release, &pass_);
+        hl_pass_abandon(&pass_);
     }
 
     Word slot() const noexcept { return slot_; }
     /// What the slot has seen.
     View view() const noexcept { return view_; }
 
-    /// Moves on to the current epoch, and sees the offsets as they are. NoCore where the pass was moved from.
-    [[nodiscard]] Result<Entered> refresh() {
-        auto now = detail::entered(make({Call::Refresh, slot_}));
+    /// Moves on to the current epoch, and sees the offsets as they are.
+    [[nodiscard]] Result<Entered> refresh() noexcept {
+        auto now = detail::entered(shared_.ask(hl_log_refresh, &pass_));
         if (now) view_ = now->view;
         return now;
     }
     /// Places a record of so many words, and sees the tail behind it: its address. Size, SpaceSpent, Busy.
-    [[nodiscard]] Result<Word> allocate(Word words) {
-        auto address = detail::one(detail::brief(make({Call::Allocate, slot_, words})));
+    [[nodiscard]] Result<Word> allocate(Word words) noexcept {
+        auto address = detail::one(shared_.ask(hl_log_allocate, &pass_, words));
         if (address) view_.tail = *address + words;
         return address;
     }
 
     /// Sees the read-only offset and the head as they are now, without the lock.
-    View look() {
-        if (!shared_) return view_;
-        Word read_only = shared_->read_only.load(std::memory_order_acquire);
-        Word head = shared_->head.load(std::memory_order_acquire);
-        if (read_only > view_.read_only || head > view_.head) {
-            view_.read_only = std::max(view_.read_only, read_only);
-            view_.head = std::max(view_.head, head);
-            has_looked_ = true;
-            if (is_noted())
-                touches_.push_back({{Call::Look, slot_, view_.read_only, view_.head},
-                                    {0, 0, view_.read_only, view_.head, view_.tail}});
-        }
+    View look() noexcept {
+        hl_outcome told = hl_pass_look(&pass_);
+        if (told.number == 0) view_ = detail::view_of(told);
         return view_;
     }
+    /// Whether nothing is new to it: neither offset is above the one that it sees, and the epoch of its slot hasn't ended.
+    /// If something is, look or refresh. It takes no lock.
+    bool keeps_up() noexcept { return hl_pass_keeps_up(&pass_) == 1; }
     /// Stores a word, without the lock. Below, Beyond.
-    [[nodiscard]] Result<void> store(Word address, Word word) {
-        hl_brief judged = judge(address, view_.read_only, HL_BELOW);
-        if (judged.number == 0) shared_->cell(address)->store(word, std::memory_order_release);
-        if (is_noted()) touches_.push_back({{Call::Store, slot_, address, word}, detail::whole(judged)});
-        return detail::nothing(judged);
+    [[nodiscard]] Result<void> store(Word address, Word word) noexcept {
+        return detail::nothing(hl_pass_store(&pass_, address, word));
     }
     /// Loads a word, without the lock; one that was never stored is 0. Evicted, Beyond.
-    [[nodiscard]] Result<Word> load(Word address) {
-        hl_brief judged = judge(address, view_.head, HL_EVICTED);
-        if (judged.number == 0) judged.a = shared_->cell(address)->load(std::memory_order_acquire);
-        if (is_noted()) touches_.push_back({{Call::Load, slot_, address}, detail::whole(judged)});
-        return detail::one(judged);
+    [[nodiscard]] Result<Word> load(Word address) noexcept { return detail::one(hl_pass_load(&pass_, address)); }
+    /// Adds to a word in one step, modulo 2^64, without the lock: what it found. Below, Beyond.
+    [[nodiscard]] Result<Word> fetch_add(Word address, Word more) noexcept {
+        return detail::one(hl_pass_fetch_add(&pass_, address, more));
+    }
+    /// Stores a word where `current` stands, in one step and without the lock: what it found, so it stored where that is
+    /// `current`. Below, Beyond.
+    [[nodiscard]] Result<Word> compare_exchange(Word address, Word current, Word word) noexcept {
+        return detail::one(hl_pass_compare_exchange(&pass_, address, current, word));
     }
 
   private:
     friend class Log;
-    Pass(detail::Shared *shared, Word slot, View view) noexcept : shared_(shared), slot_(slot), view_(view) {}
+    Pass(detail::Shared shared, hl_pass pass, Word slot, View view) noexcept
+        : shared_(std::move(shared)), pass_(pass), slot_(slot), view_(view) {}
 
-    hl_brief judge(Word address, Word from, hl_fault below) const noexcept {
-        if (!shared_) return {HL_NO_CORE, 0};
-        if (address < from) return {static_cast<Word>(below), from};
-        if (address >= view_.tail) return {HL_BEYOND, view_.tail};
-        return {0, 0};
-    }
-
-    bool is_noted() const noexcept { return shared_ && shared_->has_journal; }
-
-    /// Makes a step under the lock, behind what the pass did without it.
-    hl_outcome make(const Step &step) {
-        if (!shared_) return {HL_NO_CORE, 0, 0, 0, 0};
-        std::lock_guard<std::mutex> lock(shared_->mutex);
-        if (is_noted()) {
-            shared_->journal.insert(shared_->journal.end(), touches_.begin(), touches_.end());
-            touches_.clear();
-        }
-        if (std::exchange(has_looked_, false)) hl_look(shared_->core.handle(), slot_, view_.read_only, view_.head);
-        return shared_->make_locked(step);
-    }
-
-    detail::Shared *shared_;
+    detail::Shared shared_;
+    hl_pass pass_;
     Word slot_;
     View view_;
-    bool has_looked_ = false;
-    // What it did since its last call that took the lock, where the log has a journal.
-    std::vector<Entry> touches_;
 };
 
 // ---- Pages ----
 
 /// A sealed page that was taken to be flushed: no thread stores to it any more. Where it goes out of scope before
-/// done(), its flush has failed, and the page may be taken again.
+/// done(), its flush has failed, and the page may be taken again. Once it is done, and where it was moved from, its calls
+/// answer NoCore.
 class Flush {
   public:
-    Flush(Flush &&other) noexcept : shared_(std::exchange(other.shared_, nullptr)), page_(other.page_) {}
-    /// The page that was here ends as where it goes out of scope, and the other one's is here.
+    Flush(Flush &&other) noexcept
+        : shared_(std::move(other.shared_)), page_(std::exchange(other.page_, {})), number_(other.number_) {}
+    /// The flush of the page that was here has failed, and the other one's page is here.
     Flush &operator=(Flush &&other) noexcept {
         Flush taken(std::move(other));
         std::swap(shared_, taken.shared_);
         std::swap(page_, taken.page_);
+        std::swap(number_, taken.number_);
         return *this;
     }
     ~Flush() {
-        if (shared_) shared_->make({Call::FlushDone, page_, 0});
+        if (!shared_) return;
+        (void)shared_.ask(hl_log_flush_done, &page_, false);
+        hl_page_abandon(&page_);
     }
 
     /// Its number: its first word has the address page() * page_size.
-    Word page() const noexcept { return page_; }
+    Word page() const noexcept { return number_; }
 
-    /// Copies its words without the lock, into room for as many as a page has. OutOfRange: there is room for another
-    /// number. NoCore where it was done before, or moved from.
-    [[nodiscard]] Result<void> copy(Word *words, std::size_t count) const noexcept {
-        if (!shared_) return detail::refused(HL_NO_CORE);
-        if (count != shared_->sizes.page_size()) return detail::refused(HL_OUT_OF_RANGE);
-        std::atomic<Word> *cells = shared_->page(page_);
-        for (std::size_t i = 0; i < count; i++)
-            words[i] = cells[i].load(std::memory_order_acquire);
-        return {};
-    }
-    /// The same, into room that nobody looks at.
-    [[deprecated("say for how many words there is room")]] void copy(Word *words) const noexcept {
-        if (shared_) (void)copy(words, shared_->sizes.page_size());
+    /// Copies its words without the lock, into room for as many as a page has. Size: there is room for another number.
+    [[nodiscard]] Result<void> copy(Word *words, std::size_t count) noexcept {
+        return detail::nothing(hl_log_copy_page(&page_, words, count));
     }
 
-    /// It is on the device: the flushed offset. NoCore where it was done before, or moved from.
-    [[nodiscard]] Result<Word> done() {
-        if (!shared_) return detail::refused(HL_NO_CORE);
-        return detail::one(detail::brief(std::exchange(shared_, nullptr)->make({Call::FlushDone, page_, 1})));
+    /// It is on the device: the flushed offset.
+    [[nodiscard]] Result<Word> done() noexcept {
+        auto told = detail::one(shared_.ask(hl_log_flush_done, &page_, true));
+        if (told) shared_ = {};
+        return told;
     }
 
   private:
     friend class Log;
-    Flush(detail::Shared *shared, Word page) noexcept : shared_(shared), page_(page) {}
+    Flush(detail::Shared shared, hl_page page, Word number) noexcept
+        : shared_(std::move(shared)), page_(page), number_(number) {}
 
-    detail::Shared *shared_;
-    Word page_;
+    detail::Shared shared_;
+    hl_page page_;
+    Word number_;
 };
 
 /// A closed page that was taken to be cleaned: no thread reads it any more. It is swept where it goes out of scope,
 /// too.
 class Clean {
   public:
-    Clean(Clean &&other) noexcept : shared_(std::exchange(other.shared_, nullptr)), page_(other.page_) {}
-    /// The page that was here ends as where it goes out of scope, and the other one's is here.
+    Clean(Clean &&other) noexcept
+        : shared_(std::move(other.shared_)), page_(std::exchange(other.page_, {})), number_(other.number_) {}
+    /// The page that was here is swept, and the other one's is here.
     Clean &operator=(Clean &&other) noexcept {
         Clean taken(std::move(other));
         std::swap(shared_, taken.shared_);
         std::swap(page_, taken.page_);
+        std::swap(number_, taken.number_);
         return *this;
     }
     ~Clean() {
-        if (shared_) (void)sweep();
+        if (!shared_) return;
+        (void)sweep();
+        hl_page_abandon(&page_);
     }
 
-    Word page() const noexcept { return page_; }
+    Word page() const noexcept { return number_; }
 
     /// Zeroes its words, without the lock, and frees its frame: the page. NoCore where it was swept before.
-    [[nodiscard]] Result<Word> sweep() {
-        if (!shared_) return detail::refused(HL_NO_CORE);
-        detail::Shared *shared = std::exchange(shared_, nullptr);
-        std::atomic<Word> *cells = shared->page(page_);
-        for (Word i = 0; i < shared->sizes.page_size(); i++)
-            cells[i].store(0, std::memory_order_relaxed);
-        return detail::one(detail::brief(shared->make({Call::CleanDone, page_})));
+    [[nodiscard]] Result<Word> sweep() noexcept {
+        auto swept = detail::one(hl_log_sweep(&page_));
+        if (!swept) return swept;
+        auto told = detail::one(shared_.ask(hl_log_clean_done, &page_));
+        if (told) shared_ = {};
+        return told;
     }
 
   private:
     friend class Log;
-    Clean(detail::Shared *shared, Word page) noexcept : shared_(shared), page_(page) {}
+    Clean(detail::Shared shared, hl_page page, Word number) noexcept
+        : shared_(std::move(shared)), page_(page), number_(number) {}
 
-    detail::Shared *shared_;
-    Word page_;
+    detail::Shared shared_;
+    hl_page page_;
+    Word number_;
 };
 
 // ---- A log ----
 
-/// A log that threads share by a reference. It moves, and frees itself. Where it was moved from its calls answer
-/// NoCore; sizes(), offsets(), snapshot() and take_journal() then have no answer, and may not be called.
+/// A log that threads share by a reference. It moves, and frees itself. Where it was moved from its calls answer NoCore,
+/// or only zeros.
 class Log {
   public:
     /// A log where nothing was done yet. OutOfMemory: memory was refused.
-    [[nodiscard]] static Result<Log> open(Sizes sizes) { return open(sizes, false); }
-
-    /// The same with a journal of all calls and their answers, which grows until it is taken. It is for tests: a pass
-    /// then keeps each of its stores, loads and looks until its next call that takes the lock.
-    [[nodiscard]] static Result<Log> with_journal(Sizes sizes) { return open(sizes, true); }
-
-    Sizes sizes() const noexcept { return shared_->sizes; }
-
-    /// Protects a slot until the pass goes out of scope. NoSlot, Occupied. A log that goes away at once has no pass: it
-    /// must outlive what it gives.
-    [[nodiscard]] Result<Pass> acquire(Word slot) && = delete;
-    [[nodiscard]] Result<Pass> acquire(Word slot) & {
-        auto entered = detail::entered(make({Call::Acquire, slot}));
-        if (!entered) return Refused(entered.error());
-        return Pass(shared_.get(), slot, entered->view);
-    }
-
-    // The calls of a core, under the lock.
-    [[nodiscard]] Result<Word> bump(Word tag) { return one({Call::Bump, tag}); }
-    [[nodiscard]] Result<Word> settle() { return one({Call::Settle}); }
-    [[nodiscard]] Result<Word> close() { return one({Call::Close}); }
-    [[nodiscard]] Result<Word> bare() { return one({Call::Bare}); }
-    [[nodiscard]] Result<Action> take() { return detail::action(make({Call::Take})); }
-    [[nodiscard]] Result<Done> done(Word ticket) { return detail::done(make({Call::Done, ticket})); }
-    [[nodiscard]] Result<Word> raise(Word address) { return one({Call::Raise, address}); }
-    [[nodiscard]] Result<Word> shift(Word address) { return one({Call::Shift, address}); }
-
-    /// Takes the least sealed page that is neither flushed nor in flight, to be copied. NoneSealed.
-    [[nodiscard]] Result<Flush> flush_take() && = delete;
-    [[nodiscard]] Result<Flush> flush_take() & {
-        auto page = one({Call::FlushTake});
-        if (!page) return Refused(page.error());
-        return Flush(shared_.get(), *page);
-    }
-    /// Takes the least closed page that is neither freed nor being cleaned, to be swept. NoneClosed.
-    [[nodiscard]] Result<Clean> clean_take() && = delete;
-    [[nodiscard]] Result<Clean> clean_take() & {
-        auto page = one({Call::CleanTake});
-        if (!page) return Refused(page.error());
-        return Clean(shared_.get(), *page);
-    }
-
-    Offsets offsets() {
-        std::lock_guard<std::mutex> lock(shared_->mutex);
-        return *shared_->core.offsets();
-    }
-    /// The old name of offsets().
-    [[deprecated("use offsets()")]] Offsets six() { return offsets(); }
-    Snapshot snapshot() {
-        std::lock_guard<std::mutex> lock(shared_->mutex);
-        return *shared_->core.snapshot();
-    }
-    /// As that of a core: give the answer a name before a `for` goes through it.
-    [[nodiscard]] Result<Lag> lag(Word mutable_pages, Word resident_pages) {
-        if (!shared_) return detail::refused(HL_NO_CORE);
-        std::lock_guard<std::mutex> lock(shared_->mutex);
-        return shared_->core.lag(mutable_pages, resident_pages);
-    }
-
-    /// Takes what the journal has, and leaves it empty. Calls of a pass that took no lock are in it once the pass has
-    /// made one that does.
-    std::vector<Entry> take_journal() {
-        std::lock_guard<std::mutex> lock(shared_->mutex);
-        return std::exchange(shared_->journal, {});
-    }
-
-  private:
-    [[nodiscard]] static Result<Log> open(Sizes sizes, bool has_journal) {
-        auto core = Core::open(sizes);
-        if (!core) return Refused(core.error());
-        Log log;
-        log.shared_.reset(new (std::nothrow) detail::Shared(std::move(*core), sizes, has_journal));
-        if (!log.shared_) return Refused(Refusal{Fault::OutOfMemory});
-        log.shared_->cells.reset(new (std::nothrow) std::atomic<Word>[sizes.page_size() * sizes.frames()] {});
-        if (!log.shared_->cells) return Refused(Refusal{Fault::OutOfMemory});
+    [[nodiscard]] static Result<Log> open(Sizes sizes) noexcept {
+        auto *block = new (std::nothrow) detail::Block;
+        if (!block) return Refused(Refusal{Fault::OutOfMemory});
+        Log log(detail::Shared(block), sizes);
+        Word number = hl_log_open_wide(&block->log, sizes.page_size(), sizes.frames(), sizes.slots(),
+                                       sizes.drain_places(), detail::next_stamp());
+        if (number != 0) return detail::refused(number);
         return log;
     }
 
-    Log() = default;
+    Sizes sizes() const noexcept { return sizes_; }
 
-    hl_outcome make(const Step &step) {
-        if (!shared_) return {HL_NO_CORE, 0, 0, 0, 0};
-        return shared_->make(step);
+    /// Protects a slot until the pass goes out of scope. NoSlot, Occupied, OutOfMemory.
+    [[nodiscard]] Result<Pass> acquire(Word slot) noexcept {
+        hl_pass pass{};
+        auto entered = detail::entered(shared_.ask(hl_log_acquire, &pass, slot));
+        if (!entered) return Refused(entered.error());
+        return Pass(shared_, pass, slot, entered->view);
     }
-    [[nodiscard]] Result<Word> one(const Step &step) { return detail::one(detail::brief(make(step))); }
 
-    std::unique_ptr<detail::Shared> shared_;
+    // The calls of a core, under the lock.
+    [[nodiscard]] Result<Word> bump(Word tag) noexcept { return detail::one(shared_.ask(hl_log_bump, tag)); }
+    [[nodiscard]] Result<Word> settle() noexcept { return detail::one(shared_.ask(hl_log_settle)); }
+    [[nodiscard]] Result<Word> close() noexcept { return detail::one(shared_.ask(hl_log_close)); }
+    [[nodiscard]] Result<Word> bare() noexcept { return detail::one(shared_.ask(hl_log_bare)); }
+    [[nodiscard]] Result<Action> take() noexcept { return detail::action(shared_.ask(hl_log_take)); }
+    [[nodiscard]] Result<Done> done(Word ticket) noexcept { return detail::done(shared_.ask(hl_log_done, ticket)); }
+    [[nodiscard]] Result<Word> raise(Word address) noexcept { return detail::one(shared_.ask(hl_log_raise, address)); }
+    [[nodiscard]] Result<Word> shift(Word address) noexcept { return detail::one(shared_.ask(hl_log_shift, address)); }
+
+    /// Takes the least sealed page that is neither flushed nor in flight, to be copied. NoneSealed, OutOfMemory.
+    [[nodiscard]] Result<Flush> flush_take() noexcept {
+        hl_page page{};
+        auto number = detail::one(shared_.ask(hl_log_flush_take, &page));
+        if (!number) return Refused(number.error());
+        return Flush(shared_, page, *number);
+    }
+    /// Takes the least closed page that is neither freed nor being cleaned, to be swept. NoneClosed, OutOfMemory.
+    [[nodiscard]] Result<Clean> clean_take() noexcept {
+        hl_page page{};
+        auto number = detail::one(shared_.ask(hl_log_clean_take, &page));
+        if (!number) return Refused(number.error());
+        return Clean(shared_, page, *number);
+    }
+
+    Offsets offsets() const noexcept { return detail::offsets_of(shared_.ask(hl_log_six)); }
+    /// The old name of offsets().
+    [[deprecated("use offsets()")]] Offsets six() const noexcept { return offsets(); }
+    Snapshot snapshot() const noexcept { return detail::snapshot_of(shared_.ask(hl_log_snapshot)); }
+    /// As that of a core: give the answer a name before a `for` goes through it.
+    [[nodiscard]] Result<Lag> lag(Word mutable_pages, Word resident_pages) const noexcept {
+        return detail::lag_of(shared_.ask(hl_log_lag, mutable_pages, resident_pages));
+    }
+    /// The slot at a place among those that hold the oldest pending action up, 0 being the least. OutOfRange: fewer do, or
+    /// no action is pending.
+    [[nodiscard]] Result<Holder> holder(Word place) const noexcept {
+        return detail::made(shared_.ask(hl_log_holders, place),
+                            [](const hl_outcome &it) { return Holder{it.a, it.b, it.c, it.d}; });
+    }
+
+  private:
+    Log(detail::Shared shared, Sizes sizes) noexcept : shared_(std::move(shared)), sizes_(sizes) {}
+
+    detail::Shared shared_;
+    Sizes sizes_;
 };
 
 } // namespace HL_FORM

@@ -2,6 +2,7 @@
 // thread and of four. Words: how many steps each makes, and a folder for the journals as scripts with their texts.
 #include "script.hpp"
 
+#include <algorithm>
 #include <atomic>
 #include <cstdio>
 #include <cstdlib>
@@ -42,61 +43,61 @@ static hl::Sizes sizes_of(Word round) {
 /// What a flusher has in its hands.
 struct Hands {
     std::vector<Word> tickets;
-    std::vector<hl::Flush> flushes;
-    std::vector<hl::Clean> cleans;
+    std::vector<noted::Flush> flushes;
+    std::vector<noted::Clean> cleans;
     Word tags = 0;
 };
 
 /// Makes a step by which the pages go on, where one is due.
-static bool go_on(hl::Log &log, Hands &hands) {
+static bool go_on(noted::Log &log, Hands &hands) {
     hl::Offsets six = log.offsets();
     Word page_size = log.sizes().page_size(), page_start = six.tail / page_size * page_size;
     bool waits = log.snapshot().pending > 0;
     if (!hands.tickets.empty()) {
-        (void)log.done(hands.tickets.back());
+        log.done(hands.tickets.back());
         hands.tickets.pop_back();
     } else if (six.read_only < page_start) {
-        (void)log.raise(page_start);
+        log.raise(page_start);
     } else if (six.safe_read_only < six.read_only && !waits) {
-        (void)log.settle();
+        log.settle();
     } else if (six.head < six.flushed) {
-        (void)log.shift(six.flushed);
+        log.shift(six.flushed);
     } else if (six.closed < six.head && !waits) {
-        (void)log.close();
+        log.close();
     } else {
         return false;
     }
     return true;
 }
 
-static void end_flush(hl::Log &log, Hands &hands, Random &random) {
+static void end_flush(noted::Log &log, Hands &hands, Random &random) {
     if (hands.flushes.empty()) return;
-    hl::Flush page = std::move(hands.flushes.back());
+    noted::Flush page = std::move(hands.flushes.back());
     hands.flushes.pop_back();
     std::vector<Word> words(log.sizes().page_size());
     (void)page.copy(words.data(), words.size());
-    if (random.below(5) != 0) (void)page.done();
+    if (random.below(5) != 0) page.done();
 }
 
 /// A random step of the actions, the offsets or the pages. Refusals are steps as others.
-static void serve(hl::Log &log, Hands &hands, Random &random) {
+static void serve(noted::Log &log, Hands &hands, Random &random) {
     if (random.below(2) == 0 && go_on(log, hands)) return;
     hl::Offsets six = log.offsets();
     switch (random.below(20)) {
     case 0:
         // The program has 1,000 jobs.
-        if (hands.tags < 1000) (void)log.bump(hands.tags++);
+        if (hands.tags < 1000) log.bump(hands.tags++);
         break;
-    case 1: (void)log.settle(); break;
-    case 2: (void)log.close(); break;
-    case 3: (void)log.bare(); break;
-    case 4: (void)log.done(random.below(9)); break;
-    case 5: (void)log.raise(random.near(six.tail)); break;
-    case 6: (void)log.shift(random.near(six.head)); break;
+    case 1: log.settle(); break;
+    case 2: log.close(); break;
+    case 3: log.bare(); break;
+    case 4: log.done(random.below(9)); break;
+    case 5: log.raise(random.near(six.tail)); break;
+    case 6: log.shift(random.near(six.head)); break;
     case 7:
     case 8:
     case 9:
-        if (auto action = log.take()) hands.tickets.push_back(action->ticket);
+        if (auto ticket = log.take()) hands.tickets.push_back(*ticket);
         break;
     case 10:
     case 11:
@@ -119,14 +120,14 @@ static void serve(hl::Log &log, Hands &hands, Random &random) {
 /// A pass with the addresses of its own records. All riders count how many words they stored and loaded, or were
 /// refused.
 struct Rider {
-    hl::Pass pass;
+    noted::Pass pass;
     std::vector<Word> own;
     std::atomic<size_t> *words;
 };
 
 /// A random step of a pass; its words go to addresses of its own records, and above its tail.
 static void ride(Rider &rider, Random &random, hl::Sizes sizes) {
-    hl::Pass &pass = rider.pass;
+    noted::Pass &pass = rider.pass;
     std::vector<Word> &own = rider.own;
     Word address = own.empty() || random.below(8) == 0 ? pass.view().tail + random.below(3) : own[random.place_in(own)];
     Word choice = random.below(10);
@@ -164,13 +165,13 @@ static bool same(const hl::Snapshot &x, const hl::Snapshot &y) {
 
 /// Steps a fresh core, and words by address, through a journal: each answer is to be the journal's, and all quantities
 /// at the end the log's.
-static bool replays(hl::Sizes sizes, const std::vector<hl::Entry> &journal, const hl::Snapshot &last) {
+static bool replays(hl::Sizes sizes, const std::vector<noted::Entry> &journal, const hl::Snapshot &last) {
     hl::Core core = hl::Core::open(sizes).value();
     std::unordered_map<Word, Word> words;
-    for (const hl::Entry &entry : journal) {
-        hl_outcome told = hl::detail::step(core.handle(), entry.step);
-        if (told.number == 0 && entry.step.call == hl::Call::Store) words[entry.step.b] = entry.step.c;
-        if (told.number == 0 && entry.step.call == hl::Call::Load) told.a = words[entry.step.b];
+    for (const noted::Entry &entry : journal) {
+        hl_outcome told = noted::make(core.handle(), entry.step);
+        if (told.number == 0 && entry.step.call == noted::Call::Store) words[entry.step.b] = entry.step.c;
+        if (told.number == 0 && entry.step.call == noted::Call::Load) told.a = words[entry.step.b];
         if (!same(told, entry.told)) {
             std::printf("%s: %s, and the core tells %s\n", line_of(entry.step).c_str(), answer_of(entry).c_str(),
                         answer_of({entry.step, told}).c_str());
@@ -182,17 +183,17 @@ static bool replays(hl::Sizes sizes, const std::vector<hl::Entry> &journal, cons
     return false;
 }
 
-static void write_script(const std::string &path, hl::Sizes sizes, const std::vector<hl::Entry> &journal) {
+static void write_script(const std::string &path, hl::Sizes sizes, const std::vector<noted::Entry> &journal) {
     std::ofstream script(path + ".script"), text(path + ".expected");
     script << joined("config", {sizes.page_size(), sizes.frames(), sizes.slots(), sizes.drain_places()}) << '\n';
     text << "opened\n";
-    for (const hl::Entry &entry : journal) {
+    for (const noted::Entry &entry : journal) {
         script << line_of(entry.step) << '\n';
         text << answer_of(entry) << '\n';
     }
 }
 
-static void one_thread(hl::Log &log, Word round, std::atomic<size_t> &words) {
+static void one_thread(noted::Log &log, Word round, std::atomic<size_t> &words) {
     Random random(round + 47);
     Hands hands;
     std::vector<Rider> riders;
@@ -212,7 +213,7 @@ static void one_thread(hl::Log &log, Word round, std::atomic<size_t> &words) {
     }
 }
 
-static void four_threads(hl::Log &log, Word round, std::atomic<size_t> &words) {
+static void four_threads(noted::Log &log, Word round, std::atomic<size_t> &words) {
     std::atomic<bool> riding{true};
     std::vector<std::thread> threads;
     for (Word slot = 0; slot < 4; slot++)
@@ -245,6 +246,38 @@ static void refresh_and_serve(hl::Log &log, hl::Pass &writer, hl::Pass &reader) 
     log.done(log.take().value().ticket).value();
 }
 
+/// Words are changed in one step, and refused as a store is.
+static bool are_changed_in_one_step() {
+    hl::Log log = hl::Log::open(hl::Sizes::checked(4, 2, 1, 4).value()).value();
+    hl::Pass pass = log.acquire(0).value();
+    bool well = pass.fetch_add(0, 1).error() == hl::Fault::Beyond && pass.allocate(4).value() == 0;
+    well = well && pass.fetch_add(3, 5).value() == 0 && pass.fetch_add(3, ~Word{0}).value() == 5;
+    well = well && pass.load(3).value() == 4 && pass.compare_exchange(3, 5, 9).value() == 4;
+    well = well && pass.load(3).value() == 4 && pass.compare_exchange(3, 4, 9).value() == 4 && pass.load(3).value() == 9;
+    well = well && log.raise(4) && pass.look().read_only == 4 && pass.fetch_add(3, 1).error() == hl::Fault::Below;
+    well = well && pass.compare_exchange(3, 9, 1).error() == hl::Fault::Below && pass.load(3).value() == 9;
+    if (!well) std::printf("changes in one step\n");
+    return well;
+}
+
+/// A slot that doesn't move on holds the oldest action up, and knows by itself that something is new.
+static bool is_held_up() {
+    hl::Log log = hl::Log::open(hl::Sizes::checked(4, 2, 3, 4).value()).value();
+    hl::Pass first = log.acquire(0).value();
+    bool well = log.holder(0).error() == hl::Fault::OutOfRange;
+    {
+        hl::Pass last = log.acquire(2).value();
+        well = well && first.keeps_up() && last.keeps_up() && log.bump(7).value() == 1;
+        well = well && !first.keeps_up() && !last.keeps_up();
+        hl::Holder holder = log.holder(1).value();
+        well = well && holder.slot == 2 && holder.epoch == 1 && holder.ticket == 1 && holder.count == 2;
+        well = well && first.refresh() && first.keeps_up() && log.holder(0)->slot == 2 && !log.holder(1);
+    }
+    well = well && !log.holder(0) && log.take()->ticket == 1;
+    if (!well) std::printf("who holds up\n");
+    return well;
+}
+
 /// One page's way: what each thread sees of it, and what its copy and its next words are.
 static bool is_the_way_of_a_page() {
     hl::Log log = hl::Log::open(hl::Sizes::checked(4, 2, 2, 4).value()).value();
@@ -260,7 +293,7 @@ static bool is_the_way_of_a_page() {
     { auto given_back = log.flush_take().value(); }
     hl::Flush page = log.flush_take().value();
     Word words[4] = {1, 1, 1, 1};
-    well = well && page.copy(words, 3).error() == hl::Fault::OutOfRange && words[0] == 1;
+    well = well && page.copy(words, 3).error() == hl::Fault::Size && words[0] == 1;
     well = well && page.copy(words, 4).has_value() && words[0] == 0 && words[2] == 0 && words[3] == 8 && page.done().value() == 4;
 
     // Nor the shift.
@@ -275,17 +308,17 @@ static bool is_the_way_of_a_page() {
 }
 
 /// Makes so many steps in rounds, and compares each round's journal.
-static bool compares(const char *name, void (*make)(hl::Log &, Word, std::atomic<size_t> &), size_t steps,
+static bool compares(const char *name, void (*make)(noted::Log &, Word, std::atomic<size_t> &), size_t steps,
                      const char *folder) {
     size_t made = 0;
     for (Word round = 0; made < steps; round++) {
-        hl::Log log = hl::Log::with_journal(sizes_of(round)).value();
+        noted::Log log(sizes_of(round));
         std::atomic<size_t> words{0};
         make(log, round, words);
-        std::vector<hl::Entry> journal = log.take_journal();
+        std::vector<noted::Entry> journal = log.take_journal();
         if (!replays(log.sizes(), journal, log.snapshot())) return false;
-        auto is_of_a_word = [](const hl::Entry &entry) {
-            return entry.step.call == hl::Call::Store || entry.step.call == hl::Call::Load;
+        auto is_of_a_word = [](const noted::Entry &entry) {
+            return entry.step.call == noted::Call::Store || entry.step.call == noted::Call::Load;
         };
         if (std::count_if(journal.begin(), journal.end(), is_of_a_word) != static_cast<std::ptrdiff_t>(words)) {
             std::printf("the journal lacks stores or loads\n");
@@ -301,6 +334,7 @@ static bool compares(const char *name, void (*make)(hl::Log &, Word, std::atomic
 int main(int count, char **words) {
     size_t steps = count > 1 ? std::strtoull(words[1], nullptr, 10) : 100000;
     const char *folder = count > 2 ? words[2] : nullptr;
-    bool one = is_the_way_of_a_page() && compares("cpp_one_", one_thread, steps, folder);
+    bool one = is_the_way_of_a_page() && are_changed_in_one_step() && is_held_up() &&
+               compares("cpp_one_", one_thread, steps, folder);
     return one && compares("cpp_four_", four_threads, steps, folder) ? 0 : 1;
 }

@@ -13,7 +13,7 @@ static int wrong;
 template <class T, class = void> struct gives_slots : std::false_type {};
 template <class T>
 struct gives_slots<T, std::void_t<decltype(std::declval<T>().acquire(hl::Word{0}))>> : std::true_type {};
-static_assert(gives_slots<hl::Log &>::value && !gives_slots<hl::Log>::value, "a pass of a log that goes away");
+static_assert(gives_slots<hl::Log &>::value && gives_slots<hl::Log>::value, "a pass may outlive its log");
 static_assert(gives_slots<hl::Core &>::value && !gives_slots<hl::Core>::value, "a slot of a core that goes away");
 
 // Whether the value of an answer that goes away at once is given without an exception.
@@ -172,6 +172,22 @@ static void a_log() {
     wants("a lag of a log that was moved", log.lag(1, 1), hl::Fault::NoCore);
     wants("an acquire of a log that was moved", log.acquire(0), hl::Fault::NoCore);
     is("the log that it was moved to", other.snapshot().epoch == 1);
+    is("quantities of a log that was moved", log.snapshot().epoch == 0 && log.offsets().tail == 0);
+    is("no answer throws", noexcept(log.take()) && noexcept(log.acquire(0)) && noexcept(other.flush_take()));
+
+    // A pass and a page that outlive their log.
+    auto last = std::make_optional(hl::Log::open(hl::Sizes::checked(4, 2, 1, 1).value()).value());
+    hl::Pass pass = last->acquire(0).value();
+    is("a record", pass.allocate(4).value() == 0 && pass.store(1, 7).has_value());
+    is("a raise and a settle", last->raise(4).value() == 4 && last->settle().value() == 1);
+    is("a refresh and a done", pass.refresh().has_value() && last->done(last->take()->ticket).has_value());
+    hl::Flush page = last->flush_take().value();
+    last.reset();
+    hl::Word words[4] = {};
+    is("a load by a pass without its log", pass.load(1).value() == 7 && pass.refresh().has_value());
+    is("a copy of a page without its log", page.copy(words, 4).has_value() && words[1] == 7);
+    is("a page that is done without its log", page.done().value() == 4);
+    wants("a page that is done twice", page.done(), hl::Fault::NoCore);
 }
 
 // What an answer leads to.

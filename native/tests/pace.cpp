@@ -2,10 +2,12 @@
 // threads. ./hl bench puts them beside the Rust log's.
 #include "hl_log.hpp"
 
+#include <algorithm>
 #include <atomic>
 #include <chrono>
 #include <cstdio>
 #include <thread>
+#include <vector>
 
 using hl::Word;
 using Clock = std::chrono::steady_clock;

@@ -2,7 +2,7 @@
 #ifndef SCRIPT_HPP
 #define SCRIPT_HPP
 
-#include "hl_log.hpp"
+#include "noted_log.hpp"
 
 #include <initializer_list>
 #include <string>
@@ -14,27 +14,27 @@ inline std::string joined(std::string words, std::initializer_list<hl::Word> num
     return words;
 }
 
-inline std::string line_of(const hl::Step &step) {
+inline std::string line_of(const noted::Step &step) {
     switch (step.call) {
-    case hl::Call::Acquire: return joined("acquire", {step.a});
-    case hl::Call::Refresh: return joined("refresh", {step.a});
-    case hl::Call::Release: return joined("release", {step.a});
-    case hl::Call::Bump: return joined("bump", {step.a});
-    case hl::Call::Settle: return "settle";
-    case hl::Call::Close: return "close";
-    case hl::Call::Bare: return "bare";
-    case hl::Call::Take: return "take";
-    case hl::Call::Done: return joined("done", {step.a});
-    case hl::Call::Raise: return joined("raise", {step.a});
-    case hl::Call::Shift: return joined("shift", {step.a});
-    case hl::Call::Allocate: return joined("alloc", {step.a, step.b});
-    case hl::Call::Look: return joined("look", {step.a, step.b, step.c});
-    case hl::Call::Store: return joined("write", {step.a, step.b, step.c});
-    case hl::Call::Load: return joined("read", {step.a, step.b});
-    case hl::Call::FlushTake: return "flush take";
-    case hl::Call::FlushDone: return joined("flush done", {step.a}) + (step.b == 1 ? " ok" : " failed");
-    case hl::Call::CleanTake: return "clean take";
-    case hl::Call::CleanDone: return joined("clean done", {step.a});
+    case noted::Call::Acquire: return joined("acquire", {step.a});
+    case noted::Call::Refresh: return joined("refresh", {step.a});
+    case noted::Call::Release: return joined("release", {step.a});
+    case noted::Call::Bump: return joined("bump", {step.a});
+    case noted::Call::Settle: return "settle";
+    case noted::Call::Close: return "close";
+    case noted::Call::Bare: return "bare";
+    case noted::Call::Take: return "take";
+    case noted::Call::Done: return joined("done", {step.a});
+    case noted::Call::Raise: return joined("raise", {step.a});
+    case noted::Call::Shift: return joined("shift", {step.a});
+    case noted::Call::Allocate: return joined("alloc", {step.a, step.b});
+    case noted::Call::Look: return joined("look", {step.a, step.b, step.c});
+    case noted::Call::Store: return joined("write", {step.a, step.b, step.c});
+    case noted::Call::Load: return joined("read", {step.a, step.b});
+    case noted::Call::FlushTake: return "flush take";
+    case noted::Call::FlushDone: return joined("flush done", {step.a}) + (step.b == 1 ? " ok" : " failed");
+    case noted::Call::CleanTake: return "clean take";
+    case noted::Call::CleanDone: return joined("clean done", {step.a});
     }
     return "";
 }
@@ -52,33 +52,33 @@ inline std::string fault_of(const hl_outcome &told) {
     }
 }
 
-inline std::string answer_of(const hl::Entry &entry) {
+inline std::string answer_of(const noted::Entry &entry) {
     const hl_outcome &told = entry.told;
     if (told.number != 0) return fault_of(told);
     switch (entry.step.call) {
-    case hl::Call::Acquire:
-    case hl::Call::Refresh: return joined(joined("epoch", {told.a}) + " view", {told.b, told.c, told.d});
-    case hl::Call::Release: return "left";
-    case hl::Call::Bump:
-    case hl::Call::Settle:
-    case hl::Call::Close: return joined("ticket", {told.a});
-    case hl::Call::Bare: return joined("bumped", {told.a});
-    case hl::Call::Take: return joined("taken", {told.a});
-    case hl::Call::Done:
+    case noted::Call::Acquire:
+    case noted::Call::Refresh: return joined(joined("epoch", {told.a}) + " view", {told.b, told.c, told.d});
+    case noted::Call::Release: return "left";
+    case noted::Call::Bump:
+    case noted::Call::Settle:
+    case noted::Call::Close: return joined("ticket", {told.a});
+    case noted::Call::Bare: return joined("bumped", {told.a});
+    case noted::Call::Take: return joined("taken", {told.a});
+    case noted::Call::Done:
         // The program's jobs answer their tag and their ticket.
         return told.b == HL_JOB       ? joined("answer", {told.a + entry.step.a})
                : told.b == HL_SETTLES ? joined("safe_read_only", {told.a})
                                       : joined("closed", {told.a});
-    case hl::Call::Raise: return joined("read_only", {told.a});
-    case hl::Call::Shift: return joined("head", {told.a});
-    case hl::Call::Allocate: return joined("at", {told.a});
-    case hl::Call::Look: return joined("view", {told.b, told.c, told.d});
-    case hl::Call::Store: return "written";
-    case hl::Call::Load: return joined("value", {told.a});
-    case hl::Call::FlushTake:
-    case hl::Call::CleanTake: return joined("page", {told.a});
-    case hl::Call::FlushDone: return joined("flushed", {told.a});
-    case hl::Call::CleanDone: return joined("freed", {told.a});
+    case noted::Call::Raise: return joined("read_only", {told.a});
+    case noted::Call::Shift: return joined("head", {told.a});
+    case noted::Call::Allocate: return joined("at", {told.a});
+    case noted::Call::Look: return joined("view", {told.b, told.c, told.d});
+    case noted::Call::Store: return "written";
+    case noted::Call::Load: return joined("value", {told.a});
+    case noted::Call::FlushTake:
+    case noted::Call::CleanTake: return joined("page", {told.a});
+    case noted::Call::FlushDone: return joined("flushed", {told.a});
+    case noted::Call::CleanDone: return joined("freed", {told.a});
     }
     return "";
 }
