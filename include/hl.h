@@ -50,6 +50,66 @@ typedef struct hl_brief {
     uint64_t a;
 } hl_brief;
 
+/* The same answers by names: of an acquire, a refresh and a look (hl_look tells no epoch: 0). */
+typedef struct hl_entered {
+    uint64_t number;
+    uint64_t epoch;
+    uint64_t read_only;
+    uint64_t head;
+    uint64_t tail;
+} hl_entered;
+
+static inline hl_entered hl_as_entered(hl_outcome told) {
+    hl_entered entered = {told.number, told.a, told.b, told.c, told.d};
+    return entered;
+}
+
+/* Of a take. The tag is that of a job, else 0. */
+typedef struct hl_taken {
+    uint64_t number;
+    uint64_t ticket;
+    bool is_job;
+    uint64_t tag;
+} hl_taken;
+
+static inline hl_taken hl_as_taken(hl_outcome told) {
+    hl_taken taken = {told.number, told.a, told.number == 0 && told.b == 1, told.c};
+    return taken;
+}
+
+/* Of a done, and of hl_pending, which alone tells a ticket and how many are pending. The kind is one of hl_kind; the value
+ * is a job's tag, or an offset. */
+typedef struct hl_action {
+    uint64_t number;
+    uint64_t kind;
+    uint64_t value;
+    uint64_t ticket;
+    uint64_t count;
+} hl_action;
+
+static inline hl_action hl_as_done(hl_outcome told) {
+    hl_action action = {told.number, told.b, told.a, 0, 0};
+    return action;
+}
+
+static inline hl_action hl_as_pending(hl_outcome told) {
+    hl_action action = {told.number, told.b, told.c, told.a, told.d};
+    return action;
+}
+
+/* Of hl_frame. The state is one of hl_frame_state; the page is 0 where the frame has none. */
+typedef struct hl_frame_told {
+    uint64_t number;
+    uint64_t state;
+    bool has_page;
+    uint64_t page;
+} hl_frame_told;
+
+static inline hl_frame_told hl_as_frame(hl_outcome told) {
+    hl_frame_told frame = {told.number, told.a, told.number == 0 && told.b == 1, told.c};
+    return frame;
+}
+
 /* The faults of docs/RULES.md that a call can meet. */
 enum hl_fault {
     HL_NO_SLOT = 1,
@@ -286,7 +346,7 @@ hl_outcome hl_pending(hl_core *core, uint64_t place);
 /* A frame: a its state, b 1 and c its page where it isn't free. HL_OUT_OF_RANGE: there is no such frame. */
 hl_outcome hl_frame(hl_core *core, uint64_t frame);
 
-/* A slot's view: a 1 and b to d the view where the slot is protected, else 0. */
+/* A slot's view: a 1 and b to d the view where the slot is protected, else 0. HL_OUT_OF_RANGE: there is no such slot. */
 hl_outcome hl_view(hl_core *core, uint64_t slot);
 
 #ifdef __cplusplus

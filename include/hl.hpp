@@ -443,7 +443,7 @@ class Core {
             return Frame{static_cast<FrameState>(it.a), it.b == 1 ? std::optional<Word>(it.c) : std::nullopt};
         });
     }
-    /// None where the slot isn't protected, or there is no such slot.
+    /// None where the slot isn't protected. OutOfRange: there is no such slot.
     [[nodiscard]] Result<std::optional<View>> view(Word slot) const {
         return detail::made(detail::ask(hl_view, at_.get(), slot), [](const hl_outcome &it) {
             return it.a == 1 ? std::optional<View>(detail::view_of(it)) : std::nullopt;

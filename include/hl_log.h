@@ -140,6 +140,20 @@ hl_lag_steps hl_log_lag(hl_log *log, uint64_t mutable_pages, uint64_t resident_p
  * action. HL_OUT_OF_RANGE: fewer do, or no action is pending. */
 hl_outcome hl_log_holders(hl_log *log, uint64_t place);
 
+/* The same by names. */
+typedef struct hl_holder {
+    uint64_t number;
+    uint64_t slot;
+    uint64_t epoch;
+    uint64_t ticket;
+    uint64_t count;
+} hl_holder;
+
+static inline hl_holder hl_as_holder(hl_outcome told) {
+    hl_holder holder = {told.number, told.a, told.b, told.c, told.d};
+    return holder;
+}
+
 /* ---- Without the lock: a pass. Each call answers HL_NO_CORE where its handle has none. An address is judged by what
  * the pass sees: its view of the last call under the lock, and what a look brought since. ---- */
 

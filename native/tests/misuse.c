@@ -101,11 +101,47 @@ static void out_of_place(void) {
     wants("a page where none is closed", hl_clean_take(&core).number, HL_NONE_CLOSED);
     wants("an end of no cleaning", hl_clean_done(&core, 0).number, HL_NOT_CLEANING);
     wants("a frame that isn't there", hl_frame(&core, 2).number, HL_OUT_OF_RANGE);
+    wants("a view of a slot that isn't there", hl_view(&core, 2).number, HL_OUT_OF_RANGE);
+    wants("a view of a slot that isn't protected", hl_view(&core, 1).number, 0);
     wants("a lag with no mutable page", hl_lag(&core, 0, 1).number, HL_OUT_OF_RANGE);
     wants("a lag with more mutable pages than resident ones", hl_lag(&core, 2, 1).number, HL_OUT_OF_RANGE);
     wants("a lag with all frames resident", hl_lag(&core, 1, 2).number, HL_OUT_OF_RANGE);
     wants("a place where nothing waits", hl_pending(&core, 1).number, HL_OUT_OF_RANGE);
     wants("the end", hl_free(&core), 0);
+}
+
+/* Answers by their names. */
+static void named(void) {
+    hl_core core = {0};
+    wants("an opening", hl_open(&core, 4, 2, 2, 2), 0);
+    wants("an opening of an open handle", hl_open(&core, 4, 2, 2, 2), HL_IS_OPEN);
+    hl_entered entered = hl_as_entered(hl_acquire(&core, 0));
+    wants("an epoch", entered.epoch, 1);
+    wants("a record", hl_allocate(&core, 0, 4).a, 0);
+    wants("a raise", hl_raise(&core, 4).a, 4);
+    wants("a bump", hl_bump(&core, 7).a, 1);
+    wants("a settle", hl_settle(&core).a, 2);
+    hl_action pending = hl_as_pending(hl_pending(&core, 1));
+    wants("what is pending", pending.kind, HL_SETTLES);
+    wants("its ticket", pending.ticket, 2);
+    wants("what it stored", pending.value, 4);
+    wants("how many are pending", pending.count, 2);
+    wants("a take that is refused", hl_as_taken(hl_take(&core)).number, HL_NOT_READY);
+    entered = hl_as_entered(hl_refresh(&core, 0));
+    wants("a view's offset", entered.read_only, 4);
+    wants("a view's tail", entered.tail, 4);
+    hl_taken taken = hl_as_taken(hl_take(&core));
+    wants("a job", taken.is_job && taken.ticket == 1, 1);
+    wants("its tag", taken.tag, 7);
+    wants("a done of a job", hl_as_done(hl_done(&core, 1)).value, 7);
+    wants("a settle is no job", hl_as_taken(hl_take(&core)).is_job, 0);
+    hl_action done = hl_as_done(hl_done(&core, 2));
+    wants("a done of a settle", done.kind, HL_SETTLES);
+    wants("the safe offset", done.value, 4);
+    hl_frame_told frame = hl_as_frame(hl_frame(&core, 0));
+    wants("a frame", frame.has_page && frame.state == HL_SEALED, 1);
+    wants("a frame without a page", hl_as_frame(hl_frame(&core, 1)).has_page, 0);
+    wants("the end of names", hl_free(&core), 0);
 }
 
 /* A core of the greatest sizes has all its slots, frames and places, and no more. */
@@ -139,6 +175,7 @@ int main(void) {
     no_core();
     sizes();
     out_of_place();
+    named();
     greatest();
     printf("misuse in C: %d wrong\n", wrong);
     return wrong != 0;

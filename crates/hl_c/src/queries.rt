@@ -99,15 +99,20 @@ pub extern "C" fn hl_frame(handle: &mut Handle, frame: u64) -> Outcome
     }
 }
 
-/// A slot's view, if it is protected.
+/// A slot's view, if it is protected. Out of range where there is no such slot.
 #[unsafe(no_mangle)]
 pub extern "C" fn hl_view(handle: &mut Handle, slot: u64) -> Outcome
-    ensures { Tells handle.old.slot.value (λ sizes A. view_told (slot_view sizes slot A))
+    ensures { Tells handle.old.slot.value
+        (λ sizes A. if nat_lt slot sizes.slots then view_told (slot_view sizes slot A) else out_of_range)
         no_core handle.new.slot.value result }
 {
     match handle.take_core() {
         Some(core) => {
-            let outcome = Outcome::of_view(core.view(slot));
+            let outcome = if slot < core.params().slots() {
+                Outcome::of_view(core.view(slot))
+            } else {
+                Outcome::out_of_range()
+            };
             handle.put_core(core);
             outcome
         }
