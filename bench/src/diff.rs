@@ -102,7 +102,11 @@ fn sampled(random: &mut Random, twin: &Twin, door: &mut Door, sizes: Sizes) -> R
     let frame = random.below(sizes.frames + 1);
     same("frame", told::of_frame(twin.frame(frame)), door.frame(frame))?;
     let slot = random.below(sizes.slots + 1);
-    same("view", told::of_view(twin.view(slot)), door.view(slot))
+    same(
+        "view",
+        told::of_view(sizes.slots, slot, twin.view(slot)),
+        door.view(slot),
+    )
 }
 
 /// Everything that can be asked.
@@ -114,7 +118,11 @@ fn whole(twin: &Twin, door: &mut Door, sizes: Sizes) -> Result<(), String> {
         same("frame", told::of_frame(twin.frame(frame)), door.frame(frame))?;
     }
     for slot in (0..=sizes.slots).chain([u64::MAX]) {
-        same("view", told::of_view(twin.view(slot)), door.view(slot))?;
+        same(
+            "view",
+            told::of_view(sizes.slots, slot, twin.view(slot)),
+            door.view(slot),
+        )?;
     }
     Ok(())
 }

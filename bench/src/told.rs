@@ -138,6 +138,10 @@ pub fn of_frame(frame: Option<(FrameState, Option<u64>)>) -> Outcome {
     }
 }
 
-pub fn of_view(view: Option<View>) -> Outcome {
+/// Of a slot below so many.
+pub fn of_view(slots: u64, slot: u64, view: Option<View>) -> Outcome {
+    if slot >= slots {
+        return refused(OUT_OF_RANGE, 0, 0);
+    }
     view.map_or(accepted(0, 0, 0, 0), |view| seen(1, view))
 }
