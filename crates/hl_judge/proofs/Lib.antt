@@ -1,3 +1,4 @@
+pub mod AgreeLaws
 pub mod PartLaws
 pub mod ReadLaws
 pub mod TraceLaws

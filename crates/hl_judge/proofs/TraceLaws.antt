@@ -23,12 +23,12 @@ use Rattle.hl_judge.proofs.ReadLaws.{end_later}
 use Rattle.hl_judge.specs.Judging.{ReadInLine, LineRead, IsReadFault, EntryAgrees, EntryDeviates, Come, Tells, StoppedBehind, Judges}
 
 -- at the end of the lines
-after_none : (has : ℕ → Bool) (before : List Line) → judged_after has before [] ≡ AllAgree (length before)
+pub after_none : (has : ℕ → Bool) (before : List Line) → judged_after has before [] ≡ AllAgree (length before)
 unfolding judged_after
 after_none has before = refl
 
 -- a line whose reply is the one that the definitions give
-after_agrees : (has : ℕ → Bool) (before : List Line) (bytes : List ℕ) (others : List (List ℕ)) (entry : Entry)
+pub after_agrees : (has : ℕ → Bool) (before : List Line) (bytes : List ℕ) (others : List (List ℕ)) (entry : Entry)
     → entry_of before bytes ≡ Some entry → bytes_eq entry.reply (reply_line has before entry.line) ≡ true
     → judged_after has before (bytes ∷ others) ≡ judged_after has (before ++ entry.line ∷ []) others
 unfolding judged_after
@@ -37,7 +37,7 @@ after_agrees has before bytes others entry is same =
     ∙ ap (λ b. cond b (judged_after has (before ++ entry.line ∷ []) others) (Deviation (length before + 1) bytes (reply_line has before entry.line))) same
 
 -- a line with another
-after_deviates : (has : ℕ → Bool) (before : List Line) (bytes : List ℕ) (others : List (List ℕ)) (entry : Entry)
+pub after_deviates : (has : ℕ → Bool) (before : List Line) (bytes : List ℕ) (others : List (List ℕ)) (entry : Entry)
     → entry_of before bytes ≡ Some entry → bytes_eq entry.reply (reply_line has before entry.line) ≡ false
     → judged_after has before (bytes ∷ others) ≡ Deviation (length before + 1) bytes (reply_line has before entry.line)
 unfolding judged_after
@@ -46,7 +46,7 @@ after_deviates has before bytes others entry is other =
     ∙ ap (λ b. cond b (judged_after has (before ++ entry.line ∷ []) others) (Deviation (length before + 1) bytes (reply_line has before entry.line))) other
 
 -- a line that is none of a trace
-after_no_entry : (has : ℕ → Bool) (before : List Line) (bytes : List ℕ) (others : List (List ℕ))
+pub after_no_entry : (has : ℕ → Bool) (before : List Line) (bytes : List ℕ) (others : List (List ℕ))
     → entry_of before bytes ≡ None → judged_after has before (bytes ∷ others) ≡ NoEntry (length before + 1)
 unfolding judged_after
 after_no_entry has before bytes others is =
@@ -102,6 +102,10 @@ tells_at_end P given left input c end h = record { input = input; consumed = c; 
     by_known None left c end = tt
     by_known (Some xs) None c end = absurd c
     by_known (Some xs) (Some ys) c end = subst P (sym (c ∙ ap (λ z. input ++ z) end ∙ append-nil input)) h
+
+-- so many lines, and one more
+pub lines_more : (lines : ℕ) (before : List Line) (line : Line) → lines ≡ length before → lines + 1 ≡ length (before ++ line ∷ [])
+lines_more lines before line is = omega (arith, is, length_push before line)
 
 -- what is found at a line whose LF was read
 pub found_line : (has : ℕ → Bool) (done : List ℕ) (before : List Line) (bytes : List ℕ) (found : Finding) → Come has done before → list_any is_end bytes ≡ false

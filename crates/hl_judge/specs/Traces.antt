@@ -1,5 +1,5 @@
 -- What a judge says of a trace: a function of its bytes and of the tags that have a job.
-use Rattle.std.specs.Prelude.{ℕ, ◌+◌, nat_le, nat_eq, Bool, if◌then◌else◌, Option, Some, None, List, [], ◌∷◌, ◌++◌, length, drop, codes, bytes_eq}
+use Rattle.std.specs.Prelude.{ℕ, ◌+◌, nat_le, nat_eq, Bool, if◌then◌else◌, Option, Some, None, List, [], ◌∷◌, ◌++◌, length, drop, codes, bytes_eq, unwrap_or, flat_map}
 use Rattle.std.specs.List.{starts_with}
 use Rattle.std.specs.Option.{option_map_or}
 use Rattle.hl_line.specs.declared.line.Line.{Line}
@@ -64,3 +64,11 @@ judged_after has before (bytes ∷ others) =
 -- what is found in a trace
 unfoldable pub judged : (ℕ → Bool) → List ℕ → Finding
 judged has bytes = judged_after has [] (cut bytes)
+
+-- the script of a trace: what stands before the first ` -> ` of each line, with an LF
+unfoldable pub script_of : List ℕ → List ℕ
+script_of trace = flat_map (λ bytes. line_part bytes ++ 10 ∷ []) (cut trace)
+
+-- the replies of a trace: what stands behind the first ` -> ` of each line, with an LF
+unfoldable pub replies_of : List ℕ → List ℕ
+replies_of trace = flat_map (λ bytes. unwrap_or (reply_part bytes) [] ++ 10 ∷ []) (cut trace)

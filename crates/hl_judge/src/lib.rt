@@ -15,6 +15,7 @@
 //! | `laws` | what it means that all lines agree |
 #![tactic(auto)]
 
+pub mod laws;
 mod parts;
 mod reading;
 mod run;

@@ -1,8 +1,7 @@
-use Rattle.std.proofs.Common.{◌++◌, ◌∷◌, ◌+◌, [], refl, sym, ap, ◌∙◌}
-use Rattle.std.proofs.lemmas.List.{length_push}
+use Rattle.std.proofs.Common.{◌++◌, ◌∷◌, [], refl}
 use Rattle.std.proofs.lemmas.Result.{err_from_is_err_and}
 use Rattle.hl_script.proofs.KnownLaws.{Consumes-nothing, Consumes-more}
-use Rattle.hl_judge.proofs.TraceLaws.{come_start, come_more, cut_is_none, lacked_at_start, lacked_at_line, broken_read, judged_end, judged_last, judged_deviates, judged_no_entry, stopped}
+use Rattle.hl_judge.proofs.TraceLaws.{come_start, come_more, cut_is_none, lacked_at_start, lacked_at_line, broken_read, judged_end, judged_last, judged_deviates, judged_no_entry, stopped, lines_more}
 use Rattle.hl_judge.proofs.run.judge_lines.Goals as goal
 
 pub returns-in_err-bytes : goal.returns-in_err-bytes
@@ -82,7 +81,7 @@ loop-lines-preserved g c = λ has standing.
       Consumes-more (g.R.Read.remaining c.args.reader.now) (g.R.Read.remaining c.loop-lines.reader) (g.R.Read.remaining c.read_line_of.new.reader) here.0 (bytes ++ 10 ∷ []) here.2 read.consumed,
       found.standing,
       come_more (g.M.Machine.stands c.judge_line.new.machine) has here.0 here.1 bytes here.4 read.no_end found,
-      ap (λ n. n + 1) here.5 ∙ sym (length_push here.1 found.entry.line),
+      lines_more c.loop-lines.lines here.1 found.entry.line here.5,
     )
 
 pub returns : goal.returns
