@@ -5,3 +5,6 @@ links_lead() {
 }
 
 check "the links of the pages" links_lead
+
+# The faults have one number and one name in every language.
+check "the faults of all languages" python3 -B "$scripts/shown/faults.py" "$scripts/.."
