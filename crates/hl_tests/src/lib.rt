@@ -2,16 +2,18 @@
 //! devices that fail, no fault at the greatest numbers, drops, printed text, exact turns, and one happy path of
 //! what the built program doesn't call. Each module tries the crate that it is named after, `tables` both tables
 //! of epochs, `report` that of `hl_monitor`, `refused` the type of `hl` for refusals, `log` its threads, `crew` its crew,
-//! `tickets` the calls of `hl_tickets` once. What else a clause says is tested nowhere; that the clauses mean what was
-//! meant is shown by the examples that the built program is run on.
+//! `tickets` and `counters` the calls of `hl_tickets` and `hl_counters` once. What else a clause says is tested nowhere;
+//! that the clauses mean what was meant is shown by the examples that the built program is run on.
 //!
 //! This crate has no code beside its tests: a crate with tests is proved twice, so only this one,
 //! `hl_run_tests`, `hl_domain_tests` and `hl_crew_tests` have any. It stands on every part that the program needs,
-//! on `hl`, and on `hl_tickets`.
+//! on `hl`, on `hl_tickets`, and on `hl_counters`.
 #![tactic(auto)]
 
 #[cfg(test)]
 mod action;
+#[cfg(test)]
+mod counters;
 #[cfg(test)]
 mod crew;
 #[cfg(test)]

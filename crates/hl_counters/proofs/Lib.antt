@@ -1,0 +1,3 @@
+pub mod CounterLaws
+pub mod CleanLaws
+pub mod CountedLaws

@@ -1,0 +1,9 @@
+use Rattle.std.proofs.Common.{◌≡◌}
+use Rattle.hl_counters.specs.Counters.{AddsEach}
+use Rattle.hl_counters.proofs.adder.add_all.Given as goal
+
+-- the sums so far
+abbrev pub invariant-loop-add : goal.invariant-loop-add
+invariant-loop-add g l =
+    (l.session.log ≡ l.fn.session.log)
+    × AddsEach l.fn.session.log.sizes l.sums l.fn.session.pass.rider.view.touches l.session.pass.rider.view.touches

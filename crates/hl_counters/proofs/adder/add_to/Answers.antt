@@ -1,0 +1,10 @@
+use Rattle.std.proofs.Common.{ap}
+use Rattle.hl.specs.Sessions.{SessionState}
+use Rattle.hl_counters.proofs.CounterLaws.{added_one}
+use Rattle.hl_counters.proofs.adder.add_to.Goals as goal
+
+pub returns-in-Ok-clause-added : goal.returns-in-Ok-clause-added
+returns-in-Ok-clause-added g c =
+    let old = c.args.session.now in
+    added_one c.adds_add_up.ensures old.log.sizes c.args.counter c.in-Ok.field-0 c.args.number old.pass c.fetch_add.new.self.pass c.ranges.number.fits c.requires
+    (ap (λ (s : SessionState). s.pass) c.in-Ok.ensures.pass)
