@@ -12,7 +12,6 @@ ghost use Rattle.hl_log.specs.Passes.{rested, stamped, epoch_told, IsVacant};
 use crate::call::epoch_told;
 use crate::log::Log;
 use crate::pass::Pass;
-use crate::view::News;
 use hl_model::{Fault, Reply, Step, View};
 use std::sync::Arc;
 
@@ -28,7 +27,6 @@ impl Log {
             epoch: 0,
             held: View::default(),
             view: View::default(),
-            news: News::default(),
         })
     }
 
