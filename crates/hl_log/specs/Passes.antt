@@ -1,5 +1,5 @@
 -- What a pass becomes.
-use Rattle.std.specs.Prelude.{◌≡◌, ℕ, ◌==◌, Bool, ◌&&◌, Option, Result, Ok, unwrap_or}
+use Rattle.std.specs.Prelude.{◌≡◌, ℕ, ◌≤◌, ◌==◌, Bool, ◌&&◌, Option, Result, Ok, unwrap_or}
 use Rattle.hl_model.specs.declared.fault.Fault.{Fault}
 use Rattle.hl_model.specs.declared.step.Reply.{Reply}
 use Rattle.hl_model.specs.declared.step.Reply.TheVariants.{Entered}
@@ -22,6 +22,10 @@ with_look read_only head p = record {
 -- the pass saw no offset without the lock that its slot didn't
 abbrev pub is_up : Pass → Bool
 is_up p = p.view.read_only == p.held.read_only && p.view.head == p.held.head
+
+-- the pass saw nothing below what its slot did
+abbrev pub IsRisen : Pass → Type 0
+IsRisen p = (p.held.read_only ≤ p.view.read_only) × (p.held.head ≤ p.view.head)
 
 -- the epoch of a slot that entered, else this one
 abbrev pub epoch_told : Result Reply Fault → ℕ → ℕ

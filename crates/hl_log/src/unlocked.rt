@@ -1,7 +1,7 @@
 //! What a pass does without the lock.
 ghost use Rattle.std.specs.Prelude.{◌≡◌, None, Some, MatchResult};
 ghost use Rattle.hl_model.specs.Replies.{unless_fault};
-ghost use Rattle.hl_log.specs.Passes.{with_look};
+ghost use Rattle.hl_log.specs.Passes.{with_look, IsRisen};
 ghost use Rattle.hl_log.specs.Views.{store_fault, load_fault, is_current};
 
 use crate::judge::{may_load, may_store};
@@ -72,7 +72,8 @@ impl Pass {
     /// the greater of its own and the loaded one. Returns what it loaded. The next call under the lock enters the look.
     #[inline(always)]
     pub fn look(&mut self) -> (u64, u64)
-        ensures { self.new ≡ with_look result.0 result.1 self.old }
+        ensures pass { self.new ≡ with_look result.0 result.1 self.old }
+        ensures risen { IsRisen self.old → IsRisen self.new }
     {
         let shared: &Shared = &self.shared;
         let read_only = shared.read_only.load(SeqCst);
