@@ -10,7 +10,8 @@ use Rattle.hl_answers.specs.Outcomes.{told_of, no_core, reply_told}
 use Rattle.hl_model.specs.declared.step.Reply.TheVariants.{Looked}
 use Rattle.hl_log.specs.Calls.{by_slot, is_known, call_list, Calls, KnownAt}
 use Rattle.hl_log.specs.Logs.{StandsAt}
-use Rattle.hl_log.specs.Passes.{with_look, with_news}
+use Rattle.hl_log.specs.declared.view.News.{News}
+use Rattle.hl_log.specs.Passes.{with_look}
 use Rattle.hl_log.specs.Views.{is_current}
 use Rattle.hl_c_log.specs.Passes.{CallsBy, Acquires, AcquiresOf, stays, leaves}
 use Rattle.hl_c_log.specs.Rows.{LogRow, PassRow}
@@ -72,12 +73,13 @@ acquires_by slot v w q r old lent new outcome was none is same acquires = subst 
     (subst (λ (u : Option PassRow.Denot). Acquires slot (Some old) u w r outcome) (sym none) (new, is, subst (λ (l : LogRow.Denot). AcquiresOf slot l new r outcome) same acquires))
 
 -- a pass that was taken out, looked and was put back
-pub looks : (v w : Option PassRow.Denot) (p q : PassRow.Denot) (outcome : Outcome)
-    → v ≡ Some p → w ≡ Some q → q ≡ with_look q.news p → outcome ≡ reply_told (Looked q.view) → Looks v w outcome
-looks v w p q outcome was is saw told = subst (λ (u : Option PassRow.Denot). Looks u w outcome) (sym was) (q, is, saw, told)
+pub looks : (v w : Option PassRow.Denot) (p q : PassRow.Denot) (loaded : ℕ × ℕ) (outcome : Outcome)
+    → v ≡ Some p → w ≡ Some q → q ≡ with_look loaded.0 loaded.1 p → outcome ≡ reply_told (Looked q.view) → Looks v w outcome
+looks v w p q loaded outcome was is saw told = subst (λ (u : Option PassRow.Denot). Looks u w outcome) (sym was)
+    (loaded, is ∙ ap Some saw, told ∙ ap (λ (o : PassRow.Denot). reply_told (Looked o.view)) saw)
 
 -- a pass that was taken out, loaded the words and was put back
-pub keeps_up : (v w : Option PassRow.Denot) (p q : PassRow.Denot) (current : Bool) (number : ℕ)
-    → v ≡ Some p → w ≡ Some q → q ≡ with_news q.news p → current ≡ is_current p.view p.epoch q.news → number ≡ cond current 1 0 → KeepsUp v w number
-keeps_up v w p q current number was is saw judged told = subst (λ (u : Option PassRow.Denot). KeepsUp u w number) (sym was)
-    (q, is, saw, told ∙ ap (λ (b : Bool). cond b 1 0) judged)
+pub keeps_up : (v w : Option PassRow.Denot) (p lent : PassRow.Denot) (current : Bool) (news : News) (number : ℕ)
+    → v ≡ Some p → w ≡ Some p → lent ≡ p → current ≡ is_current lent.view lent.epoch news → number ≡ cond current 1 0 → KeepsUp v w number
+keeps_up v w p lent current news number was is same judged told = subst (λ (u : Option PassRow.Denot). KeepsUp u w number) (sym was)
+    (is, (news, told ∙ ap (λ (b : Bool). cond b 1 0) (judged ∙ ap (λ (o : PassRow.Denot). is_current o.view o.epoch news) same)))

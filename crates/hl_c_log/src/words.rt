@@ -81,7 +81,7 @@ pub extern "C" fn hl_pass_look(pass: &mut PassHandle) -> Outcome
 {
     match pass.take() {
         Some(mut own) => {
-            own.look();
+            let _loaded = own.look();
             let view = own.view();
             pass.put(own);
             Outcome::accepted(0, view.read_only, view.head, view.tail)
@@ -96,8 +96,8 @@ pub extern "C" fn hl_pass_keeps_up(pass: &mut PassHandle) -> u64
     ensures { KeepsUp pass.old.slot.value pass.new.slot.value result }
 {
     match pass.take() {
-        Some(mut own) => {
-            let current = own.keeps_up();
+        Some(own) => {
+            let (current, _loaded) = own.keeps_up();
             pass.put(own);
             if current { 1 } else { 0 }
         }

@@ -20,7 +20,11 @@ use Rattle.hl_log.specs.Views.{same_view, has_view}
 same_itself : (w : View) → same_view w w ≡ true
 same_itself w = ap₂ (λ a b. a && b) (eq-eqb w.read_only w.read_only refl) (ap₂ (λ a b. a && b) (eq-eqb w.head w.head refl) (eq-eqb w.tail w.tail refl))
 
-right_of : (a b : Bool) → (a && b) ≡ true → b ≡ true
+pub left_of : (a b : Bool) → (a && b) ≡ true → a ≡ true
+left_of true b both = refl
+left_of false b both = absurd (subst T (sym both) tt)
+
+pub right_of : (a b : Bool) → (a && b) ≡ true → b ≡ true
 right_of true b both = both
 right_of false b both = absurd (subst T (sym both) tt)
 

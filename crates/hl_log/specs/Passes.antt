@@ -1,41 +1,31 @@
 -- What a pass becomes.
-use Rattle.std.specs.Prelude.{◌≡◌, ℕ, ◌==◌, Bool, ◌&&◌, Option, Result, Ok, unwrap_or}
+use Rattle.std.specs.Prelude.{◌≡◌, ℕ, ◌≤◌, ◌==◌, Bool, ◌&&◌, Option, Result, Ok, unwrap_or}
 use Rattle.hl_model.specs.declared.fault.Fault.{Fault}
 use Rattle.hl_model.specs.declared.step.Reply.{Reply}
 use Rattle.hl_model.specs.declared.step.Reply.TheVariants.{Entered}
 use Rattle.hl_model.specs.declared.view.View.{View}
 use Rattle.hl_log.specs.declared.log.Log.{Log}
 use Rattle.hl_log.specs.declared.pass.Pass.{Pass}
-use Rattle.hl_log.specs.declared.view.News.{News}
 use Rattle.hl_log.specs.Views.{raised}
 
--- the pass with these offsets loaded
-abbrev pub with_news : News → Pass → Pass
-with_news news p = record {
+-- the pass that has seen these offsets, where they are above its own
+abbrev pub with_look : ℕ → ℕ → Pass → Pass
+with_look read_only head p = record {
   shared = p.shared;
   slot = p.slot;
   stamp = p.stamp;
   epoch = p.epoch;
   held = p.held;
-  view = p.view;
-  news = news;
-}
-
--- the pass that has seen them
-abbrev pub with_look : News → Pass → Pass
-with_look news p = record {
-  shared = p.shared;
-  slot = p.slot;
-  stamp = p.stamp;
-  epoch = p.epoch;
-  held = p.held;
-  view = raised p.view news;
-  news = news;
+  view = raised p.view read_only head;
 }
 
 -- the pass saw no offset without the lock that its slot didn't
 abbrev pub is_up : Pass → Bool
 is_up p = p.view.read_only == p.held.read_only && p.view.head == p.held.head
+
+-- the pass saw nothing below what its slot did
+abbrev pub IsRisen : Pass → Type 0
+IsRisen p = (p.held.read_only ≤ p.view.read_only) × (p.held.head ≤ p.view.head)
 
 -- the epoch of a slot that entered, else this one
 abbrev pub epoch_told : Result Reply Fault → ℕ → ℕ
@@ -51,7 +41,6 @@ rested view epoch p = record {
   epoch = epoch;
   held = unwrap_or view p.view;
   view = unwrap_or view p.view;
-  news = p.news;
 }
 
 -- the pass with a stamp of its own
@@ -63,7 +52,6 @@ stamped stamp p = record {
   epoch = p.epoch;
   held = p.held;
   view = p.view;
-  news = p.news;
 }
 
 -- a pass of this log for a slot that it doesn't have yet: it saw nothing

@@ -26,11 +26,11 @@ abbrev pub has_view : Option View → View → Bool
 has_view None w = false
 has_view (Some v) w = same_view v w
 
--- the view with the offsets that were loaded, where they are above its own
-abbrev pub raised : View → News → View
-raised v news = record {
-  read_only = max v.read_only news.read_only;
-  head = max v.head news.head;
+-- the view with these offsets, where they are above its own
+abbrev pub raised : View → ℕ → ℕ → View
+raised v read_only head = record {
+  read_only = max v.read_only read_only;
+  head = max v.head head;
   tail = v.tail;
 }
 

@@ -7,12 +7,11 @@ ghost use Rattle.hl_core.specs.Steps.{Made};
 ghost use Rattle.hl_model.specs.Replies.{extended};
 ghost use Rattle.hl_log.specs.Calls.{KnownAt};
 ghost use Rattle.hl_log.specs.Logs.{StandsAt, IsStamped, next_stamp};
-ghost use Rattle.hl_log.specs.Passes.{rested, stamped, epoch_told, IsVacant};
+ghost use Rattle.hl_log.specs.Passes.{rested, stamped, epoch_told, IsRisen, IsVacant};
 
 use crate::call::epoch_told;
 use crate::log::Log;
 use crate::pass::Pass;
-use crate::view::News;
 use hl_model::{Fault, Reply, Step, View};
 use std::sync::Arc;
 
@@ -28,7 +27,6 @@ impl Log {
             epoch: 0,
             held: View::default(),
             view: View::default(),
-            news: News::default(),
         })
     }
 
@@ -47,6 +45,7 @@ impl Log {
         ensures known { let step = ACQUIRE pass.old.slot
             in (A : List STEP) → StandsAt self.old A
             → OnOk result (KnownAt self.new (extended self.old.core.sizes A step) pass.new) }
+        ensures risen { OnOk result (IsRisen pass.new) }
     {
         let step = Step::Acquire { t: pass.slot };
         let reply = self.core.act(&step)?;

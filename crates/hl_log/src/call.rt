@@ -1,12 +1,12 @@
 //! The calls of a pass under the lock.
-ghost use Rattle.std.specs.Prelude.{◌≡◌, List, true};
+ghost use Rattle.std.specs.Prelude.{◌≡◌, List, None, true};
 ghost use Rattle.hl_model.specs.declared.step.Step.{Step as STEP};
 ghost use Rattle.hl_model.specs.declared.step.Step.TheVariants.{Look as LOOK};
-ghost use Rattle.hl_model.specs.Replies.{extended};
+ghost use Rattle.hl_model.specs.Replies.{fault_of, extended};
 ghost use Rattle.hl_core.specs.Steps.{is_acted};
 ghost use Rattle.hl_log.specs.Calls.{by_slot, call_list, looked, is_known, Calls, IsCall, KnownAt};
 ghost use Rattle.hl_log.specs.Logs.{StandsAt, IsBeside};
-ghost use Rattle.hl_log.specs.Passes.{epoch_told};
+ghost use Rattle.hl_log.specs.Passes.{epoch_told, IsRisen};
 
 use crate::log::Log;
 use crate::pass::Pass;
@@ -14,7 +14,8 @@ use hl_model::{Fault, Reply, Step};
 
 impl Log {
     /// Makes a refresh, a release or an allocation of a pass, whose slot takes the place of the step's, behind what
-    /// the pass saw. The pass then has the epoch and the view of its slot, so it is no stranger at its next call.
+    /// the pass saw. The pass then has the epoch and the view of its slot, so it is no stranger at its next call. What it
+    /// saw is accepted, as a look, since that was nothing below what its slot saw.
     ///
     /// `Stranger`, with the slot's stamp, where the slot isn't the pass's: nothing is changed then. Else the faults of
     /// the step; what the pass saw is entered with these too.
@@ -26,6 +27,11 @@ impl Log {
             in let p = pass.old
             in (A : List STEP) → StandsAt old A → is_known old A p ≡ true
             → KnownAt self.new (call_list old A p (by_slot p.slot step.now)) pass.new }
+        ensures entered { let old = self.old
+            in let p = pass.old
+            in (A : List STEP) → StandsAt old A → is_known old A p ≡ true → IsRisen p
+            → fault_of old.core.sizes A (LOOK p.slot p.view.read_only p.view.head) ≡ None }
+        ensures risen { IsRisen pass.old → IsRisen pass.new }
     {
         self.called(pass, step)
     }
@@ -34,7 +40,8 @@ impl Log {
     #[inline(always)]
     fn called(&mut self, pass: &mut Pass, step: &Step) -> Result<Reply, Fault>
         requires { IsCall step.now }
-        ensures { Calls self.old pass.old (by_slot pass.old.slot step.now) self.new pass.new result }
+        ensures made { Calls self.old pass.old (by_slot pass.old.slot step.now) self.new pass.new result }
+        ensures risen { IsRisen pass.old → IsRisen pass.new }
     {
         if !self.is_known(pass) {
             return Err(Fault::Stranger {

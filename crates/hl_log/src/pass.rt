@@ -2,7 +2,6 @@ ghost use Rattle.std.specs.Prelude.{◌≡◌};
 ghost use Rattle.hl_log.specs.Passes.{is_up, rested};
 
 use crate::shared::Shared;
-use crate::view::News;
 use hl_model::View;
 use std::alloc::Global;
 use std::sync::Arc;
@@ -20,8 +19,6 @@ pub struct Pass {
     // The slot's view at the last call under the lock, and what the pass has seen since.
     pub(crate) held: View,
     pub(crate) view: View,
-    // What it loaded last of the three words.
-    pub(crate) news: News,
 }
 
 impl Pass {

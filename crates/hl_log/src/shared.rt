@@ -48,23 +48,13 @@ impl Shared {
         &self.cells[cell_of(self.sizes, address) as usize]
     }
 
-    /// Both offset words, and this epoch.
-    #[inline(always)]
-    pub(crate) fn offsets(&self, ended: u64) -> News {
-        News {
-            read_only: self.read_only.load(SeqCst),
-            head: self.head.load(SeqCst),
-            ended,
-        }
-    }
-
     /// All three words.
     #[inline(always)]
     pub(crate) fn news(&self) -> News {
-        let offsets = self.offsets(0);
         News {
+            read_only: self.read_only.load(SeqCst),
+            head: self.head.load(SeqCst),
             ended: self.ended.load(SeqCst),
-            ..offsets
         }
     }
 

@@ -1,13 +1,13 @@
 //! What a pass does without the lock.
 ghost use Rattle.std.specs.Prelude.{◌≡◌, None, Some, MatchResult};
 ghost use Rattle.hl_model.specs.Replies.{unless_fault};
-ghost use Rattle.hl_log.specs.Passes.{with_look, with_news};
+ghost use Rattle.hl_log.specs.Passes.{with_look, IsRisen};
 ghost use Rattle.hl_log.specs.Views.{store_fault, load_fault, is_current};
 
 use crate::judge::{may_load, may_store};
 use crate::pass::Pass;
 use crate::shared::Shared;
-use crate::view::{is_current, raised};
+use crate::view::{News, is_current, raised};
 use hl_model::Fault;
 use std::sync::atomic::Ordering::SeqCst;
 
@@ -68,29 +68,32 @@ impl Pass {
         Ok(shared.cell(address).load(SeqCst))
     }
 
-    /// Loads both offset words: each of the two offsets that the pass sees becomes the greater of its own and the loaded
-    /// one. The next call under the lock enters the look.
+    /// Loads both offset words, the read-only offset's and the head's: each of the two offsets that the pass sees becomes
+    /// the greater of its own and the loaded one. Returns what it loaded. The next call under the lock enters the look.
     #[inline(always)]
-    pub fn look(&mut self)
-        ensures { self.new ≡ with_look self.new.news self.old }
+    pub fn look(&mut self) -> (u64, u64)
+        ensures pass { self.new ≡ with_look result.0 result.1 self.old }
+        ensures risen { IsRisen self.old → IsRisen self.new }
     {
         let shared: &Shared = &self.shared;
-        let news = shared.offsets(self.news.ended);
-        self.view = raised(self.view, news);
-        self.news = news;
+        let read_only = shared.read_only.load(SeqCst);
+        let head = shared.head.load(SeqCst);
+        // Most often nothing rose, and nothing is written.
+        if read_only > self.view.read_only || head > self.view.head {
+            self.view = raised(self.view, read_only, head);
+        }
+        (read_only, head)
     }
 
-    /// Loads all three words: whether none is new to the pass. Neither offset is then above the one that it sees, and its
-    /// epoch has not ended.
+    /// Loads all three words: whether none is new to the pass, and what it loaded. Where none is, neither offset is above
+    /// the one that the pass sees, and its epoch has not ended.
     #[inline(always)]
-    pub fn keeps_up(&mut self) -> bool
-        ensures current { result ≡ is_current self.old.view self.old.epoch self.new.news }
-        ensures pass { self.new ≡ with_news self.new.news self.old }
+    pub fn keeps_up(&self) -> (bool, News)
+        ensures { result.0 ≡ is_current self.now.view self.now.epoch result.1 }
     {
         let shared: &Shared = &self.shared;
         let news = shared.news();
-        self.news = news;
-        is_current(self.view, self.epoch, news)
+        (is_current(self.view, self.epoch, news), news)
     }
 
     /// Whether it may store at an address.

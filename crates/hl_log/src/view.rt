@@ -4,8 +4,8 @@ ghost use Rattle.hl_log.specs.Views.{has_view, raised, is_current};
 
 use hl_model::View;
 
-/// What the three words had when a pass loaded them last: the read-only offset, the head, and the last epoch that ended.
-#[derive(Clone, Copy, Debug, Default, PartialEq, Eq)]
+/// What the three words had when a pass loaded them: the read-only offset, the head, and the last epoch that ended.
+#[derive(Clone, Copy, Debug, PartialEq, Eq)]
 pub struct News {
     pub read_only: u64,
     pub head: u64,
@@ -25,14 +25,14 @@ pub(crate) fn has_view(view: Option<View>, held: View) -> bool
     }
 }
 
-/// The view with the offsets that were loaded, where they are above its own.
+/// The view with these offsets, where they are above its own.
 #[inline(always)]
-pub(crate) fn raised(view: View, news: News) -> View
-    ensures { result ≡ raised view news }
+pub(crate) fn raised(view: View, read_only: u64, head: u64) -> View
+    ensures { result ≡ raised view read_only head }
 {
     View {
-        read_only: view.read_only.max(news.read_only),
-        head: view.head.max(news.head),
+        read_only: view.read_only.max(read_only),
+        head: view.head.max(head),
         tail: view.tail,
     }
 }
