@@ -23,12 +23,7 @@ type HandedBack = [u64; 6];
 
 // Riders that bumped 0, 1, 2 and 3 times serve as a crew whose second writer alone had a write that failed. Its stop was
 // given before.
-fn own_order<R, L>(
-    rt: &R,
-    alloc: Global,
-    seed: Seed,
-    params: Params,
-) -> Result<HandedBack, Fault>
+fn own_order<R, L>(rt: &R, alloc: Global, seed: Seed, params: Params) -> Result<HandedBack, Fault>
 where
     R: Threads + Wait + Sync,
     L: Realm + Send + Sync,
