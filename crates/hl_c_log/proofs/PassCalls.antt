@@ -47,7 +47,7 @@ calls_by kept step v w q r old lent new p lent_pass left outcome result was had 
         standing = c.standing;
         pass = c.pass;
         known = here.known A stands;
-      entered = λ known. here.entered A stands known here.risen;
+        entered = λ known. here.entered A stands known here.risen;
       },
     ))
 
