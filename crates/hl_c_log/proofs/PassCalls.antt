@@ -5,13 +5,15 @@ use Rattle.std.specs.Prelude.{Option, Some, None, Result}
 use Rattle.hl_model.specs.declared.fault.Fault.{Fault}
 use Rattle.hl_model.specs.declared.step.Reply.{Reply}
 use Rattle.hl_model.specs.declared.step.Step.{Step}
+use Rattle.hl_model.specs.declared.step.Step.TheVariants.{Look}
+use Rattle.hl_model.specs.Replies.{fault_of}
 use Rattle.hl_answers.specs.declared.outcome.Outcome.{Outcome}
 use Rattle.hl_answers.specs.Outcomes.{told_of, no_core, reply_told}
 use Rattle.hl_model.specs.declared.step.Reply.TheVariants.{Looked}
 use Rattle.hl_log.specs.Calls.{by_slot, is_known, call_list, Calls, KnownAt}
 use Rattle.hl_log.specs.Logs.{StandsAt}
 use Rattle.hl_log.specs.declared.view.News.{News}
-use Rattle.hl_log.specs.Passes.{with_look}
+use Rattle.hl_log.specs.Passes.{with_look, IsRisen}
 use Rattle.hl_log.specs.Views.{is_current}
 use Rattle.hl_c_log.specs.Passes.{CallsBy, Acquires, AcquiresOf, stays, leaves}
 use Rattle.hl_c_log.specs.Rows.{LogRow, PassRow}
@@ -21,6 +23,8 @@ use Rattle.hl_c_log.specs.Words.{Looks, KeepsUp}
 pub record IsMade (old : LogRow.Denot) (p : PassRow.Denot) (step : Step) (new : LogRow.Denot) (q : PassRow.Denot) (result : Result Reply Fault) : Type 0 where
   pub calls : Calls old p step new q result
   pub known : (A : List Step) → StandsAt old A → is_known old A p ≡ true → KnownAt new (call_list old A p step) q
+  pub entered : (A : List Step) → StandsAt old A → is_known old A p ≡ true → IsRisen p → fault_of old.core.sizes A (Look p.slot p.view.read_only p.view.head) ≡ None
+  pub risen : IsRisen p
 
 -- a log and a pass that were taken out, made the step and were put back
 pub calls_by : (kept : Outcome → PassRow.Denot → Option PassRow.Denot) (step : Step) (v w : Option LogRow.Denot) (q r : Option PassRow.Denot)
@@ -43,6 +47,7 @@ calls_by kept step v w q r old lent new p lent_pass left outcome result was had 
         standing = c.standing;
         pass = c.pass;
         known = here.known A stands;
+        entered = λ known. here.entered A stands known here.risen;
       },
     ))
 

@@ -3,7 +3,7 @@ use Rattle.std.specs.Prelude.{◌≡◌, ℕ, ◌==◌, true, if◌then◌else�
 use Rattle.hl_model.specs.declared.fault.Fault.{Fault}
 use Rattle.hl_model.specs.declared.fault.Fault.TheVariants.{OutOfMemory}
 use Rattle.hl_model.specs.declared.step.Step.{Step}
-use Rattle.hl_model.specs.declared.step.Step.TheVariants.{Acquire}
+use Rattle.hl_model.specs.declared.step.Step.TheVariants.{Acquire, Look}
 use Rattle.hl_model.specs.declared.view.View.{View}
 use Rattle.hl_model.specs.Replies.{reply_of, fault_of, extended}
 use Rattle.hl_model.specs.Views.{slot_view}
@@ -17,7 +17,7 @@ use Rattle.hl_c_log.specs.Rows.{LogRow, PassRow}
 
 -- a log that stood at A told this of a pass's step: that the pass is a stranger, or the definitions' reply behind
 -- the list and what the pass saw; it stands at the list with both, or at A, and the pass has what its slot has: one
--- that was no stranger is none then, if its slot is still protected
+-- that was no stranger is none then, if its slot is still protected, and what it saw was accepted
 pub record Called (old : LogRow.Denot) (A : List Step) (p : PassRow.Denot) (step : Step) (new : LogRow.Denot)
     (q : PassRow.Denot) (outcome : Outcome)
     : Type 0 where
@@ -26,6 +26,8 @@ pub record Called (old : LogRow.Denot) (A : List Step) (p : PassRow.Denot) (step
   pub standing : StandsAt new (call_list old A p step)
   pub pass : q ≡ call_pass old A p step
   pub known : is_known old A p ≡ true → KnownAt new (call_list old A p step) q
+  pub entered : is_known old A p ≡ true
+      → fault_of old.core.sizes A (Look p.slot p.view.read_only p.view.head) ≡ None
 
 -- the handle keeps its pass
 abbrev pub stays : Outcome → PassRow.Denot → Option PassRow.Denot

@@ -1,5 +1,5 @@
 -- What a pass saw is never refused, if it is known and saw nothing below what its slot did.
-use Rattle.std.proofs.Common.{◌≡◌, ℕ, ◌<◌, ◌≤◌, List, Bool, true, false, cond, eqb, is_some, refl, sym, ap, ap₂, ◌∙◌, subst, arith}
+use Rattle.std.proofs.Common.{◌≡◌, ℕ, ◌<◌, ◌≤◌, List, true, cond, eqb, is_some, refl, sym, ap, ap₂, ◌∙◌, subst, arith}
 use lib.Dec.{T}
 use Rattle.std.specs.Prelude.{◌&&◌, ◌||◌, Option, Some, None}
 use Rattle.std.proofs.lemmas.Bool.{eqb-true, lt-leb, le-ltb}
@@ -19,7 +19,7 @@ use Rattle.hl_log.specs.declared.pass.Pass.{Pass}
 use Rattle.hl_log.specs.Calls.{is_known}
 use Rattle.hl_log.specs.Logs.{StandsAt, stamp_at}
 use Rattle.hl_log.specs.Passes.{IsRisen}
-use Rattle.hl_log.specs.Views.{same_view, has_view}
+use Rattle.hl_log.specs.Views.{has_view}
 use Rattle.hl_log.proofs.KnownLaws.{left_of, right_of}
 
 -- a slot that has a view the same as this has a view with its offsets
