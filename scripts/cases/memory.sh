@@ -53,6 +53,14 @@ done
 of="$scripts/../examples/first_action"
 check "memory refused in first_action by report" each_page_refused "$of.script" "$of.report" report 0 0
 
+judged_by_pages() {
+    awk 'NR == FNR { line[NR] = $0; next } { print line[FNR] " -> " $0 }' "$of.script" "$of.expected" > "$room/trace"
+    echo "$(wc -l < "$room/trace") lines agree" > "$room/wanted"
+    each_page_refused "$room/trace" "$room/wanted" judge 0 0
+}
+
+check "memory refused in first_action by judge" judged_by_pages
+
 # The slow form takes memory at later steps too: here of a long script, page by page.
 refused_at_later_steps() {
     rounds 300

@@ -40,8 +40,9 @@ check "a word too many" told 2 run fast
 check "another flag" told 2 run --flash
 check "a flag of run" told 2 slow --flush
 check "a word too many, report" told 2 report slow
+check "a word too many, judge" told 2 judge slow
 check "help that can't be written" faults 'fault 31 Stream' /dev/null /dev/full --help
-for form in run slow report; do
+for form in run slow report judge; do
     # A folder can be opened, but not read.
     check "a read that fails, $form" faults 'fault 31 Stream' / "$room/text" "$form"
     check "a write that fails, $form" faults 'fault 31 Stream' "$sealed_page" /dev/full "$form"

@@ -62,10 +62,12 @@ closed_pipe() {
     ended_by_stream "$status"
 }
 
-for form in run slow report; do
+for form in run slow report judge; do
     check "a full disk by $form" full_disk "$scripts/../examples/first_action.script" "$form"
     check "no standard output by $form" closed_output "$scripts/../examples/first_action.script" "$form"
     check "no standard input by $form" no_input "$form"
+done
+for form in run slow report; do
     check "a line without an end by $form" endless_line "$form"
 done
 for form in run slow; do

@@ -1,8 +1,8 @@
-ghost use Rattle.std.specs.Prelude.{◌≡◌, ℕ, true, option_map, IfSome, List, length};
+ghost use Rattle.std.specs.Prelude.{◌≡◌, ◌<◌, ℕ, true, option_map, IfSome, List, length};
 ghost use Rattle.hl_line.specs.declared.line.Line.{Line as LINE};
 ghost use Rattle.hl_line.specs.Lines.{Fits};
 ghost use Rattle.hl_script.specs.Lines.{may_stand};
-ghost use Rattle.hl_judge.specs.Traces.{line_part, reply_part, entry_of, Entry};
+ghost use Rattle.hl_judge.specs.Traces.{begins_reply, line_part, reply_part, entry_of, Entry};
 
 use hl_script::{Line, may_follow, read_line};
 
@@ -12,13 +12,22 @@ const ARROW: &[u8] = b" -> ";
 /// How many bytes a line of a trace has at most.
 pub(crate) const LONGEST: usize = 8276;
 
+/// Whether some bytes begin with ` -> `. Most don't begin with a space.
+#[inline(always)]
+fn begins_reply(bytes: &[u8]) -> bool
+    requires { 0 < length bytes.now }
+    ensures { result ≡ begins_reply bytes.now }
+{
+    bytes[0] == ARROW[0] && bytes.starts_with(ARROW)
+}
+
 /// The bytes before the first ` -> `, and those behind it. None where there is none.
 fn parted(bytes: &[u8]) -> Option<(&[u8], &[u8])>
     ensures front { IfSome result (λ parts. parts.0.now ≡ line_part bytes.now) }
     ensures back { option_map (λ parts. parts.1.now) result ≡ reply_part bytes.now }
 {
     for at in 0..bytes.len() {
-        if bytes[at..].starts_with(ARROW) {
+        if begins_reply(&bytes[at..]) {
             return Some((&bytes[..at], &bytes[at + ARROW.len()..]));
         }
     }

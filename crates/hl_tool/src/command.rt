@@ -3,7 +3,7 @@ ghost use Rattle.std.specs.Prelude.{◌≡◌, ◌≤◌};
 use crate::race::race;
 use clap::error::ErrorKind;
 use clap::{Arg, ArgAction, Command, Error, value_parser};
-use hl_commands::{DONE, REFUSED, failed, report, run, slow};
+use hl_commands::{DONE, REFUSED, failed, judge, report, run, slow};
 use hl_model::Fault;
 use hl_race::Race;
 use std::alloc::{AllocError, Global};
@@ -21,6 +21,8 @@ enum Wanted {
     Slow,
     /// Run a script, and report what it left.
     Report,
+    /// Judge a trace.
+    Judge,
     /// Run a race.
     Race { riders: u64, rounds: u64, cut: bool },
 }
@@ -33,7 +35,9 @@ enum Wanted {
 /// `run` answers the script that the reader gives, with jobs of the tags 0 to 999; with `--flush` it then writes the
 /// image of each page that can be flushed, one a line. `slow` answers it in the slow form. `report` runs it with the
 /// same jobs, writes no answer, and then writes the report of what it left and of its accepted steps: nothing where
-/// there is no line, and the text of a bad line alone. `race` runs riders beside a crew, each in a thread, and writes
+/// there is no line, and the text of a bad line alone. `judge` says of a trace, a script's lines each with ` -> ` and a
+/// reply, how many lines agree with the definitions (0), or which is the first that deviates (1), or the first that is no
+/// line of a trace (2). `race` runs riders beside a crew, each in a thread, and writes
 /// whether what they left is what their steps say; where it isn't, the status is 1.
 pub fn command<T: Threads + Wait + Sync, S: AsStr, R: Read, W: Write, E: Write>(
     rt: &T,
@@ -49,6 +53,7 @@ pub fn command<T: Threads + Wait + Sync, S: AsStr, R: Read, W: Write, E: Write>(
         Ok(Wanted::Run { flush }) => run(alloc, flush, reader, writer, errors),
         Ok(Wanted::Slow) => slow(alloc, reader, writer, errors),
         Ok(Wanted::Report) => report(alloc, reader, writer, errors),
+        Ok(Wanted::Judge) => judge(alloc, reader, writer, errors),
         Ok(
             Wanted::Race {
                 riders,
@@ -70,6 +75,7 @@ fn read_words<'a, S: AsStr>(alloc: Global, words: &'a [S]) -> Result<Wanted, Err
     Ok(match matches.subcommand() {
         Some(("slow", _)) => Wanted::Slow,
         Some(("report", _)) => Wanted::Report,
+        Some(("judge", _)) => Wanted::Judge,
         Some(("race", race)) => Wanted::Race {
             riders: race.get_one("riders").unwrap_or(1),
             rounds: race.get_one("rounds").unwrap_or(1),
@@ -85,7 +91,8 @@ fn read_words<'a, S: AsStr>(alloc: Global, words: &'a [S]) -> Result<Wanted, Err
 /// The program's command line.
 fn program<'a>(alloc: Global) -> Result<Command<'a>, AllocError> {
     let (run, race) = (run_words(alloc)?, race_words(alloc)?);
-    let words = vec![in alloc; run, slow_words(alloc), report_words(alloc), race]?;
+    let (slow, report, judge) = (slow_words(alloc), report_words(alloc), judge_words(alloc));
+    let words = vec![in alloc; run, slow, report, judge, race]?;
     Command::new(alloc, "hl_tool")
         .about("Epoch protection and page frames after FASTER, on scripts of steps")
         .after_help("docs/FORMATS.md tells the lines of a script, and of its answers")
@@ -119,6 +126,15 @@ fn report_words<'a>(alloc: Global) -> Command<'a> {
     Command::new(alloc, "report")
         .about("Runs the script without its answers, and reports what it left, in eighteen lines")
         .override_usage("hl_tool report < SCRIPT")
+}
+
+/// The words of a judge.
+fn judge_words<'a>(alloc: Global) -> Command<'a> {
+    Command::new(alloc, "judge")
+        .about(
+            "Judges whether the replies of a trace, each behind its line and ` -> `, are the definitions'",
+        )
+        .override_usage("hl_tool judge < TRACE")
 }
 
 /// The words of a race.

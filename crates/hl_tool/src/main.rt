@@ -1,6 +1,7 @@
 //! Runs scripts of steps: `hl_tool run` reads one on standard input and writes its text, with `--flush` also the
 //! images of its pages; `hl_tool slow` computes the same text from the list of steps; `hl_tool report` writes the
-//! quantities that the script left. `hl_tool race` runs threads against each other, and audits what they left.
+//! quantities that the script left; `hl_tool judge` holds an engine's replies to a script against the definitions.
+//! `hl_tool race` runs threads against each other, and audits what they left.
 #![tactic(auto)]
 
 mod command;
