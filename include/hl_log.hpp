@@ -8,7 +8,7 @@
 // has the rules.
 //
 // A pass and a page may outlive their log, and the log may be moved: what they share is kept until the last of them is
-// gone. No call throws.
+// gone. No call throws but value() of an answer.
 #ifndef HL_LOG_HPP
 #define HL_LOG_HPP
 
