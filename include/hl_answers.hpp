@@ -23,7 +23,8 @@ namespace hl {
 /// A word of the log, and every number that a call takes or tells.
 using Word = std::uint64_t;
 
-/// Why a call can be refused, by the names of docs/RULES.md; OutOfRange and NoCore are codes of the library.
+/// Why a call can be refused, by the names of docs/RULES.md; OutOfRange and NoCore are codes of the library. Stranger is
+/// told by hl_log.h alone.
 enum class Fault : Word {
     NoSlot = HL_NO_SLOT,
     Occupied = HL_OCCUPIED,
@@ -48,6 +49,7 @@ enum class Fault : Word {
     NotInFlight = HL_NOT_IN_FLIGHT,
     NoneClosed = HL_NONE_CLOSED,
     NotCleaning = HL_NOT_CLEANING,
+    Stranger = HL_STRANGER,
     OutOfMemory = HL_OUT_OF_MEMORY,
     WindowFull = HL_WINDOW_FULL,
     OutOfRange = HL_OUT_OF_RANGE,
@@ -80,6 +82,7 @@ constexpr const char *name(Fault fault) noexcept {
     case Fault::NotInFlight: return "NotInFlight";
     case Fault::NoneClosed: return "NoneClosed";
     case Fault::NotCleaning: return "NotCleaning";
+    case Fault::Stranger: return "Stranger";
     case Fault::OutOfMemory: return "OutOfMemory";
     case Fault::WindowFull: return "WindowFull";
     case Fault::OutOfRange: return "OutOfRange";
