@@ -30,7 +30,8 @@ inline namespace HL_FORM {
 /// A word of the log, and every number that a call takes or tells.
 using Word = std::uint64_t;
 
-/// Why a call can be refused, by the names of docs/RULES.md; OutOfRange and NoCore are codes of the library.
+/// Why a call can be refused, by the names of docs/RULES.md; OutOfRange and NoCore are codes of the library. Stranger is
+/// told by hl_log.h alone.
 enum class Fault : Word {
     NoSlot = HL_NO_SLOT,
     Occupied = HL_OCCUPIED,

@@ -53,9 +53,9 @@ typedef struct hl_page {
 /* ---- Under the lock: a log. Every call below but the two that open answers HL_NO_CORE, and changes nothing, where no
  * log is open. ---- */
 
-/* Opens a log at the empty list, all words 0: page_size words a page, a power of two from 4 to 4,096; 2 to 256 frames; 1
- * to 64 slots; 1 to 64 places in the drain list; a stamp. 0 where it did. HL_IS_OPEN where one is open already, which
- * stays; HL_OUT_OF_RANGE where a size is; HL_OUT_OF_MEMORY where malloc refused. */
+/* Opens a log at the empty list, all words 0: page_size words a page, a power of two from 4 to 4,096; 2 to 256 frames;
+ * 1 to 64 slots; 1 to 64 places in the drain list; a stamp. 0 where it did. HL_IS_OPEN where one is open already,
+ * which stays; HL_OUT_OF_RANGE where a size is; HL_OUT_OF_MEMORY where malloc refused. */
 uint64_t hl_log_open(
     hl_log *log, uint64_t page_size, uint64_t frames, uint64_t slots, uint64_t drain_places, uint64_t stamp);
 
@@ -91,7 +91,8 @@ hl_brief hl_log_raise(hl_log *log, uint64_t address);
 /* Moves the head up: a the head. HL_NOT_ABOVE, HL_NOT_PAGE, HL_ABOVE_FLUSHED. */
 hl_brief hl_log_shift(hl_log *log, uint64_t address);
 
-/* Ends the current epoch, and stores a job of this tag: a its ticket. HL_DRAIN_FULL, HL_EPOCHS_SPENT, HL_WINDOW_FULL. */
+/* Ends the current epoch, and stores a job of this tag: a its ticket. HL_DRAIN_FULL, HL_EPOCHS_SPENT,
+ * HL_WINDOW_FULL. */
 hl_brief hl_log_bump(hl_log *log, uint64_t tag);
 
 /* As a bump; its action raises the safe read-only offset to what the read-only offset is now. */
@@ -109,7 +110,8 @@ hl_outcome hl_log_take(hl_log *log);
 /* A taken action was carried out: b which it was (hl_kind); a the job's tag, or the offset after it. HL_NOT_TAKEN. */
 hl_outcome hl_log_done(hl_log *log, uint64_t ticket);
 
-/* ---- Under the lock: pages. HL_NO_CORE where the page's handle has none; for a take, where it has one already. ---- */
+/* ---- Under the lock: pages. HL_NO_CORE where the page's handle has none; for a take, where it has one already.
+ * ---- */
 
 /* Takes the least sealed page that is neither flushed nor in flight: a the page. HL_NONE_SEALED, HL_OUT_OF_MEMORY: the
  * handle stays empty. */
@@ -119,12 +121,12 @@ hl_brief hl_log_flush_take(hl_log *log, hl_page *page);
  * stamp: the page is of another log. HL_NOT_IN_FLIGHT: it was taken to be cleaned. */
 hl_brief hl_log_flush_done(hl_log *log, hl_page *page, bool ok);
 
-/* Takes the least closed page that is neither freed nor being cleaned: a the page. HL_NONE_CLOSED, HL_OUT_OF_MEMORY: the
- * handle stays empty. */
+/* Takes the least closed page that is neither freed nor being cleaned: a the page. HL_NONE_CLOSED, HL_OUT_OF_MEMORY:
+ * the handle stays empty. */
 hl_brief hl_log_clean_take(hl_log *log, hl_page *page);
 
-/* The words of a page are zeroed, and its frame is free: a the page, which is given back. HL_STRANGER, a the log's stamp:
- * the page is of another log. HL_NOT_CLEANING: it was taken to be flushed, or it wasn't swept. */
+/* The words of a page are zeroed, and its frame is free: a the page, which is given back. HL_STRANGER, a the log's
+ * stamp: the page is of another log. HL_NOT_CLEANING: it was taken to be flushed, or it wasn't swept. */
 hl_brief hl_log_clean_done(hl_log *log, hl_page *page);
 
 /* ---- Under the lock: queries. They change nothing, and answer as those of hl.h. ---- */
@@ -157,8 +159,8 @@ static inline hl_holder hl_as_holder(hl_outcome told) {
 /* ---- Without the lock: a pass. Each call answers HL_NO_CORE where its handle has none. An address is judged by what
  * the pass sees: its view of the last call under the lock, and what a look brought since. ---- */
 
-/* Stores a word. HL_BELOW, a the read-only offset that the pass sees: the address is below it. HL_BEYOND, a the tail that
- * it sees: the address isn't below it. Nothing is stored then. */
+/* Stores a word. HL_BELOW, a the read-only offset that the pass sees: the address is below it. HL_BEYOND, a the tail
+ * that it sees: the address isn't below it. Nothing is stored then. */
 hl_brief hl_pass_store(hl_pass *pass, uint64_t address, uint64_t word);
 
 /* Adds to a word in one step, modulo 2^64: a what it found. HL_BELOW, HL_BEYOND. */
@@ -171,8 +173,8 @@ hl_brief hl_pass_compare_exchange(hl_pass *pass, uint64_t address, uint64_t curr
 /* Loads a word: a the word. HL_EVICTED, a the head that the pass sees: the address is below it. HL_BEYOND. */
 hl_brief hl_pass_load(hl_pass *pass, uint64_t address);
 
-/* Sees the read-only offset and the head as they are now: b to d what the pass sees. They never fall. The next call under
- * the lock enters the look. */
+/* Sees the read-only offset and the head as they are now: b to d what the pass sees. They never fall. The next call
+ * under the lock enters the look. */
 hl_outcome hl_pass_look(hl_pass *pass);
 
 /* 1 where nothing is new to the pass: neither offset is above the one that it sees, and the epoch of its slot has not

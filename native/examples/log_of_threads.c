@@ -1,6 +1,6 @@
-/* A log of threads: four threads append records, each by a pass of its own, and one flushes the pages to a file behind them
- * and cleans their frames. At the end the file is read back and compared, and the counts of pages are. The log lies under a
- * mutex; words are stored, copied and swept without it. Usage: log_of_threads FILE */
+/* A log of threads: four threads append records, each by a pass of its own, and one flushes the pages to a file behind
+ * them and cleans their frames. At the end the file is read back and compared, and the counts of pages are. The log
+ * lies under a mutex; words are stored, copied and swept without it. Usage: log_of_threads FILE */
 #define _POSIX_C_SOURCE 200809L
 #include <hl_log.h>
 

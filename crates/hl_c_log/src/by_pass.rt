@@ -41,7 +41,8 @@ fn released(log: &mut LogHandle, pass: &mut PassHandle) -> Outcome
         log.new.slot.value pass.new.slot.value result }
 {
     let outcome = by_pass(log, pass, Step::Release { t: 0 });
-    if outcome.number == 0 {
+    let accepted = outcome.number == 0;
+    if accepted {
         let released = pass.take();
         drop(released);
     }

@@ -1,7 +1,7 @@
 //! The door for threads, for C and C++: a log behind one handle, and a pass behind a handle for each thread.
 //!
-//! `include/hl_log.h` declares the calls, with what each answers. A handle is two words that C keeps and never reads. All
-//! bytes zero means that nothing is there.
+//! `include/hl_log.h` declares the calls, with what each answers. A handle is two words that C keeps and never reads.
+//! All bytes zero means that nothing is there.
 //!
 //! # What is promised
 //!
@@ -11,19 +11,19 @@
 //! nothing; else as the definitions do behind the list and the pass's look, and the pass has what its slot has then
 //! (`CallsBy`, in `specs/Passes.antt`).
 //!
-//! Without it: a store and a load are judged by what the pass sees (`Stores` and `Loads`, in `specs/Words.antt`), and are
-//! one access of one word. That a word is stored is in the code alone: no clause tells what a word has.
+//! Without it: a store and a load are judged by what the pass sees (`Stores` and `Loads`, in `specs/Words.antt`), and
+//! are one access of one word. That a word is stored is in the code alone: no clause tells what a word has.
 //!
 //! # Threads
 //!
-//! Each handle may go to another thread (`Send` is proved of what lies behind it), and one call at a time may use it. Calls
-//! on the log's handle are made under a lock of the caller's; a pass's handle is its thread's, as a page's is. The
-//! calls on these alone run at the same time as all others. No call waits.
+//! Each handle may go to another thread (`Send` is proved of what lies behind it), and one call at a time may use it.
+//! Calls on the log's handle are made under a lock of the caller's; a pass's handle is its thread's, as a page's is.
+//! The calls on these alone run at the same time as all others. No call waits.
 //!
 //! # How a call goes
 //!
-//! As in the door of a core: it takes the boxes out of their handles, makes the call, and puts them back. `LogHandle::step`
-//! is the one way of a step of the log, `by_pass` that of a pass's.
+//! As in the door of a core: it takes the boxes out of their handles, makes the call, and puts them back.
+//! `LogHandle::step` is the one way of a step of the log, `by_pass` that of a pass's.
 #![tactic(auto)]
 
 mod acquire;

@@ -27,7 +27,8 @@ pub extern "C" fn hl_log_open(
     open_with(alloc, log, narrow(page_size, frames, slots, drain), stamp)
 }
 
-/// The same for wide sizes: a page of up to 2^20 words, up to 2^16 frames, 1,024 slots and 4,096 places in the drain list.
+/// The same for wide sizes: a page of up to 2^20 words, up to 2^16 frames, 1,024 slots and 4,096 places in the drain
+/// list.
 #[unsafe(no_mangle)]
 pub extern "C" fn hl_log_open_wide(
     alloc: Global,

@@ -40,8 +40,8 @@ pub extern "C" fn hl_log_snapshot(log: &mut LogHandle) -> SnapshotOutcome
     }
 }
 
-/// The steps by which the offsets follow the tail, for whoever wants about `mutable` pages at the tail to be written and
-/// about `resident` to be read. It makes none of them. Out of range unless `1 <= mutable <= resident < F`.
+/// The steps by which the offsets follow the tail, for whoever wants about `mutable` pages at the tail to be written
+/// and about `resident` to be read. It makes none of them. Out of range unless `1 <= mutable <= resident < F`.
 #[unsafe(no_mangle)]
 pub extern "C" fn hl_log_lag(log: &mut LogHandle, mutable: u64, resident: u64) -> LagOutcome
     ensures { Tells log.old.slot.value (λ sizes A. lag_answer sizes (six sizes A) mutable resident)
@@ -58,8 +58,8 @@ pub extern "C" fn hl_log_lag(log: &mut LogHandle, mutable: u64, resident: u64) -
     }
 }
 
-/// The slot at a place among those that hold the oldest pending action up, least first, with its epoch; the action's ticket,
-/// and how many slots hold it up. Out of range where there is none.
+/// The slot at a place among those that hold the oldest pending action up, least first, with its epoch; the action's
+/// ticket, and how many slots hold it up. Out of range where there is none.
 #[unsafe(no_mangle)]
 pub extern "C" fn hl_log_holders(log: &mut LogHandle, place: u64) -> Outcome
     ensures { Tells log.old.slot.value (λ sizes A. holder_told sizes.slots A place)

@@ -14,8 +14,8 @@ use hl_model::{Fault, Reply, Step};
 
 impl Log {
     /// Makes a refresh, a release or an allocation of a pass, whose slot takes the place of the step's, behind what
-    /// the pass saw. The pass then has the epoch and the view of its slot, so it is no stranger at its next call. What it
-    /// saw is accepted, as a look, since that was nothing below what its slot saw.
+    /// the pass saw. The pass then has the epoch and the view of its slot, so it is no stranger at its next call.
+    /// What it saw is accepted, as a look, since that was nothing below what its slot saw.
     ///
     /// `Stranger`, with the slot's stamp, where the slot isn't the pass's: nothing is changed then. Else the faults of
     /// the step; what the pass saw is entered with these too.

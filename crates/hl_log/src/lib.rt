@@ -1,8 +1,8 @@
 //! A log for threads under a lock of its caller's, with no brand: a [`Log`], and a [`Pass`] for each thread.
 //!
-//! The log has the core, and one call at a time uses it: its caller keeps it under a lock. What threads share with no lock,
-//! the words of the frames and three words that the log's calls store, lies in one block that the log and its passes own
-//! together, so a pass outlives its log safely.
+//! The log has the core, and one call at a time uses it: its caller keeps it under a lock. What threads share with no
+//! lock, the words of the frames and three words that the log's calls store, lies in one block that the log and its
+//! passes own together, so a pass outlives its log safely.
 //!
 //! # What is promised
 //!
@@ -11,14 +11,17 @@
 //! that the pass is a stranger, with the slot's stamp, or as the definitions do behind the list and what the pass saw
 //! without the lock; the pass then has what its slot has (`Calls`, in `specs/Calls.antt`).
 //!
+//! A pass that was no stranger is none at its next call, if its slot is still protected. What it saw without the lock is
+//! accepted, as a look.
+//!
 //! A store is judged by what the pass sees, and is one store of one word; so are the load and the two changes in place.
 //! A look brings the offsets that it loaded, and the next call of the pass enters it into the list.
 //!
 //! # What isn't
 //!
 //! No clause tells what a word has, nor that the log's calls store the three words, which are meant to tell passes that
-//! something is new. A look may so bring offsets that are older than those of the log; it never falls below what the
-//! pass saw, and one that brought an offset that the log never had would be refused.
+//! something is new. So a look may bring offsets that are older than those of the log, and that it brings none above
+//! them is in the code alone. It never falls below what the pass saw.
 #![tactic(auto)]
 
 mod acquire;

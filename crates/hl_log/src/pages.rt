@@ -32,7 +32,8 @@ impl Log {
     ///
     /// Faults: `NoneClosed`, `NoneSealed`; then nothing is changed.
     pub fn take_page(&mut self, page: &mut Taken) -> Result<u64, Fault>
-        ensures made { Made (λ t. t.0) self.old.core (taking page.old.cleans) self.new.core (told PAGE result) }
+        ensures made { Made (λ t. t.0) self.old.core (taking page.old.cleans) self.new.core
+            (told PAGE result) }
         ensures beside { IsBeside self.old self.new }
         ensures page { IfOk result (λ number. page.new ≡ numbered number page.old) }
         ensures refused { OnErr result ((self.new ≡ self.old) × (page.new ≡ page.old)) }
@@ -50,7 +51,8 @@ impl Log {
     ///
     /// Faults: `Stranger`, with the log's stamp, where the page is of another log; `NotInFlight`.
     pub fn flush_done(&mut self, page: &Taken, ok: bool) -> Result<Reply, Fault>
-        ensures ended { Ends self.old (origin_fault self.old page.now) (FLUSH_DONE page.now.page ok) self.new result }
+        ensures ended { Ends self.old (origin_fault self.old page.now) (FLUSH_DONE page.now.page ok)
+            self.new result }
         ensures refused { OnErr result (self.new ≡ self.old) }
     {
         self.own(page)?;
@@ -66,7 +68,8 @@ impl Log {
     /// Faults: `Stranger`, with the log's stamp, where the page is of another log; `NotCleaning`, where it wasn't swept
     /// too.
     pub fn clean_done(&mut self, page: &Taken) -> Result<Reply, Fault>
-        ensures ended { Ends self.old (unswept_fault self.old page.now) (CLEAN_DONE page.now.page) self.new result }
+        ensures ended { Ends self.old (unswept_fault self.old page.now) (CLEAN_DONE page.now.page)
+            self.new result }
         ensures refused { OnErr result (self.new ≡ self.old) }
     {
         self.own(page)?;

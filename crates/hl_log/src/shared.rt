@@ -1,13 +1,13 @@
 ghost use Rattle.std.specs.Prelude.{◌≡◌, ◌*◌, ◌<◌, length, IfSome};
 
 use crate::view::News;
-use hl_model::{Sizes, cell_of};
+use hl_model::{Sizes, cell_of, with_room};
 use std::alloc::Global;
 use std::sync::atomic::AtomicU64;
 use std::sync::atomic::Ordering::SeqCst;
 
-/// What a log and its passes share with no lock: the words of the frames, and three words that the log's calls store and
-/// passes load.
+/// What a log and its passes share with no lock: the words of the frames, and three words that the log's calls store
+/// and passes load.
 #[derive(Drop)]
 pub struct Shared {
     cells: Vec<AtomicU64>,
@@ -24,14 +24,9 @@ impl Shared {
         ensures { IfSome result (λ shared. shared.sizes ≡ sizes) }
     {
         let count = sizes.frames() * sizes.page_size();
-        let mut cells = Vec::new(alloc);
+        let mut cells = with_room(alloc, count).ok()?;
         for _ in 0..count {
-            if cells.push(AtomicU64::new(0)).is_err() {
-                return None;
-            }
-        }
-        if cells.len() as u64 != count {
-            return None;
+            cells.push_reserved(AtomicU64::new(0));
         }
         Some(Shared {
             cells,

@@ -32,7 +32,9 @@ impl Log {
     #[inline(always)]
     pub fn take(&mut self) -> Result<(Firing, Option<Tag>), Fault>
         ensures made { Made (λ t. t.0) self.old.core TAKE self.new.core (take_told result) }
-        ensures out { IfOk result (λ taken. CameOut (λ t. t.0) self.old.core self.new.core taken.0.ticket taken.1) }
+        ensures out { let old = self.old.core
+            in let new = self.new.core
+            in IfOk result (λ taken. CameOut (λ t. t.0) old new taken.0.ticket taken.1) }
         ensures beside { IsBeside self.old self.new }
         ensures refused { OnErr result (self.new ≡ self.old) }
     {

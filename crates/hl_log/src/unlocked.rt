@@ -14,8 +14,8 @@ use std::sync::atomic::Ordering::SeqCst;
 impl Pass {
     /// Stores a word of 64 bits at an address of the log; addresses count words.
     ///
-    /// Faults: `Below` where the address is below the read-only offset that the pass sees, `Beyond` where it isn't below
-    /// the tail that it sees.
+    /// Faults: `Below` where the address is below the read-only offset that the pass sees, `Beyond` where it isn't
+    /// below the tail that it sees.
     #[inline(always)]
     pub fn store(&self, address: u64, word: u64) -> Result<(), Fault>
         ensures { result ≡ unless_fault (store_fault self.now.view address) tt }
@@ -68,8 +68,9 @@ impl Pass {
         Ok(shared.cell(address).load(SeqCst))
     }
 
-    /// Loads both offset words, the read-only offset's and the head's: each of the two offsets that the pass sees becomes
-    /// the greater of its own and the loaded one. Returns what it loaded. The next call under the lock enters the look.
+    /// Loads both offset words, the read-only offset's and the head's: each of the two offsets that the pass sees
+    /// becomes the greater of its own and the loaded one. Returns what it loaded. The next call under the lock enters
+    /// the look.
     #[inline(always)]
     pub fn look(&mut self) -> (u64, u64)
         ensures pass { self.new ≡ with_look result.0 result.1 self.old }
@@ -85,8 +86,8 @@ impl Pass {
         (read_only, head)
     }
 
-    /// Loads all three words: whether none is new to the pass, and what it loaded. Where none is, neither offset is above
-    /// the one that the pass sees, and its epoch has not ended.
+    /// Loads all three words: whether none is new to the pass, and what it loaded. Where none is, neither offset is
+    /// above the one that the pass sees, and its epoch has not ended.
     #[inline(always)]
     pub fn keeps_up(&self) -> (bool, News)
         ensures { result.0 ≡ is_current self.now.view self.now.epoch result.1 }
