@@ -1,6 +1,6 @@
-// An epoch table and a log of one's own, in plain C++, whose trace ./hl judge holds against the definitions. Four threads
-// make steps, and a lock is held round each step and its line. With --mistake the table calls an epoch safe that a
-// protected slot is still at; the judge names the first reply that shows it. Usage: judged_log [--mistake] > TRACE
+// An epoch table and a log of one's own, in plain C++, whose trace ./hl judge holds against the definitions. Four
+// threads make steps, and a lock is held round each step and its line. With --mistake the table calls an epoch safe that
+// a protected slot is still at; the judge names the first reply that shows it. Usage: judged_log [--mistake] > TRACE
 #include <algorithm>
 #include <array>
 #include <cstdint>

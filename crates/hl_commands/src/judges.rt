@@ -15,8 +15,8 @@ use std::io::{BufReader, Read, Write};
 /// How many bytes of a trace are read at once.
 const CHUNK: usize = 1 << 16;
 
-/// Judges the trace that the reader gives, and writes what it shows. Gives the exit status: `DONE` where all lines agree,
-/// `FAILED` where one deviates, `REFUSED` where one is no line of a trace.
+/// Judges the trace that the reader gives, and writes what it shows. Gives the exit status: `DONE` where all lines
+/// agree, `FAILED` where one deviates, `REFUSED` where one is no line of a trace.
 pub fn judge<R: Read, W: Write, E: Write>(
     alloc: Global,
     reader: &mut R,
@@ -54,7 +54,8 @@ fn judge_and_tell<R: Read, W: Write>(
 ///
 /// Fault: `Stream` where a write failed.
 fn tell<W: Write>(verdict: &Verdict, writer: &mut W) -> Result<u8, Fault>
-    ensures text { OnOk result (Appends (W.contents writer.old) (W.contents writer.new) (verdict_text verdict.now)) }
+    ensures text { OnOk result
+        (Appends (W.contents writer.old) (W.contents writer.new) (verdict_text verdict.now)) }
     ensures status { IfOk result (λ status. status ≡ verdict_status verdict.now) }
 {
     match verdict {

@@ -1,6 +1,6 @@
-//! Answers scripts until the whole program is proved: `hl_first run`, `run --flush`, `slow`, `report` and `judge` do what
-//! `hl_tool` does by these words. It has no command line to put together and no race, so that it is read and proved sooner. Tests
-//! have one command more, `scan`, which is `run` over the other table of epochs. No other words are taken.
+//! Answers scripts until the whole program is proved: `hl_first run`, `run --flush`, `slow`, `report` and `judge` do
+//! what `hl_tool` does by these words. It has no command line to put together and no race, so that it is read and proved
+//! sooner. Tests have one command more, `scan`, which is `run` over the other table of epochs. No other words are taken.
 #![tactic(auto)]
 
 use hl_commands::{REFUSED, judge, report, run, scan, slow};

@@ -10,12 +10,14 @@
 //! |---|---|
 //! | `run` | has a machine answer each line, and compares its answer with the reply |
 //! | `parts` | a line of a trace, parted into a script's line and a reply |
+//! | `line` | reads the script's line |
 //! | `reading` | reads a line, up to its LF or to one byte more than a line may have |
 //! | `verdict` | what a trace shows |
 //! | `laws` | what it means that all lines agree |
 #![tactic(auto)]
 
 pub mod laws;
+mod line;
 mod parts;
 mod reading;
 mod run;

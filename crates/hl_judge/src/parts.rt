@@ -4,7 +4,8 @@ ghost use Rattle.hl_line.specs.Lines.{Fits};
 ghost use Rattle.hl_script.specs.Lines.{may_stand};
 ghost use Rattle.hl_judge.specs.Traces.{begins_reply, line_part, reply_part, entry_of, Entry};
 
-use hl_script::{Line, may_follow, read_line};
+use crate::line;
+use hl_script::{Line, may_follow};
 
 /// What stands between a script's line and its reply.
 const ARROW: &[u8] = b" -> ";
@@ -46,8 +47,8 @@ pub(crate) fn entry(lines: u64, bytes: &[u8]) -> Option<(Line, &[u8])>
     if bytes.len() > LONGEST {
         return None;
     }
-    let (line, reply) = parted(bytes)?;
-    let line = read_line(line)?;
+    let (text, reply) = parted(bytes)?;
+    let line = line::read(text)?;
     if may_follow(lines, &line) {
         Some((line, reply))
     } else {

@@ -40,7 +40,8 @@ pub(crate) fn read_line_of<R: BufRead>(
     requires { bytes.old.items ≡ [] }
     ensures ok { IfOk result (λ ending.
         LineRead (R.remaining reader.old) (R.remaining reader.new) bytes.new.items ending) }
-    ensures err { OnErr result (ReadInLine (R.remaining reader.old) (R.remaining reader.new) bytes.new.items) }
+    ensures err { OnErr result
+        (ReadInLine (R.remaining reader.old) (R.remaining reader.new) bytes.new.items) }
     ensures faults { IfErr result IsReadFault }
 {
     while bytes.len() <= LONGEST {

@@ -36,9 +36,9 @@ enum Wanted {
 /// image of each page that can be flushed, one a line. `slow` answers it in the slow form. `report` runs it with the
 /// same jobs, writes no answer, and then writes the report of what it left and of its accepted steps: nothing where
 /// there is no line, and the text of a bad line alone. `judge` says of a trace, a script's lines each with ` -> ` and a
-/// reply, how many lines agree with the definitions (0), or which is the first that deviates (1), or the first that is no
-/// line of a trace (2). `race` runs riders beside a crew, each in a thread, and writes
-/// whether what they left is what their steps say; where it isn't, the status is 1.
+/// reply, how many lines agree with the definitions (0), or which is the first that deviates (1), or the first that is
+/// no line of a trace (2). `race` runs riders beside a crew, each in a thread, and writes whether what they left is what
+/// their steps say; where it isn't, the status is 1.
 pub fn command<T: Threads + Wait + Sync, S: AsStr, R: Read, W: Write, E: Write>(
     rt: &T,
     alloc: Global,
