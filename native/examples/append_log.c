@@ -1,7 +1,8 @@
-/* An append-only log: four threads append records, and one writes the pages to a file behind them. At the end the file
- * is read back and compared. The core lies under a mutex, the words beside it. Usage: append_log FILE */
+/* A log of threads: four threads append records, each by a pass of its own, and one flushes the pages to a file behind
+ * them and cleans their frames. At the end the file is read back and compared, and the counts of pages are. The log
+ * lies under a mutex; words are stored, copied and swept without it. Usage: append_log FILE */
 #define _POSIX_C_SOURCE 200809L
-#include <hl.h>
+#include <hl_log.h>
 
 #include <pthread.h>
 #include <sched.h>
@@ -11,21 +12,22 @@
 
 enum { PAGE_SIZE = 64, FRAMES = 16, THREADS = 4, RECORDS = 10000, LONGEST = 10 };
 
-static hl_core core;
+static hl_log the_log;
 static pthread_mutex_t lock = PTHREAD_MUTEX_INITIALIZER;
-static uint64_t cells[FRAMES * PAGE_SIZE];
-static bool ended; /* under the lock */
+static bool ended;                    /* under the lock */
+static uint64_t flushed, cleaned;     /* pages; the flusher's, until it is joined */
+static uint64_t refreshed[THREADS];   /* how often a thread had something new to see; likewise */
 static FILE *file;
 
-static void fail(const char *what) {
-    fprintf(stderr, "%s\n", what);
+static void fail(const char *what, uint64_t number) {
+    fprintf(stderr, "%s: %s\n", what, hl_fault_name(number));
     exit(1);
 }
 
 /* An answer that is to be accepted: its first number. */
-static uint64_t told(hl_brief answer) {
+static uint64_t told(const char *what, hl_brief answer) {
     if (answer.number != 0) {
-        fail("a call was refused");
+        fail(what, answer.number);
     }
     return answer.a;
 }
@@ -41,106 +43,133 @@ static uint64_t record(uint64_t words[LONGEST], uint64_t thread, uint64_t number
     return words[0];
 }
 
-/* The words of an address up to its page's end. */
-static uint64_t *words_at(uint64_t address) {
-    return &cells[address / PAGE_SIZE % FRAMES * PAGE_SIZE + address % PAGE_SIZE];
-}
-
-static void refresh(uint64_t slot) {
-    if (hl_refresh(&core, slot).number != 0) {
-        fail("a refresh was refused");
+/* Moves a pass's slot on, under the lock. */
+static void refresh(hl_pass *pass) {
+    hl_outcome entered = hl_log_refresh(&the_log, pass);
+    if (entered.number != 0) {
+        fail("a refresh", entered.number);
     }
 }
 
-/* Places a record and writes its words, which nobody else does until the next refresh, without the lock. */
-static void append(uint64_t slot, const uint64_t *words, uint64_t count) {
+/* Places a record, and stores its words without the lock. */
+static void append(hl_pass *pass, const uint64_t *words, uint64_t count) {
     pthread_mutex_lock(&lock);
-    hl_brief at = hl_allocate(&core, slot, count);
+    hl_brief at = hl_log_allocate(&the_log, pass, count);
     while (at.number == HL_BUSY) {
         /* No frame is free: the oldest one comes back once every thread has moved on. */
         pthread_mutex_unlock(&lock);
         sched_yield();
         pthread_mutex_lock(&lock);
-        refresh(slot);
-        at = hl_allocate(&core, slot, count);
+        refresh(pass);
+        at = hl_log_allocate(&the_log, pass, count);
     }
     pthread_mutex_unlock(&lock);
-    memcpy(words_at(told(at)), words, count * sizeof *words);
-    pthread_mutex_lock(&lock);
-    refresh(slot);
-    pthread_mutex_unlock(&lock);
+    uint64_t address = told("an allocation", at);
+    for (uint64_t i = 0; i < count; i++) {
+        told("a store", hl_pass_store(pass, address + i, words[i]));
+    }
 }
 
 static void *append_all(void *number) {
     uint64_t slot = (uint64_t)(uintptr_t)number, words[LONGEST];
+    hl_pass pass = {0};
     pthread_mutex_lock(&lock);
-    hl_outcome entered = hl_acquire(&core, slot);
+    hl_outcome entered = hl_log_acquire(&the_log, &pass, slot);
     pthread_mutex_unlock(&lock);
     if (entered.number != 0) {
-        fail("an acquire was refused");
+        fail("an acquire", entered.number);
     }
     for (uint64_t i = 0; i < RECORDS; i++) {
-        append(slot, words, record(words, slot, i));
+        append(&pass, words, record(words, slot, i));
+        /* Most often nothing is new, and the lock isn't taken. */
+        if (hl_pass_keeps_up(&pass) == 0) {
+            pthread_mutex_lock(&lock);
+            refresh(&pass);
+            pthread_mutex_unlock(&lock);
+            refreshed[slot]++;
+        }
     }
     pthread_mutex_lock(&lock);
-    told(hl_release(&core, slot));
+    told("a release", hl_log_release(&the_log, &pass));
     pthread_mutex_unlock(&lock);
     return NULL;
 }
 
-/* A sealed page goes to the file, without the lock: nobody writes its words any more. */
-static void flush(uint64_t page) {
-    pthread_mutex_unlock(&lock);
-    bool ok = fseek(file, (long)(page * PAGE_SIZE * sizeof(uint64_t)), SEEK_SET) == 0 &&
-              fwrite(words_at(page * PAGE_SIZE), sizeof(uint64_t), PAGE_SIZE, file) == PAGE_SIZE;
+/* A sealed page goes to the file, without the lock: nobody stores to it any more. */
+static void flush(hl_page *page, uint64_t number) {
+    uint64_t words[PAGE_SIZE];
+    told("a copy", hl_log_copy_page(page, words, PAGE_SIZE));
+    bool ok = fseek(file, (long)(number * sizeof words), SEEK_SET) == 0 &&
+              fwrite(words, sizeof *words, PAGE_SIZE, file) == PAGE_SIZE;
     pthread_mutex_lock(&lock);
     /* A page whose flush failed goes back, to be taken again; this program gives up. */
-    told(hl_flush_done(&core, page, ok));
+    told("the end of a flush", hl_log_flush_done(&the_log, page, ok));
+    pthread_mutex_unlock(&lock);
     if (!ok) {
-        fail("the file takes no page");
+        fail("the file takes no page", 0);
     }
+    flushed++;
 }
 
-/* One turn of the thread that flushes, under the lock: it seals what lies below an address, writes sealed pages, and
- * frees what is old. */
-static void serve(uint64_t seal_below) {
-    hl_quantities now = hl_snapshot(&core);
+/* A closed page is zeroed, without the lock: nobody loads from it any more. */
+static void clean(hl_page *page) {
+    told("a sweep", hl_log_sweep(page));
+    pthread_mutex_lock(&lock);
+    told("the end of a clean", hl_log_clean_done(&the_log, page));
+    pthread_mutex_unlock(&lock);
+    cleaned++;
+}
+
+/* Takes a page under the lock, if there is one. */
+static bool take(hl_brief (*next)(hl_log *, hl_page *), hl_page *page, uint64_t *number) {
+    pthread_mutex_lock(&lock);
+    hl_brief taken = next(&the_log, page);
+    pthread_mutex_unlock(&lock);
+    *number = taken.a;
+    return taken.number == 0;
+}
+
+/* Seals what lies below an address, and lets go of what is flushed, under the lock. */
+static void move_offsets(uint64_t seal_below) {
+    hl_quantities now = hl_log_snapshot(&the_log);
     hl_outcome taken;
-    hl_brief page;
     if (seal_below > now.six.read_only) {
-        told(hl_raise(&core, seal_below));
+        told("a raise", hl_log_raise(&the_log, seal_below));
     }
-    if (now.pending == 0 && now.six.safe_read_only < now.six.read_only) {
-        told(hl_settle(&core));
-    }
-    while ((taken = hl_take(&core)).number == 0) {
-        hl_done(&core, taken.a);
-    }
-    while ((page = hl_flush_take(&core)).number == 0) {
-        flush(page.a);
-    }
-    now = hl_snapshot(&core);
     if (now.six.flushed > now.six.head) {
-        told(hl_shift(&core, now.six.flushed));
+        told("a shift", hl_log_shift(&the_log, now.six.flushed));
+    }
+    now = hl_log_snapshot(&the_log);
+    if (now.pending == 0 && now.six.safe_read_only < now.six.read_only) {
+        told("a settle", hl_log_settle(&the_log));
     }
     if (now.pending == 0 && now.six.closed < now.six.head) {
-        told(hl_close(&core));
+        told("a close", hl_log_close(&the_log));
     }
-    while ((page = hl_clean_take(&core)).number == 0) {
-        memset(words_at(page.a * PAGE_SIZE), 0, PAGE_SIZE * sizeof(uint64_t));
-        told(hl_clean_done(&core, page.a));
+    while ((taken = hl_log_take(&the_log)).number == 0) {
+        if (hl_log_done(&the_log, taken.a).number != 0) {
+            fail("a done", taken.a);
+        }
     }
 }
 
 static void *flush_all(void *unused) {
     (void)unused;
     for (bool goes_on = true; goes_on;) {
+        hl_page page = {0};
+        uint64_t number;
         pthread_mutex_lock(&lock);
-        uint64_t tail = hl_six(&core).tail;
         /* At the end the tail is a page's end. */
-        serve(tail / PAGE_SIZE * PAGE_SIZE);
-        goes_on = !ended || hl_six(&core).flushed < tail;
+        uint64_t tail = hl_log_six(&the_log).tail;
+        move_offsets(tail / PAGE_SIZE * PAGE_SIZE);
+        goes_on = !ended || hl_log_six(&the_log).closed < tail;
         pthread_mutex_unlock(&lock);
+        while (take(hl_log_flush_take, &page, &number)) {
+            flush(&page, number);
+        }
+        while (take(hl_log_clean_take, &page, &number)) {
+            clean(&page);
+        }
         sched_yield();
     }
     return NULL;
@@ -149,15 +178,16 @@ static void *flush_all(void *unused) {
 /* A page is sealed once it ends below the safe read-only offset: an empty page ends the last one. */
 static void end_last_page(void) {
     static const uint64_t empty[PAGE_SIZE];
+    hl_pass pass = {0};
     pthread_mutex_lock(&lock);
-    hl_outcome entered = hl_acquire(&core, 0);
+    hl_outcome entered = hl_log_acquire(&the_log, &pass, 0);
     pthread_mutex_unlock(&lock);
     if (entered.number != 0) {
-        fail("an acquire was refused");
+        fail("an acquire", entered.number);
     }
-    append(0, empty, PAGE_SIZE);
+    append(&pass, empty, PAGE_SIZE);
     pthread_mutex_lock(&lock);
-    told(hl_release(&core, 0));
+    told("a release", hl_log_release(&the_log, &pass));
     ended = true;
     pthread_mutex_unlock(&lock);
 }
@@ -166,7 +196,7 @@ static void end_last_page(void) {
 static bool is_as_appended(void) {
     uint64_t page[PAGE_SIZE], words[LONGEST], next[THREADS] = {0}, all = 0;
     if (fflush(file) != 0) {
-        fail("the file takes no page");
+        fail("the file takes no page", 0);
     }
     rewind(file);
     while (fread(page, sizeof *page, PAGE_SIZE, file) == PAGE_SIZE) {
@@ -192,8 +222,8 @@ int main(int count, char **words) {
         fprintf(stderr, "usage: append_log FILE\n");
         return 2;
     }
-    if (hl_open(&core, PAGE_SIZE, FRAMES, THREADS, 4) != 0) {
-        fail("no core");
+    if (hl_log_open(&the_log, PAGE_SIZE, FRAMES, THREADS, 4, 1) != 0) {
+        fail("no log", 0);
     }
     pthread_create(&flusher, NULL, flush_all, NULL);
     for (uintptr_t i = 0; i < THREADS; i++) {
@@ -204,10 +234,18 @@ int main(int count, char **words) {
     }
     end_last_page();
     pthread_join(flusher, NULL);
-    hl_free(&core);
-    bool same = is_as_appended();
-    fclose(file);
-    printf("%d records of %d threads: %s\n", THREADS * RECORDS, THREADS,
-           same ? "read back as appended" : "not as appended");
-    return same ? 0 : 1;
+    hl_quantities end = hl_log_snapshot(&the_log);
+    uint64_t pages = end.six.tail / PAGE_SIZE;
+    printf("%d records on %llu pages; refreshes:", THREADS * RECORDS, (unsigned long long)pages);
+    for (int i = 0; i < THREADS; i++) {
+        printf(" %llu", (unsigned long long)refreshed[i]);
+    }
+    puts("");
+    if (flushed != pages || cleaned != pages || end.frames[HL_FREE] != FRAMES || end.protected_slots != 0) {
+        fail("the pages aren't as counted", 0);
+    }
+    if (!is_as_appended()) {
+        fail("the file isn't as it was appended", 0);
+    }
+    return hl_log_free(&the_log) == 0 && fclose(file) == 0 ? 0 : 1;
 }

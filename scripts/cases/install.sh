@@ -147,7 +147,7 @@ if has_all "what ./hl install lays out" ld objcopy nm ar rt; then
         check "a script in C" answers_in_c
         check "misuse in C" builds_and_runs cc c11 native/tests/misuse.c
         check "an append-only log in C" builds_and_runs cc c11 native/examples/append_log.c "$room/c.log"
-        check "a log of threads in C" builds_and_runs cc c11 native/examples/log_of_threads.c "$room/threads.log"
+        check "a core with words of its own in C" builds_and_runs cc c11 native/examples/own_words.c "$room/words.log"
         check "what each call of a log of threads answers in C" builds_and_runs cc c11 native/tests/threads.c
     fi
     if path=/usr/bin:/bin has_all "programs in C++" c++ pkg-config; then
