@@ -119,7 +119,8 @@ one_version() {
     grep -q "^## $version\$" "$top/CHANGELOG.md"
 }
 
-# Packs an archive twice, unpacks it at another place, and answers a script and builds a program from there.
+# Packs an archive twice, unpacks it at another place, and answers a script and builds a program from there. What follows
+# is built against the unpacked archive, too.
 packs() {
     local flags unpacked="$room/unpacked/hl-$(cat "$top/VERSION")"
     mkdir -p "$room/packed" "$room/unpacked"
@@ -134,15 +135,16 @@ packs() {
     alone cc -std=c11 "$unpacked/share/hl/examples/append_log.c" $flags -pthread -o "$room/app" &&
         alone "$room/app" "$room/unpacked.log" > "$room/app.text" || return
     alone cc -std=c11 "$unpacked/share/hl/examples/append_log.c" -I"$unpacked/include" -L"$unpacked/lib/shared" -lhl -pthread \
-        -o "$room/app" && LD_LIBRARY_PATH="$unpacked/lib/shared" "$room/app" "$room/shared.log" > "$room/app.text"
+        -o "$room/app" && LD_LIBRARY_PATH="$unpacked/lib/shared" "$room/app" "$room/shared.log" > "$room/app.text" || return
+    installed="$unpacked"
 }
 
 if has_all "what ./hl install lays out" ld objcopy nm ar rt; then
     check "install" installs
+    check "one version" one_version
     if path=/usr/bin:/bin has_all "the archive of it" cc pkg-config tar gzip sha256sum; then
         check "an archive of what is installed" packs
     fi
-    check "one version" one_version
     if path=/usr/bin:/bin has_all "programs in C" cc pkg-config; then
         check "a script in C" answers_in_c
         check "misuse in C" builds_and_runs cc c11 native/tests/misuse.c
