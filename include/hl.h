@@ -144,8 +144,10 @@ enum hl_fault {
     HL_IS_OPEN = 255       /* of an opening: a core is open at the handle already, and stays */
 };
 
-/* The version of this header: that of the archive that was installed beside it. */
-static inline const char *hl_version(void) { return HL_VERSION; }
+/* The version of the library that the program is linked with, as the library itself tells it. That of this header is
+ * HL_VERSION: where the two differ, the header was taken from another folder. */
+extern const char hl_version_text[];
+static inline const char *hl_version(void) { return hl_version_text; }
 
 /* The name of a fault, as docs/RULES.md has it, or of a code; "accepted" for 0, and "unknown" for others. */
 static inline const char *hl_fault_name(uint64_t number) {

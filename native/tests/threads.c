@@ -107,6 +107,43 @@ static void one_pass(void) {
     wants("an end of the pass", hl_pass_abandon(&pass), 0);
 }
 
+/* The greatest numbers, in each place where a call takes one. */
+static void greatest(void) {
+    hl_log log = {0}, other = {0};
+    hl_pass pass = {0}, own = {0};
+    hl_page page = {0};
+    uint64_t word;
+    wants("the greatest sizes", hl_log_open(&log, UINT64_MAX, UINT64_MAX, UINT64_MAX, UINT64_MAX, 1), HL_OUT_OF_RANGE);
+    wants("so many frames", hl_log_open_wide(&log, 4, UINT64_MAX, 4, 4, 1), HL_OUT_OF_RANGE);
+    wants("a page of half of all words", hl_log_open_wide(&log, UINT64_MAX / 2 + 1, 2, 4, 4, 1), HL_OUT_OF_RANGE);
+    wants("the greatest stamp", hl_log_open(&log, PAGE_SIZE, 2, 4, 4, UINT64_MAX), 0);
+    wants("so great a slot", hl_log_acquire(&log, &pass, UINT64_MAX).number, HL_NO_SLOT);
+    wants("a slot", hl_log_acquire(&log, &pass, 3).number, 0);
+    wants("so long a record", hl_log_allocate(&log, &pass, UINT64_MAX).number, HL_SIZE);
+    wants_both("a record", hl_log_allocate(&log, &pass, 4), 0, 0);
+    wants_both("a store so far up", hl_pass_store(&pass, UINT64_MAX, 1), HL_BEYOND, 4);
+    wants_both("a load so far up", hl_pass_load(&pass, UINT64_MAX), HL_BEYOND, 4);
+    wants_both("an addition so far up", hl_pass_fetch_add(&pass, UINT64_MAX, 1), HL_BEYOND, 4);
+    wants_both("an exchange so far up", hl_pass_compare_exchange(&pass, UINT64_MAX, 0, 1), HL_BEYOND, 4);
+    wants_both("so great a word", hl_pass_store(&pass, 3, UINT64_MAX), 0, 0);
+    wants_both("an addition to it", hl_pass_fetch_add(&pass, 3, 2), 0, UINT64_MAX);
+    wants_both("their sum", hl_pass_load(&pass, 3), 0, 1);
+    wants("a raise so far", hl_log_raise(&log, UINT64_MAX).number, HL_ABOVE_TAIL);
+    wants("a shift so far", hl_log_shift(&log, UINT64_MAX - PAGE_SIZE + 1).number, HL_ABOVE_FLUSHED);
+    wants("a done of so great a ticket", hl_log_done(&log, UINT64_MAX).number, HL_NOT_TAKEN);
+    wants("a holder at so far a place", hl_log_holders(&log, UINT64_MAX).number, HL_OUT_OF_RANGE);
+    wants("a lag of so many pages", hl_log_lag(&log, UINT64_MAX, UINT64_MAX).number, HL_OUT_OF_RANGE);
+    wants("a copy of no page into so many places", hl_log_copy_page(&page, &word, UINT64_MAX).number, HL_NO_CORE);
+    wants("a refresh of a stamp that began anew", hl_log_refresh(&log, &pass).number, 0);
+    wants("a log of a small stamp", hl_log_open(&other, PAGE_SIZE, 2, 4, 4, 7), 0);
+    wants("its slot", hl_log_acquire(&other, &own, 3).number, 0);
+    wants_all("its pass", hl_log_refresh(&log, &own), (hl_outcome){HL_STRANGER, 0, 0, 0, 0});
+    hl_log_release(&other, &own);
+    hl_log_release(&log, &pass);
+    hl_log_free(&other);
+    hl_log_free(&log);
+}
+
 /* Passes of other logs, and of slots that others have now. */
 static void strangers(void) {
     hl_log log = {0}, second = {0};
@@ -249,6 +286,7 @@ int main(void) {
     nothing_there();
     sizes();
     one_pass();
+    greatest();
     strangers();
     pages();
     four_threads();

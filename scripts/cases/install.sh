@@ -22,13 +22,15 @@ installs() {
     "$top/hl" install "$room/made" && mv "$room/made" "$installed"
 }
 
-# Builds a program of the repository, and runs it on words: builds_and_runs COMPILER STANDARD SOURCE [WORD..]
+# Builds a program of the repository, with further options where some are set, and runs it on words:
+# builds_and_runs COMPILER STANDARD SOURCE [WORD..]
 builds_and_runs() {
     local compiler="$1" standard="$2" source="$top/$3" flags
     shift 3
     flags="$(alone pkg-config --cflags --libs hl)" || return
-    # The flags of pkg-config are apart by blanks.
-    alone "$compiler" -std="$standard" -O1 -Wall -Wextra -pedantic -Werror "$source" $flags -pthread -o "$room/app" &&
+    # The flags of pkg-config and the options are apart by blanks.
+    alone "$compiler" -std="$standard" -O1 -Wall -Wextra -pedantic -Werror ${options:-} "$source" $flags -pthread \
+        -o "$room/app" &&
         alone timeout 100 "$room/app" "$@" > "$room/app.text"
 }
 
@@ -49,6 +51,12 @@ log_in_cpp() {
     mkdir -p "$room/cpp_journals"
     builds_and_runs c++ c++17 native/tests/log.cpp 100000 "$room/cpp_journals" &&
         answers_journals "$room/cpp_journals"
+}
+
+# Whether this compiler makes programs that watch their threads.
+watches_threads() {
+    echo 'int main() { return 0; }' > "$room/watched.c"
+    alone "$1" -fsanitize=thread "$room/watched.c" -o "$room/app" 2> /dev/null && alone "$room/app" 2> /dev/null
 }
 
 # A program of two objects, of C++17 and of a later form, hands answers from one to the other.
@@ -119,6 +127,24 @@ one_version() {
     grep -q "^## $version\$" "$top/CHANGELOG.md"
 }
 
+# The library tells its version itself: that of the header beside it, and its own where a header tells another.
+own_version() {
+    local flags version
+    version="$(cat "$top/VERSION")"
+    flags="$(alone pkg-config --cflags --libs hl)" || return
+    printf '%s\n' '#include <hl.h>' '#include <stdio.h>' \
+        'int main(void) { return puts(hl_version()) < 0 || puts(HL_VERSION) < 0; }' > "$room/version.c"
+    mkdir -p "$room/other"
+    sed 's/^#define HL_VERSION .*/#define HL_VERSION "another"/' "$installed/include/hl.h" > "$room/other/hl.h"
+    # The flags of pkg-config are apart by blanks.
+    alone cc -std=c11 "$room/version.c" $flags -o "$room/app" &&
+        printf '%s\n' "$version" "$version" | cmp - <(alone "$room/app") &&
+        alone cc -std=c11 -I"$room/other" "$room/version.c" $flags -o "$room/app" &&
+        printf '%s\n' "$version" another | cmp - <(alone "$room/app") &&
+        alone cc -std=c11 "$room/version.c" -I"$installed/include" -L"$installed/lib/shared" -lhl -o "$room/app" &&
+        printf '%s\n' "$version" "$version" | cmp - <(LD_LIBRARY_PATH="$installed/lib/shared" "$room/app")
+}
+
 # Packs an archive twice, unpacks it at another place, and answers a script and builds a program from there. What follows
 # is built against the unpacked archive, too.
 packs() {
@@ -139,22 +165,30 @@ packs() {
     installed="$unpacked"
 }
 
-if has_all "what ./hl install lays out" ld objcopy nm ar rt; then
+if has_all "what ./hl install lays out" as ld objcopy nm ar rt; then
     check "install" installs
     check "one version" one_version
     if path=/usr/bin:/bin has_all "the archive of it" cc pkg-config tar gzip sha256sum; then
         check "an archive of what is installed" packs
     fi
     if path=/usr/bin:/bin has_all "programs in C" cc pkg-config; then
+        check "the version that the library tells" own_version
         check "a script in C" answers_in_c
         check "misuse in C" builds_and_runs cc c11 native/tests/misuse.c
         check "an append-only log in C" builds_and_runs cc c11 native/examples/append_log.c "$room/c.log"
         check "a core with words of its own in C" builds_and_runs cc c11 native/examples/own_words.c "$room/words.log"
         check "what each call of a log of threads answers in C" builds_and_runs cc c11 native/tests/threads.c
+        options=-Wl,--wrap=malloc,--wrap=free check "refused memory in C" builds_and_runs cc c11 native/tests/refused.c
+        ! watches_threads cc || options=-fsanitize=thread check "threads in C by ThreadSanitizer" \
+            builds_and_runs cc c11 native/tests/threads.c
     fi
     if path=/usr/bin:/bin has_all "programs in C++" c++ pkg-config; then
         check "a core in C++" builds_and_runs c++ c++17 native/tests/core.cpp
         check "misuse in C++" builds_and_runs c++ c++17 native/tests/misuse.cpp
+        options=-Wl,--wrap=malloc,--wrap=free check "refused memory in C++" builds_and_runs c++ c++17 \
+            native/tests/refused.cpp
+        ! watches_threads c++ || options=-fsanitize=thread check "threads in C++ by ThreadSanitizer" \
+            builds_and_runs c++ c++17 native/tests/log.cpp 20000
         check "two forms of C++ in one program" of_two_forms
         check "a form of C++ that is too old" refuses_old_forms
         check "a log in C++ beside the core" log_in_cpp

@@ -1,53 +1,43 @@
 -- What the calls of a pass come to.
-use Rattle.std.proofs.Common.{◌≡◌, ℕ, List, Bool, true, false, cond, nat_eq, sym, ap, ◌∙◌, subst}
+use Rattle.std.proofs.Common.{◌≡◌, ℕ, Bool, true, false, cond, nat_eq, sym, ap, ◌∙◌, subst}
 use lib.Dec.{T}
 use Rattle.std.specs.Prelude.{Option, Some, None, Result}
 use Rattle.hl_model.specs.declared.fault.Fault.{Fault}
 use Rattle.hl_model.specs.declared.step.Reply.{Reply}
 use Rattle.hl_model.specs.declared.step.Step.{Step}
-use Rattle.hl_model.specs.declared.step.Step.TheVariants.{Look}
-use Rattle.hl_model.specs.Replies.{fault_of}
 use Rattle.hl_answers.specs.declared.outcome.Outcome.{Outcome}
 use Rattle.hl_answers.specs.Outcomes.{told_of, no_core, reply_told}
 use Rattle.hl_model.specs.declared.step.Reply.TheVariants.{Looked}
-use Rattle.hl_log.specs.Calls.{by_slot, is_known, call_list, Calls, KnownAt}
-use Rattle.hl_log.specs.Logs.{StandsAt}
-use Rattle.hl_log.specs.declared.view.News.{News}
+use Rattle.hl_log.specs.Calls.{by_slot, Calls}
+use Rattle.hl_pass.specs.declared.news.News.{News}
 use Rattle.hl_log.specs.Passes.{with_look, IsRisen}
-use Rattle.hl_log.specs.Views.{is_current}
+use Rattle.hl_pass.specs.Views.{is_current}
 use Rattle.hl_c_log.specs.Passes.{CallsBy, Acquires, AcquiresOf, stays, leaves}
 use Rattle.hl_c_log.specs.Rows.{LogRow, PassRow}
 use Rattle.hl_c_log.specs.Words.{Looks, KeepsUp}
-
--- what a call made of both, and who the pass is then
-pub record IsMade (old : LogRow.Denot) (p : PassRow.Denot) (step : Step) (new : LogRow.Denot) (q : PassRow.Denot) (result : Result Reply Fault) : Type 0 where
-  pub calls : Calls old p step new q result
-  pub known : (A : List Step) → StandsAt old A → is_known old A p ≡ true → KnownAt new (call_list old A p step) q
-  pub entered : (A : List Step) → StandsAt old A → is_known old A p ≡ true → IsRisen p → fault_of old.core.sizes A (Look p.slot p.view.read_only p.view.head) ≡ None
-  pub risen : IsRisen p
 
 -- a log and a pass that were taken out, made the step and were put back
 pub calls_by : (kept : Outcome → PassRow.Denot → Option PassRow.Denot) (step : Step) (v w : Option LogRow.Denot) (q r : Option PassRow.Denot)
     (old lent new : LogRow.Denot) (p lent_pass left : PassRow.Denot) (outcome : Outcome) (result : Result Reply Fault)
     → v ≡ Some old → q ≡ Some p → w ≡ Some new → r ≡ kept outcome left → lent ≡ old → lent_pass ≡ p
-    → IsMade lent lent_pass (by_slot lent_pass.slot step) new left result → outcome ≡ told_of result → CallsBy kept step v q w r outcome
-calls_by kept step v w q r old lent new p lent_pass left outcome result was had is stays_ same same_pass made told =
-    let here : IsMade old p (by_slot p.slot step) new left result =
-    subst (λ (l : LogRow.Denot). IsMade l p (by_slot p.slot step) new left result) same (subst (λ (o : PassRow.Denot). IsMade lent o (by_slot o.slot step) new left result) same_pass made) in
+    → IsRisen lent_pass → Calls lent lent_pass (by_slot lent_pass.own.slot step) new left result → outcome ≡ told_of result → CallsBy kept step v q w r outcome
+calls_by kept step v w q r old lent new p lent_pass left outcome result was had is stays_ same same_pass risen made told =
+    let here : Calls old p (by_slot p.own.slot step) new left result =
+    subst (λ (l : LogRow.Denot). Calls l p (by_slot p.own.slot step) new left result) same (subst (λ (o : PassRow.Denot). Calls lent o (by_slot o.own.slot step) new left result) same_pass made) in
     subst (λ (u : Option LogRow.Denot). CallsBy kept step u q w r outcome) (sym was)
     (subst (λ (u : Option PassRow.Denot). CallsBy kept step (Some old) u w r outcome) (sym had) (
       new,
       left,
       is,
       stays_,
-      here.calls.beside,
-      λ A stands. let c = here.calls.called A stands in record {
+      here.beside,
+      λ A stands. let c = here.called A stands in record {
         told = told ∙ ap told_of c.reply;
         sizes = c.sizes;
         standing = c.standing;
         pass = c.pass;
         known = here.known A stands;
-        entered = λ known. here.entered A stands known here.risen;
+        entered = λ known. here.entered A stands known (subst (λ (o : PassRow.Denot). IsRisen o) same_pass risen);
       },
     ))
 
@@ -79,12 +69,12 @@ acquires_by slot v w q r old lent new outcome was none is same acquires = subst 
 
 -- a pass that was taken out, looked and was put back
 pub looks : (v w : Option PassRow.Denot) (p q : PassRow.Denot) (loaded : ℕ × ℕ) (outcome : Outcome)
-    → v ≡ Some p → w ≡ Some q → q ≡ with_look loaded.0 loaded.1 p → outcome ≡ reply_told (Looked q.view) → Looks v w outcome
+    → v ≡ Some p → w ≡ Some q → q ≡ with_look loaded.0 loaded.1 p → outcome ≡ reply_told (Looked q.own.view) → Looks v w outcome
 looks v w p q loaded outcome was is saw told = subst (λ (u : Option PassRow.Denot). Looks u w outcome) (sym was)
-    (loaded, is ∙ ap Some saw, told ∙ ap (λ (o : PassRow.Denot). reply_told (Looked o.view)) saw)
+    (loaded, is ∙ ap Some saw, told ∙ ap (λ (o : PassRow.Denot). reply_told (Looked o.own.view)) saw)
 
 -- a pass that was taken out, loaded the words and was put back
 pub keeps_up : (v w : Option PassRow.Denot) (p lent : PassRow.Denot) (current : Bool) (news : News) (number : ℕ)
-    → v ≡ Some p → w ≡ Some p → lent ≡ p → current ≡ is_current lent.view lent.epoch news → number ≡ cond current 1 0 → KeepsUp v w number
+    → v ≡ Some p → w ≡ Some p → lent ≡ p → current ≡ is_current lent.own.view lent.own.epoch news → number ≡ cond current 1 0 → KeepsUp v w number
 keeps_up v w p lent current news number was is same judged told = subst (λ (u : Option PassRow.Denot). KeepsUp u w number) (sym was)
-    (is, (news, told ∙ ap (λ (b : Bool). cond b 1 0) (judged ∙ ap (λ (o : PassRow.Denot). is_current o.view o.epoch news) same)))
+    (is, (news, told ∙ ap (λ (b : Bool). cond b 1 0) (judged ∙ ap (λ (o : PassRow.Denot). is_current o.own.view o.own.epoch news) same)))

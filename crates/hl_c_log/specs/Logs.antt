@@ -52,8 +52,8 @@ Tells (Some log) answer none new outcome = (new ≡ Some log)
 pub record IsOpened (sizes : Sizes) (stamp : ℕ) (log : LogRow.Denot) : Type 0 where
   pub sizes_are : log.core.sizes ≡ sizes
   pub stands : StandsAt log []
-  pub own : log.stamp ≡ stamp
-  pub last : log.last ≡ stamp
+  pub own : log.stamps.own ≡ stamp
+  pub given : log.stamps.given ≡ 0
 
 -- an open of sizes in this range: 255 where a log is open, 254 where a size is out of range, 29 where memory
 -- was refused, and nothing is changed; else 0, and such a log is open

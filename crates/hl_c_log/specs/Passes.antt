@@ -11,7 +11,8 @@ use Rattle.hl_answers.specs.declared.outcome.Brief.{Brief}
 use Rattle.hl_answers.specs.declared.outcome.Outcome.{Outcome}
 use Rattle.hl_answers.specs.Outcomes.{told_of, fault_told, brief_of, no_core}
 use Rattle.hl_log.specs.Calls.{by_slot, is_known, call_reply, call_list, call_pass, KnownAt}
-use Rattle.hl_log.specs.Logs.{StandsAt, IsBeside, IsStamped, next_stamp}
+use Rattle.hl_pass.specs.Stamps.{next_stamp}
+use Rattle.hl_log.specs.Logs.{StandsAt, IsBeside, IsStamped}
 use Rattle.hl_log.specs.Passes.{epoch_told}
 use Rattle.hl_c_log.specs.Rows.{LogRow, PassRow}
 
@@ -27,7 +28,7 @@ pub record Called (old : LogRow.Denot) (A : List Step) (p : PassRow.Denot) (step
   pub pass : q ≡ call_pass old A p step
   pub known : is_known old A p ≡ true → KnownAt new (call_list old A p step) q
   pub entered : is_known old A p ≡ true
-      → fault_of old.core.sizes A (Look p.slot p.view.read_only p.view.head) ≡ None
+      → fault_of old.core.sizes A (Look p.own.slot p.own.view.read_only p.own.view.head) ≡ None
 
 -- the handle keeps its pass
 abbrev pub stays : Outcome → PassRow.Denot → Option PassRow.Denot
@@ -50,7 +51,7 @@ CallsBy kept step (Some log) None new left outcome = (outcome ≡ no_core) × (n
 CallsBy kept step (Some log) (Some p) new left outcome =
     (after : LogRow.Denot) × (q : PassRow.Denot) × (new ≡ Some after) × (left ≡ kept outcome q)
     × IsBeside log after
-    × ((A : List Step) → StandsAt log A → Called log A p (by_slot p.slot step) after q outcome)
+    × ((A : List Step) → StandsAt log A → Called log A p (by_slot p.own.slot step) after q outcome)
 
 -- so for a step of which one number is told
 abbrev pub CallsBriefly : (Outcome → PassRow.Denot → Option PassRow.Denot) → Step → Option LogRow.Denot
@@ -77,12 +78,12 @@ pub record Acquired (old : LogRow.Denot) (A : List Step) (slot : ℕ) (new : Log
   pub sizes : new.core.sizes ≡ old.core.sizes
   pub standing : StandsAt new (extended old.core.sizes A (Acquire slot))
   pub stamps : IsStamped old slot new
-  pub slot_is : q.slot ≡ slot
-  pub stamp_is : q.stamp ≡ next_stamp old
-  pub epoch_is : q.epoch ≡ epoch_told (reply_of old.core.sizes A (Acquire slot)) 0
-  pub held_is : q.held
+  pub slot_is : q.own.slot ≡ slot
+  pub stamp_is : q.own.stamp ≡ next_stamp old.stamps
+  pub epoch_is : q.own.epoch ≡ epoch_told (reply_of old.core.sizes A (Acquire slot)) 0
+  pub held_is : q.own.held
       ≡ unwrap_or (slot_view old.core.sizes slot (extended old.core.sizes A (Acquire slot))) no_view
-  pub view_is : q.view ≡ q.held
+  pub view_is : q.own.view ≡ q.own.held
   pub words : q.shared.value ≡ old.shared.value
   pub known : KnownAt new (extended old.core.sizes A (Acquire slot)) q
 

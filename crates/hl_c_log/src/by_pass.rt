@@ -1,5 +1,5 @@
-//! The calls of a pass under the caller's lock.
-ghost use Rattle.hl_model.specs.declared.step.Step.TheVariants.{Refresh as REFRESH, Release as RELEASE, Allocate as ALLOCATE};
+//! The calls of a pass under the caller's lock, but for its refresh.
+ghost use Rattle.hl_model.specs.declared.step.Step.TheVariants.{Release as RELEASE, Allocate as ALLOCATE};
 ghost use Rattle.hl_log.specs.Calls.{IsCall};
 ghost use Rattle.hl_c_log.specs.Passes.{CallsBy, CallsBriefly, stays, leaves};
 
@@ -7,15 +7,6 @@ use crate::log_handle::LogHandle;
 use crate::pass_handle::PassHandle;
 use hl_answers::{Brief, Outcome};
 use hl_model::Step;
-
-/// The pass's slot moves on: its epoch, and its view.
-#[unsafe(no_mangle)]
-pub extern "C" fn hl_log_refresh(log: &mut LogHandle, pass: &mut PassHandle) -> Outcome
-    ensures { CallsBy stays (REFRESH 0) log.old.slot.value pass.old.slot.value
-        log.new.slot.value pass.new.slot.value result }
-{
-    by_pass(log, pass, Step::Refresh { t: 0 })
-}
 
 /// Places a record of so many words for the pass's slot: its address.
 #[unsafe(no_mangle)]

@@ -39,13 +39,14 @@ mod pages;
 mod pass_handle;
 mod pass_slot;
 mod queries;
+mod refresh;
 mod step;
 mod steps;
 mod threads;
 mod words;
 
 pub use acquire::{hl_log_acquire, hl_pass_abandon};
-pub use by_pass::{hl_log_allocate, hl_log_refresh, hl_log_release};
+pub use by_pass::{hl_log_allocate, hl_log_release};
 pub use hl_answers::{Brief, LagOutcome, LagStep, Outcome, SixOutcome, SnapshotOutcome};
 pub use log_handle::LogHandle;
 pub use log_slot::LogSlot;
@@ -57,6 +58,7 @@ pub use pages::{hl_log_clean_done, hl_log_clean_take, hl_log_flush_done, hl_log_
 pub use pass_handle::PassHandle;
 pub use pass_slot::PassSlot;
 pub use queries::{hl_log_holders, hl_log_lag, hl_log_six, hl_log_snapshot};
+pub use refresh::hl_log_refresh;
 pub use steps::{
     hl_log_bare, hl_log_bump, hl_log_close, hl_log_done, hl_log_raise, hl_log_settle, hl_log_shift,
     hl_log_take,

@@ -1,7 +1,7 @@
 -- What the tests before the core's answer.
-use Rattle.std.proofs.Common.{◌≡◌, ℕ, ◌<◌, ◌≤◌, Bool, true, false, cond, eqb, leb, is_some, List, refl, sym, ap, ap₂, ◌∙◌, arith}
-use Rattle.std.specs.Prelude.{◌==◌, ◌&&◌, Option, Some, None, Ok, Err, slice_index_or}
-use Rattle.std.proofs.lemmas.Bool.{le-leb, lt-leb, eq-eqb, ne_eqb}
+use Rattle.std.proofs.Common.{◌≡◌, ℕ, ◌<◌, ◌≤◌, Bool, true, false, leb, List, refl, sym, ap, ap₂, ◌∙◌, arith}
+use Rattle.std.specs.Prelude.{◌&&◌, Result, Ok, Err}
+use Rattle.std.proofs.lemmas.Bool.{le-leb, lt-leb}
 use Rattle.hl_model.specs.declared.fault.Fault.{Fault}
 use Rattle.hl_model.specs.declared.fault.Fault.TheVariants.{Stranger}
 use Rattle.hl_model.specs.declared.step.Step.{Step}
@@ -10,11 +10,15 @@ use Rattle.hl_model.specs.declared.view.Six.{Six}
 use Rattle.hl_model.specs.Sizes.{Sizes}
 use Rattle.hl_model.specs.Offsets.{read_only, head}
 use Rattle.hl_model.specs.Snapshots.{six}
-use Rattle.hl_model.specs.Views.{slot_view}
 use Rattle.hl_model.specs.Replies.{unless_fault}
+use Rattle.hl_words.specs.States.{RiderState}
+use Rattle.hl_pass.specs.declared.pass_view.PassView.{PassView}
+use Rattle.hl_pass.specs.Calls.{unless_stranger, stranger_fault as stranger_by, origin_fault as of_log}
+use Rattle.hl_pass.specs.Stamps.{stamp_at as stamp_by}
 use Rattle.hl_keeper.specs.Passes.{PassRecord, seen}
 use Rattle.hl_keeper.specs.Keepers.{KeeperState}
-use Rattle.hl_keeper.specs.Calls.{has_view, stamp_at, is_known, is_behind, unless_stranger, stranger_fault, ahead_fault, origin_fault}
+use Rattle.hl_keeper.specs.Calls.{stamp_at, is_known, is_behind, stranger_fault, ahead_fault, origin_fault}
+use Rattle.hl_keeper.specs.Parts.{pass_of}
 
 -- a test that passed, and one that didn't
 passes : (b : Bool) (s : ℕ) → b ≡ true → Ok (tt {0}) ≡ unless_fault (unless_stranger b s) (tt {0})
@@ -53,34 +57,23 @@ still_refused true c s f h = cc
 still_refused false c s f h = h
 
 module _ {F : Type 0} where
-  -- the stamp of a slot that has a view, and of one that hasn't
-  pub stamp_some : (keeper : KeeperState F) (A : List Step) (t : ℕ) (v : View) (s : ℕ) → Some v ≡ slot_view keeper.core.sizes t A → s ≡ slice_index_or keeper.stamps t 0 → s ≡ stamp_at keeper A t
+  -- whether a pass is a stranger, told of what it keeps of its slot
+  pub stranger_is : (keeper : KeeperState F) (A : List Step) (own : PassView) (touches : List Step) (rider : RiderState) (r : Result (Unit {0}) Fault)
+      → r ≡ unless_fault (stranger_by keeper.core.sizes keeper.stamps A own) (tt {0}) → r ≡ unless_fault (stranger_fault keeper A (pass_of own touches rider)) (tt {0})
+  unfolding stranger_fault is_known stamp_at
+  stranger_is keeper A own touches rider r is = is
+
+  -- so is the stamp of its slot
+  pub stamp_is : (keeper : KeeperState F) (A : List Step) (own : PassView) (touches : List Step) (rider : RiderState) (s : ℕ)
+      → s ≡ stamp_by keeper.core.sizes keeper.stamps A own.slot → s ≡ stamp_at keeper A (pass_of own touches rider).slot
   unfolding stamp_at
-  stamp_some keeper A t v s e is = is ∙ ap (λ (o : Option View). cond (is_some o) (slice_index_or keeper.stamps t 0) 0) e
+  stamp_is keeper A own touches rider s is = is
 
-  pub stamp_none : (keeper : KeeperState F) (A : List Step) (t : ℕ) → None ≡ slot_view keeper.core.sizes t A → 0 ≡ stamp_at keeper A t
-  unfolding stamp_at
-  stamp_none keeper A t e = ap (λ (o : Option View). cond (is_some o) (slice_index_or keeper.stamps t 0) 0) e
-
-  -- whether a pass is known
-  pub known_then : (keeper : KeeperState F) (A : List Step) (p : PassRecord) (b : Bool) (o : Option View) (s : ℕ) → b ≡ has_view o p.held → b ≡ true → o ≡ slot_view keeper.core.sizes p.slot A → s ≡ stamp_at keeper A p.slot → eqb s p.stamp ≡ is_known keeper A p
-  unfolding is_known
-  known_then keeper A p b o s e t view is =
-      ap (λ z. z == p.stamp) is ∙ sym (ap (λ c. c && (stamp_at keeper A p.slot == p.stamp)) (sym (ap (λ z. has_view z p.held) view) ∙ sym e ∙ t))
-
-  pub known_else : (keeper : KeeperState F) (A : List Step) (p : PassRecord) (b : Bool) (o : Option View) → b ≡ has_view o p.held → b ≡ false → o ≡ slot_view keeper.core.sizes p.slot A → b ≡ is_known keeper A p
-  unfolding is_known
-  known_else keeper A p b o e f view =
-      f ∙ sym (ap (λ c. c && (stamp_at keeper A p.slot == p.stamp)) (sym (ap (λ z. has_view z p.held) view) ∙ sym e ∙ f))
-
-  -- a pass that is known is no stranger
-  pub known_ok : (keeper : KeeperState F) (A : List Step) (p : PassRecord) (b : Bool) → b ≡ is_known keeper A p → b ≡ true → Ok (tt {0}) ≡ unless_fault (stranger_fault keeper A p) (tt {0})
-  unfolding stranger_fault
-  known_ok keeper A p b e t = passes (is_known keeper A p) (stamp_at keeper A p.slot) (sym e ∙ t)
-
-  pub known_err : (keeper : KeeperState F) (A : List Step) (p : PassRecord) (b : Bool) (s : ℕ) → b ≡ is_known keeper A p → b ≡ false → s ≡ stamp_at keeper A p.slot → Err (Stranger s) ≡ unless_fault (stranger_fault keeper A p) (tt {0})
-  unfolding stranger_fault
-  known_err keeper A p b s e f is = refuses (is_known keeper A p) (stamp_at keeper A p.slot) s (sym e ∙ f) is
+  -- whether something is of this domain
+  pub origin_is : (keeper : KeeperState F) (origin : ℕ) (r : Result (Unit {0}) Fault)
+      → r ≡ unless_fault (of_log keeper.stamp origin) (tt {0}) → r ≡ unless_fault (origin_fault keeper origin) (tt {0})
+  unfolding origin_fault
+  origin_is keeper origin r is = is
 
   -- a pass that is ahead, or not, where it is known
   pub behind_ok : (keeper : KeeperState F) (A : List Step) (p : PassRecord) (u : Unit {0}) (c : Bool) → Ok u ≡ unless_fault (stranger_fault keeper A p) (tt {0}) → c ≡ is_behind A p → c ≡ true → Ok (tt {0}) ≡ unless_fault (ahead_fault keeper A p) (tt {0})
@@ -99,12 +92,3 @@ module _ {F : Type 0} where
   pub ahead_err : (keeper : KeeperState F) (A : List Step) (p : PassRecord) (f : Fault) → Err f ≡ unless_fault (stranger_fault keeper A p) (tt {0}) → Err f ≡ unless_fault (ahead_fault keeper A p) (tt {0})
   unfolding ahead_fault stranger_fault
   ahead_err keeper A p f e = still_refused (is_known keeper A p) (is_behind A p) (stamp_at keeper A p.slot) f e
-
-  -- something of this domain
-  pub own_ok : (keeper : KeeperState F) (origin s : ℕ) → s ≡ keeper.stamp → origin ≡ s → Ok (tt {0}) ≡ unless_fault (origin_fault keeper origin) (tt {0})
-  unfolding origin_fault
-  own_ok keeper origin s is e = passes (origin == keeper.stamp) keeper.stamp (eq-eqb origin keeper.stamp (e ∙ is))
-
-  pub own_err : (keeper : KeeperState F) (origin s : ℕ) → s ≡ keeper.stamp → (origin ≡ s → ⊥) → Err (Stranger s) ≡ unless_fault (origin_fault keeper origin) (tt {0})
-  unfolding origin_fault
-  own_err keeper origin s is ne = refuses (origin == keeper.stamp) keeper.stamp s (ne_eqb origin keeper.stamp (λ e. ne (e ∙ sym is))) is

@@ -13,6 +13,8 @@ use Rattle.hl_words.specs.declared.view.OffsetWords.{OffsetWords}
 use Rattle.hl_words.specs.States.{MasterState, new_master}
 use Rattle.hl_words.specs.Views.{newest}
 use Rattle.hl_core.specs.Standing.{State, Stands}
+use Rattle.hl_pass.specs.declared.stamps.Stamps.{Stamps}
+use Rattle.hl_keeper.specs.Parts.{keeper_of}
 use Rattle.hl_keeper.specs.Journals.{JournalState, journal_of, with_steps}
 use Rattle.hl_keeper.specs.Keepers.{job_tag, KeeperState, KeeperStands, steps_most}
 use Rattle.hl_keeper.specs.Stamps.{is_acquire, acquires_in, slot_stamps}
@@ -24,9 +26,9 @@ use Rattle.hl_keeper.proofs.StampLaws.{acquires_in-nil, acquires_in-stay, slot_s
 
 module _ {F : Type 0} where
   -- a keeper that was just opened
-  pub opened : (core : State (KeptRecord F)) (journal : JournalState) (limit : ℕ) (stamps : List ℕ) (stamp : ℕ) (master : MasterState) (sizes : Sizes) → Stands job_tag core [] → core.sizes ≡ sizes → journal ≡ record { base = base_of sizes []; cut = 0; steps = []; limit = limit } → stamps ≡ replicate sizes.slots 0 → stamp ≤ steps_most → master ≡ new_master
-      → KeeperStands {F = F} (record { core = core; base = journal.base; cut = journal.cut; journal = journal.steps; limit = journal.limit; stamps = stamps; stamp = stamp; acquired = 0; offsets = master.offsets; total = master.total; called = master.called }) []
-  opened core journal limit stamps stamp master sizes st same j s most m = record {
+  pub opened : (core : State (KeptRecord F)) (journal : JournalState) (limit : ℕ) (stamps : Stamps) (stamp : ℕ) (master : MasterState) (sizes : Sizes) → Stands job_tag core [] → core.sizes ≡ sizes → journal ≡ record { base = base_of sizes []; cut = 0; steps = []; limit = limit }
+      → stamps.row.items ≡ replicate sizes.slots 0 → stamps.own ≡ stamp → stamps.given ≡ 0 → stamp ≤ steps_most → master ≡ new_master → KeeperStands {F = F} (keeper_of core journal stamps master) []
+  opened core journal limit stamps stamp master sizes st same j s own given most m = record {
     core_stands = st;
     steps_cut = [];
     history = sym (ap (λ (z : JournalState). z.steps) j);
@@ -38,9 +40,9 @@ module _ {F : Type 0} where
     total_is = ap (λ (z : MasterState). z.total) m;
     total_most = omega (arith, ap (λ (z : MasterState). z.total) m);
     journal_most = omega (arith, ap (λ (z : JournalState). length z.steps) j);
-    acquired_is = sym acquires_in-nil;
-    stamps_are = s ∙ sym (slot_stamps-nil sizes.slots stamp) ∙ ap (λ (z : Sizes). slot_stamps z.slots stamp []) (sym same);
-    stamp_most = most;
+    acquired_is = given ∙ sym acquires_in-nil;
+    stamps_are = s ∙ sym (slot_stamps-nil sizes.slots stamps.own) ∙ ap (λ (z : Sizes). slot_stamps z.slots stamps.own []) (sym same);
+    stamp_most = omega (arith, most, own);
   }
 
   -- the steps that a keeper counts in all

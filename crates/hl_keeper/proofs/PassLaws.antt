@@ -1,19 +1,21 @@
 -- What a pass's calls without the lock answer, and what they make of it.
-use Rattle.std.proofs.Common.{◌≡◌, ℕ, ◌<◌, ◌≤◌, Bool, true, false, cond, leb, ltb, max, List, [], ◌∷◌, ◌++◌, length, refl, sym, ap, ap₂, ◌∙◌, subst, arith, append-nil}
-use Rattle.std.specs.Prelude.{◌==◌, ◌||◌, Some, None, Ok, Err}
-use Rattle.std.proofs.lemmas.Bool.{le-leb, lt-leb, leb-false, lt-ltb, le-ltb, ltb-false, eq-eqb, ne_eqb}
-use Rattle.hl_model.specs.declared.fault.Fault.TheVariants.{Below, Beyond, Evicted, TouchesFull}
+use Rattle.std.proofs.Common.{◌≡◌, ℕ, ◌≤◌, Bool, true, false, cond, leb, ltb, max, List, [], ◌∷◌, ◌++◌, length, refl, sym, ap, ap₂, ◌∙◌, subst, arith, append-nil}
+use Rattle.std.specs.Prelude.{◌==◌, Some, None, Ok, Err}
+use Rattle.std.proofs.lemmas.Bool.{leb-false, ltb-false, eq-eqb, ne_eqb}
+use Rattle.hl_model.specs.declared.fault.Fault.{Fault}
+use Rattle.hl_model.specs.declared.fault.Fault.TheVariants.{Below, Beyond, TouchesFull}
 use Rattle.hl_model.specs.declared.step.Step.{Step}
 use Rattle.hl_model.specs.declared.step.Step.TheVariants.{Look, Write}
 use Rattle.hl_model.specs.declared.view.View.{View}
 use Rattle.hl_model.specs.Sizes.{Sizes}
 use Rattle.hl_model.specs.Replies.{or_fault, unless_fault, unless_refused}
-use Rattle.hl_laws.proofs.NoFaultLaws.{or_fault-none, later_fault}
+use Rattle.hl_laws.proofs.NoFaultLaws.{unless_err, unless_ok, or_fault-none, later_fault}
 use Rattle.hl_words.specs.declared.which.Which.TheVariants.{ReadOnly, Head}
 use Rattle.hl_words.specs.States.{RiderState, with_view}
 use Rattle.hl_words.specs.Views.{newest, looked, greatest_of, stored, changed, loaded, with_loaded}
+use Rattle.hl_pass.specs.Views.{beyond_fault, rises, raised, store_fault as view_store_fault, load_fault as view_load_fault}
 use Rattle.hl_keeper.specs.Touches.{view_past, view_after, IsTouch, AreTouches}
-use Rattle.hl_keeper.specs.Passes.{PassRecord, seen, touches_most, touch_fault, tail_fault, store_fault, load_fault, cell_at, with_store, with_change, with_load, look_made, with_look, LooksOn}
+use Rattle.hl_keeper.specs.Passes.{PassRecord, seen, touches_most, touch_fault, store_fault, load_fault, cell_at, with_store, with_change, with_load, look_made, with_look, LooksOn}
 use Rattle.hl_keeper.proofs.TouchLaws.{touches_more}
 
 -- a pass with other touches, and another rider
@@ -30,61 +32,28 @@ pub touches_room : (p : PassRecord) (n : ℕ) → n ≡ length p.touches → (n 
 unfolding touch_fault
 touches_room p n e h = sym (ap (λ b. unless_fault (cond b (Some TouchesFull) None) (tt {0})) (ap (λ m. m == touches_most) (sym e) ∙ ne_eqb n touches_most h))
 
--- an address at the tail that the pass saw, or above, and one below
-at_tail : (v : View) (a : ℕ) → v.tail ≤ a → tail_fault v a ≡ Some (Beyond v.tail)
-at_tail v a le = ap (λ b. cond b (Some (Beyond v.tail)) None) (le-leb v.tail a le)
-
-below_tail : (v : View) (a : ℕ) → a < v.tail → tail_fault v a ≡ None
-below_tail v a lt = ap (λ b. cond b (Some (Beyond v.tail)) None) (lt-leb v.tail a lt)
-
 module _ (p : PassRecord) (v : View) (a : ℕ) (is : v ≡ seen p) where
-  -- a store below the read-only offset
-  pub store_below : a < v.read_only → Err (Below v.read_only) ≡ unless_fault (store_fault p a) (tt {0})
+  -- a store that its view refuses
+  pub store_refused : (f : Fault) → Err f ≡ unless_fault (view_store_fault v a) (tt {0}) → Err f ≡ unless_fault (store_fault p a) (tt {0})
   unfolding store_fault
-  store_below lt =
-      let low : ltb a (seen p).read_only ≡ true = lt-ltb a (seen p).read_only (omega (arith, lt, ap (λ (w : View). w.read_only) is)) in
-      ap (λ (w : View). Err (Below w.read_only)) is ∙ sym (ap (λ b. unless_fault (cond b (Some (Below (seen p).read_only)) (or_fault (tail_fault (seen p) a) (touch_fault p))) (tt {0})) low)
+  store_refused f h = sym (ap (λ o. unless_fault (or_fault o (touch_fault p)) (tt {0})) (ap (λ (w : View). view_store_fault w a) (sym is) ∙ unless_err (view_store_fault v a) f (tt {0}) h))
 
-  -- from it on a store has the faults of its tail and of a touch
-  store_above : v.read_only ≤ a → store_fault p a ≡ or_fault (tail_fault (seen p) a) (touch_fault p)
+  -- one that its view allows has the fault of a touch
+  pub store_allowed : (u : Unit {0}) → Ok u ≡ unless_fault (view_store_fault v a) (tt {0}) → store_fault p a ≡ touch_fault p
   unfolding store_fault
-  store_above le =
-      ap (λ b. cond b (Some (Below (seen p).read_only)) (or_fault (tail_fault (seen p) a) (touch_fault p)))
-      (le-ltb a (seen p).read_only (omega (arith, le, ap (λ (w : View). w.read_only) is)))
+  store_allowed u h = ap (λ o. or_fault o (touch_fault p)) (ap (λ (w : View). view_store_fault w a) (sym is) ∙ (unless_ok (view_store_fault v a) u (tt {0}) h).0)
 
-  pub store_beyond : v.read_only ≤ a → v.tail ≤ a → Err (Beyond v.tail) ≡ unless_fault (store_fault p a) (tt {0})
-  store_beyond low high =
-      let all : store_fault p a ≡ Some (Beyond (seen p).tail) = store_above low ∙ ap (λ o. or_fault o (touch_fault p)) (at_tail (seen p) a (omega (arith, high, ap (λ (w : View). w.tail) is))) in
-      ap (λ (w : View). Err (Beyond w.tail)) is ∙ sym (ap (λ o. unless_fault o (tt {0})) all)
-
-  pub store_within : v.read_only ≤ a → a < v.tail → store_fault p a ≡ touch_fault p
-  store_within low high = store_above low ∙ ap (λ o. or_fault o (touch_fault p)) (below_tail (seen p) a (omega (arith, high, ap (λ (w : View). w.tail) is)))
-
-  -- a load below the head
-  pub load_below : a < v.head → Err (Evicted v.head) ≡ unless_fault (load_fault p a) (tt {0})
+  -- a load is judged by its view
+  pub load_judged : view_load_fault v a ≡ load_fault p a
   unfolding load_fault
-  load_below lt =
-      let low : ltb a (seen p).head ≡ true = lt-ltb a (seen p).head (omega (arith, lt, ap (λ (w : View). w.head) is)) in
-      ap (λ (w : View). Err (Evicted w.head)) is ∙ sym (ap (λ b. unless_fault (cond b (Some (Evicted (seen p).head)) (tail_fault (seen p) a)) (tt {0})) low)
-
-  load_above : v.head ≤ a → load_fault p a ≡ tail_fault (seen p) a
-  unfolding load_fault
-  load_above le = ap (λ b. cond b (Some (Evicted (seen p).head)) (tail_fault (seen p) a)) (le-ltb a (seen p).head (omega (arith, le, ap (λ (w : View). w.head) is)))
-
-  pub load_beyond : v.head ≤ a → v.tail ≤ a → Err (Beyond v.tail) ≡ unless_fault (load_fault p a) (tt {0})
-  load_beyond low high =
-      ap (λ (w : View). Err (Beyond w.tail)) is
-      ∙ sym (ap (λ o. unless_fault o (tt {0})) (load_above low ∙ at_tail (seen p) a (omega (arith, high, ap (λ (w : View). w.tail) is))))
-
-  pub load_within : v.head ≤ a → a < v.tail → Ok (tt {0}) ≡ unless_fault (load_fault p a) (tt {0})
-  load_within low high = sym (ap (λ o. unless_fault o (tt {0})) (load_above low ∙ below_tail (seen p) a (omega (arith, high, ap (λ (w : View). w.tail) is))))
+  load_judged = ap (λ (w : View). view_load_fault w a) is
 
 -- a store without a fault is a lawful touch
 pub store_lawful : (p : PassRecord) (a x : ℕ) → store_fault p a ≡ None → IsTouch p.slot (seen p) (Write p.slot a x)
 unfolding store_fault
 store_lawful p a x h =
-    let outer = later_fault (ltb a (seen p).read_only) (Below (seen p).read_only) (or_fault (tail_fault (seen p) a) (touch_fault p)) h in
-    let inner = later_fault (leb (seen p).tail a) (Beyond (seen p).tail) None (or_fault-none (tail_fault (seen p) a) (touch_fault p) outer.1).0 in
+    let outer = later_fault (ltb a (seen p).read_only) (Below (seen p).read_only) (beyond_fault (seen p) a) (or_fault-none (view_store_fault (seen p) a) (touch_fault p) h).0 in
+    let inner = later_fault (leb (seen p).tail a) (Beyond (seen p).tail) None outer.1 in
     (refl, ltb-false a (seen p).read_only outer.0, leb-false (seen p).tail a inner.0)
 
 -- the touches of a pass that stored
@@ -115,22 +84,24 @@ change_is sizes a found x p cell rider xs c r e =
     ap₂ (λ (z : List Step) (q : RiderState). pass_with p z q) e (r ∙ ap (λ d. with_view (changed d found x p.rider.view) p.rider) c)
 
 -- the touches of a pass that looked
-pub look_touches : (p : PassRecord) (v : View) (r h x y : ℕ) (xs : List Step) → v ≡ seen p → AreTouches p.slot p.held p.touches → x ≡ max v.read_only r → y ≡ max v.head h → xs ≡ p.touches ++ Look p.slot x y ∷ []
-    → (◌≡◌ {A = View} (record { read_only = x; head = y; tail = v.tail }) (view_after p.held xs)) × AreTouches p.slot p.held xs
-look_touches p v r h x y xs is are ex ey e =
-    let lawful : IsTouch p.slot (seen p) (Look p.slot x y) = (refl, omega (arith, ex, ap (λ (w : View). w.read_only) is), omega (arith, ey, ap (λ (w : View). w.head) is)) in
-    let more = touches_more p.slot p.held p.touches (Look p.slot x y) are lawful in
-    subst (λ (z : List Step). (◌≡◌ {A = View} (record { read_only = x; head = y; tail = v.tail }) (view_after p.held z)) × AreTouches p.slot p.held z) (sym e)
-    (ap (λ (w : View). view_past w (Look p.slot x y)) is ∙ sym more.1, more.0)
+pub look_touches : (p : PassRecord) (v w : View) (r h : ℕ) (xs : List Step) → v ≡ seen p → AreTouches p.slot p.held p.touches → w ≡ raised v r h → xs ≡ p.touches ++ Look p.slot w.read_only w.head ∷ []
+    → (w ≡ view_after p.held xs) × AreTouches p.slot p.held xs
+look_touches p v w r h xs is are rose e =
+    let look : Step = Look p.slot w.read_only w.head in
+    let lawful : IsTouch p.slot (seen p) look =
+    (refl, omega (arith, ap (λ (u : View). u.read_only) rose, ap (λ (u : View). u.read_only) is), omega (arith, ap (λ (u : View). u.head) rose, ap (λ (u : View). u.head) is)) in
+    let more = touches_more p.slot p.held p.touches look are lawful in
+    let past : w ≡ view_past v look = ap (λ (t : ℕ). let u : View = record { read_only = w.read_only; head = w.head; tail = t } in u) (ap (λ (u : View). u.tail) rose) in
+    subst (λ (z : List Step). (w ≡ view_after p.held z) × AreTouches p.slot p.held z) (sym e) (past ∙ ap (λ (u : View). view_past u look) is ∙ sym more.1, more.0)
 
 -- the touch that a look makes
-pub look_made-some : (p : PassRecord) (v : View) (r h x y : ℕ) (b : Bool) → v ≡ seen p → b ≡ (ltb v.read_only r || ltb v.head h) → b ≡ true → x ≡ max v.read_only r → y ≡ max v.head h → Look p.slot x y ∷ [] ≡ look_made p.slot (seen p) r h
-look_made-some p v r h x y b is e t ex ey =
-    ap₂ (λ m n. Look p.slot m n ∷ []) ex ey
+pub look_made-some : (p : PassRecord) (v w : View) (r h : ℕ) (b : Bool) → v ≡ seen p → b ≡ rises v r h → b ≡ true → w ≡ raised v r h → Look p.slot w.read_only w.head ∷ [] ≡ look_made p.slot (seen p) r h
+look_made-some p v w r h b is e t rose =
+    ap (λ (u : View). Look p.slot u.read_only u.head ∷ []) rose
     ∙ sym (ap (λ c. cond c (Look p.slot (max v.read_only r) (max v.head h) ∷ []) []) (sym e ∙ t))
     ∙ ap (λ (w : View). look_made p.slot w r h) is
 
-pub look_made-none : (p : PassRecord) (v : View) (r h : ℕ) (b : Bool) → v ≡ seen p → b ≡ (ltb v.read_only r || ltb v.head h) → b ≡ false → p.touches ≡ p.touches ++ look_made p.slot (seen p) r h
+pub look_made-none : (p : PassRecord) (v : View) (r h : ℕ) (b : Bool) → v ≡ seen p → b ≡ rises v r h → b ≡ false → p.touches ≡ p.touches ++ look_made p.slot (seen p) r h
 look_made-none p v r h b is e f =
     let none : look_made p.slot (seen p) r h ≡ [] = ap (λ (w : View). look_made p.slot w r h) (sym is) ∙ ap (λ c. cond c (Look p.slot (max v.read_only r) (max v.head h) ∷ []) []) (sym e ∙ f) in
     sym (ap (λ z. p.touches ++ z) none ∙ append-nil p.touches)

@@ -16,10 +16,12 @@ use Rattle.hl_model.specs.Replies.{or_fault, fault_of, answer_of, unless_fault}
 use Rattle.hl_laws.proofs.NoFaultLaws.{unless_err, unless_ok, or_fault-none, allocate-none, size-none}
 use Rattle.hl_laws.proofs.OffsetLaws.{place_of-le, place_of-one_page}
 use Rattle.hl_laws.proofs.ViewLaws.{slot_view-enters, view_of-slot_view}
+use Rattle.hl_pass.specs.Calls.{unless_stranger}
+use Rattle.hl_pass.specs.Views.{has_view}
 use Rattle.hl_keeper.specs.Touches.{AreTouches}
 use Rattle.hl_keeper.specs.Passes.{PassRecord, seen, entered_by, rested}
 use Rattle.hl_keeper.specs.Keepers.{KeeperState, KeeperStands}
-use Rattle.hl_keeper.specs.Calls.{has_view, stamp_at, is_known, is_behind, unless_stranger, stranger_fault, ahead_fault, room_fault, touched_fault, call_fault, refresh_fault, entered, touched_list, Knows, Called, Replied, IsUpTo}
+use Rattle.hl_keeper.specs.Calls.{stamp_at, is_known, is_behind, stranger_fault, ahead_fault, room_fault, touched_fault, call_fault, refresh_fault, entered, touched_list, Knows, Called, Replied, IsUpTo}
 use Rattle.hl_keeper.proofs.TouchLaws.{viewed, touches_leave_offsets, touches_rise, seen_tail-le}
 
 and_parts : (a b : Bool) → (a && b) ≡ true → (a ≡ true) × (b ≡ true)
@@ -51,7 +53,7 @@ pub record Placed (page_size a n : ℕ) (v : View) : Type 0 where
 module _ {F : Type 0} where
   -- a pass that is known has its slot's view
   known_view : (keeper : KeeperState F) (A : List Step) (p : PassRecord) → is_known keeper A p ≡ true → slot_view keeper.core.sizes p.slot A ≡ Some p.held
-  unfolding is_known
+  unfolding is_known stamp_at
   known_view keeper A p h = view_is (slot_view keeper.core.sizes p.slot A) p.held (and_parts (has_view (slot_view keeper.core.sizes p.slot A) p.held) (stamp_at keeper A p.slot == p.stamp) h).0
 
   pub knows : (keeper : KeeperState F) (p : PassRecord) (u : Unit {0}) → ((A : List Step) → KeeperStands keeper A → Ok u ≡ unless_fault (stranger_fault keeper A p) (tt {0})) → Knows keeper p

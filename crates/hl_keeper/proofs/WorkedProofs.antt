@@ -4,10 +4,11 @@ use Rattle.std.specs.Prelude.{◌==◌, ◌&&◌, slice_index_or}
 use Rattle.hl_laws.proofs.OnLiterals.{on_literals}
 use Rattle.hl_model.specs.Views.{slot_view}
 use Rattle.hl_laws.proofs.RowLaws.{row_at}
+use Rattle.hl_pass.specs.Views.{has_view}
 use Rattle.hl_keeper.specs.Stamps.{acquires_in, acquires_until, slot_stamp, slot_stamps}
 use Rattle.hl_keeper.specs.Passes.{PassRecord}
 use Rattle.hl_keeper.specs.Keepers.{KeeperState, KeeperStands}
-use Rattle.hl_keeper.specs.Calls.{has_view, stamp_at, is_known, stranger_fault, ahead_fault, call_fault, refresh_fault}
+use Rattle.hl_keeper.specs.Calls.{stamp_at, is_known, stranger_fault, ahead_fault, call_fault, refresh_fault}
 use Rattle.hl_keeper.specs.Worked.{one_acquire, AnotherStamp}
 
 -- the stamp that the list gives slot 0
@@ -33,7 +34,7 @@ module _ {F : Type 0} where
 
   -- the pass isn't known
   unknown : (keeper : KeeperState F) (p : PassRecord) → keeper.stamp ≡ 1000 → KeeperStands keeper one_acquire → p.slot ≡ 0 → p.stamp ≡ 1002 → is_known keeper one_acquire p ≡ false
-  unfolding is_known
+  unfolding is_known stamp_at
   unknown keeper p named st slot stamp =
       let v = has_view (slot_view keeper.core.sizes p.slot one_acquire) p.held in
       ap (λ t. v && stamp_at keeper one_acquire t == p.stamp) slot

@@ -1,7 +1,6 @@
 -- The faults of a keeper's calls, in their order, and the list at which it stands after one.
-use Rattle.std.specs.Prelude.{◌≡◌, ℕ, ◌≤◌, Ok, Err, ◌+◌, ◌==◌, nat_le, Bool, false, ◌&&◌, if◌then◌else◌, Option, Some, None, is_some, is_none, Result, OnOk, OnErr, List, [], ◌∷◌, ◌++◌, length, slice_index_or}
+use Rattle.std.specs.Prelude.{◌≡◌, ℕ, ◌≤◌, Ok, Err, ◌+◌, nat_le, Bool, ◌&&◌, if◌then◌else◌, Option, Some, is_none, Result, OnOk, OnErr, List, [], ◌∷◌, ◌++◌, length}
 use Rattle.hl_model.specs.declared.fault.Fault.{Fault}
-use Rattle.hl_model.specs.declared.fault.Fault.TheVariants.{Stranger}
 use Rattle.hl_model.specs.declared.slot.Slot.{Slot}
 use Rattle.hl_model.specs.declared.step.Reply.{Reply}
 use Rattle.hl_model.specs.declared.step.Step.{Step}
@@ -13,38 +12,26 @@ use Rattle.hl_model.specs.Sizes.{Sizes}
 use Rattle.hl_model.specs.Views.{slot_view, view_of}
 use Rattle.hl_model.specs.Replies.{or_fault, fault_of, answer_of, unless_fault}
 use Rattle.hl_words.specs.States.{RiderState}
-use Rattle.hl_keeper.specs.Passes.{PassRecord, seen, new_pass, with_share}
+pub use Rattle.hl_pass.specs.Calls.{unless_stranger}
+use Rattle.hl_pass.specs.Calls.{is_known as is_known_by, origin_fault as of_log}
+use Rattle.hl_pass.specs.Stamps.{stamp_at as stamp_by}
+use Rattle.hl_keeper.specs.Passes.{PassRecord, own_of, seen, new_pass, with_share}
 use Rattle.hl_keeper.specs.Keepers.{KeeperState, KeeperStands}
 use Rattle.hl_keeper.specs.Journals.{journal_of, full_fault}
 use Rattle.hl_keeper.specs.Stamps.{acquires_in}
-
--- two views are the same
-abbrev pub same_view : View → View → Bool
-same_view v w = v.read_only == w.read_only && (v.head == w.head && v.tail == w.tail)
-
--- a slot has this view
-abbrev pub has_view : Option View → View → Bool
-has_view None w = false
-has_view (Some v) w = same_view v w
 
 -- the pass saw no offset above the present one
 unfoldable pub is_behind : List Step → PassRecord → Bool
 is_behind A p = nat_le (seen p).read_only (read_only A) && nat_le (seen p).head (head A)
 
--- the fault that tells this stamp, unless the test passes
-abbrev pub unless_stranger : Bool → ℕ → Option Fault
-unless_stranger test stamp = if test then None else Some (Stranger stamp)
-
 module _ {F : Type 0} where
   -- the stamp of slot t: that of its last acquire, and 0 where it is empty
   unfoldable pub stamp_at : KeeperState F → List Step → ℕ → ℕ
-  stamp_at keeper A t =
-      if is_some (slot_view keeper.core.sizes t A) then slice_index_or keeper.stamps t 0 else 0
+  stamp_at keeper A t = stamp_by keeper.core.sizes keeper.stamps A t
 
-  -- the pass is the one to which its slot belongs: it has the slot's stamp, and its held view is the slot's
+  -- the pass is the one to which its slot belongs
   unfoldable pub is_known : KeeperState F → List Step → PassRecord → Bool
-  is_known keeper A p =
-      has_view (slot_view keeper.core.sizes p.slot A) p.held && stamp_at keeper A p.slot == p.stamp
+  is_known keeper A p = is_known_by keeper.core.sizes keeper.stamps A (own_of p)
 
   -- the fault of a call of a pass that isn't the slot's
   unfoldable pub stranger_fault : KeeperState F → List Step → PassRecord → Option Fault
@@ -60,7 +47,7 @@ module _ {F : Type 0} where
 
   -- the fault of something of this origin
   unfoldable pub origin_fault : KeeperState F → ℕ → Option Fault
-  origin_fault keeper origin = unless_stranger (origin == keeper.stamp) keeper.stamp
+  origin_fault keeper origin = of_log keeper.stamp origin
 
   -- the fault of a step of a rider's
   unfoldable pub step_fault : KeeperState F → List Step → Step → Option Fault

@@ -6,6 +6,7 @@ pub mod Keepers
 pub mod Leases
 pub mod Lending
 pub mod Pages
+pub mod Parts
 pub mod Passes
 pub mod Stamps
 pub mod Stores

@@ -1,7 +1,7 @@
 -- What a pass keeps, what its calls without the lock answer, and what they leave.
-use Rattle.std.specs.Prelude.{◌≡◌, ℕ, ◌≤◌, ◌+◌, ◌*◌, ◌/◌, ◌%◌, ◌==◌, nat_le, nat_lt, Bool, ◌||◌, ◌&&◌, max, if◌then◌else◌, Option, Some, None, Result, MatchResult, List, [], ◌∷◌, ◌++◌, length}
+use Rattle.std.specs.Prelude.{◌≡◌, ℕ, ◌≤◌, ◌+◌, ◌*◌, ◌/◌, ◌%◌, ◌==◌, nat_lt, Bool, ◌&&◌, if◌then◌else◌, Option, Some, None, Result, MatchResult, List, [], ◌∷◌, ◌++◌, length}
 use Rattle.hl_model.specs.declared.fault.Fault.{Fault}
-use Rattle.hl_model.specs.declared.fault.Fault.TheVariants.{Below, Beyond, Evicted, TouchesFull}
+use Rattle.hl_model.specs.declared.fault.Fault.TheVariants.{TouchesFull}
 use Rattle.hl_model.specs.declared.slot.Slot.{Slot}
 use Rattle.hl_model.specs.declared.step.Step.{Step}
 use Rattle.hl_model.specs.declared.step.Step.TheVariants.{Look, Write}
@@ -11,6 +11,8 @@ use Rattle.hl_model.specs.Replies.{or_fault}
 use Rattle.hl_words.specs.declared.which.Which.TheVariants.{ReadOnly, Head, Ended}
 use Rattle.hl_words.specs.States.{RiderState, with_view}
 use Rattle.hl_words.specs.Views.{offset_of, looked, greatest_of, stored, changed, loaded, with_loaded}
+use Rattle.hl_pass.specs.declared.pass_view.PassView.{PassView}
+use Rattle.hl_pass.specs.Views.{rises, raised, store_fault as view_store_fault, load_fault as view_load_fault, is_current as view_is_current}
 use Rattle.hl_keeper.specs.Touches.{view_after}
 
 -- a pass: its slot and stamp, the epoch that its slot has, the view at its last locked call, its looks and
@@ -27,6 +29,11 @@ pub record PassRecord : Type 0 where
 abbrev pub seen : PassRecord → View
 seen p = view_after p.held p.touches
 
+-- what it keeps of its slot
+abbrev pub own_of : PassRecord → PassView
+own_of p =
+    record { slot = p.slot; stamp = p.stamp; epoch = p.epoch; held = p.held; view = seen p }
+
 -- how many touches a pass can have
 abbrev pub touches_most : ℕ
 touches_most = 32
@@ -35,19 +42,13 @@ touches_most = 32
 unfoldable pub touch_fault : PassRecord → Option Fault
 touch_fault p = if length p.touches == touches_most then Some TouchesFull else None
 
--- the fault of an address at or above the tail that the pass saw
-abbrev pub tail_fault : View → ℕ → Option Fault
-tail_fault v a = if nat_le v.tail a then Some (Beyond v.tail) else None
-
 -- the fault of a store at address a
 unfoldable pub store_fault : PassRecord → ℕ → Option Fault
-store_fault p a =
-    if nat_lt a (seen p).read_only then Some (Below (seen p).read_only)
-    else or_fault (tail_fault (seen p) a) (touch_fault p)
+store_fault p a = or_fault (view_store_fault (seen p) a) (touch_fault p)
 
 -- the fault of a load at address a
 unfoldable pub load_fault : PassRecord → ℕ → Option Fault
-load_fault p a = if nat_lt a (seen p).head then Some (Evicted (seen p).head) else tail_fault (seen p) a
+load_fault p a = view_load_fault (seen p) a
 
 -- the cell of address a
 abbrev pub cell_at : Sizes → ℕ → ℕ
@@ -91,8 +92,8 @@ with_load sizes a v p = record {
 -- the touch of a look that brings these offsets: none where neither rises
 abbrev pub look_made : ℕ → View → ℕ → ℕ → List Step
 look_made t v read_only head =
-    if nat_lt v.read_only read_only || nat_lt v.head head
-    then Look t (max v.read_only read_only) (max v.head head) ∷ []
+    if rises v read_only head
+    then Look t (raised v read_only head).read_only (raised v read_only head).head ∷ []
     else []
 
 -- the pass after a look that loaded these offsets: its rider has loaded both, and it sees the greater of each
@@ -134,8 +135,8 @@ with_news read_only head ended p = record {
 -- ended; and it has room for a touch
 unfoldable pub is_current : ℕ → ℕ → ℕ → PassRecord → Bool
 is_current read_only head ended p =
-    nat_le read_only (seen p).read_only
-    && (nat_le head (seen p).head && (nat_lt ended p.epoch && nat_lt (length p.touches) touches_most))
+    view_is_current (seen p) p.epoch (record { read_only = read_only; head = head; ended = ended })
+    && nat_lt (length p.touches) touches_most
 
 -- the pass loaded both offsets anew, neither below any that its rider had loaded
 pub record LooksOn (old new : PassRecord) : Type 0 where

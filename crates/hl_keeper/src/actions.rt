@@ -67,7 +67,7 @@ impl<E: Epochs + Drop, F: Task, P: Promise, L: Realm> Keeper<E, F, P, L> {
         self.room(1)?;
         let (firing, kept) = self.core.take()?;
         note(&mut self.journal, &mut self.master, rider, Step::Take);
-        Ok(Ready::of(self.stamp, firing, kept))
+        Ok(Ready::of(self.stamps.own(), firing, kept))
     }
 }
 

@@ -1,12 +1,12 @@
 //! What the locked calls have in common: the tests before the core's, and the journal behind them.
-ghost use Rattle.std.specs.Prelude.{◌≡◌, ◌+◌, ◌≤◌, None, List, [], ◌∷◌, slice_index_or, true, OnErr, MatchResult};
+ghost use Rattle.std.specs.Prelude.{◌≡◌, ◌+◌, ◌≤◌, None, List, [], ◌∷◌, true, OnErr, MatchResult};
 ghost use Rattle.hl_model.specs.declared.step.Step.{Step as STEP};
 ghost use Rattle.hl_model.specs.Replies.{unless_fault};
 ghost use Rattle.hl_keeper.specs.Touches.{is_call};
 ghost use Rattle.hl_keeper.specs.Passes.{with_share, entered_by};
 ghost use Rattle.hl_keeper.specs.Keepers.{KeeperStands, IsKeeper, steps_most};
 ghost use Rattle.hl_keeper.specs.Journals.{full_fault, with_steps};
-ghost use Rattle.hl_keeper.specs.Calls.{has_view, stamp_at, is_known, is_behind, stranger_fault, ahead_fault, room_fault, origin_fault, Knows, Called, Keeps, SameStamps};
+ghost use Rattle.hl_keeper.specs.Calls.{is_behind, stranger_fault, ahead_fault, room_fault, origin_fault, Knows, Called, Keeps, SameStamps};
 
 use crate::enter::enter_steps;
 use crate::journal::Journal;
@@ -14,7 +14,7 @@ use crate::keeper::Keeper;
 use crate::pass::Pass;
 use hl_action::{Promise, Task};
 use hl_epoch::Epochs;
-use hl_model::{Fault, Reply, Step, View};
+use hl_model::{Fault, Reply, Step};
 use hl_words::{Master, Realm, Rider};
 
 impl<E: Epochs + Drop, F: Task, P: Promise, L: Realm> Keeper<E, F, P, L> {
@@ -26,13 +26,7 @@ impl<E: Epochs + Drop, F: Task, P: Promise, L: Realm> Keeper<E, F, P, L> {
         ensures { (A : List STEP) → KeeperStands self.now A
             → result ≡ unless_fault (stranger_fault self.now A pass.now) tt }
     {
-        if self.is_known(pass) {
-            Ok(())
-        } else {
-            Err(Fault::Stranger {
-                stamp: self.stamp_at(pass.slot),
-            })
-        }
+        self.stamps.known(&self.core, &pass.own)
     }
 
     /// Whether the pass is the one to which its slot belongs, and saw no offset above the present
@@ -49,7 +43,7 @@ impl<E: Epochs + Drop, F: Task, P: Promise, L: Realm> Keeper<E, F, P, L> {
             Ok(())
         } else {
             Err(Fault::Stranger {
-                stamp: self.stamp_at(pass.slot),
+                stamp: self.stamps.at(&self.core, pass.own.slot),
             })
         }
     }
@@ -105,29 +99,12 @@ impl<E: Epochs + Drop, F: Task, P: Promise, L: Realm> Keeper<E, F, P, L> {
     }
 
     #[inline(always)]
-    fn is_known(&self, pass: &Pass<L>) -> bool
-        ensures { (A : List STEP) → KeeperStands self.now A → result ≡ is_known self.now A pass.now }
-    {
-        has_view(self.core.view(pass.slot), pass.held) && self.stamp_at(pass.slot) == pass.stamp
-    }
-
-    #[inline(always)]
     fn is_behind(&self, pass: &Pass<L>) -> bool
         ensures { (A : List STEP) → KeeperStands self.now A → result ≡ is_behind A pass.now }
     {
         let six = self.core.six();
-        pass.view.read_only <= six.read_only && pass.view.head <= six.head
-    }
-
-    /// The stamp of a slot, or 0 if it is empty.
-    #[inline(always)]
-    fn stamp_at(&self, t: u64) -> u64
-        ensures { (A : List STEP) → KeeperStands self.now A → result ≡ stamp_at self.now A t }
-    {
-        match self.core.view(t) {
-            Some(_) => stamp_of(&self.stamps, t),
-            None => 0,
-        }
+        let seen = pass.own.view;
+        seen.read_only <= six.read_only && seen.head <= six.head
     }
 
     /// Whether this origin is the keeper's domain.
@@ -136,11 +113,7 @@ impl<E: Epochs + Drop, F: Task, P: Promise, L: Realm> Keeper<E, F, P, L> {
     pub(crate) fn own(&self, origin: u64) -> Result<(), Fault>
         ensures { result ≡ unless_fault (origin_fault self.now origin) tt }
     {
-        if origin == self.stamp {
-            Ok(())
-        } else {
-            Err(Fault::Stranger { stamp: self.stamp })
-        }
+        self.stamps.is_of(origin)
     }
 
     /// Whether the journal has room for this many steps more.
@@ -172,28 +145,4 @@ pub(crate) fn note<L: Realm>(
 {
     journal.note(step);
     master.enter(rider, 1);
-}
-
-// Whether a slot has this view.
-#[inline(always)]
-fn has_view(view: Option<View>, held: View) -> bool
-    ensures { result ≡ has_view view held }
-{
-    match view {
-        Some(view) => {
-            view.read_only == held.read_only && (view.head == held.head && view.tail == held.tail)
-        }
-        None => false,
-    }
-}
-
-// What the row of stamps has for a slot.
-#[inline(always)]
-fn stamp_of(stamps: &[u64], t: u64) -> u64
-    ensures { result ≡ slice_index_or stamps.now t 0 }
-{
-    match stamps.get(t as usize) {
-        Some(stamp) => *stamp,
-        None => 0,
-    }
 }

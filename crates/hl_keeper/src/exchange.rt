@@ -30,7 +30,8 @@ pub fn fetch_add<L: Realm>(
     let cell = cell_of(params, a);
     let found = words.fetch_add_cell(&mut pass.rider, cell, more);
     let v = found.wrapping_add(more);
-    pass.touches.push(Step::Write { t: pass.slot, a, v });
+    let t = pass.own.slot;
+    pass.touches.push(Step::Write { t, a, v });
     Ok(found)
 }
 
@@ -64,10 +65,7 @@ pub fn compare_exchange<L: Realm>(
     if found != old {
         return Ok(Err(found));
     }
-    pass.touches.push(Step::Write {
-        t: pass.slot,
-        a,
-        v: new,
-    });
+    let t = pass.own.slot;
+    pass.touches.push(Step::Write { t, a, v: new });
     Ok(Ok(found))
 }

@@ -16,7 +16,8 @@ use crate::journal::Journal;
 use hl_action::{Kept, Promise, Task};
 use hl_core::Core;
 use hl_epoch::Epochs;
-use hl_model::{Fault, filled};
+use hl_model::Fault;
+use hl_pass::Stamps;
 use hl_words::{Master, Past, Realm, Rider, Scribe, Seed, Words};
 use std::alloc::Global;
 use std::marker::Model;
@@ -27,48 +28,22 @@ use std::marker::Model;
 pub struct Keeper<E: Epochs, F: Task, P: Promise, L: Realm> {
     pub(crate) core: Core<E, Kept<F, P>>,
     pub(crate) journal: Journal,
-    pub(crate) stamps: Vec<u64>,
-    pub(crate) stamp: u64,
-    // How many acquires were accepted.
-    pub(crate) acquired: u64,
+    // It gives one at each accepted acquire.
+    pub(crate) stamps: Stamps,
     pub(crate) master: Master<L>,
 }
 
 impl<E: Epochs, F: Task, P: Promise, L: Realm> Model for Keeper<E, F, P, L> {
     ghost use Rattle.std.specs.Prelude.{vec_capacity};
     ghost use Rattle.hl_keeper.specs.Keepers.{KeeperState, IsKept};
+    ghost use Rattle.hl_keeper.specs.Parts.{keeper_of};
 
     ghost Value = { KeeperState F };
 
-    ghost view = { λ k. record {
-      core = k.core;
-      base = k.journal.base;
-      cut = k.journal.cut;
-      journal = k.journal.steps;
-      limit = k.journal.limit;
-      stamps = k.stamps.items;
-      stamp = k.stamp;
-      acquired = k.acquired;
-      offsets = k.master.offsets;
-      total = k.master.total;
-      called = k.master.called;
-    } };
+    ghost view = { λ k. keeper_of k.core k.journal k.stamps k.master };
 
-    ghost invariant = { λ k. IsKept L.sizes L.stamp
-        (record {
-          core = k.core;
-          base = k.journal.base;
-          cut = k.journal.cut;
-          journal = k.journal.steps;
-          limit = k.journal.limit;
-          stamps = k.stamps.items;
-          stamp = k.stamp;
-          acquired = k.acquired;
-          offsets = k.master.offsets;
-          total = k.master.total;
-          called = k.master.called;
-        })
-        (vec_capacity k.stamps) };
+    ghost invariant = { λ k. IsKept L.sizes L.stamp (keeper_of k.core k.journal k.stamps k.master)
+        (vec_capacity k.stamps.row) };
 }
 
 impl<E: Epochs + Drop, F: Task, P: Promise, L: Realm> Drop for Keeper<E, F, P, L> {
@@ -77,8 +52,6 @@ impl<E: Epochs + Drop, F: Task, P: Promise, L: Realm> Drop for Keeper<E, F, P, L
             core: _,
             journal: _,
             stamps: _,
-            stamp: _,
-            acquired: _,
             master: _,
         } = self;
     }
@@ -146,13 +119,11 @@ impl<E: Epochs + Drop, F: Task, P: Promise, L: Realm> Keeper<E, F, P, L> {
         let (words, master, scribe, riders) = Words::open_with_scribe(alloc, seed)?;
         let core = Core::open(alloc, params)?;
         let journal = Journal::open(alloc, params, journal)?;
-        let stamps = filled(alloc, params.slots(), 0)?;
+        let stamps = Stamps::open(alloc, params.slots(), stamp)?;
         let keeper = Keeper {
             core,
             journal,
             stamps,
-            stamp,
-            acquired: 0,
             master,
         };
         Ok((keeper, words, scribe, riders))
@@ -181,8 +152,6 @@ impl<E: Epochs + Drop, F: Task, P: Promise, L: Realm> Keeper<E, F, P, L> {
             core,
             journal,
             stamps,
-            stamp,
-            acquired,
             master,
         } = self;
         match words.close(master, riders) {
@@ -199,8 +168,6 @@ impl<E: Epochs + Drop, F: Task, P: Promise, L: Realm> Keeper<E, F, P, L> {
                     core,
                     journal,
                     stamps,
-                    stamp,
-                    acquired,
                     master,
                 };
                 Err((keeper, words, riders))
@@ -248,8 +215,6 @@ impl<E: Epochs + Drop, F: Task, P: Promise, L: Realm> Keeper<E, F, P, L> {
             core,
             journal,
             stamps,
-            stamp,
-            acquired,
             master,
         } = self;
         match words.close_with_scribe(master, scribe, riders, pasts) {
@@ -266,8 +231,6 @@ impl<E: Epochs + Drop, F: Task, P: Promise, L: Realm> Keeper<E, F, P, L> {
                     core,
                     journal,
                     stamps,
-                    stamp,
-                    acquired,
                     master,
                 };
                 Err((keeper, words, scribe, riders, pasts))

@@ -1,11 +1,12 @@
 //! What a pass does without the lock: looks at the offset words, and stores and loads of cells.
-ghost use Rattle.std.specs.Prelude.{◌≡◌, ◌*◌, ◌<◌, ◌||◌, nat_lt, Some, None, max, length, IfOk, OnOk, MatchResult};
+ghost use Rattle.std.specs.Prelude.{◌≡◌, ◌*◌, ◌<◌, Some, None, max, length, IfOk, OnOk, MatchResult};
 ghost use Rattle.hl_model.specs.Replies.{unless_fault, unless_refused};
 ghost use Rattle.hl_keeper.specs.Passes.{PassRecord, seen, touches_most, touch_fault, store_fault, load_fault, with_look, with_store, with_load, last_read_only, last_head, LooksOn};
 
 use crate::pass::Pass;
 use crate::touches::TOUCHES_MOST;
 use hl_model::{Fault, Sizes, Step, View, cell_of};
+use hl_pass::{may_load, may_store, raised, rises};
 use hl_words::{Realm, Which, Words};
 
 /// Loads both offset words: each of the pass's two offsets becomes the greater of the loaded one
@@ -32,21 +33,17 @@ pub fn look<L: Realm>(words: &Words<L>, pass: &mut Pass<L>) -> Result<View, Faul
     let read_only = words.load_offset(&mut pass.rider, Which::ReadOnly);
     let head = words.load_offset(&mut pass.rider, Which::Head);
     // After the loads, which nothing is moved past: the compiler then reads of the view only what is used.
-    let seen = pass.view;
+    let seen = pass.own.view;
     if !rises(seen, read_only, head) {
         return Ok(seen);
     }
-    let view = View {
-        read_only: seen.read_only.max(read_only),
-        head: seen.head.max(head),
-        tail: seen.tail,
-    };
+    let view = raised(seen, read_only, head);
     pass.touches.push(Step::Look {
-        t: pass.slot,
+        t: pass.own.slot,
         read_only: view.read_only,
         head: view.head,
     });
-    pass.view = view;
+    pass.own.view = view;
     Ok(view)
 }
 
@@ -71,7 +68,8 @@ pub fn store<L: Realm>(
     pass.may_store(a)?;
     let cell = cell_of(params, a);
     words.store_cell(&mut pass.rider, cell, v);
-    pass.touches.push(Step::Write { t: pass.slot, a, v });
+    let t = pass.own.slot;
+    pass.touches.push(Step::Write { t, a, v });
     Ok(())
 }
 
@@ -98,14 +96,6 @@ pub fn load<L: Realm>(
     Ok(words.load_cell(&mut pass.rider, cell))
 }
 
-/// Whether one of these two offsets is above that of the view.
-#[inline(always)]
-fn rises(seen: View, read_only: u64, head: u64) -> bool
-    ensures { result ≡ (nat_lt seen.read_only read_only || nat_lt seen.head head) }
-{
-    seen.read_only < read_only || seen.head < head
-}
-
 impl<L: Realm> Pass<L> {
     /// Whether it has room for a touch.
     #[inline(always)]
@@ -125,16 +115,7 @@ impl<L: Realm> Pass<L> {
         ensures answer { result ≡ unless_fault (store_fault self.now a) tt }
         ensures room { OnOk result (length self.now.touches < touches_most) }
     {
-        if a < self.view.read_only {
-            return Err(Fault::Below {
-                read_only: self.view.read_only,
-            });
-        }
-        if a >= self.view.tail {
-            return Err(Fault::Beyond {
-                tail: self.view.tail,
-            });
-        }
+        may_store(self.own.view, a)?;
         self.may_touch()
     }
 
@@ -143,16 +124,6 @@ impl<L: Realm> Pass<L> {
     fn may_load(&self, a: u64) -> Result<(), Fault>
         ensures { result ≡ unless_fault (load_fault self.now a) tt }
     {
-        if a < self.view.head {
-            return Err(Fault::Evicted {
-                head: self.view.head,
-            });
-        }
-        if a >= self.view.tail {
-            return Err(Fault::Beyond {
-                tail: self.view.tail,
-            });
-        }
-        Ok(())
+        may_load(self.own.view, a)
     }
 }

@@ -6,6 +6,7 @@ ghost use Rattle.hl_keeper.specs.Passes.{is_current, with_news, last_read_only, 
 
 use crate::pass::Pass;
 use crate::touches::TOUCHES_MOST;
+use hl_pass::{News, is_current};
 use hl_words::{Realm, Which, Words};
 
 /// Loads both offset words and the word of the last epoch that ended. Returns whether none is new
@@ -34,7 +35,11 @@ impl<L: Realm> Pass<L> {
     fn is_current(&self, read_only: u64, head: u64, ended: u64) -> bool
         ensures { result ≡ is_current read_only head ended self.now }
     {
-        read_only <= self.view.read_only
-            && (head <= self.view.head && (ended < self.epoch && self.touches.len() < TOUCHES_MOST))
+        let news = News {
+            read_only,
+            head,
+            ended,
+        };
+        is_current(self.own.view, self.own.epoch, news) && self.touches.len() < TOUCHES_MOST
     }
 }

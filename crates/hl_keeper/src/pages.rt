@@ -27,7 +27,7 @@ impl<E: Epochs + Drop, F: Task, P: Promise, L: Realm> Keeper<E, F, P, L> {
     {
         match self.one(rider, &Step::FlushTake)? {
             Reply::Page(page) => Ok(Load::of(PageJob {
-                stamp: self.stamp,
+                stamp: self.stamps.own(),
                 page,
             })),
             _ => unreachable!(),
@@ -80,7 +80,7 @@ impl<E: Epochs + Drop, F: Task, P: Promise, L: Realm> Keeper<E, F, P, L> {
     {
         match self.one(rider, &Step::CleanTake)? {
             Reply::Page(page) => Ok(Broom::of(PageJob {
-                stamp: self.stamp,
+                stamp: self.stamps.own(),
                 page,
             })),
             _ => unreachable!(),

@@ -3,6 +3,7 @@ ghost use Rattle.hl_keeper.specs.Passes.{seen, new_pass};
 
 use crate::touches::Touches;
 use hl_model::{Slot, View};
+use hl_pass::PassView;
 use hl_words::{Realm, Rider};
 use std::marker::Model;
 
@@ -10,13 +11,7 @@ use std::marker::Model;
 /// words, with no lock. What it did since its last locked call, its touches, enters the journal at the next.
 #[derive(Drop)]
 pub struct Pass<L: Realm> {
-    pub(crate) slot: u64,
-    pub(crate) stamp: u64,
-    // The slot's epoch, of the last acquire or refresh.
-    pub(crate) epoch: u64,
-    // The slot's view at the last locked call, and what the pass has seen since.
-    pub(crate) held: View,
-    pub(crate) view: View,
+    pub(crate) own: PassView,
     pub(crate) touches: Touches,
     pub(crate) rider: Rider<L>,
 }
@@ -25,20 +20,14 @@ impl<L: Realm> Model for Pass<L> {
     ghost use Rattle.std.specs.Prelude.{◌≡◌};
     ghost use Rattle.hl_keeper.specs.Touches.{view_after, AreTouches};
     ghost use Rattle.hl_keeper.specs.Passes.{PassRecord};
+    ghost use Rattle.hl_keeper.specs.Parts.{pass_of};
 
     ghost Value = { PassRecord };
 
-    ghost view = { λ p. record {
-      slot = p.slot;
-      stamp = p.stamp;
-      epoch = p.epoch;
-      held = p.held;
-      touches = p.touches;
-      rider = p.rider;
-    } };
+    ghost view = { λ p. pass_of p.own p.touches p.rider };
 
-    ghost invariant = { λ p. (p.view ≡ view_after p.held p.touches)
-        × AreTouches p.slot p.held p.touches };
+    ghost invariant = { λ p. (p.own.view ≡ view_after p.own.held p.touches)
+        × AreTouches p.own.slot p.own.held p.touches };
 }
 
 impl<L: Realm> Pass<L> {
@@ -49,12 +38,15 @@ impl<L: Realm> Pass<L> {
     pub(crate) fn new(t: u64, stamp: u64, slot: Slot, rider: Rider<L>) -> Pass<L>
         ensures { result ≡ new_pass t stamp slot rider }
     {
-        Pass {
+        let own = PassView {
             slot: t,
             stamp,
             epoch: slot.epoch,
             held: slot.view,
             view: slot.view,
+        };
+        Pass {
+            own,
             touches: Touches::new(),
             rider,
         }
@@ -73,9 +65,7 @@ impl<L: Realm> Pass<L> {
               rider = old.rider;
             } }
     {
-        self.epoch = epoch;
-        self.held = view;
-        self.view = view;
+        self.own.rest(epoch, view);
         self.touches.clear();
     }
 
@@ -83,7 +73,7 @@ impl<L: Realm> Pass<L> {
     pub fn slot(&self) -> u64
         ensures { result ≡ self.now.slot }
     {
-        self.slot
+        self.own.slot
     }
 
     /// Its stamp, which the acquire gave it: the k-th acquire of a domain gives the domain's stamp
@@ -91,21 +81,21 @@ impl<L: Realm> Pass<L> {
     pub fn stamp(&self) -> u64
         ensures { result ≡ self.now.stamp }
     {
-        self.stamp
+        self.own.stamp
     }
 
     /// The epoch of its slot: the one that was current at its last acquire or refresh.
     pub fn epoch(&self) -> u64
         ensures { result ≡ self.now.epoch }
     {
-        self.epoch
+        self.own.epoch
     }
 
     /// What its slot has seen: the view of its last locked call, after its looks since.
     pub fn view(&self) -> View
         ensures { result ≡ seen self.now }
     {
-        self.view
+        self.own.view
     }
 
     /// Its rider.
@@ -134,11 +124,7 @@ impl<L: Realm> Pass<L> {
         ensures { result ≡ self.rider }
     {
         let Pass {
-            slot: _,
-            stamp: _,
-            epoch: _,
-            held: _,
-            view: _,
+            own: _,
             touches: _,
             rider,
         } = self;

@@ -35,7 +35,7 @@ impl<E: Epochs + Drop, F: Task, P: Promise, L: Realm> Keeper<E, F, P, L> {
         ensures fresh { IfOk result (IsUpTo (seen pass.old)) }
     {
         self.known_behind(pass)?;
-        let step = Step::Refresh { t: pass.slot };
+        let step = Step::Refresh { t: pass.own.slot };
         match self.call(pass, &step)? {
             Reply::Entered { epoch, view } => {
                 pass.rest(epoch, view);
@@ -64,7 +64,7 @@ impl<E: Epochs + Drop, F: Task, P: Promise, L: Realm> Keeper<E, F, P, L> {
         if let Err(fault) = self.known(&pass) {
             return Err((fault, pass));
         }
-        let step = Step::Release { t: pass.slot };
+        let step = Step::Release { t: pass.own.slot };
         match self.call(&mut pass, &step) {
             Ok(_) => Ok(pass.abandon()),
             Err(fault) => Err((fault, pass)),
@@ -95,9 +95,12 @@ impl<E: Epochs + Drop, F: Task, P: Promise, L: Realm> Keeper<E, F, P, L> {
             in IfOk result (λ a. a / page_size ≡ (a + n - 1) / page_size) }
     {
         self.known(pass)?;
-        let epoch = pass.epoch;
-        let seen = pass.view;
-        let step = Step::Allocate { t: pass.slot, n };
+        let epoch = pass.own.epoch;
+        let seen = pass.own.view;
+        let step = Step::Allocate {
+            t: pass.own.slot,
+            n,
+        };
         match self.call(pass, &step)? {
             Reply::At(address) => {
                 let view = View {
@@ -137,10 +140,7 @@ impl<E: Epochs + Drop, F: Task, P: Promise, L: Realm> Keeper<E, F, P, L> {
                 let mut rider = rider;
                 let step = Step::Acquire { t };
                 note(&mut self.journal, &mut self.master, &mut rider, step);
-                let acquired = self.acquired + 1;
-                let stamp = self.stamp + acquired;
-                self.acquired = acquired;
-                self.stamps[t as usize] = stamp;
+                let stamp = self.stamps.give(t);
                 Ok(Pass::new(t, stamp, slot, rider))
             }
             Err(fault) => Err((fault, rider)),

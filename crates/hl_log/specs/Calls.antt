@@ -1,30 +1,31 @@
 -- What a call of a pass, under the lock, makes of a log and of the pass.
-use Rattle.std.specs.Prelude.{◌≡◌, ℕ, ◌==◌, Bool, true, false, ◌&&◌, if◌then◌else◌, is_some, Result, Err, List}
+use Rattle.std.specs.Prelude.{◌≡◌, ℕ, Bool, true, false, if◌then◌else◌, None, Result, Err, List}
 use Rattle.hl_model.specs.declared.fault.Fault.{Fault}
 use Rattle.hl_model.specs.declared.fault.Fault.TheVariants.{Stranger}
 use Rattle.hl_model.specs.declared.step.Reply.{Reply}
 use Rattle.hl_model.specs.declared.step.Step.{Step}
 use Rattle.hl_model.specs.declared.step.Step.TheVariants.{Refresh, Release, Allocate, Look}
-use Rattle.hl_model.specs.Sizes.{Sizes}
 use Rattle.hl_model.specs.Views.{slot_view}
-use Rattle.hl_model.specs.Replies.{reply_of, extended}
+use Rattle.hl_model.specs.Replies.{reply_of, fault_of, extended}
+use Rattle.hl_pass.specs.Calls.{looked, is_known as is_known_by, KnownAt as KnownBy}
+use Rattle.hl_pass.specs.Passes.{rested_in}
+use Rattle.hl_pass.specs.Stamps.{stamp_at as stamp_by}
 use Rattle.hl_log.specs.declared.log.Log.{Log}
 use Rattle.hl_log.specs.declared.pass.Pass.{Pass}
-use Rattle.hl_log.specs.Logs.{StandsAt, IsBeside, stamp_at}
-use Rattle.hl_log.specs.Passes.{is_up, rested, epoch_told}
-use Rattle.hl_log.specs.Views.{has_view}
+use Rattle.hl_log.specs.Logs.{StandsAt, IsBeside}
+use Rattle.hl_log.specs.Passes.{with_own, epoch_told, IsRisen}
 
--- the pass is the one to which its slot belongs: its held view is the slot's, and it has the slot's stamp
+-- the stamp of slot t: that of its last acquire, and 0 where it is empty
+abbrev pub stamp_at : Log → List Step → ℕ → ℕ
+stamp_at log A t = stamp_by log.core.sizes log.stamps.row.items A t
+
+-- the pass is the one to which its slot belongs
 abbrev pub is_known : Log → List Step → Pass → Bool
-is_known log A p = has_view (slot_view log.core.sizes p.slot A) p.held && stamp_at log A p.slot == p.stamp
+is_known log A p = is_known_by log.core.sizes log.stamps.row.items A p.own
 
 -- the pass is so, if its slot is protected
 abbrev pub KnownAt : Log → List Step → Pass → Type 0
-KnownAt log A p = is_some (slot_view log.core.sizes p.slot A) ≡ true → is_known log A p ≡ true
-
--- the list with what the pass saw without the lock
-abbrev pub looked : Sizes → List Step → Pass → List Step
-looked sizes A p = if is_up p then A else extended sizes A (Look p.slot p.view.read_only p.view.head)
+KnownAt log A p = KnownBy log.core.sizes log.stamps.row.items A p.own
 
 -- the step for slot t, of those that a slot makes
 abbrev pub by_slot : ℕ → Step → Step
@@ -37,20 +38,20 @@ by_slot t step = step
 -- behind the list and what the pass saw
 abbrev pub call_reply : Log → List Step → Pass → Step → Result Reply Fault
 call_reply log A p step =
-    if is_known log A p then reply_of log.core.sizes (looked log.core.sizes A p) step
-    else Err (Stranger (stamp_at log A p.slot))
+    if is_known log A p then reply_of log.core.sizes (looked log.core.sizes A p.own) step
+    else Err (Stranger (stamp_at log A p.own.slot))
 
 -- the list after it
 abbrev pub call_list : Log → List Step → Pass → Step → List Step
 call_list log A p step =
-    if is_known log A p then extended log.core.sizes (looked log.core.sizes A p) step else A
+    if is_known log A p then extended log.core.sizes (looked log.core.sizes A p.own) step else A
 
 -- the pass after it: a stranger is as it was, any other has what its slot has
 abbrev pub call_pass : Log → List Step → Pass → Step → Pass
 call_pass log A p step =
     if is_known log A p
-    then rested (slot_view log.core.sizes p.slot (call_list log A p step))
-    (epoch_told (call_reply log A p step) p.epoch) p
+    then with_own (rested_in (slot_view log.core.sizes p.own.slot (call_list log A p step))
+    (epoch_told (call_reply log A p step) p.own.epoch) p.own) p
     else p
 
 -- a log that stood at A answered a pass's step so, and stands at that list
@@ -61,11 +62,17 @@ pub record Called (old : Log) (A : List Step) (p : Pass) (step : Step) (new : Lo
   pub standing : StandsAt new (call_list old A p step)
   pub pass : q ≡ call_pass old A p step
 
--- so at whatever list it stood; all beside its core is as it was
+-- so at whatever list it stood; all beside its core is as it was. A pass that was no stranger is none then, if its
+-- slot is still protected, and what it saw was accepted, as a look, if that was nothing below what its slot saw
 pub record Calls (old : Log) (p : Pass) (step : Step) (new : Log) (q : Pass) (result : Result Reply Fault)
     : Type 0 where
   pub called : (A : List Step) → StandsAt old A → Called old A p step new q result
   pub beside : IsBeside old new
+  pub known : (A : List Step) → StandsAt old A → is_known old A p ≡ true
+      → KnownAt new (call_list old A p step) q
+  pub entered : (A : List Step) → StandsAt old A → is_known old A p ≡ true → IsRisen p
+      → fault_of old.core.sizes A (Look p.own.slot p.own.view.read_only p.own.view.head) ≡ None
+  pub risen : IsRisen p → IsRisen q
 
 -- a step that a pass makes of its slot, under the lock
 abbrev pub is_call : Step → Bool

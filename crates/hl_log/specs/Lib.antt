@@ -2,4 +2,3 @@ pub mod Calls
 pub mod Logs
 pub mod Passes
 pub mod Taken
-pub mod Views

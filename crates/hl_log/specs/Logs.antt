@@ -1,12 +1,12 @@
 -- When a log stands at a list of steps, and what stays of it.
-use Rattle.std.specs.Prelude.{◌≡◌, ℕ, ◌+◌, ◌%◌, ◌^◌, Bool, true, false, is_some, if◌then◌else◌, Result, List, slice_index_or, slice_set}
+use Rattle.std.specs.Prelude.{◌≡◌, ℕ, Bool, true, false, Result, List}
 use Rattle.hl_model.specs.declared.step.Step.{Step}
 use Rattle.hl_model.specs.declared.step.Step.TheVariants.{Bump, Settle, Close, Bare, Done, Raise, Shift}
 use Rattle.hl_model.specs.declared.step.Reply.{Reply}
 use Rattle.hl_model.specs.declared.fault.Fault.{Fault}
-use Rattle.hl_model.specs.Views.{slot_view}
 use Rattle.hl_core.specs.Standing.{Stands}
 use Rattle.hl_core.specs.Steps.{Made}
+use Rattle.hl_pass.specs.Stamps.{IsGiven}
 use Rattle.hl_log.specs.declared.log.Log.{Log}
 
 -- the log's core stands at these steps
@@ -17,23 +17,11 @@ StandsAt log A = Stands (λ t. t.0) log.core A
 pub record IsBeside (old new : Log) : Type 0 where
   pub shared : new.shared ≡ old.shared
   pub stamps : new.stamps ≡ old.stamps
-  pub stamp : new.stamp ≡ old.stamp
-  pub last : new.last ≡ old.last
 
--- the stamp that the next acquire gives
-abbrev pub next_stamp : Log → ℕ
-next_stamp log = (log.last + 1) % 2 ^ 64
-
--- slot t was given that stamp, and all else beside the core is as it was
+-- slot t was given the next stamp, and all else beside the core is as it was
 pub record IsStamped (old : Log) (t : ℕ) (new : Log) : Type 0 where
   pub shared : new.shared ≡ old.shared
-  pub stamps : new.stamps.items ≡ slice_set old.stamps.items t (next_stamp old)
-  pub stamp : new.stamp ≡ old.stamp
-  pub last : new.last ≡ next_stamp old
-
--- the stamp of slot t: that of its last acquire, and 0 where it is empty
-abbrev pub stamp_at : Log → List Step → ℕ → ℕ
-stamp_at log A t = if is_some (slot_view log.core.sizes t A) then slice_index_or log.stamps.items t 0 else 0
+  pub stamps : IsGiven old.stamps t new.stamps
 
 -- a step that is no slot's and no page's, and tells no job
 abbrev pub is_own : Step → Bool

@@ -1,11 +1,12 @@
 -- A page that was taken, and what a call with one makes of a log.
 use Rattle.std.specs.Prelude.{◌≡◌, ℕ, ◌==◌, Bool, true, false, if◌then◌else◌, Option, Some, None, Result, Err, is_none, List}
 use Rattle.hl_model.specs.declared.fault.Fault.{Fault}
-use Rattle.hl_model.specs.declared.fault.Fault.TheVariants.{NotInFlight, NotCleaning, Size, Stranger}
+use Rattle.hl_model.specs.declared.fault.Fault.TheVariants.{NotInFlight, NotCleaning, Size}
 use Rattle.hl_model.specs.declared.step.Reply.{Reply}
 use Rattle.hl_model.specs.declared.step.Step.{Step}
 use Rattle.hl_model.specs.declared.step.Step.TheVariants.{FlushTake, CleanTake}
-use Rattle.hl_model.specs.Replies.{reply_of, extended}
+use Rattle.hl_model.specs.Replies.{or_fault, reply_of, extended}
+use Rattle.hl_pass.specs.Calls.{origin_fault as of_log}
 use Rattle.hl_log.specs.declared.log.Log.{Log}
 use Rattle.hl_log.specs.declared.taken.Taken.{Taken}
 use Rattle.hl_log.specs.Logs.{StandsAt, IsBeside}
@@ -47,19 +48,18 @@ numbered number page = record {
 -- a page of this log, for this work, which has not begun
 pub record IsFresh (log : Log) (cleans : Bool) (page : Taken) : Type 0 where
   pub words : page.shared.value ≡ log.shared.value
-  pub origin_is : page.origin ≡ log.stamp
+  pub origin_is : page.origin ≡ log.stamps.own
   pub cleans_is : page.cleans ≡ cleans
   pub swept_is : page.swept ≡ false
 
 -- the fault of the end of a page's work, before those of its step: the page is of another log
 abbrev pub origin_fault : Log → Taken → Option Fault
-origin_fault log page = if page.origin == log.stamp then None else Some (Stranger log.stamp)
+origin_fault log page = of_log log.stamps.own page.origin
 
 -- the same for a page that is to be free: it was not swept
 abbrev pub unswept_fault : Log → Taken → Option Fault
 unswept_fault log page =
-    if page.origin == log.stamp then (if page.swept then None else Some NotCleaning)
-    else Some (Stranger log.stamp)
+    or_fault (origin_fault log page) (if page.swept then None else Some NotCleaning)
 
 -- a fault if there is one, else the reply
 abbrev pub unless_met : Option Fault → Result Reply Fault → Result Reply Fault

@@ -1,85 +1,76 @@
 //! The calls of a pass under the lock.
-ghost use Rattle.std.specs.Prelude.{◌≡◌, List, None, true};
+ghost use Rattle.std.specs.Prelude.{◌≡◌, true, List, OnOk, OnErr};
 ghost use Rattle.hl_model.specs.declared.step.Step.{Step as STEP};
-ghost use Rattle.hl_model.specs.declared.step.Step.TheVariants.{Look as LOOK};
-ghost use Rattle.hl_model.specs.Replies.{fault_of, extended};
-ghost use Rattle.hl_core.specs.Steps.{is_acted};
-ghost use Rattle.hl_log.specs.Calls.{by_slot, call_list, looked, is_known, Calls, IsCall, KnownAt};
+ghost use Rattle.hl_model.specs.declared.step.Step.TheVariants.{Refresh as REFRESH};
+ghost use Rattle.hl_core.specs.Steps.{is_acted, told, entered_reply};
+ghost use Rattle.hl_model.specs.Replies.{unless_fault};
+ghost use Rattle.hl_pass.specs.Calls.{looked, stranger_fault};
 ghost use Rattle.hl_log.specs.Logs.{StandsAt, IsBeside};
-ghost use Rattle.hl_log.specs.Passes.{epoch_told, IsRisen};
+ghost use Rattle.hl_log.specs.Calls.{by_slot, Calls, IsCall};
+ghost use Rattle.hl_log.specs.Passes.{epoch_told};
 
 use crate::log::Log;
 use crate::pass::Pass;
-use hl_model::{Fault, Reply, Step};
+use hl_model::{Fault, Reply, Slot, Step};
+use hl_pass::{PassView, catch_up};
 
 impl Log {
-    /// Makes a refresh, a release or an allocation of a pass, whose slot takes the place of the step's, behind what
-    /// the pass saw. The pass then has the epoch and the view of its slot, so it is no stranger at its next call.
-    /// What it saw is accepted, as a look, since that was nothing below what its slot saw.
+    /// The pass's slot moves on, behind what the pass saw: its epoch and its view from now on.
+    ///
+    /// `Stranger`, with the slot's stamp, where the slot isn't the pass's: nothing is changed then.
+    #[inline(always)]
+    pub fn refresh(&mut self, pass: &mut Pass) -> Result<Slot, Fault>
+        ensures { Calls self.old pass.old (REFRESH pass.old.own.slot) self.new pass.new
+            (told entered_reply result) }
+    {
+        self.begin(&pass.own)?;
+        let t = pass.own.slot;
+        match self.core.refresh(t) {
+            Ok(slot) => {
+                pass.own.rest(slot.epoch, slot.view);
+                Ok(slot)
+            }
+            // The slot of a pass that is known is protected, so this isn't met.
+            Err(fault) => {
+                let epoch = pass.own.epoch;
+                pass.own.rest_in(epoch, self.core.view(t));
+                Err(fault)
+            }
+        }
+    }
+
+    /// Makes a release or an allocation of a pass, whose slot takes the place of the step's, behind what the pass saw.
+    /// The pass then has the view of its slot, so it is no stranger at its next call.
     ///
     /// `Stranger`, with the slot's stamp, where the slot isn't the pass's: nothing is changed then. Else the faults of
     /// the step; what the pass saw is entered with these too.
     #[inline(always)]
     pub fn call(&mut self, pass: &mut Pass, step: &Step) -> Result<Reply, Fault>
         requires { IsCall step.now }
-        ensures made { Calls self.old pass.old (by_slot pass.old.slot step.now) self.new pass.new result }
-        ensures known { let old = self.old
-            in let p = pass.old
-            in (A : List STEP) → StandsAt old A → is_known old A p ≡ true
-            → KnownAt self.new (call_list old A p (by_slot p.slot step.now)) pass.new }
-        ensures entered { let old = self.old
-            in let p = pass.old
-            in (A : List STEP) → StandsAt old A → is_known old A p ≡ true → IsRisen p
-            → fault_of old.core.sizes A (LOOK p.slot p.view.read_only p.view.head) ≡ None }
-        ensures risen { IsRisen pass.old → IsRisen pass.new }
+        ensures { Calls self.old pass.old (by_slot pass.old.own.slot step.now) self.new pass.new result }
     {
-        self.called(pass, step)
-    }
-
-    /// The same, with what it makes of both alone.
-    #[inline(always)]
-    fn called(&mut self, pass: &mut Pass, step: &Step) -> Result<Reply, Fault>
-        requires { IsCall step.now }
-        ensures made { Calls self.old pass.old (by_slot pass.old.slot step.now) self.new pass.new result }
-        ensures risen { IsRisen pass.old → IsRisen pass.new }
-    {
-        if !self.is_known(pass) {
-            return Err(Fault::Stranger {
-                stamp: self.stamp_at(pass.slot),
-            });
-        }
-        self.catch_up(pass);
-        let step = by_slot(pass.slot, *step);
-        let reply = self.core.act(&step);
-        pass.rest(self.core.view(pass.slot), epoch_told(reply, pass.epoch));
+        self.begin(&pass.own)?;
+        let slot = pass.own.slot;
+        let reply = self.core.act(&by_slot(slot, *step));
+        let epoch = epoch_told(reply, pass.own.epoch);
+        pass.own.rest_in(epoch, self.core.view(slot));
         reply
     }
 
-    /// Enters what the pass saw without the lock.
+    /// Begins a call of a pass: what it saw is entered, if it is known.
     #[inline(always)]
-    fn catch_up(&mut self, pass: &Pass)
-        ensures sizes { self.new.core.sizes ≡ self.old.core.sizes }
-        ensures beside { IsBeside self.old self.new }
+    fn begin(&mut self, pass: &PassView) -> Result<(), Fault>
+        ensures test { (A : List STEP) → StandsAt self.old A → result ≡ unless_fault
+            (stranger_fault self.old.core.sizes self.old.stamps.row.items A pass.now) tt }
+        ensures refused { OnErr result (self.new ≡ self.old) }
         ensures standing { (A : List STEP) → StandsAt self.old A
-            → StandsAt self.new (looked self.old.core.sizes A pass.now) }
-    {
-        if !pass.is_up() {
-            self.look(pass);
-        }
-    }
-
-    /// Enters the offsets that the pass sees.
-    fn look(&mut self, pass: &Pass)
+            → OnOk result (StandsAt self.new (looked self.old.core.sizes A pass.now)) }
         ensures sizes { self.new.core.sizes ≡ self.old.core.sizes }
         ensures beside { IsBeside self.old self.new }
-        ensures standing { let p = pass.now
-            in (A : List STEP) → StandsAt self.old A
-            → StandsAt self.new
-            (extended self.old.core.sizes A (LOOK p.slot p.view.read_only p.view.head)) }
     {
-        let _looked = self
-            .core
-            .look(pass.slot, pass.view.read_only, pass.view.head);
+        self.stamps.known(&self.core, pass)?;
+        catch_up(&mut self.core, pass);
+        Ok(())
     }
 }
 

@@ -7,9 +7,10 @@
 //! # What is promised
 //!
 //! At whatever list of accepted steps the log stood, [`Log::step`] answers as the definitions do after that list, and
-//! the log then stands at the list with the step, where it was accepted. A call of a pass, [`Log::call`], is answered
-//! that the pass is a stranger, with the slot's stamp, or as the definitions do behind the list and what the pass saw
-//! without the lock; the pass then has what its slot has (`Calls`, in `specs/Calls.antt`).
+//! the log then stands at the list with the step, where it was accepted. A call of a pass, [`Log::refresh`] and
+//! [`Log::call`], is answered that the pass is a stranger, with the slot's stamp, or as the definitions do behind the
+//! list and what the pass saw without the lock; the pass then has what its slot has (`Calls`, in `specs/Calls.antt`).
+//! Who a pass is, and what its view allows, is `hl_pass`'s, on which the branded keeper stands too.
 //!
 //! A pass that was no stranger is none at its next call, if its slot is still protected. What it saw without the lock is
 //! accepted, as a look.
@@ -26,8 +27,6 @@
 
 mod acquire;
 mod call;
-mod judge;
-mod known;
 mod log;
 mod open;
 mod pages;
@@ -36,10 +35,9 @@ mod shared;
 mod step;
 mod taken;
 mod unlocked;
-mod view;
 
+pub use hl_pass::News;
 pub use log::Log;
 pub use pass::Pass;
 pub use shared::Shared;
 pub use taken::Taken;
-pub use view::News;

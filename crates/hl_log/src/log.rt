@@ -4,6 +4,7 @@ use crate::shared::Shared;
 use hl_core::Core;
 use hl_counts::CountTable;
 use hl_model::Tag;
+use hl_pass::Stamps;
 use std::alloc::Global;
 use std::sync::Arc;
 
@@ -13,9 +14,6 @@ use std::sync::Arc;
 pub struct Log {
     pub(crate) core: Core<CountTable, Tag>,
     pub(crate) shared: Arc<Shared, Global>,
-    pub(crate) stamps: Vec<u64>,
-    // The log's own, and the last that it gave: the k-th acquire gives its slot the log's stamp and k.
-    pub(crate) stamp: u64,
-    pub(crate) last: u64,
-    ghost room: { length stamps.items ≡ core.sizes.slots },
+    pub(crate) stamps: Stamps,
+    ghost room: { length stamps.row.items ≡ core.sizes.slots },
 }

@@ -5,7 +5,8 @@ use crate::log::Log;
 use crate::shared::Shared;
 use hl_core::Core;
 use hl_counts::CountTable;
-use hl_model::{Sizes, Tag, filled};
+use hl_model::{Sizes, Tag};
+use hl_pass::Stamps;
 use std::alloc::Global;
 use std::sync::Arc;
 
@@ -14,17 +15,15 @@ impl Log {
     /// passes from those of other logs, if none of these has one near it. None where memory was refused.
     pub fn open(alloc: Global, sizes: Sizes, stamp: u64) -> Option<Log>
         ensures { IfSome result (λ log. StandsAt log [] × (log.core.sizes ≡ sizes)
-            × (log.stamp ≡ stamp) × (log.last ≡ stamp)) }
+            × (log.stamps.own ≡ stamp) × (log.stamps.given ≡ 0)) }
     {
         let core = Core::open(alloc, sizes).ok()?;
         let shared = Arc::new(alloc, Shared::open(alloc, sizes)?).ok()?;
-        let stamps = filled(alloc, sizes.slots(), 0).ok()?;
+        let stamps = Stamps::open(alloc, sizes.slots(), stamp).ok()?;
         Some(Log {
             core,
             shared,
             stamps,
-            stamp,
-            last: stamp,
         })
     }
 

@@ -3,7 +3,6 @@ ghost use Rattle.std.specs.Prelude.{◌≡◌, IfSome, IfOk, OnErr};
 ghost use Rattle.hl_model.specs.declared.step.Step.TheVariants.{FlushDone as FLUSH_DONE, CleanDone as CLEAN_DONE};
 ghost use Rattle.hl_model.specs.declared.step.Reply.TheVariants.{Page as PAGE};
 ghost use Rattle.hl_core.specs.Steps.{Made, told};
-ghost use Rattle.hl_model.specs.Replies.{unless_fault};
 ghost use Rattle.hl_log.specs.Logs.{IsBeside};
 ghost use Rattle.hl_log.specs.Taken.{taking, numbered, origin_fault, unswept_fault, Ends, IsFresh};
 
@@ -20,7 +19,7 @@ impl Log {
     {
         Some(Taken {
             shared: Arc::try_clone(&self.shared).ok()?,
-            origin: self.stamp,
+            origin: self.stamps.own(),
             page: 0,
             cleans,
             swept: false,
@@ -55,7 +54,7 @@ impl Log {
             self.new result }
         ensures refused { OnErr result (self.new ≡ self.old) }
     {
-        self.own(page)?;
+        self.stamps.is_of(page.origin)?;
         let step = Step::FlushDone {
             page: page.page,
             ok,
@@ -72,21 +71,10 @@ impl Log {
             self.new result }
         ensures refused { OnErr result (self.new ≡ self.old) }
     {
-        self.own(page)?;
+        self.stamps.is_of(page.origin)?;
         if !page.swept {
             return Err(Fault::NotCleaning);
         }
         self.core.act(&Step::CleanDone { page: page.page })
-    }
-
-    /// Whether a page is of this log.
-    fn own(&self, page: &Taken) -> Result<(), Fault>
-        ensures { result ≡ unless_fault (origin_fault self.now page.now) tt }
-    {
-        if page.origin == self.stamp {
-            Ok(())
-        } else {
-            Err(Fault::Stranger { stamp: self.stamp })
-        }
     }
 }

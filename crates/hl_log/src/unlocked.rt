@@ -2,13 +2,12 @@
 ghost use Rattle.std.specs.Prelude.{◌≡◌, None, Some, MatchResult};
 ghost use Rattle.hl_model.specs.Replies.{unless_fault};
 ghost use Rattle.hl_log.specs.Passes.{with_look, IsRisen};
-ghost use Rattle.hl_log.specs.Views.{store_fault, load_fault, is_current};
+ghost use Rattle.hl_pass.specs.Views.{store_fault, load_fault, is_current};
 
-use crate::judge::{may_load, may_store};
 use crate::pass::Pass;
 use crate::shared::Shared;
-use crate::view::{News, is_current, raised};
 use hl_model::Fault;
+use hl_pass::{News, is_current, may_load, may_store, raised};
 use std::sync::atomic::Ordering::SeqCst;
 
 impl Pass {
@@ -18,7 +17,7 @@ impl Pass {
     /// below the tail that it sees.
     #[inline(always)]
     pub fn store(&self, address: u64, word: u64) -> Result<(), Fault>
-        ensures { result ≡ unless_fault (store_fault self.now.view address) tt }
+        ensures { result ≡ unless_fault (store_fault self.now.own.view address) tt }
     {
         self.may_store(address)?;
         let shared: &Shared = &self.shared;
@@ -29,7 +28,7 @@ impl Pass {
     /// Adds to the word of an address in one step, modulo 2^64: what it found. Faults as those of a store.
     #[inline(always)]
     pub fn fetch_add(&self, address: u64, more: u64) -> Result<u64, Fault>
-        ensures { let met = store_fault self.now.view address
+        ensures { let met = store_fault self.now.own.view address
             in MatchResult result (λ _. met ≡ None) (λ fault. met ≡ Some fault) }
     {
         self.may_store(address)?;
@@ -41,7 +40,7 @@ impl Pass {
     /// Faults as those of a store.
     #[inline(always)]
     pub fn compare_exchange(&self, address: u64, current: u64, word: u64) -> Result<u64, Fault>
-        ensures { let met = store_fault self.now.view address
+        ensures { let met = store_fault self.now.own.view address
             in MatchResult result (λ _. met ≡ None) (λ fault. met ≡ Some fault) }
     {
         self.may_store(address)?;
@@ -60,10 +59,10 @@ impl Pass {
     /// that it sees.
     #[inline(always)]
     pub fn load(&self, address: u64) -> Result<u64, Fault>
-        ensures { let met = load_fault self.now.view address
+        ensures { let met = load_fault self.now.own.view address
             in MatchResult result (λ _. met ≡ None) (λ fault. met ≡ Some fault) }
     {
-        may_load(self.view, address)?;
+        may_load(self.own.view, address)?;
         let shared: &Shared = &self.shared;
         Ok(shared.cell(address).load(SeqCst))
     }
@@ -80,8 +79,8 @@ impl Pass {
         let read_only = shared.read_only.load(SeqCst);
         let head = shared.head.load(SeqCst);
         // Most often nothing rose, and nothing is written.
-        if read_only > self.view.read_only || head > self.view.head {
-            self.view = raised(self.view, read_only, head);
+        if read_only > self.own.view.read_only || head > self.own.view.head {
+            self.own.view = raised(self.own.view, read_only, head);
         }
         (read_only, head)
     }
@@ -90,18 +89,18 @@ impl Pass {
     /// above the one that the pass sees, and its epoch has not ended.
     #[inline(always)]
     pub fn keeps_up(&self) -> (bool, News)
-        ensures { result.0 ≡ is_current self.now.view self.now.epoch result.1 }
+        ensures { result.0 ≡ is_current self.now.own.view self.now.own.epoch result.1 }
     {
         let shared: &Shared = &self.shared;
         let news = shared.news();
-        (is_current(self.view, self.epoch, news), news)
+        (is_current(self.own.view, self.own.epoch, news), news)
     }
 
     /// Whether it may store at an address.
     #[inline(always)]
     fn may_store(&self, address: u64) -> Result<(), Fault>
-        ensures { result ≡ unless_fault (store_fault self.now.view address) tt }
+        ensures { result ≡ unless_fault (store_fault self.now.own.view address) tt }
     {
-        may_store(self.view, address)
+        may_store(self.own.view, address)
     }
 }

@@ -34,5 +34,12 @@ pub use told::{
     Action, Done, Entered, Frame, Holder, Kind, LagStep, Offsets, Pending, RawSizes, Sizes, Snapshot, View,
 };
 
-/// The version of hl.
+/// The version of this crate.
 pub const VERSION: &str = env!("CARGO_PKG_VERSION");
+
+/// The version of the library that the program is linked with, as the library itself tells it.
+pub fn library_version() -> &'static str {
+    // SAFETY: the library has a text there that ends in a 0 and never changes.
+    let text = unsafe { std::ffi::CStr::from_ptr(&raw::hl_version_text) };
+    text.to_str().unwrap_or_default()
+}

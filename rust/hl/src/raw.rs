@@ -1,5 +1,7 @@
 //! The calls of `hl.h` and `hl_log.h`.
 
+use std::os::raw::c_char;
+
 /// What the library keeps of a core, a log, a pass or a page; all zero has none.
 #[repr(C)]
 #[derive(Debug)]
@@ -92,6 +94,7 @@ pub(crate) struct LagSteps {
 }
 
 extern "C" {
+    pub(crate) static hl_version_text: c_char;
     pub(crate) fn hl_open_wide(
         core: *mut Handle,
         page_size: u64,

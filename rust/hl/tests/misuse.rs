@@ -8,6 +8,11 @@ fn core() -> Core {
 }
 
 #[test]
+fn the_library_tells_its_version() {
+    assert_eq!(hl::library_version(), hl::VERSION);
+}
+
+#[test]
 fn sizes_out_of_range() {
     let rows = [
         ("a page of no word", [0, 2, 1, 1]),

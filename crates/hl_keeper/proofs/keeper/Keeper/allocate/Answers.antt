@@ -4,6 +4,7 @@ use Rattle.hl_keeper.specs.Passes.{PassRecord, seen, rested, with_tail}
 use Rattle.hl_keeper.specs.Calls.{call_fault}
 use Rattle.hl_model.specs.declared.step.Step.TheVariants.{Allocate as ALLOCATE}
 use Rattle.hl_keeper.proofs.SlotLaws.{Placed, knows, call_stranger, call_known, replied_refused, replied_err, replied_ok, accepted, allocate_place, allocate_placed, rested_is}
+use Rattle.hl_keeper.specs.Parts.{pass_of}
 use Rattle.hl_keeper.proofs.keeper.Keeper.allocate.Goals.{In-At}
 use Rattle.hl_keeper.proofs.keeper.Keeper.allocate.Goals as goal
 
@@ -30,7 +31,7 @@ returns-in_err-address-clause-made g c =
 pub unreachable-requires : goal.unreachable-requires
 unreachable-requires g c =
     let A = c.in_ok-address.ensures.valid.0 in
-    c.in_default.not-At _ (accepted c.args.self.now A c.args.pass.now (ALLOCATE c.pass.inside.slot c.args.n) c.call.new.self c.in_ok-address.field-0 (c.in_ok-address.ensures.made A c.in_ok-address.ensures.valid.1)).1
+    c.in_default.not-At _ (accepted c.args.self.now A c.args.pass.now (ALLOCATE c.pass.inside.own.slot c.args.n) c.call.new.self c.in_ok-address.field-0 (c.in_ok-address.ensures.made A c.in_ok-address.ensures.valid.1)).1
 
 -- where the record is placed
 placed : (g : _) (c : In-At g) → Placed c.args.self.now.core.sizes.page_size c.in-At.address c.args.n (seen c.args.pass.now)
@@ -38,7 +39,7 @@ placed g c =
     let k = c.args.self.now in
     let A = c.in_ok-address.ensures.valid.0 in
     let st = c.in_ok-address.ensures.valid.1 in
-    let p : PassRecord = (record { slot = c.pass.inside.slot; stamp = c.pass.inside.stamp; epoch = c.pass.inside.epoch; held = c.pass.inside.held; touches = c.pass.inside.touches; rider = c.pass.inside.rider }) in
+    let p : PassRecord = (pass_of c.pass.inside.own c.pass.inside.touches c.pass.inside.rider) in
     let made = rw (sym c.pass.view_is) at c.in_ok-address.ensures.made in
     let known = rw (sym c.pass.view_is) at c.in_ok-known.ensures in
     rw (sym c.pass.view_is) (allocate_placed k A p c.args.n c.call.new.self c.in_ok-address.field-0 c.in-At.address st (knows k p c.in_ok-known.field-0 known) c.pass.invariant.1 (made A st) c.in-At.is)
@@ -57,7 +58,7 @@ returns-clause-made g c =
 
 pub returns-clause-pass : goal.returns-clause-pass
 returns-clause-pass g c =
-    rested_is c.args.pass.now c.call.new.pass c.rest.new.self c.pass.inside.epoch (with_tail (c.in-At.address + c.args.n) c.pass.inside.view) (with_tail (c.in-At.address + c.args.n) (seen c.args.pass.now)) c.in_ok-address.ensures.pass c.rest.ensures
+    rested_is c.args.pass.now c.call.new.pass c.rest.new.self c.pass.inside.own.epoch (with_tail (c.in-At.address + c.args.n) c.pass.inside.own.view) (with_tail (c.in-At.address + c.args.n) (seen c.args.pass.now)) c.in_ok-address.ensures.pass c.rest.ensures
     (ap (with_tail (c.in-At.address + c.args.n)) (c.pass.invariant.0 ∙ ap seen c.pass.view_is))
     ∙ ap (λ (p : PassRecord). rested p.epoch (with_tail (c.in-At.address + c.args.n) (seen c.args.pass.now)) c.args.pass.now) c.pass.view_is
 

@@ -9,6 +9,7 @@ use Rattle.hl_keeper.specs.Keepers.{job_tag}
 use Rattle.hl_keeper.proofs.ActionLaws.{asking_bumps, asking_acquires, bump_ticket}
 use Rattle.hl_keeper.proofs.KeeperLaws.{unstamped}
 use Rattle.hl_keeper.proofs.StepLaws.{step_full, one_fits, one_counts, made_refused, core_refused, core_made, bump_follows, bump_rises}
+use Rattle.hl_keeper.specs.Parts.{keeper_of}
 use Rattle.hl_keeper.proofs.keeper.Keeper.bump.Goals as goal
 
 pub returns-in-Err-clause-made : goal.returns-in-Err-clause-made
@@ -19,35 +20,35 @@ returns-in-Err-clause-made g c =
 
 pub returns-in-Err-bump-clause-made : goal.returns-in-Err-bump-clause-made
 returns-in-Err-bump-clause-made g c =
-    let k : KeeperState g.row.F.Denot = (record { core = c.self.inside.core; base = c.self.inside.journal.base; cut = c.self.inside.journal.cut; journal = c.self.inside.journal.steps; limit = c.self.inside.journal.limit; stamps = c.self.inside.stamps.items; stamp = c.self.inside.stamp; acquired = c.self.inside.acquired; offsets = c.self.inside.master.offsets; total = c.self.inside.master.total; called = c.self.inside.master.called }) in
+    let k : KeeperState g.row.F.Denot = (keeper_of c.self.inside.core c.self.inside.journal c.self.inside.stamps c.self.inside.master) in
     let s = asking job_tag c.args.ask in
     let room = rw (sym c.self.view_is) at c.in_default.ensures in
     rw (c.in-Err-bump.ensures.refused.1, sym c.self.view_is) (λ A st. core_refused k A s c.in_default.field-0 c.bump.new.self c.in-Err-bump.refused.0 _ st room (c.in-Err-bump.ensures.made A st.core_stands))
 
 pub note-requires-clause-room : goal.note-requires-clause-room
 note-requires-clause-room g c =
-    let k : KeeperState g.row.F.Denot = (record { core = c.self.inside.core; base = c.self.inside.journal.base; cut = c.self.inside.journal.cut; journal = c.self.inside.journal.steps; limit = c.self.inside.journal.limit; stamps = c.self.inside.stamps.items; stamp = c.self.inside.stamp; acquired = c.self.inside.acquired; offsets = c.self.inside.master.offsets; total = c.self.inside.master.total; called = c.self.inside.master.called }) in
+    let k : KeeperState g.row.F.Denot = (keeper_of c.self.inside.core c.self.inside.journal c.self.inside.stamps c.self.inside.master) in
     let s = asking job_tag c.args.ask in
     let room = rw (sym c.self.view_is) at c.in_default.ensures in
     one_fits k c.in_default.field-0 room
 
 pub note-requires-clause-count : goal.note-requires-clause-count
 note-requires-clause-count g c =
-    let k : KeeperState g.row.F.Denot = (record { core = c.self.inside.core; base = c.self.inside.journal.base; cut = c.self.inside.journal.cut; journal = c.self.inside.journal.steps; limit = c.self.inside.journal.limit; stamps = c.self.inside.stamps.items; stamp = c.self.inside.stamp; acquired = c.self.inside.acquired; offsets = c.self.inside.master.offsets; total = c.self.inside.master.total; called = c.self.inside.master.called }) in
+    let k : KeeperState g.row.F.Denot = (keeper_of c.self.inside.core c.self.inside.journal c.self.inside.stamps c.self.inside.master) in
     let s = asking job_tag c.args.ask in
     let room = rw (sym c.self.view_is) at c.in_default.ensures in
     omega (arith, ap (λ (m : MasterState). m.total) c.store_offset.ensures, one_counts k c.in_default.field-0 c.self.invariant.of.standing room)
 
 pub store_offset-requires : goal.store_offset-requires
 store_offset-requires g c =
-    let k : KeeperState g.row.F.Denot = (record { core = c.self.inside.core; base = c.self.inside.journal.base; cut = c.self.inside.journal.cut; journal = c.self.inside.journal.steps; limit = c.self.inside.journal.limit; stamps = c.self.inside.stamps.items; stamp = c.self.inside.stamp; acquired = c.self.inside.acquired; offsets = c.self.inside.master.offsets; total = c.self.inside.master.total; called = c.self.inside.master.called }) in
+    let k : KeeperState g.row.F.Denot = (keeper_of c.self.inside.core c.self.inside.journal c.self.inside.stamps c.self.inside.master) in
     let A = c.self.invariant.of.standing.0 in
     let st = c.self.invariant.of.standing.1 in
     bump_rises k A (asking job_tag c.args.ask) c.in-Ok.ticket st (bump_ticket k A c.args.ask c.bump.new.self c.in-Ok.ticket (c.in-Ok.ensures.made A st.core_stands))
 
 pub invariant_of-self : goal.invariant_of-self
 invariant_of-self g c =
-    let k : KeeperState g.row.F.Denot = (record { core = c.self.inside.core; base = c.self.inside.journal.base; cut = c.self.inside.journal.cut; journal = c.self.inside.journal.steps; limit = c.self.inside.journal.limit; stamps = c.self.inside.stamps.items; stamp = c.self.inside.stamp; acquired = c.self.inside.acquired; offsets = c.self.inside.master.offsets; total = c.self.inside.master.total; called = c.self.inside.master.called }) in
+    let k : KeeperState g.row.F.Denot = (keeper_of c.self.inside.core c.self.inside.journal c.self.inside.stamps c.self.inside.master) in
     let s = asking job_tag c.args.ask in
     let room = rw (sym c.self.view_is) at c.in_default.ensures in
     let A = c.self.invariant.of.standing.0 in
@@ -56,7 +57,7 @@ invariant_of-self g c =
       of = record {
         standing = (
           _,
-          (core_made k A s c.in_default.field-0 c.bump.new.self (Ticket c.in-Ok.ticket) c.in-Ok.ticket _ c.note.new.journal c.self.inside.stamps.items c.self.inside.acquired c.note.new.master.offsets c.note.new.master.total c.note.new.master.called st room (c.in-Ok.ensures.made A st.core_stands)
+          (core_made k A s c.in_default.field-0 c.bump.new.self (Ticket c.in-Ok.ticket) c.in-Ok.ticket _ c.note.new.journal c.self.inside.stamps.row.items c.self.inside.stamps.given c.note.new.master.offsets c.note.new.master.total c.note.new.master.called st room (c.in-Ok.ensures.made A st.core_stands)
               (bump_ticket k A c.args.ask c.bump.new.self c.in-Ok.ticket (c.in-Ok.ensures.made A st.core_stands))
               (c.note.ensures.journal ∙ ap (λ z. with_steps (z ∷ []) c.self.inside.journal) c.step_of-step.ensures) (unstamped k A s st (asking_acquires job_tag c.args.ask))
               (bump_follows k A s c.in-Ok.ticket c.note.new.master.offsets st (asking_bumps job_tag c.args.ask).0 (asking_bumps job_tag c.args.ask).1 (asking_bumps job_tag c.args.ask).2 (bump_ticket k A c.args.ask c.bump.new.self c.in-Ok.ticket (c.in-Ok.ensures.made A st.core_stands)) (ap (λ (m : MasterState). m.offsets) c.note.ensures.master ∙ ap (λ (m : MasterState). m.offsets) c.store_offset.ensures))
@@ -70,10 +71,10 @@ invariant_of-self g c =
 
 pub returns-in-Ok-clause-made : goal.returns-in-Ok-clause-made
 returns-in-Ok-clause-made g c =
-    let k : KeeperState g.row.F.Denot = (record { core = c.self.inside.core; base = c.self.inside.journal.base; cut = c.self.inside.journal.cut; journal = c.self.inside.journal.steps; limit = c.self.inside.journal.limit; stamps = c.self.inside.stamps.items; stamp = c.self.inside.stamp; acquired = c.self.inside.acquired; offsets = c.self.inside.master.offsets; total = c.self.inside.master.total; called = c.self.inside.master.called }) in
+    let k : KeeperState g.row.F.Denot = (keeper_of c.self.inside.core c.self.inside.journal c.self.inside.stamps c.self.inside.master) in
     let s = asking job_tag c.args.ask in
     let room = rw (sym c.self.view_is) at c.in_default.ensures in
-    rw (sym c.self.view_is) (λ A st. core_made k A s c.in_default.field-0 c.bump.new.self (Ticket c.in-Ok.ticket) c.in-Ok.ticket _ c.note.new.journal c.self.inside.stamps.items c.self.inside.acquired c.note.new.master.offsets c.note.new.master.total c.note.new.master.called st room (c.in-Ok.ensures.made A st.core_stands)
+    rw (sym c.self.view_is) (λ A st. core_made k A s c.in_default.field-0 c.bump.new.self (Ticket c.in-Ok.ticket) c.in-Ok.ticket _ c.note.new.journal c.self.inside.stamps.row.items c.self.inside.stamps.given c.note.new.master.offsets c.note.new.master.total c.note.new.master.called st room (c.in-Ok.ensures.made A st.core_stands)
     (bump_ticket k A c.args.ask c.bump.new.self c.in-Ok.ticket (c.in-Ok.ensures.made A st.core_stands))
     (c.note.ensures.journal ∙ ap (λ z. with_steps (z ∷ []) c.self.inside.journal) c.step_of-step.ensures) (unstamped k A s st (asking_acquires job_tag c.args.ask))
     (bump_follows k A s c.in-Ok.ticket c.note.new.master.offsets st (asking_bumps job_tag c.args.ask).0 (asking_bumps job_tag c.args.ask).1 (asking_bumps job_tag c.args.ask).2 (bump_ticket k A c.args.ask c.bump.new.self c.in-Ok.ticket (c.in-Ok.ensures.made A st.core_stands)) (ap (λ (m : MasterState). m.offsets) c.note.ensures.master ∙ ap (λ (m : MasterState). m.offsets) c.store_offset.ensures))

@@ -6,6 +6,7 @@ use Rattle.hl_keeper.specs.Passes.{PassRecord}
 use Rattle.hl_keeper.specs.Journals.{with_steps}
 use Rattle.hl_keeper.specs.Keepers.{KeeperState}
 use Rattle.hl_keeper.proofs.TouchedLaws.{MayCall, HasEntered, may_call, may_enter, called_full, called_faulty, called_made, touches_fit, step_fits_behind, counts, never_refused}
+use Rattle.hl_keeper.specs.Parts.{keeper_of, pass_of}
 use Rattle.hl_keeper.proofs.keeper.Keeper.call_touched.Goals as goal
 
 pub returns-in_err-room-clause-made : goal.returns-in_err-room-clause-made
@@ -17,8 +18,8 @@ pub returns-in_err-check-clause-made : goal.returns-in_err-check-clause-made
 returns-in_err-check-clause-made g c =
     let known = rw (sym c.self.view_is, sym c.pass.view_is) at c.requires.known in
     let room = rw (sym c.self.view_is) at c.in_ok-room.ensures in
-    let k : KeeperState g.row.F.Denot = (record { core = c.self.inside.core; base = c.self.inside.journal.base; cut = c.self.inside.journal.cut; journal = c.self.inside.journal.steps; limit = c.self.inside.journal.limit; stamps = c.self.inside.stamps.items; stamp = c.self.inside.stamp; acquired = c.self.inside.acquired; offsets = c.self.inside.master.offsets; total = c.self.inside.master.total; called = c.self.inside.master.called }) in
-    let p : PassRecord = (record { slot = c.pass.inside.slot; stamp = c.pass.inside.stamp; epoch = c.pass.inside.epoch; held = c.pass.inside.held; touches = c.pass.inside.touches; rider = c.pass.inside.rider }) in
+    let k : KeeperState g.row.F.Denot = (keeper_of c.self.inside.core c.self.inside.journal c.self.inside.stamps c.self.inside.master) in
+    let p : PassRecord = (pass_of c.pass.inside.own c.pass.inside.touches c.pass.inside.rider) in
     let may : MayCall k p c.args.step.now = may_call k p c.args.step.now c.len-touches.result c.in_ok-room.field-0 c.self.invariant.of.standing known c.requires.kind c.pass.invariant.1 c.len-touches.ensures.value room in
     let q = err_from_is_err_and c.from_residual-in_err-check.result c.from_residual-in_err-check.ensures.1 in
     rw (q.1, q.2, sym c.self.view_is, sym c.pass.view_is) (called_faulty k p c.args.step.now c.in_err-check.field-0.0 may c.in_err-check.ensures)
@@ -27,8 +28,8 @@ pub enter_steps-requires-clause-may : goal.enter_steps-requires-clause-may
 enter_steps-requires-clause-may g c =
     let known = rw (sym c.self.view_is, sym c.pass.view_is) at c.requires.known in
     let room = rw (sym c.self.view_is) at c.in_ok-room.ensures in
-    let k : KeeperState g.row.F.Denot = (record { core = c.self.inside.core; base = c.self.inside.journal.base; cut = c.self.inside.journal.cut; journal = c.self.inside.journal.steps; limit = c.self.inside.journal.limit; stamps = c.self.inside.stamps.items; stamp = c.self.inside.stamp; acquired = c.self.inside.acquired; offsets = c.self.inside.master.offsets; total = c.self.inside.master.total; called = c.self.inside.master.called }) in
-    let p : PassRecord = (record { slot = c.pass.inside.slot; stamp = c.pass.inside.stamp; epoch = c.pass.inside.epoch; held = c.pass.inside.held; touches = c.pass.inside.touches; rider = c.pass.inside.rider }) in
+    let k : KeeperState g.row.F.Denot = (keeper_of c.self.inside.core c.self.inside.journal c.self.inside.stamps c.self.inside.master) in
+    let p : PassRecord = (pass_of c.pass.inside.own c.pass.inside.touches c.pass.inside.rider) in
     let may : MayCall k p c.args.step.now = may_call k p c.args.step.now c.len-touches.result c.in_ok-room.field-0 c.self.invariant.of.standing known c.requires.kind c.pass.invariant.1 c.len-touches.ensures.value room in
     rw c.as_slice.ensures (may_enter k p c.args.step.now may)
 
@@ -36,8 +37,8 @@ pub enter_steps-requires-clause-room : goal.enter_steps-requires-clause-room
 enter_steps-requires-clause-room g c =
     let known = rw (sym c.self.view_is, sym c.pass.view_is) at c.requires.known in
     let room = rw (sym c.self.view_is) at c.in_ok-room.ensures in
-    let k : KeeperState g.row.F.Denot = (record { core = c.self.inside.core; base = c.self.inside.journal.base; cut = c.self.inside.journal.cut; journal = c.self.inside.journal.steps; limit = c.self.inside.journal.limit; stamps = c.self.inside.stamps.items; stamp = c.self.inside.stamp; acquired = c.self.inside.acquired; offsets = c.self.inside.master.offsets; total = c.self.inside.master.total; called = c.self.inside.master.called }) in
-    let p : PassRecord = (record { slot = c.pass.inside.slot; stamp = c.pass.inside.stamp; epoch = c.pass.inside.epoch; held = c.pass.inside.held; touches = c.pass.inside.touches; rider = c.pass.inside.rider }) in
+    let k : KeeperState g.row.F.Denot = (keeper_of c.self.inside.core c.self.inside.journal c.self.inside.stamps c.self.inside.master) in
+    let p : PassRecord = (pass_of c.pass.inside.own c.pass.inside.touches c.pass.inside.rider) in
     let may : MayCall k p c.args.step.now = may_call k p c.args.step.now c.len-touches.result c.in_ok-room.field-0 c.self.invariant.of.standing known c.requires.kind c.pass.invariant.1 c.len-touches.ensures.value room in
     rw c.as_slice.ensures (touches_fit k p c.args.step.now may)
 
@@ -45,8 +46,8 @@ pub note-requires : goal.note-requires
 note-requires g c =
     let known = rw (sym c.self.view_is, sym c.pass.view_is) at c.requires.known in
     let room = rw (sym c.self.view_is) at c.in_ok-room.ensures in
-    let k : KeeperState g.row.F.Denot = (record { core = c.self.inside.core; base = c.self.inside.journal.base; cut = c.self.inside.journal.cut; journal = c.self.inside.journal.steps; limit = c.self.inside.journal.limit; stamps = c.self.inside.stamps.items; stamp = c.self.inside.stamp; acquired = c.self.inside.acquired; offsets = c.self.inside.master.offsets; total = c.self.inside.master.total; called = c.self.inside.master.called }) in
-    let p : PassRecord = (record { slot = c.pass.inside.slot; stamp = c.pass.inside.stamp; epoch = c.pass.inside.epoch; held = c.pass.inside.held; touches = c.pass.inside.touches; rider = c.pass.inside.rider }) in
+    let k : KeeperState g.row.F.Denot = (keeper_of c.self.inside.core c.self.inside.journal c.self.inside.stamps c.self.inside.master) in
+    let p : PassRecord = (pass_of c.pass.inside.own c.pass.inside.touches c.pass.inside.rider) in
     let may : MayCall k p c.args.step.now = may_call k p c.args.step.now c.len-touches.result c.in_ok-room.field-0 c.self.invariant.of.standing known c.requires.kind c.pass.invariant.1 c.len-touches.ensures.value room in
     rw (c.enter_steps.ensures.journal, c.as_slice.ensures) (step_fits_behind k p c.args.step.now may)
 
@@ -54,8 +55,8 @@ pub enter-requires : goal.enter-requires
 enter-requires g c =
     let known = rw (sym c.self.view_is, sym c.pass.view_is) at c.requires.known in
     let room = rw (sym c.self.view_is) at c.in_ok-room.ensures in
-    let k : KeeperState g.row.F.Denot = (record { core = c.self.inside.core; base = c.self.inside.journal.base; cut = c.self.inside.journal.cut; journal = c.self.inside.journal.steps; limit = c.self.inside.journal.limit; stamps = c.self.inside.stamps.items; stamp = c.self.inside.stamp; acquired = c.self.inside.acquired; offsets = c.self.inside.master.offsets; total = c.self.inside.master.total; called = c.self.inside.master.called }) in
-    let p : PassRecord = (record { slot = c.pass.inside.slot; stamp = c.pass.inside.stamp; epoch = c.pass.inside.epoch; held = c.pass.inside.held; touches = c.pass.inside.touches; rider = c.pass.inside.rider }) in
+    let k : KeeperState g.row.F.Denot = (keeper_of c.self.inside.core c.self.inside.journal c.self.inside.stamps c.self.inside.master) in
+    let p : PassRecord = (pass_of c.pass.inside.own c.pass.inside.touches c.pass.inside.rider) in
     let may : MayCall k p c.args.step.now = may_call k p c.args.step.now c.len-touches.result c.in_ok-room.field-0 c.self.invariant.of.standing known c.requires.kind c.pass.invariant.1 c.len-touches.ensures.value room in
     omega (arith, c.len-touches.ensures.value, counts k p c.args.step.now may)
 
@@ -63,8 +64,8 @@ pub unreachable-requires : goal.unreachable-requires
 unreachable-requires g c =
     let known = rw (sym c.self.view_is, sym c.pass.view_is) at c.requires.known in
     let room = rw (sym c.self.view_is) at c.in_ok-room.ensures in
-    let k : KeeperState g.row.F.Denot = (record { core = c.self.inside.core; base = c.self.inside.journal.base; cut = c.self.inside.journal.cut; journal = c.self.inside.journal.steps; limit = c.self.inside.journal.limit; stamps = c.self.inside.stamps.items; stamp = c.self.inside.stamp; acquired = c.self.inside.acquired; offsets = c.self.inside.master.offsets; total = c.self.inside.master.total; called = c.self.inside.master.called }) in
-    let p : PassRecord = (record { slot = c.pass.inside.slot; stamp = c.pass.inside.stamp; epoch = c.pass.inside.epoch; held = c.pass.inside.held; touches = c.pass.inside.touches; rider = c.pass.inside.rider }) in
+    let k : KeeperState g.row.F.Denot = (keeper_of c.self.inside.core c.self.inside.journal c.self.inside.stamps c.self.inside.master) in
+    let p : PassRecord = (pass_of c.pass.inside.own c.pass.inside.touches c.pass.inside.rider) in
     let may : MayCall k p c.args.step.now = may_call k p c.args.step.now c.len-touches.result c.in_ok-room.field-0 c.self.invariant.of.standing known c.requires.kind c.pass.invariant.1 c.len-touches.ensures.value room in
     let at : HasEntered k p c.args.step.now c.enter_steps.new.core = record { may = may; fine = λ A st. (unless_ok (fault_of k.core.sizes A c.args.step.now) c.in_ok-check.field-0 (tt {0}) (c.in_ok-check.ensures A st)).0; sizes = c.enter_steps.ensures.sizes; jobs = c.enter_steps.ensures.jobs; core = rw c.as_slice.ensures at c.enter_steps.ensures.core } in
     never_refused k p c.args.step.now c.enter_steps.new.core c.act.new.self c.in-Err.field-0 at c.in-Err.ensures.made
@@ -73,8 +74,8 @@ pub invariant_of-self : goal.invariant_of-self
 invariant_of-self g c =
     let known = rw (sym c.self.view_is, sym c.pass.view_is) at c.requires.known in
     let room = rw (sym c.self.view_is) at c.in_ok-room.ensures in
-    let k : KeeperState g.row.F.Denot = (record { core = c.self.inside.core; base = c.self.inside.journal.base; cut = c.self.inside.journal.cut; journal = c.self.inside.journal.steps; limit = c.self.inside.journal.limit; stamps = c.self.inside.stamps.items; stamp = c.self.inside.stamp; acquired = c.self.inside.acquired; offsets = c.self.inside.master.offsets; total = c.self.inside.master.total; called = c.self.inside.master.called }) in
-    let p : PassRecord = (record { slot = c.pass.inside.slot; stamp = c.pass.inside.stamp; epoch = c.pass.inside.epoch; held = c.pass.inside.held; touches = c.pass.inside.touches; rider = c.pass.inside.rider }) in
+    let k : KeeperState g.row.F.Denot = (keeper_of c.self.inside.core c.self.inside.journal c.self.inside.stamps c.self.inside.master) in
+    let p : PassRecord = (pass_of c.pass.inside.own c.pass.inside.touches c.pass.inside.rider) in
     let may : MayCall k p c.args.step.now = may_call k p c.args.step.now c.len-touches.result c.in_ok-room.field-0 c.self.invariant.of.standing known c.requires.kind c.pass.invariant.1 c.len-touches.ensures.value room in
     let at : HasEntered k p c.args.step.now c.enter_steps.new.core = record { may = may; fine = λ A st. (unless_ok (fault_of k.core.sizes A c.args.step.now) c.in_ok-check.field-0 (tt {0}) (c.in_ok-check.ensures A st)).0; sizes = c.enter_steps.ensures.sizes; jobs = c.enter_steps.ensures.jobs; core = rw c.as_slice.ensures at c.enter_steps.ensures.core } in
     record {
@@ -90,8 +91,8 @@ pub returns-clause-made : goal.returns-clause-made
 returns-clause-made g c =
     let known = rw (sym c.self.view_is, sym c.pass.view_is) at c.requires.known in
     let room = rw (sym c.self.view_is) at c.in_ok-room.ensures in
-    let k : KeeperState g.row.F.Denot = (record { core = c.self.inside.core; base = c.self.inside.journal.base; cut = c.self.inside.journal.cut; journal = c.self.inside.journal.steps; limit = c.self.inside.journal.limit; stamps = c.self.inside.stamps.items; stamp = c.self.inside.stamp; acquired = c.self.inside.acquired; offsets = c.self.inside.master.offsets; total = c.self.inside.master.total; called = c.self.inside.master.called }) in
-    let p : PassRecord = (record { slot = c.pass.inside.slot; stamp = c.pass.inside.stamp; epoch = c.pass.inside.epoch; held = c.pass.inside.held; touches = c.pass.inside.touches; rider = c.pass.inside.rider }) in
+    let k : KeeperState g.row.F.Denot = (keeper_of c.self.inside.core c.self.inside.journal c.self.inside.stamps c.self.inside.master) in
+    let p : PassRecord = (pass_of c.pass.inside.own c.pass.inside.touches c.pass.inside.rider) in
     let may : MayCall k p c.args.step.now = may_call k p c.args.step.now c.len-touches.result c.in_ok-room.field-0 c.self.invariant.of.standing known c.requires.kind c.pass.invariant.1 c.len-touches.ensures.value room in
     let at : HasEntered k p c.args.step.now c.enter_steps.new.core = record { may = may; fine = λ A st. (unless_ok (fault_of k.core.sizes A c.args.step.now) c.in_ok-check.field-0 (tt {0}) (c.in_ok-check.ensures A st)).0; sizes = c.enter_steps.ensures.sizes; jobs = c.enter_steps.ensures.jobs; core = rw c.as_slice.ensures at c.enter_steps.ensures.core } in
     rw (sym c.self.view_is, sym c.pass.view_is) (called_made k p c.args.step.now c.enter_steps.new.core c.act.new.self c.in-Ok.reply c.len-touches.result c.enter_steps.new.journal c.note.new.self c.enter.new.self at c.in-Ok.ensures.made c.in-Ok.ensures.sizes c.len-touches.ensures.value (c.enter_steps.ensures.journal ∙ ap (λ z. with_steps z c.self.inside.journal) c.as_slice.ensures) c.note.ensures c.enter.ensures.total)

@@ -1,10 +1,7 @@
-use Rattle.std.proofs.Common.{ap}
-use Rattle.hl_keeper.specs.Keepers.{KeeperState}
-use Rattle.hl_keeper.proofs.CallLaws.{own_ok, own_err}
+use Rattle.std.proofs.Common.{sym}
+use Rattle.hl_keeper.specs.Parts.{keeper_of}
+use Rattle.hl_keeper.proofs.CallLaws.{origin_is}
 use Rattle.hl_keeper.proofs.keeper.Keeper.own.Goals as goal
 
-pub returns-then-origin-self : goal.returns-then-origin-self
-returns-then-origin-self g c = own_ok c.args.self.now c.args.origin c.self.inside.stamp (ap (λ (k : KeeperState g.row.F.Denot). k.stamp) c.self.view_is) c.if-origin-self.true
-
-pub returns-else-origin-self : goal.returns-else-origin-self
-returns-else-origin-self g c = own_err c.args.self.now c.args.origin c.self.inside.stamp (ap (λ (k : KeeperState g.row.F.Denot). k.stamp) c.self.view_is) c.if-origin-self.false
+pub returns : goal.returns
+returns g c = rw (sym c.self.view_is) (origin_is (keeper_of c.self.inside.core c.self.inside.journal c.self.inside.stamps c.self.inside.master) c.args.origin c.is_of.result c.is_of.ensures)

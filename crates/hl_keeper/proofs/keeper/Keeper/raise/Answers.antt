@@ -6,6 +6,7 @@ use Rattle.hl_keeper.specs.Calls.{step_fault}
 use Rattle.hl_model.specs.declared.step.Step.TheVariants.{Raise as RAISE}
 use Rattle.hl_keeper.proofs.KeeperLaws.{unstamped}
 use Rattle.hl_keeper.proofs.StepLaws.{step_full, one_fits, one_counts, made_refused, core_refused, core_made, core_told, raise_follows, raise_told}
+use Rattle.hl_keeper.specs.Parts.{keeper_of}
 use Rattle.hl_keeper.proofs.keeper.Keeper.raise.Goals as goal
 
 pub returns-in_err-room-clause-made : goal.returns-in_err-room-clause-made
@@ -18,28 +19,28 @@ returns-in_err-room-clause-made g c =
 pub returns-in_err-act-clause-made : goal.returns-in_err-act-clause-made
 returns-in_err-act-clause-made g c =
     let q = err_from_is_err_and c.from_residual-in_err-act.result c.from_residual-in_err-act.ensures.1 in
-    let k : KeeperState g.row.F.Denot = (record { core = c.self.inside.core; base = c.self.inside.journal.base; cut = c.self.inside.journal.cut; journal = c.self.inside.journal.steps; limit = c.self.inside.journal.limit; stamps = c.self.inside.stamps.items; stamp = c.self.inside.stamp; acquired = c.self.inside.acquired; offsets = c.self.inside.master.offsets; total = c.self.inside.master.total; called = c.self.inside.master.called }) in
+    let k : KeeperState g.row.F.Denot = (keeper_of c.self.inside.core c.self.inside.journal c.self.inside.stamps c.self.inside.master) in
     let s = RAISE c.args.x in
     let room = rw (sym c.self.view_is) at c.in_ok-room.ensures in
     rw (q.1, q.2, c.in_err-act.ensures.refused, sym c.self.view_is) (λ A st. core_refused k A s c.in_ok-room.field-0 c.act.new.self c.in_err-act.field-0.0 _ st room (c.in_err-act.ensures.made A st.core_stands))
 
 pub note-requires-clause-room : goal.note-requires-clause-room
 note-requires-clause-room g c =
-    let k : KeeperState g.row.F.Denot = (record { core = c.self.inside.core; base = c.self.inside.journal.base; cut = c.self.inside.journal.cut; journal = c.self.inside.journal.steps; limit = c.self.inside.journal.limit; stamps = c.self.inside.stamps.items; stamp = c.self.inside.stamp; acquired = c.self.inside.acquired; offsets = c.self.inside.master.offsets; total = c.self.inside.master.total; called = c.self.inside.master.called }) in
+    let k : KeeperState g.row.F.Denot = (keeper_of c.self.inside.core c.self.inside.journal c.self.inside.stamps c.self.inside.master) in
     let s = RAISE c.args.x in
     let room = rw (sym c.self.view_is) at c.in_ok-room.ensures in
     one_fits k c.in_ok-room.field-0 room
 
 pub note-requires-clause-count : goal.note-requires-clause-count
 note-requires-clause-count g c =
-    let k : KeeperState g.row.F.Denot = (record { core = c.self.inside.core; base = c.self.inside.journal.base; cut = c.self.inside.journal.cut; journal = c.self.inside.journal.steps; limit = c.self.inside.journal.limit; stamps = c.self.inside.stamps.items; stamp = c.self.inside.stamp; acquired = c.self.inside.acquired; offsets = c.self.inside.master.offsets; total = c.self.inside.master.total; called = c.self.inside.master.called }) in
+    let k : KeeperState g.row.F.Denot = (keeper_of c.self.inside.core c.self.inside.journal c.self.inside.stamps c.self.inside.master) in
     let s = RAISE c.args.x in
     let room = rw (sym c.self.view_is) at c.in_ok-room.ensures in
     omega (arith, ap (λ (m : MasterState). m.total) c.store_offset.ensures, one_counts k c.in_ok-room.field-0 c.self.invariant.of.standing room)
 
 pub invariant_of-self-2 : goal.invariant_of-self-2
 invariant_of-self-2 g c =
-    let k : KeeperState g.row.F.Denot = (record { core = c.self.inside.core; base = c.self.inside.journal.base; cut = c.self.inside.journal.cut; journal = c.self.inside.journal.steps; limit = c.self.inside.journal.limit; stamps = c.self.inside.stamps.items; stamp = c.self.inside.stamp; acquired = c.self.inside.acquired; offsets = c.self.inside.master.offsets; total = c.self.inside.master.total; called = c.self.inside.master.called }) in
+    let k : KeeperState g.row.F.Denot = (keeper_of c.self.inside.core c.self.inside.journal c.self.inside.stamps c.self.inside.master) in
     let s = RAISE c.args.x in
     let room = rw (sym c.self.view_is) at c.in_ok-room.ensures in
     let A = c.self.invariant.of.standing.0 in
@@ -48,7 +49,7 @@ invariant_of-self-2 g c =
       of = record {
         standing = (
           _,
-          (core_made k A s c.in_ok-room.field-0 c.act.new.self c.in_ok-act.field-0 c.args.x _ c.note.new.journal c.self.inside.stamps.items c.self.inside.acquired c.note.new.master.offsets c.note.new.master.total c.note.new.master.called st room (c.in_ok-act.ensures.made A st.core_stands)
+          (core_made k A s c.in_ok-room.field-0 c.act.new.self c.in_ok-act.field-0 c.args.x _ c.note.new.journal c.self.inside.stamps.row.items c.self.inside.stamps.given c.note.new.master.offsets c.note.new.master.total c.note.new.master.called st room (c.in_ok-act.ensures.made A st.core_stands)
               (raise_told k A c.args.x (core_told k A s c.act.new.self c.in_ok-act.field-0 (c.in_ok-act.ensures.made A st.core_stands)).0)
               c.note.ensures.journal (unstamped k A s st refl)
               (raise_follows k A c.args.x c.note.new.master.offsets st (core_told k A s c.act.new.self c.in_ok-act.field-0 (c.in_ok-act.ensures.made A st.core_stands)).0 (ap (λ (m : MasterState). m.offsets) c.note.ensures.master ∙ ap (λ (m : MasterState). m.offsets) c.store_offset.ensures))
@@ -62,10 +63,10 @@ invariant_of-self-2 g c =
 
 pub returns-clause-made : goal.returns-clause-made
 returns-clause-made g c =
-    let k : KeeperState g.row.F.Denot = (record { core = c.self.inside.core; base = c.self.inside.journal.base; cut = c.self.inside.journal.cut; journal = c.self.inside.journal.steps; limit = c.self.inside.journal.limit; stamps = c.self.inside.stamps.items; stamp = c.self.inside.stamp; acquired = c.self.inside.acquired; offsets = c.self.inside.master.offsets; total = c.self.inside.master.total; called = c.self.inside.master.called }) in
+    let k : KeeperState g.row.F.Denot = (keeper_of c.self.inside.core c.self.inside.journal c.self.inside.stamps c.self.inside.master) in
     let s = RAISE c.args.x in
     let room = rw (sym c.self.view_is) at c.in_ok-room.ensures in
-    rw (sym c.self.view_is) (λ A st. core_made k A s c.in_ok-room.field-0 c.act.new.self c.in_ok-act.field-0 c.args.x _ c.note.new.journal c.self.inside.stamps.items c.self.inside.acquired c.note.new.master.offsets c.note.new.master.total c.note.new.master.called st room (c.in_ok-act.ensures.made A st.core_stands)
+    rw (sym c.self.view_is) (λ A st. core_made k A s c.in_ok-room.field-0 c.act.new.self c.in_ok-act.field-0 c.args.x _ c.note.new.journal c.self.inside.stamps.row.items c.self.inside.stamps.given c.note.new.master.offsets c.note.new.master.total c.note.new.master.called st room (c.in_ok-act.ensures.made A st.core_stands)
     (raise_told k A c.args.x (core_told k A s c.act.new.self c.in_ok-act.field-0 (c.in_ok-act.ensures.made A st.core_stands)).0)
     c.note.ensures.journal (unstamped k A s st refl)
     (raise_follows k A c.args.x c.note.new.master.offsets st (core_told k A s c.act.new.self c.in_ok-act.field-0 (c.in_ok-act.ensures.made A st.core_stands)).0 (ap (λ (m : MasterState). m.offsets) c.note.ensures.master ∙ ap (λ (m : MasterState). m.offsets) c.store_offset.ensures))

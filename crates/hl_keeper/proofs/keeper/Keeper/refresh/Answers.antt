@@ -4,6 +4,7 @@ use Rattle.hl_keeper.specs.Passes.{PassRecord, rested}
 use Rattle.hl_keeper.specs.Calls.{refresh_fault}
 use Rattle.hl_model.specs.declared.step.Step.TheVariants.{Refresh as REFRESH}
 use Rattle.hl_keeper.proofs.SlotLaws.{knows_behind, refresh_ahead, refresh_known, replied_refused, replied_err, replied_ok, accepted, refresh_slot, refresh_fresh, rested_is}
+use Rattle.hl_keeper.specs.Parts.{pass_of}
 use Rattle.hl_keeper.proofs.keeper.Keeper.refresh.Goals as goal
 
 pub returns-in_err-known_behind-clause-made : goal.returns-in_err-known_behind-clause-made
@@ -27,7 +28,7 @@ returns-in_err-epoch-clause-made g c =
 pub unreachable-requires : goal.unreachable-requires
 unreachable-requires g c =
     let A = c.in_ok-epoch.ensures.valid.0 in
-    c.in_default.not-Entered _ _ (accepted c.args.self.now A c.args.pass.now (REFRESH c.pass.inside.slot) c.call.new.self c.in_ok-epoch.field-0 (c.in_ok-epoch.ensures.made A c.in_ok-epoch.ensures.valid.1)).1
+    c.in_default.not-Entered _ _ (accepted c.args.self.now A c.args.pass.now (REFRESH c.pass.inside.own.slot) c.call.new.self c.in_ok-epoch.field-0 (c.in_ok-epoch.ensures.made A c.in_ok-epoch.ensures.valid.1)).1
 
 pub returns-clause-made : goal.returns-clause-made
 returns-clause-made g c =
@@ -55,7 +56,7 @@ returns-clause-fresh g c =
     let k = c.args.self.now in
     let A = c.in_ok-epoch.ensures.valid.0 in
     let st = c.in_ok-epoch.ensures.valid.1 in
-    let p : PassRecord = (record { slot = c.pass.inside.slot; stamp = c.pass.inside.stamp; epoch = c.pass.inside.epoch; held = c.pass.inside.held; touches = c.pass.inside.touches; rider = c.pass.inside.rider }) in
+    let p : PassRecord = (pass_of c.pass.inside.own c.pass.inside.touches c.pass.inside.rider) in
     let made = rw (sym c.pass.view_is) at c.in_ok-epoch.ensures.made in
     let known = rw (sym c.pass.view_is) at c.in_ok-known_behind.ensures in
     rw (sym c.pass.view_is) (refresh_fresh k A p c.in_ok-known_behind.field-0 c.in-Entered.view st (knows_behind k p c.in_ok-known_behind.field-0 known) c.pass.invariant.1 (known A st)

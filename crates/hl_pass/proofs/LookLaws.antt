@@ -14,13 +14,10 @@ use Rattle.hl_model.specs.Replies.{or_fault, fault_of, IsAccepted}
 use Rattle.hl_laws.proofs.DrainLaws.{protected-slot}
 use Rattle.hl_laws.proofs.LawProofs.{slot_epoch-protected}
 use Rattle.hl_laws.proofs.ViewLaws.{is_protected-slot_view, view_of-slot_view}
-use Rattle.hl_log.specs.declared.log.Log.{Log}
-use Rattle.hl_log.specs.declared.pass.Pass.{Pass}
-use Rattle.hl_log.specs.Calls.{is_known}
-use Rattle.hl_log.specs.Logs.{StandsAt, stamp_at}
-use Rattle.hl_log.specs.Passes.{IsRisen}
-use Rattle.hl_log.specs.Views.{has_view}
-use Rattle.hl_log.proofs.KnownLaws.{left_of, right_of}
+use Rattle.hl_pass.specs.Laws.{CatchesUp}
+use Rattle.hl_pass.specs.Stamps.{stamp_at}
+use Rattle.hl_pass.specs.Views.{has_view}
+use Rattle.hl_pass.proofs.KnownLaws.{left_of, right_of}
 
 -- a slot that has a view the same as this has a view with its offsets
 viewed : (o : Option View) (held : View) → has_view o held ≡ true → (v : View) × (o ≡ Some v) × (v.read_only ≡ held.read_only) × (v.head ≡ held.head)
@@ -42,7 +39,7 @@ accepts sizes t A v read_only head accepted is low high =
     (ap₂ (λ a b. cond (a || b) (Some Stale) None) (le-ltb read_only (seen_read_only t A) (omega (arith, low, ap (λ (w : View). w.read_only) seen))) (le-ltb head (seen_head t A) (omega (arith, high, ap (λ (w : View). w.head) seen))))
 
 -- so is that of a pass
-pub look_accepted : (log : Log) (A : List Step) (p : Pass) → StandsAt log A → is_known log A p ≡ true → IsRisen p → fault_of log.core.sizes A (Look p.slot p.view.read_only p.view.head) ≡ None
-look_accepted log A p stands known risen =
-    let seen = viewed (slot_view log.core.sizes p.slot A) p.held (left_of (has_view (slot_view log.core.sizes p.slot A) p.held) (eqb (stamp_at log A p.slot) p.stamp) known) in
-    accepts log.core.sizes p.slot A seen.0 p.view.read_only p.view.head stands.accepted seen.1 (omega (arith, risen.0, seen.2)) (omega (arith, risen.1, seen.3))
+pub catches_up : CatchesUp
+catches_up sizes row A p accepted known risen =
+    let seen = viewed (slot_view sizes p.slot A) p.held (left_of (has_view (slot_view sizes p.slot A) p.held) (eqb (stamp_at sizes row A p.slot) p.stamp) known) in
+    accepts sizes p.slot A seen.0 p.view.read_only p.view.head accepted seen.1 (omega (arith, risen.0, seen.2)) (omega (arith, risen.1, seen.3))

@@ -1,9 +1,9 @@
--- What a view allows, and how it rises.
-use Rattle.std.specs.Prelude.{ℕ, ◌==◌, nat_lt, nat_le, max, Bool, false, ◌&&◌, if◌then◌else◌, Option, Some, None}
+-- What a view allows, how it rises, and what is new to it.
+use Rattle.std.specs.Prelude.{ℕ, ◌==◌, nat_lt, nat_le, max, Bool, false, ◌&&◌, ◌||◌, if◌then◌else◌, Option, Some, None}
 use Rattle.hl_model.specs.declared.fault.Fault.{Fault}
 use Rattle.hl_model.specs.declared.fault.Fault.TheVariants.{Below, Beyond, Evicted}
 use Rattle.hl_model.specs.declared.view.View.{View}
-use Rattle.hl_log.specs.declared.view.News.{News}
+use Rattle.hl_pass.specs.declared.news.News.{News}
 
 -- the fault of an address at or above the tail that is seen
 abbrev pub beyond_fault : View → ℕ → Option Fault
@@ -25,6 +25,10 @@ same_view v w = v.read_only == w.read_only && (v.head == w.head && v.tail == w.t
 abbrev pub has_view : Option View → View → Bool
 has_view None w = false
 has_view (Some v) w = same_view v w
+
+-- one of these offsets is above that of the view
+abbrev pub rises : View → ℕ → ℕ → Bool
+rises v read_only head = nat_lt v.read_only read_only || nat_lt v.head head
 
 -- the view with these offsets, where they are above its own
 abbrev pub raised : View → ℕ → ℕ → View

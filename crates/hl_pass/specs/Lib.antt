@@ -1,0 +1,5 @@
+pub mod Calls
+pub mod Laws
+pub mod Passes
+pub mod Stamps
+pub mod Views
