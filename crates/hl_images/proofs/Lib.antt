@@ -1,0 +1,3 @@
+pub mod LaterLaws
+pub mod ImageLaws
+pub mod CopyLaws

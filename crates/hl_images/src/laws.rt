@@ -1,0 +1,24 @@
+//! What follows from a page's flush and from a domain's ending: each law the contract of a function that does nothing.
+ghost use Rattle.hl_images.specs.Flushes.{LaterStates, CopiedStays, FlushedStays, FlushedIsImaged};
+
+use hl_action::Task;
+
+/// A rider that did more is in a later state.
+pub fn later_states()
+    ensures { LaterStates }
+{}
+
+/// What a rider copied, it has copied whatever it does more.
+pub fn copied_stays()
+    ensures { CopiedStays }
+{}
+
+/// What a rider flushed, it has flushed whatever it does more. So a type can keep it of a rider.
+pub fn flushed_stays()
+    ensures { FlushedStays }
+{}
+
+/// What a rider of a domain flushed is an image of the page at the domain's end.
+pub fn flushed_is_imaged<F: Task>()
+    ensures { FlushedIsImaged F }
+{}
