@@ -56,17 +56,14 @@ flushed_stays sizes page image old new h more =
       done = still (with_entry h.had h.has h.later (FlushDone page true ∷ []) h.answering) old new h.done more;
     }
 
--- one load of a rider's copy among its touches
-own_touches : (cell n v : ℕ) (image : List ℕ) (t d : Touch) (before copying answering after : RiderView) (since rest last newer between : List Touch)
-    → copying.touches ≡ since ++ t ∷ before.touches → answering.touches ≡ rest ++ (loaded_all cell image copying).touches → after.touches ≡ last ++ d ∷ answering.touches
-    → (loaded_all cell image copying).touches ≡ newer ++ Loaded (cell + n) v ∷ (between ++ copying.touches)
-    → after.touches ≡ last ++ d ∷ ((rest ++ newer) ++ Loaded (cell + n) v ∷ ((between ++ since) ++ t ∷ before.touches))
-own_touches cell n v image t d before copying answering after since rest last newer between a b c l =
+-- one load of a rider's copy among its touches, with one touch that stands before the copy
+pub copy_touches : (cell n v : ℕ) (image : List ℕ) (t : Touch) (before copying answering : RiderView) (since rest newer between : List Touch) → copying.touches ≡ since ++ t ∷ before.touches
+    → answering.touches ≡ rest ++ (loaded_all cell image copying).touches → (loaded_all cell image copying).touches ≡ newer ++ Loaded (cell + n) v ∷ (between ++ copying.touches)
+    → answering.touches ≡ (rest ++ newer) ++ Loaded (cell + n) v ∷ ((between ++ since) ++ t ∷ before.touches)
+copy_touches cell n v image t before copying answering since rest newer between a b l =
     let own : between ++ copying.touches ≡ (between ++ since) ++ t ∷ before.touches = ap (λ (x : List Touch). between ++ x) a ∙ sym (append_assoc between since (t ∷ before.touches)) in
     let made : (loaded_all cell image copying).touches ≡ newer ++ Loaded (cell + n) v ∷ ((between ++ since) ++ t ∷ before.touches) = l ∙ ap (λ (x : List Touch). newer ++ Loaded (cell + n) v ∷ x) own in
-    let all : answering.touches ≡ (rest ++ newer) ++ Loaded (cell + n) v ∷ ((between ++ since) ++ t ∷ before.touches) =
-    b ∙ ap (λ (x : List Touch). rest ++ x) made ∙ sym (append_assoc rest newer (Loaded (cell + n) v ∷ ((between ++ since) ++ t ∷ before.touches))) in
-    c ∙ ap (λ (x : List Touch). last ++ d ∷ x) all
+    b ∙ ap (λ (x : List Touch). rest ++ x) made ∙ sym (append_assoc rest newer (Loaded (cell + n) v ∷ ((between ++ since) ++ t ∷ before.touches)))
 
 pub flushed_is_imaged : (F : Type 0) → FlushedIsImaged F
 flushed_is_imaged F sizes riders ending i page image r ends at h =
@@ -94,6 +91,6 @@ flushed_is_imaged F sizes riders ending i page image r ends at h =
           let l = has_load cell image c.copying.view n v there in
           loads_between_own _ _ _ views i (cell + n) v (extent_met c.was take) (extent_left c.now take) (extent_met h.had done) (extent_left h.has done) r.view h.done.touches.0 (c.copy.touches.0 ++ l.newer) (l.between ++ c.take.touches.0) c.before.view.touches
           ends.ruled.rule (at_mapped (λ (q : RiderState). q.view) riders i r at)
-          (own_touches cell n v image (Called (extent_met c.was take) (extent_left c.now take)) (Called (extent_met h.had done) (extent_left h.has done)) c.before.view c.copying.view h.answering.view r.view
-          c.take.touches.0 c.copy.touches.0 h.done.touches.0 l.newer l.between c.take.touches.1 c.copy.touches.1 h.done.touches.1 l.touches);
+          (h.done.touches.1 ∙ ap (λ (x : List Touch). h.done.touches.0 ++ Called (extent_met h.had done) (extent_left h.has done) ∷ x)
+          (copy_touches cell n v image (Called (extent_met c.was take) (extent_left c.now take)) c.before.view c.copying.view h.answering.view c.take.touches.0 c.copy.touches.0 l.newer l.between c.take.touches.1 c.copy.touches.1 l.touches));
     }

@@ -7,7 +7,7 @@ use Rattle.hl_words.specs.declared.view.Touch.{Touch}
 use Rattle.hl_words.specs.declared.view.Touch.TheVariants.{Loaded, Called}
 use Rattle.hl_words.specs.declared.view.RiderView.{RiderView}
 use Rattle.hl_words.specs.States.{RiderState, with_view, extent_met, extent_left}
-use Rattle.hl_words.specs.Views.{loaded}
+use Rattle.hl_words.specs.Views.{loaded, touched}
 use Rattle.hl_keeper.specs.Pages.{loaded_all}
 use Rattle.hl_domain.specs.Domains.{with_entry}
 use Rattle.hl_images.specs.Later.{IsLater}
@@ -72,6 +72,9 @@ still old mid new a b = record {
   calls = b.calls ∙ ap (λ (l : List Entry). b.more ++ l) a.calls ∙ sym (append_assoc b.more a.more old.calls);
 }
 
+pub touch : (t : Touch) (r : RiderState) → IsLater r (with_view (touched t r.view) r)
+touch t r = record { name = refl; touches = (t ∷ [], refl); more = []; calls = refl }
+
 pub loads : (cell : ℕ) (words : List ℕ) (r : RiderState) → IsLater r (with_view (loaded_all cell words r.view) r)
 loads cell words r =
     let h = has_loads cell words r.view in
@@ -86,7 +89,7 @@ pub later_states : LaterStates
 later_states = record {
   same = same;
   still = still;
-  touch = λ t r. record { name = refl; touches = (t ∷ [], refl); more = []; calls = refl };
+  touch = touch;
   loads = loads;
   call = call;
 }

@@ -1,3 +1,4 @@
 pub mod LaterLaws
 pub mod ImageLaws
 pub mod CopyLaws
+pub mod PairLaws

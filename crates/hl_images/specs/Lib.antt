@@ -1,3 +1,4 @@
 pub mod Later
 pub mod Images
 pub mod Flushes
+pub mod Pairs

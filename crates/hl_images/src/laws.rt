@@ -1,5 +1,6 @@
 //! What follows from a page's flush and from a domain's ending: each law the contract of a function that does nothing.
 ghost use Rattle.hl_images.specs.Flushes.{LaterStates, CopiedStays, FlushedStays, FlushedIsImaged};
+ghost use Rattle.hl_images.specs.Pairs.{FlushedByTwoStays, FlushedByTwoIsImaged};
 
 use hl_action::Task;
 
@@ -21,4 +22,14 @@ pub fn flushed_stays()
 /// What a rider of a domain flushed is an image of the page at the domain's end.
 pub fn flushed_is_imaged<F: Task>()
     ensures { FlushedIsImaged F }
+{}
+
+/// What two riders flushed, they have flushed whatever they do more.
+pub fn flushed_by_two_stays()
+    ensures { FlushedByTwoStays }
+{}
+
+/// What two riders of a domain flushed is an image of the page at the domain's end.
+pub fn flushed_by_two_is_imaged<F: Task>()
+    ensures { FlushedByTwoIsImaged F }
 {}

@@ -11,10 +11,13 @@
 //! - **one rider** takes it, copies it and answers it ([`copy_next`], [`answer_copy`]): then its own calls stand round its
 //!   copy. What is known of it is `HasFlushed`, of this rider alone, and stays whatever the rider does more, so that a type
 //!   can keep it;
-//! - **two riders**: one takes the page and answers it, the other copies it, and each is told the other's past.
+//! - **two riders**: one takes the page ([`take_for_copier`]) and answers it ([`answer_for_copier`]), the other copies it
+//!   between ([`copy_for_flusher`]), and each is told the other's past. What is known is `HaveFlushed`, of the two.
 #![tactic(auto)]
 
 mod copying;
 pub mod laws;
+mod pair;
 
 pub use copying::{answer_copy, copy_next};
+pub use pair::{answer_for_copier, copy_for_flusher, take_for_copier};
