@@ -2,3 +2,5 @@ pub mod Later
 pub mod Images
 pub mod Flushes
 pub mod Pairs
+pub mod ImageWords
+pub mod Sealed

@@ -1,6 +1,8 @@
 //! What follows from a page's flush and from a domain's ending: each law the contract of a function that does nothing.
 ghost use Rattle.hl_images.specs.Flushes.{LaterStates, CopiedStays, FlushedStays, FlushedIsImaged};
+ghost use Rattle.hl_images.specs.ImageWords.{ImagesHoldWords};
 ghost use Rattle.hl_images.specs.Pairs.{FlushedByTwoStays, FlushedByTwoIsImaged};
+ghost use Rattle.hl_images.specs.Sealed.{PendingStaysAbove, LaterStaysAbove};
 
 use hl_action::Task;
 
@@ -32,4 +34,19 @@ pub fn flushed_by_two_stays()
 /// What two riders of a domain flushed is an image of the page at the domain's end.
 pub fn flushed_by_two_is_imaged<F: Task>()
     ensures { FlushedByTwoIsImaged F }
+{}
+
+/// A word of an image is that of the one list, where one rider alone writes at its address and stores into its cell.
+pub fn images_hold_words()
+    ensures { ImagesHoldWords }
+{}
+
+/// No touch that has not entered writes in a sealed page, if its slot has the view that its pass holds.
+pub fn pending_stays_above()
+    ensures { PendingStaysAbove }
+{}
+
+/// No write that is accepted once a page is sealed lies in it.
+pub fn later_stays_above()
+    ensures { LaterStaysAbove }
 {}
