@@ -4,3 +4,7 @@ pub mod CopyLaws
 pub mod PairLaws
 pub mod SealedLaws
 pub mod WordLaws
+pub mod PlaceLaws
+pub mod WalkLaws
+pub mod WriterLaws
+pub mod AcceptedLaws

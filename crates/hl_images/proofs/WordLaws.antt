@@ -46,7 +46,7 @@ module _ {X : Type 0} where
   in_middle (y ∷ xs) ys zs zero x e le less = absurd (omega (arith, le))
   in_middle (y ∷ xs) ys zs (suc p) x e le less = in_middle xs ys zs p x e (omega (arith, le)) (omega (arith, less))
 
-  within : (xs : List X) (i : ℕ) (x : X) → slice_get xs i ≡ Some x → i < length xs
+  pub within : (xs : List X) (i : ℕ) (x : X) → slice_get xs i ≡ Some x → i < length xs
   within [] i x e = absurd cc
   within (y ∷ ys) zero x e = omega arith
   within (y ∷ ys) (suc i) x e = omega (arith, within ys i x e)
@@ -138,12 +138,12 @@ module _ (a w t j : ℕ) (list : List Step) (diaries : List (List Entry)) (d new
       ∙ written a t w (last_given (written_at a) 0 (call.before ++ first)) (rest ++ after) (every_append (λ (s : Step). written_at a s ≡ None) rest after newest silent)
 
 -- a rider's calls and its view at its place
-calls_at : (riders : List RiderState) (i : ℕ) (r : RiderState) → slice_get riders i ≡ Some r → slice_get (map (λ (q : RiderState). q.calls) riders) i ≡ Some r.calls
+pub calls_at : (riders : List RiderState) (i : ℕ) (r : RiderState) → slice_get riders i ≡ Some r → slice_get (map (λ (q : RiderState). q.calls) riders) i ≡ Some r.calls
 calls_at [] i r e = absurd cc
 calls_at (x ∷ xs) zero r e = let is : x ≡ r = cc e in ap (λ (q : RiderState). Some q.calls) is
 calls_at (x ∷ xs) (suc i) r e = calls_at xs i r e
 
-view_at : (riders : List RiderState) (i : ℕ) (r : RiderState) → slice_get riders i ≡ Some r → slice_get (map (λ (q : RiderState). q.view) riders) i ≡ Some r.view
+pub view_at : (riders : List RiderState) (i : ℕ) (r : RiderState) → slice_get riders i ≡ Some r → slice_get (map (λ (q : RiderState). q.view) riders) i ≡ Some r.view
 view_at [] i r e = absurd cc
 view_at (x ∷ xs) zero r e = let is : x ≡ r = cc e in ap (λ (q : RiderState). Some q.view) is
 view_at (x ∷ xs) (suc i) r e = view_at xs i r e

@@ -4,3 +4,5 @@ pub mod Flushes
 pub mod Pairs
 pub mod ImageWords
 pub mod Sealed
+pub mod Entered
+pub mod Accepted

@@ -1,4 +1,5 @@
 //! What follows from a page's flush and from a domain's ending: each law the contract of a function that does nothing.
+ghost use Rattle.hl_images.specs.Accepted.{ImagesAreWords};
 ghost use Rattle.hl_images.specs.Flushes.{LaterStates, CopiedStays, FlushedStays, FlushedIsImaged};
 ghost use Rattle.hl_images.specs.ImageWords.{ImagesHoldWords};
 ghost use Rattle.hl_images.specs.Pairs.{FlushedByTwoStays, FlushedByTwoIsImaged};
@@ -36,7 +37,8 @@ pub fn flushed_by_two_is_imaged<F: Task>()
     ensures { FlushedByTwoIsImaged F }
 {}
 
-/// A word of an image is that of the one list, where one rider alone writes at its address and stores into its cell.
+/// A word of an image is that of the one list, where one rider alone writes at its address and stores into its cell, as the
+/// lists of all riders tell.
 pub fn images_hold_words()
     ensures { ImagesHoldWords }
 {}
@@ -49,4 +51,10 @@ pub fn pending_stays_above()
 /// No write that is accepted once a page is sealed lies in it.
 pub fn later_stays_above()
     ensures { LaterStaysAbove }
+{}
+
+/// A word of an image is that of the one list, where one rider alone wrote at its address, and each store of any rider is a
+/// write that its calls entered, or a 0 of its sweeps.
+pub fn images_are_words<F: Task>()
+    ensures { ImagesAreWords F }
 {}
