@@ -18,6 +18,7 @@ use Rattle.hl_words.specs.declared.view.Touch.TheVariants.{Called}
 use Rattle.hl_words.specs.States.{RiderState, AreTied}
 use Rattle.hl_words.proofs.Cut.{every_at, every_back, every_append, every_weaker}
 use Rattle.hl_keeper.specs.Pages.{first_cell}
+use Rattle.hl_keeper.specs.Touches.{is_call}
 use Rattle.hl_laws.proofs.BoundLaws.{safe_read_only-append, tail-append}
 use Rattle.hl_laws.proofs.LawProofs.{accepted_meets_no_fault}
 use Rattle.hl_laws.proofs.NoFaultLaws.{write-none}
@@ -25,7 +26,7 @@ use Rattle.hl_laws.proofs.PageFacts.{ends_below}
 use Rattle.hl_laws.proofs.WordLaws.{seen_tail-le}
 use Rattle.hl_laws.proofs.WorkLaws.{next_page-parts, is_flushed-push}
 use Rattle.hl_images.specs.Accepted.{ImagesAreWords}
-use Rattle.hl_images.specs.Entered.{is_touch, is_passed, IsOneCall, newest_writes, AreEntered, StoresEnter}
+use Rattle.hl_images.specs.Entered.{is_touch, IsOneCall, newest_writes, AreEntered, StoresEnter}
 use Rattle.hl_images.specs.ImageWords.{CallsWriteNothing, IsNewestWrite, IsNoWriter}
 use Rattle.hl_images.proofs.PlaceLaws.{every_in, place_cases, same_end, begun, both, shorter, flushed_more, frees_before}
 use Rattle.hl_images.proofs.SealedLaws.{later_stays_above}
@@ -130,7 +131,7 @@ module _ (sizes : Sizes) (whole : List Step) (page_some : 0 < sizes.page_size) (
               (λ (h : (f ≡ c.0) × (FlushTake ≡ c.1)).
               ⊎_elim
               (λ (none : c.0 ≡ []). absurd (omega (arith, far, ap length (h.0 ∙ none))))
-              (λ (passed : is_passed c.1 ≡ true). let test : false ≡ true = ap is_passed h.1 ∙ passed in absurd (cc test))
+              (λ (passed : is_call c.1 ≡ true). let test : false ≡ true = ap is_call h.1 ∙ passed in absurd (cc test))
               c.4)
               (place_cases f FlushTake r c.0 c.1 (sym at ∙ c.2))
 

@@ -2,7 +2,7 @@
 use Rattle.std.specs.Prelude.{ℕ, ◌≡◌, ◌<◌, ◌≤◌, ◌+◌, ◌⊎◌, Bool, true, false, Option, Some, None, List, [], ◌∷◌, ◌++◌}
 use Rattle.std.specs.List.{AllByRecursion}
 use Rattle.hl_model.specs.declared.step.Step.{Step}
-use Rattle.hl_model.specs.declared.step.Step.TheVariants.{Refresh, Release, Allocate, Look, Write, CleanTake, CleanDone}
+use Rattle.hl_model.specs.declared.step.Step.TheVariants.{Look, Write, CleanTake, CleanDone}
 use Rattle.hl_model.specs.Offsets.{tail}
 use Rattle.hl_model.specs.Pages.{next_to_clean, is_freed}
 use Rattle.hl_model.specs.Settled.{safe_read_only}
@@ -14,6 +14,7 @@ use Rattle.hl_words.specs.declared.view.Touch.TheVariants.{Stored, Loaded, Chang
 use Rattle.hl_words.specs.States.{RiderState}
 use Rattle.hl_keeper.specs.Passes.{cell_at}
 use Rattle.hl_keeper.specs.Pages.{first_cell}
+use Rattle.hl_keeper.specs.Touches.{is_call}
 
 -- a step that a pass makes without the lock
 abbrev pub is_touch : Step → Bool
@@ -21,18 +22,11 @@ is_touch (Look t read_only head) = true
 is_touch (Write t a v) = true
 is_touch _ = false
 
--- a step of a pass, made under the lock
-abbrev pub is_passed : Step → Bool
-is_passed (Refresh t) = true
-is_passed (Release t) = true
-is_passed (Allocate t n) = true
-is_passed _ = false
-
 -- the steps of one call: none, or one; or the touches of a pass and a step of it behind them
 abbrev pub IsOneCall : List Step → Type 0
 IsOneCall steps = (steps ≡ [])
     ⊎ ((touches : List Step) × (s : Step) × (steps ≡ touches ++ s ∷ [])
-    × AllByRecursion (λ t. is_touch t ≡ true) touches × ((touches ≡ []) ⊎ (is_passed s ≡ true)))
+    × AllByRecursion (λ t. is_touch t ≡ true) touches × ((touches ≡ []) ⊎ (is_call s ≡ true)))
 
 -- the writes among some steps, the newest first, and then these
 abbrev pub newest_writes : List Step → List Step → List Step
