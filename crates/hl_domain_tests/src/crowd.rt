@@ -19,13 +19,13 @@ use std::thread;
 use std::thread::Threads;
 
 /// Sizes for eight threads: the log of so many rounds is many times the four frames.
-fn crowd_seed(alloc: Global) -> Result<Seed, Fault> {
+pub(crate) fn crowd_seed(alloc: Global) -> Result<Seed, Fault> {
     let params = Params::checked(8, 4, 8, 8).ok_or(Fault::Size)?;
     Seed::make(alloc, params, 16)
 }
 
-// Two riders for each worker. The first one cuts now and then.
-fn workers_of<L: Realm>(alloc: Global, mut riders: Vec<Rider<L>>) -> Result<Vec<Worker<L>>, Fail> {
+/// Two riders for each worker. The first one cuts now and then.
+pub(crate) fn workers_of<L: Realm>(alloc: Global, mut riders: Vec<Rider<L>>) -> Result<Vec<Worker<L>>, Fail> {
     let mut workers = Vec::new(alloc);
     for slot in 0..8 {
         workers.push(worker_of(slot, &mut riders)?)?;
@@ -46,10 +46,12 @@ fn worker_of<L: Realm>(slot: u64, riders: &mut Vec<Rider<L>>) -> Result<Worker<L
         fault: None,
         cuts: slot == 0,
         cut: 0,
+        images: None,
     })
 }
 
-fn work_all<R, E, L>(
+/// Each worker makes so many rounds, in a thread of its own.
+pub(crate) fn work_all<R, E, L>(
     rt: &R,
     domain: &Pages<E, L>,
     workers: Vec<Worker<L>>,
@@ -168,8 +170,8 @@ fn shares_of<L: Realm>(rt: &impl Abort, workers: &[Worker<L>]) -> u64 {
     shares
 }
 
-// All riders: each slot was released.
-fn riders_of<L: Realm>(alloc: Global, workers: Vec<Worker<L>>) -> Result<Vec<Rider<L>>, Fail> {
+/// All riders: each slot was released.
+pub(crate) fn riders_of<L: Realm>(alloc: Global, workers: Vec<Worker<L>>) -> Result<Vec<Rider<L>>, Fail> {
     let mut riders = Vec::new(alloc);
     for worker in workers {
         riders.push(worker.acquires.ok_or("the slot was released")?)?;

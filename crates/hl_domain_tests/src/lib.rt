@@ -5,6 +5,7 @@
 //! |---|---|
 //! | `examples` | worked examples as journals in text, for a keeper that stands alone and for a domain |
 //! | `crowd` | many threads on one domain, and on two |
+//! | `images` | pages that threads copy while others store, and the words of the journal |
 //! | `strangers` | what is of another domain |
 //! | `refusals` | riders that are missing |
 //! | `journals` | how many steps a journal holds |
@@ -39,6 +40,8 @@ mod ending;
 mod examples;
 #[cfg(test)]
 mod follow;
+#[cfg(test)]
+mod images;
 #[cfg(test)]
 mod jobs;
 #[cfg(test)]

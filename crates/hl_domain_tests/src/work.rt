@@ -3,6 +3,7 @@ use crate::jobs::{Anything, Asked, Pages, Tells, job, passed, released};
 use hl_domain::Pass;
 use hl_drain::Ask;
 use hl_epoch::Epochs;
+use hl_images::{answer_copy, copy_next};
 use hl_model::Fault;
 use hl_words::{Realm, Rider};
 use std::sync::Wait;
@@ -38,9 +39,16 @@ impl Sums {
     }
 }
 
+/// A page of 8 words that was flushed, and its copy.
+#[derive(Clone, Copy)]
+pub(crate) struct Image {
+    pub(crate) page: u64,
+    pub(crate) words: [u64; 8],
+}
+
 /// What a thread has between its calls: a slot, a rider that acquires it, and one for the calls of a rider;
 /// which jobs it stored, what the jobs that it ran answered, whether a load told another number than was stored,
-/// and how many steps its cuts told.
+/// how many steps its cuts told, and the images of the pages that it flushed, if it keeps them.
 #[derive(Drop)]
 pub(crate) struct Worker<L: Realm> {
     pub(crate) slot: u64,
@@ -52,6 +60,7 @@ pub(crate) struct Worker<L: Realm> {
     pub(crate) fault: Option<Fault>,
     pub(crate) cuts: bool,
     pub(crate) cut: u64,
+    pub(crate) images: Option<Vec<Image>>,
 }
 
 /// Acquires its slot, makes so many rounds, and releases it. It stops at a fault that others' calls can't have caused.
@@ -132,7 +141,10 @@ fn take_turn<R: Wait, E: Epochs + Drop, L: Realm>(
         }
         1 => forgiven(bump(rt, domain, rider, Ask::Settle)),
         2 => forgiven(domain.bare(rt, rider)),
-        3 => flush(rt, domain, rider),
+        3 => match &mut worker.images {
+            Some(images) => flush_kept(rt, domain, rider, images),
+            None => flush(rt, domain, rider),
+        },
         4 => {
             let (now, _, _) = domain.snapshot(rt);
             forgiven(domain.shift(rt, rider, now.six.flushed))
@@ -198,6 +210,33 @@ fn flush<R: Wait, E: Epochs + Drop, L: Realm>(
     };
     match domain.flush_done(rt, rider, load, true) {
         Ok(_) => Ok(()),
+        Err((fault, load)) => {
+            load.forsake();
+            Err(fault)
+        }
+    }
+}
+
+// Flushes a page of 8 words, and keeps its image.
+fn flush_kept<R: Wait, E: Epochs + Drop, L: Realm>(
+    rt: &R,
+    domain: &Pages<E, L>,
+    rider: &mut Rider<L>,
+    images: &mut Vec<Image>,
+) -> Result<(), Fault> {
+    let mut words = [0u64; 8];
+    if domain.params().page_size() != 8 {
+        return Err(Fault::Size);
+    }
+    let load = match copy_next(rt, domain, rider, &mut words) {
+        Ok(load) => load,
+        Err(fault) => return unless_others_may(fault),
+    };
+    let page = load.job().page;
+    match answer_copy(rt, domain, rider, load, true) {
+        Ok(_) => images
+            .push(Image { page, words })
+            .map_err(|_| Fault::OutOfMemory),
         Err((fault, load)) => {
             load.forsake();
             Err(fault)

@@ -8,7 +8,7 @@ use Rattle.hl_words.specs.declared.view.Touch.{Touch}
 use Rattle.hl_words.specs.declared.view.Touch.TheVariants.{Loaded, Called, Met}
 use Rattle.hl_words.specs.declared.view.RiderView.{RiderView}
 use Rattle.hl_words.specs.Rule.{TouchBy, by_rider, RisesTo, IsSerial, touches_of, AreMet, HasOneOrder}
-use Rattle.hl_words.specs.Past.{IsLoad, HasAll, HasCalls, HasNoCalls, LoadsAfterMet, LoadsAfterCalled, LoadsBetween, CallsAfterMet}
+use Rattle.hl_words.specs.Past.{IsLoad, HasAll, HasCalls, HasNoCalls, LoadsAfterMet, LoadsAfterCalled, LoadsBetween, LoadsBetweenOwn, CallsAfterMet}
 use Rattle.hl_words.proofs.CallOrder.{IsUpTo, met_all}
 use Rattle.hl_words.proofs.Cut.{every_back}
 use Rattle.hl_words.proofs.Orders.{own_more}
@@ -269,4 +269,23 @@ loads_between cells words stores riders i k c v met begun done left r f last bet
       load_at cells words riders h i c v a.1 a.0 a.2,
       told_calls cells words riders h i k met begun f ((newest ++ Called done left ∷ (middle ++ m ∷ [])) ++ more) told first oldest between earlier a.1 a.0 (by_rider i (Loaded c v)) refl atk its a.2 a.3,
       a.4,
+    )
+
+pub loads_between_own : LoadsBetweenOwn
+loads_between_own cells words stores riders i c v met begun done left r newer middle between earlier ruled ati mine =
+    let h = ruled.order in
+    let last = by_rider i (Called done left) in
+    let l = by_rider i (Loaded c v) in
+    let t = by_rider i (Called met begun) in
+    let d = cut_at i h.0 newer (Called done left) (middle ++ Loaded c v ∷ (between ++ Called met begun ∷ earlier)) (sym (h.1.each i r ati) ∙ mine) in
+    let a = cut_at i d.before middle (Loaded c v) (between ++ Called met begun ∷ earlier) d.own in
+    let b = cut_at i a.before between (Called met begun) earlier a.own in
+    let whole_a = joined d.front a.front last l d.before a.before h.0 d.whole a.whole in
+    let whole_b = joined (d.front ++ last ∷ a.front) b.front l t a.before b.before h.0 whole_a b.whole in
+    let has = after_call cells words riders h i met begun ((d.front ++ last ∷ a.front) ++ l ∷ b.front) b.before whole_b in
+    let parts : (b.front ++ t ∷ []) ++ b.before ≡ a.before = append_assoc b.front (t ∷ []) b.before ∙ sym b.whole in (
+      a.before,
+      load_at cells words riders h i c v (d.front ++ last ∷ a.front) a.before whole_a,
+      subst (HasCalls riders begun.steps) parts (calls_more riders begun.steps (b.front ++ t ∷ []) b.before has),
+      before_call cells words riders h i done left d.front d.before (a.front ++ l ∷ []) a.before d.whole (a.whole ∙ sym (append_assoc a.front (l ∷ []) a.before)),
     )

@@ -66,6 +66,17 @@ LoadsBetween = (cells : ℕ) (words : List ℕ) (stores : OffsetWords) (riders :
     → (before : List TouchBy) × IsLoad ruled.order.0 i c v before × HasCalls riders begun.steps before
     × HasNoCalls riders done.steps before
 
+-- A load of a rider that made a call before it and one after it stands between the two: it finds what riders did before
+-- calls that left fewer steps than the one, and nothing of what they did after calls that met more than the other
+abbrev pub LoadsBetweenOwn : Type 0
+LoadsBetweenOwn = (cells : ℕ) (words : List ℕ) (stores : OffsetWords) (riders : List RiderView)
+    (i c v : ℕ) (met begun done left : Extent) (r : RiderView) (newer middle between earlier : List Touch)
+    → (ruled : IsRuled cells words stores riders) → slice_get riders i ≡ Some r
+    → r.touches
+    ≡ newer ++ Called done left ∷ (middle ++ Loaded c v ∷ (between ++ Called met begun ∷ earlier))
+    → (before : List TouchBy) × IsLoad ruled.order.0 i c v before × HasCalls riders begun.steps before
+    × HasNoCalls riders done.steps before
+
 -- A call of a rider that was told what another did met all steps that the other's calls up to there left, and no fewer
 -- of them cut
 abbrev pub CallsAfterMet : Type 0

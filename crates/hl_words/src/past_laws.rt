@@ -1,7 +1,7 @@
 //! What a load finds that its rider made after a call under the master's lock, or after it was told what another did: each
 //! law the contract of a function that does nothing.
 
-ghost use Rattle.hl_words.specs.Past.{LoadsAfterMet, LoadsAfterCalled, LoadsBetween, CallsAfterMet, LoadsOfOne, LoadsOfTold, LoadsOfOneBetween, LoadsOfNewest};
+ghost use Rattle.hl_words.specs.Past.{LoadsAfterMet, LoadsAfterCalled, LoadsBetween, LoadsBetweenOwn, CallsAfterMet, LoadsOfOne, LoadsOfTold, LoadsOfOneBetween, LoadsOfNewest};
 
 /// A load after its rider was told what another did finds it, or what was stored since.
 pub fn loads_after_met()
@@ -17,6 +17,11 @@ pub fn loads_after_called()
 /// stands between the two.
 pub fn loads_between()
     ensures { LoadsBetween }
+{}
+
+/// A load of a rider that made a call before it and one after it stands between the two.
+pub fn loads_between_own()
+    ensures { LoadsBetweenOwn }
 {}
 
 /// A call of a rider that was told what another did met all steps that the other's calls up to there left. So each list

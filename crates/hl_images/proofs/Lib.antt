@@ -1,0 +1,10 @@
+pub mod LaterLaws
+pub mod ImageLaws
+pub mod CopyLaws
+pub mod PairLaws
+pub mod SealedLaws
+pub mod WordLaws
+pub mod PlaceLaws
+pub mod WalkLaws
+pub mod WriterLaws
+pub mod AcceptedLaws

@@ -1,0 +1,82 @@
+-- When each store of a rider is a write of its calls, or of those that still wait to be entered, or a 0 of a sweep.
+use Rattle.std.specs.Prelude.{ℕ, ◌≡◌, ◌<◌, ◌≤◌, ◌+◌, ◌⊎◌, Bool, true, false, Option, Some, None, List, [], ◌∷◌, ◌++◌}
+use Rattle.std.specs.List.{AllByRecursion}
+use Rattle.hl_model.specs.declared.step.Step.{Step}
+use Rattle.hl_model.specs.declared.step.Step.TheVariants.{Look, Write, CleanTake, CleanDone}
+use Rattle.hl_model.specs.Offsets.{tail}
+use Rattle.hl_model.specs.Pages.{next_to_clean, is_freed}
+use Rattle.hl_model.specs.Settled.{safe_read_only}
+use Rattle.hl_model.specs.Sizes.{Sizes}
+use Rattle.hl_history.specs.declared.view.Entry.{Entry}
+use Rattle.hl_history.specs.Lists.{entry, left_by}
+use Rattle.hl_words.specs.declared.view.Touch.{Touch}
+use Rattle.hl_words.specs.declared.view.Touch.TheVariants.{Stored, Loaded, Changed, Called, Looked, Met}
+use Rattle.hl_words.specs.States.{RiderState}
+use Rattle.hl_keeper.specs.Passes.{cell_at}
+use Rattle.hl_keeper.specs.Pages.{first_cell}
+use Rattle.hl_keeper.specs.Touches.{is_call}
+
+-- a step that a pass makes without the lock
+abbrev pub is_touch : Step → Bool
+is_touch (Look t read_only head) = true
+is_touch (Write t a v) = true
+is_touch _ = false
+
+-- the steps of one call: none, or one; or the touches of a pass and a step of it behind them
+abbrev pub IsOneCall : List Step → Type 0
+IsOneCall steps = (steps ≡ [])
+    ⊎ ((touches : List Step) × (s : Step) × (steps ≡ touches ++ s ∷ [])
+    × AllByRecursion (λ t. is_touch t ≡ true) touches × ((touches ≡ []) ⊎ (is_call s ≡ true)))
+
+-- the writes among some steps, the newest first, and then these
+abbrev pub newest_writes : List Step → List Step → List Step
+newest_writes [] older = older
+newest_writes (Write t a v ∷ steps) older = newest_writes steps (Write t a v ∷ older)
+newest_writes (_ ∷ steps) older = newest_writes steps older
+
+-- the page whose sweep a call ended; where it entered nothing, that of before
+abbrev pub swept_by : List Step → Option ℕ → Option ℕ
+swept_by [] swept = swept
+swept_by (CleanDone p ∷ []) swept = Some p
+swept_by _ swept = None
+
+-- the store of the value into the cell is this write; the newest call so far left a list whose tail is above its address
+abbrev pub IsWriteOf : Sizes → ℕ → ℕ → List Entry → Step → Type 0
+IsWriteOf sizes d v calls w = (t a : ℕ) × (w ≡ Write t a v) × (cell_at sizes a ≡ d)
+    × (e : Entry) × (older : List Entry) × (calls ≡ e ∷ older) × (a < tail sizes (left_by e))
+
+-- the store of the value into the cell is of the sweep of a page, which the newest call so far took to clean
+abbrev pub IsSweepOf : Sizes → ℕ → ℕ → List Entry → Option ℕ → Type 0
+IsSweepOf sizes d v calls swept = (v ≡ 0) × (p : ℕ) × (swept ≡ Some p)
+    × (first_cell sizes p ≤ d) × (d < first_cell sizes p + sizes.page_size)
+    × (list : List Step) × (older : List Entry) × (calls ≡ entry list (CleanTake ∷ []) ∷ older)
+    × (next_to_clean sizes list ≡ Some p)
+
+-- Each of these stores is a write that a later call of these entered, or one that still waits, in their order; or it is a
+-- 0 of the sweep of a page that the rider itself took to clean, and freed by its next call that entered a step, or hasn't
+-- freed yet. All lists stand newest first
+abbrev pub AreEntered : Sizes → List Touch → List Entry → List Step → Option ℕ → Type 0
+AreEntered sizes [] calls waiting swept = waiting ≡ []
+AreEntered sizes (Stored d v ∷ before) calls waiting swept =
+    ((w : Step) × (older : List Step) × (waiting ≡ w ∷ older) × IsWriteOf sizes d v calls w
+    × AreEntered sizes before calls older swept)
+    ⊎ (IsSweepOf sizes d v calls swept × AreEntered sizes before calls waiting swept)
+AreEntered sizes (Loaded d v ∷ before) calls waiting swept = AreEntered sizes before calls waiting swept
+AreEntered sizes (Changed d found v ∷ before) calls waiting swept =
+    (w : Step) × (older : List Step) × (waiting ≡ w ∷ older) × IsWriteOf sizes d v calls w
+    × AreEntered sizes before calls older swept
+AreEntered sizes (Called met left ∷ before) [] waiting swept = ⊥
+AreEntered sizes (Called met left ∷ before) (call ∷ calls) waiting swept =
+    AreEntered sizes before calls (waiting ++ newest_writes call.steps []) (swept_by call.steps swept)
+AreEntered sizes (Looked which x ∷ before) calls waiting swept = AreEntered sizes before calls waiting swept
+AreEntered sizes (Met name count ∷ before) calls waiting swept = AreEntered sizes before calls waiting swept
+
+-- So it is with each store of a rider, where the one list is this: what still waits was of a pass that was abandoned, and
+-- lies above what is sealed; and a page that it swept and didn't free isn't free
+pub record StoresEnter (sizes : Sizes) (whole : List Step) (r : RiderState) : Type 0 where
+  pub waiting : List Step
+  pub swept : Option ℕ
+  pub entered : AreEntered sizes r.view.touches r.calls waiting swept
+  pub calls : AllByRecursion (λ e. IsOneCall e.steps) r.calls
+  pub above : AllByRecursion (λ w. (t a v : ℕ) → w ≡ Write t a v → safe_read_only whole ≤ a) waiting
+  pub unfreed : (p : ℕ) → swept ≡ Some p → is_freed sizes p whole ≡ false

@@ -1,0 +1,60 @@
+//! What follows from a page's flush and from a domain's ending: each law the contract of a function that does nothing.
+ghost use Rattle.hl_images.specs.Accepted.{ImagesAreWords};
+ghost use Rattle.hl_images.specs.Flushes.{LaterStates, CopiedStays, FlushedStays, FlushedIsImaged};
+ghost use Rattle.hl_images.specs.ImageWords.{ImagesHoldWords};
+ghost use Rattle.hl_images.specs.Pairs.{FlushedByTwoStays, FlushedByTwoIsImaged};
+ghost use Rattle.hl_images.specs.Sealed.{PendingStaysAbove, LaterStaysAbove};
+
+use hl_action::Task;
+
+/// A rider that did more is in a later state.
+pub fn later_states()
+    ensures { LaterStates }
+{}
+
+/// What a rider copied, it has copied whatever it does more.
+pub fn copied_stays()
+    ensures { CopiedStays }
+{}
+
+/// What a rider flushed, it has flushed whatever it does more. So a type can keep it of a rider.
+pub fn flushed_stays()
+    ensures { FlushedStays }
+{}
+
+/// What a rider of a domain flushed is an image of the page at the domain's end.
+pub fn flushed_is_imaged<F: Task>()
+    ensures { FlushedIsImaged F }
+{}
+
+/// What two riders flushed, they have flushed whatever they do more.
+pub fn flushed_by_two_stays()
+    ensures { FlushedByTwoStays }
+{}
+
+/// What two riders of a domain flushed is an image of the page at the domain's end.
+pub fn flushed_by_two_is_imaged<F: Task>()
+    ensures { FlushedByTwoIsImaged F }
+{}
+
+/// A word of an image is that of the one list, where one rider alone writes at its address and stores into its cell, as the
+/// lists of all riders tell.
+pub fn images_hold_words()
+    ensures { ImagesHoldWords }
+{}
+
+/// No touch that has not entered writes in a sealed page, if its slot has the view that its pass holds.
+pub fn pending_stays_above()
+    ensures { PendingStaysAbove }
+{}
+
+/// No write that is accepted once a page is sealed lies in it.
+pub fn later_stays_above()
+    ensures { LaterStaysAbove }
+{}
+
+/// A word of an image is that of the one list, where one rider alone wrote at its address, and each store of any rider is a
+/// write that its calls entered, or a 0 of its sweeps.
+pub fn images_are_words<F: Task>()
+    ensures { ImagesAreWords F }
+{}
