@@ -1,11 +1,6 @@
 -- What is done again and again.
-use Rattle.std.specs.Prelude.{◌-◌, ◌^◌, min}
-use Rattle.std.proofs.Common.{◌≡◌, ◌<◌, ℕ, ◌+◌, Bool, true, false, Result, Ok, Err, refl, add-one, inl, inr, arith}
-use Rattle.hl_crew.specs.Goes.{told_count, Followed, UpTo}
-
--- one more, and its count
-pub told_more : (n made next : ℕ) → made ≡ told_count n → next ≡ min (made + 1) (2 ^ 64 - 1) → next ≡ told_count (n + 1)
-told_more n made next before is = omega (arith, before, is)
+use Rattle.std.proofs.Common.{◌≡◌, ◌<◌, ℕ, ◌+◌, Bool, true, false, Result, Ok, Err, refl, add-one, inl, inr}
+use Rattle.hl_crew.specs.Goes.{Followed, UpTo}
 
 module _ {S X : Type 0} (One : ℕ → Result Bool X → S → S → Type 0) where
   -- once more

@@ -1,3 +1,4 @@
+pub mod PageLaws
 pub mod PouchLaws
 pub mod Steps
 pub mod LagLaws

@@ -7,8 +7,7 @@ use Rattle.hl_domain.specs.Domains.{DomainState}
 use Rattle.hl_crew.specs.declared.orders.Cuts.{Cuts}
 use Rattle.hl_crew.specs.Cutting.{CutsJournal}
 use Rattle.hl_crew.specs.Goes.{Followed}
-use Rattle.hl_crew.specs.Lags.{makes_room}
-use Rattle.hl_crew.specs.Overs.{is_full}
+use Rattle.hl_crew.specs.Overs.{is_full, makes_room}
 use Rattle.hl_crew.specs.Tries.{TriesAgain, Tries}
 use Rattle.hl_crew.proofs.GoesLaws.{followed_more}
 use Rattle.hl_crew.proofs.OverLaws.{full_fault, room_made, full_without_room}

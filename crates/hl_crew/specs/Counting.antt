@@ -18,3 +18,15 @@ counted false c = record { written = c.written; failed = one_more c.failed; stra
 -- an acknowledgement named a page that isn't held
 abbrev pub one_stranger : Counts → Counts
 one_stranger c = record { written = c.written; failed = c.failed; strangers = one_more c.strangers }
+
+-- two counts together, which stay at the last number
+abbrev pub sum_of : ℕ → ℕ → ℕ
+sum_of m n = min (m + n) (2 ^ 64 - 1)
+
+-- what both counted
+abbrev pub counted_with : Counts → Counts → Counts
+counted_with c d = record {
+  written = sum_of c.written d.written;
+  failed = sum_of c.failed d.failed;
+  strangers = sum_of c.strangers d.strangers;
+}

@@ -1,9 +1,12 @@
 -- How a rider cuts the journal.
-use Rattle.std.specs.Prelude.{◌≡◌, ◌+◌, Bool, true, false, [], length, nat_lt}
+use Rattle.std.specs.Prelude.{◌≡◌, ◌⊎◌, ◌+◌, Bool, true, false, Result, Ok, Err, [], length, nat_lt}
 use Rattle.hl_words.specs.States.{RiderState}
 use Rattle.hl_domain.specs.Domains.{DomainState, LeavesUnderLock, no_step}
+use Rattle.hl_crew.specs.declared.messages.Over.{Over}
+use Rattle.hl_crew.specs.declared.messages.Over.TheVariants.{Full}
 use Rattle.hl_crew.specs.declared.orders.Cuts.{Cuts}
 use Rattle.hl_crew.specs.declared.orders.Cuts.TheVariants.{Never, EachTurn, Above}
+use Rattle.hl_crew.specs.Overs.{makes_room}
 
 module _ (F : Type 0) (domain : DomainState) where
   -- the journal was cut by a rider
@@ -27,3 +30,10 @@ module _ (F : Type 0) (domain : DomainState) where
       × LeavesUnderLock F domain (no_step old mid)
       (λ before after. (after ≡ before) × (is_cut ≡ nat_lt steps (length before.journal)))
       × MakesRoom is_cut mid new
+
+  -- something ended so; or it failed since the journal was full, the orders make room, and the journal was cut,
+  -- which counts as something done
+  abbrev pub OrCuts : Cuts → Result Bool Over → Result Bool Over → RiderState → RiderState → Type 0
+  OrCuts cuts done result old new =
+      ((result ≡ done) × (new ≡ old) × (done ≡ Err Full → makes_room cuts ≡ false))
+      ⊎ ((done ≡ Err Full) × (makes_room cuts ≡ true) × (result ≡ Ok true) × CutsJournal old new)

@@ -1,9 +1,5 @@
 -- What is done again and again, up to so many times or until it ends.
-use Rattle.std.specs.Prelude.{◌≡◌, ◌<◌, ◌-◌, ◌^◌, min, ℕ, zero, suc, Bool, true, false, ◌⊎◌, Result, Ok, Err}
-
--- the count of what was done so often: it stays at the last number
-abbrev pub told_count : ℕ → ℕ
-told_count n = min n (2 ^ 64 - 1)
+use Rattle.std.specs.Prelude.{◌≡◌, ◌<◌, ℕ, zero, suc, Bool, true, false, ◌⊎◌, Result, Ok, Err}
 
 module _ {S X : Type 0} (One : ℕ → Result Bool X → S → S → Type 0) where
   -- it was done so many times, and each time another may follow

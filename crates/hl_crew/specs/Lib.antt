@@ -6,7 +6,9 @@ pub mod Lags
 pub mod Looks
 pub mod Ordered
 pub mod Overs
+pub mod Pages
 pub mod Pouches
+pub mod Rounds
 pub mod Runs
 pub mod Sweeps
 pub mod Tries

@@ -1,36 +1,15 @@
--- A cleaner's looks, one after another.
-use Rattle.std.specs.Prelude.{◌≡◌, ℕ, Bool, false, Result, Ok, Err}
-use Rattle.hl_words.specs.States.{RiderState}
-use Rattle.hl_domain.specs.Domains.{DomainState}
+-- Looks for pages, one after another.
+use Rattle.std.specs.Prelude.{ℕ, Bool, true, false, not, Result, Ok, Err}
 use Rattle.hl_crew.specs.declared.messages.Over.{Over}
-use Rattle.hl_crew.specs.declared.orders.Cuts.{Cuts}
-use Rattle.hl_crew.specs.Goes.{told_count, Followed}
-use Rattle.hl_crew.specs.Turns.{Looks}
 
--- a cleaner's rider, and whether its last look was in vain, and was begun once the flusher had ended
-pub record LookState : Type 0 where
-  pub rider : RiderState
-  pub is_last : Bool
+module _ {S : Type 0} (Finds : Result Bool Over → S → S → Type 0) where
+  -- a look for a page: the last one was in vain; or it failed
+  abbrev pub Looks : Result Bool Over → S → S → Type 0
+  Looks (Ok true) old new = Finds (Ok false) old new
+  Looks (Ok false) old new = (found : Bool) × Finds (Ok found) old new
+  Looks (Err over) old new = Finds (Err over) old new
 
--- one of these
-abbrev pub look_of : RiderState → Bool → LookState
-look_of rider is_last = record { rider = rider; is_last = is_last }
-
-module _ (F : Type 0) (domain : DomainState) (cuts : Cuts) (HasLook : ℕ → Type 0) where
-  -- a look that the term has after so many, which followed none that was the last
-  abbrev pub LooksNext : ℕ → Result Bool Over → LookState → LookState → Type 0
-  LooksNext i (Ok next) old new =
-      (old.is_last ≡ false) × HasLook (told_count i)
-      × Looks F domain cuts (Ok new.is_last) old.rider new.rider
-  LooksNext i (Err over) old new =
-      (old.is_last ≡ false) × HasLook (told_count i)
-      × Looks F domain cuts (Err over) old.rider new.rider
-
-  -- looks were made as long as the term has one, until they are over, or one of them ended them
-  abbrev pub LooksOn : (ℕ → Bool → Type 0) → Result (Unit {0}) Over → RiderState → RiderState → Type 0
-  LooksOn IsOver (Ok done) old new =
-      (count : ℕ) × (is_last : Bool) × IsOver (told_count count) is_last
-      × Followed LooksNext count (look_of old false) (look_of new is_last)
-  LooksOn IsOver (Err over) old new =
-      (count : ℕ) × (last : LookState) × Followed LooksNext count (look_of old false) last
-      × LooksNext count (Err over) last (look_of new last.is_last)
+  -- another look may follow one that wasn't the last
+  abbrev pub LooksNext : ℕ → Result Bool Over → S → S → Type 0
+  LooksNext i (Ok next) old new = Looks (Ok (not next)) old new
+  LooksNext i (Err over) old new = Looks (Err over) old new

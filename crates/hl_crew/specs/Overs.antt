@@ -4,6 +4,8 @@ use Rattle.hl_model.specs.declared.fault.Fault.{Fault}
 use Rattle.hl_model.specs.declared.fault.Fault.TheVariants.{Empty, JournalFull, NotReady}
 use Rattle.hl_crew.specs.declared.messages.Over.{Over}
 use Rattle.hl_crew.specs.declared.messages.Over.TheVariants.{Full, Lost}
+use Rattle.hl_crew.specs.declared.orders.Cuts.{Cuts}
+use Rattle.hl_crew.specs.declared.orders.Cuts.TheVariants.{Above}
 
 -- what a refused call of the domain means for the turns
 abbrev pub over_of : Fault → Over
@@ -25,3 +27,8 @@ abbrev pub is_none_ready : Fault → Bool
 is_none_ready Empty = true
 is_none_ready (NotReady front safe) = true
 is_none_ready _ = false
+
+-- whether a full journal is cut, so that turns go on
+abbrev pub makes_room : Cuts → Bool
+makes_room (Above steps) = true
+makes_room _ = false

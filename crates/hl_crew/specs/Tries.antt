@@ -16,8 +16,7 @@ use Rattle.hl_crew.specs.declared.messages.Over.{Over}
 use Rattle.hl_crew.specs.declared.orders.Cuts.{Cuts}
 use Rattle.hl_crew.specs.Cutting.{CutsJournal}
 use Rattle.hl_crew.specs.Goes.{Followed}
-use Rattle.hl_crew.specs.Lags.{makes_room}
-use Rattle.hl_crew.specs.Overs.{over_if_refused}
+use Rattle.hl_crew.specs.Overs.{over_if_refused, makes_room}
 
 module _ (F : Type 0) (domain : DomainState) where
   -- a step that ends something of this origin was answered so

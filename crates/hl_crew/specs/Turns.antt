@@ -11,10 +11,9 @@ use Rattle.hl_domain.specs.Domains.{DomainState, call_of, answered, LeavesUnderL
 use Rattle.hl_keeper.specs.Pages.{BroomRecord, to_flush, to_clean, first_cell, zeroed}
 use Rattle.hl_keeper.specs.Taking.{taken_from, ready_told}
 use Rattle.hl_crew.specs.declared.messages.Over.{Over}
-use Rattle.hl_crew.specs.declared.messages.Over.TheVariants.{Full, Lost}
+use Rattle.hl_crew.specs.declared.messages.Over.TheVariants.{Lost}
 use Rattle.hl_crew.specs.declared.orders.Cuts.{Cuts}
-use Rattle.hl_crew.specs.Cutting.{CutsJournal}
-use Rattle.hl_crew.specs.Lags.{makes_room}
+use Rattle.hl_crew.specs.Cutting.{OrCuts}
 use Rattle.hl_crew.specs.Overs.{over_of, is_none_ready}
 use Rattle.hl_crew.specs.Pouches.{Puts}
 use Rattle.hl_crew.specs.Tries.{EndsAction, EndsClean, TriesFor}
@@ -138,19 +137,8 @@ module _ (F : Type 0) (domain : DomainState) (cuts : Cuts) where
   Cleans (Ok false) old new = Brooms F domain (Err NoneClosed) old new
   Cleans (Err over) old new = FailsClean over old new
 
-  -- a page was cleaned, or the journal was cut after that had failed since it was full; or none is closed; or
-  -- that failed for another reason, or the orders make no room
+  -- the same; or in place of it the journal was cut
   abbrev pub Finds : Result Bool Over → RiderState → RiderState → Type 0
-  Finds (Ok true) old new =
-      CleansOne old new
-      ⊎ ((mid : RiderState) × FailsClean Full old mid × (makes_room cuts ≡ true)
-      × CutsJournal F domain mid new)
-  Finds (Ok false) old new = Brooms F domain (Err NoneClosed) old new
-  Finds (Err over) old new =
-      FailsClean over old new × (over ≡ Full → makes_room cuts ≡ false)
-
-  -- a look for a closed page: the last one was in vain; or it failed
-  abbrev pub Looks : Result Bool Over → RiderState → RiderState → Type 0
-  Looks (Ok true) old new = Finds (Ok false) old new
-  Looks (Ok false) old new = (found : Bool) × Finds (Ok found) old new
-  Looks (Err over) old new = Finds (Err over) old new
+  Finds result old new =
+      (done : Result Bool Over) × (mid : RiderState) × Cleans done old mid
+      × OrCuts F domain cuts done result mid new

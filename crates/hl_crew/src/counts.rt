@@ -1,5 +1,5 @@
 ghost use Rattle.std.specs.Prelude.{◌≡◌};
-ghost use Rattle.hl_crew.specs.Counting.{nothing, counted, one_stranger};
+ghost use Rattle.hl_crew.specs.Counting.{nothing, counted, one_stranger, counted_with};
 
 /// How many flushes were answered as ended well, and how many not; and how many acknowledgements named a page that
 /// wasn't in the pouch.
@@ -38,5 +38,16 @@ impl Counts {
         ensures { self.new ≡ one_stranger self.old }
     {
         self.strangers = self.strangers.saturating_add(1);
+    }
+
+    /// What both counted.
+    pub(crate) fn with(self, other: Counts) -> Counts
+        ensures { result ≡ counted_with self other }
+    {
+        Counts {
+            written: self.written.saturating_add(other.written),
+            failed: self.failed.saturating_add(other.failed),
+            strangers: self.strangers.saturating_add(other.strangers),
+        }
     }
 }

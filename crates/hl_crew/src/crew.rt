@@ -1,7 +1,7 @@
 ghost use Rattle.std.specs.Prelude.{◌≡◌, IfOk, IfErr};
 ghost use Rattle.hl_crew.specs.Lags.{IsLag};
 ghost use Rattle.hl_crew.specs.Ordered.{duty_orders, run_orders};
-ghost use Rattle.hl_crew.specs.Sweeps.{StoreToClean, riders_in};
+ghost use Rattle.hl_crew.specs.Sweeps.{StoreToClean};
 ghost use Rattle.hl_model.specs.declared.fault.Fault.TheVariants.{OutOfMemory};
 
 use crate::duty::Duty;
@@ -10,17 +10,18 @@ use crate::given::Given;
 use crate::hands::{CrewEnd, Hands};
 use crate::messages::Channels;
 use crate::orders::Orders;
+use crate::rounds::Rounds;
 use crate::seats::Seats;
 use crate::shared::Shared;
 use crate::stop::Stop;
-use crate::term::{Term, Turns};
+use crate::term::Term;
 use crate::threads::run_threads;
 use crate::writer::Buffers;
 use hl_action::{Promise, Task};
 use hl_domain::Domain;
 use hl_epoch::Epochs;
 use hl_image::PageWriter;
-use hl_model::{Fault, Sizes};
+use hl_model::Fault;
 use hl_words::{Realm, Rider};
 use std::alloc::Global;
 use std::marker::Brand;
@@ -69,9 +70,9 @@ where
     ensures err { IfErr result (λ back. back.0 ≡ OutOfMemory) }
 {
     let orders = Orders::of_run(mutable, resident, cut);
-    let term = Turns { most: turns };
-    let hands = Hands::of(riders, first, second);
-    run_until::<R, E, F, P, L, W, G, Turns, Brand>(rt, alloc, domain, hands, gate, orders, &term)
+    let term = Term::Turns(turns);
+    let pages = (first, second);
+    run_until::<R, E, F, P, L, W, G, Brand>(rt, alloc, domain, riders, pages, gate, orders, term)
 }
 
 /// Runs a crew on a domain, as [`run_crew`] does, until its stop is given: it sleeps while there is
@@ -109,20 +110,22 @@ where
         × IfErr result (λ back. StoreToClean back.1)) }
     ensures err { IfErr result (λ back. back.0 ≡ OutOfMemory) }
 {
-    let hands = Hands::of(riders, first, second);
     let orders = Orders::of(duty);
-    run_until::<R, E, F, P, L, W, G, Stop, Brand>(rt, alloc, domain, hands, gate, orders, stop)
+    let term = Term::Until(stop);
+    let pages = (first, second);
+    run_until::<R, E, F, P, L, W, G, Brand>(rt, alloc, domain, riders, pages, gate, orders, term)
 }
 
-// Runs a crew by these orders, as long as its term says.
-fn run_until<R, E, F, P, L, W, G, T, K>(
+// Runs a crew by these orders, as long as its term says. One that serves then makes its last turns.
+fn run_until<R, E, F, P, L, W, G, K>(
     rt: &R,
     alloc: Global,
     domain: &Domain<E, F, P, L>,
-    hands: Hands<L, W>,
+    riders: [Rider<L>; 4],
+    pages: (W, W),
     gate: &G,
     orders: Orders,
-    term: &T,
+    term: Term<'_>,
 ) -> Result<CrewEnd<L, W>, (Fault, [Rider<L>; 4], W, W)>
 where
     R: Threads + Wait + Sync,
@@ -132,34 +135,46 @@ where
     L: Realm + Send + Sync,
     W: PageWriter + Send,
     G: Gate + Sync,
-    T: Term<R> + Sync,
     K: Given + Send,
     requires lag { IsLag domain.now.sizes.frames orders.mutable orders.resident }
-    requires given { K.riders ≡ riders_in hands }
+    requires given { K.riders ≡ riders }
     ensures orders { IfOk result (λ end. end.orders ≡ orders) }
     ensures stores { StoreToClean K.riders → (IfOk result (λ end. StoreToClean end.riders)
         × IfErr result (λ back. StoreToClean back.1)) }
     ensures err { IfErr result (λ back. back.0 ≡ OutOfMemory) }
 {
-    let Ok((channels, first, second)) = open_rows(alloc, domain.params()) else {
-        return hands.hand_back(None);
+    let Ok((channels, buffers)) = open_rows(alloc, domain, &term) else {
+        return Err((Fault::OutOfMemory, riders, pages.0, pages.1));
     };
     let shared = Shared::of(orders, channels);
-    let seats = Seats::<L, W, K>::of(hands);
-    let whole = run_threads(rt, domain, gate, &shared, &seats, first, second, term);
-    seats.end().hand_back(whole)
+    let seats = Seats::<L, W, K>::of(Hands::of(riders, pages, buffers));
+    let whole = run_threads(rt, domain, gate, &shared, &seats, &term);
+    let rounds = Rounds {
+        rt,
+        domain,
+        gate,
+        shared: &shared,
+    };
+    let mut hands = seats.end();
+    rounds.end(&mut hands, whole.is_some());
+    hands.hand_back(whole, shared.orders())
 }
 
-// All memory that a crew takes itself: the channels, and for each writer its buffers.
+// All memory that a crew takes itself: the channels, if the flusher sends the pages, and for each writer its buffers.
 //
 // `OutOfMemory` if memory was refused.
-fn open_rows(alloc: Global, params: Sizes) -> Result<(Channels, Buffers, Buffers), Fault>
-    ensures first { IfOk result (λ rows. rows.1 ≡ params.page_size) }
-    ensures second { IfOk result (λ rows. rows.2 ≡ params.page_size) }
-    ensures err { IfErr result (λ fault. fault ≡ OutOfMemory) }
+fn open_rows<E: Epochs + Drop, F: Task, P: Promise, L: Realm>(
+    alloc: Global,
+    domain: &Domain<E, F, P, L>,
+    term: &Term<'_>,
+) -> Result<(Option<Channels>, (Buffers<L>, Buffers<L>)), Fault>
+    ensures { IfErr result (λ fault. fault ≡ OutOfMemory) }
 {
-    let channels = Channels::open(alloc).map_err(|_| Fault::OutOfMemory)?;
-    let first = Buffers::open(alloc, params)?;
-    let second = Buffers::open(alloc, params)?;
-    Ok((channels, first, second))
+    let channels = match term {
+        Term::Turns(_) => Some(Channels::open(alloc).map_err(|_| Fault::OutOfMemory)?),
+        Term::Until(_) => None,
+    };
+    let first = Buffers::open(alloc, domain)?;
+    let second = Buffers::open(alloc, domain)?;
+    Ok((channels, (first, second)))
 }

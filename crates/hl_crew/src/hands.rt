@@ -1,12 +1,13 @@
-ghost use Rattle.std.specs.Prelude.{◌≡◌, [], ◌∷◌, IfOk, IfErr, IsOk, IsSome, IfSome, ◌↔◌};
-ghost use Rattle.hl_crew.specs.Counting.{nothing};
+ghost use Rattle.std.specs.Prelude.{◌≡◌, [], ◌∷◌, IfOk, IfErr, IsOk, IsSome, ◌↔◌};
+ghost use Rattle.hl_crew.specs.Counting.{nothing, counted_with};
+ghost use Rattle.hl_crew.specs.Sweeps.{riders_in};
 ghost use Rattle.hl_model.specs.declared.fault.Fault.TheVariants.{OutOfMemory};
 
 use crate::counts::Counts;
-use crate::flusher::FlusherState;
+use crate::flusher::{Asked, FlusherState};
 use crate::orders::Orders;
 use crate::whole::Whole;
-use crate::writer::WriterState;
+use crate::writer::{Buffers, WriterState};
 use hl_model::Fault;
 use hl_words::{Realm, Rider};
 
@@ -46,75 +47,83 @@ pub(crate) struct Hands<L: Realm, W> {
 
 impl<L: Realm, W> Hands<L, W> {
     /// The first rider for the flusher, the next two with a page writer each, and the last for the cleaner.
-    pub(crate) fn of(riders: [Rider<L>; 4], first: W, second: W) -> Hands<L, W>
-        ensures riders { riders ≡ result.flusher.rider ∷ result.first.rider ∷ result.second.rider
-            ∷ result.cleaner ∷ [] }
-        ensures first { result.first.pages ≡ first }
-        ensures second { result.second.pages ≡ second }
-        ensures counts { result.flusher.counts ≡ nothing }
+    pub(crate) fn of(
+        riders: [Rider<L>; 4],
+        pages: (W, W),
+        buffers: (Buffers<L>, Buffers<L>),
+    ) -> Hands<L, W>
+        ensures riders { riders ≡ riders_in result }
+        ensures first { result.first.pages ≡ pages.0 }
+        ensures second { result.second.pages ≡ pages.1 }
+        ensures counts { (result.flusher.counts ≡ nothing) × (result.first.counts ≡ nothing)
+            × (result.second.counts ≡ nothing) }
     {
         let [flushing, writing, also_writing, cleaning] = riders;
         Hands {
             flusher: FlusherState {
                 rider: flushing,
                 counts: Counts::none(),
+                asked: Asked::none(),
             },
             first: WriterState {
                 rider: writing,
-                pages: first,
+                pages: pages.0,
+                buffers: buffers.0,
+                counts: Counts::none(),
             },
             second: WriterState {
                 rider: also_writing,
-                pages: second,
+                pages: pages.1,
+                buffers: buffers.1,
+                counts: Counts::none(),
             },
             cleaner: cleaning,
         }
     }
 
-    /// What a crew hands back, each at its place: with what was counted, and what its threads ran by, if all of them
-    /// were made, else `OutOfMemory`.
+    /// What a crew hands back, each at its place: with what was counted, and what its threads ran by, these orders, if all
+    /// of them were made, else `OutOfMemory`.
     pub(crate) fn hand_back(
         self,
         whole: Option<Whole>,
+        orders: Orders,
     ) -> Result<CrewEnd<L, W>, (Fault, [Rider<L>; 4], W, W)>
         ensures whole { IsOk result ↔ IsSome whole }
-        ensures riders { IfOk result (λ end. end.riders
-            ≡ self.flusher.rider ∷ self.first.rider ∷ self.second.rider ∷ self.cleaner ∷ []) }
+        ensures riders { IfOk result (λ end. end.riders ≡ riders_in self) }
         ensures writers { IfOk result (λ end. end.writers ≡ self.first.pages ∷ self.second.pages ∷ []) }
-        ensures counts { IfOk result (λ end. (end.written ≡ self.flusher.counts.written)
-            × (end.failed ≡ self.flusher.counts.failed)
-            × (end.strangers ≡ self.flusher.counts.strangers)) }
-        ensures orders { IfOk result (λ end. IfSome whole (λ whole. end.orders ≡ whole.orders)) }
-        ensures back { IfErr result (λ back. (back.0 ≡ OutOfMemory)
-            × (back.1 ≡ self.flusher.rider ∷ self.first.rider ∷ self.second.rider ∷ self.cleaner ∷ [])
+        ensures counts { let all = counted_with (counted_with self.flusher.counts self.first.counts)
+            self.second.counts
+            in IfOk result (λ end. (end.written ≡ all.written) × (end.failed ≡ all.failed)
+            × (end.strangers ≡ all.strangers)) }
+        ensures orders { IfOk result (λ end. end.orders ≡ orders) }
+        ensures back { IfErr result (λ back. (back.0 ≡ OutOfMemory) × (back.1 ≡ riders_in self)
             × (back.2 ≡ self.first.pages) × (back.3 ≡ self.second.pages)) }
     {
         let Hands {
-            flusher: FlusherState {
-                rider: flushing,
-                counts,
-            },
-            first: WriterState {
-                rider: writing,
-                pages: first,
-            },
-            second: WriterState {
-                rider: also_writing,
-                pages: second,
-            },
+            flusher,
+            first,
+            second,
             cleaner,
         } = self;
+        let FlusherState {
+            rider: flushing,
+            counts: sent,
+            asked: _,
+        } = flusher;
+        let (writing, first, by_first) = first.into_parts();
+        let (also_writing, second, by_second) = second.into_parts();
         let riders = [flushing, writing, also_writing, cleaner];
-        let Some(whole) = whole else {
+        let all = sent.with(by_first).with(by_second);
+        if whole.is_none() {
             return Err((Fault::OutOfMemory, riders, first, second));
-        };
+        }
         Ok(CrewEnd {
             riders,
             writers: [first, second],
-            written: counts.written,
-            failed: counts.failed,
-            strangers: counts.strangers,
-            orders: whole.orders(),
+            written: all.written,
+            failed: all.failed,
+            strangers: all.strangers,
+            orders,
         })
     }
 }

@@ -5,39 +5,42 @@
 //! [`run_crew`] run four threads on a `Domain` that others may use at the same time, the one until a [`Stop`] is given,
 //! as a [`Duty`] says, the other for a number of turns:
 //!
-//! | Thread | What it does in a turn |
+//! | Thread | What it does |
 //! |---|---|
-//! | the flusher | makes the lag's steps if no action waits, runs safe actions, sends sealed pages, answers each |
-//! | two writers | copy a page's words without the lock, make its image in buffers of their own, write it |
-//! | the cleaner | sweeps a closed page without the lock, and frees its frame |
+//! | the flusher | in a turn: makes the lag's steps that it wants, runs safe actions, and cuts the journal as it is ordered |
+//! | two writers | under [`serve`]: take a sealed page, copy it without the lock, write its image, and answer it |
+//! | the cleaner | takes a closed page, sweeps it without the lock, and frees its frame |
+//!
+//! Under [`run_crew`] the flusher takes the pages, sends them to the writers, which copy and write them, and answers each.
 //!
 //! # What an acknowledgement can do
 //!
-//! The flusher and the writers talk by two channels. No clause says what a channel delivers, so
+//! Under [`run_crew`] the flusher and the writers talk by two channels. No clause says what a channel delivers, so
 //! nothing rests on it: the flusher keeps the load of each page that it sent in a [`Pouch`], and
 //! answers a flush only through it. A page whose load isn't there is refused, and neither pouch nor
-//! share changes: a clause of [`Pouch::answer`].
+//! share changes: a clause of [`Pouch::answer`]. Under [`serve`] a page has one hand, and no page goes by a channel.
 //!
 //! # When a page may be written
 //!
 //! A [`Gate`] is told which page a writer has begun with, and is asked whether it may be written; [`OpenGate`]
-//! always says yes. A writer asks at most 1,000,000 times, and then acknowledges the page as failed: it may be taken
+//! always says yes. A writer asks at most 1,000,000 times, and then the page is answered as failed: it may be taken
 //! again.
 //!
 //! # How it waits
 //!
-//! The writers wait for a page, and the flusher for an acknowledgement of each that it sent. If the
-//! cleaner finds no closed page, it sleeps until the flusher has made another turn. A flusher that
-//! serves sleeps after a turn that entered no step, or in which a write failed, until somebody
+//! Whoever looks for pages and finds none, or meets a write that failed, sleeps until the flusher has made another turn. A
+//! flusher that serves sleeps after a turn that entered no step, until a page was written or somebody
 //! calls [`Stop::ring`], and at most 5 milliseconds. Each such turn more in a row doubles that, up
-//! to 160 milliseconds.
+//! to 160 milliseconds. It makes the lag's steps whether or not other actions wait: a raise and a settle once its last
+//! settle has taken effect, a shift and a close once its last close has. A flusher that makes a number of turns makes them if
+//! no action waits or is taken, and waits for an acknowledgement of each page that it sent.
 //!
 //! # How it ends
 //!
-//! The flusher ends once its turns are over, or earlier if the journal is full, unless it serves by
-//! a duty that cuts, or if a channel fails; it then stops the writers, and the cleaner ends once no page is closed. A
-//! crew that serves makes at most 1,000 turns after its stop, up to the first that got nowhere. At
-//! the end of each turn no page that it took is in flight, and no action that it took is still
+//! The flusher ends once its turns are over or its stop is given, or earlier if the journal is full, unless it serves by
+//! a duty that cuts, or if a channel fails; the others end once they find no page. A crew that serves then makes at most 1,000
+//! rounds in the thread that called it, of a turn of the flusher and all looks of the others, up to the first in which the
+//! flusher got nowhere. At the end no page that it took is in flight, and no action that it took is still
 //! taken. What was taken and can't be answered is forsaken: such a page stays in flight or in
 //! cleaning, and such an action stays taken. Riders and page writers come back by value, even if a
 //! thread couldn't be made: each lies under a lock that its thread takes once.
@@ -49,32 +52,29 @@
 //! [`CrewEnd::orders`] tells. So is that a rider that comes back stored into cells only if a call of
 //! its own took a page to clean, where that held of all riders before: a crew that took no page to
 //! clean changed no word. Inside, of each function that does a step: what it made under the
-//! domain's lock, in what order, and what it counted. A flusher's turn keeps the lag that was
-//! ordered, by steps in their order up to the first that is refused, and ends if the journal is
-//! full; if its actions end well, it ran each that it took and answered it done, up to four; it
-//! takes sealed pages, up to four, or to the first take that finds none; it answers pages that it
-//! took in this turn, each as its acknowledgement says. If its pages were flushed well, as many
-//! acknowledgements as it sent pages were answered and counted once each, and each page that none of
-//! them named once as failed; its rider made no other call meanwhile. A turn that ended well ended by
-//! the cut that was ordered; where a part failed, the turn failed for the same reason. It got
-//! somewhere exactly if it entered a step and no write failed. A full journal is cut only if that was
-//! ordered, and what ends something is then tried again, up to a thousand times. The turns end when
-//! they are over, and the last ones follow, up to the first that got nowhere; or one of them failed,
-//! and not by a full journal that may be cut. A page reported as written was let through by the gate
-//! and copied, and its image was written; of one reported as failed nothing was written, or its
-//! write failed and was counted so; a page reported as clean was swept. A cleaner looks as long as
-//! its term says or until a look fails, and its last look was in vain. No clause says that a thread
-//! gets on, what a channel delivers, or what [`CrewEnd`] counts in all: what lies under a lock or
+//! domain's lock, in what order, and what it counted. A flusher's turn makes those of the lag's steps that it wants, in their
+//! order up to the first that is refused, and ends if the journal is
+//! full; if its actions end well, it ran each that it took and answered it done, up to four. Of a page that a writer takes
+//! itself: its rider took the page, loaded its words once the gate let it through, and answered it, and if it was answered
+//! as written, the image of exactly these words was written; if as failed, nothing was written, or the
+//! write failed and was counted so. Of pages that are sent: the flusher takes them up to four a turn, or to the first take
+//! that finds none; as many acknowledgements as it sent pages are answered and counted once each, as each says, and each page
+//! that none of them named once as failed. A turn that ended well ended by
+//! the cut that was ordered; where a part failed, the turn failed for the same reason. A full journal is cut only if that was
+//! ordered, and what ends something is then tried again, up to a thousand times. A page reported as clean was swept. Whoever
+//! looks for pages looks until a look fails, or one is in vain that was begun once the flusher had ended. No clause says that
+//! a thread gets on, what a channel delivers, or what [`CrewEnd`] counts in all: what lies under a lock or
 //! comes from a channel is known by its type alone.
 //!
 //! | Module | What it has |
 //! |---|---|
-//! | `crew`, `threads`, `whole`, `shared` | the calls; the threads; that all were made; what they share |
+//! | `crew`, `threads`, `rounds`, `whole`, `shared` | the calls; the threads; the end; that all were made; what they share |
 //! | `hands`, `seats`, `given` | what each thread has of its own; its lock; what comes back, and what of it is known |
 //! | `duty`, `stop` | what a crew that serves is told; what ends it |
 //! | `orders`, `term` | what all its threads run by; for how long |
-//! | `flusher`, and in it `lag`, `actions`, `pages`, `acknowledgements` | the flusher's turn, a part each |
-//! | `writer`, and in it `buffers` and `write`; `cleaner` | the other threads |
+//! | `flusher`, and in it `lag`, `asked`, `actions`, `pages`, `acknowledgements` | the flusher's turn, a part each |
+//! | `looks`, `ends` | how a thread looks for pages; how what was taken is ended |
+//! | `writer`, and in it `buffers`, `write` and `flush`; `cleaner` | the other threads |
 //! | `pouch` | the pages that wait for their acknowledgement |
 //! | `gate`, `messages`, `counts` | when a page may be written; what the channels carry; what is counted |
 #![tactic(auto)]
@@ -83,13 +83,16 @@ mod cleaner;
 mod counts;
 mod crew;
 mod duty;
+mod ends;
 mod flusher;
 mod gate;
 mod given;
 mod hands;
+mod looks;
 mod messages;
 mod orders;
 mod pouch;
+mod rounds;
 mod seats;
 mod shared;
 mod stop;

@@ -1,10 +1,10 @@
 ghost use Rattle.std.specs.Prelude.{◌≡◌, ◌&&◌};
-ghost use Rattle.hl_crew.specs.Cutting.{MakesRoom};
-ghost use Rattle.hl_crew.specs.Lags.{makes_room};
+ghost use Rattle.hl_crew.specs.Cutting.{MakesRoom, OrCuts};
 ghost use Rattle.hl_crew.specs.Ordered.{duty_orders, run_orders};
-ghost use Rattle.hl_crew.specs.Overs.{is_full};
+ghost use Rattle.hl_crew.specs.Overs.{is_full, makes_room};
 
 use crate::duty::Duty;
+use crate::messages::Over;
 use crate::shared::Shared;
 use hl_action::{Promise, Task};
 use hl_domain::Domain;
@@ -12,9 +12,6 @@ use hl_epoch::Epochs;
 use hl_model::Fault;
 use hl_words::{Realm, Rider};
 use std::sync::Wait;
-
-/// How often what ends something is tried again, while the journal is full and is cut.
-pub(crate) const ATTEMPTS: u64 = 1_000;
 
 /// When a crew cuts the journal.
 #[derive(Clone, Copy, Debug, PartialEq, Eq)]
@@ -107,4 +104,24 @@ pub(crate) fn make_room<R: Wait, E: Epochs + Drop, F: Task, P: Promise, L: Realm
         domain.cut(rt, rider);
     }
     is_cut
+}
+
+/// How something ended. If it failed because the journal is full, and the orders make room, the journal is cut, and that
+/// counts as something done: what is left is done the next time. If the cut finds nothing, another thread has cut before.
+pub(crate) fn cut_if_full<R: Wait, E: Epochs + Drop, F: Task, P: Promise, L: Realm>(
+    rt: &R,
+    domain: &Domain<E, F, P, L>,
+    shared: &Shared,
+    rider: &mut Rider<L>,
+    done: Result<bool, Over>,
+) -> Result<bool, Over>
+    ensures { OrCuts F domain.now shared.now.orders.cuts done result rider.old rider.new }
+{
+    match done {
+        Err(Over::Full) if shared.orders().makes_room() => {
+            domain.cut(rt, rider);
+            Ok(true)
+        }
+        done => done,
+    }
 }

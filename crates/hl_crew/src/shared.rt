@@ -1,30 +1,36 @@
-ghost use Rattle.std.specs.Prelude.{◌≡◌};
+ghost use Rattle.std.specs.Prelude.{◌≡◌, is_none};
 
 use crate::messages::Channels;
 use crate::orders::Orders;
-use std::sync::atomic::AtomicBool;
+use std::sync::atomic::{AtomicBool, Ordering};
 use std::thread::Parker;
 
 /// What the threads share. The orders stand here alone: all threads run by the same.
 #[derive(Drop)]
 pub(crate) struct Shared {
     orders: Orders,
-    pub(crate) channels: Channels,
-    /// Where the cleaner sleeps.
-    pub(crate) sleeper: Parker,
+    /// Between the flusher and the writers, unless these take their pages themselves.
+    pub(crate) channels: Option<Channels>,
+    /// Where the cleaner sleeps, and where the writers do if they take their pages themselves.
+    pub(crate) cleaner: Parker,
+    pub(crate) first: Parker,
+    pub(crate) second: Parker,
     /// Whether the flusher has made its turns.
     pub(crate) has_ended: AtomicBool,
 }
 
 impl Shared {
-    /// What all run by, and the channels between them.
-    pub(crate) fn of(orders: Orders, channels: Channels) -> Shared
-        ensures { result.orders ≡ orders }
+    /// What all run by, and the channels between them, if there are some.
+    pub(crate) fn of(orders: Orders, channels: Option<Channels>) -> Shared
+        ensures orders { result.orders ≡ orders }
+        ensures channels { result.channels ≡ channels }
     {
         Shared {
             orders,
             channels,
-            sleeper: Parker::new(),
+            cleaner: Parker::new(),
+            first: Parker::new(),
+            second: Parker::new(),
             has_ended: AtomicBool::new(false),
         }
     }
@@ -34,5 +40,25 @@ impl Shared {
         ensures { result ≡ self.now.orders }
     {
         self.orders
+    }
+
+    /// Whether the crew serves: its writers take their pages themselves.
+    pub(crate) fn serves(&self) -> bool
+        ensures { result ≡ is_none self.now.channels }
+    {
+        self.channels.is_none()
+    }
+
+    /// Wakes who looks for pages: the flusher has made a turn.
+    pub(crate) fn wake(&self) {
+        self.first.unpark();
+        self.second.unpark();
+        self.cleaner.unpark();
+    }
+
+    /// The flusher makes no more turns, and whoever looks for pages ends once it finds none.
+    pub(crate) fn end(&self) {
+        self.has_ended.store(true, Ordering::SeqCst);
+        self.wake();
     }
 }

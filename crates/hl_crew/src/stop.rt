@@ -1,4 +1,3 @@
-use crate::term::Term;
 use std::sync::Wait;
 use std::sync::atomic::{AtomicBool, Ordering};
 use std::thread::Parker;
@@ -11,7 +10,7 @@ const FIRST_NAP: u64 = 5;
 const DOUBLINGS: u64 = 5;
 
 /// How many turns a crew makes at most once its stop was given.
-const LAST_TURNS: u64 = 1_000;
+pub(crate) const LAST_TURNS: u64 = 1_000;
 
 /// Ends a crew that serves, and wakes it before. Any thread may use it by reference, and neither call waits.
 #[derive(Drop)]
@@ -46,30 +45,10 @@ impl Stop {
     pub fn is_given(&self) -> bool {
         self.is_given.load(Ordering::SeqCst)
     }
-}
 
-impl<R: Wait> Term<R> for Stop {
-    ghost use Rattle.std.specs.Prelude.{◌≡◌, true};
-    ghost use Rattle.hl_crew.specs.declared.stop.TheConstants.{LAST_TURNS};
-
-    ghost most_last = { λ _. LAST_TURNS };
-
-    ghost ends_looks = { λ _ _ is_last. is_last ≡ true };
-
-    fn goes_on(&self, _made: u64) -> bool {
-        !self.is_given()
-    }
-
-    fn cleans_on(&self, _looks: u64, is_last: bool) -> bool {
-        !is_last
-    }
-
-    fn rest(&self, rt: &R, vain: u64) {
+    /// Rests after a turn that got nowhere, with `vain` such turns in a row before it.
+    pub(crate) fn rest(&self, rt: &impl Wait, vain: u64) {
         let nap = FIRST_NAP << vain.min(DOUBLINGS);
         self.sleeper.park_timeout(rt, Duration::from_millis(nap));
-    }
-
-    fn last_turns(&self) -> u64 {
-        LAST_TURNS
     }
 }

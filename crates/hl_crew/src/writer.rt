@@ -2,10 +2,13 @@ ghost use Rattle.std.specs.Prelude.{◌≡◌, true, false};
 ghost use Rattle.hl_crew.specs.Sweeps.{StoresNoMore};
 ghost use Rattle.hl_crew.specs.Writes.{IsWritten, IsNotWritten};
 
+use crate::counts::Counts;
 use crate::gate::Gate;
 use crate::given::Given;
 use crate::messages::{Acknowledgement, Channels, Message};
 use crate::seats::{HasRider, Seat};
+use crate::shared::Shared;
+use crate::stop::Stop;
 use hl_action::{Promise, Task};
 use hl_domain::{Domain, PageJob};
 use hl_epoch::Epochs;
@@ -13,8 +16,10 @@ use hl_image::PageWriter;
 use hl_words::{Realm, Rider};
 use std::sync::{Mutex, Wait};
 use std::thread;
+use std::thread::Parker;
 
 mod buffers;
+mod flush;
 mod write;
 
 pub(crate) use buffers::Buffers;
@@ -29,17 +34,37 @@ pub(crate) struct Writer<'x, R, E: Epochs, F: Task, P: Promise, L: Realm, G> {
     pub(crate) rt: &'x R,
     pub(crate) domain: &'x Domain<E, F, P, L>,
     pub(crate) gate: &'x G,
-    pub(crate) channels: &'x Channels,
+    pub(crate) shared: &'x Shared,
+    /// What it rings when it has written a page that it took itself.
+    pub(crate) bell: Option<&'x Stop>,
 }
 
 /// What a writer has of its own.
 pub(crate) struct WriterState<L: Realm, W> {
     pub(crate) rider: Rider<L>,
     pub(crate) pages: W,
+    pub(crate) buffers: Buffers<L>,
+    /// The flushes of the pages that it took itself.
+    pub(crate) counts: Counts,
 }
 
 impl<L: Realm, W> HasRider for WriterState<L, W> {
     ghost rider_of = { λ own. own.rider };
+}
+
+impl<L: Realm, W> WriterState<L, W> {
+    /// Its rider, its page writer, and what it counted.
+    pub(crate) fn into_parts(self) -> (Rider<L>, W, Counts)
+        ensures { result ≡ (self.rider, self.pages, self.counts) }
+    {
+        let WriterState {
+            rider,
+            pages,
+            buffers: _,
+            counts,
+        } = self;
+        (rider, pages, counts)
+    }
 }
 
 impl<R, E, F, P, L, G> Writer<'_, R, E, F, P, L, G>
@@ -51,43 +76,50 @@ where
     L: Realm,
     G: Gate,
 {
-    /// Writes the pages that are sent, and acknowledges each, until it is told to stop or a channel fails.
+    /// Writes the pages that are sent; or takes pages itself, and sleeps here while there is none.
     pub(crate) fn run<W: PageWriter, K: Given>(
         &self,
         own: &Mutex<Seat<WriterState<L, W>, K>>,
-        mut buffers: Buffers,
-    )
-        requires { buffers ≡ self.now.domain.now.sizes.page_size }
-    {
+        sleeper: &Parker,
+    ) {
         let mut seat = own.lock(self.rt);
-        self.write_on(&mut seat.own, &mut buffers);
+        self.work(&mut seat.own, sleeper);
     }
 
-    // Writes page after page, and acknowledges each. Its rider stores nothing.
-    fn write_on<W: PageWriter>(&self, own: &mut WriterState<L, W>, buffers: &mut Buffers)
-        requires { buffers.old ≡ self.now.domain.now.sizes.page_size }
+    // The same with what it has at hand. Its rider stores nothing.
+    fn work<W: PageWriter>(&self, own: &mut WriterState<L, W>, sleeper: &Parker)
+        ensures { StoresNoMore own.old.rider own.new.rider }
+    {
+        match &self.shared.channels {
+            Some(channels) => self.write_on(own, channels),
+            None => {
+                let _ = self.flush_all(own, sleeper);
+            }
+        }
+    }
+
+    // Writes page after page, and acknowledges each, until it is told to stop or a channel fails.
+    fn write_on<W: PageWriter>(&self, own: &mut WriterState<L, W>, channels: &Channels)
         ensures { StoresNoMore own.old.rider own.new.rider }
     {
         for _ in self.rt.forever() {
-            let Ok(Message::Write(job)) = self.channels.jobs_sent.recv(self.rt) else {
+            let Ok(Message::Write(job)) = channels.jobs_sent.recv(self.rt) else {
                 return;
             };
-            let told = self.acknowledge(own, buffers, job);
-            if self.channels.acknowledgements.send(self.rt, told).is_err() {
+            let told = self.acknowledge(own, job);
+            if channels.acknowledgements.send(self.rt, told).is_err() {
                 return;
             }
         }
     }
 
-    // Writes a page once the gate lets it; returns what the flusher is to be told of it.
+    // Writes a page once the gate lets it; returns what is to be told of it.
     fn acknowledge<W: PageWriter>(
         &self,
         own: &mut WriterState<L, W>,
-        buffers: &mut Buffers,
         job: PageJob,
     ) -> Acknowledgement
-        requires { buffers.old ≡ self.now.domain.now.sizes.page_size }
-        ensures buffers { buffers.new ≡ buffers.old }
+        ensures counts { own.new.counts ≡ own.old.counts }
         ensures page { result.page ≡ job.page }
         ensures gate { result.ok ≡ true → G.lets self.now.gate.now job.page }
         ensures written { let sizes = self.now.domain.now.sizes
@@ -100,7 +132,7 @@ where
         if !self.may_write(job.page) {
             return Acknowledgement::failed(job.page);
         }
-        match self.write(own, buffers, job) {
+        match self.write(own, job) {
             Some(written) => Acknowledgement::written(written),
             None => Acknowledgement::failed(job.page),
         }

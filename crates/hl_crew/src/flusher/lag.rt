@@ -1,54 +1,85 @@
-ghost use Rattle.std.specs.Prelude.{◌≡◌, true, length, All};
+ghost use Rattle.std.specs.Prelude.{◌≡◌, true, is_none, length, All};
 ghost use Rattle.hl_keeper.specs.Calls.{without_back};
 ghost use Rattle.hl_crew.specs.Goes.{UpTo};
-ghost use Rattle.hl_crew.specs.Lags.{IsLag, steps_wanted, is_lag_step, lag_end, MakesStep, MakesNext, KeepsLag};
+ghost use Rattle.hl_crew.specs.Lags.{IsLag, is_wanted, is_lag_step, lag_end, MakesStep, MakesIf, MakesNext, KeepsLag};
 
-use crate::flusher::Flusher;
+use crate::flusher::{Asked, Flusher, FlusherState};
 use crate::messages::Over;
-use arrayvec::ArrayVec;
 use hl_action::{Promise, Task};
 use hl_drain::Ask;
 use hl_epoch::Epochs;
 use hl_lag::lag_steps;
-use hl_model::{Fault, Sizes, Snapshot, Step};
+use hl_model::{Fault, Snapshot, Step};
 use hl_words::{Realm, Rider};
 use std::sync::Wait;
 
 impl<R: Wait, E: Epochs + Drop, F: Task, P: Promise, L: Realm> Flusher<'_, R, E, F, P, L> {
-    /// If no action waits or is taken, makes the lag's steps, up to the first that is refused.
+    /// Makes the lag's steps that it wants, up to the first that is refused. A crew that serves waits for its own settle and
+    /// close alone; another wants none while any action waits or is taken.
     ///
     /// With as many resident pages as frames, the head never passes page N - F, N being the number
     /// of pages up to the tail, and page N needs that page's frame: then no frame comes free.
-    pub(crate) fn keep_lag(&self, rider: &mut Rider<L>) -> Result<(), Over>
+    pub(crate) fn keep_lag(&self, own: &mut FlusherState<L>) -> Result<(), Over>
         requires { let orders = self.now.shared.now.orders
             in IsLag self.now.domain.now.sizes.frames orders.mutable orders.resident }
         ensures { let orders = self.now.shared.now.orders
-            in KeepsLag F self.now.domain.now orders.mutable orders.resident result rider.old rider.new }
+            in KeepsLag F self.now.domain.now (is_none self.now.shared.now.channels)
+            orders.mutable orders.resident result own.old own.new }
     {
         let (now, _, _) = self.domain.snapshot(self.rt);
         let orders = self.shared.orders();
-        let wanted = steps_wanted(
+        let lag = lag_steps(
             self.domain.params(),
-            &now,
+            now.six,
             orders.mutable(),
             orders.resident(),
         );
-        end_of(self.make_all(rider, wanted.as_slice()))
+        own.asked = own.asked.at(now.six);
+        end_of(self.make_all(own, &now, lag.as_slice()))
     }
 
-    // Makes these steps of the lag, up to the first that is refused.
-    fn make_all(&self, rider: &mut Rider<L>, steps: &[Step]) -> Result<(), Fault>
+    // Makes those of these steps that it wants at these quantities, up to the first that is refused.
+    fn make_all(
+        &self,
+        own: &mut FlusherState<L>,
+        now: &Snapshot,
+        steps: &[Step],
+    ) -> Result<(), Fault>
         requires { All (λ step. is_lag_step step ≡ true) steps.now }
-        ensures { UpTo (MakesNext F self.now.domain.now steps.now) (length steps.now)
-            result rider.old rider.new }
+        ensures { UpTo (MakesNext F self.now.domain.now (is_none self.now.shared.now.channels) now.now
+            steps.now) (length steps.now) result own.old own.new }
     {
         for step in steps {
-            match self.make(rider, *step) {
-                Ok(_) => {}
+            match self.make_if_wanted(own, now, *step) {
+                Ok(()) => {}
                 Err(fault) => return Err(fault),
             }
         }
         Ok(())
+    }
+
+    // Makes a step of the lag, if it wants that.
+    fn make_if_wanted(
+        &self,
+        own: &mut FlusherState<L>,
+        now: &Snapshot,
+        step: Step,
+    ) -> Result<(), Fault>
+        requires { is_lag_step step ≡ true }
+        ensures { MakesIf F self.now.domain.now
+            (is_wanted (is_none self.now.shared.now.channels) now.now own.old.asked step) step
+            result own.old own.new }
+    {
+        if !is_wanted(self.shared.serves(), now, own.asked, step) {
+            return Ok(());
+        }
+        match self.make(&mut own.rider, step) {
+            Ok(_) => {
+                own.asked = own.asked.after(step);
+                Ok(())
+            }
+            Err(fault) => Err(fault),
+        }
     }
 
     // Makes a step of the lag.
@@ -86,15 +117,14 @@ fn end_of(made: Result<(), Fault>) -> Result<(), Over>
     }
 }
 
-// The lag's steps, if no action waits and none is taken; else none.
-fn steps_wanted(params: Sizes, now: &Snapshot, mutable: u64, resident: u64) -> ArrayVec<Step, 4>
-    requires { IsLag params.frames mutable resident }
-    ensures steps { result.items ≡ steps_wanted params.page_size now.now mutable resident }
-    ensures kinds { All (λ step. is_lag_step step ≡ true) result.items }
+// Whether a crew wants a step of the lag: one that serves if that doesn't wait for its own settle or close; another if no
+// action waits and none is taken.
+fn is_wanted(serves: bool, now: &Snapshot, asked: Asked, step: Step) -> bool
+    ensures { result ≡ is_wanted serves now.now asked step }
 {
-    if now.pending == 0 && now.taken == 0 {
-        lag_steps(params, now.six, mutable, resident)
+    if serves {
+        !asked.waits_for(now.six, step)
     } else {
-        ArrayVec::new()
+        now.pending == 0 && now.taken == 0
     }
 }

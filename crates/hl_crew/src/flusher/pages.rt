@@ -4,7 +4,7 @@ ghost use Rattle.hl_crew.specs.Pouches.{load_count};
 ghost use Rattle.hl_crew.specs.Turns.{send_of, SendsPage};
 
 use crate::flusher::Flusher;
-use crate::messages::{Message, Over};
+use crate::messages::{Channels, Message, Over};
 use crate::pouch::Pouch;
 use hl_action::{Promise, Task};
 use hl_epoch::Epochs;
@@ -20,6 +20,7 @@ impl<R: Wait, E: Epochs + Drop, F: Task, P: Promise, L: Realm> Flusher<'_, R, E,
     /// counts those sent. If all is well, these are the pages of the pouch.
     pub(crate) fn send_pages(
         &self,
+        channels: &Channels,
         rider: &mut Rider<L>,
         pouch: &mut Pouch,
         sent: &mut u64,
@@ -31,7 +32,7 @@ impl<R: Wait, E: Epochs + Drop, F: Task, P: Promise, L: Realm> Flusher<'_, R, E,
         ensures held { OnOk result (sent.new ≡ load_count pouch.new) }
     {
         for _ in 0..PAGES {
-            match self.send_page(rider, pouch, sent) {
+            match self.send_page(channels, rider, pouch, sent) {
                 Ok(true) => {}
                 Ok(false) => return Ok(()),
                 Err(over) => return Err(over),
@@ -43,6 +44,7 @@ impl<R: Wait, E: Epochs + Drop, F: Task, P: Promise, L: Realm> Flusher<'_, R, E,
     // Takes a page to flush, puts it into the pouch, and sends it. False if none is sealed.
     fn send_page(
         &self,
+        channels: &Channels,
         rider: &mut Rider<L>,
         pouch: &mut Pouch,
         sent: &mut u64,
@@ -62,13 +64,7 @@ impl<R: Wait, E: Epochs + Drop, F: Task, P: Promise, L: Realm> Flusher<'_, R, E,
         };
         let job = load.job();
         pouch.put(load);
-        if self
-            .shared
-            .channels
-            .jobs
-            .send(self.rt, Message::Write(job))
-            .is_err()
-        {
+        if channels.jobs.send(self.rt, Message::Write(job)).is_err() {
             return Err(Over::Lost);
         }
         *sent += 1;

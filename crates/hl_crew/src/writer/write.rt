@@ -2,7 +2,7 @@ ghost use Rattle.std.specs.Prelude.{◌≡◌, IfSome, IfNone};
 ghost use Rattle.hl_crew.specs.Writes.{IsWritten, IsNotWritten};
 
 use crate::gate::Gate;
-use crate::writer::{Buffers, Writer, WriterState};
+use crate::writer::{Writer, WriterState};
 use hl_action::{Promise, Task};
 use hl_domain::PageJob;
 use hl_epoch::Epochs;
@@ -39,11 +39,9 @@ where
     pub(crate) fn write<W: PageWriter>(
         &self,
         own: &mut WriterState<L, W>,
-        buffers: &mut Buffers,
         job: PageJob,
     ) -> Option<Written>
-        requires { buffers.old ≡ self.now.domain.now.sizes.page_size }
-        ensures buffers { buffers.new ≡ buffers.old }
+        ensures counts { own.new.counts ≡ own.old.counts }
         ensures page { IfSome result (λ written. written.page ≡ job.page) }
         ensures written { let sizes = self.now.domain.now.sizes
             in IfSome result (λ written. IsWritten W.wrote sizes job
@@ -52,6 +50,8 @@ where
             in IfNone result (IsNotWritten W.failed W.failures sizes job
             own.old.rider own.new.rider own.old.pages own.new.pages) }
     {
+        self.domain.known();
+        let buffers = &mut own.buffers;
         let copied = self
             .domain
             .copy_page(job, &mut own.rider, &mut buffers.words);

@@ -16,11 +16,11 @@ returns g c =
       broom = c.in-Ok.broom;
       taker = c.clean_take.new.rider;
       taken = c.in-Ok.ensures.met;
-      done = rw (broom_is, rider_is) at c.in_ok-finish.ensures;
+      done = rw (broom_is, rider_is) at c.in_ok-end.ensures;
     }
 
-pub returns-in_err-finish : goal.returns-in_err-finish
-returns-in_err-finish g c =
+pub returns-in_err-end : goal.returns-in_err-end
+returns-in_err-end g c =
     let broom_is = accepted c.sweep.result _ c.if-is_err.ensures.value c.sweep.ensures.broom in
     let rider_is = accepted c.sweep.result _ c.if-is_err.ensures.value c.sweep.ensures.stores in
     let p = err_from_is_err_and c.from_residual.result c.from_residual.ensures.1 in
@@ -28,7 +28,7 @@ returns-in_err-finish g c =
       c.in-Ok.broom,
       c.clean_take.new.rider,
       c.in-Ok.ensures.met,
-      inr (rw (broom_is, rider_is) at c.in_err-finish.ensures),
+      inr (rw (broom_is, rider_is) at c.in_err-end.ensures),
     ))
 
 pub returns-in-NoneClosed : goal.returns-in-NoneClosed

@@ -7,7 +7,7 @@ pub returns-then-not-holds : goal.returns-then-not-holds
 returns-then-not-holds g c = inl (
   place_missing _ (rw c.page.ensures at c.if-not-holds.ensures),
   refl,
-  ap (λ counts. hold_of c.args.own.now.rider counts c.args.pouch.now) c.count_stranger.ensures,
+  ap (λ counts. hold_of (record c.args.own.now { counts = counts }) c.args.pouch.now) c.count_stranger.ensures,
 )
 
 pub returns : goal.returns

@@ -6,18 +6,18 @@ use Rattle.hl_crew.proofs.flusher.Flusher.answer_acknowledged.Goals as goal
 
 pub loop-preserved : goal.loop-preserved
 loop-preserved g c =
-    followed_more (TellsNext g.row.F.Denot c.args.self.now.domain.now c.args.self.now.shared.now.orders.cuts) _ _ _ _ c.loop.invariant
+    followed_more (TellsNext g.row.F.Denot c.args.self.now.domain.now) _ _ _ _ c.loop.invariant
     (c.in-Ok.told.page, c.in-Ok.told.ok, c.in_ok-answer.ensures)
 
 pub returns-in_err-answer : goal.returns-in_err-answer
 returns-in_err-answer g c =
     let p = err_from_is_err_and c.from_residual.result c.from_residual.ensures.1 in
-    rw (p.1, p.2) (up_to_failed (TellsNext g.row.F.Denot c.args.self.now.domain.now c.args.self.now.shared.now.orders.cuts) _ _ _ _ _ _ (omega arith) c.loop.invariant
+    rw (p.1, p.2) (up_to_failed (TellsNext g.row.F.Denot c.args.self.now.domain.now) _ _ _ _ _ _ (omega arith) c.loop.invariant
     (inr (c.in-Ok.told.page, c.in-Ok.told.ok, c.in_err-answer.ensures)))
 
 pub returns-in_default : goal.returns-in_default
 returns-in_default g c =
-    up_to_failed (TellsNext g.row.F.Denot c.args.self.now.domain.now c.args.self.now.shared.now.orders.cuts) _ _ _ _ _ _ (omega arith) c.loop.invariant (inl (refl, refl))
+    up_to_failed (TellsNext g.row.F.Denot c.args.self.now.domain.now) _ _ _ _ _ _ (omega arith) c.loop.invariant (inl (refl, refl))
 
 pub returns : goal.returns
 returns g c = up_to_all _ _ _ _ _ (omega arith) c.loop.invariant

@@ -5,5 +5,5 @@ use Rattle.hl_crew.proofs.flusher.Flusher.answer_acknowledged.Given as goal
 -- as many acknowledgements were answered as there were turns
 abbrev pub invariant-loop : goal.invariant-loop
 invariant-loop g l =
-    Followed (TellsNext g.row.F.Denot l.self.domain.now l.self.shared.now.orders.cuts) l.counter
-    (hold_of l.initial.own.rider l.initial.own.counts l.initial.pouch) (hold_of l.own.rider l.own.counts l.pouch)
+    Followed (TellsNext g.row.F.Denot l.self.domain.now) l.counter
+    (hold_of l.initial.own l.initial.pouch) (hold_of l.own l.pouch)

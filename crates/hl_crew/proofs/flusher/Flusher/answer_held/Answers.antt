@@ -7,7 +7,7 @@ returns-in-Ok-clause-held g c = λ at found. record {
   place = found;
   answer = Ok c.in-Ok.field-0;
   answers = c.in-Ok.ensures.held at found;
-  counts = (refl, c.count.ensures);
+  counts = (refl, ap (λ counts. record c.args.own.now { rider = c.answer.new.rider; counts = counts }) c.count.ensures);
 }
 
 pub returns-in-Err-clause-held : goal.returns-in-Err-clause-held

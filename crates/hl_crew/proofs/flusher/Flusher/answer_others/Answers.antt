@@ -16,7 +16,7 @@ loop-page-preserved g c =
     let place = c.in-Some.ensures.held in (
       before.0 + 1,
       omega (arith, before.1, told.fewer),
-      followed_more (FailsNext g.row.F.Denot c.args.self.now.domain.now c.args.self.now.shared.now.orders.cuts) _ _ _ _ before.2
+      followed_more (FailsNext g.row.F.Denot c.args.self.now.domain.now) _ _ _ _ before.2
           (c.in-Some.page, told.held place.0 place.1),
     )
 
@@ -27,7 +27,7 @@ returns-in_err-answer_held-clause-fails g c =
     let told = c.in_err-answer_held.ensures in
     let some = some_held c.in-Some.page place.0 c.loop-page.pouch place.1 in
     let fewer : c.loop-page.invariant.0 < load_count c.args.pouch.now = omega (arith, c.loop-page.invariant.1, some) in
-    rw (p.1, p.2) (up_to_failed (FailsNext g.row.F.Denot c.args.self.now.domain.now c.args.self.now.shared.now.orders.cuts) _ _ _ _ _ _ fewer c.loop-page.invariant.2
+    rw (p.1, p.2) (up_to_failed (FailsNext g.row.F.Denot c.args.self.now.domain.now) _ _ _ _ _ _ fewer c.loop-page.invariant.2
     (c.in-Some.page, told.held place.0 place.1))
 
 pub returns : goal.returns

@@ -8,8 +8,8 @@ use Rattle.hl_crew.proofs.flusher.Flusher.answer_others.Given as goal
 abbrev pub invariant-loop-page : goal.invariant-loop-page
 invariant-loop-page g l =
     (answered : ℕ) × (load_count l.pouch + answered ≡ load_count l.initial.pouch)
-    × Followed (FailsNext g.row.F.Denot l.self.domain.now l.self.shared.now.orders.cuts) answered
-    (hold_of l.initial.own.rider l.initial.own.counts l.initial.pouch) (hold_of l.own.rider l.own.counts l.pouch)
+    × Followed (FailsNext g.row.F.Denot l.self.domain.now) answered
+    (hold_of l.initial.own l.initial.pouch) (hold_of l.own l.pouch)
 
 -- each turn answers one of the pages that are left
 abbrev pub decreases-loop-page : goal.decreases-loop-page

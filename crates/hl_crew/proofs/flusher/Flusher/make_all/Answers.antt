@@ -1,4 +1,5 @@
 use Rattle.std.proofs.Common.{arith}
+use Rattle.std.specs.Prelude.{is_none}
 use Rattle.std.proofs.lemmas.Option.{slice_get-get_or}
 use Rattle.hl_crew.specs.Lags.{MakesNext}
 use Rattle.hl_crew.proofs.GoesLaws.{followed_more, up_to_all, up_to_failed}
@@ -6,12 +7,12 @@ use Rattle.hl_crew.proofs.flusher.Flusher.make_all.Goals as goal
 
 pub loop-step-preserved : goal.loop-step-preserved
 loop-step-preserved g c =
-    followed_more (MakesNext g.row.F.Denot c.args.self.now.domain.now c.args.steps.now) _ _ _ _ c.loop-step.invariant
-    (_, c.in-Ok.field-0, slice_get-get_or _ _ _ c.loop-step-test.true, c.in-Ok.ensures)
+    followed_more (MakesNext g.row.F.Denot c.args.self.now.domain.now (is_none c.args.self.now.shared.now.channels) c.args.now.now c.args.steps.now) _ _ _ _ c.loop-step.invariant
+    (_, slice_get-get_or _ _ _ c.loop-step-test.true, c.in-Ok.ensures)
 
 pub returns-in-Err : goal.returns-in-Err
 returns-in-Err g c =
-    up_to_failed (MakesNext g.row.F.Denot c.args.self.now.domain.now c.args.steps.now) _ _ _ _ _ _ (omega (arith, c.loop-step-test.true)) c.loop-step.invariant
+    up_to_failed (MakesNext g.row.F.Denot c.args.self.now.domain.now (is_none c.args.self.now.shared.now.channels) c.args.now.now c.args.steps.now) _ _ _ _ _ _ (omega (arith, c.loop-step-test.true)) c.loop-step.invariant
     (_, slice_get-get_or _ _ _ c.loop-step-test.true, c.in-Err.ensures)
 
 pub returns : goal.returns

@@ -3,4 +3,4 @@ use Rattle.hl_crew.proofs.writer.Writer.run.Goals as goal
 
 -- a writer stores nothing
 pub invariant_of-behind-seat : goal.invariant_of-behind-seat
-invariant_of-behind-seat g c = still_as_given g.K.Given.riders _ _ c.write_on.ensures c.behind-seat.invariant
+invariant_of-behind-seat g c = still_as_given g.K.Given.riders _ _ c.work.ensures c.behind-seat.invariant

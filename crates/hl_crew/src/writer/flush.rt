@@ -1,0 +1,127 @@
+//! A page that has one hand: a writer takes it, copies it, writes it and answers it, with its own rider.
+ghost use Rattle.std.specs.Prelude.{◌≡◌, ◌^◌, ◌-◌};
+ghost use Rattle.hl_crew.specs.Goes.{UpTo};
+ghost use Rattle.hl_crew.specs.Looks.{LooksNext};
+ghost use Rattle.hl_crew.specs.Pages.{FindsPage, Flushes, Passes, PassesIf};
+
+use crate::ends::{Flush, end};
+use crate::gate::Gate;
+use crate::looks::{Look, Looker};
+use crate::messages::Over;
+use crate::orders::cut_if_full;
+use crate::writer::{Writer, WriterState};
+use hl_action::{Promise, Task};
+use hl_epoch::Epochs;
+use hl_image::PageWriter;
+use hl_model::Fault;
+use hl_words::Realm;
+use std::sync::Wait;
+use std::thread::Parker;
+
+/// How many pages behind one that wasn't written are tried at most before that one is answered.
+const BEHIND: u64 = 3;
+
+impl<R, E, F, P, L, G, W> Look<WriterState<L, W>> for Writer<'_, R, E, F, P, L, G>
+where
+    R: Wait,
+    E: Epochs + Drop,
+    F: Task,
+    P: Promise,
+    L: Realm,
+    G: Gate,
+    W: PageWriter,
+{
+    ghost finds = { λ writer. FindsPage F writer.domain.now writer.shared.now.orders.cuts
+        (G.lets writer.gate.now) W.wrote W.failed W.failures };
+
+    /// Flushes a page. If the journal is full and may be cut, it is cut, and that counts as a page.
+    fn find(&self, own: &mut WriterState<L, W>) -> Result<bool, Over> {
+        let flushed = self.flush(own, BEHIND);
+        cut_if_full(self.rt, self.domain, self.shared, &mut own.rider, flushed)
+    }
+}
+
+impl<R, E, F, P, L, G> Writer<'_, R, E, F, P, L, G>
+where
+    R: Wait,
+    E: Epochs + Drop,
+    F: Task,
+    P: Promise,
+    L: Realm,
+    G: Gate,
+{
+    /// Looks for sealed pages, and flushes each.
+    pub(crate) fn flush_all<W: PageWriter>(
+        &self,
+        own: &mut WriterState<L, W>,
+        sleeper: &Parker,
+    ) -> Result<(), Over>
+        ensures { UpTo (LooksNext (FindsPage F self.now.domain.now self.now.shared.now.orders.cuts
+            (G.lets self.now.gate.now) W.wrote W.failed W.failures)) (2 ^ 64 - 1) result own.old own.new }
+    {
+        let looker = Looker {
+            rt: self.rt,
+            shared: self.shared,
+            sleeper,
+        };
+        looker.look_on(self, own, u64::MAX)
+    }
+
+    // Takes a page, copies its words, writes their image once the gate lets it, and answers the page as written. If that
+    // fails, it flushes a page behind that one, with one fewer that may fail, and then answers the first as failed: it may
+    // be taken again. False if none was written.
+    #[cycle(flush)]
+    fn flush<W: PageWriter>(
+        &self,
+        own: &mut WriterState<L, W>,
+        behind: u64,
+    ) -> Result<bool, Over>
+        ensures { Flushes F self.now.domain.now self.now.shared.now.orders.cuts
+            (G.lets self.now.gate.now) W.wrote W.failed W.failures behind result own.old own.new }
+    {
+        let load = match self.domain.flush_take(self.rt, &mut own.rider) {
+            Ok(load) => load,
+            Err(fault) => match fault {
+                Fault::NoneSealed => return Ok(false),
+                _ => return Err(Over::of(&fault)),
+            },
+        };
+        let ok = self.acknowledge(own, load.job()).ok();
+        let passed = self.flush_behind(own, ok, behind);
+        let flush = Flush { load, ok };
+        end(self.rt, self.domain, self.shared, &mut own.rider, flush)?;
+        own.counts.count(ok);
+        self.tell(ok);
+        passed
+    }
+
+    // Unless a page was written, flushes the next one behind it, if one more may fail.
+    #[cycle(flush)]
+    fn flush_behind<W: PageWriter>(
+        &self,
+        own: &mut WriterState<L, W>,
+        ok: bool,
+        behind: u64,
+    ) -> Result<bool, Over>
+        ensures { PassesIf F self.now.domain.now self.now.shared.now.orders.cuts
+            (G.lets self.now.gate.now) W.wrote W.failed W.failures
+            (Passes F self.now.domain.now self.now.shared.now.orders.cuts
+            (G.lets self.now.gate.now) W.wrote W.failed W.failures behind) ok result own.old own.new }
+    {
+        if ok {
+            return Ok(true);
+        }
+        if behind == 0 {
+            return Ok(false);
+        }
+        self.flush(own, behind - 1)
+    }
+
+    // Wakes the flusher if a page was written: the head may go on.
+    fn tell(&self, ok: bool) {
+        match self.bell {
+            Some(bell) if ok => bell.ring(),
+            _ => {}
+        }
+    }
+}

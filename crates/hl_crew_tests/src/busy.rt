@@ -1,0 +1,147 @@
+//! A crew that serves while there is always an action that waits.
+ghost use Rattle.std.specs.Prelude.{◌≡◌};
+ghost use Rattle.hl_words.specs.States.{IsSeedOf};
+
+use crate::crew::{Pages, STAMP, Ticket, four};
+use hl_action::Kept;
+use hl_counts::CountTable;
+use hl_crew::{Duty, OpenGate, Stop, serve};
+use hl_domain::Pass;
+use hl_drain::Ask;
+use hl_image::MemoryWriter;
+use hl_model::{Fault, Sizes};
+use hl_words::{Realm, Rider, Seed};
+use std::alloc::Global;
+use std::marker::Brand;
+use std::sync::Wait;
+use std::test::Fail;
+use std::thread;
+use std::thread::Threads;
+use std::time::Duration;
+
+/// How many pages are placed: three times as many as there are frames.
+const PAGES: u64 = 12;
+
+/// How often a page is tried at most.
+const TRIES: u64 = 20_000;
+
+// Bumps a job; if the drain list is full, enough of them wait.
+fn bump_job<R: Wait, L: Realm>(
+    rt: &R,
+    domain: &Pages<CountTable, L>,
+    rider: &mut Rider<L>,
+) -> Result<(), Fault> {
+    match domain.bump(rt, rider, Ask::User(Kept::new(3, Ticket))) {
+        Ok(_) | Err((Fault::DrainFull, _)) => Ok(()),
+        Err((fault, _)) => Err(fault),
+    }
+}
+
+// Two slots place pages, and refresh in turn: of the two jobs that were bumped last one isn't ready.
+fn place_beside_jobs<R: Wait, L: Realm>(
+    rt: &R,
+    domain: &Pages<CountTable, L>,
+    stop: &Stop,
+    first: &mut Pass<L>,
+    second: &mut Pass<L>,
+    rider: &mut Rider<L>,
+) -> Result<u64, Fault> {
+    let mut placed = 0u64;
+    for turn in 0..TRIES {
+        bump_job(rt, domain, rider)?;
+        let pass = if turn % 2 == 0 {
+            &mut *first
+        } else {
+            &mut *second
+        };
+        domain.refresh(rt, pass)?;
+        match domain.allocate(rt, pass, 4) {
+            Ok(_) => placed = placed.saturating_add(1),
+            Err(Fault::Busy { .. }) => {
+                stop.ring();
+                thread::sleep(rt, Duration::from_micros(50));
+            }
+            Err(fault) => return Err(fault),
+        }
+        if placed == PAGES {
+            break;
+        }
+    }
+    Ok(placed)
+}
+
+// The same from the first acquire to the last release.
+fn place_all<R: Wait, L: Realm>(
+    rt: &R,
+    domain: &Pages<CountTable, L>,
+    stop: &Stop,
+    mut riders: Vec<Rider<L>>,
+) -> Result<u64, Fault> {
+    let (Some(one), Some(other), Some(mut rider)) = (riders.pop(), riders.pop(), riders.pop())
+    else {
+        return Err(Fault::Size);
+    };
+    let (mut first, mut second) = match (domain.acquire(rt, 0, one), domain.acquire(rt, 1, other)) {
+        (Ok(first), Ok(second)) => (first, second),
+        _ => return Err(Fault::Size),
+    };
+    let placed = place_beside_jobs(rt, domain, stop, &mut first, &mut second, &mut rider);
+    let _ = domain.release(rt, first);
+    let _ = domain.release(rt, second);
+    placed
+}
+
+// How many pages were placed beside a crew, and how many it wrote.
+fn placed_and_written<R, L>(rt: &R, alloc: Global, seed: Seed) -> Result<[u64; 2], Fault>
+where
+    R: Threads + Wait + Sync,
+    L: Realm + Send + Sync,
+    requires seed { IsSeedOf L.name L.parts L.table seed }
+    requires named { (seed.sizes ≡ L.sizes) × (STAMP ≡ L.stamp) × (200_000 ≡ L.limit) }
+{
+    let (domain, mut riders) = Pages::<CountTable, L>::open(alloc, seed, 200_000, STAMP)?;
+    let crew = four(&mut riders)?;
+    let stop = Stop::new();
+    let (placed, written) = thread::join(
+        rt,
+        || {
+            let placed = place_all(rt, &domain, &stop, riders);
+            stop.give();
+            placed
+        },
+        || written_by(rt, alloc, &domain, &stop, crew),
+    );
+    Ok([placed?, written?])
+}
+
+// How many pages a crew writes until its stop.
+fn written_by<R, L>(
+    rt: &R,
+    alloc: Global,
+    domain: &Pages<CountTable, L>,
+    stop: &Stop,
+    crew: [Rider<L>; 4],
+) -> Result<u64, Fault>
+where
+    R: Threads + Wait + Sync,
+    L: Realm + Send + Sync,
+{
+    let duty = Duty::checked(domain.params(), 1, 2).ok_or(Fault::Size)?;
+    let one = MemoryWriter::open(alloc, PAGES, 40)?;
+    let two = MemoryWriter::open(alloc, PAGES, 40)?;
+    match serve(rt, alloc, domain, crew, one, two, &OpenGate, duty, stop) {
+        Ok(end) => Ok(end.written),
+        Err((fault, ..)) => Err(fault),
+    }
+}
+
+/// Jobs keep coming, so that one waits at each moment: the crew waits for its own settle and close alone, and frames come
+/// free. All pages but the last are written.
+#[test]
+fn jobs_that_keep_coming_hold_up_no_frames(rt: HostRuntime) -> Result<(), Fail> {
+    let params = Sizes::checked(4, 4, 2, 16).ok_or(Fault::Size)?;
+    let seed = Seed::make(rt.alloc(), params, 7)?;
+    let told = placed_and_written::<_, Brand>(&rt, rt.alloc(), seed)?;
+    assert_eq!(rt; told, [PAGES, PAGES - 1]);
+    Ok(())
+}
