@@ -1,1 +1,2 @@
 pub mod OutLaws
+pub mod RecordLaws

@@ -1,4 +1,5 @@
 pub mod Closings
 pub mod Crews
 pub mod Openings
+pub mod Records
 pub mod Sessions

@@ -9,6 +9,7 @@ ghost use Rattle.hl_domain.specs.Domains.{pass_call, with_held, after_news, stay
 ghost use Rattle.hl.specs.Sessions.{with_pass, Asked, Entered, Left};
 
 mod pasts;
+mod records;
 mod rider;
 mod words;
 

@@ -123,10 +123,7 @@ fn place<R: Wait, L: Realm>(
     key: u64,
     value: u64,
 ) -> Result<u64, Fault> {
-    let address = session.allocate(2)?;
-    session.store(address, key)?;
-    session.store(address + 1, value)?;
-    Ok(address + 1)
+    Ok(session.append(&[key, value])? + 1)
 }
 
 // Loads a value that another session may have placed since this one refreshed.

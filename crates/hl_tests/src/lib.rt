@@ -31,6 +31,8 @@ mod offsets;
 #[cfg(test)]
 mod plain;
 #[cfg(test)]
+mod records;
+#[cfg(test)]
 mod refused;
 #[cfg(test)]
 mod report;

@@ -1,0 +1,195 @@
+-- What a session stores and loads of a record, word for word.
+use Rattle.std.proofs.Common.{◌≡◌, ℕ, zero, suc, ◌+◌, ◌<◌, ◌≤◌, List, [], ◌∷◌, ◌++◌, length, take, set, get_or, refl, ap, sym, ◌∙◌, subst, arith, append_assoc, append-nil, inl, inr, Some, Ok, Err}
+use Rattle.std.specs.Prelude.{◌⊎◌, ◌-◌, if◌then◌else◌, nat_lt, nat_le, Option, None, Result, MatchResult}
+use Rattle.std.proofs.lemmas.Bool.{lt-ltb, le-ltb, lt-leb}
+use Rattle.std.specs.List.{AllByRecursion as Every}
+use Rattle.std.proofs.Math.Seq.{take-suc, take-suc-set}
+use Rattle.std.proofs.lemmas.List.{length-take}
+use Rattle.hl_model.specs.declared.fault.Fault.{Fault}
+use Rattle.hl_model.specs.declared.step.Step.{Step}
+use Rattle.hl_model.specs.declared.step.Step.TheVariants.{Acquire, Refresh, Release, Bump, Settle, Close, Bare, Take, Done, Raise, Shift, Allocate, Look, Write, Read, FlushTake, FlushDone, CleanTake, CleanDone}
+use Rattle.hl_model.specs.declared.view.View.{View}
+use Rattle.hl_model.specs.Sizes.{Sizes}
+use Rattle.hl_words.specs.declared.view.Touch.{Touch}
+use Rattle.hl_words.specs.declared.view.Touch.TheVariants.{Stored}
+use Rattle.hl_words.specs.declared.view.RiderView.{RiderView}
+use Rattle.hl_words.specs.States.{RiderState}
+use Rattle.hl_model.specs.declared.fault.Fault.TheVariants.{Below, Beyond, Evicted}
+use Rattle.hl_model.specs.Replies.{unless_fault, unless_refused}
+use Rattle.hl_keeper.specs.Passes.{PassRecord, seen, cell_at, store_fault, load_fault, with_store, with_load}
+use Rattle.hl_domain.specs.Domains.{DomainState, Refreshed}
+use Rattle.hl.specs.Sessions.{SessionState, with_pass}
+use Rattle.hl.specs.Records.{row_fault, with_loads, entered_steps, own_steps, writes_in, writes_at, StoresOrRefreshes, stores_in, stored_at, AreStored, RefusesStore, StopsAt, Places, IsRefused, AreInVain, Appends}
+
+every_append : {X : Type 0} (P : X → Type 0) (xs ys : List X) → Every P xs → Every P ys → Every P (xs ++ ys)
+every_append P [] ys a b = b
+every_append P (x ∷ xs) ys a b = (a.0, every_append P xs ys a.1 b)
+
+writes_in-append : (xs ys : List Step) → writes_in (xs ++ ys) ≡ writes_in xs ++ writes_in ys
+writes_in-append [] ys = refl
+writes_in-append (Write t a v ∷ xs) ys = ap (λ l. Write t a v ∷ l) (writes_in-append xs ys)
+writes_in-append (Acquire t ∷ xs) ys = writes_in-append xs ys
+writes_in-append (Refresh t ∷ xs) ys = writes_in-append xs ys
+writes_in-append (Release t ∷ xs) ys = writes_in-append xs ys
+writes_in-append (Bump tag ∷ xs) ys = writes_in-append xs ys
+writes_in-append (Settle ∷ xs) ys = writes_in-append xs ys
+writes_in-append (Close ∷ xs) ys = writes_in-append xs ys
+writes_in-append (Bare ∷ xs) ys = writes_in-append xs ys
+writes_in-append (Take ∷ xs) ys = writes_in-append xs ys
+writes_in-append (Done c ∷ xs) ys = writes_in-append xs ys
+writes_in-append (Raise x ∷ xs) ys = writes_in-append xs ys
+writes_in-append (Shift x ∷ xs) ys = writes_in-append xs ys
+writes_in-append (Allocate t n ∷ xs) ys = writes_in-append xs ys
+writes_in-append (Look t r h ∷ xs) ys = writes_in-append xs ys
+writes_in-append (Read t a ∷ xs) ys = writes_in-append xs ys
+writes_in-append (FlushTake ∷ xs) ys = writes_in-append xs ys
+writes_in-append (FlushDone p ok ∷ xs) ys = writes_in-append xs ys
+writes_in-append (CleanTake ∷ xs) ys = writes_in-append xs ys
+writes_in-append (CleanDone p ∷ xs) ys = writes_in-append xs ys
+
+writes_at-append : (t a : ℕ) (xs ys : List ℕ) → writes_at t a (xs ++ ys) ≡ writes_at t a xs ++ writes_at t (a + length xs) ys
+writes_at-append t a [] ys = ap (λ n. writes_at t n ys) (omega arith)
+writes_at-append t a (x ∷ xs) ys = ap (λ l. Write t a x ∷ l) (writes_at-append t (a + 1) xs ys ∙ ap (λ n. writes_at t (a + 1) xs ++ writes_at t n ys) (omega arith))
+
+stored_at-append : (sizes : Sizes) (a : ℕ) (xs ys : List ℕ) (before : List Touch) → stored_at sizes a (xs ++ ys) before ≡ stored_at sizes (a + length xs) ys (stored_at sizes a xs before)
+stored_at-append sizes a [] ys before = ap (λ n. stored_at sizes n ys before) (omega arith)
+stored_at-append sizes a (x ∷ xs) ys before =
+    let later = Stored (cell_at sizes a) x ∷ before in
+    stored_at-append sizes (a + 1) xs ys later ∙ ap (λ n. stored_at sizes n ys (stored_at sizes (a + 1) xs later)) (omega arith)
+
+-- nothing was stored
+pub none_stored : (sizes : Sizes) (a : ℕ) (p q : PassRecord) → q ≡ p → AreStored sizes a [] p q
+none_stored sizes a p q same = record {
+  slot = ap (λ (z : PassRecord). z.slot) same;
+  behind = [];
+  steps = ap own_steps same ∙ sym (append-nil (own_steps p));
+  kinds = tt;
+  writes = refl;
+  cells = ap (λ (z : PassRecord). stores_in z.rider.view.touches) same;
+}
+
+-- a store
+pub one_stored : (sizes : Sizes) (a v : ℕ) (p q : PassRecord) → q ≡ with_store sizes a v p → AreStored sizes a (v ∷ []) p q
+unfolding with_store
+one_stored sizes a v p q is = record {
+  slot = ap (λ (z : PassRecord). z.slot) is;
+  behind = Write p.slot a v ∷ [];
+  steps = ap own_steps is ∙ sym (append_assoc (entered_steps p.rider.calls) p.touches (Write p.slot a v ∷ []));
+  kinds = (inl (a, v, refl), tt);
+  writes = refl;
+  cells = ap (λ (z : PassRecord). stores_in z.rider.view.touches) is;
+}
+
+-- a refresh
+pub refreshed : {F : Type 0} (log : DomainState) (sizes : Sizes) (a : ℕ) (p q : PassRecord) (view : View) → Refreshed F log p q (Ok view) → AreStored sizes a [] p q
+refreshed log sizes a p q view r =
+    let entered = r.met.entered in
+    let touches : q.touches ≡ [] = ap (λ (z : PassRecord). z.touches) r.pass in
+    let calls : entered_steps q.rider.calls ≡ entered_steps p.rider.calls ++ (p.touches ++ Refresh p.slot ∷ []) = ap (λ (z : RiderState). entered_steps z.calls) entered in
+    record {
+      slot = ap (λ (z : PassRecord). z.slot) r.pass;
+      behind = Refresh p.slot ∷ [];
+      steps = ap (λ l. entered_steps q.rider.calls ++ l) touches ∙ append-nil (entered_steps q.rider.calls) ∙ calls
+          ∙ sym (append_assoc (entered_steps p.rider.calls) p.touches (Refresh p.slot ∷ []));
+      kinds = (inr refl, tt);
+      writes = refl;
+      cells = ap (λ (z : RiderState). stores_in z.view.touches) entered;
+    }
+
+-- more was stored behind
+pub stored_then : (sizes : Sizes) (a b : ℕ) (xs ys : List ℕ) (p m q : PassRecord) → b ≡ a + length xs → AreStored sizes a xs p m → AreStored sizes b ys m q → AreStored sizes a (xs ++ ys) p q
+stored_then sizes a b xs ys p m q at x y = record {
+  slot = y.slot ∙ x.slot;
+  behind = x.behind ++ y.behind;
+  steps = y.steps ∙ ap (λ l. l ++ y.behind) x.steps ∙ append_assoc (own_steps p) x.behind y.behind;
+  kinds = every_append (StoresOrRefreshes p.slot) x.behind y.behind x.kinds (subst (λ t. Every (StoresOrRefreshes t) y.behind) x.slot y.kinds);
+  writes = writes_in-append x.behind y.behind ∙ ap (λ l. l ++ writes_in y.behind) x.writes
+      ∙ ap (λ l. writes_at p.slot a xs ++ l) (y.writes ∙ ap (λ t. writes_at t b ys) x.slot ∙ ap (λ n. writes_at p.slot n ys) at)
+      ∙ sym (writes_at-append p.slot a xs ys);
+  cells = y.cells ∙ ap (stored_at sizes b ys) x.cells ∙ ap (λ n. stored_at sizes n ys (stored_at sizes a xs (stores_in p.rider.view.touches))) at
+      ∙ sym (stored_at-append sizes a xs ys (stores_in p.rider.view.touches));
+}
+
+-- one word more of a row was stored
+pub stored_next : (sizes : Sizes) (a k d : ℕ) (words : List ℕ) (p m q : PassRecord) → k < length words
+    → AreStored sizes a (take k words) p m → AreStored sizes (a + k) (get_or words k d ∷ []) m q → AreStored sizes a (take (k + 1) words) p q
+stored_next sizes a k d words p m q less x y =
+    let len : length (take k words) ≡ k = omega (arith, length-take k words, less) in
+    let next : k + 1 ≡ suc k = omega arith in
+    let row : take (k + 1) words ≡ take k words ++ get_or words k d ∷ [] = ap (λ n. take n words) next ∙ take-suc words k d less in
+    subst (λ l. AreStored sizes a l p q) (sym row) (stored_then sizes a (a + k) (take k words) (get_or words k d ∷ []) p m q (ap (λ n. a + n) (sym len)) x y)
+
+-- one word more of a row was loaded
+loads_push : (sizes : Sizes) (a : ℕ) (ws : List ℕ) (w : ℕ) (p : PassRecord) → with_loads sizes a (ws ++ w ∷ []) p ≡ with_load sizes (a + length ws) w (with_loads sizes a ws p)
+loads_push sizes a [] w p = ap (λ n. with_load sizes n w p) (omega arith)
+loads_push sizes a (x ∷ ws) w p = loads_push sizes (a + 1) ws w (with_load sizes a x p) ∙ ap (λ n. with_load sizes n w (with_loads sizes (a + 1) ws (with_load sizes a x p))) (omega arith)
+
+pub loads_next : (sizes : Sizes) (a k w : ℕ) (out : List ℕ) (p m q : PassRecord) → k < length out → m ≡ with_loads sizes a (take k out) p → q ≡ with_load sizes (a + k) w m → q ≡ with_loads sizes a (take (k + 1) (set out k w)) p
+loads_next sizes a k w out p m q less before after =
+    let next : k + 1 ≡ suc k = omega arith in
+    let row : take (k + 1) (set out k w) ≡ take k out ++ w ∷ [] = ap (λ n. take n (set out k w)) next ∙ take-suc-set out k w less in
+    let len : length (take k out) ≡ k = omega (arith, length-take k out, less) in
+    after ∙ ap (with_load sizes (a + k) w) before ∙ sym (ap (λ l. with_loads sizes a l p) row ∙ loads_push sizes a (take k out) w p ∙ ap (λ n. with_load sizes (a + n) w (with_loads sizes a (take k out) p)) len)
+
+-- loads leave what the pass sees
+pub loads_see : (sizes : Sizes) (a : ℕ) (ws : List ℕ) (p : PassRecord) → seen (with_loads sizes a ws p) ≡ seen p
+unfolding with_load
+loads_see sizes a [] p = refl
+loads_see sizes a (w ∷ ws) p = loads_see sizes (a + 1) ws (with_load sizes a w p)
+
+-- a store, after at most a refresh, was answered so
+pub store_answered : (F : Type 0) (log : DomainState) (a v : ℕ) (p m q : PassRecord) (o : Option Fault) (r : Result (Unit {0}) Fault) → AreStored log.sizes a [] p m → store_fault m a ≡ o
+    → r ≡ unless_fault o tt → q ≡ unless_refused o m (with_store log.sizes a v m)
+    → MatchResult r (λ _. AreStored log.sizes a (v ∷ []) p q) (λ fault. RefusesStore F log a fault p q)
+store_answered F log a v p m q None r none met answer is =
+    let P = λ (z : Result (Unit {0}) Fault). MatchResult z (λ _. AreStored log.sizes a (v ∷ []) p q) (λ fault. RefusesStore F log a fault p q) in
+    subst P (sym answer) (stored_then log.sizes a a [] (v ∷ []) p m q (omega arith) none (one_stored log.sizes a v m q is))
+store_answered F log a v p m q (Some f) r none met answer is =
+    let P = λ (z : Result (Unit {0}) Fault). MatchResult z (λ _. AreStored log.sizes a (v ∷ []) p q) (λ fault. RefusesStore F log a fault p q) in
+    subst P (sym answer) (record { last = m; none = none; refused = inl (is, met) })
+
+-- a refresh that was to make room was refused
+pub refresh_refused : (F : Type 0) (log : DomainState) (a : ℕ) (fault : Fault) (p q : PassRecord) → Refreshed F log p q (Err fault) → RefusesStore F log a fault p q
+refresh_refused F log a fault p q r = record { last = p; none = none_stored log.sizes a p p refl; refused = inr r }
+
+-- after some tries in vain a record was asked for once more, and answered so
+pub appended : (F : Type 0) (log : DomainState) (words : List ℕ) (p m q : PassRecord) (r : Result ℕ Fault) (times : ℕ) → AreInVain F log words times p m → Places F log words m q r → Appends F log words p q r
+appended F log words p m q r times vain places = record { times = times; before = m; vain = vain; places = places }
+
+-- one more try in vain
+pub vain_next : (F : Type 0) (log : DomainState) (words : List ℕ) (p m q : PassRecord) (read_only times : ℕ) (r : Result ℕ Fault) → AreInVain F log words times p m → r ≡ Err (Below read_only) → Places F log words m q r → AreInVain F log words (suc times) p q
+vain_next F log words p m q read_only times r vain is places = (m, read_only, vain, subst (Places F log words m q) is places)
+
+-- when a row is refused, and when it isn't
+pub row_evicted : (p : PassRecord) (a n : ℕ) → a < (seen p).head → row_fault p a n ≡ Some (Evicted (seen p).head)
+unfolding row_fault
+row_evicted p a n less = ap (λ b. if b then Some (Evicted (seen p).head) else (if nat_lt ((seen p).tail - a) n then Some (Beyond (seen p).tail) else None)) (lt-ltb a (seen p).head less)
+
+pub row_beyond : (p : PassRecord) (a n : ℕ) → (seen p).head ≤ a → (seen p).tail - a < n → row_fault p a n ≡ Some (Beyond (seen p).tail)
+unfolding row_fault
+row_beyond p a n head few =
+    ap (λ b. if b then Some (Evicted (seen p).head) else (if nat_lt ((seen p).tail - a) n then Some (Beyond (seen p).tail) else None)) (le-ltb a (seen p).head head)
+    ∙ ap (λ b. if b then Some (Beyond (seen p).tail) else None) (lt-ltb ((seen p).tail - a) n few)
+
+pub row_free : (p : PassRecord) (a n : ℕ) → (seen p).head ≤ a → n ≤ (seen p).tail - a → row_fault p a n ≡ None
+unfolding row_fault
+row_free p a n head many =
+    ap (λ b. if b then Some (Evicted (seen p).head) else (if nat_lt ((seen p).tail - a) n then Some (Beyond (seen p).tail) else None)) (le-ltb a (seen p).head head)
+    ∙ ap (λ b. if b then Some (Beyond (seen p).tail) else None) (le-ltb ((seen p).tail - a) n many)
+
+-- each word of such a row may be loaded
+pub load_free : (p m : PassRecord) (a n k : ℕ) → (seen p).head ≤ a → n ≤ (seen p).tail - a → k < n → seen m ≡ seen p → load_fault m (a + k) ≡ None
+unfolding load_fault
+load_free p m a n k head many less same =
+    let low : (seen m).head ≤ a + k = omega (arith, head, ap (λ (v : View). v.head) same) in
+    let high : a + k < (seen m).tail = omega (arith, many, less, ap (λ (v : View). v.tail) same) in
+    ap (λ b. if b then Some (Evicted (seen m).head) else (if nat_le (seen m).tail (a + k) then Some (Beyond (seen m).tail) else None)) (le-ltb (a + k) (seen m).head low)
+    ∙ ap (λ b. if b then Some (Beyond (seen m).tail) else None) (lt-leb (seen m).tail (a + k) high)
+
+-- of a session
+pub session_next : (s m q : SessionState) (a k w : ℕ) (out : List ℕ) → k < length out → m ≡ with_pass (with_loads s.log.sizes a (take k out) s.pass) s → q ≡ with_pass (with_load m.log.sizes (a + k) w m.pass) m
+    → q ≡ with_pass (with_loads s.log.sizes a (take (k + 1) (set out k w)) s.pass) s
+session_next s m q a k w out less before after =
+    let p = with_loads s.log.sizes a (take k out) s.pass in
+    after ∙ ap (λ (z : SessionState). with_pass (with_load z.log.sizes (a + k) w z.pass) z) before
+    ∙ ap (λ (z : PassRecord). with_pass z s) (loads_next s.log.sizes a k w out s.pass p (with_load s.log.sizes (a + k) w p) less refl refl)

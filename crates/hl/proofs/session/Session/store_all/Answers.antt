@@ -1,0 +1,19 @@
+use Rattle.std.proofs.Common.{◌+◌, [], ◌∷◌, get_or, subst, ◌∙◌}
+use Rattle.hl_domain.specs.Domains.{DomainState}
+use Rattle.hl.specs.Records.{AreStored}
+use Rattle.hl.proofs.RecordLaws.{stored_next}
+use Rattle.hl.proofs.session.Session.store_all.Goals as goal
+
+pub loop-k-preserved : goal.loop-k-preserved
+loop-k-preserved g c =
+    let log = c.args.self.now.log in
+    let words = c.args.words.now in
+    let a = c.args.address in
+    let k = c.loop-k.k in
+    let m = c.loop-k.self.pass in
+    let q = c.store_one.new.self.pass in
+    let met = c.loop-k.invariant in (
+      c.store_one.ensures.log ∙ met.0,
+      stored_next log.sizes a k 0 words c.args.self.now.pass m q c.loop-k-test.true met.1
+          (subst (λ (l : DomainState). AreStored l.sizes (a + k) (get_or words k 0 ∷ []) m q) met.0 c.in-Ok.ensures.stored),
+    )

@@ -1,0 +1,8 @@
+use Rattle.std.proofs.Common.{◌≡◌, take}
+use Rattle.hl.specs.Records.{AreStored}
+use Rattle.hl.proofs.session.Session.store_all.Given as goal
+
+abbrev pub invariant-loop-k : goal.invariant-loop-k
+invariant-loop-k g l =
+    (l.self.log ≡ l.fn.self.log)
+    × AreStored l.fn.self.log.sizes l.address (take l.k l.words) l.fn.self.pass l.self.pass
