@@ -93,9 +93,9 @@ def svg(sizes: Sizes, lines: list[Line]) -> str:
         it.line(f"M{place(upper)} {top - 12}{gap}V{top + 190}", "mark")
         it.words(place(upper), top - 48, offset.words, "strong mark", "middle")
         it.words(place(upper), top - 32, str(upper), "step mark", "middle")
-        it.words(place(upper), top - 18, offset.faster, "tiny soft", "middle")
+        it.words(place(upper), top - 18, offset.faster, "tiny soft other", "middle")
         below = it.paragraph(middle, top + 72, offset.who, 17, "", "middle")
-        it.paragraph(middle, below + 6, offset.step, 17, "soft", "middle")
+        it.paragraph(middle, below + 6, offset.step, 17, "small", "middle")
         lower = upper
     x = place(slot.head)
     bottom = top + 226
@@ -103,5 +103,5 @@ def svg(sizes: Sizes, lines: list[Line]) -> str:
     for y, name, begin in ((bottom + 18, "reads", slot.head), (bottom + 46, "writes", slot.read_only)):
         it.box(place(begin), y, wide * (slot.tail - begin), 12, name)
         it.words(left, y + 11, f"{name} from {begin}")
-    it.words(left, bottom + 84, "Names in grey are those of FASTER's C# code.", "small soft")
+    it.words(left, bottom + 84, "Names in grey italics are those of FASTER's C# code.", "small soft other")
     return str(it)

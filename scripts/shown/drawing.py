@@ -11,6 +11,7 @@ STYLE = """
   .free { fill: #ffffff; } .writes { fill: #2e7d39; } .reads { fill: #1550b0; }
   text.soft { fill: #565d69; } text.mark { fill: #1550b0; stroke: none; } .arrow { fill: #565d69; }
   .strong { font-weight: 600; } .small { font-size: 11.5px; } .tiny { font-size: 10.5px; }
+  .other { font-style: italic; }
   .step { font-family: ui-monospace, "DejaVu Sans Mono", monospace; font-size: 12.5px; }
   .line { fill: none; stroke-width: 1.5; } .dashed { stroke-dasharray: 4 3; }
   @media (prefers-color-scheme: dark) {
@@ -38,9 +39,9 @@ class Drawing:
         self.parts.append(f'<path class="line {kind}" d="{path}"/>')
 
     def arrow(self, path: str, x, y, towards: str):
-        """A line that ends as an arrow there: down or right."""
+        """A line that ends as an arrow there: down, right or left."""
         self.line(path, "rule")
-        one, other = {"down": ((-5, -9), (5, -9)), "right": ((-9, -5), (-9, 5))}[towards]
+        one, other = {"down": ((-5, -9), (5, -9)), "right": ((-9, -5), (-9, 5)), "left": ((9, -5), (9, 5))}[towards]
         corners = " ".join(f"{x + across},{y + down}" for across, down in (one, other, (0, 0)))
         self.parts.append(f'<polygon class="arrow" points="{corners}"/>')
 

@@ -22,6 +22,11 @@ def why(state: State, action: Action) -> str:
     return f"waits for {listed('slot', waits, verb=False)}" if waits else "may be taken: every slot is above it"
 
 
+def bare(lines: list[Line]) -> list[int]:
+    """The epochs that bare bumps ended, as the program answered."""
+    return [int(line.answer.split(" ")[1]) for line in lines if line.text == "bare" and not line.fault]
+
+
 def named(action: Action) -> str:
     return f"ticket {action.ticket}, {KINDS[action.kind]} {action.number}"
 
@@ -30,6 +35,7 @@ def text(sizes: Sizes, lines: list[Line]) -> str:
     state = lines[-1].state
     epochs = range(1, state["epoch"] + 1)
     column = {epoch: 10 * epoch for epoch in epochs}
+    ended = {epoch: "bare bump" for epoch in bare(lines)} | {it.ticket: str(it.ticket) for it in state.pending}
 
     def row(label: str, cells: dict[int, str]) -> str:
         it = f"{label:<10}"
@@ -41,7 +47,7 @@ def text(sizes: Sizes, lines: list[Line]) -> str:
         row("epoch", {epoch: str(epoch) for epoch in epochs}),
         row("", {epoch: stands(state, epoch) for epoch in epochs}),
         row("slots", {epoch: ", ".join(slots_at(state, epoch)) for epoch in epochs}),
-        row("tickets", {action.ticket: str(action.ticket) for action in state.pending}),
+        row("tickets", {epoch: ended[epoch] for epoch in epochs if epoch in ended}),
     ]
     for place, action in reversed(list(enumerate(state.pending))):
         before = {it.ticket: "|" for it in state.pending[:place]}
@@ -74,6 +80,8 @@ def svg(sizes: Sizes, lines: list[Line]) -> str:
         for place, slot in enumerate(slots_at(state, epoch)):
             it.box(x + 25, top + 58 + 30 * place, 70, 26, "flushed", 13)
             it.words(x + wide // 2, top + 76 + 30 * place, slot, "", "middle")
+    for epoch in bare(lines):
+        it.words(left + wide * (epoch - 1) + wide // 2, top + 132, "bare bump", "small soft", "middle")
     for place, action in enumerate(state.pending):
         x, y = starts[action.ticket], top + 172 + 28 * (len(state.pending) - 1 - place)
         waits = bool(in_the_way(state, action.ticket))

@@ -109,7 +109,7 @@ def svg(sizes: Sizes, lines: list[Line]) -> str:
         it.arrow(f"M{middle} {y}V{top[place + 1] - 6}", middle, top[place + 1], "down")
         it.paragraph(middle + 160, y + 20, ", ".join(turn.steps), 28, "step")
         for line, name in enumerate(FASTER[turn.before, turn.after].split("; ")):
-            it.words(middle + 380, y + 20 + 17 * line, name, "soft")
+            it.words(middle + 380, y + 20 + 17 * line, name, "soft other")
     for turn in back(lines):
         one, other = (top[states.index(state)] + tall // 2 for state in (turn.before, turn.after))
         it.arrow(f"M{left} {one}H{left - 24}V{other}H{left - 6}", left, other, "right")

@@ -2,7 +2,7 @@
 
 Usage: read_page.py PAGE LINE.. prints for each line its answer, the status, the pending actions and the frames as
 the program spells them, and each slot. It ends with status 1 where something goes wrong in the page, or where the
-slider, its keys or a button don't move it.
+slider, its keys or a button don't move it, or where the line at hand is out of sight at the page's head or foot.
 """
 
 import re
@@ -30,6 +30,11 @@ SHOWN = """(() => {
     slots: all("#slots tbody tr").map((it) => [...it.children].map(text).join(" ")),
   };
 })()"""
+IN_SIGHT = """[0, document.body.scrollHeight].every((place) => {
+  scrollTo(0, place);
+  const { top, bottom } = document.querySelector("#answer").getBoundingClientRect();
+  return top >= 0 && bottom <= innerHeight;
+})"""
 OFFSETS = ["closed", "head", "flushed", "safe_read_only", "read_only", "tail"]
 
 
@@ -81,6 +86,8 @@ def main(page: str, lines: list[int]):
             browser.value(f"slider.value = {line}; slider.dispatchEvent(new Event('input'))")
             moves(browser, "by the slider", f"{line} of {count}")
             print("\n".join(spelled(browser.value(SHOWN))))
+            if not browser.value(IN_SIGHT):
+                raise SystemExit(f"line {line} is out of sight")
         if browser.wrong:
             raise SystemExit("\n".join(browser.wrong))
 

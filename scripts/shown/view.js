@@ -162,6 +162,11 @@ function drawSlots(state) {
   at("slots").replaceChildren(make("thead", "", make("tr", "", ...head)), make("tbody", "", ...rows));
 }
 
+// Tells the style how high the bar is that stays at the top.
+function keepBelow() {
+  document.documentElement.style.setProperty("--bar", `${at("now").parentElement.offsetHeight}px`);
+}
+
 // Shows the line of this number, or the nearest that there is.
 function show(wanted) {
   const number = Math.min(lines.length, Math.max(1, wanted || 1)), line = lines[number - 1], state = states[number - 1];
@@ -176,6 +181,7 @@ function show(wanted) {
   at("why").textContent = line.why ?? "";
   at("why").hidden = !line.why;
   at("now").className = line.why ? "refused" : "";
+  keepBelow();
   at("lines").querySelector("[aria-current]")?.removeAttribute("aria-current");
   const row = at("lines").children[number - 1];
   row.setAttribute("aria-current", "step");
@@ -207,6 +213,7 @@ at("slider").addEventListener("input", () => show(shown()));
 at("back").addEventListener("click", () => show(shown() - 1));
 at("on").addEventListener("click", () => show(shown() + 1));
 at("next").addEventListener("click", () => show(lines.findIndex((line, place) => place >= shown() && line.why) + 1));
+addEventListener("resize", keepBelow);
 addEventListener("hashchange", () => show(Number(location.hash.slice(1))));
 addEventListener("keydown", (event) => {
   if (event.target === at("slider") || event.altKey || event.ctrlKey || event.metaKey) return;
