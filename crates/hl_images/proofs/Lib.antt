@@ -8,3 +8,4 @@ pub mod PlaceLaws
 pub mod WalkLaws
 pub mod WriterLaws
 pub mod AcceptedLaws
+pub mod KeptLaws

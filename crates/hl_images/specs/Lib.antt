@@ -6,3 +6,4 @@ pub mod ImageWords
 pub mod Sealed
 pub mod Entered
 pub mod Accepted
+pub mod Kept

@@ -1,7 +1,9 @@
 //! What follows from a page's flush and from a domain's ending: each law the contract of a function that does nothing.
+ghost use Rattle.hl_model.specs.Sizes.{Sizes as SIZES};
 ghost use Rattle.hl_images.specs.Accepted.{ImagesAreWords};
 ghost use Rattle.hl_images.specs.Flushes.{LaterStates, CopiedStays, FlushedStays, FlushedIsImaged};
 ghost use Rattle.hl_images.specs.ImageWords.{ImagesHoldWords};
+ghost use Rattle.hl_images.specs.Kept.{RidersStayEntered, PassesStayEntered};
 ghost use Rattle.hl_images.specs.Pairs.{FlushedByTwoStays, FlushedByTwoIsImaged};
 ghost use Rattle.hl_images.specs.Sealed.{PendingStaysAbove, LaterStaysAbove};
 
@@ -57,4 +59,15 @@ pub fn later_stays_above()
 /// write that its calls entered, or a 0 of its sweeps.
 pub fn images_are_words<F: Task>()
     ensures { ImagesAreWords F }
+{}
+
+/// Each store of a rider without a pass stays a write that its calls entered, or a 0 of its sweeps, by all that such a rider
+/// does.
+pub fn riders_stay_entered()
+    ensures { (sizes : SIZES) → RidersStayEntered sizes }
+{}
+
+/// Each store of a pass's rider stays a write that its calls entered, or one that waits, by all that a pass does.
+pub fn passes_stay_entered()
+    ensures { (sizes : SIZES) → PassesStayEntered sizes }
 {}

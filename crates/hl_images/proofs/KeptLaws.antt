@@ -1,0 +1,245 @@
+-- The stores of riders stay writes of their calls, or 0s of their sweeps.
+use Rattle.std.proofs.Common.{◌≡◌, ℕ, zero, suc, ◌+◌, ◌<◌, ◌≤◌, true, false, List, [], ◌∷◌, ◌++◌, Some, None, refl, ap, sym, ◌∙◌, inl, inr, subst, arith, append_assoc}
+use Rattle.std.specs.Prelude.{Option, Bool, if◌then◌else◌, nat_lt, ◌||◌, max}
+use Rattle.std.specs.List.{AllByRecursion as Every}
+use Rattle.std.proofs.lemmas.List.{append-nil}
+use Rattle.hl_model.specs.declared.step.Step.{Step}
+use Rattle.hl_model.specs.declared.step.Step.TheVariants.{Acquire, Refresh, Release, Allocate, Look, Write, CleanTake, CleanDone}
+use Rattle.hl_model.specs.declared.view.View.{View}
+use Rattle.hl_model.specs.Offsets.{tail}
+use Rattle.hl_model.specs.Pages.{clean_of, next_to_clean}
+use Rattle.hl_model.specs.Replies.{IsAccepted}
+use Rattle.hl_model.specs.Settled.{safe_read_only}
+use Rattle.hl_model.specs.Sizes.{Sizes}
+use Rattle.hl_history.specs.declared.view.Entry.{Entry}
+use Rattle.hl_history.specs.Lists.{entry, left_by, IsOf}
+use Rattle.hl_words.specs.declared.view.RiderView.{RiderView}
+use Rattle.hl_words.specs.States.{RiderState}
+use Rattle.hl_words.specs.Views.{loaded}
+use Rattle.hl_keeper.specs.Passes.{PassRecord, seen, store_fault, with_store, with_change, with_load, with_look, with_news, with_rider, cell_at}
+use Rattle.hl_keeper.specs.Pages.{first_cell, loaded_all, zeroed}
+use Rattle.hl_keeper.specs.Touches.{AreTouches, is_call}
+use Rattle.hl_keeper.proofs.PassLaws.{store_lawful}
+use Rattle.hl_keeper.proofs.TouchLaws.{touches_more, touches_rise}
+use Rattle.hl_domain.specs.Domains.{with_entry}
+use Rattle.hl_laws.proofs.BoundLaws.{tail-append}
+use Rattle.hl_laws.proofs.LawProofs.{beginnings_are_accepted}
+use Rattle.hl_images.specs.Entered.{is_touch, IsOneCall, newest_writes, swept_by, IsWriteOf, AreEntered}
+use Rattle.hl_images.specs.Kept.{RiderEnters, PassEnters, RidersStayEntered, PassesStayEntered}
+use Rattle.hl_images.proofs.SealedLaws.{pending_stays_above}
+use Rattle.hl_images.proofs.WalkLaws.{newest_every}
+use Rattle.hl_images.proofs.WriterLaws.{writes_both}
+
+-- a step that is no touch writes nothing
+no_write : (s : Step) (older : List Step) → is_touch s ≡ false → newest_writes (s ∷ []) older ≡ older
+no_write (Write t a v) older h = absurd cc
+no_write _ older h = refl
+
+-- a step that frees no page ended no sweep
+no_sweep : (s : Step) → clean_of s ≡ None → swept_by (s ∷ []) None ≡ None
+no_sweep (CleanDone p) h = absurd cc
+no_sweep _ h = refl
+
+-- a pass's own step is no touch, and frees no page
+call_is : (s : Step) → is_call s ≡ true → (is_touch s ≡ false) × (clean_of s ≡ None)
+call_is (Refresh t) h = (refl, refl)
+call_is (Release t) h = (refl, refl)
+call_is (Allocate t n) h = (refl, refl)
+call_is _ h = absurd cc
+
+-- touches are touches
+are_touches : (t : ℕ) (v : View) (ts : List Step) → AreTouches t v ts → Every (λ (s : Step). is_touch s ≡ true) ts
+unfolding AreTouches
+are_touches t v [] h = tt
+are_touches t v (Look u r d ∷ ts) h = (refl, are_touches t (record { read_only = r; head = d; tail = v.tail }) ts h.1)
+are_touches t v (Write u a x ∷ ts) h = (refl, are_touches t v ts h.1)
+are_touches t v (_ ∷ ts) h = absurd h.0
+
+-- no call of a pass ended a sweep
+touched_sweep : (ts : List Step) (s : Step) → Every (λ (t : Step). is_touch t ≡ true) ts → clean_of s ≡ None → swept_by (ts ++ s ∷ []) None ≡ None
+touched_sweep [] s h c = no_sweep s c
+touched_sweep (Look t r d ∷ ts) s h c = refl
+touched_sweep (Write t a v ∷ ts) s h c = refl
+touched_sweep (_ ∷ ts) s h c = absurd (touch_only h.0)
+  where
+    touch_only : false ≡ true → ⊥
+    touch_only e = cc
+
+-- what holds of each element at its place holds of each
+every_place : {X : Type 0} (P : X → Type 0) (front xs : List X) → ((f : List X) (x : X) (r : List X) → front ++ xs ≡ f ++ x ∷ r → P x) → Every P xs
+every_place P front [] h = tt
+every_place P front (x ∷ xs) h = (h front x xs refl, every_place P (front ++ x ∷ []) xs (λ f y r e. h f y r (sym (append_assoc front (x ∷ []) xs) ∙ e)))
+
+module _ (sizes : Sizes) where
+  loads : (swept : Option ℕ) (waiting : List Step) (calls : List Entry) (cell : ℕ) (words : List ℕ) (view : RiderView) → AreEntered sizes view.touches calls waiting swept → AreEntered sizes (loaded_all cell words view).touches calls waiting swept
+  unfolding loaded_all
+  loads swept waiting calls cell [] view h = h
+  loads swept waiting calls cell (w ∷ words) view h = loads swept waiting calls (cell + 1) words (loaded cell w view) h
+
+  zeros : (list : List Step) (older : List Entry) (page n : ℕ) (view : RiderView) → next_to_clean sizes list ≡ Some page → n ≤ sizes.page_size → AreEntered sizes view.touches (entry list (CleanTake ∷ []) ∷ older) [] (Some page)
+      → AreEntered sizes (zeroed (first_cell sizes page) n view).touches (entry list (CleanTake ∷ []) ∷ older) [] (Some page)
+  unfolding zeroed
+  zeros list older page zero view next le h = h
+  zeros list older page (suc n) view next le h =
+      inr ((refl, page, refl, omega arith, omega (arith, le), list, older, refl, next), zeros list older page n view next (omega (arith, le)) h)
+
+  pub riders_stay_entered : RidersStayEntered sizes
+  riders_stay_entered = record {
+    new = λ name. record { entered = refl; calls = tt };
+    loads = λ swept cell words r h. record { entered = loads swept [] r.calls cell words r.view h.entered; calls = h.calls };
+    told = λ swept past r h. record { entered = h.entered; calls = h.calls };
+    call = λ was now list s r touch free h. record {
+      entered = subst (λ (l : List Step). AreEntered sizes r.view.touches r.calls l (swept_by (s ∷ []) None)) (sym (no_write s [] touch)) (subst (λ (o : Option ℕ). AreEntered sizes r.view.touches r.calls [] o) (sym (no_sweep s free)) h.entered);
+      calls = (inr ([], s, refl, tt, inl refl), h.calls);
+    };
+    refused = λ swept was now list r h. record { entered = h.entered; calls = (inl refl, h.calls) };
+    sweeps = λ was now list page r next h.
+        let taken = with_entry was now list (CleanTake ∷ []) r in
+        record { entered = zeros list r.calls page sizes.page_size taken.view next (omega arith) h.entered; calls = (inr ([], CleanTake, refl, tt, inl refl), h.calls) };
+    frees = λ was now list page r h. record { entered = h.entered; calls = (inr ([], CleanDone page, refl, tt, inl refl), h.calls) };
+    ends = λ whole r h. record { waiting = []; swept = None; entered = h.entered; calls = h.calls; above = tt; unfreed = λ p e. absurd (cc e) };
+  }
+
+  -- a store at an address, among touches that wait
+  more_waits : (a v : ℕ) (p : PassRecord) → newest_writes (p.touches ++ Write p.slot a v ∷ []) [] ≡ Write p.slot a v ∷ newest_writes p.touches []
+  more_waits a v p = writes_both p.touches (Write p.slot a v ∷ []) []
+
+  is_write : (a v : ℕ) (p : PassRecord) → store_fault p a ≡ None → PassEnters sizes p → IsWriteOf sizes (cell_at sizes a) v p.rider.calls (Write p.slot a v)
+  is_write a v p fault h =
+      let lawful = store_lawful p a v fault in
+      (p.slot, a, refl, refl, h.newest, h.older, h.newest_is, omega (arith, lawful.2, ap (λ (x : ℕ). x) (touches_rise p.slot p.held p.touches h.touches).2, h.sees))
+
+  stores : (a v : ℕ) (p : PassRecord) → store_fault p a ≡ None → PassEnters sizes p → PassEnters sizes (with_store sizes a v p)
+  unfolding with_store
+  stores a v p fault h = record {
+    entered = inl (Write p.slot a v, newest_writes p.touches [], more_waits a v p, is_write a v p fault h, h.entered);
+    calls = h.calls;
+    touches = (touches_more p.slot p.held p.touches (Write p.slot a v) h.touches (store_lawful p a v fault)).0;
+    newest = h.newest;
+    older = h.older;
+    newest_is = h.newest_is;
+    sees = h.sees;
+  }
+
+  changes : (a found v : ℕ) (p : PassRecord) → store_fault p a ≡ None → PassEnters sizes p → PassEnters sizes (with_change sizes a found v p)
+  unfolding with_change
+  changes a found v p fault h = record {
+    entered = (Write p.slot a v, newest_writes p.touches [], more_waits a v p, is_write a v p fault h, h.entered);
+    calls = h.calls;
+    touches = (touches_more p.slot p.held p.touches (Write p.slot a v) h.touches (store_lawful p a v fault)).0;
+    newest = h.newest;
+    older = h.older;
+    newest_is = h.newest_is;
+    sees = h.sees;
+  }
+
+  pass_loads : (a v : ℕ) (p : PassRecord) → PassEnters sizes p → PassEnters sizes (with_load sizes a v p)
+  unfolding with_load
+  pass_loads a v p h = record { entered = h.entered; calls = h.calls; touches = h.touches; newest = h.newest; older = h.older; newest_is = h.newest_is; sees = h.sees }
+
+  news : (read_only head ended : ℕ) (p : PassRecord) → PassEnters sizes p → PassEnters sizes (with_news read_only head ended p)
+  unfolding with_news
+  news read_only head ended p h = record { entered = h.entered; calls = h.calls; touches = h.touches; newest = h.newest; older = h.older; newest_is = h.newest_is; sees = h.sees }
+
+  looks : (read_only head : ℕ) (p : PassRecord) → PassEnters sizes p → PassEnters sizes (with_look read_only head p)
+  unfolding with_look
+  looks read_only head p h = by (nat_lt (seen p).read_only read_only || nat_lt (seen p).head head)
+    where
+      look : Step
+      look = Look p.slot (max (seen p).read_only read_only) (max (seen p).head head)
+
+      by : (b : Bool) → PassEnters sizes (record {
+        slot = p.slot;
+        stamp = p.stamp;
+        epoch = p.epoch;
+        held = p.held;
+        touches = p.touches ++ (if b then look ∷ [] else []);
+        rider = (with_look read_only head p).rider;
+      })
+      by true = record {
+        entered = subst (λ (l : List Step). AreEntered sizes p.rider.view.touches p.rider.calls l None) (sym (writes_both p.touches (look ∷ []) [])) h.entered;
+        calls = h.calls;
+        touches = (touches_more p.slot p.held p.touches look h.touches (refl, omega arith, omega arith)).0;
+        newest = h.newest;
+        older = h.older;
+        newest_is = h.newest_is;
+        sees = h.sees;
+      }
+      by false = record {
+        entered = subst (λ (l : List Step). AreEntered sizes p.rider.view.touches p.rider.calls (newest_writes l []) None) (sym (append-nil p.touches)) h.entered;
+        calls = h.calls;
+        touches = subst (AreTouches p.slot p.held) (sym (append-nil p.touches)) h.touches;
+        newest = h.newest;
+        older = h.older;
+        newest_is = h.newest_is;
+        sees = h.sees;
+      }
+
+  -- the touches of a pass and its step enter
+  all_enter : (was now : ℕ) (list : List Step) (s : Step) (p : PassRecord) → is_call s ≡ true → PassEnters sizes p → RiderEnters sizes None (with_entry was now list (p.touches ++ s ∷ []) p.rider)
+  all_enter was now list s p own h =
+      let kind = call_is s own in
+      let all = are_touches p.slot p.held p.touches h.touches in
+      let waits : newest_writes (p.touches ++ s ∷ []) [] ≡ newest_writes p.touches [] = writes_both p.touches (s ∷ []) [] ∙ no_write s (newest_writes p.touches []) kind.0 in
+      record {
+        entered = subst (λ (l : List Step). AreEntered sizes p.rider.view.touches p.rider.calls l (swept_by (p.touches ++ s ∷ []) None)) (sym waits)
+            (subst (λ (o : Option ℕ). AreEntered sizes p.rider.view.touches p.rider.calls (newest_writes p.touches []) o) (sym (touched_sweep p.touches s all kind.1)) h.entered);
+        calls = (inr (p.touches, s, refl, all, inr own), h.calls);
+      }
+
+  -- a call that met a list which begins with what the newest call left met no lower tail
+  sees_on : (list : List Step) (p : PassRecord) → 0 < sizes.page_size → IsAccepted sizes list → IsOf list p.rider.calls → PassEnters sizes p → p.held.tail ≤ tail sizes list
+  sees_on list p some ok of h =
+      let b = (subst (Every (λ (e : Entry). (rest : List Step) × (list ≡ left_by e ++ rest))) h.newest_is of.begins).0 in
+      let more = tail-append sizes (left_by h.newest) b.0 some (subst (IsAccepted sizes) b.1 ok) in
+      subst (λ (l : List Step). p.held.tail ≤ tail sizes l) (sym b.1) (omega (arith, h.sees, more))
+
+  -- a pass with another rider
+  with_newest : (list steps : List Step) (p : PassRecord) (r : RiderState) (older : List Entry) → AreEntered sizes r.view.touches r.calls (newest_writes p.touches []) None → Every (λ (e : Entry). IsOneCall e.steps) r.calls → r.calls ≡ entry list steps ∷ older
+      → AreTouches p.slot p.held p.touches → p.held.tail ≤ tail sizes (list ++ steps) → PassEnters sizes (with_rider r p)
+  with_newest list steps p r older entered calls is touches sees = record {
+    entered = entered;
+    calls = calls;
+    touches = touches;
+    newest = entry list steps;
+    older = older;
+    newest_is = is;
+    sees = sees;
+  }
+
+  pub passes_stay_entered : PassesStayEntered sizes
+  unfolding AreTouches
+  passes_stay_entered = record {
+    acquires = λ was now list t stamp slot r below h.
+        let one = riders_stay_entered.call was now list (Acquire t) r refl refl h in
+        record { entered = one.entered; calls = one.calls; touches = tt; newest = entry list (Acquire t ∷ []); older = r.calls; newest_is = refl; sees = below };
+    stores = stores;
+    changes = changes;
+    loads = pass_loads;
+    looks = looks;
+    news = news;
+    goes_on = λ was now list s epoch view p own below h.
+        let all = all_enter was now list s p own h in
+        record { entered = all.entered; calls = all.calls; touches = tt; newest = entry list (p.touches ++ s ∷ []); older = p.rider.calls; newest_is = refl; sees = below };
+    call = λ was now list s p touch free some ok of h.
+        let waits : newest_writes p.touches [] ++ newest_writes (s ∷ []) [] ≡ newest_writes p.touches [] = ap (λ (l : List Step). newest_writes p.touches [] ++ l) (no_write s [] touch) ∙ append-nil (newest_writes p.touches []) in
+        let good = beginnings_are_accepted sizes list (s ∷ []) ok in
+        with_newest list (s ∷ []) p (with_entry was now list (s ∷ []) p.rider) p.rider.calls
+        (subst (λ (l : List Step). AreEntered sizes p.rider.view.touches p.rider.calls l (swept_by (s ∷ []) None)) (sym waits) (subst (λ (o : Option ℕ). AreEntered sizes p.rider.view.touches p.rider.calls (newest_writes p.touches []) o) (sym (no_sweep s free)) h.entered))
+        (inr ([], s, refl, tt, inl refl), h.calls) refl h.touches (omega (arith, sees_on list p some good of h, tail-append sizes list (s ∷ []) some ok));
+    refused = λ was now list p some ok of h.
+        with_newest list [] p (with_entry was now list [] p.rider) p.rider.calls
+        (subst (λ (l : List Step). AreEntered sizes p.rider.view.touches p.rider.calls l None) (sym (append-nil (newest_writes p.touches []))) h.entered)
+        (inl refl, h.calls) refl h.touches (subst (λ (l : List Step). p.held.tail ≤ tail sizes l) (sym (append-nil list)) (sees_on list p some ok of h));
+    releases = λ was now list p h. all_enter was now list (Release p.slot) p refl h;
+    abandons = λ whole p some ok view h. record {
+      waiting = newest_writes p.touches [];
+      swept = None;
+      entered = h.entered;
+      calls = h.calls;
+      above = newest_every (λ (w : Step). (t a v : ℕ) → w ≡ Write t a v → safe_read_only whole ≤ a) p.touches []
+          (every_place (λ (w : Step). (t a v : ℕ) → w ≡ Write t a v → safe_read_only whole ≤ a) [] p.touches
+          (λ f x r is t a v same. pending_stays_above sizes whole p.slot p.held f r t a v some ok view (subst (AreTouches p.slot p.held) (is ∙ ap (λ (z : Step). f ++ z ∷ r) same) h.touches))) tt;
+      unfreed = λ q e. absurd (cc e);
+    };
+  }
