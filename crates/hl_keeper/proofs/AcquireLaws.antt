@@ -28,11 +28,11 @@ use Rattle.hl_keeper.proofs.StepLaws.{core_made, core_told, quiet}
 
 module _ {F : Type 0} (keeper : KeeperState F) (A : List Step) (t : ℕ) (st : KeeperStands keeper A) where
   -- no stamp is too great
-  pub acquire_counts : (keeper.acquired ≤ 2 ^ 62) × (keeper.stamp ≤ 2 ^ 62)
+  acquire_counts : (keeper.acquired ≤ 2 ^ 62) × (keeper.stamp ≤ 2 ^ 62)
   acquire_counts = (omega (arith, st.acquired_is, acquires_in-le A, st.total_is, st.total_most), st.stamp_most)
 
   -- the count and the row then
-  pub acquire_stamps : (stamps : List ℕ) (acquired : ℕ) → acquired ≡ keeper.acquired + 1 → stamps ≡ set keeper.stamps t (keeper.stamp + acquired) → Stamped keeper (A ++ Acquire t ∷ []) stamps acquired
+  acquire_stamps : (stamps : List ℕ) (acquired : ℕ) → acquired ≡ keeper.acquired + 1 → stamps ≡ set keeper.stamps t (keeper.stamp + acquired) → Stamped keeper (A ++ Acquire t ∷ []) stamps acquired
   acquire_stamps stamps acquired a s =
       let count : acquired ≡ acquires_in (A ++ Acquire t ∷ []) = a ∙ ap (λ n. n + 1) st.acquired_is ∙ sym (acquires_in-acquire A t) in record {
         count = count;
@@ -40,7 +40,7 @@ module _ {F : Type 0} (keeper : KeeperState F) (A : List Step) (t : ℕ) (st : K
       }
 
 -- so the next stamp is no less than it is counted
-pub given_is : (stamps : Stamps) → stamps.given ≤ 2 ^ 62 → stamps.own ≤ 2 ^ 62 → (next_given stamps ≡ stamps.given + 1) × (next_stamp stamps ≡ stamps.own + (stamps.given + 1))
+given_is : (stamps : Stamps) → stamps.given ≤ 2 ^ 62 → stamps.own ≤ 2 ^ 62 → (next_given stamps ≡ stamps.given + 1) × (next_stamp stamps ≡ stamps.own + (stamps.given + 1))
 given_is stamps most own =
     let next : next_given stamps ≡ stamps.given + 1 = mod-eq_of_lt (omega (arith, most)) in
     (next, ap (λ n. (stamps.own + n) % 2 ^ 64) next ∙ mod-eq_of_lt (omega (arith, most, own)))

@@ -5,6 +5,7 @@ pub mod StampLaws
 pub mod JournalLaws
 pub mod KeeperLaws
 pub mod CallLaws
+pub mod CatchLaws
 pub mod EnterLaws
 pub mod TouchedLaws
 pub mod SlotLaws

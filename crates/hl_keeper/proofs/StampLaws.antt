@@ -3,7 +3,6 @@ use Rattle.std.proofs.Common.{◌≡◌, ℕ, zero, suc, ◌+◌, ◌≤◌, Boo
 use Rattle.std.specs.List.{list_any, range_with_len}
 use Rattle.std.proofs.lemmas.Bool.{cond-true, cond-false}
 use Rattle.std.proofs.lemmas.List.{length_push, take-append-le}
-use Rattle.std.proofs.lemmas.List.FromFn.{length-map-range_with_len}
 use Rattle.std.proofs.lemmas.List.Sums.{count_by-le-length}
 use Rattle.hl_model.specs.declared.step.Step.{Step}
 use Rattle.hl_model.specs.declared.step.Step.TheVariants.{Acquire, Refresh, Release, Allocate, Look, Write}
@@ -74,11 +73,6 @@ slot_stamps-acquire n stamp A t =
 pub slot_stamps-stay : (n stamp : ℕ) (A : List Step) (s : Step) → is_acquire s ≡ false → slot_stamps n stamp (A ++ s ∷ []) ≡ slot_stamps n stamp A
 unfolding slot_stamps
 slot_stamps-stay n stamp A s h = rows_same (λ u. slot_stamp stamp u (A ++ s ∷ [])) (λ u. slot_stamp stamp u A) n (λ u. slot_stamp-stay stamp u A s (no_acquire u s h))
-
--- there are n
-pub length-slot_stamps : (n stamp : ℕ) (A : List Step) → length (slot_stamps n stamp A) ≡ n
-unfolding slot_stamps
-length-slot_stamps n stamp A = length-map-range_with_len (λ t. slot_stamp stamp t A) 0 n
 
 -- no slot has one before the first step
 pub slot_stamps-nil : (n stamp : ℕ) → slot_stamps n stamp [] ≡ replicate n 0

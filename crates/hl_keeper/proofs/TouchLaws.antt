@@ -1,5 +1,5 @@
 -- What touches make of a list: each is accepted, and they move nothing but their own slot's view.
-use Rattle.std.proofs.Common.{◌≡◌, ℕ, zero, suc, ◌-◌, ◌*◌, ◌/◌, ◌<◌, ◌≤◌, Bool, true, false, cond, leb, ltb, max, is_some, List, [], ◌∷◌, ◌++◌, length, take, drop, get_or, refl, sym, ap, ap₂, ◌∙◌, subst, arith, append_assoc, append-nil, eq-eqb}
+use Rattle.std.proofs.Common.{◌≡◌, ℕ, ◌-◌, ◌*◌, ◌/◌, ◌<◌, ◌≤◌, Bool, true, false, cond, leb, ltb, max, is_some, List, [], ◌∷◌, ◌++◌, take, drop, refl, sym, ap, ap₂, ◌∙◌, subst, arith, append_assoc, append-nil, eq-eqb}
 use Rattle.std.specs.Prelude.{Option, Some, None, ◌||◌, unwrap_or}
 use Rattle.std.proofs.lemmas.Bool.{lt-leb, le-ltb, cond-true}
 use Rattle.std.proofs.lemmas.List.{take-append-drop}
@@ -15,14 +15,12 @@ use Rattle.hl_model.specs.Offsets.{raised_to, shifted_to, read_only, head, place
 use Rattle.hl_model.specs.Pages.{is_freed, frees}
 use Rattle.hl_model.specs.Views.{allocates, seen_read_only, seen_head, seen_tail, view_of, slot_view}
 use Rattle.hl_model.specs.Replies.{protected_fault, size_fault, allocate_fault, or_fault, look_fault, write_fault, beyond_fault, fault_of, IsAccepted}
-use Rattle.hl_laws.proofs.AcceptedLaws.{IsAccepted-push}
 use Rattle.hl_laws.proofs.BoundLaws.{tail-append}
 use Rattle.hl_laws.proofs.DrainLaws.{protected-slot}
 use Rattle.hl_laws.proofs.LawProofs.{slot_epoch-protected}
 use Rattle.hl_laws.proofs.OffsetLaws.{read_only-stay, head-stay, tail-push}
 use Rattle.hl_laws.proofs.ViewLaws.{is_protected-push, seen_read_only-push, seen_head-push, seen_tail-stay, slot_view-moves, slot_view-stay, is_protected-slot_view, view_of-slot_view}
 use Rattle.hl_laws.proofs.WorkLaws.{is_freed-stay}
-use Rattle.hl_core.specs.Steps.{is_acted}
 use Rattle.hl_keeper.specs.Stores.{stores_of}
 use Rattle.hl_keeper.proofs.StoreLaws.{stores-stay}
 use Rattle.hl_keeper.specs.Touches.{view_past, view_after, IsTouch, AreTouches, is_call}
@@ -49,16 +47,15 @@ pub record IsStill (s : Step) : Type 0 where
   pub tail_stays : (page_size tail : ℕ) → tail_past page_size tail s ≡ tail
   pub frees_none : (p : ℕ) → frees p s ≡ false
   pub bumps_none : is_bump s ≡ false
-  pub acted : is_acted s ≡ true
 
 -- a touch is such a step
 pub touch_still : (t : ℕ) (v : View) (s : Step) → IsTouch t v s → IsStill s
-touch_still t v (Look u r h) is = record { enters_none = λ t. refl; leaves_none = λ t. refl; raises_none = refl; shifts_none = refl; tail_stays = λ p q. refl; frees_none = λ p. refl; bumps_none = refl; acted = refl }
-touch_still t v (Write u a x) is = record { enters_none = λ t. refl; leaves_none = λ t. refl; raises_none = refl; shifts_none = refl; tail_stays = λ p q. refl; frees_none = λ p. refl; bumps_none = refl; acted = refl }
+touch_still t v (Look u r h) is = record { enters_none = λ t. refl; leaves_none = λ t. refl; raises_none = refl; shifts_none = refl; tail_stays = λ p q. refl; frees_none = λ p. refl; bumps_none = refl }
+touch_still t v (Write u a x) is = record { enters_none = λ t. refl; leaves_none = λ t. refl; raises_none = refl; shifts_none = refl; tail_stays = λ p q. refl; frees_none = λ p. refl; bumps_none = refl }
 touch_still t v _ is = absurd is
 
 -- a look of a slot that isn't below its view is accepted, and its view is then what the look brings
-look_step : (sizes : Sizes) (t : ℕ) (A : List Step) (v : View) (r h : ℕ) → IsAccepted sizes A → slot_view sizes t A ≡ Some v → v.read_only ≤ r → v.head ≤ h → (fault_of sizes A (Look t r h) ≡ None) × (slot_view sizes t (A ++ Look t r h ∷ []) ≡ Some (view_past v (Look t r h)))
+pub look_step : (sizes : Sizes) (t : ℕ) (A : List Step) (v : View) (r h : ℕ) → IsAccepted sizes A → slot_view sizes t A ≡ Some v → v.read_only ≤ r → v.head ≤ h → (fault_of sizes A (Look t r h) ≡ None) × (slot_view sizes t (A ++ Look t r h ∷ []) ≡ Some (view_past v (Look t r h)))
 look_step sizes t A v r h a at x y =
     let seen = viewed sizes t A v at in
     let left : seen_read_only t A ≤ r = omega (arith, x, ap (λ (w : View). w.read_only) seen.1) in
@@ -87,15 +84,6 @@ pub touch_step : (sizes : Sizes) (t : ℕ) (A : List Step) (v : View) (s : Step)
 touch_step sizes t A v (Look u r h) is a at = subst (λ (z : ℕ). (fault_of sizes A (Look z r h) ≡ None) × (slot_view sizes t (A ++ Look z r h ∷ []) ≡ Some (view_past v (Look z r h)))) (sym is.0) (look_step sizes t A v r h a at is.1 is.2)
 touch_step sizes t A v (Write u b x) is a at = subst (λ (z : ℕ). (fault_of sizes A (Write z b x) ≡ None) × (slot_view sizes t (A ++ Write z b x ∷ []) ≡ Some (view_past v (Write z b x)))) (sym is.0) (write_step sizes t A v b x a at is.1 is.2)
 touch_step sizes t A v _ is a at = absurd is
-
--- touches are accepted one after another, and the view is then that after them
-pub touches_accepted : (sizes : Sizes) (t : ℕ) (A : List Step) (v : View) (xs : List Step) → AreTouches t v xs → IsAccepted sizes A → slot_view sizes t A ≡ Some v → IsAccepted sizes (A ++ xs) × (slot_view sizes t (A ++ xs) ≡ Some (view_after v xs))
-unfolding AreTouches view_after
-touches_accepted sizes t A v [] are a at = subst (λ (z : List Step). IsAccepted sizes z × (slot_view sizes t z ≡ Some v)) (sym (append-nil A)) (a, at)
-touches_accepted sizes t A v (s ∷ xs) are a at =
-    let one = touch_step sizes t A v s are.0 a at in
-    let rest = touches_accepted sizes t (A ++ s ∷ []) (view_past v s) xs are.1 (IsAccepted-push sizes A s a one.0) one.1 in
-    subst (λ (z : List Step). IsAccepted sizes z × (slot_view sizes t z ≡ Some (view_after (view_past v s) xs))) (append_assoc A (s ∷ []) xs) rest
 
 -- what a still step leaves: who is protected
 still_protected : (sizes : Sizes) (A : List Step) (s : Step) (t : ℕ) → IsStill s → is_protected t (A ++ s ∷ []) ≡ is_protected t A
@@ -162,13 +150,6 @@ touches_leave_stores t A v (s ∷ xs) are =
     ap stores_of (sym (append_assoc A (s ∷ []) xs))
     ∙ touches_leave_stores t (A ++ s ∷ []) (view_past v s) xs are.1
     ∙ stores-stay A s still.raises_none still.shifts_none still.bumps_none
-
--- of touches none has a job go in or come out
-pub touches_act : (t : ℕ) (v : View) (xs : List Step) (n : ℕ) (d : Step) → AreTouches t v xs → n < length xs → is_acted (get_or xs n d) ≡ true
-unfolding AreTouches
-touches_act t v [] n d are lt = absurd (omega (arith, lt))
-touches_act t v (s ∷ xs) zero d are lt = (touch_still t v s are.0).acted
-touches_act t v (s ∷ xs) (suc n) d are lt = touches_act t (view_past v s) xs n d are.1 (omega (arith, lt))
 
 -- touches, and one more
 pub touches_more : (t : ℕ) (v : View) (xs : List Step) (s : Step) → AreTouches t v xs → IsTouch t (view_after v xs) s → AreTouches t v (xs ++ s ∷ []) × (view_after v (xs ++ s ∷ []) ≡ view_past (view_after v xs) s)

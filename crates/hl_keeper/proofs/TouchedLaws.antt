@@ -1,21 +1,18 @@
 -- A pass's touches and its own step behind them, made by a keeper.
-use Rattle.std.proofs.Common.{◌≡◌, ℕ, ◌+◌, ◌^◌, ◌<◌, ◌≤◌, true, false, cond, is_none, List, [], ◌∷◌, ◌++◌, length, get_or, refl, sym, ap, ◌∙◌, subst, arith, append_assoc, append-nil}
-use Rattle.std.specs.Prelude.{Option, Some, None, Result, Ok, Err}
+use Rattle.std.proofs.Common.{◌≡◌, ℕ, ◌+◌, ◌^◌, ◌≤◌, true, false, cond, is_none, List, [], ◌∷◌, ◌++◌, length, refl, sym, ap, ◌∙◌, subst, arith, append_assoc, append-nil}
+use Rattle.std.specs.Prelude.{Some, None, Result, Ok, Err}
 use Rattle.std.proofs.lemmas.List.{length_push}
 use Rattle.hl_model.specs.declared.fault.Fault.{Fault}
 use Rattle.hl_model.specs.declared.step.Reply.{Reply}
 use Rattle.hl_model.specs.declared.step.Step.{Step}
 use Rattle.hl_model.specs.declared.step.Step.TheVariants.{Refresh, Release, Allocate}
-use Rattle.hl_model.specs.declared.view.View.{View}
 use Rattle.hl_model.specs.Epochs.{is_bump}
 use Rattle.hl_model.specs.Offsets.{raised_to, shifted_to, read_only, head}
-use Rattle.hl_model.specs.Views.{slot_view, slot_views}
 use Rattle.hl_model.specs.Replies.{or_fault, fault_of, answer_of, unless_fault}
 use Rattle.hl_laws.proofs.NoFaultLaws.{unless_err, unless_ok}
 use Rattle.hl_laws.proofs.OffsetLaws.{read_only-stay, head-stay}
-use Rattle.hl_laws.proofs.ViewLaws.{slot_views-at}
 use Rattle.hl_action.specs.Jobs.{KeptRecord}
-use Rattle.hl_words.specs.States.{MasterState}
+use Rattle.hl_words.specs.States.{MasterState, RiderState}
 use Rattle.hl_words.specs.Views.{newest}
 use Rattle.hl_core.specs.Standing.{State, Stands}
 use Rattle.hl_core.specs.Steps.{Stepped, is_acted}
@@ -24,9 +21,14 @@ use Rattle.hl_keeper.specs.Passes.{PassRecord}
 use Rattle.hl_keeper.specs.Journals.{JournalState, journal_of, full_fault, with_steps}
 use Rattle.hl_keeper.specs.Keepers.{job_tag, KeeperState, KeeperStands, IsKeeper}
 use Rattle.hl_keeper.specs.Calls.{room_fault, step_fault, touched_fault, entered, made, Knows, Called, Replied, Makes}
-use Rattle.hl_keeper.specs.Entering.{MayEnter}
+use Rattle.hl_keeper.specs.Parts.{keeper_of, pass_of}
+use Rattle.hl_keeper.specs.Touches.{view_after}
+use Rattle.hl_pass.specs.declared.pass_view.PassView.{PassView}
+use Rattle.hl_pass.specs.declared.stamps.Stamps.{Stamps}
+use Rattle.hl_pass.specs.Calls.{looked}
+use Rattle.hl_keeper.proofs.CatchLaws.{caught_up, viewed_anywhere}
 use Rattle.hl_keeper.specs.Stamps.{is_acquire, acquires_in, slot_stamps}
-use Rattle.hl_keeper.proofs.TouchLaws.{viewed_slot, touches_accepted, touches_leave_faults, touches_leave_offsets, touches_leave_stores, touches_act}
+use Rattle.hl_keeper.proofs.TouchLaws.{touches_leave_faults, touches_leave_offsets, touches_leave_stores}
 use Rattle.hl_keeper.proofs.EnterLaws.{stepped_on}
 use Rattle.hl_keeper.proofs.JournalLaws.{room_fewer, room_behind, steps_assoc}
 use Rattle.hl_keeper.specs.Stores.{stores_of}
@@ -120,23 +122,13 @@ module _ {F : Type 0} where
   called_faulty keeper p s f may h A st =
       called_refused keeper A p s f st (touched_is keeper p s may A ∙ unless_err (fault_of keeper.core.sizes A s) f (tt {0}) (h A st.core_stands))
 
-  -- wherever the core stands the pass's slot has its view
-  viewed_anywhere : (keeper : KeeperState F) (p : PassRecord) (s : Step) → MayCall keeper p s → (A : List Step) → Stands job_tag keeper.core A → slot_view keeper.core.sizes p.slot A ≡ Some p.held
-  viewed_anywhere keeper p s may A st =
+  -- so once it caught up, the core stands where the touches lead
+  pub has_caught_up : (core mid : State (KeptRecord F)) (journal : JournalState) (stamps : Stamps) (master : MasterState) (own : PassView) (xs : List Step) (rider : RiderState) (s : Step) → MayCall (keeper_of core journal stamps master) (pass_of own xs rider) s → own.view ≡ view_after own.held xs → mid.sizes ≡ core.sizes
+      → ((A : List Step) → Stands job_tag core A → Stands job_tag mid (looked core.sizes A own)) → (A : List Step) → Stands job_tag core A → Stands job_tag mid (A ++ xs)
+  has_caught_up core mid journal stamps master own xs rider s may is same caught A st =
       let B : List Step = may.standing.0 in
-      let at : KeeperStands keeper B = may.standing.1 in
-      let here : slot_view keeper.core.sizes p.slot B ≡ Some p.held = may.known B at in
-      let lt : p.slot < keeper.core.sizes.slots = viewed_slot keeper.core.sizes p.slot B p.held at.core_stands.accepted here in
-      let same : slot_views keeper.core.sizes A ≡ slot_views keeper.core.sizes B = sym st.views_is ∙ at.core_stands.views_is in
-      sym (slot_views-at keeper.core.sizes A p.slot None lt) ∙ ap (λ (z : List (Option View)). get_or z p.slot None) same ∙ slot_views-at keeper.core.sizes B p.slot None lt ∙ here
-
-  -- so its touches may enter
-  pub may_enter : (keeper : KeeperState F) (p : PassRecord) (s : Step) → MayCall keeper p s → MayEnter job_tag keeper.core p.touches
-  may_enter keeper p s may = record {
-    standing = (may.standing.0, may.standing.1.core_stands);
-    accepted = λ A st. (touches_accepted keeper.core.sizes p.slot A p.held p.touches may.lawful st.accepted (viewed_anywhere keeper p s may A st)).0;
-    acted = λ n d lt. touches_act p.slot p.held p.touches n d may.lawful lt;
-  }
+      let at : KeeperStands (keeper_of core journal stamps master) B = may.standing.1 in
+      caught_up job_tag core mid own xs A is may.lawful (viewed_anywhere job_tag core own.slot B own.held at.core_stands (may.known B at) A st) st same (caught A st)
 
   -- the journal has room for the touches, and behind them for the step
   pub touches_fit : (keeper : KeeperState F) (p : PassRecord) (s : Step) → MayCall keeper p s → full_fault (journal_of keeper) (length p.touches) ≡ None

@@ -1,6 +1,5 @@
 pub mod Calls
 pub mod Endings
-pub mod Entering
 pub mod Journals
 pub mod Keepers
 pub mod Leases

@@ -1,5 +1,5 @@
 //! What the locked calls have in common: the tests before the core's, and the journal behind them.
-ghost use Rattle.std.specs.Prelude.{◌≡◌, ◌+◌, ◌≤◌, None, List, [], ◌∷◌, true, OnErr, MatchResult};
+ghost use Rattle.std.specs.Prelude.{◌≡◌, ◌+◌, ◌≤◌, None, List, [], ◌∷◌, length, true, OnErr, MatchResult};
 ghost use Rattle.hl_model.specs.declared.step.Step.{Step as STEP};
 ghost use Rattle.hl_model.specs.Replies.{unless_fault};
 ghost use Rattle.hl_keeper.specs.Touches.{is_call};
@@ -8,13 +8,13 @@ ghost use Rattle.hl_keeper.specs.Keepers.{KeeperStands, IsKeeper, steps_most};
 ghost use Rattle.hl_keeper.specs.Journals.{full_fault, with_steps};
 ghost use Rattle.hl_keeper.specs.Calls.{is_behind, stranger_fault, ahead_fault, room_fault, origin_fault, Knows, Called, Keeps, SameStamps};
 
-use crate::enter::enter_steps;
 use crate::journal::Journal;
 use crate::keeper::Keeper;
 use crate::pass::Pass;
 use hl_action::{Promise, Task};
 use hl_epoch::Epochs;
 use hl_model::{Fault, Reply, Step};
+use hl_pass::catch_up;
 use hl_words::{Master, Realm, Rider};
 
 impl<E: Epochs + Drop, F: Task, P: Promise, L: Realm> Keeper<E, F, P, L> {
@@ -86,7 +86,9 @@ impl<E: Epochs + Drop, F: Task, P: Promise, L: Realm> Keeper<E, F, P, L> {
         let count = touches + 1;
         self.room(count)?;
         self.core.check(step)?;
-        enter_steps(&mut self.core, &mut self.journal, pass.touches.as_slice());
+        // A write leaves a core as it is, so one look brings it where all touches lead.
+        catch_up(&mut self.core, &pass.own);
+        note_all(&mut self.journal, pass.touches.as_slice());
         match self.core.act(step) {
             Ok(reply) => {
                 self.journal.note(*step);
@@ -125,6 +127,16 @@ impl<E: Epochs + Drop, F: Task, P: Promise, L: Realm> Keeper<E, F, P, L> {
         ensures { result ≡ unless_fault (room_fault self.now count) tt }
     {
         self.journal.room(count)
+    }
+}
+
+/// Puts these steps behind the journal.
+fn note_all(journal: &mut Journal, steps: &[Step])
+    requires { full_fault journal.old (length steps.now) ≡ None }
+    ensures { journal.new ≡ with_steps steps.now journal.old }
+{
+    for step in steps {
+        journal.note(*step);
     }
 }
 

@@ -47,7 +47,6 @@ mod actions;
 mod call;
 mod cut;
 mod ending;
-mod enter;
 mod exchange;
 mod journal;
 mod keeper;
