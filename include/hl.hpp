@@ -223,7 +223,9 @@ inline Result<Word> one(hl_brief told) noexcept {
     return told.a;
 }
 
-inline View view_of(const hl_outcome &told) noexcept { return {told.b, told.c, told.d}; }
+/// A view, whose numbers are read one by one, as the library stores them: a read of two at once, into which compilers
+/// join them where they may, would wait until both stores have left the processor's buffer.
+inline View view_of(const volatile hl_outcome &told) noexcept { return {told.b, told.c, told.d}; }
 
 /// The answer that some function makes of an accepted call.
 template <class Make> auto made(const hl_outcome &told, Make make) -> Result<decltype(make(told))> {
@@ -232,7 +234,7 @@ template <class Make> auto made(const hl_outcome &told, Make make) -> Result<dec
 }
 
 inline Result<Entered> entered(const hl_outcome &told) {
-    return made(told, [](const hl_outcome &it) { return Entered{it.a, view_of(it)}; });
+    return made(told, [](const volatile hl_outcome &it) { return Entered{it.a, view_of(it)}; });
 }
 
 inline Result<Action> action(const hl_outcome &told) {

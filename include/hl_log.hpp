@@ -117,9 +117,9 @@ class Pass {
 
     /// Moves on to the current epoch, and sees the offsets as they are.
     [[nodiscard]] Result<Entered> refresh() noexcept {
-        auto now = detail::entered(shared_.ask(hl_log_refresh, &pass_));
-        if (now) view_ = now->view;
-        return now;
+        hl_outcome told = shared_.ask(hl_log_refresh, &pass_);
+        if (told.number == 0) view_ = detail::view_of(told);
+        return detail::entered(told);
     }
     /// Places a record of so many words, and sees the tail behind it: its address. Size, SpaceSpent, Busy.
     [[nodiscard]] Result<Word> allocate(Word words) noexcept {

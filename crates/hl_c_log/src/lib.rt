@@ -23,7 +23,8 @@
 //! # How a call goes
 //!
 //! As in the door of a core: it takes the boxes out of their handles, makes the call, and puts them back.
-//! `LogHandle::step` is the one way of a step of the log, `by_pass` that of a pass's.
+//! `LogHandle::step` is the one way of a step of the log, `by_pass` that of a pass's but for its refresh, whose answer is
+//! made of the slot itself.
 #![tactic(auto)]
 
 mod acquire;

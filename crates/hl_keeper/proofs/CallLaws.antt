@@ -1,5 +1,5 @@
 -- What the tests before the core's answer.
-use Rattle.std.proofs.Common.{◌≡◌, ℕ, ◌<◌, ◌≤◌, Bool, true, false, leb, List, refl, sym, ap, ap₂, ◌∙◌, arith}
+use Rattle.std.proofs.Common.{◌≡◌, ℕ, ◌<◌, ◌≤◌, Bool, true, false, leb, List, sym, ap, ap₂, ◌∙◌, arith}
 use Rattle.std.specs.Prelude.{◌&&◌, Result, Ok, Err}
 use Rattle.std.proofs.lemmas.Bool.{le-leb, lt-leb}
 use Rattle.hl_model.specs.declared.fault.Fault.{Fault}
@@ -15,6 +15,7 @@ use Rattle.hl_words.specs.States.{RiderState}
 use Rattle.hl_pass.specs.declared.pass_view.PassView.{PassView}
 use Rattle.hl_pass.specs.Calls.{unless_stranger, stranger_fault as stranger_by, origin_fault as of_log}
 use Rattle.hl_pass.specs.Stamps.{stamp_at as stamp_by}
+use Rattle.hl_pass.proofs.KnownLaws.{test_passed}
 use Rattle.hl_keeper.specs.Passes.{PassRecord, seen}
 use Rattle.hl_keeper.specs.Keepers.{KeeperState}
 use Rattle.hl_keeper.specs.Calls.{stamp_at, is_known, is_behind, stranger_fault, ahead_fault, origin_fault}
@@ -47,11 +48,7 @@ module _ (A : List Step) (p : PassRecord) (v : View) (now : Six) (sizes : Sizes)
       lt-leb v.read_only now.read_only lt
       ∙ sym (ap (λ b. b && leb (seen p).head (head A)) (lt-leb (seen p).read_only (read_only A) (omega (arith, lt, low, now_low))))
 
--- what a test that passed was
-known_true : (b : Bool) (s : ℕ) (u : Unit {0}) → Ok u ≡ unless_fault (unless_stranger b s) (tt {0}) → b ≡ true
-known_true true s u h = refl
-known_true false s u h = cc
-
+-- a test that refused refuses with one more
 still_refused : (b c : Bool) (s : ℕ) (f : Fault) → Err f ≡ unless_fault (unless_stranger b s) (tt {0}) → Err f ≡ unless_fault (unless_stranger (b && c) s) (tt {0})
 still_refused true c s f h = cc
 still_refused false c s f h = h
@@ -80,13 +77,13 @@ module _ {F : Type 0} where
   unfolding ahead_fault stranger_fault
   behind_ok keeper A p u c e d t =
       passes (is_known keeper A p && is_behind A p) (stamp_at keeper A p.slot)
-      (ap₂ (λ x y. x && y) (known_true (is_known keeper A p) (stamp_at keeper A p.slot) u e) (sym d ∙ t))
+      (ap₂ (λ x y. x && y) (test_passed (is_known keeper A p) (stamp_at keeper A p.slot) u e) (sym d ∙ t))
 
   pub behind_err : (keeper : KeeperState F) (A : List Step) (p : PassRecord) (u : Unit {0}) (c : Bool) (s : ℕ) → Ok u ≡ unless_fault (stranger_fault keeper A p) (tt {0}) → c ≡ is_behind A p → c ≡ false → s ≡ stamp_at keeper A p.slot → Err (Stranger s) ≡ unless_fault (ahead_fault keeper A p) (tt {0})
   unfolding ahead_fault stranger_fault
   behind_err keeper A p u c s e d f is =
       refuses (is_known keeper A p && is_behind A p) (stamp_at keeper A p.slot) s
-      (ap₂ (λ x y. x && y) (known_true (is_known keeper A p) (stamp_at keeper A p.slot) u e) (sym d ∙ f)) is
+      (ap₂ (λ x y. x && y) (test_passed (is_known keeper A p) (stamp_at keeper A p.slot) u e) (sym d ∙ f)) is
 
   -- and one that isn't known
   pub ahead_err : (keeper : KeeperState F) (A : List Step) (p : PassRecord) (f : Fault) → Err f ≡ unless_fault (stranger_fault keeper A p) (tt {0}) → Err f ≡ unless_fault (ahead_fault keeper A p) (tt {0})

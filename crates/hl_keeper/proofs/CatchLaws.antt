@@ -17,10 +17,11 @@ use Rattle.hl_core.proofs.LookStands.{look_ok, write_ok}
 use Rattle.hl_pass.specs.declared.pass_view.PassView.{PassView}
 use Rattle.hl_pass.specs.Calls.{looked}
 use Rattle.hl_pass.specs.Passes.{is_up}
-use Rattle.hl_pass.proofs.KnownLaws.{left_of, right_of}
+use Rattle.hl_pass.proofs.KnownLaws.{and_parts}
+use Rattle.hl_pass.proofs.LookLaws.{viewed, viewed_slot, look_free}
 use Rattle.hl_keeper.specs.Touches.{view_past, view_after, IsTouch, AreTouches}
 use Rattle.hl_keeper.proofs.EnterLaws.{stepped_on}
-use Rattle.hl_keeper.proofs.TouchLaws.{viewed, viewed_slot, look_step, touch_step, touches_rise}
+use Rattle.hl_keeper.proofs.TouchLaws.{touch_step, touches_rise}
 
 module _ {J : Type 0} (tag : J → ℕ) where
   -- the core whose row of views is this, and the one in which slot t has this view
@@ -64,7 +65,7 @@ module _ {J : Type 0} (tag : J → ℕ) where
     looked_on r h low high =
         let told : (B : List Step) → Stands tag core B → Ok v ≡ unless_fault (fault_of core.sizes B (Look t r h)) (view_of core.sizes t B) =
         (λ B there. let here : slot_view core.sizes t B ≡ Some v = viewed_anywhere B there in
-        sym (ap (λ o. unless_fault o (view_of core.sizes t B)) (look_step core.sizes t B v r h there.accepted here low high).0 ∙ ap (λ (w : View). Ok w) (viewed core.sizes t B v here).1)) in
+        sym (ap (λ o. unless_fault o (view_of core.sizes t B)) (look_free core.sizes t B v r h there.accepted here low high) ∙ ap (λ (w : View). Ok w) (viewed core.sizes t B v here).1)) in
         (stepped_on tag core A (Look t r h) _ _ (look_ok tag core t r h v told A st)).2
 
     -- after a touch
@@ -102,15 +103,16 @@ module _ {J : Type 0} (tag : J → ℕ) where
 
       by_look : (up : Bool) → is_up own ≡ up → Stands tag new (A ++ xs)
       by_look true up =
-          let low : own.view.read_only ≡ own.held.read_only = eqb-true own.view.read_only own.held.read_only (left_of (eqb own.view.read_only own.held.read_only) (eqb own.view.head own.held.head) up) in
-          let high : own.view.head ≡ own.held.head = eqb-true own.view.head own.held.head (right_of (eqb own.view.read_only own.held.read_only) (eqb own.view.head own.held.head) up) in
+          let both = and_parts (eqb own.view.read_only own.held.read_only) (eqb own.view.head own.held.head) up in
+          let low : own.view.read_only ≡ own.held.read_only = eqb-true own.view.read_only own.held.read_only both.0 in
+          let high : own.view.head ≡ own.held.head = eqb-true own.view.head own.held.head both.1 in
           let held : own.view ≡ own.held = whole own.held.read_only own.held.head own.held.tail low high rise.2 in
           alike new (seeing core own.slot own.view) A (A ++ xs) same
           (subst (λ (b : Bool). Stands tag new (cond b A (extended core.sizes A (Look own.slot own.view.read_only own.view.head)))) up there)
           (subst (λ (w : View). Stands tag (seeing core own.slot w) A) (sym held) (itself core own.slot A own.held st at)) last
       by_look false up =
           let look : Step = Look own.slot own.view.read_only own.view.head in
-          let free = (look_step core.sizes own.slot A own.held own.view.read_only own.view.head st.accepted at rise.0 rise.1).0 in
+          let free = look_free core.sizes own.slot A own.held own.view.read_only own.view.head st.accepted at rise.0 rise.1 in
           let past : own.view ≡ view_past own.held look = whole own.view.read_only own.view.head own.held.tail refl refl rise.2 in
           alike new (seeing core own.slot own.view) (A ++ look ∷ []) (A ++ xs) same
           (subst (λ (B : List Step). Stands tag new B) (extended-none core.sizes A look free) (subst (λ (b : Bool). Stands tag new (cond b A (extended core.sizes A look))) up there))

@@ -1,7 +1,7 @@
 -- What a pass's locked calls answer.
-use Rattle.std.proofs.Common.{◌≡◌, ℕ, ◌+◌, ◌-◌, ◌/◌, ◌^◌, ◌<◌, ◌≤◌, Bool, true, false, cond, eqb, leb, is_none, List, [], ◌∷◌, ◌++◌, length, refl, sym, ap, ap₂, ◌∙◌, subst, arith}
+use Rattle.std.proofs.Common.{◌≡◌, ℕ, ◌+◌, ◌-◌, ◌/◌, ◌^◌, ◌<◌, ◌≤◌, true, cond, leb, is_none, List, [], ◌∷◌, ◌++◌, length, refl, sym, ap, ap₂, ◌∙◌, subst, arith}
 use Rattle.std.specs.Prelude.{◌==◌, ◌&&◌, Option, Some, None, Ok, Err}
-use Rattle.std.proofs.lemmas.Bool.{eqb-true, leb-true, eq-eqb}
+use Rattle.std.proofs.lemmas.Bool.{leb-true, eq-eqb}
 use Rattle.hl_model.specs.declared.fault.Fault.{Fault}
 use Rattle.hl_model.specs.declared.step.Reply.{Reply}
 use Rattle.hl_model.specs.declared.step.Reply.TheVariants.{Entered, At}
@@ -16,33 +16,14 @@ use Rattle.hl_model.specs.Replies.{or_fault, fault_of, answer_of, unless_fault}
 use Rattle.hl_laws.proofs.NoFaultLaws.{unless_err, unless_ok, or_fault-none, allocate-none, size-none}
 use Rattle.hl_laws.proofs.OffsetLaws.{place_of-le, place_of-one_page}
 use Rattle.hl_laws.proofs.ViewLaws.{slot_view-enters, view_of-slot_view}
-use Rattle.hl_pass.specs.Calls.{unless_stranger}
+use Rattle.hl_pass.proofs.KnownLaws.{and_parts, view_is, test_passed}
 use Rattle.hl_pass.specs.Views.{has_view}
 use Rattle.hl_keeper.specs.Touches.{AreTouches}
 use Rattle.hl_keeper.specs.Passes.{PassRecord, seen, entered_by, rested}
 use Rattle.hl_keeper.specs.Keepers.{KeeperState, KeeperStands}
 use Rattle.hl_keeper.specs.Calls.{stamp_at, is_known, is_behind, stranger_fault, ahead_fault, room_fault, touched_fault, call_fault, refresh_fault, entered, touched_list, Knows, Called, Replied, IsUpTo}
-use Rattle.hl_keeper.proofs.TouchLaws.{viewed, touches_leave_offsets, touches_rise, seen_tail-le}
-
-and_parts : (a b : Bool) → (a && b) ≡ true → (a ≡ true) × (b ≡ true)
-and_parts true b h = (refl, h)
-and_parts false b h = cc
-
--- a slot that has a view by the test has it
-view_is : (o : Option View) (w : View) → has_view o w ≡ true → o ≡ Some w
-view_is None w h = cc
-view_is (Some v) w h =
-    let first = and_parts (eqb v.read_only w.read_only) (eqb v.head w.head && eqb v.tail w.tail) h in
-    let rest = and_parts (eqb v.head w.head) (eqb v.tail w.tail) first.1 in
-    same v.read_only v.head v.tail (eqb-true v.read_only w.read_only first.0) (eqb-true v.head w.head rest.0) (eqb-true v.tail w.tail rest.1)
-  where
-    same : (x y z : ℕ) → x ≡ w.read_only → y ≡ w.head → z ≡ w.tail → ◌≡◌ {A = Option View} (Some (record { read_only = x; head = y; tail = z })) (Some w)
-    same x y z a b c = rw (a, b, c) refl
-
--- a test that passed
-test_true : (b : Bool) (s : ℕ) (u : Unit {0}) → Ok u ≡ unless_fault (unless_stranger b s) (tt {0}) → b ≡ true
-test_true true s u h = refl
-test_true false s u h = cc
+use Rattle.hl_pass.proofs.LookLaws.{viewed}
+use Rattle.hl_keeper.proofs.TouchLaws.{touches_leave_offsets, touches_rise, seen_tail-le}
 
 -- where an allocation places
 pub record Placed (page_size a n : ℕ) (v : View) : Type 0 where
@@ -58,17 +39,17 @@ module _ {F : Type 0} where
 
   pub knows : (keeper : KeeperState F) (p : PassRecord) (u : Unit {0}) → ((A : List Step) → KeeperStands keeper A → Ok u ≡ unless_fault (stranger_fault keeper A p) (tt {0})) → Knows keeper p
   unfolding stranger_fault
-  knows keeper p u h A st = known_view keeper A p (test_true (is_known keeper A p) (stamp_at keeper A p.slot) u (h A st))
+  knows keeper p u h A st = known_view keeper A p (test_passed (is_known keeper A p) (stamp_at keeper A p.slot) u (h A st))
 
   pub knows_behind : (keeper : KeeperState F) (p : PassRecord) (u : Unit {0}) → ((A : List Step) → KeeperStands keeper A → Ok u ≡ unless_fault (ahead_fault keeper A p) (tt {0})) → Knows keeper p
   unfolding ahead_fault
-  knows_behind keeper p u h A st = known_view keeper A p (and_parts (is_known keeper A p) (is_behind A p) (test_true (is_known keeper A p && is_behind A p) (stamp_at keeper A p.slot) u (h A st))).0
+  knows_behind keeper p u h A st = known_view keeper A p (and_parts (is_known keeper A p) (is_behind A p) (test_passed (is_known keeper A p && is_behind A p) (stamp_at keeper A p.slot) u (h A st))).0
 
   -- and saw no offset above the present one
   pub behind : (keeper : KeeperState F) (A : List Step) (p : PassRecord) (u : Unit {0}) → Ok u ≡ unless_fault (ahead_fault keeper A p) (tt {0}) → ((seen p).read_only ≤ read_only A) × ((seen p).head ≤ head A)
   unfolding ahead_fault is_behind
   behind keeper A p u h =
-      let tests = (and_parts (is_known keeper A p) (is_behind A p) (test_true (is_known keeper A p && is_behind A p) (stamp_at keeper A p.slot) u h)).1 in
+      let tests = (and_parts (is_known keeper A p) (is_behind A p) (test_passed (is_known keeper A p && is_behind A p) (stamp_at keeper A p.slot) u h)).1 in
       let both = and_parts (leb (seen p).read_only (read_only A)) (leb (seen p).head (head A)) tests in
       (leb-true (seen p).read_only (read_only A) both.0, leb-true (seen p).head (head A) both.1)
 

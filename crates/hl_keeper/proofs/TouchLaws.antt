@@ -1,42 +1,28 @@
 -- What touches make of a list: each is accepted, and they move nothing but their own slot's view.
-use Rattle.std.proofs.Common.{◌≡◌, ℕ, ◌-◌, ◌*◌, ◌/◌, ◌<◌, ◌≤◌, Bool, true, false, cond, leb, ltb, max, is_some, List, [], ◌∷◌, ◌++◌, take, drop, refl, sym, ap, ap₂, ◌∙◌, subst, arith, append_assoc, append-nil, eq-eqb}
+use Rattle.std.proofs.Common.{◌≡◌, ℕ, ◌-◌, ◌*◌, ◌/◌, ◌<◌, ◌≤◌, Bool, true, false, cond, leb, ltb, max, List, [], ◌∷◌, ◌++◌, take, drop, refl, sym, ap, ap₂, ◌∙◌, subst, arith, append_assoc, append-nil, eq-eqb}
 use Rattle.std.specs.Prelude.{Option, Some, None, ◌||◌, unwrap_or}
 use Rattle.std.proofs.lemmas.Bool.{lt-leb, le-ltb, cond-true}
 use Rattle.std.proofs.lemmas.List.{take-append-drop}
 use Rattle.hl_model.specs.declared.fault.Fault.{Fault}
-use Rattle.hl_model.specs.declared.fault.Fault.TheVariants.{NoSlot, NotProtected, Busy, Stale, Below, Beyond}
+use Rattle.hl_model.specs.declared.fault.Fault.TheVariants.{NoSlot, NotProtected, Busy, Below, Beyond}
 use Rattle.hl_model.specs.declared.step.Step.{Step}
 use Rattle.hl_model.specs.declared.step.Step.TheVariants.{Refresh, Release, Allocate, Look, Write}
 use Rattle.hl_model.specs.declared.view.View.{View}
 use Rattle.hl_model.specs.Sizes.{Sizes}
-use Rattle.hl_model.specs.Epochs.{is_bump, mark, enters, leaves, is_protected, epoch_of}
+use Rattle.hl_model.specs.Epochs.{is_bump, mark, enters, leaves, is_protected}
 use Rattle.hl_model.specs.Lists.{until_last}
 use Rattle.hl_model.specs.Offsets.{raised_to, shifted_to, read_only, head, place_of, tail_past, tail}
 use Rattle.hl_model.specs.Pages.{is_freed, frees}
-use Rattle.hl_model.specs.Views.{allocates, seen_read_only, seen_head, seen_tail, view_of, slot_view}
-use Rattle.hl_model.specs.Replies.{protected_fault, size_fault, allocate_fault, or_fault, look_fault, write_fault, beyond_fault, fault_of, IsAccepted}
+use Rattle.hl_model.specs.Views.{allocates, seen_read_only, seen_head, seen_tail, slot_view}
+use Rattle.hl_model.specs.Replies.{protected_fault, size_fault, allocate_fault, or_fault, write_fault, beyond_fault, fault_of, IsAccepted}
 use Rattle.hl_laws.proofs.BoundLaws.{tail-append}
-use Rattle.hl_laws.proofs.DrainLaws.{protected-slot}
-use Rattle.hl_laws.proofs.LawProofs.{slot_epoch-protected}
 use Rattle.hl_laws.proofs.OffsetLaws.{read_only-stay, head-stay, tail-push}
-use Rattle.hl_laws.proofs.ViewLaws.{is_protected-push, seen_read_only-push, seen_head-push, seen_tail-stay, slot_view-moves, slot_view-stay, is_protected-slot_view, view_of-slot_view}
+use Rattle.hl_laws.proofs.ViewLaws.{is_protected-push, seen_read_only-push, seen_head-push, seen_tail-stay, slot_view-moves, slot_view-stay}
 use Rattle.hl_laws.proofs.WorkLaws.{is_freed-stay}
+use Rattle.hl_pass.proofs.LookLaws.{viewed, viewed_fault, look_free}
 use Rattle.hl_keeper.specs.Stores.{stores_of}
 use Rattle.hl_keeper.proofs.StoreLaws.{stores-stay}
 use Rattle.hl_keeper.specs.Touches.{view_past, view_after, IsTouch, AreTouches, is_call}
-
--- a slot with a view is protected, and the view is what it saw
-pub viewed : (sizes : Sizes) (t : ℕ) (A : List Step) (v : View) → slot_view sizes t A ≡ Some v → (is_protected t A ≡ true) × (view_of sizes t A ≡ v)
-viewed sizes t A v h = (is_protected-slot_view sizes t A ∙ ap is_some h, view_of-slot_view sizes t A v h)
-
--- and it is one of the slots
-pub viewed_slot : (sizes : Sizes) (t : ℕ) (A : List Step) (v : View) → IsAccepted sizes A → slot_view sizes t A ≡ Some v → t < sizes.slots
-viewed_slot sizes t A v a h = protected-slot sizes t A a (epoch_of t A) (slot_epoch-protected t A (viewed sizes t A v h).0)
-
--- so steps that want it protected meet no fault for that
-pub viewed_fault : (sizes : Sizes) (t : ℕ) (A : List Step) (v : View) → IsAccepted sizes A → slot_view sizes t A ≡ Some v → protected_fault sizes A t ≡ None
-viewed_fault sizes t A v a h =
-    ap₂ (λ b c. cond b (Some NoSlot) (cond c None (Some NotProtected))) (lt-leb sizes.slots t (viewed_slot sizes t A v a h)) (viewed sizes t A v h).0
 
 -- a step that moves no slot, no offset and no page that is freed
 pub record IsStill (s : Step) : Type 0 where
@@ -57,11 +43,8 @@ touch_still t v _ is = absurd is
 -- a look of a slot that isn't below its view is accepted, and its view is then what the look brings
 pub look_step : (sizes : Sizes) (t : ℕ) (A : List Step) (v : View) (r h : ℕ) → IsAccepted sizes A → slot_view sizes t A ≡ Some v → v.read_only ≤ r → v.head ≤ h → (fault_of sizes A (Look t r h) ≡ None) × (slot_view sizes t (A ++ Look t r h ∷ []) ≡ Some (view_past v (Look t r h)))
 look_step sizes t A v r h a at x y =
-    let seen = viewed sizes t A v at in
-    let left : seen_read_only t A ≤ r = omega (arith, x, ap (λ (w : View). w.read_only) seen.1) in
-    let right : seen_head t A ≤ h = omega (arith, y, ap (λ (w : View). w.head) seen.1) in
-    let last : look_fault A t r h ≡ None = ap₂ (λ p q. cond (p || q) (Some Stale) None) (le-ltb r (seen_read_only t A) left) (le-ltb h (seen_head t A) right) in (
-      ap₂ or_fault (viewed_fault sizes t A v a at) last,
+    let seen = viewed sizes t A v at in (
+      look_free sizes t A v r h a at x y,
       slot_view-moves sizes t A (Look t r h) r h v.tail refl refl
           (seen_read_only-push t A (Look t r h) refl ∙ ap (λ b. unwrap_or (cond b (Some r) None) (seen_read_only t A)) (eq-eqb t t refl))
           (seen_head-push t A (Look t r h) refl ∙ ap (λ b. unwrap_or (cond b (Some h) None) (seen_head t A)) (eq-eqb t t refl))

@@ -11,7 +11,8 @@ use Rattle.hl_keeper.specs.Keepers.{KeeperState}
 use Rattle.hl_keeper.specs.Passes.{PassRecord}
 
 -- the keeper of a core, a journal, stamps and a master
-abbrev pub keeper_of : {F : Type 0} → State (KeptRecord F) → JournalState → Stamps → MasterState → KeeperState F
+abbrev pub keeper_of : {F : Type 0} → State (KeptRecord F) → JournalState → Stamps → MasterState
+    → KeeperState F
 keeper_of core journal stamps master = record {
   core = core;
   base = journal.base;

@@ -1,8 +1,9 @@
 -- What a pass does between two locked calls: looks and stores of its own slot.
-use Rattle.std.specs.Prelude.{◌≡◌, ℕ, ◌<◌, ◌≤◌, Bool, true, false, List, [], ◌∷◌, fold}
+use Rattle.std.specs.Prelude.{◌≡◌, ℕ, ◌<◌, ◌≤◌, List, [], ◌∷◌, fold}
 use Rattle.hl_model.specs.declared.step.Step.{Step}
-use Rattle.hl_model.specs.declared.step.Step.TheVariants.{Refresh, Release, Allocate, Look, Write}
+use Rattle.hl_model.specs.declared.step.Step.TheVariants.{Look, Write}
 use Rattle.hl_model.specs.declared.view.View.{View}
+pub use Rattle.hl_pass.specs.Calls.{is_call}
 
 -- the view after a touch: a look brings both offsets
 abbrev pub view_past : View → Step → View
@@ -24,10 +25,3 @@ IsTouch t v _ = ⊥
 unfoldable pub AreTouches : ℕ → View → List Step → Type 0
 AreTouches t v [] = Unit {0}
 AreTouches t v (s ∷ xs) = IsTouch t v s × AreTouches t (view_past v s) xs
-
--- a step by which a pass's slot itself goes on
-abbrev pub is_call : Step → Bool
-is_call (Refresh t) = true
-is_call (Release t) = true
-is_call (Allocate t n) = true
-is_call _ = false

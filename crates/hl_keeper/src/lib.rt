@@ -33,6 +33,9 @@
 //! stay in the pass, and no action that it stores is safe before they enter: the slot keeps its
 //! epoch until the pass refreshes or is released.
 //!
+//! Who a pass is, which stamps acquires give and what a view allows is `hl_pass`'s, on which the log for C stands too:
+//! the core takes a pass's touches as one look, since a write leaves it as it is.
+//!
 //! # Who holds it up
 //!
 //! `holders` tells the oldest pending action's ticket and the slots at an epoch that isn't above

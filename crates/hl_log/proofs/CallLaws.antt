@@ -1,5 +1,5 @@
 -- What a call of a pass comes to, whether the pass is known or not.
-use Rattle.std.proofs.Common.{◌≡◌, ℕ, List, Bool, true, false, cond, [], ◌∷◌, ◌++◌, refl, sym, ap, ap₂, ◌∙◌, subst, arith}
+use Rattle.std.proofs.Common.{◌≡◌, ℕ, List, Bool, true, cond, [], ◌∷◌, ◌++◌, refl, sym, ap, ap₂, ◌∙◌, subst, arith}
 use Rattle.std.specs.Prelude.{Option, Some, Result, Ok, Err}
 use Rattle.std.proofs.lemmas.Bool.{eq-eqb}
 use Rattle.hl_model.specs.declared.action.Tag.{Tag}
@@ -20,24 +20,16 @@ use Rattle.hl_laws.proofs.NoFaultLaws.{unless_ok}
 use Rattle.hl_laws.proofs.ViewLaws.{slot_view-enters, view_of-slot_view}
 use Rattle.hl_core.specs.Standing.{State, Stands}
 use Rattle.hl_core.specs.Steps.{Made, Stepped, entered_reply}
-use Rattle.hl_pass.specs.Calls.{looked, stranger_fault, unless_stranger}
+use Rattle.hl_pass.specs.Calls.{looked, stranger_fault}
 use Rattle.hl_pass.specs.Passes.{rested_in}
 use Rattle.hl_log.specs.declared.log.Log.{Log}
 use Rattle.hl_log.specs.declared.pass.Pass.{Pass}
 use Rattle.hl_log.specs.Calls.{stamp_at, is_known, call_reply, call_list, call_pass, Called, Calls}
 use Rattle.hl_log.specs.Logs.{StandsAt, IsBeside}
 use Rattle.hl_log.specs.Passes.{with_own, epoch_told, IsRisen}
+use Rattle.hl_pass.proofs.KnownLaws.{test_passed, test_refused}
 use Rattle.hl_pass.proofs.LookLaws.{catches_up}
 use Rattle.hl_log.proofs.KnownLaws.{known_after}
-
--- what the test of a pass told
-passed : (b : Bool) (s : ℕ) (u : Unit {0}) → Ok u ≡ unless_fault (unless_stranger b s) (tt {0}) → b ≡ true
-passed true s u told = refl
-passed false s u told = cc
-
-refused : (b : Bool) (s : ℕ) (f : Fault) → Err f ≡ unless_fault (unless_stranger b s) (tt {0}) → (b ≡ false) × (f ≡ Stranger s)
-refused true s f told = cc
-refused false s f told = (refl, cc)
 
 -- what is told of a call, and who the pass is then
 calls_of : (old new : Log) (p q : Pass) (step : Step) (result : Result Reply Fault)
@@ -57,7 +49,7 @@ pub stranger_calls : (old new : Log) (p : Pass) (step : Step) (f : Fault) (resul
 stranger_calls old new p step f result told same beside is = calls_of old new p p step result called beside (λ risen. risen)
   where
     called : (A : List Step) → StandsAt old A → Called old A p step new p result
-    called A stands = let test = refused (is_known old A p) (stamp_at old A p.own.slot) f (told A stands) in record {
+    called A stands = let test = test_refused (is_known old A p) (stamp_at old A p.own.slot) f (told A stands) in record {
       reply = is ∙ ap (λ (g : Fault). Err g) test.1 ∙ sym (ap (λ (b : Bool). cond b (reply_of old.core.sizes (looked old.core.sizes A p.own) step) (Err (Stranger (stamp_at old A p.own.slot)))) test.0);
       sizes = ap (λ (core : State Tag). core.sizes) same;
       standing = subst (λ (b : Bool). StandsAt new (cond b (extended old.core.sizes (looked old.core.sizes A p.own) step) A)) (sym test.0) (subst (λ (core : State Tag). Stands (λ t. t.0) core A) (sym same) stands);
@@ -89,7 +81,7 @@ made_calls old new mid p q step u view epoch result told is seen = calls_of old 
         L = looked old.core.sizes A p.own
 
         known : is_known old A p ≡ true
-        known = passed (is_known old A p) (stamp_at old A p.own.slot) u (told A stands)
+        known = test_passed (is_known old A p) (stamp_at old A p.own.slot) u (told A stands)
 
         stepped : Stepped (λ t. t.0) mid L step new.core result
         stepped = is.made L (is.caught_up A stands)

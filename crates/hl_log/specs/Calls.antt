@@ -1,5 +1,5 @@
 -- What a call of a pass, under the lock, makes of a log and of the pass.
-use Rattle.std.specs.Prelude.{◌≡◌, ℕ, Bool, true, false, if◌then◌else◌, None, Result, Err, List}
+use Rattle.std.specs.Prelude.{◌≡◌, ℕ, Bool, true, if◌then◌else◌, None, Result, Err, List}
 use Rattle.hl_model.specs.declared.fault.Fault.{Fault}
 use Rattle.hl_model.specs.declared.fault.Fault.TheVariants.{Stranger}
 use Rattle.hl_model.specs.declared.step.Reply.{Reply}
@@ -7,7 +7,7 @@ use Rattle.hl_model.specs.declared.step.Step.{Step}
 use Rattle.hl_model.specs.declared.step.Step.TheVariants.{Refresh, Release, Allocate, Look}
 use Rattle.hl_model.specs.Views.{slot_view}
 use Rattle.hl_model.specs.Replies.{reply_of, fault_of, extended}
-use Rattle.hl_pass.specs.Calls.{looked, is_known as is_known_by, KnownAt as KnownBy}
+use Rattle.hl_pass.specs.Calls.{is_call, looked, is_known as is_known_by, KnownAt as KnownBy}
 use Rattle.hl_pass.specs.Passes.{rested_in}
 use Rattle.hl_pass.specs.Stamps.{stamp_at as stamp_by}
 use Rattle.hl_log.specs.declared.log.Log.{Log}
@@ -75,11 +75,5 @@ pub record Calls (old : Log) (p : Pass) (step : Step) (new : Log) (q : Pass) (re
   pub risen : IsRisen p → IsRisen q
 
 -- a step that a pass makes of its slot, under the lock
-abbrev pub is_call : Step → Bool
-is_call (Refresh t) = true
-is_call (Release t) = true
-is_call (Allocate t n) = true
-is_call _ = false
-
 abbrev pub IsCall : Step → Type 0
 IsCall step = is_call step ≡ true

@@ -1,8 +1,7 @@
 -- What a pass saw is never refused, if it is known and saw nothing below what its slot did.
-use Rattle.std.proofs.Common.{◌≡◌, ℕ, ◌<◌, ◌≤◌, List, true, cond, eqb, is_some, refl, sym, ap, ap₂, ◌∙◌, subst, arith}
-use lib.Dec.{T}
-use Rattle.std.specs.Prelude.{◌&&◌, ◌||◌, Option, Some, None}
-use Rattle.std.proofs.lemmas.Bool.{eqb-true, lt-leb, le-ltb}
+use Rattle.std.proofs.Common.{◌≡◌, ℕ, ◌<◌, ◌≤◌, List, true, cond, eqb, is_some, ap, ap₂, ◌∙◌, arith}
+use Rattle.std.specs.Prelude.{◌||◌, Some, None}
+use Rattle.std.proofs.lemmas.Bool.{lt-leb, le-ltb}
 use Rattle.hl_model.specs.declared.fault.Fault.TheVariants.{NoSlot, NotProtected, Stale}
 use Rattle.hl_model.specs.declared.step.Step.{Step}
 use Rattle.hl_model.specs.declared.step.Step.TheVariants.{Look}
@@ -10,36 +9,38 @@ use Rattle.hl_model.specs.declared.view.View.{View}
 use Rattle.hl_model.specs.Epochs.{is_protected, epoch_of}
 use Rattle.hl_model.specs.Sizes.{Sizes}
 use Rattle.hl_model.specs.Views.{slot_view, view_of, seen_read_only, seen_head}
-use Rattle.hl_model.specs.Replies.{or_fault, fault_of, IsAccepted}
+use Rattle.hl_model.specs.Replies.{protected_fault, or_fault, fault_of, IsAccepted}
 use Rattle.hl_laws.proofs.DrainLaws.{protected-slot}
 use Rattle.hl_laws.proofs.LawProofs.{slot_epoch-protected}
 use Rattle.hl_laws.proofs.ViewLaws.{is_protected-slot_view, view_of-slot_view}
 use Rattle.hl_pass.specs.Laws.{CatchesUp}
 use Rattle.hl_pass.specs.Stamps.{stamp_at}
 use Rattle.hl_pass.specs.Views.{has_view}
-use Rattle.hl_pass.proofs.KnownLaws.{left_of, right_of}
+use Rattle.hl_pass.proofs.KnownLaws.{and_parts, view_is}
 
--- a slot that has a view the same as this has a view with its offsets
-viewed : (o : Option View) (held : View) → has_view o held ≡ true → (v : View) × (o ≡ Some v) × (v.read_only ≡ held.read_only) × (v.head ≡ held.head)
-viewed None held same = absurd (subst T (sym same) tt)
-viewed (Some v) held same = let rest : (eqb v.head held.head && eqb v.tail held.tail) ≡ true = right_of (eqb v.read_only held.read_only) (eqb v.head held.head && eqb v.tail held.tail) same in
-    (v, refl, eqb-true v.read_only held.read_only (left_of (eqb v.read_only held.read_only) (eqb v.head held.head && eqb v.tail held.tail) same), eqb-true v.head held.head (left_of (eqb v.head held.head) (eqb v.tail held.tail) rest))
+-- a slot with a view is protected, and the view is what it saw
+pub viewed : (sizes : Sizes) (t : ℕ) (A : List Step) (v : View) → slot_view sizes t A ≡ Some v → (is_protected t A ≡ true) × (view_of sizes t A ≡ v)
+viewed sizes t A v is = (is_protected-slot_view sizes t A ∙ ap is_some is, view_of-slot_view sizes t A v is)
 
--- a slot with a view is protected, and one of the slots
-in_range : (sizes : Sizes) (t : ℕ) (A : List Step) (v : View) → IsAccepted sizes A → slot_view sizes t A ≡ Some v → (is_protected t A ≡ true) × (t < sizes.slots)
-in_range sizes t A v accepted is = let protected : is_protected t A ≡ true = is_protected-slot_view sizes t A ∙ ap is_some is in
-    (protected, protected-slot sizes t A accepted (epoch_of t A) (slot_epoch-protected t A protected))
+-- and it is one of the slots
+pub viewed_slot : (sizes : Sizes) (t : ℕ) (A : List Step) (v : View) → IsAccepted sizes A → slot_view sizes t A ≡ Some v → t < sizes.slots
+viewed_slot sizes t A v accepted is = protected-slot sizes t A accepted (epoch_of t A) (slot_epoch-protected t A (viewed sizes t A v is).0)
+
+-- so steps that want it protected meet no fault for that
+pub viewed_fault : (sizes : Sizes) (t : ℕ) (A : List Step) (v : View) → IsAccepted sizes A → slot_view sizes t A ≡ Some v → protected_fault sizes A t ≡ None
+viewed_fault sizes t A v accepted is =
+    ap₂ (λ b c. cond b (Some NoSlot) (cond c None (Some NotProtected))) (lt-leb sizes.slots t (viewed_slot sizes t A v accepted is)) (viewed sizes t A v is).0
 
 -- a look of a slot at no offset below its view is accepted
-accepts : (sizes : Sizes) (t : ℕ) (A : List Step) (v : View) (read_only head : ℕ) → IsAccepted sizes A → slot_view sizes t A ≡ Some v → v.read_only ≤ read_only → v.head ≤ head
+pub look_free : (sizes : Sizes) (t : ℕ) (A : List Step) (v : View) (read_only head : ℕ) → IsAccepted sizes A → slot_view sizes t A ≡ Some v → v.read_only ≤ read_only → v.head ≤ head
     → fault_of sizes A (Look t read_only head) ≡ None
-accepts sizes t A v read_only head accepted is low high =
-    let there = in_range sizes t A v accepted is in let seen : view_of sizes t A ≡ v = view_of-slot_view sizes t A v is in
-    ap₂ or_fault (ap₂ (λ b c. cond b (Some NoSlot) (cond c None (Some NotProtected))) (lt-leb sizes.slots t there.1) there.0)
+look_free sizes t A v read_only head accepted is low high =
+    let seen : view_of sizes t A ≡ v = (viewed sizes t A v is).1 in
+    ap₂ or_fault (viewed_fault sizes t A v accepted is)
     (ap₂ (λ a b. cond (a || b) (Some Stale) None) (le-ltb read_only (seen_read_only t A) (omega (arith, low, ap (λ (w : View). w.read_only) seen))) (le-ltb head (seen_head t A) (omega (arith, high, ap (λ (w : View). w.head) seen))))
 
 -- so is that of a pass
 pub catches_up : CatchesUp
 catches_up sizes row A p accepted known risen =
-    let seen = viewed (slot_view sizes p.slot A) p.held (left_of (has_view (slot_view sizes p.slot A) p.held) (eqb (stamp_at sizes row A p.slot) p.stamp) known) in
-    accepts sizes p.slot A seen.0 p.view.read_only p.view.head accepted seen.1 (omega (arith, risen.0, seen.2)) (omega (arith, risen.1, seen.3))
+    let is : slot_view sizes p.slot A ≡ Some p.held = view_is (slot_view sizes p.slot A) p.held (and_parts (has_view (slot_view sizes p.slot A) p.held) (eqb (stamp_at sizes row A p.slot) p.stamp) known).0 in
+    look_free sizes p.slot A p.held p.view.read_only p.view.head accepted is risen.0 risen.1

@@ -1,9 +1,9 @@
 -- Who a pass is, under the lock, and what it brings.
-use Rattle.std.specs.Prelude.{◌≡◌, ℕ, ◌==◌, Bool, true, ◌&&◌, if◌then◌else◌, Option, Some, None, is_some, List}
+use Rattle.std.specs.Prelude.{◌≡◌, ℕ, ◌==◌, Bool, true, false, ◌&&◌, if◌then◌else◌, Option, Some, None, is_some, List}
 use Rattle.hl_model.specs.declared.fault.Fault.{Fault}
 use Rattle.hl_model.specs.declared.fault.Fault.TheVariants.{Stranger}
 use Rattle.hl_model.specs.declared.step.Step.{Step}
-use Rattle.hl_model.specs.declared.step.Step.TheVariants.{Look}
+use Rattle.hl_model.specs.declared.step.Step.TheVariants.{Refresh, Release, Allocate, Look}
 use Rattle.hl_model.specs.Sizes.{Sizes}
 use Rattle.hl_model.specs.Views.{slot_view}
 use Rattle.hl_model.specs.Replies.{extended}
@@ -19,6 +19,13 @@ is_known sizes row A p = has_view (slot_view sizes p.slot A) p.held && stamp_at 
 -- the pass is so, if its slot is protected
 abbrev pub KnownAt : Sizes → List ℕ → List Step → PassView → Type 0
 KnownAt sizes row A p = is_some (slot_view sizes p.slot A) ≡ true → is_known sizes row A p ≡ true
+
+-- a step by which a pass's slot itself goes on
+abbrev pub is_call : Step → Bool
+is_call (Refresh t) = true
+is_call (Release t) = true
+is_call (Allocate t n) = true
+is_call _ = false
 
 -- the fault that tells this stamp, unless the test passes
 abbrev pub unless_stranger : Bool → ℕ → Option Fault

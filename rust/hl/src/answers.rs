@@ -3,6 +3,21 @@
 use crate::raw::{Brief, LagSteps, Outcome, Quantities, Six};
 use crate::{Action, Done, Entered, Fault, LagStep, Offsets, Snapshot, View};
 
+/// The same numbers, read one by one, as the library stores them: a read of two at once, into which the compiler joins
+/// them where it may, would wait until both stores have left the processor's buffer.
+#[inline(always)]
+pub(crate) fn one_by_one(told: &Outcome) -> Outcome {
+    // SAFETY: each is read where it stands.
+    let read = |number: &u64| unsafe { std::ptr::read_volatile(number) };
+    Outcome {
+        number: read(&told.number),
+        a: read(&told.a),
+        b: read(&told.b),
+        c: read(&told.c),
+        d: read(&told.d),
+    }
+}
+
 /// The answer of a call that was accepted, or why it was refused.
 pub(crate) fn accepted(told: Outcome) -> Result<Outcome, Fault> {
     match told.number {

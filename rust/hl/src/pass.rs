@@ -66,7 +66,8 @@ impl<'a> Pass<'a> {
     #[inline]
     pub fn look(&mut self) -> View {
         // SAFETY of this call and those below: the handle was opened with the pass, and is used by one thread at a time.
-        self.view = answers::view(unsafe { raw::hl_pass_look(&mut self.handle) });
+        let told = unsafe { raw::hl_pass_look(&mut self.handle) };
+        self.view = answers::view(answers::one_by_one(&told));
         self.view
     }
 
