@@ -34,6 +34,10 @@ use Rattle.hl_images.proofs.WalkLaws.{Far, Kept, far_writes, newest_every, walk}
 use Rattle.hl_images.proofs.WordLaws.{within, calls_at, images_hold_words}
 use Rattle.hl_images.proofs.WriterLaws.{NewestCall, newest_call, writes_both, writes_front, walk_to, find_recent}
 
+-- touches in their parts
+parts_of_touches : (all late quiet old before recent oldest : List Touch) (t s : Touch) → all ≡ late ++ (quiet ++ old) → old ≡ t ∷ before → before ≡ recent ++ s ∷ oldest → all ≡ late ++ (quiet ++ t ∷ (recent ++ s ∷ oldest))
+parts_of_touches all late quiet old before recent oldest t s a b c = a ∙ ap (λ (l : List Touch). late ++ (quiet ++ l)) (b ∙ ap (λ (l : List Touch). t ∷ l) c)
+
 -- the calls before one of a diary, and those behind it
 rises_back : (newer : List Entry) (call : Entry) (earlier : List Entry) → Rises (newer ++ call ∷ earlier) → Rises (call ∷ earlier)
 rises_back [] call earlier h = h
@@ -246,7 +250,7 @@ module _ (sizes : Sizes) (whole : List Step) (page_some : 0 < sizes.page_size) (
           met = at.met;
           left = at.left;
           since_is = refl;
-          touches = w.all ∙ ap (λ (l : List Touch). w.late ++ (w.quiet ++ l)) (at.all ∙ ap (λ (l : List Touch). Called at.met at.left ∷ l) recent.all);
+          touches = parts_of_touches r.view.touches w.late w.quiet w.old at.before recent.recent recent.oldest (Called at.met at.left) (Called recent.seen recent.since) w.all at.all recent.all;
           low = omega (arith, low, at.tied.1, length-append c.call.before c.call.steps);
           after = w.after;
           silent = w.none;
