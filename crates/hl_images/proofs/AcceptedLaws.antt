@@ -1,5 +1,5 @@
 -- An image's word is the one list's, where the stores of riders are writes of their calls.
-use Rattle.std.proofs.Common.{◌≡◌, ◌≢◌, ℕ, ◌+◌, ◌*◌, ◌/◌, ◌%◌, ◌<◌, ◌≤◌, ◌||◌, ◌&&◌, Bool, true, false, List, [], ◌∷◌, ◌++◌, length, map, Some, slice_get, refl, ap, sym, ◌∙◌, inl, inr, ⊎_elim, subst, arith, append_assoc, length-append}
+use Rattle.std.proofs.Common.{◌≡◌, ◌⊎◌, ◌≢◌, ℕ, ◌+◌, ◌*◌, ◌/◌, ◌%◌, ◌<◌, ◌≤◌, ◌||◌, ◌&&◌, Bool, true, false, List, [], ◌∷◌, ◌++◌, length, map, Some, slice_get, refl, ap, sym, ◌∙◌, inl, inr, ⊎_elim, subst, arith, append_assoc, length-append}
 use Rattle.std.specs.List.{AllByRecursion as Every}
 use Rattle.std.proofs.lemmas.Bool.{eq-eqb, both_ways, cases_lt, lt-ltb}
 use Rattle.std.proofs.lemmas.List.{append-nil}
@@ -15,6 +15,8 @@ use Rattle.hl_history.specs.declared.view.Entry.{Entry}
 use Rattle.hl_history.specs.Lists.{Begins, left_by, Rises, IsOf}
 use Rattle.hl_words.specs.declared.view.Touch.{Touch}
 use Rattle.hl_words.specs.declared.view.Touch.TheVariants.{Called}
+use Rattle.hl_words.specs.declared.view.RiderView.{RiderView}
+use Rattle.hl_words.specs.Past.{IsQuietBetween}
 use Rattle.hl_words.specs.States.{RiderState, AreTied}
 use Rattle.hl_words.proofs.Cut.{every_at, every_back, every_append, every_weaker}
 use Rattle.hl_keeper.specs.Pages.{first_cell}
@@ -25,14 +27,19 @@ use Rattle.hl_laws.proofs.NoFaultLaws.{write-none}
 use Rattle.hl_laws.proofs.PageFacts.{ends_below}
 use Rattle.hl_laws.proofs.WordLaws.{seen_tail-le}
 use Rattle.hl_laws.proofs.WorkLaws.{next_page-parts, is_flushed-push}
-use Rattle.hl_images.specs.Accepted.{ImagesAreWords}
+use Rattle.hl_images.specs.Accepted.{ImagesAreWords, LastWrites, ImagesAreWrites}
 use Rattle.hl_images.specs.Entered.{is_touch, IsOneCall, newest_writes, AreEntered, StoresEnter}
 use Rattle.hl_images.specs.ImageWords.{CallsWriteNothing, IsNewestWrite, IsNoWriter}
 use Rattle.hl_images.proofs.PlaceLaws.{every_in, place_cases, same_end, begun, both, shorter, flushed_more, frees_before}
 use Rattle.hl_images.proofs.SealedLaws.{later_stays_above}
+use Rattle.hl_images.proofs.SomeLaws.{IsNewestSince, loads_of_some}
 use Rattle.hl_images.proofs.WalkLaws.{Far, Kept, far_writes, newest_every, walk}
-use Rattle.hl_images.proofs.WordLaws.{within, calls_at, images_hold_words}
+use Rattle.hl_images.proofs.WordLaws.{within, calls_at, view_at, whose_view, images_hold_words}
 use Rattle.hl_images.proofs.WriterLaws.{NewestCall, newest_call, writes_both, writes_front, walk_to, find_recent}
+
+-- touches in their parts
+parts_of_touches : (all late quiet old before recent oldest : List Touch) (t s : Touch) → all ≡ late ++ (quiet ++ old) → old ≡ t ∷ before → before ≡ recent ++ s ∷ oldest → all ≡ late ++ (quiet ++ t ∷ (recent ++ s ∷ oldest))
+parts_of_touches all late quiet old before recent oldest t s a b c = a ∙ ap (λ (l : List Touch). late ++ (quiet ++ l)) (b ∙ ap (λ (l : List Touch). t ∷ l) c)
 
 -- the calls before one of a diary, and those behind it
 rises_back : (newer : List Entry) (call : Entry) (earlier : List Entry) → Rises (newer ++ call ∷ earlier) → Rises (call ∷ earlier)
@@ -246,7 +253,7 @@ module _ (sizes : Sizes) (whole : List Step) (page_some : 0 < sizes.page_size) (
           met = at.met;
           left = at.left;
           since_is = refl;
-          touches = w.all ∙ ap (λ (l : List Touch). w.late ++ (w.quiet ++ l)) (at.all ∙ ap (λ (l : List Touch). Called at.met at.left ∷ l) recent.all);
+          touches = parts_of_touches r.view.touches w.late w.quiet w.old at.before recent.recent recent.oldest (Called at.met at.left) (Called recent.seen recent.since) w.all at.all recent.all;
           low = omega (arith, low, at.tied.1, length-append c.call.before c.call.steps);
           after = w.after;
           silent = w.none;
@@ -270,3 +277,68 @@ images_are_words F sizes riders ending page k v j image r i page_some frames_som
     (other sizes whole page_some frames_some i.ends.accepted page k inside i.list i.later i.taken i.take i.done (left_by w.call) w.begins w.below w.early q (every_at (StoresEnter sizes whole) riders enter l q e) (every_at Ties riders i.ends.tied l q e) (of l q e) (others l q e apart)) in
     images_hold_words _ _ _ whole riders i.copier j (first_cell sizes page) k (page * sizes.page_size + k) w.n (length i.list + 1) (length i.later) v w.value image r i.ends.one_list i.ends.ruled.rule i.words at w.newest quiet there)
     (newest_call (page * sizes.page_size + k) r.calls)
+
+-- both halves of a newest write
+since_of : (a c n begun done w : ℕ) (r : RiderState) → IsNewestWrite a c n begun done w r → IsNewestSince c begun done n w r.view.touches
+since_of a c n begun done w r h = record {
+  late = h.late;
+  middle = h.middle;
+  recent = h.recent;
+  older = h.older;
+  seen = h.seen;
+  since = h.since;
+  met = h.met;
+  left = h.left;
+  since_is = h.since_is;
+  touches = h.touches;
+  low = h.low;
+  after = h.after;
+  silent = h.silent;
+  stored = h.stored;
+}
+
+last_of : (a c n begun done w : ℕ) (r : RiderState) → IsNewestWrite a c n begun done w r → LastWrites a w r.calls
+last_of a c n begun done w r h = record {
+  newer = h.newer;
+  call = h.call;
+  earlier = h.earlier;
+  calls_are = h.calls;
+  none = h.none;
+  slot = h.slot;
+  first = h.first;
+  rest = h.rest;
+  steps = h.steps;
+  silent = h.newest;
+}
+
+pub images_are_writes : (F : Type 0) → ImagesAreWrites F
+images_are_writes F sizes riders ending page k v j image r i page_some frames_some enter at wrote there =
+    let whole = i.ends.steps_cut ++ ending.journal in
+    let a = page * sizes.page_size + k in
+    let cell = first_cell sizes page + k in
+    let inside : k < sizes.page_size = omega (arith, within image k v there, i.places) in
+    let Ties = λ (q : RiderState). AreTied q.view.touches q.calls in
+    let of : (l : ℕ) (q : RiderState) → slice_get riders l ≡ Some q → IsOf whole q.calls =
+    λ l q e. every_at (IsOf whole) (map (λ (z : RiderState). z.calls) riders) i.ends.one_list.each l q.calls (calls_at riders l q e) in
+    let wrote_by : (l : ℕ) (q : RiderState) (e : slice_get riders l ≡ Some q) → NewestCall a q.calls → IsWriter sizes whole page_some frames_some i.ends.accepted page k inside i.list i.later i.taken i.take i.done q =
+    λ l q e c. writer sizes whole page_some frames_some i.ends.accepted page k inside i.list i.later i.taken i.take i.done q (every_at (StoresEnter sizes whole) riders enter l q e) (every_at Ties riders i.ends.tied l q e) (of l q e) c in
+    ⊎_elim
+    (λ (none : CallsWriteNothing a r.calls). absurd (wrote none))
+    (λ (c : NewestCall a r.calls).
+    let w = wrote_by j r at c in
+    let P : ℕ → ℕ → Type 0 = λ l x. (q : RiderState) × (slice_get riders l ≡ Some q) × LastWrites a x q.calls in
+    let each : (l : ℕ) (view : RiderView) → slice_get (map (λ (z : RiderState). z.view) riders) l ≡ Some view
+    → IsQuietBetween cell w.n (length i.later) view.touches ⊎ ((m x : ℕ) × IsNewestSince cell (length i.list + 1) (length i.later) m x view.touches × P l x) =
+    λ l view e. let q = whose_view riders l view e in
+    ⊎_elim
+    (λ (none : CallsWriteNothing a q.0.calls).
+    let o = other sizes whole page_some frames_some i.ends.accepted page k inside i.list i.later i.taken i.take i.done (left_by w.call) w.begins w.below w.early q.0 (every_at (StoresEnter sizes whole) riders enter l q.0 q.1) (every_at Ties riders i.ends.tied l q.0 q.1) (of l q.0 q.1) none in
+    inl (subst (λ (z : RiderView). IsQuietBetween cell w.n (length i.later) z.touches) q.2 (subst (λ (n : ℕ). IsQuietBetween cell n (length i.later) q.0.view.touches) (sym w.n_is) o.quiet)))
+    (λ (d : NewestCall a q.0.calls).
+    let x = wrote_by l q.0 q.1 d in
+    inr (x.n, x.value, subst (λ (z : RiderView). IsNewestSince cell (length i.list + 1) (length i.later) x.n x.value z.touches) q.2 (since_of a cell x.n (length i.list + 1) (length i.later) x.value q.0 x.newest), (q.0, q.1, last_of a cell x.n (length i.list + 1) (length i.later) x.value q.0 x.newest)))
+    (newest_call a q.0.calls) in
+    let m = i.words k v there in
+    let found = loads_of_some _ _ (map (λ (z : RiderState). z.view) riders) i.ends.ruled.rule.order i.copier cell v (length i.list + 1) (length i.later) m.0 m.1 m.2 m.3 P j w.n w.value r.view (view_at riders j r at) (since_of a cell w.n (length i.list + 1) (length i.later) w.value r w.newest) each in
+    (found.0, found.1.0, found.1.1, found.1.2))
+    (newest_call a r.calls)

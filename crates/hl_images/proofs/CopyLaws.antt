@@ -16,7 +16,7 @@ use Rattle.hl_keeper.specs.Keepers.{KeeperState}
 use Rattle.hl_keeper.specs.Calls.{Makes, step_fault, room_fault, without_back}
 use Rattle.hl_keeper.specs.Pages.{first_cell, loaded_all, to_flush}
 use Rattle.hl_domain.specs.Domains.{DomainState, LeavesUnderLock, MakesUnderLock, answered, call_of, with_entry}
-use Rattle.hl_images.specs.Flushes.{HasCopied, HasFlushed}
+use Rattle.hl_images.specs.Flushes.{HasCopied, HasFlushed, TakenIsCopied, AnsweredIsFlushed}
 use Rattle.hl_images.specs.Later.{IsLater}
 use Rattle.hl_images.specs.Pairs.{HasTaken, HasCopiedTold, HaveFlushed}
 use Rattle.hl_images.proofs.LaterLaws.{same}
@@ -77,20 +77,25 @@ copied_told sizes page image past old new places e = record {
   copy = subst (λ (q : RiderState). IsLater q new) e (same new);
 }
 
--- an accepted answer of a page that was copied
-pub flushed : {F X Y : Type 0} {domain : DomainState} {Holds : KeeperState F → KeeperState F → Type 0} (sizes : Sizes) (page : ℕ) (written : Bool) (old new : RiderState) (result : Result X (Fault × Y))
-    → LeavesUnderLock F domain (answered (without_back result) (call_of (FlushDone page written) old new)) Holds → (image : List ℕ) (list : List Step) → HasCopied sizes page image list old → IsTrue written → OnOk result (HasFlushed sizes page image new)
-flushed sizes page true old new (Ok x) m image list h t =
-    let entered : new ≡ with_entry m.before.cut m.after.cut m.list (FlushDone page true ∷ []) old = m.entered in
+pub taken_is_copied : (F : Type 0) → TakenIsCopied F
+taken_is_copied F domain old mid new load image t places e = copied old mid load image new t places e
+
+pub answered_is_flushed : AnsweredIsFlushed
+answered_is_flushed sizes page had has image list later old new h entered =
     record {
       list = list;
-      later = m.list;
+      later = later;
       answering = old;
-      had = m.before.cut;
-      has = m.after.cut;
+      had = had;
+      has = has;
       copied = h;
       done = subst (λ (q : RiderState). IsLater q new) entered (same new);
     }
+
+-- an accepted answer of a page that was copied
+pub flushed : {F X Y : Type 0} {domain : DomainState} {Holds : KeeperState F → KeeperState F → Type 0} (sizes : Sizes) (page : ℕ) (written : Bool) (old new : RiderState) (result : Result X (Fault × Y))
+    → LeavesUnderLock F domain (answered (without_back result) (call_of (FlushDone page written) old new)) Holds → (image : List ℕ) (list : List Step) → HasCopied sizes page image list old → IsTrue written → OnOk result (HasFlushed sizes page image new)
+flushed sizes page true old new (Ok x) m image list h t = answered_is_flushed sizes page m.before.cut m.after.cut image list m.list old new h m.entered
 flushed sizes page false old new (Ok x) m image list h t = absurd (cc t)
 flushed sizes page written old new (Err e) m image list h t = tt
 

@@ -9,3 +9,4 @@ pub mod WalkLaws
 pub mod WriterLaws
 pub mod AcceptedLaws
 pub mod KeptLaws
+pub mod SomeLaws

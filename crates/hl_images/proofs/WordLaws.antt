@@ -153,7 +153,7 @@ whose_calls [] i d e = absurd cc
 whose_calls (x ∷ xs) zero d e = let is : x.calls ≡ d = cc e in (x, refl, is)
 whose_calls (x ∷ xs) (suc i) d e = whose_calls xs i d e
 
-whose_view : (riders : List RiderState) (i : ℕ) (v : RiderView) → slice_get (map (λ (q : RiderState). q.view) riders) i ≡ Some v → (r : RiderState) × (slice_get riders i ≡ Some r) × (r.view ≡ v)
+pub whose_view : (riders : List RiderState) (i : ℕ) (v : RiderView) → slice_get (map (λ (q : RiderState). q.view) riders) i ≡ Some v → (r : RiderState) × (slice_get riders i ≡ Some r) × (r.view ≡ v)
 whose_view [] i v e = absurd cc
 whose_view (x ∷ xs) zero v e = let is : x.view ≡ v = cc e in (x, refl, is)
 whose_view (x ∷ xs) (suc i) v e = whose_view xs i v e

@@ -23,8 +23,10 @@ IsImage riders order i cell begun done image = (n v : ℕ) → slice_get image n
 
 -- At a domain's end these words, as many as a page has, are an image of the page: it was taken to be flushed and
 -- answered as flushed, each at its place in the one list, and a rider loaded the words of its cells between the two
-pub record IsImaged {F : Type 0} (sizes : Sizes) (riders : List RiderState) (ending : EndingState F) (page : ℕ)
-    (image : List ℕ) : Type 0 where
+pub record IsImaged
+    {F : Type 0} (sizes : Sizes) (riders : List RiderState) (ending : EndingState F) (page : ℕ)
+    (image : List ℕ)
+    : Type 0 where
   pub ends : IsEnding sizes riders ending
   pub list : List Step
   pub later : List Step

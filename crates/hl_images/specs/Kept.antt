@@ -45,15 +45,17 @@ pub record RidersStayEntered (sizes : Sizes) : Type 0 where
   pub told : (swept : Option ℕ) (past : Known) (r : RiderState) → RiderEnters sizes swept r
       → RiderEnters sizes swept (with_view (told past r.view) r)
   -- a call that makes one step, which frees no page
-  pub call : (was now : ℕ) (list : List Step) (s : Step) (r : RiderState) → is_touch s ≡ false → clean_of s ≡ None
-      → RiderEnters sizes None r → RiderEnters sizes None (with_entry was now list (s ∷ []) r)
+  pub call : (was now : ℕ) (list : List Step) (s : Step) (r : RiderState) → is_touch s ≡ false
+      → clean_of s ≡ None → RiderEnters sizes None r → RiderEnters sizes None (with_entry was now list (s ∷ []) r)
   -- one that makes none
-  pub refused : (swept : Option ℕ) (was now : ℕ) (list : List Step) (r : RiderState) → RiderEnters sizes swept r
-      → RiderEnters sizes swept (with_entry was now list [] r)
+  pub refused : (swept : Option ℕ) (was now : ℕ) (list : List Step) (r : RiderState)
+      → RiderEnters sizes swept r → RiderEnters sizes swept (with_entry was now list [] r)
   -- one that takes a page to clean, and then its sweep
-  pub sweeps : (was now : ℕ) (list : List Step) (page : ℕ) (r : RiderState) → next_to_clean sizes list ≡ Some page
-      → RiderEnters sizes None r → let taken = with_entry was now list (CleanTake ∷ []) r
-      in RiderEnters sizes (Some page) (with_view (zeroed (first_cell sizes page) sizes.page_size taken.view) taken)
+  pub sweeps : (was now : ℕ) (list : List Step) (page : ℕ) (r : RiderState)
+      → next_to_clean sizes list ≡ Some page → RiderEnters sizes None r
+      → let taken = with_entry was now list (CleanTake ∷ []) r
+      in RiderEnters sizes (Some page)
+      (with_view (zeroed (first_cell sizes page) sizes.page_size taken.view) taken)
   -- one that frees the page that was swept
   pub frees : (was now : ℕ) (list : List Step) (page : ℕ) (r : RiderState) → RiderEnters sizes (Some page) r
       → RiderEnters sizes None (with_entry was now list (CleanDone page ∷ []) r)
@@ -69,7 +71,8 @@ pub record PassesStayEntered (sizes : Sizes) : Type 0 where
   pub changes : (a found v : ℕ) (p : PassRecord) → store_fault p a ≡ None → PassEnters sizes p
       → PassEnters sizes (with_change sizes a found v p)
   pub loads : (a v : ℕ) (p : PassRecord) → PassEnters sizes p → PassEnters sizes (with_load sizes a v p)
-  pub looks : (read_only head : ℕ) (p : PassRecord) → PassEnters sizes p → PassEnters sizes (with_look read_only head p)
+  pub looks : (read_only head : ℕ) (p : PassRecord) → PassEnters sizes p
+      → PassEnters sizes (with_look read_only head p)
   pub news : (read_only head ended : ℕ) (p : PassRecord) → PassEnters sizes p
       → PassEnters sizes (with_news read_only head ended p)
   -- a refresh or an allocation: the pass's touches and the step
@@ -77,13 +80,13 @@ pub record PassesStayEntered (sizes : Sizes) : Type 0 where
       → is_call s ≡ true → view.tail ≤ tail sizes (list ++ (p.touches ++ s ∷ [])) → PassEnters sizes p
       → PassEnters sizes
       (with_held epoch view (with_rider (with_entry was now list (p.touches ++ s ∷ []) p.rider) p))
-  -- a call of the pass's rider that makes one step of its own, which frees no page, while touches of the pass wait
-  pub call : (was now : ℕ) (list : List Step) (s : Step) (p : PassRecord) → is_touch s ≡ false → clean_of s ≡ None
-      → 0 < sizes.page_size → IsAccepted sizes (list ++ s ∷ []) → IsOf list p.rider.calls → PassEnters sizes p
+  -- a call of the pass's rider that makes one step, which frees no page, while touches of the pass wait
+  pub call : (was now : ℕ) (list : List Step) (s : Step) (p : PassRecord) → is_touch s ≡ false
+      → clean_of s ≡ None → 0 < sizes.page_size → IsAccepted sizes (list ++ s ∷ []) → IsOf list p.rider.calls → PassEnters sizes p
       → PassEnters sizes (with_rider (with_entry was now list (s ∷ []) p.rider) p)
   -- a call that makes none
-  pub refused : (was now : ℕ) (list : List Step) (p : PassRecord) → 0 < sizes.page_size → IsAccepted sizes list
-      → IsOf list p.rider.calls → PassEnters sizes p
+  pub refused : (was now : ℕ) (list : List Step) (p : PassRecord) → 0 < sizes.page_size
+      → IsAccepted sizes list → IsOf list p.rider.calls → PassEnters sizes p
       → PassEnters sizes (with_rider (with_entry was now list [] p.rider) p)
   pub releases : (was now : ℕ) (list : List Step) (p : PassRecord) → PassEnters sizes p
       → RiderEnters sizes None (with_entry was now list (p.touches ++ Release p.slot ∷ []) p.rider)

@@ -7,3 +7,4 @@ pub mod Sealed
 pub mod Entered
 pub mod Accepted
 pub mod Kept
+pub mod Calls

@@ -30,7 +30,8 @@ pub record HasTaken (sizes : Sizes) (page : ℕ) (list : List Step) (r : RiderSt
 
 -- The rider was told this past, and then loaded these words, as many as a page has, from the page's cells. It may have
 -- done more in between, and since
-pub record HasCopiedTold (sizes : Sizes) (page : ℕ) (image : List ℕ) (past : Known) (r : RiderState) : Type 0 where
+pub record HasCopiedTold (sizes : Sizes) (page : ℕ) (image : List ℕ) (past : Known) (r : RiderState)
+    : Type 0 where
   pub places : length image ≡ sizes.page_size
   pub asked : RiderState
   pub copying : RiderState
@@ -39,7 +40,8 @@ pub record HasCopiedTold (sizes : Sizes) (page : ℕ) (image : List ℕ) (past :
 
 -- The flusher took the page, the copier was told its past and copied the page, the flusher was told the copier's past, and
 -- answered the page as flushed by a call that met the later list. Both may have done more in between, and since
-pub record HaveFlushed (sizes : Sizes) (page : ℕ) (image : List ℕ) (flusher copier : RiderState) : Type 0 where
+pub record HaveFlushed (sizes : Sizes) (page : ℕ) (image : List ℕ) (flusher copier : RiderState)
+    : Type 0 where
   pub list : List Step
   pub later : List Step
   pub taking : RiderState

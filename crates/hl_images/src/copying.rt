@@ -8,6 +8,7 @@ ghost use Rattle.hl_keeper.specs.Calls.{without_back, Makes, Ends};
 ghost use Rattle.hl_keeper.specs.Pages.{first_cell, loaded_all, to_flush};
 ghost use Rattle.hl_domain.specs.Domains.{call_of, MakesUnderLock};
 ghost use Rattle.hl_images.specs.Flushes.{HasCopied, HasFlushed};
+ghost use Rattle.hl_images.specs.Calls.{FlushesNext};
 
 use hl_action::{Promise, Task};
 use hl_domain::{Domain, Epochs, Fault, Load, Realm, Rider};
@@ -24,11 +25,12 @@ pub fn copy_next<E: Epochs + Drop, F: Task, P: Promise, L: Realm>(
     out: &mut [u64],
 ) -> Result<Load, Fault>
     requires { length out.old ≡ domain.now.sizes.page_size }
-    ensures met { (mid : RiderState)
+    ensures met { let sizes = domain.now.sizes
+        in (mid : RiderState)
         × MakesUnderLock F domain.now (call_of FLUSH_TAKE rider.old mid) result
         (λ old. Makes old FLUSH_TAKE (λ A. to_flush old.core.sizes old.stamp A))
         × MatchResult result
-        (λ load. rider.new ≡ with_view (loaded_all (first_cell domain.now.sizes load.page) out.new mid.view) mid)
+        (λ load. rider.new ≡ with_view (loaded_all (first_cell sizes load.page) out.new mid.view) mid)
         (λ _. (rider.new ≡ mid) × (out.new ≡ out.old)) }
     ensures copied { IfOk result
         (λ load. (list : List STEP) × HasCopied domain.now.sizes load.page out.new list rider.new) }
@@ -66,4 +68,31 @@ pub fn answer_copy<E: Epochs + Drop, F: Task, P: Promise, L: Realm>(
     ensures refused { IfErr result (λ back. back.1 ≡ load) }
 {
     domain.flush_done(rt, rider, load, written)
+}
+
+/// Takes the least sealed page that is neither flushed nor in flight, copies its words into P places, and answers it as
+/// flushed, by one rider: for a log whose device is this memory. Returns the page and the flushed offset. The words are an
+/// image of the page once the domain is ended.
+///
+/// Faults, those of a flush take and of [`answer_copy`]; where the answer was refused, with the page's load.
+pub fn flush_next<E: Epochs + Drop, F: Task, P: Promise, L: Realm>(
+    rt: &impl Wait,
+    domain: &Domain<E, F, P, L>,
+    rider: &mut Rider<L>,
+    out: &mut [u64],
+) -> Result<(u64, u64), (Fault, Option<Load>)>
+    requires { length out.old ≡ domain.now.sizes.page_size }
+    ensures met { FlushesNext F domain.now rider.old rider.new out.old out.new result }
+    ensures flushed { IfOk result (λ flushed. HasFlushed domain.now.sizes flushed.0 out.new rider.new) }
+{
+    match copy_next(rt, domain, rider, out) {
+        Ok(load) => {
+            let page = load.job().page;
+            match answer_copy(rt, domain, rider, load, true) {
+                Ok(offset) => Ok((page, offset)),
+                Err((fault, load)) => Err((fault, Some(load))),
+            }
+        }
+        Err(fault) => Err((fault, None)),
+    }
 }

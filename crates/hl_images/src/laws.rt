@@ -1,7 +1,7 @@
 //! What follows from a page's flush and from a domain's ending: each law the contract of a function that does nothing.
 ghost use Rattle.hl_model.specs.Sizes.{Sizes as SIZES};
-ghost use Rattle.hl_images.specs.Accepted.{ImagesAreWords};
-ghost use Rattle.hl_images.specs.Flushes.{LaterStates, CopiedStays, FlushedStays, FlushedIsImaged};
+ghost use Rattle.hl_images.specs.Accepted.{ImagesAreWords, ImagesAreWrites};
+ghost use Rattle.hl_images.specs.Flushes.{LaterStates, TakenIsCopied, AnsweredIsFlushed, CopiedStays, FlushedStays, FlushedIsImaged};
 ghost use Rattle.hl_images.specs.ImageWords.{ImagesHoldWords};
 ghost use Rattle.hl_images.specs.Kept.{RidersStayEntered, PassesStayEntered};
 ghost use Rattle.hl_images.specs.Pairs.{FlushedByTwoStays, FlushedByTwoIsImaged};
@@ -12,6 +12,16 @@ use hl_action::Task;
 /// A rider that did more is in a later state.
 pub fn later_states()
     ensures { LaterStates }
+{}
+
+/// A rider that took a page to flush and then loaded the words of its cells has copied it.
+pub fn taken_is_copied<F: Task>()
+    ensures { TakenIsCopied F }
+{}
+
+/// A rider that copied a page and then answered it as flushed has flushed it.
+pub fn answered_is_flushed()
+    ensures { AnsweredIsFlushed }
 {}
 
 /// What a rider copied, it has copied whatever it does more.
@@ -59,6 +69,11 @@ pub fn later_stays_above()
 /// write that its calls entered, or a 0 of its sweeps.
 pub fn images_are_words<F: Task>()
     ensures { ImagesAreWords F }
+{}
+
+/// Where more than one rider wrote at its address, a word of an image is what one of them wrote there last.
+pub fn images_are_writes<F: Task>()
+    ensures { ImagesAreWrites F }
 {}
 
 /// Each store of a rider without a pass stays a write that its calls entered, or a 0 of its sweeps, by all that such a rider

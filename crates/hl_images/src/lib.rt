@@ -8,9 +8,9 @@
 //!
 //! Two ways to flush a page:
 //!
-//! - **one rider** takes it, copies it and answers it ([`copy_next`], [`answer_copy`]): then its own calls stand round its
-//!   copy. What is known of it is `HasFlushed`, of this rider alone, and stays whatever the rider does more, so that a type
-//!   can keep it;
+//! - **one rider** takes it, copies it and answers it ([`copy_next`], [`answer_copy`]; [`flush_next`] does both): then
+//!   its own calls stand round its copy. What is known of it is `HasFlushed`, of this rider alone, and stays whatever the
+//!   rider does more, so that a type can keep it;
 //! - **two riders**: one takes the page ([`take_for_copier`]) and answers it ([`answer_for_copier`]), the other copies it
 //!   between ([`copy_for_flusher`]), and each is told the other's past. What is known is `HaveFlushed`, of the two.
 #![tactic(auto)]
@@ -19,5 +19,5 @@ mod copying;
 pub mod laws;
 mod pair;
 
-pub use copying::{answer_copy, copy_next};
+pub use copying::{answer_copy, copy_next, flush_next};
 pub use pair::{answer_for_copier, copy_for_flusher, take_for_copier};

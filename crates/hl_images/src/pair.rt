@@ -25,8 +25,9 @@ pub fn take_for_copier<E: Epochs + Drop, F: Task, P: Promise, L: Realm>(
     domain: &Domain<E, F, P, L>,
     flusher: &mut Rider<L>,
 ) -> Result<(Load, Past<L>), Fault>
-    ensures met { MakesUnderLock F domain.now (call_of FLUSH_TAKE flusher.old flusher.new) (without_past result)
-        (λ old. Makes old FLUSH_TAKE (λ A. to_flush old.core.sizes old.stamp A)) }
+    ensures met { let call = call_of FLUSH_TAKE flusher.old flusher.new
+        in MakesUnderLock F domain.now call (without_past result) (λ old.
+        Makes old FLUSH_TAKE (λ A. to_flush old.core.sizes old.stamp A)) }
     ensures past { IfOk result (λ taken. taken.1 ≡ past_of flusher.new.view) }
     ensures taken { IfOk result
         (λ taken. (list : List STEP) × HasTaken domain.now.sizes taken.0.page list flusher.new) }

@@ -16,7 +16,7 @@ use Rattle.hl_words.proofs.Lawful.{Puts, Passes, puts_or_passes, last_either}
 use Rattle.hl_words.proofs.PastProofs.{after_call, cut_at, loads_after_met, touches_both}
 
 -- touches that store nothing into the cell
-none_end : (c : ℕ) (xs ys : List Touch) → last_store c (xs ++ ys) ≡ None → last_store c ys ≡ None
+pub none_end : (c : ℕ) (xs ys : List Touch) → last_store c (xs ++ ys) ≡ None → last_store c ys ≡ None
 none_end c [] ys e = e
 none_end c (t ∷ xs) ys e =
     ⊎_elim
@@ -72,7 +72,7 @@ loads_of_one cells words stores riders i j c v before ruled others load =
             by false test rest = rest
 
 -- behind touches that store nothing there
-none_front : (c : ℕ) (xs ys : List Touch) → last_store c xs ≡ None → last_store c (xs ++ ys) ≡ last_store c ys
+pub none_front : (c : ℕ) (xs ys : List Touch) → last_store c xs ≡ None → last_store c (xs ++ ys) ≡ last_store c ys
 none_front c [] ys e = refl
 none_front c (t ∷ xs) ys e =
     ⊎_elim
@@ -81,7 +81,7 @@ none_front c (t ∷ xs) ys e =
     (puts_or_passes c t)
 
 -- two lists with the same end
-same_front : (xs ys zs : List Touch) → xs ++ zs ≡ ys ++ zs → xs ≡ ys
+pub same_front : (xs ys zs : List Touch) → xs ++ zs ≡ ys ++ zs → xs ≡ ys
 same_front [] [] zs e = refl
 same_front [] (y ∷ ys) zs e = absurd (omega (arith, ap length e, length-append ys zs))
 same_front (x ∷ xs) [] zs e = absurd (omega (arith, ap length e, length-append xs zs))
@@ -155,7 +155,7 @@ nobody_else n m far (t ∷ order) e = by (t.rider == m) refl (nobody_else n m fa
     by false test rest = rest
 
 -- a list of touches ends with what stands before, where what comes after a later call does not
-only_before : (riders : List RiderView) (done j : ℕ) (q : RiderView) (late rest : List Touch) (before : List TouchBy) (front : List Touch) → HasNoCalls riders done before → slice_get riders j ≡ Some q → q.touches ≡ late ++ rest → BeginsAfter done late
+pub only_before : (riders : List RiderView) (done j : ℕ) (q : RiderView) (late rest : List Touch) (before : List TouchBy) (front : List Touch) → HasNoCalls riders done before → slice_get riders j ≡ Some q → q.touches ≡ late ++ rest → BeginsAfter done late
     → q.touches ≡ front ++ touches_of j before → HasOnly j rest before
 only_before riders done j q late rest before front none at is after whole =
     ⊎_elim
@@ -167,7 +167,7 @@ only_before riders done j q late rest before front none at is after whole =
 -- so a rider's quiet touches hold all that it did in the newer part
 module _ (cells : ℕ) (words : List ℕ) (riders : List RiderView) (h : HasOneOrder cells words riders) (c done j : ℕ) (first n : Extent) (front newer base : List TouchBy)
     (whole : h.0 ≡ newer ++ (front ++ by_rider j (Called first n) ∷ base)) (late_none : HasNoCalls riders done (front ++ by_rider j (Called first n) ∷ base)) where
-  quiet_front : (k : ℕ) (r : RiderView) → slice_get riders k ≡ Some r → IsQuietBetween c n.steps done r.touches → last_store c (touches_of k front) ≡ None
+  pub quiet_front : (k : ℕ) (r : RiderView) → slice_get riders k ≡ Some r → IsQuietBetween c n.steps done r.touches → last_store c (touches_of k front) ≡ None
   quiet_front k r at q =
       let before : List TouchBy = front ++ by_rider j (Called first n) ∷ base in
       let all : r.touches ≡ touches_of k newer ++ touches_of k before = h.1.each k r at ∙ ap (touches_of k) whole ∙ touches_both k newer before in

@@ -52,7 +52,7 @@ cut_at i (s ∷ order) newer t older e = by (λ n h. cut_at i order n t older h)
 
 module _ {X : Type 0} where
   -- two places of one list: the one comes first, or they are the same, or the other comes first
-  compared : (xs : List X) (a : X) (ar ys : List X) (b : X) (bs : List X) → xs ++ a ∷ ar ≡ ys ++ b ∷ bs
+  pub compared : (xs : List X) (a : X) (ar ys : List X) (b : X) (bs : List X) → xs ++ a ∷ ar ≡ ys ++ b ∷ bs
       → ((mid : List X) × (ar ≡ mid ++ b ∷ bs)) ⊎ (((a ≡ b) × (ar ≡ bs)) ⊎ ((mid : List X) × (bs ≡ mid ++ a ∷ ar)))
   compared [] a ar [] b bs e = let h : a ≡ b = cc e in let t : ar ≡ bs = cc e in inr (inl (h, t))
   compared [] a ar (y ∷ ys) b bs e = let t : ar ≡ ys ++ b ∷ bs = cc e in inl (ys, t)
