@@ -20,6 +20,7 @@ use hl_action::{Promise, Task};
 use hl_domain::Domain;
 use hl_epoch::Epochs;
 use hl_words::{Realm, Rider};
+use std::sync::atomic::Ordering;
 use std::sync::{Mutex, Wait};
 
 mod acknowledgements;
@@ -52,7 +53,7 @@ impl<L: Realm> HasRider for FlusherState<L> {
 }
 
 impl<R: Wait, E: Epochs + Drop, F: Task, P: Promise, L: Realm> Flusher<'_, R, E, F, P, L> {
-    /// Makes its turns until they are over. After each it wakes whoever looks for pages.
+    /// Makes its turns until they are over.
     pub(crate) fn run<K: Given>(&self, own: &Mutex<Seat<FlusherState<L>, K>>, term: &Term<'_>)
         requires { let orders = self.now.shared.now.orders
             in IsLag self.now.domain.now.sizes.frames orders.mutable orders.resident }
@@ -73,7 +74,7 @@ impl<R: Wait, E: Epochs + Drop, F: Task, P: Promise, L: Realm> Flusher<'_, R, E,
         };
     }
 
-    // Makes this many turns, up to the first that failed.
+    // Makes this many turns, up to the first that failed. After each it wakes the cleaner.
     fn make_turns(&self, own: &mut FlusherState<L>, most: u64) -> Result<(), Over>
         requires { let orders = self.now.shared.now.orders
             in IsLag self.now.domain.now.sizes.frames orders.mutable orders.resident }
@@ -82,7 +83,7 @@ impl<R: Wait, E: Epochs + Drop, F: Task, P: Promise, L: Realm> Flusher<'_, R, E,
     {
         for _ in 0..most {
             let made = self.turn(own);
-            self.shared.wake();
+            self.shared.cleaner.unpark();
             match made {
                 Ok(()) => {}
                 Err(over) => return Err(over),
@@ -91,7 +92,8 @@ impl<R: Wait, E: Epochs + Drop, F: Task, P: Promise, L: Realm> Flusher<'_, R, E,
         Ok(())
     }
 
-    // Makes turns until the stop is given, or the first after which it can't go on. After a turn that got nowhere it rests.
+    // Makes turns until the stop is given, or the first after which it can't go on. If a turn got nowhere,
+    // and no page was written meanwhile, it rests.
     fn serve(&self, own: &mut FlusherState<L>, stop: &Stop) -> Result<(), Over>
         requires { let orders = self.now.shared.now.orders
             in IsLag self.now.domain.now.sizes.frames orders.mutable orders.resident }
@@ -107,7 +109,7 @@ impl<R: Wait, E: Epochs + Drop, F: Task, P: Promise, L: Realm> Flusher<'_, R, E,
                 Ok(moved) => moved,
                 Err(over) => return Err(over),
             };
-            if moved {
+            if self.shared.has_written.swap(false, Ordering::SeqCst) | moved {
                 vain = 0;
             } else {
                 stop.rest(self.rt, vain);
@@ -117,7 +119,7 @@ impl<R: Wait, E: Epochs + Drop, F: Task, P: Promise, L: Realm> Flusher<'_, R, E,
         Ok(())
     }
 
-    /// Makes a turn, and wakes whoever looks for pages. True if the turn entered a step. A full journal that may be cut
+    /// Makes a turn. True if that entered a step. A full journal that may be cut
     /// doesn't end the turns.
     pub(crate) fn serve_turn(&self, own: &mut FlusherState<L>) -> Result<bool, Over>
         requires { let orders = self.now.shared.now.orders
@@ -127,7 +129,6 @@ impl<R: Wait, E: Epochs + Drop, F: Task, P: Promise, L: Realm> Flusher<'_, R, E,
     {
         let share = own.rider.share();
         let made = self.turn(own);
-        self.shared.wake();
         let has_moved = own.rider.share() != share;
         let made = made.and(Ok(has_moved));
         cut_if_full(self.rt, self.domain, self.shared, &mut own.rider, made)

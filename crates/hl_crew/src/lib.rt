@@ -30,7 +30,7 @@
 //!
 //! Whoever looks for pages and finds none, or meets a write that failed, sleeps until the flusher has made another turn. A
 //! flusher that serves sleeps after a turn that entered no step, until a page was written or somebody
-//! calls [`Stop::ring`], and at most 5 milliseconds. Each such turn more in a row doubles that, up
+//! calls [`Stop::ring`], and at most a millisecond. Each such turn more in a row doubles that, up
 //! to 160 milliseconds. It makes the lag's steps whether or not other actions wait: a raise and a settle once its last
 //! settle has taken effect, a shift and a close once its last close has. A flusher that makes a number of turns makes them if
 //! no action waits or is taken, and waits for an acknowledgement of each page that it sent.

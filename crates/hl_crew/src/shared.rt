@@ -17,6 +17,8 @@ pub(crate) struct Shared {
     pub(crate) second: Parker,
     /// Whether the flusher has made its turns.
     pub(crate) has_ended: AtomicBool,
+    /// Whether a writer has written a page that it took itself since the flusher asked.
+    pub(crate) has_written: AtomicBool,
 }
 
 impl Shared {
@@ -32,6 +34,7 @@ impl Shared {
             first: Parker::new(),
             second: Parker::new(),
             has_ended: AtomicBool::new(false),
+            has_written: AtomicBool::new(false),
         }
     }
 
@@ -49,16 +52,21 @@ impl Shared {
         self.channels.is_none()
     }
 
-    /// Wakes who looks for pages: the flusher has made a turn.
-    pub(crate) fn wake(&self) {
-        self.first.unpark();
-        self.second.unpark();
-        self.cleaner.unpark();
+    /// Wakes who looks for pages if there may be some: the writers if so many frames are sealed, the cleaner if so many are
+    /// closed.
+    pub(crate) fn wake(&self, sealed: u64, closed: u64) {
+        if sealed > 0 {
+            self.first.unpark();
+            self.second.unpark();
+        }
+        if closed > 0 {
+            self.cleaner.unpark();
+        }
     }
 
     /// The flusher makes no more turns, and whoever looks for pages ends once it finds none.
     pub(crate) fn end(&self) {
         self.has_ended.store(true, Ordering::SeqCst);
-        self.wake();
+        self.wake(1, 1);
     }
 }

@@ -4,10 +4,13 @@ use std::thread::Parker;
 use std::time::Duration;
 
 /// How long a crew sleeps at most after the first turn that got nowhere, in milliseconds.
-const FIRST_NAP: u64 = 5;
+const FIRST_NAP: u64 = 1;
 
-/// How often that is doubled, once for each such turn more in a row: the longest nap is 160 milliseconds.
-const DOUBLINGS: u64 = 5;
+/// How often that is doubled, once for each such turn more in a row.
+const DOUBLINGS: u64 = 8;
+
+/// The longest nap.
+const LONGEST_NAP: u64 = 160;
 
 /// How many turns a crew makes at most once its stop was given.
 pub(crate) const LAST_TURNS: u64 = 1_000;
@@ -48,7 +51,7 @@ impl Stop {
 
     /// Rests after a turn that got nowhere, with `vain` such turns in a row before it.
     pub(crate) fn rest(&self, rt: &impl Wait, vain: u64) {
-        let nap = FIRST_NAP << vain.min(DOUBLINGS);
+        let nap = LONGEST_NAP.min(FIRST_NAP << vain.min(DOUBLINGS));
         self.sleeper.park_timeout(rt, Duration::from_millis(nap));
     }
 }

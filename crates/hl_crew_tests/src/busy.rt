@@ -17,7 +17,7 @@ use std::sync::Wait;
 use std::test::Fail;
 use std::thread;
 use std::thread::Threads;
-use std::time::Duration;
+use std::time::{Clock, Duration};
 
 /// How many pages are placed: three times as many as there are frames.
 const PAGES: u64 = 12;
@@ -38,7 +38,7 @@ fn bump_job<R: Wait, L: Realm>(
 }
 
 // Two slots place pages, and refresh in turn: of the two jobs that were bumped last one isn't ready.
-fn place_beside_jobs<R: Wait, L: Realm>(
+fn place_beside_jobs<R: Wait + Clock, L: Realm>(
     rt: &R,
     domain: &Pages<CountTable, L>,
     stop: &Stop,
@@ -71,7 +71,7 @@ fn place_beside_jobs<R: Wait, L: Realm>(
 }
 
 // The same from the first acquire to the last release.
-fn place_all<R: Wait, L: Realm>(
+fn place_all<R: Wait + Clock, L: Realm>(
     rt: &R,
     domain: &Pages<CountTable, L>,
     stop: &Stop,
@@ -94,7 +94,7 @@ fn place_all<R: Wait, L: Realm>(
 // How many pages were placed beside a crew, and how many it wrote.
 fn placed_and_written<R, L>(rt: &R, alloc: Global, seed: Seed) -> Result<[u64; 2], Fault>
 where
-    R: Threads + Wait + Sync,
+    R: Threads + Wait + Clock + Sync,
     L: Realm + Send + Sync,
     requires seed { IsSeedOf L.name L.parts L.table seed }
     requires named { (seed.sizes ≡ L.sizes) × (STAMP ≡ L.stamp) × (200_000 ≡ L.limit) }

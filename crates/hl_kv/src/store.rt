@@ -270,8 +270,9 @@ impl<'a, 'b, R: Wait + Clock, L: Realm> Seat<'a, 'b, R, L> {
         stored
     }
 
-    // Lets others go on. If the oldest action is safe, it is run here: the crew may sleep.
+    // Lets others go on, and wakes the crew if it sleeps. If the oldest action is safe, it is run here.
     fn wait(&mut self) -> Result<(), Fault> {
+        self.session.ring();
         let Ok(ready) = self.session.take() else {
             thread::sleep(self.rt, Duration::from_micros(50));
             return Ok(());

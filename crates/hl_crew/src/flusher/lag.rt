@@ -14,7 +14,7 @@ use hl_words::{Realm, Rider};
 use std::sync::Wait;
 
 impl<R: Wait, E: Epochs + Drop, F: Task, P: Promise, L: Realm> Flusher<'_, R, E, F, P, L> {
-    /// Makes the lag's steps that it wants, up to the first that is refused. A crew that serves waits for its own settle and
+    /// Wakes who looks for pages if there are some, and makes the lag's steps that it wants, up to the first that is refused. A crew that serves waits for its own settle and
     /// close alone; another wants none while any action waits or is taken.
     ///
     /// With as many resident pages as frames, the head never passes page N - F, N being the number
@@ -27,6 +27,8 @@ impl<R: Wait, E: Epochs + Drop, F: Task, P: Promise, L: Realm> Flusher<'_, R, E,
             orders.mutable orders.resident result own.old own.new }
     {
         let (now, _, _) = self.domain.snapshot(self.rt);
+        let [_, sealed, _, closed, _] = now.frames;
+        self.shared.wake(sealed, closed);
         let orders = self.shared.orders();
         let lag = lag_steps(
             self.domain.params(),

@@ -16,6 +16,7 @@ use hl_image::PageWriter;
 use hl_model::Fault;
 use hl_words::Realm;
 use std::sync::Wait;
+use std::sync::atomic::Ordering;
 use std::thread::Parker;
 
 /// How many pages behind one that wasn't written are tried at most before that one is answered.
@@ -120,7 +121,10 @@ where
     // Wakes the flusher if a page was written: the head may go on.
     fn tell(&self, ok: bool) {
         match self.bell {
-            Some(bell) if ok => bell.ring(),
+            Some(bell) if ok => {
+                self.shared.has_written.store(true, Ordering::SeqCst);
+                bell.ring();
+            }
             _ => {}
         }
     }
