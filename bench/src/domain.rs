@@ -1,4 +1,4 @@
-//! The domain's twin, written from docs/RULES.md and docs/GUIDE.md: a core and its journal under a mutex, beside words
+//! The domain's twin, written from docs/RULES.md and docs/THREADS.md: a core and its journal under a mutex, beside words
 //! and two offsets that threads store and load without it.
 
 use crate::domain_pass::Pass;

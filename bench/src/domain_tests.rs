@@ -1,4 +1,4 @@
-//! The rules of the domain's twin, by examples whose answers were written by hand from docs/RULES.md and docs/GUIDE.md.
+//! The rules of the domain's twin, by examples whose answers were written by hand from docs/RULES.md and docs/THREADS.md.
 
 use crate::domain::Domain;
 use crate::domain_pass::TOUCHES_MOST;

@@ -2,7 +2,7 @@
 //!
 //! After FASTER (Chandramouli, Prasaad, Kossmann, Levandoski, Hunter, Barnett, SIGMOD 2018): threads share
 //! the pages of its HybridLog under its epoch protection. Here the quantities stand in one [`Keeper`] under the
-//! lock of a [`Domain`], and the words in `Words`, which need none. docs/GUIDE.md tells when to call what.
+//! lock of a [`Domain`], and the words in `Words`, which need none. docs/THREADS.md tells when to call what.
 //!
 //! # Who has what
 //!

@@ -8,7 +8,7 @@
 //! | [`serving`] | the same with a crew that serves until its stop is given, behind more records than the frames hold |
 //! | [`retired_row`] | an object of the author's own that is freed once each slot that may have seen it moved on |
 //!
-//! Each `run` writes what its calls answered. docs/GUIDE.md walks through them.
+//! Each `run` writes what its calls answered. docs/GUIDE.md and docs/THREADS.md walk through them.
 #![tactic(auto)]
 
 pub mod four_threads;
