@@ -26,8 +26,7 @@ pub(crate) struct Cleaner<'x, R, E: Epochs, F: Task, P: Promise, L: Realm> {
 }
 
 impl<R: Wait, E: Epochs + Drop, F: Task, P: Promise, L: Realm> Look<Rider<L>>
-    for Cleaner<'_, R, E, F, P, L>
-{
+    for Cleaner<'_, R, E, F, P, L> {
     ghost finds = { λ cleaner. Finds F cleaner.domain.now cleaner.shared.now.orders.cuts };
 
     /// Cleans a page. If the journal is full and may be cut, it is cut, and that counts as a page.

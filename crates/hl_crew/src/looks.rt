@@ -55,12 +55,7 @@ impl<R: Wait> Looker<'_, R> {
     // Looks for a page, once it is known whether the flusher has ended: what it did before such a look is found by the next.
     // If there is none, it sleeps until the flusher has made another turn, unless the flusher had ended. True if the look was
     // in vain, and the flusher had ended before it.
-    fn look_once<S, H: Look<S>>(
-        &self,
-        hand: &H,
-        own: &mut S,
-        has_ended: bool,
-    ) -> Result<bool, Over>
+    fn look_once<S, H: Look<S>>(&self, hand: &H, own: &mut S, has_ended: bool) -> Result<bool, Over>
         ensures looks { Looks (H.finds hand.now) result own.old own.new }
         ensures last { IfOk result (λ is_last. is_last ≡ true → has_ended ≡ true) }
         ensures found { IfOk result (λ is_last. has_ended ≡ true → is_last ≡ false

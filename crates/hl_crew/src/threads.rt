@@ -66,7 +66,15 @@ where
                 .ok();
             let second = scope
                 .spawn(move || {
-                    write_pages(rt, domain, gate, shared, &seats.second, &shared.second, bell)
+                    write_pages(
+                        rt,
+                        domain,
+                        gate,
+                        shared,
+                        &seats.second,
+                        &shared.second,
+                        bell,
+                    )
                 })
                 .ok();
             let cleaner = scope

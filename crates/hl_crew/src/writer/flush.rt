@@ -72,11 +72,7 @@ where
     // fails, it flushes a page behind that one, with one fewer that may fail, and then answers the first as failed: it may
     // be taken again. False if none was written.
     #[cycle(flush)]
-    fn flush<W: PageWriter>(
-        &self,
-        own: &mut WriterState<L, W>,
-        behind: u64,
-    ) -> Result<bool, Over>
+    fn flush<W: PageWriter>(&self, own: &mut WriterState<L, W>, behind: u64) -> Result<bool, Over>
         ensures { Flushes F self.now.domain.now self.now.shared.now.orders.cuts
             (G.lets self.now.gate.now) W.wrote W.failed W.failures behind result own.old own.new }
     {
