@@ -25,7 +25,10 @@ pub(crate) fn crowd_seed(alloc: Global) -> Result<Seed, Fault> {
 }
 
 /// Two riders for each worker. The first one cuts now and then.
-pub(crate) fn workers_of<L: Realm>(alloc: Global, mut riders: Vec<Rider<L>>) -> Result<Vec<Worker<L>>, Fail> {
+pub(crate) fn workers_of<L: Realm>(
+    alloc: Global,
+    mut riders: Vec<Rider<L>>,
+) -> Result<Vec<Worker<L>>, Fail> {
     let mut workers = Vec::new(alloc);
     for slot in 0..8 {
         workers.push(worker_of(slot, &mut riders)?)?;
@@ -171,7 +174,10 @@ fn shares_of<L: Realm>(rt: &impl Abort, workers: &[Worker<L>]) -> u64 {
 }
 
 /// All riders: each slot was released.
-pub(crate) fn riders_of<L: Realm>(alloc: Global, workers: Vec<Worker<L>>) -> Result<Vec<Rider<L>>, Fail> {
+pub(crate) fn riders_of<L: Realm>(
+    alloc: Global,
+    workers: Vec<Worker<L>>,
+) -> Result<Vec<Rider<L>>, Fail> {
     let mut riders = Vec::new(alloc);
     for worker in workers {
         riders.push(worker.acquires.ok_or("the slot was released")?)?;
