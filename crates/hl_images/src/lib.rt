@@ -13,6 +13,12 @@
 //!   rider does more, so that a type can keep it;
 //! - **two riders**: one takes the page ([`take_for_copier`]) and answers it ([`answer_for_copier`]), the other copies it
 //!   between ([`copy_for_flusher`]), and each is told the other's past. What is known is `HaveFlushed`, of the two.
+//!
+//! What the words are: each store of a rider is a write that its calls entered, one that still waits in its pass, or a 0 of
+//! its sweep of a page (`StoresEnter`), which each call of a domain keeps (`riders_stay_entered`, `passes_stay_entered`).
+//! Then a word of an image is the one list's word of its address, if one rider alone wrote there (`images_are_words`); and
+//! if more did, it is what one of them wrote there last (`images_are_writes`). All are in [`laws`]. That the word is 0 if
+//! nobody wrote there, and the sum if all added, is not proved.
 #![tactic(auto)]
 
 mod copying;
