@@ -9,7 +9,7 @@ use Rattle.hl_laws.proofs.HeadlineLaws.{headline}
 use Rattle.hl_laws.proofs.LawProofs.{beginnings_are_accepted}
 use Rattle.hl_laws.proofs.OrderLaws.{offsets_never_fall}
 use Rattle.hl_keeper.specs.Touches.{AreTouches}
-use Rattle.hl_keeper.proofs.TouchLaws.{viewed}
+use Rattle.hl_pass.proofs.LookLaws.{viewed}
 use Rattle.hl_images.specs.Sealed.{PendingStaysAbove, LaterStaysAbove}
 
 -- a write among touches isn't below the view that stands before them
