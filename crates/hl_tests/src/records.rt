@@ -51,7 +51,7 @@ fn append_and_load<R: Wait, L: Realm>(session: &mut Session<R, L>) -> Result<boo
 fn is_refused<R: Wait, L: Realm>(session: &mut Session<R, L>, second: u64) -> bool {
     let mut four = [9_u64; 4];
     let above = session.load_into(second, &mut four);
-    above == Err(Fault::Beyond { tail: second + 3 })
+    above == Err(Fault::Beyond { tail: 103 })
         && four == [9; 4]
         && session.append(&[]) == Err(Fault::Size)
         && session.append(&[0; 129]) == Err(Fault::Size)
