@@ -75,10 +75,10 @@ where
     run_until::<R, E, F, P, L, W, G, Brand>(rt, alloc, domain, riders, pages, gate, orders, term)
 }
 
-/// Runs a crew on a domain, as [`run_crew`] does, until its stop is given: it sleeps while there is
-/// nothing to do, and ends once nothing is in flight. If the journal is full, it cuts it where the
-/// duty lets it; else a full journal ends it before its stop. The end tells the duty's orders. Of
-/// what the riders stored the same holds.
+/// Runs a crew on a domain, as [`run_crew`] does, until its stop is given: but each writer takes its pages itself, copies,
+/// writes and answers them, so no acknowledgement is a stranger. It sleeps while there is nothing to do, and ends once
+/// nothing is in flight. If the journal is full, it cuts it where the duty lets it; else a full journal ends it before its
+/// stop. The end tells the duty's orders. Of what the riders stored the same holds.
 ///
 /// A thread that has entered a page may wake it by [`Stop::ring`]; a crew that nobody wakes looks at least
 /// every 160 milliseconds, and sooner after it had something to do.
