@@ -6,6 +6,9 @@ pub mod GoesLaws
 pub mod TryLaws
 pub mod FlushLaws
 pub mod RunLaws
-pub mod SweepLaws
+pub mod RepeatLaws
+pub mod RiderLaws
+pub mod WriterLaws
+pub mod HandLaws
 pub mod OverLaws
 pub mod WaitLaws

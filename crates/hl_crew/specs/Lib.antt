@@ -10,7 +10,7 @@ pub mod Pages
 pub mod Pouches
 pub mod Rounds
 pub mod Runs
-pub mod Sweeps
+pub mod Riders
 pub mod Tries
 pub mod Turns
 pub mod Waits

@@ -4,6 +4,8 @@ use Rattle.hl_crew.specs.declared.duty.Duty.{Duty}
 use Rattle.hl_crew.specs.declared.orders.Cuts.{Cuts}
 use Rattle.hl_crew.specs.declared.orders.Cuts.TheVariants.{Never, EachTurn, Above}
 use Rattle.hl_crew.specs.declared.orders.Orders.{Orders}
+use Rattle.hl_crew.specs.declared.term.Term.{Term}
+use Rattle.hl_crew.specs.declared.term.Term.TheVariants.{Turns, Until}
 
 -- when a crew cuts that may leave so many steps, or none by its duty
 abbrev pub duty_cuts : Option ℕ → Cuts
@@ -23,3 +25,8 @@ run_cuts false = Never
 -- the orders of a crew that makes a number of turns
 abbrev pub run_orders : ℕ → ℕ → Bool → Orders
 run_orders mutable resident cut = record { mutable = mutable; resident = resident; cuts = run_cuts cut }
+
+-- a crew serves until its stop is given, and doesn't make a number of turns
+abbrev pub is_until : Term → Bool
+is_until (Turns most) = false
+is_until (Until stop) = true

@@ -1,4 +1,4 @@
-ghost use Rattle.std.specs.Prelude.{◌≡◌};
+ghost use Rattle.std.specs.Prelude.{◌≡◌, is_none};
 ghost use Rattle.hl_crew.specs.Goes.{UpTo};
 ghost use Rattle.hl_crew.specs.Looks.{LooksNext};
 ghost use Rattle.hl_crew.specs.Turns.{Cleans, Finds};
@@ -38,7 +38,10 @@ impl<R: Wait, E: Epochs + Drop, F: Task, P: Promise, L: Realm> Look<Rider<L>>
 
 impl<R: Wait, E: Epochs + Drop, F: Task, P: Promise, L: Realm> Cleaner<'_, R, E, F, P, L> {
     /// Cleans closed pages, by at most this many looks.
-    pub(crate) fn run<K: Given>(&self, own: &Mutex<Seat<Rider<L>, K>>, most: u64) {
+    pub(crate) fn run<K: Given>(&self, own: &Mutex<Seat<Rider<L>, K>>, most: u64)
+        requires { (K.sizes ≡ self.now.domain.now.sizes)
+            × (K.serves ≡ is_none self.now.shared.now.channels) }
+    {
         let mut seat = own.lock(self.rt);
         let _ = self.clean_all(&mut seat.own, most);
     }

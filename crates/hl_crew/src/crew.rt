@@ -1,7 +1,8 @@
-ghost use Rattle.std.specs.Prelude.{◌≡◌, IfOk, IfErr};
+ghost use Rattle.std.specs.Prelude.{◌≡◌, [], ◌∷◌, false, true, is_none, IfOk, IfErr};
+ghost use Rattle.std.specs.List.{AllByRecursion};
 ghost use Rattle.hl_crew.specs.Lags.{IsLag};
-ghost use Rattle.hl_crew.specs.Ordered.{duty_orders, run_orders};
-ghost use Rattle.hl_crew.specs.Sweeps.{StoreToClean};
+ghost use Rattle.hl_crew.specs.Ordered.{duty_orders, run_orders, is_until};
+ghost use Rattle.hl_crew.specs.Riders.{AreImaged, FlushesNone, StoreSweeps};
 ghost use Rattle.hl_model.specs.declared.fault.Fault.TheVariants.{OutOfMemory};
 
 use crate::duty::Duty;
@@ -37,8 +38,8 @@ use std::thread::Threads;
 /// With as many resident pages as frames, the head never passes the page whose frame the page above
 /// the tail needs, and no frame comes free: [`Duty`] excludes that.
 ///
-/// If no rider had stored into a cell, or only one that had taken a page to clean, so it is with the
-/// riders that come back: where the crew took no page to clean, they stored nothing.
+/// If the riders had stored into cells only to sweep pages that they had taken to clean, so it is with those that come back:
+/// where the crew took no page to clean, they stored nothing.
 ///
 /// `OutOfMemory` if memory or a thread was refused; then riders and page writers are handed back.
 /// Steps that were made until then stay in the journal.
@@ -65,8 +66,9 @@ where
     G: Gate + Sync,
     requires { IsLag domain.now.sizes.frames mutable resident }
     ensures orders { IfOk result (λ end. end.orders ≡ run_orders mutable resident cut) }
-    ensures stores { StoreToClean riders → (IfOk result (λ end. StoreToClean end.riders)
-        × IfErr result (λ back. StoreToClean back.1)) }
+    ensures sweeps { let sizes = domain.now.sizes
+        in StoreSweeps sizes riders → (IfOk result (λ end. StoreSweeps sizes end.riders)
+        × IfErr result (λ back. StoreSweeps sizes back.1)) }
     ensures err { IfErr result (λ back. back.0 ≡ OutOfMemory) }
 {
     let orders = Orders::of_run(mutable, resident, cut);
@@ -78,7 +80,10 @@ where
 /// Runs a crew on a domain, as [`run_crew`] does, until its stop is given: but each writer takes its pages itself, copies,
 /// writes and answers them, so no acknowledgement is a stranger. It sleeps while there is nothing to do, and ends once
 /// nothing is in flight. If the journal is full, it cuts it where the duty lets it; else a full journal ends it before its
-/// stop. The end tells the duty's orders. Of what the riders stored the same holds.
+/// stop. The end tells the duty's orders. Of what the riders stored the same holds. If they had flushed nothing, then each page
+/// that those which come back flushed is with the writer of that rider, as the image of the words that the rider copied
+/// between its take and its answer: at the domain's end it is an image of the page, by `hl_images`. Of a page whose write
+/// failed, or whose answer was refused, nothing is said.
 ///
 /// A thread that has entered a page may wake it by [`Stop::ring`]; a crew that nobody wakes looks at least
 /// every 160 milliseconds, and sooner after it had something to do.
@@ -106,8 +111,13 @@ where
     G: Gate + Sync,
     requires { duty.frames ≡ domain.now.sizes.frames }
     ensures orders { IfOk result (λ end. end.orders ≡ duty_orders duty) }
-    ensures stores { StoreToClean riders → (IfOk result (λ end. StoreToClean end.riders)
-        × IfErr result (λ back. StoreToClean back.1)) }
+    ensures sweeps { let sizes = domain.now.sizes
+        in StoreSweeps sizes riders → (IfOk result (λ end. StoreSweeps sizes end.riders)
+        × IfErr result (λ back. StoreSweeps sizes back.1)) }
+    ensures images { let sizes = domain.now.sizes
+        in AllByRecursion FlushesNone riders
+        → (IfOk result (λ end. AreImaged W.has sizes end.riders end.writers)
+        × IfErr result (λ back. AreImaged W.has sizes back.1 (back.2 ∷ back.3 ∷ []))) }
     ensures err { IfErr result (λ back. back.0 ≡ OutOfMemory) }
 {
     let orders = Orders::of(duty);
@@ -138,9 +148,16 @@ where
     K: Given + Send,
     requires lag { IsLag domain.now.sizes.frames orders.mutable orders.resident }
     requires given { K.riders ≡ riders }
+    requires sizes { K.sizes ≡ domain.now.sizes }
+    requires serves { K.serves ≡ is_until term }
     ensures orders { IfOk result (λ end. end.orders ≡ orders) }
-    ensures stores { StoreToClean K.riders → (IfOk result (λ end. StoreToClean end.riders)
-        × IfErr result (λ back. StoreToClean back.1)) }
+    ensures sweeps { let sizes = domain.now.sizes
+        in StoreSweeps sizes K.riders → (IfOk result (λ end. StoreSweeps sizes end.riders)
+        × IfErr result (λ back. StoreSweeps sizes back.1)) }
+    ensures images { let sizes = domain.now.sizes
+        in K.serves ≡ true → AllByRecursion FlushesNone K.riders
+        → (IfOk result (λ end. AreImaged W.has sizes end.riders end.writers)
+        × IfErr result (λ back. AreImaged W.has sizes back.1 (back.2 ∷ back.3 ∷ []))) }
     ensures err { IfErr result (λ back. back.0 ≡ OutOfMemory) }
 {
     let Ok((channels, buffers)) = open_rows(alloc, domain, &term) else {
@@ -168,7 +185,8 @@ fn open_rows<E: Epochs + Drop, F: Task, P: Promise, L: Realm>(
     domain: &Domain<E, F, P, L>,
     term: &Term<'_>,
 ) -> Result<(Option<Channels>, (Buffers<L>, Buffers<L>)), Fault>
-    ensures { IfErr result (λ fault. fault ≡ OutOfMemory) }
+    ensures channels { IfOk result (λ rows. is_none rows.0 ≡ is_until term.entry.now) }
+    ensures memory { IfErr result (λ fault. fault ≡ OutOfMemory) }
 {
     let channels = match term {
         Term::Turns(_) => Some(Channels::open(alloc).map_err(|_| Fault::OutOfMemory)?),

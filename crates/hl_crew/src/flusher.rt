@@ -5,7 +5,7 @@ ghost use Rattle.hl_crew.specs.Goes.{UpTo};
 ghost use Rattle.hl_crew.specs.Lags.{IsLag};
 ghost use Rattle.hl_crew.specs.Pouches.{load_count};
 ghost use Rattle.hl_crew.specs.Runs.{FlushesIf, MakesTurn, TurnsNext, Serves, ServesNext};
-ghost use Rattle.hl_crew.specs.Sweeps.{StoresNoMore};
+ghost use Rattle.hl_crew.specs.Riders.{WorksOn};
 
 use crate::counts::Counts;
 use crate::given::Given;
@@ -49,24 +49,31 @@ pub(crate) struct FlusherState<L: Realm> {
 }
 
 impl<L: Realm> HasRider for FlusherState<L> {
+    ghost use Rattle.hl_crew.specs.Riders.{FlushesNone};
+
     ghost rider_of = { λ own. own.rider };
+
+    ghost flushed = { λ sizes own. FlushesNone own.rider };
 }
 
 impl<R: Wait, E: Epochs + Drop, F: Task, P: Promise, L: Realm> Flusher<'_, R, E, F, P, L> {
     /// Makes its turns until they are over.
     pub(crate) fn run<K: Given>(&self, own: &Mutex<Seat<FlusherState<L>, K>>, term: &Term<'_>)
-        requires { let orders = self.now.shared.now.orders
+        requires lag { let orders = self.now.shared.now.orders
             in IsLag self.now.domain.now.sizes.frames orders.mutable orders.resident }
+        requires given { (K.sizes ≡ self.now.domain.now.sizes)
+            × (K.serves ≡ is_none self.now.shared.now.channels) }
     {
         let mut seat = own.lock(self.rt);
         self.work(&mut seat.own, term);
     }
 
-    // The same with what it has at hand. Its rider stores nothing.
+    // The same with what it has at hand.
     fn work(&self, own: &mut FlusherState<L>, term: &Term<'_>)
         requires { let orders = self.now.shared.now.orders
             in IsLag self.now.domain.now.sizes.frames orders.mutable orders.resident }
-        ensures { StoresNoMore own.old.rider own.new.rider }
+        ensures { WorksOn (is_none self.now.shared.now.channels) self.now.domain.now.sizes
+            own.old.rider own.new.rider }
     {
         let _ = match term {
             Term::Turns(most) => self.make_turns(own, *most),

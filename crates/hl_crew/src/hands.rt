@@ -1,6 +1,6 @@
 ghost use Rattle.std.specs.Prelude.{◌≡◌, [], ◌∷◌, IfOk, IfErr, IsOk, IsSome, ◌↔◌};
 ghost use Rattle.hl_crew.specs.Counting.{nothing, counted_with};
-ghost use Rattle.hl_crew.specs.Sweeps.{riders_in};
+ghost use Rattle.hl_crew.specs.Riders.{riders_in, writers_in};
 ghost use Rattle.hl_model.specs.declared.fault.Fault.TheVariants.{OutOfMemory};
 
 use crate::counts::Counts;
@@ -90,7 +90,7 @@ impl<L: Realm, W> Hands<L, W> {
     ) -> Result<CrewEnd<L, W>, (Fault, [Rider<L>; 4], W, W)>
         ensures whole { IsOk result ↔ IsSome whole }
         ensures riders { IfOk result (λ end. end.riders ≡ riders_in self) }
-        ensures writers { IfOk result (λ end. end.writers ≡ self.first.pages ∷ self.second.pages ∷ []) }
+        ensures writers { IfOk result (λ end. end.writers ≡ writers_in self) }
         ensures counts { let all = counted_with (counted_with self.flusher.counts self.first.counts)
             self.second.counts
             in IfOk result (λ end. (end.written ≡ all.written) × (end.failed ≡ all.failed)

@@ -49,9 +49,10 @@
 //!
 //! Of a crew as a whole: that riders and page writers come back is in its types. That no refusal is
 //! other than `OutOfMemory` is a clause, and so is what all its threads ran by, which
-//! [`CrewEnd::orders`] tells. So is that a rider that comes back stored into cells only if a call of
-//! its own took a page to clean, where that held of all riders before: a crew that took no page to
-//! clean changed no word. Inside, of each function that does a step: what it made under the
+//! [`CrewEnd::orders`] tells. So is that a rider that comes back stored only 0s of pages that a call of
+//! its own had just taken to clean, if that held of all riders before: a crew that took no page to
+//! clean changed no word. And under [`serve`] each page that a rider flushed is with that rider's page writer, as the image
+//! of the words that it copied between its take and its answer; by `hl_images` they are the page's at the end. Inside, of each function that does a step: what it made under the
 //! domain's lock, in what order, and what it counted. A flusher's turn makes those of the lag's steps that it wants, in their
 //! order up to the first that is refused, and ends if the journal is
 //! full; if its actions end well, it ran each that it took and answered it done, up to four. Of a page that a writer takes

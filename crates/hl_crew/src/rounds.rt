@@ -3,7 +3,7 @@ ghost use Rattle.std.specs.Prelude.{◌≡◌, is_none, true};
 ghost use Rattle.hl_crew.specs.Goes.{UpTo};
 ghost use Rattle.hl_crew.specs.Lags.{IsLag};
 ghost use Rattle.hl_crew.specs.Rounds.{AllLook, MakesRound};
-ghost use Rattle.hl_crew.specs.Sweeps.{StoreToClean, riders_in};
+ghost use Rattle.hl_crew.specs.Riders.{AllWorkOn, Puts, PutsNone};
 
 use crate::cleaner::Cleaner;
 use crate::flusher::Flusher;
@@ -38,12 +38,13 @@ where
     L: Realm,
     G: Gate,
 {
-    /// What a crew does whose threads have ended: if it serves and was whole, it makes its last turns. Its riders store only to
-    /// clean if they did before.
+    /// What a crew does whose threads have ended: if it serves and was whole, it makes its last turns. Its riders
+    /// store only to sweep, and flush only pages whose images were written.
     pub(crate) fn end<W: PageWriter>(&self, hands: &mut Hands<L, W>, is_whole: bool)
         requires lag { let orders = self.now.shared.now.orders
             in IsLag self.now.domain.now.sizes.frames orders.mutable orders.resident }
-        ensures { StoreToClean (riders_in hands.old) → StoreToClean (riders_in hands.new) }
+        ensures { AllWorkOn W.has (is_none self.now.shared.now.channels) self.now.domain.now.sizes
+            hands.old hands.new }
     {
         if is_whole && self.shared.serves() {
             let _ = self.make(hands, LAST_TURNS);
@@ -56,7 +57,7 @@ where
         requires lag { let orders = self.now.shared.now.orders
             in IsLag self.now.domain.now.sizes.frames orders.mutable orders.resident }
         ensures { UpTo (MakesRound F self.now.domain.now self.now.shared.now.orders
-            (G.lets self.now.gate.now) W.wrote W.failed W.failures) most result hands.old hands.new }
+            (G.lets self.now.gate.now) (Puts W.has W.wrote) (PutsNone W.has W.failed) W.failures) most result hands.old hands.new }
     {
         let flusher = Flusher {
             rt: self.rt,
@@ -76,7 +77,7 @@ where
     // The writers and the cleaner look for pages until they find none.
     fn look<W: PageWriter>(&self, hands: &mut Hands<L, W>)
         ensures { AllLook F self.now.domain.now self.now.shared.now.orders
-            (G.lets self.now.gate.now) W.wrote W.failed W.failures hands.old hands.new }
+            (G.lets self.now.gate.now) (Puts W.has W.wrote) (PutsNone W.has W.failed) W.failures hands.old hands.new }
     {
         let writer = Writer {
             rt: self.rt,

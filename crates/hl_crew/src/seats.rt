@@ -1,46 +1,55 @@
 ghost use Rattle.std.specs.Prelude.{◌≡◌};
-ghost use Rattle.hl_crew.specs.Sweeps.{StoreToClean, StoresAsGiven, riders_in};
+ghost use Rattle.hl_crew.specs.Riders.{AreAsGiven, IsAsGiven, riders_in};
 
 use crate::flusher::FlusherState;
 use crate::given::Given;
 use crate::hands::Hands;
 use crate::writer::WriterState;
+use hl_image::PageWriter;
 use hl_words::{Realm, Rider};
 use std::marker::{Model, PhantomData};
 use std::sync::Mutex;
 
-/// What has a rider, which contracts see.
+/// What has a rider, which contracts see, and what is known of the pages that it flushed.
 pub(crate) trait HasRider {
+    ghost use Rattle.hl_model.specs.Sizes.{Sizes};
     ghost use Rattle.hl_words.specs.States.{RiderState};
 
     ghost rider_of: { Self → RiderState };
+
+    ghost flushed: { Sizes → Self → Type 0 };
 }
 
 impl<L: Realm> HasRider for Rider<L> {
+    ghost use Rattle.hl_crew.specs.Riders.{FlushesNone};
+
     ghost rider_of = { λ rider. rider };
+
+    ghost flushed = { λ sizes rider. FlushesNone rider };
 }
 
-/// What a thread has of its own, as it lies under its lock: its rider stores only to clean, if all riders that the crew
-/// was given did.
+/// What a thread has of its own, as it lies under its lock: its rider stores only to sweep, if all riders that the crew
+/// was given did; and what it flushed is known, if the crew serves.
 pub(crate) struct Seat<S: HasRider, K: Given> {
     pub(crate) own: S,
     given: PhantomData<K>,
 }
 
 impl<S: HasRider, K: Given> Model for Seat<S, K> {
-    ghost use Rattle.hl_crew.specs.Sweeps.{StoresAsGiven};
+    ghost use Rattle.hl_crew.specs.Riders.{IsAsGiven};
 
     ghost Value = { S };
 
     ghost view = { λ seat. seat.own };
 
-    ghost invariant = { λ seat. StoresAsGiven K.riders (S.rider_of seat.own) };
+    ghost invariant = { λ seat.
+        IsAsGiven K.riders K.serves K.sizes (S.rider_of seat.own) (S.flushed K.sizes seat.own) };
 }
 
 impl<S: HasRider, K: Given> Seat<S, K> {
     // The seat of a thread that hasn't begun.
     fn new(own: S) -> Seat<S, K>
-        requires { StoresAsGiven K.riders (S.rider_of own) }
+        requires { IsAsGiven K.riders K.serves K.sizes (S.rider_of own) (S.flushed K.sizes own) }
         ensures { result ≡ own }
     {
         Seat {
@@ -51,7 +60,7 @@ impl<S: HasRider, K: Given> Seat<S, K> {
 
     // What its thread has left.
     fn into_own(self) -> S
-        ensures { StoresAsGiven K.riders (S.rider_of result) }
+        ensures { IsAsGiven K.riders K.serves K.sizes (S.rider_of result) (S.flushed K.sizes result) }
     {
         let Seat { own, given: _ } = self;
         own
@@ -59,14 +68,14 @@ impl<S: HasRider, K: Given> Seat<S, K> {
 }
 
 /// What each thread has of its own, under a lock that it takes once.
-pub(crate) struct Seats<L: Realm, W, K: Given> {
+pub(crate) struct Seats<L: Realm, W: PageWriter, K: Given> {
     pub(crate) flusher: Mutex<Seat<FlusherState<L>, K>>,
     pub(crate) first: Mutex<Seat<WriterState<L, W>, K>>,
     pub(crate) second: Mutex<Seat<WriterState<L, W>, K>>,
     pub(crate) cleaner: Mutex<Seat<Rider<L>, K>>,
 }
 
-impl<L: Realm, W, K: Given> Seats<L, W, K> {
+impl<L: Realm, W: PageWriter, K: Given> Seats<L, W, K> {
     /// A seat for each thread.
     pub(crate) fn of(hands: Hands<L, W>) -> Seats<L, W, K>
         requires { K.riders ≡ riders_in hands }
@@ -87,7 +96,7 @@ impl<L: Realm, W, K: Given> Seats<L, W, K> {
 
     /// What each thread has left.
     pub(crate) fn end(self) -> Hands<L, W>
-        ensures { StoreToClean K.riders → StoreToClean (riders_in result) }
+        ensures { AreAsGiven W.has K.riders K.serves K.sizes result }
     {
         let Seats {
             flusher,

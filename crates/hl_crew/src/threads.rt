@@ -1,3 +1,4 @@
+ghost use Rattle.std.specs.Prelude.{◌≡◌, is_none};
 ghost use Rattle.std.specs.Thread.{IsSend, IsSync};
 ghost use Rattle.hl_crew.specs.Lags.{IsLag};
 
@@ -41,6 +42,7 @@ where
     K: Given + Send,
     requires lag { let orders = shared.now.orders
         in IsLag domain.now.sizes.frames orders.mutable orders.resident }
+    requires named { (K.sizes ≡ domain.now.sizes) × (K.serves ≡ is_none shared.now.channels) }
 {
     thread::scope(
         thread::scope_env(),
@@ -56,36 +58,49 @@ where
             requires given { IsSend K.row }
             requires lag { let orders = shared.now.orders
                 in IsLag domain.now.sizes.frames orders.mutable orders.resident }
+            requires named { (K.sizes ≡ domain.now.sizes) × (K.serves ≡ is_none shared.now.channels) }
         {
             let bell = term.bell();
             let looks = term.looks();
             let first = scope
-                .spawn(move || {
-                    write_pages(rt, domain, gate, shared, &seats.first, &shared.first, bell)
-                })
+                .spawn(
+                    move ||
+                        requires { (K.sizes ≡ domain.now.sizes) × (K.serves ≡ is_none shared.now.channels) }
+                    { write_pages(rt, domain, gate, shared, &seats.first, &shared.first, bell) },
+                )
                 .ok();
             let second = scope
-                .spawn(move || {
-                    write_pages(
-                        rt,
-                        domain,
-                        gate,
-                        shared,
-                        &seats.second,
-                        &shared.second,
-                        bell,
-                    )
-                })
+                .spawn(
+                    move ||
+                        requires { (K.sizes ≡ domain.now.sizes) × (K.serves ≡ is_none shared.now.channels) }
+                    {
+                        write_pages(
+                            rt,
+                            domain,
+                            gate,
+                            shared,
+                            &seats.second,
+                            &shared.second,
+                            bell,
+                        )
+                    },
+                )
                 .ok();
             let cleaner = scope
-                .spawn(move || Cleaner { rt, domain, shared }.run(&seats.cleaner, looks))
+                .spawn(
+                    move ||
+                        requires { (K.sizes ≡ domain.now.sizes) × (K.serves ≡ is_none shared.now.channels) }
+                    { Cleaner { rt, domain, shared }.run(&seats.cleaner, looks) },
+                )
                 .ok();
             let flusher = if first.is_some() && second.is_some() && cleaner.is_some() {
                 scope
                     .spawn(
                         move ||
-                            requires { let orders = shared.now.orders
+                            requires lag { let orders = shared.now.orders
                                 in IsLag domain.now.sizes.frames orders.mutable orders.resident }
+                            requires named { (K.sizes ≡ domain.now.sizes)
+                                × (K.serves ≡ is_none shared.now.channels) }
                         { flush_pages(rt, domain, shared, &seats.flusher, term) },
                     )
                     .ok()
@@ -115,8 +130,9 @@ where
     P: Promise,
     L: Realm,
     K: Given,
-    requires { let orders = shared.now.orders
+    requires lag { let orders = shared.now.orders
         in IsLag domain.now.sizes.frames orders.mutable orders.resident }
+    requires named { (K.sizes ≡ domain.now.sizes) × (K.serves ≡ is_none shared.now.channels) }
 {
     let flusher = Flusher { rt, domain, shared };
     flusher.run(own, term);
@@ -142,6 +158,7 @@ where
     W: PageWriter,
     G: Gate,
     K: Given,
+    requires { (K.sizes ≡ domain.now.sizes) × (K.serves ≡ is_none shared.now.channels) }
 {
     let writer = Writer {
         rt,

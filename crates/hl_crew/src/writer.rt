@@ -1,5 +1,5 @@
-ghost use Rattle.std.specs.Prelude.{◌≡◌, true, false};
-ghost use Rattle.hl_crew.specs.Sweeps.{StoresNoMore};
+ghost use Rattle.std.specs.Prelude.{◌≡◌, is_none, true, false};
+ghost use Rattle.hl_crew.specs.Riders.{Puts, PutsNone, WritesOn};
 ghost use Rattle.hl_crew.specs.Writes.{IsWritten, IsNotWritten};
 
 use crate::counts::Counts;
@@ -48,8 +48,12 @@ pub(crate) struct WriterState<L: Realm, W> {
     pub(crate) counts: Counts,
 }
 
-impl<L: Realm, W> HasRider for WriterState<L, W> {
+impl<L: Realm, W: PageWriter> HasRider for WriterState<L, W> {
+    ghost use Rattle.hl_crew.specs.Riders.{HasImages};
+
     ghost rider_of = { λ own. own.rider };
+
+    ghost flushed = { λ sizes own. HasImages W.has sizes own.rider own.pages };
 }
 
 impl<L: Realm, W> WriterState<L, W> {
@@ -81,14 +85,18 @@ where
         &self,
         own: &Mutex<Seat<WriterState<L, W>, K>>,
         sleeper: &Parker,
-    ) {
+    )
+        requires { (K.sizes ≡ self.now.domain.now.sizes)
+            × (K.serves ≡ is_none self.now.shared.now.channels) }
+    {
         let mut seat = own.lock(self.rt);
         self.work(&mut seat.own, sleeper);
     }
 
-    // The same with what it has at hand. Its rider stores nothing.
+    // The same with what it has at hand.
     fn work<W: PageWriter>(&self, own: &mut WriterState<L, W>, sleeper: &Parker)
-        ensures { StoresNoMore own.old.rider own.new.rider }
+        ensures { WritesOn W.has (is_none self.now.shared.now.channels) self.now.domain.now.sizes
+            own.old own.new }
     {
         match &self.shared.channels {
             Some(channels) => self.write_on(own, channels),
@@ -100,7 +108,7 @@ where
 
     // Writes page after page, and acknowledges each, until it is told to stop or a channel fails.
     fn write_on<W: PageWriter>(&self, own: &mut WriterState<L, W>, channels: &Channels)
-        ensures { StoresNoMore own.old.rider own.new.rider }
+        ensures { WritesOn W.has false self.now.domain.now.sizes own.old own.new }
     {
         for _ in self.rt.forever() {
             let Ok(Message::Write(job)) = channels.jobs_sent.recv(self.rt) else {
@@ -124,9 +132,9 @@ where
         ensures gate { result.ok ≡ true → G.lets self.now.gate.now job.page }
         ensures written { let sizes = self.now.domain.now.sizes
             in result.ok ≡ true
-            → IsWritten W.wrote sizes job own.old.rider own.new.rider own.old.pages own.new.pages }
+            → IsWritten (Puts W.has W.wrote) sizes job own.old.rider own.new.rider own.old.pages own.new.pages }
         ensures failed { let sizes = self.now.domain.now.sizes
-            in result.ok ≡ false → IsNotWritten W.failed W.failures sizes job
+            in result.ok ≡ false → IsNotWritten (PutsNone W.has W.failed) W.failures sizes job
             own.old.rider own.new.rider own.old.pages own.new.pages }
     {
         if !self.may_write(job.page) {

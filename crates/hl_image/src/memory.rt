@@ -1,4 +1,4 @@
-ghost use Rattle.std.specs.Prelude.{◌≡◌, ◌≤◌, ◌^◌, IfOk, IfErr};
+ghost use Rattle.std.specs.Prelude.{◌≡◌, ◌≤◌, ◌^◌, IfOk, IfErr, Some};
 ghost use Rattle.std.specs.Option.{option_copied};
 ghost use Rattle.hl_image.specs.Pages.{opened, image_at, is_refused, IsStored, IsRefused};
 
@@ -89,6 +89,8 @@ impl PageWriter for MemoryWriter {
     ghost failed = { IsRefused };
 
     ghost failures = { λ writer. writer.failures };
+
+    ghost has = { λ writer page bytes. image_at page writer ≡ Some bytes };
 
     fn write_page(&mut self, page: u64, bytes: &[u8]) -> Result<(), Fault> {
         let is_refused = self.refuses(page, bytes.len());

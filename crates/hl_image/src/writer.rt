@@ -1,4 +1,4 @@
-ghost use Rattle.std.specs.Prelude.{◌≡◌, ℕ, ◌^◌, ◌≤◌, List, OnOk, OnErr, IfErr};
+ghost use Rattle.std.specs.Prelude.{◌≡◌, ◌≢◌, ℕ, ◌^◌, ◌≤◌, List, OnOk, OnErr, IfErr, ⊤};
 ghost use Rattle.hl_image.specs.Failures.{one_more};
 
 use hl_model::Fault;
@@ -17,6 +17,9 @@ pub trait PageWriter {
     /// How many writes failed: 2^62 stands for that many or more.
     ghost failures: { Self → ℕ };
 
+    /// What the writer has of a page: that its image is these bytes. Nothing, unless a writer says so.
+    ghost has: { Self → ℕ → List ℕ → Type 0 } = { λ _ _ _. ⊤ };
+
     /// Writes the bytes of a page.
     ///
     /// Fault: `Device` where they could not be written; the failure is counted.
@@ -25,6 +28,9 @@ pub trait PageWriter {
         ensures none_counted { OnOk result (failures self.new ≡ failures self.old) }
         ensures err { IfErr result (λ fault. fault ≡ Fault.Device) }
         ensures left { OnErr result (failed self.old page bytes.now self.new) }
+        ensures has { OnOk result (has self.new page bytes.now) }
+        ensures others { (other : ℕ) (image : List ℕ) → other ≢ page
+            → has self.old other image → has self.new other image }
         ensures one_counted { OnErr result (failures self.new ≡ one_more (failures self.old)) };
 
     /// How many writes failed since the writer was made: 2^62 stands for that many or more.

@@ -1,7 +1,8 @@
 -- The stores of riders stay writes of their calls, or 0s of their sweeps.
-use Rattle.std.proofs.Common.{◌≡◌, ℕ, zero, suc, ◌+◌, ◌<◌, ◌≤◌, true, false, List, [], ◌∷◌, ◌++◌, Some, None, refl, ap, sym, ◌∙◌, inl, inr, subst, arith, append_assoc}
+use Rattle.std.proofs.Common.{◌≡◌, ◌≢◌, ℕ, zero, suc, ◌+◌, ◌<◌, ◌≤◌, true, false, List, [], ◌∷◌, ◌++◌, Some, None, refl, ap, sym, ◌∙◌, inl, inr, ⊎_elim, subst, arith}
 use Rattle.std.specs.Prelude.{Option, Bool, if◌then◌else◌, nat_lt, ◌||◌, max}
 use Rattle.std.specs.List.{AllByRecursion as Every}
+use Rattle.std.proofs.lemmas.Bool.{cases_eq}
 use Rattle.std.proofs.lemmas.List.{append-nil}
 use Rattle.hl_model.specs.declared.step.Step.{Step}
 use Rattle.hl_model.specs.declared.step.Step.TheVariants.{Acquire, Refresh, Release, Allocate, Look, Write, CleanTake, CleanDone}
@@ -24,8 +25,9 @@ use Rattle.hl_keeper.proofs.TouchLaws.{touches_more, touches_rise}
 use Rattle.hl_domain.specs.Domains.{with_entry}
 use Rattle.hl_laws.proofs.BoundLaws.{tail-append}
 use Rattle.hl_laws.proofs.LawProofs.{beginnings_are_accepted}
-use Rattle.hl_images.specs.Entered.{is_touch, IsOneCall, newest_writes, swept_by, IsWriteOf, AreEntered}
+use Rattle.hl_images.specs.Entered.{is_touch, IsOneCall, newest_writes, swept_by, IsWriteOf, AreEntered, HasZero, IsSwept, FreesSwept}
 use Rattle.hl_images.specs.Kept.{RiderEnters, PassEnters, RidersStayEntered, PassesStayEntered}
+use Rattle.hl_images.proofs.PlaceLaws.{every_place}
 use Rattle.hl_images.proofs.SealedLaws.{pending_stays_above}
 use Rattle.hl_images.proofs.WalkLaws.{newest_every}
 use Rattle.hl_images.proofs.WriterLaws.{writes_both}
@@ -65,10 +67,18 @@ touched_sweep (_ ∷ ts) s h c = absurd (touch_only h.0)
     touch_only : false ≡ true → ⊥
     touch_only e = cc
 
--- what holds of each element at its place holds of each
-every_place : {X : Type 0} (P : X → Type 0) (front xs : List X) → ((f : List X) (x : X) (r : List X) → front ++ xs ≡ f ++ x ∷ r → P x) → Every P xs
-every_place P front [] h = tt
-every_place P front (x ∷ xs) h = (h front x xs refl, every_place P (front ++ x ∷ []) xs (λ f y r e. h f y r (sym (append_assoc front (x ∷ []) xs) ∙ e)))
+-- a step that frees no page is no clean done
+frees_none : (s : Step) (p : ℕ) → clean_of s ≡ None → s ∷ [] ≡ CleanDone p ∷ [] → ⊥
+frees_none s p free is =
+    let same : s ≡ CleanDone p = cc is in
+    let no : None ≡ Some p = sym free ∙ ap clean_of same in
+    cc no
+
+-- nor are the touches of a pass and its step
+call_frees_none : (ts : List Step) (s : Step) (p : ℕ) → is_call s ≡ true → ts ++ s ∷ [] ≡ CleanDone p ∷ [] → ⊥
+call_frees_none [] s p own is = frees_none s p (call_is s own).1 is
+call_frees_none (t ∷ []) s p own is = absurd cc
+call_frees_none (t ∷ (u ∷ ts)) s p own is = absurd cc
 
 module _ (sizes : Sizes) where
   loads : (swept : Option ℕ) (waiting : List Step) (calls : List Entry) (cell : ℕ) (words : List ℕ) (view : RiderView) → AreEntered sizes view.touches calls waiting swept → AreEntered sizes (loaded_all cell words view).touches calls waiting swept
@@ -81,23 +91,69 @@ module _ (sizes : Sizes) where
   unfolding zeroed
   zeros list older page zero view next le h = h
   zeros list older page (suc n) view next le h =
-      inr ((refl, page, refl, omega arith, omega (arith, le), list, older, refl, next), zeros list older page n view next (omega (arith, le)) h)
+      inr (((refl, page, list, older, refl, next, omega arith, omega (arith, le)), refl), zeros list older page n view next (omega (arith, le)) h)
+
+  loads_free : (calls : List Entry) (cell : ℕ) (words : List ℕ) (view : RiderView) → FreesSwept sizes view.touches calls → FreesSwept sizes (loaded_all cell words view).touches calls
+  unfolding loaded_all
+  loads_free calls cell [] view h = h
+  loads_free calls cell (w ∷ words) view h = loads_free calls (cell + 1) words (loaded cell w view) h
+
+  loads_zero : (calls : List Entry) (p d cell : ℕ) (words : List ℕ) (view : RiderView) → HasZero sizes p d view.touches calls → HasZero sizes p d (loaded_all cell words view).touches calls
+  unfolding loaded_all
+  loads_zero calls p d cell [] view h = h
+  loads_zero calls p d cell (w ∷ words) view h = loads_zero calls p d (cell + 1) words (loaded cell w view) h
+
+  zeros_free : (calls : List Entry) (cell n : ℕ) (view : RiderView) → FreesSwept sizes view.touches calls → FreesSwept sizes (zeroed cell n view).touches calls
+  unfolding zeroed
+  zeros_free calls cell zero view h = h
+  zeros_free calls cell (suc n) view h = zeros_free calls cell n view h
+
+  -- each of the cells has its 0
+  zero_at : (list : List Step) (older : List Entry) (page n : ℕ) (view : RiderView) → next_to_clean sizes list ≡ Some page → n ≤ sizes.page_size → (d : ℕ) → first_cell sizes page ≤ d → d < first_cell sizes page + n
+      → HasZero sizes page d (zeroed (first_cell sizes page) n view).touches (entry list (CleanTake ∷ []) ∷ older)
+  unfolding zeroed
+  zero_at list older page zero view next le d low high = absurd (omega (arith, low, high))
+  zero_at list older page (suc n) view next le d low high =
+      ⊎_elim
+      (λ (here : first_cell sizes page + n ≡ d). inl (here, ((refl, page, list, older, refl, next, low, omega (arith, high, le)), refl)))
+      (λ (apart : first_cell sizes page + n ≢ d). inr (zero_at list older page n view next (omega (arith, le)) d low (omega (arith, high, apart))))
+      (cases_eq (first_cell sizes page + n) d)
 
   pub riders_stay_entered : RidersStayEntered sizes
   riders_stay_entered = record {
-    new = λ name. record { entered = refl; calls = tt };
-    loads = λ swept cell words r h. record { entered = loads swept [] r.calls cell words r.view h.entered; calls = h.calls };
-    told = λ swept past r h. record { entered = h.entered; calls = h.calls };
+    new = λ name. record { entered = refl; frees = tt; sweep = λ p e. absurd (cc e); calls = tt };
+    loads = λ swept cell words r h. record {
+      entered = loads swept [] r.calls cell words r.view h.entered;
+      frees = loads_free r.calls cell words r.view h.frees;
+      sweep = λ p e d low high. loads_zero r.calls p d cell words r.view (h.sweep p e d low high);
+      calls = h.calls;
+    };
+    told = λ swept past r h. record { entered = h.entered; frees = h.frees; sweep = h.sweep; calls = h.calls };
     call = λ was now list s r touch free h. record {
       entered = subst (λ (l : List Step). AreEntered sizes r.view.touches r.calls l (swept_by (s ∷ []) None)) (sym (no_write s [] touch)) (subst (λ (o : Option ℕ). AreEntered sizes r.view.touches r.calls [] o) (sym (no_sweep s free)) h.entered);
+      frees = ((λ p is. absurd (frees_none s p free is)), h.frees);
+      sweep = λ p e. absurd (cc e);
       calls = (inr ([], s, refl, tt, inl refl), h.calls);
     };
-    refused = λ swept was now list r h. record { entered = h.entered; calls = (inl refl, h.calls) };
+    refused = λ swept was now list r h. record { entered = h.entered; frees = ((λ p is. absurd (cc is)), h.frees); sweep = h.sweep; calls = (inl refl, h.calls) };
     sweeps = λ was now list page r next h.
         let taken = with_entry was now list (CleanTake ∷ []) r in
-        record { entered = zeros list r.calls page sizes.page_size taken.view next (omega arith) h.entered; calls = (inr ([], CleanTake, refl, tt, inl refl), h.calls) };
-    frees = λ was now list page r h. record { entered = h.entered; calls = (inr ([], CleanDone page, refl, tt, inl refl), h.calls) };
-    ends = λ whole r h. record { waiting = []; swept = None; entered = h.entered; calls = h.calls; above = tt; unfreed = λ p e. absurd (cc e) };
+        let none : FreesSwept sizes taken.view.touches taken.calls = ((λ p is. absurd (cc is)), h.frees) in
+        record {
+          entered = zeros list r.calls page sizes.page_size taken.view next (omega arith) h.entered;
+          frees = zeros_free taken.calls (first_cell sizes page) sizes.page_size taken.view none;
+          sweep = λ p e.
+              let same : page ≡ p = cc e in
+              subst (λ (q : ℕ). IsSwept sizes q (zeroed (first_cell sizes page) sizes.page_size taken.view).touches taken.calls) same (λ d low high. zero_at list r.calls page sizes.page_size taken.view next (omega arith) d low high);
+          calls = (inr ([], CleanTake, refl, tt, inl refl), h.calls);
+        };
+    frees = λ was now list page r h. record {
+      entered = h.entered;
+      frees = ((λ p is. let same : page ≡ p = cc is in subst (λ (q : ℕ). IsSwept sizes q r.view.touches r.calls) same (h.sweep page refl)), h.frees);
+      sweep = λ p e. absurd (cc e);
+      calls = (inr ([], CleanDone page, refl, tt, inl refl), h.calls);
+    };
+    ends = λ whole r h. record { waiting = []; swept = None; entered = h.entered; frees = h.frees; calls = h.calls; above = tt; unfreed = λ p e. absurd (cc e) };
   }
 
   -- a store at an address, among touches that wait
@@ -113,6 +169,7 @@ module _ (sizes : Sizes) where
   unfolding with_store
   stores a v p fault h = record {
     entered = inl (Write p.slot a v, newest_writes p.touches [], more_waits a v p, is_write a v p fault h, h.entered);
+    frees = h.frees;
     calls = h.calls;
     touches = (touches_more p.slot p.held p.touches (Write p.slot a v) h.touches (store_lawful p a v fault)).0;
     newest = h.newest;
@@ -125,6 +182,7 @@ module _ (sizes : Sizes) where
   unfolding with_change
   changes a found v p fault h = record {
     entered = (Write p.slot a v, newest_writes p.touches [], more_waits a v p, is_write a v p fault h, h.entered);
+    frees = h.frees;
     calls = h.calls;
     touches = (touches_more p.slot p.held p.touches (Write p.slot a v) h.touches (store_lawful p a v fault)).0;
     newest = h.newest;
@@ -135,11 +193,11 @@ module _ (sizes : Sizes) where
 
   pass_loads : (a v : ℕ) (p : PassRecord) → PassEnters sizes p → PassEnters sizes (with_load sizes a v p)
   unfolding with_load
-  pass_loads a v p h = record { entered = h.entered; calls = h.calls; touches = h.touches; newest = h.newest; older = h.older; newest_is = h.newest_is; sees = h.sees }
+  pass_loads a v p h = record { entered = h.entered; frees = h.frees; calls = h.calls; touches = h.touches; newest = h.newest; older = h.older; newest_is = h.newest_is; sees = h.sees }
 
   news : (read_only head ended : ℕ) (p : PassRecord) → PassEnters sizes p → PassEnters sizes (with_news read_only head ended p)
   unfolding with_news
-  news read_only head ended p h = record { entered = h.entered; calls = h.calls; touches = h.touches; newest = h.newest; older = h.older; newest_is = h.newest_is; sees = h.sees }
+  news read_only head ended p h = record { entered = h.entered; frees = h.frees; calls = h.calls; touches = h.touches; newest = h.newest; older = h.older; newest_is = h.newest_is; sees = h.sees }
 
   looks : (read_only head : ℕ) (p : PassRecord) → PassEnters sizes p → PassEnters sizes (with_look read_only head p)
   unfolding with_look
@@ -158,6 +216,7 @@ module _ (sizes : Sizes) where
       })
       by true = record {
         entered = subst (λ (l : List Step). AreEntered sizes p.rider.view.touches p.rider.calls l None) (sym (writes_both p.touches (look ∷ []) [])) h.entered;
+        frees = h.frees;
         calls = h.calls;
         touches = (touches_more p.slot p.held p.touches look h.touches (refl, omega arith, omega arith)).0;
         newest = h.newest;
@@ -167,6 +226,7 @@ module _ (sizes : Sizes) where
       }
       by false = record {
         entered = subst (λ (l : List Step). AreEntered sizes p.rider.view.touches p.rider.calls (newest_writes l []) None) (sym (append-nil p.touches)) h.entered;
+        frees = h.frees;
         calls = h.calls;
         touches = subst (AreTouches p.slot p.held) (sym (append-nil p.touches)) h.touches;
         newest = h.newest;
@@ -184,6 +244,8 @@ module _ (sizes : Sizes) where
       record {
         entered = subst (λ (l : List Step). AreEntered sizes p.rider.view.touches p.rider.calls l (swept_by (p.touches ++ s ∷ []) None)) (sym waits)
             (subst (λ (o : Option ℕ). AreEntered sizes p.rider.view.touches p.rider.calls (newest_writes p.touches []) o) (sym (touched_sweep p.touches s all kind.1)) h.entered);
+        frees = ((λ q is. absurd (call_frees_none p.touches s q own is)), h.frees);
+        sweep = λ q e. absurd (cc e);
         calls = (inr (p.touches, s, refl, all, inr own), h.calls);
       }
 
@@ -195,10 +257,11 @@ module _ (sizes : Sizes) where
       subst (λ (l : List Step). p.held.tail ≤ tail sizes l) (sym b.1) (omega (arith, h.sees, more))
 
   -- a pass with another rider
-  with_newest : (list steps : List Step) (p : PassRecord) (r : RiderState) (older : List Entry) → AreEntered sizes r.view.touches r.calls (newest_writes p.touches []) None → Every (λ (e : Entry). IsOneCall e.steps) r.calls → r.calls ≡ entry list steps ∷ older
+  with_newest : (list steps : List Step) (p : PassRecord) (r : RiderState) (older : List Entry) → AreEntered sizes r.view.touches r.calls (newest_writes p.touches []) None → FreesSwept sizes r.view.touches r.calls → Every (λ (e : Entry). IsOneCall e.steps) r.calls → r.calls ≡ entry list steps ∷ older
       → AreTouches p.slot p.held p.touches → p.held.tail ≤ tail sizes (list ++ steps) → PassEnters sizes (with_rider r p)
-  with_newest list steps p r older entered calls is touches sees = record {
+  with_newest list steps p r older entered frees calls is touches sees = record {
     entered = entered;
+    frees = frees;
     calls = calls;
     touches = touches;
     newest = entry list steps;
@@ -212,7 +275,7 @@ module _ (sizes : Sizes) where
   passes_stay_entered = record {
     acquires = λ was now list t stamp slot r below h.
         let one = riders_stay_entered.call was now list (Acquire t) r refl refl h in
-        record { entered = one.entered; calls = one.calls; touches = tt; newest = entry list (Acquire t ∷ []); older = r.calls; newest_is = refl; sees = below };
+        record { entered = one.entered; frees = one.frees; calls = one.calls; touches = tt; newest = entry list (Acquire t ∷ []); older = r.calls; newest_is = refl; sees = below };
     stores = stores;
     changes = changes;
     loads = pass_loads;
@@ -220,22 +283,23 @@ module _ (sizes : Sizes) where
     news = news;
     goes_on = λ was now list s epoch view p own below h.
         let all = all_enter was now list s p own h in
-        record { entered = all.entered; calls = all.calls; touches = tt; newest = entry list (p.touches ++ s ∷ []); older = p.rider.calls; newest_is = refl; sees = below };
+        record { entered = all.entered; frees = all.frees; calls = all.calls; touches = tt; newest = entry list (p.touches ++ s ∷ []); older = p.rider.calls; newest_is = refl; sees = below };
     call = λ was now list s p touch free some ok of h.
         let waits : newest_writes p.touches [] ++ newest_writes (s ∷ []) [] ≡ newest_writes p.touches [] = ap (λ (l : List Step). newest_writes p.touches [] ++ l) (no_write s [] touch) ∙ append-nil (newest_writes p.touches []) in
         let good = beginnings_are_accepted sizes list (s ∷ []) ok in
         with_newest list (s ∷ []) p (with_entry was now list (s ∷ []) p.rider) p.rider.calls
         (subst (λ (l : List Step). AreEntered sizes p.rider.view.touches p.rider.calls l (swept_by (s ∷ []) None)) (sym waits) (subst (λ (o : Option ℕ). AreEntered sizes p.rider.view.touches p.rider.calls (newest_writes p.touches []) o) (sym (no_sweep s free)) h.entered))
-        (inr ([], s, refl, tt, inl refl), h.calls) refl h.touches (omega (arith, sees_on list p some good of h, tail-append sizes list (s ∷ []) some ok));
+        ((λ q is. absurd (frees_none s q free is)), h.frees) (inr ([], s, refl, tt, inl refl), h.calls) refl h.touches (omega (arith, sees_on list p some good of h, tail-append sizes list (s ∷ []) some ok));
     refused = λ was now list p some ok of h.
         with_newest list [] p (with_entry was now list [] p.rider) p.rider.calls
         (subst (λ (l : List Step). AreEntered sizes p.rider.view.touches p.rider.calls l None) (sym (append-nil (newest_writes p.touches []))) h.entered)
-        (inl refl, h.calls) refl h.touches (subst (λ (l : List Step). p.held.tail ≤ tail sizes l) (sym (append-nil list)) (sees_on list p some ok of h));
+        ((λ q is. absurd (cc is)), h.frees) (inl refl, h.calls) refl h.touches (subst (λ (l : List Step). p.held.tail ≤ tail sizes l) (sym (append-nil list)) (sees_on list p some ok of h));
     releases = λ was now list p h. all_enter was now list (Release p.slot) p refl h;
     abandons = λ whole p some ok view h. record {
       waiting = newest_writes p.touches [];
       swept = None;
       entered = h.entered;
+      frees = h.frees;
       calls = h.calls;
       above = newest_every (λ (w : Step). (t a v : ℕ) → w ≡ Write t a v → safe_read_only whole ≤ a) p.touches []
           (every_place (λ (w : Step). (t a v : ℕ) → w ≡ Write t a v → safe_read_only whole ≤ a) [] p.touches

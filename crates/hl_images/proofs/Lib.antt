@@ -10,3 +10,9 @@ pub mod WriterLaws
 pub mod AcceptedLaws
 pub mod KeptLaws
 pub mod SomeLaws
+pub mod AddLaws
+pub mod SumLaws
+pub mod StoreLaws
+pub mod ZeroLaws
+pub mod HoldLaws
+pub mod AnywhereLaws

@@ -11,7 +11,9 @@ use Rattle.hl_model.specs.Pages.{is_complete, is_flushed, is_freed, cleaning, fr
 use Rattle.hl_model.specs.Replies.{IsAccepted}
 use Rattle.hl_model.specs.Settled.{safe_read_only, closed}
 use Rattle.hl_model.specs.Sizes.{Sizes}
-use Rattle.hl_history.specs.Lists.{Begins}
+use Rattle.hl_history.specs.declared.view.Entry.{Entry}
+use Rattle.hl_history.specs.Lists.{Begins, left_by}
+use Rattle.hl_keeper.specs.Touches.{is_call}
 use Rattle.hl_laws.proofs.BoundLaws.{closed-le-head}
 use Rattle.hl_laws.proofs.FrameLaws.{entered_below, is_entered-stay}
 use Rattle.hl_laws.proofs.HeadlineLaws.{headline}
@@ -19,6 +21,7 @@ use Rattle.hl_laws.proofs.LawProofs.{beginnings_are_accepted, accepted_meets_no_
 use Rattle.hl_laws.proofs.PageFacts.{ends_below, flush_was_out, clean_was_out, frees_clean_of, in_flight_unflushed, freed_closed, cleaning_unfreed, flushed-le-safe_read_only, head-le-flushed, closed_flushed, round_freed}
 use Rattle.hl_laws.proofs.WorkLaws.{next_page-parts}
 use Rattle.hl_images.specs.Entered.{is_touch, IsOneCall}
+use Rattle.hl_images.proofs.SealedLaws.{later_stays_above}
 
 module _ {X : Type 0} where
   -- of two beginnings of one list the longer begins with the shorter
@@ -66,6 +69,11 @@ module _ {X : Type 0} where
   pub every_in : (P : X → Type 0) (xs : List X) (x : X) (ys : List X) → Every P (xs ++ x ∷ ys) → P x
   every_in P [] x ys h = h.0
   every_in P (y ∷ xs) x ys h = every_in P xs x ys h.1
+
+  -- what holds of each element at its place holds of each
+  pub every_place : (P : X → Type 0) (front xs : List X) → ((f : List X) (x : X) (r : List X) → front ++ xs ≡ f ++ x ∷ r → P x) → Every P xs
+  every_place P front [] h = tt
+  every_place P front (x ∷ xs) h = (h front x xs refl, every_place P (front ++ x ∷ []) xs (λ f y r e. h f y r (sym (append_assoc front (x ∷ []) xs) ∙ e)))
 
   pub every_first : (P : X → Type 0) (xs ys : List X) → Every P (xs ++ ys) → Every P xs
   every_first P [] ys h = tt
@@ -131,6 +139,72 @@ module _ (sizes : Sizes) (whole : List Step) (page_some : 0 < sizes.page_size) (
   pub both : (A B : List Step) → Begins A whole → Begins B whole → length A ≤ length B → (rest : List Step) × (B ≡ A ++ rest)
   both A B a b le = begins_both A B a.0 b.0 (sym a.1 ∙ b.1) le
 
+  -- a step that no pass makes is a call of its own
+  pub own_call : (list : List Step) (s : Step) → is_touch s ≡ false → is_call s ≡ false → Begins (list ++ s ∷ []) whole → (e : Entry) → Begins (left_by e) whole → IsOneCall e.steps → length e.before ≤ length list → length list < length (left_by e)
+      → (e.steps ≡ s ∷ []) × (list ≡ e.before)
+  own_call list s no_touch no_call next e b one low high =
+      let f = both e.before list (shorter e.before e.steps b) (shorter list (s ∷ []) next) low in
+      let r = both (list ++ s ∷ []) (left_by e) next b (omega (arith, high, length-append list (s ∷ []))) in
+      let left : e.before ++ e.steps ≡ e.before ++ (f.0 ++ s ∷ r.0) = r.1 ∙ append_assoc list (s ∷ []) r.0 ∙ ap (λ (l : List Step). l ++ s ∷ r.0) f.1 ∙ append_assoc e.before f.0 (s ∷ r.0) in
+      shape f.0 r.0 f.1 (same_end e.before e.steps (f.0 ++ s ∷ r.0) left) one
+    where
+      empty : (f r : List Step) → f ++ s ∷ r ≡ [] → ⊥
+      empty [] r e = absurd cc
+      empty (z ∷ f) r e = absurd cc
+
+      shape : (f r : List Step) → list ≡ e.before ++ f → e.steps ≡ f ++ s ∷ r → IsOneCall e.steps → (e.steps ≡ s ∷ []) × (list ≡ e.before)
+      shape f r own at (inl none) = absurd (empty f r (sym at ∙ none))
+      shape f r own at (inr c) =
+          ⊎_elim
+          (λ (h : (more : List Step) × (c.0 ≡ f ++ s ∷ more)).
+          let touch : is_touch s ≡ true = every_in (λ (t : Step). is_touch t ≡ true) f s h.0 (subst (Every (λ (t : Step). is_touch t ≡ true)) h.1 c.3) in
+          absurd (both_ways (is_touch s) no_touch touch))
+          (λ (h : (f ≡ c.0) × (s ≡ c.1)).
+          ⊎_elim
+          (λ (none : c.0 ≡ []).
+          (c.2 ∙ ap (λ (l : List Step). l ++ c.1 ∷ []) none ∙ ap (λ (z : Step). z ∷ []) (sym h.1), own ∙ ap (λ (l : List Step). e.before ++ l) (h.0 ∙ none) ∙ append-nil e.before))
+          (λ (passed : is_call c.1 ≡ true). absurd (both_ways (is_call s) no_call (ap is_call h.1 ∙ passed)))
+          c.4)
+          (place_cases f s r c.0 c.1 (sym at ∙ c.2))
+
+  -- so it is the last step of its call
+  pub low_last : (list : List Step) (s : Step) → is_touch s ≡ false → is_call s ≡ false → Begins (list ++ s ∷ []) whole → (e : Entry) → Begins (left_by e) whole → IsOneCall e.steps → length e.before ≤ length list → length (left_by e) ≤ length list + 1
+  low_last list s no_touch no_call next e b one low =
+      ⊎_elim
+      (λ (lt : length list < length (left_by e)).
+      let own = own_call list s no_touch no_call next e b one low lt in
+      omega (arith, length-append e.before e.steps, ap length own.0, ap length own.1))
+      (λ (ge : length (left_by e) ≤ length list). omega (arith, ge))
+      (cases_lt (length list) (length (left_by e)))
+
+  -- A call that wrote below the safe read-only offset of a list left no longer one, where the next step was none that a pass
+  -- makes
+  pub low_write : (list : List Step) (s : Step) → is_touch s ≡ false → is_call s ≡ false → Begins (list ++ s ∷ []) whole → (e : Entry) (slot a v : ℕ) (first rest : List Step) → a < safe_read_only list → Begins (left_by e) whole → IsOneCall e.steps
+      → e.steps ≡ first ++ Write slot a v ∷ rest → length (left_by e) ≤ length list
+  low_write list s no_touch no_call next e slot a v first rest sealed b one is =
+      ⊎_elim
+      (λ (lt : length list < length (left_by e)).
+      absurd
+      (⊎_elim
+      (λ (less : length (e.before ++ first) < length list).
+      let own = own_call list s no_touch no_call next e b one (omega (arith, less, length-append e.before first)) lt in
+      omega (arith, less, length-append e.before first, ap length own.1))
+      before
+      (cases_lt (length (e.before ++ first)) (length list))))
+      (λ (ge : length (left_by e) ≤ length list). ge)
+      (cases_lt (length list) (length (left_by e)))
+    where
+      parts : whole ≡ (e.before ++ first) ++ Write slot a v ∷ (rest ++ b.0)
+      parts =
+          b.1 ∙ ap (λ (l : List Step). (e.before ++ l) ++ b.0) is ∙ ap (λ (l : List Step). l ++ b.0) (sym (append_assoc e.before first (Write slot a v ∷ rest))) ∙ append_assoc (e.before ++ first) (Write slot a v ∷ rest) b.0
+
+      before : length list ≤ length (e.before ++ first) → ⊥
+      before le =
+          let front = both list (e.before ++ first) (shorter list (s ∷ []) next) (Write slot a v ∷ (rest ++ b.0), parts) le in
+          let all : whole ≡ list ++ (front.0 ++ Write slot a v ∷ (rest ++ b.0)) = parts ∙ ap (λ (l : List Step). l ++ Write slot a v ∷ (rest ++ b.0)) front.1 ∙ append_assoc list front.0 (Write slot a v ∷ (rest ++ b.0)) in
+          let above = later_stays_above sizes list front.0 (rest ++ b.0) slot a v page_some (subst (IsAccepted sizes) all accepted) in
+          omega (arith, above, sealed)
+
   -- a closed page is flushed
   pub reached : (A : List Step) (p q : ℕ) → Begins A whole → p ≤ q → (q + 1) * sizes.page_size ≤ closed A → is_flushed sizes p A ≡ true
   reached A p q b le h =
@@ -138,6 +212,13 @@ module _ (sizes : Sizes) (whole : List Step) (page_some : 0 < sizes.page_size) (
       closed_flushed sizes A p page_some (begun A b) (omega (arith, less, h))
 
   module _ (p : ℕ) where
+    -- where the page is entered, an earlier page of its frame is freed
+    pub freed_in : (q : ℕ) → q < p → q % sizes.frames ≡ p % sizes.frames → (A : List Step) → Begins A whole → is_entered sizes p A ≡ true → is_freed sizes q A ≡ true
+    freed_in q less same A b e =
+        let ahead = round_ahead sizes.frames p q frames_some less same in
+        let back : (q + sizes.frames) - sizes.frames ≡ q = omega arith in
+        ap (λ z. is_freed sizes z A) (sym back) ∙ round_freed sizes (q + sizes.frames) page_some (omega arith) A (begun A b) (entered_below sizes p (q + sizes.frames) A e ahead)
+
     -- Where the page is entered, an earlier page of its frame is freed, and before any call that left no shorter list
     pub frees_before : (q : ℕ) (Ln before steps : List Step) → q < p → q % sizes.frames ≡ p % sizes.frames → Begins Ln whole → is_entered sizes p Ln ≡ true → Begins (before ++ steps) whole → IsOneCall steps → length Ln ≤ length (before ++ steps)
         → is_freed sizes q before ≡ true
@@ -153,17 +234,8 @@ module _ (sizes : Sizes) (whole : List Step) (page_some : 0 < sizes.page_size) (
         subst (λ (l : List Step). is_freed sizes q l ≡ true) (sym a.1) (freed_more sizes q Ln a.0 freed))
         (cases_lt (length before) (length Ln))
       where
-        ahead : q + sizes.frames ≤ p
-        ahead = round_ahead sizes.frames p q frames_some less same
-
-        back : (q + sizes.frames) - sizes.frames ≡ q
-        back = omega arith
-
-        freed_in : (A : List Step) → Begins A whole → is_entered sizes p A ≡ true → is_freed sizes q A ≡ true
-        freed_in A b e = ap (λ z. is_freed sizes z A) (sym back) ∙ round_freed sizes (q + sizes.frames) page_some (omega arith) A (begun A b) (entered_below sizes p (q + sizes.frames) A e ahead)
-
         freed : is_freed sizes q Ln ≡ true
-        freed = freed_in Ln bn entered
+        freed = freed_in q less same Ln bn entered
 
         inside : (f r : List Step) → steps ≡ f ++ r → is_freed sizes q (before ++ f) ≡ true → IsOneCall steps → Ln ≡ before ++ f → is_freed sizes q before ≡ true
         inside f r is h (inl none) own =
@@ -187,7 +259,7 @@ module _ (sizes : Sizes) (whole : List Step) (page_some : 0 < sizes.page_size) (
           where
             at_last : (y : List Step) (s : Step) → Begins (y ++ s ∷ []) whole → is_freed sizes q (y ++ s ∷ []) ≡ true → is_entered sizes p (y ++ s ∷ []) ≡ true → (b : Bool) → frees q s ≡ b → is_freed sizes q y ≡ true
             at_last y s b h e false test = freed_before sizes q y (s ∷ []) (ap (λ x. x || false) test) h
-            at_last y s b h e true test = freed_in y (shorter y (s ∷ []) b) (sym (is_entered-stay sizes p y s (freeing_tail sizes.page_size (tail sizes y) q s (frees_clean_of s q test))) ∙ e)
+            at_last y s b h e true test = freed_in q less same y (shorter y (s ∷ []) b) (sym (is_entered-stay sizes p y s (freeing_tail sizes.page_size (tail sizes y) q s (frees_clean_of s q test))) ∙ e)
 
     -- No call wrote in an earlier page of the frame that was freed before it
     pub writes_here : (a t v : ℕ) (before steps f r : List Step) → (a / sizes.page_size < p → is_freed sizes (a / sizes.page_size) before ≡ true) → Begins (before ++ steps) whole → steps ≡ f ++ Write t a v ∷ r → p ≤ a / sizes.page_size
@@ -271,26 +343,7 @@ module _ (sizes : Sizes) (whole : List Step) (page_some : 0 < sizes.page_size) (
 
           by_call : IsOneCall steps → length before ≤ length later → ⊥
           by_call one le =
-              let x = both before later (shorter before steps be) at_later le in
-              let y = both (later ++ FlushDone p true ∷ []) (before ++ steps) done be (omega (arith, longer, length-append later (FlushDone p true ∷ []))) in
-              let left : before ++ steps ≡ before ++ (x.0 ++ FlushDone p true ∷ y.0) =
-              y.1 ∙ append_assoc later (FlushDone p true ∷ []) y.0 ∙ ap (λ (l : List Step). l ++ FlushDone p true ∷ y.0) x.1 ∙ append_assoc before x.0 (FlushDone p true ∷ y.0) in
-              shape x.0 y.0 (same_end before steps (x.0 ++ FlushDone p true ∷ y.0) left) one x.1
-            where
-              shape : (f r : List Step) → steps ≡ f ++ FlushDone p true ∷ r → IsOneCall steps → later ≡ before ++ f → ⊥
-              shape f r is (inl none) own = empty f (sym is ∙ none)
-                where
-                  empty : (f : List Step) → f ++ FlushDone p true ∷ r ≡ [] → ⊥
-                  empty [] e = absurd cc
-                  empty (z ∷ f) e = absurd cc
-              shape f r is (inr c) own =
-                  ⊎_elim
-                  (λ (k : (rest : List Step) × (c.0 ≡ f ++ FlushDone p true ∷ rest)).
-                  let touch : false ≡ true = every_in (λ (t : Step). is_touch t ≡ true) f (FlushDone p true) k.0 (subst (Every (λ (t : Step). is_touch t ≡ true)) k.1 c.3) in
-                  absurd (cc touch))
-                  (λ (k : (f ≡ c.0) × (FlushDone p true ≡ c.1)).
-                  let all : before ++ steps ≡ later ++ FlushDone p true ∷ [] =
-                  ap (λ (l : List Step). before ++ l) (c.2 ∙ ap (λ (l : List Step). l ++ c.1 ∷ []) (sym k.0) ∙ ap (λ (z : Step). f ++ z ∷ []) (sym k.1)) ∙ sym (append_assoc before f (FlushDone p true ∷ [])) ∙ ap (λ (l : List Step). l ++ FlushDone p true ∷ []) (sym own) in
-                  let was : is_entered sizes q later ≡ true = sym (is_entered-stay sizes q later (FlushDone p true) refl) ∙ subst (λ (l : List Step). is_entered sizes q l ≡ true) all entered in
-                  absurd (both_ways (is_flushed sizes p later) not_yet (round_flushed q later at_later less same was)))
-                  (place_cases f (FlushDone p true) r c.0 c.1 (sym is ∙ c.2))
+              let own = own_call later (FlushDone p true) refl refl done (record { before = before; steps = steps }) be one le longer in
+              let all : before ++ steps ≡ later ++ FlushDone p true ∷ [] = ap (λ (l : List Step). before ++ l) own.0 ∙ ap (λ (l : List Step). l ++ FlushDone p true ∷ []) (sym own.1) in
+              let was : is_entered sizes q later ≡ true = sym (is_entered-stay sizes q later (FlushDone p true) refl) ∙ subst (λ (l : List Step). is_entered sizes q l ≡ true) all entered in
+              both_ways (is_flushed sizes p later) not_yet (round_flushed q later at_later less same was)

@@ -5,38 +5,39 @@ use Rattle.hl_words.specs.declared.view.Extent.{Extent}
 use Rattle.hl_words.specs.declared.view.Touch.{Touch}
 use Rattle.hl_words.specs.declared.view.Touch.TheVariants.{Loaded, Called}
 use Rattle.hl_words.specs.declared.view.RiderView.{RiderView}
-use Rattle.hl_words.specs.Past.{IsLoad, HasCalls, HasNoCalls, BeginsAfter, IsQuietBetween}
+use Rattle.hl_words.specs.Past.{IsLoad, HasCalls, HasNoCalls, IsQuietBetween}
 use Rattle.hl_words.specs.Rule.{last_store, TouchBy, by_rider, held, touches_of, HasOneOrder}
 use Rattle.hl_words.proofs.Cut.{every_back}
 use Rattle.hl_words.proofs.Lawful.{Puts, Passes, puts_or_passes, last_either}
 use Rattle.hl_words.proofs.OneProofs.{none_end, none_front, same_front, only_before, quiet_front}
 use Rattle.hl_words.proofs.Orders.{there, own_more}
 use Rattle.hl_words.proofs.PastProofs.{compared, cut_at, touches_both}
+use Rattle.hl_images.specs.ImageWords.{LastStores}
 use Rattle.hl_images.proofs.PlaceLaws.{every_in}
 
 -- the newest store into a cell in an order
-record HasStored (c : ℕ) (order : List TouchBy) : Type 0 where
-  front : List TouchBy
-  newest : TouchBy
-  base : List TouchBy
-  whole : order ≡ front ++ newest ∷ base
-  none : (k : ℕ) → last_store c (touches_of k front) ≡ None
-  value : ℕ
-  held_is : held c order ≡ value
-  puts : (l : List Touch) → last_store c (newest.touch ∷ l) ≡ Some value
+pub record HasStored (c : ℕ) (order : List TouchBy) : Type 0 where
+  pub front : List TouchBy
+  pub newest : TouchBy
+  pub base : List TouchBy
+  pub whole : order ≡ front ++ newest ∷ base
+  pub none : (k : ℕ) → last_store c (touches_of k front) ≡ None
+  pub value : ℕ
+  pub held_is : held c order ≡ value
+  pub puts : (l : List Touch) → last_store c (newest.touch ∷ l) ≡ Some value
 
-newest_stored : (c : ℕ) (order : List TouchBy) → ((k : ℕ) → last_store c (touches_of k order) ≡ None) ⊎ HasStored c order
-newest_stored c [] = inl (λ k. refl)
+pub newest_stored : (c : ℕ) (order : List TouchBy) → (((k : ℕ) → last_store c (touches_of k order) ≡ None) × (held c order ≡ 0)) ⊎ HasStored c order
+newest_stored c [] = inl ((λ k. refl), refl)
 newest_stored c (t ∷ order) = ⊎_elim puts (passes (newest_stored c order)) (puts_or_passes c t.touch)
   where
-    puts : Puts c t.touch → ((k : ℕ) → last_store c (touches_of k (t ∷ order)) ≡ None) ⊎ HasStored c (t ∷ order)
+    puts : Puts c t.touch → (((k : ℕ) → last_store c (touches_of k (t ∷ order)) ≡ None) × (held c (t ∷ order) ≡ 0)) ⊎ HasStored c (t ∷ order)
     puts p = inr (record { front = []; newest = t; base = order; whole = refl; none = λ k. refl; value = p.value; held_is = p.leaves (held c order); puts = p.last })
 
-    passes : (((k : ℕ) → last_store c (touches_of k order) ≡ None) ⊎ HasStored c order) → Passes c t.touch → ((k : ℕ) → last_store c (touches_of k (t ∷ order)) ≡ None) ⊎ HasStored c (t ∷ order)
+    passes : ((((k : ℕ) → last_store c (touches_of k order) ≡ None) × (held c order ≡ 0)) ⊎ HasStored c order) → Passes c t.touch → (((k : ℕ) → last_store c (touches_of k (t ∷ order)) ≡ None) × (held c (t ∷ order) ≡ 0)) ⊎ HasStored c (t ∷ order)
     passes sooner p =
         let still : (l : List TouchBy) (k : ℕ) → last_store c (touches_of k (t ∷ l)) ≡ last_store c (touches_of k l) = λ l k. last_either c t.touch (touches_of k l) (p.last (touches_of k l)) (t.rider == k) in
         ⊎_elim
-        (λ (none : (k : ℕ) → last_store c (touches_of k order) ≡ None). inl (λ k. still order k ∙ none k))
+        (λ (none : ((k : ℕ) → last_store c (touches_of k order) ≡ None) × (held c order ≡ 0)). inl ((λ k. still order k ∙ none.0 k), p.leaves (held c order) ∙ none.1))
         (λ (h : HasStored c order).
         inr (record {
           front = t ∷ h.front;
@@ -51,7 +52,7 @@ newest_stored c (t ∷ order) = ⊎_elim puts (passes (newest_stored c order)) (
         sooner
 
 -- two lists with the same end
-same_begin : {X : Type 0} (xs ys zs : List X) → xs ++ zs ≡ ys ++ zs → xs ≡ ys
+pub same_begin : {X : Type 0} (xs ys zs : List X) → xs ++ zs ≡ ys ++ zs → xs ≡ ys
 same_begin [] [] zs e = refl
 same_begin [] (y ∷ ys) zs e = absurd (omega (arith, ap length e, length-append ys zs))
 same_begin (x ∷ xs) [] zs e = absurd (omega (arith, ap length e, length-append xs zs))
@@ -69,24 +70,6 @@ some_front c w (t ∷ xs) ys e =
     (λ (p : Passes c t). p.last (xs ++ ys) ∙ some_front c w xs ys (sym (p.last xs) ∙ e))
     (puts_or_passes c t)
 
--- A rider's newest store before a call that left fewer steps than `begun`, and since one that left as many as n, was of
--- w; and it stored nothing there since, but after calls that met more than `done`
-pub record IsNewestSince (c begun done n w : ℕ) (ts : List Touch) : Type 0 where
-  pub late : List Touch
-  pub middle : List Touch
-  pub recent : List Touch
-  pub older : List Touch
-  pub seen : Extent
-  pub since : Extent
-  pub met : Extent
-  pub left : Extent
-  pub since_is : since.steps ≡ n
-  pub touches : ts ≡ late ++ (middle ++ Called met left ∷ (recent ++ Called seen since ∷ older))
-  pub low : left.steps < begun
-  pub after : BeginsAfter done late
-  pub silent : last_store c middle ≡ None
-  pub stored : last_store c recent ≡ Some w
-
 module _ (cells : ℕ) (words : List ℕ) (riders : List RiderView) (h : HasOneOrder cells words riders) (i c v begun done : ℕ) (before : List TouchBy) (load : IsLoad h.0 i c v before) (calls : HasCalls riders begun before) (no_calls : HasNoCalls riders done before) where
   front0 : List TouchBy
   front0 = load.newer ++ by_rider i (Loaded c v) ∷ []
@@ -102,7 +85,7 @@ module _ (cells : ℕ) (words : List ℕ) (riders : List RiderView) (h : HasOneO
     shape : touches_of j before ≡ newest ++ Called seen since ∷ older
     stored : last_store c newest ≡ Some w
 
-  shaped : (j n w : ℕ) (q : RiderView) → slice_get riders j ≡ Some q → (s : IsNewestSince c begun done n w q.touches) → HasShape w s.since s.seen j
+  shaped : (j n w : ℕ) (q : RiderView) → slice_get riders j ≡ Some q → (s : LastStores c n begun done w q.touches) → HasShape w s.since s.seen j
   shaped j n w q at s =
       let past : List Touch = s.recent ++ Called s.seen s.since ∷ s.older in
       let mine : q.touches ≡ touches_of j front0 ++ touches_of j before = h.1.each j q at ∙ ap (touches_of j) parts ∙ touches_both j front0 before in
@@ -119,10 +102,10 @@ module _ (cells : ℕ) (words : List ℕ) (riders : List RiderView) (h : HasOneO
 
   -- The load found what some rider stored there last, of which then this holds, if each of the others stored nothing there
   -- since
-  pub loads_of_some : (P : ℕ → ℕ → Type 0) (j n w : ℕ) (q : RiderView) → slice_get riders j ≡ Some q → IsNewestSince c begun done n w q.touches
-      → ((k : ℕ) (r : RiderView) → slice_get riders k ≡ Some r → IsQuietBetween c n done r.touches ⊎ ((m x : ℕ) × IsNewestSince c begun done m x r.touches × P k x))
+  pub loads_of_some : (P : ℕ → ℕ → Type 0) (j n w : ℕ) (q : RiderView) → slice_get riders j ≡ Some q → LastStores c n begun done w q.touches
+      → ((k : ℕ) (r : RiderView) → slice_get riders k ≡ Some r → IsQuietBetween c n done r.touches ⊎ ((m x : ℕ) × LastStores c m begun done x r.touches × P k x))
       → (k : ℕ) × P k v
-  loads_of_some P j n w q at s each = ⊎_elim nobody somebody (newest_stored c before)
+  loads_of_some P j n w q at s each = ⊎_elim (λ (none : ((k : ℕ) → last_store c (touches_of k before) ≡ None) × (held c before ≡ 0)). nobody none.0) somebody (newest_stored c before)
     where
       own : HasShape w s.since s.seen j
       own = shaped j n w q at s
@@ -142,7 +125,7 @@ module _ (cells : ℕ) (words : List ℕ) (riders : List RiderView) (h : HasOneO
           ∙ none_front c (touches_of k x.front) (x.newest.touch ∷ touches_of k x.base) (x.none k) ∙ x.puts (touches_of k x.base) in
           ⊎_elim (λ (still : IsQuietBetween c n done r.0.touches). absurd (quiet x r.0 r.1 still)) (writes x k r.0 r.1 mine) (each k r.0 r.1)
         where
-          writes : (x : HasStored c before) (k : ℕ) (r : RiderView) → slice_get riders k ≡ Some r → last_store c (touches_of k before) ≡ Some x.value → ((m y : ℕ) × IsNewestSince c begun done m y r.touches × P k y) → (k : ℕ) × P k v
+          writes : (x : HasStored c before) (k : ℕ) (r : RiderView) → slice_get riders k ≡ Some r → last_store c (touches_of k before) ≡ Some x.value → ((m y : ℕ) × LastStores c m begun done y r.touches × P k y) → (k : ℕ) × P k v
           writes x k r atk mine t =
               let shape = shaped k t.0 t.1 r atk t.2 in
               let both : Some t.1 ≡ Some x.value = sym (ap (last_store c) shape.shape ∙ some_front c t.1 shape.newest (Called t.2.seen t.2.since ∷ shape.older) shape.stored) ∙ mine in

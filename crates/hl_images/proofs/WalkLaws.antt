@@ -39,6 +39,19 @@ parts_of page_size frame k other rest lk lr e = (
   sym (mod-mul-add other page_size rest lr) ∙ ap (λ (x : ℕ). x % page_size) e ∙ mod-mul-add frame page_size k lk,
 )
 
+-- an address of a page
+pub is_address : (page_size p k a : ℕ) → a / page_size ≡ p → a % page_size ≡ k → a ≡ p * page_size + k
+is_address page_size p k a page rest =
+    let swap : page_size * (a / page_size) ≡ a / page_size * page_size = omega arith in
+    let own : a / page_size * page_size ≡ p * page_size = ap (λ (x : ℕ). x * page_size) page in
+    omega (arith, div-add-mod a page_size, swap, own, rest)
+
+-- the cell of an address of a page
+pub cell_of_place : (sizes : Sizes) (p k : ℕ) → k < sizes.page_size → cell_at sizes (p * sizes.page_size + k) ≡ first_cell sizes p + k
+cell_of_place sizes p k within =
+    let place = p * sizes.page_size + k in
+    ap (λ (x : ℕ). x % sizes.frames * sizes.page_size + place % sizes.page_size) (div-mul-add p sizes.page_size k within) ∙ ap (λ (x : ℕ). p % sizes.frames * sizes.page_size + x) (mod-mul-add p sizes.page_size k within)
+
 -- no store into the cell but after calls that met more steps than a number, and in an old part; and if the newest call
 -- met more, there is such a call
 pub record Walked (c : ℕ) (Old : List Touch → Type 0) (d : ℕ) (ts : List Touch) (calls : List Entry) : Type 0 where
@@ -151,13 +164,6 @@ module _ (sizes : Sizes) (whole : List Step) (page_some : 0 < sizes.page_size) (
   pub in_frame : (a : ℕ) → cell_at sizes a ≡ c → (a / sizes.page_size % sizes.frames ≡ p % sizes.frames) × (a % sizes.page_size ≡ k)
   in_frame a e = parts_of sizes.page_size (p % sizes.frames) k (a / sizes.page_size % sizes.frames) (a % sizes.page_size) within (mod-lt a page_some) e
 
-  -- an address of the page
-  is_address : (a : ℕ) → a / sizes.page_size ≡ p → a % sizes.page_size ≡ k → a ≡ address
-  is_address a page rest =
-      let swap : sizes.page_size * (a / sizes.page_size) ≡ a / sizes.page_size * sizes.page_size = omega arith in
-      let own : a / sizes.page_size * sizes.page_size ≡ p * sizes.page_size = ap (λ (x : ℕ). x * sizes.page_size) page in
-      omega (arith, div-add-mod a sizes.page_size, swap, own, rest)
-
   -- a write of a call that left no shorter list, but for those at the address
   far_write : (e : Entry) → Begins (left_by e) whole → IsOneCall e.steps → n ≤ length (left_by e) → (f : List Step) (x : Step) (r : List Step) → e.steps ≡ f ++ x ∷ r → written_at address x ≡ None → Far x
   far_write e b one le f x r is none t a v same cell =
@@ -166,7 +172,7 @@ module _ (sizes : Sizes) (whole : List Step) (page_some : 0 < sizes.page_size) (
       let low = writes_here sizes whole page_some frames_some accepted p a t v e.before e.steps f r (λ less. freed (a / sizes.page_size) e.before e.steps less frame.0 b one le) b at in
       let silent : written_at address (Write t a v) ≡ None = ap (written_at address) (sym same) ∙ none in
       ⊎_elim
-      (λ (same_page : p ≡ a / sizes.page_size). absurd (both a v (eq-eqb a address (is_address a (sym same_page) frame.1)) silent))
+      (λ (same_page : p ≡ a / sizes.page_size). absurd (both a v (eq-eqb a address (is_address sizes.page_size p k a (sym same_page) frame.1)) silent))
       (λ (apart : p ≢ a / sizes.page_size). ⊎_elim (λ (lt : p < a / sizes.page_size). lt) (λ (ge : a / sizes.page_size ≤ p). absurd (apart (omega (arith, low, ge)))) (cases_lt p (a / sizes.page_size)))
       (cases_eq p (a / sizes.page_size))
     where
@@ -205,12 +211,13 @@ module _ (sizes : Sizes) (whole : List Step) (page_some : 0 < sizes.page_size) (
   pub sweep_is_late : (v : ℕ) (calls : List Entry) (swept : Option ℕ) → IsSweepOf sizes c v calls swept → Kept swept → Every (λ (e : Entry). Begins (left_by e) whole) calls
       → (e : Entry) × (older : List Entry) × (calls ≡ e ∷ older) × (length later < length e.before)
   sweep_is_late v calls swept h kept begins =
-      let q = h.1 in
-      let list = h.5 in
-      let rest : c ≡ q % sizes.frames * sizes.page_size + (c - first_cell sizes q) = omega (arith, h.3) in
-      let frame = parts_of sizes.page_size (p % sizes.frames) k (q % sizes.frames) (c - first_cell sizes q) within (omega (arith, h.3, h.4)) (sym rest) in
-      let b = (subst (Every (λ (x : Entry). Begins (left_by x) whole)) h.7 begins).0 in
-      (entry list (CleanTake ∷ []), h.6, h.7, cleans_later sizes whole page_some frames_some accepted p later done q list (shorter sizes whole page_some frames_some accepted list (CleanTake ∷ []) b) h.8 (kept q h.2 frame.0))
+      let s = h.0 in
+      let q = s.1 in
+      let list = s.2 in
+      let rest : c ≡ q % sizes.frames * sizes.page_size + (c - first_cell sizes q) = omega (arith, s.6) in
+      let frame = parts_of sizes.page_size (p % sizes.frames) k (q % sizes.frames) (c - first_cell sizes q) within (omega (arith, s.6, s.7)) (sym rest) in
+      let b = (subst (Every (λ (x : Entry). Begins (left_by x) whole)) s.4 begins).0 in
+      (entry list (CleanTake ∷ []), s.3, s.4, cleans_later sizes whole page_some frames_some accepted p later done q list (shorter sizes whole page_some frames_some accepted list (CleanTake ∷ []) b) s.5 (kept q h.1 frame.0))
 
   -- with one store more, which stands after such a call if it is into the cell
   pub stored : (Old : List Touch → Type 0) (x v : ℕ) (t : Touch) (before : List Touch) (calls : List Entry) → ((l : List Touch) → last_store c (t ∷ l) ≡ (if x == c then Some v else last_store c l)) → Walked c Old (length later) before calls

@@ -61,6 +61,29 @@ enters_range p e h = by (nat_le (length e.before) p) refl (nat_lt p (length e.be
     by false x true y k = absurd (omega (arith, k))
     by false x false y k = absurd (omega (arith, k))
 
+-- the call that entered the step at a place of the one list
+pub record EnteredAt (diaries : List (List Entry)) (p : ℕ) (x : Step) : Type 0 where
+  pub diary : ℕ
+  pub calls : List Entry
+  pub diary_at : slice_get diaries diary ≡ Some calls
+  pub number : ℕ
+  pub call : Entry
+  pub call_at : slice_get calls number ≡ Some call
+  pub low : length call.before ≤ p
+  pub high : p < length call.before + length call.steps
+  pub step : ℕ
+  pub step_at : slice_get call.steps step ≡ Some x
+
+pub entered_call : (list : List Step) (diaries : List (List Entry)) → IsOneList list diaries → (p : ℕ) (x : Step) → slice_get list p ≡ Some x → EnteredAt diaries p x
+entered_call list diaries one p x here =
+    let l = some_positive (entered_at p) diaries (omega (arith, one.once p (within list p x here))) in
+    let e = some_positive (enters_at p) l.1 l.3 in
+    let range = enters_range p e.1 e.3 in
+    let of_l : IsOf list l.1 = every_at (IsOf list) diaries one.each l.0 l.1 l.2 in
+    let starts : Begins (left_by e.1) list = every_at (λ (x : Entry). Begins (left_by x) list) l.1 of_l.begins e.0 e.1 e.2 in
+    let inside = in_middle e.1.before e.1.steps starts.0 p x (subst (λ (z : List Step). slice_get z p ≡ Some x) starts.1 here) range.0 range.1 in
+    record { diary = l.0; calls = l.1; diary_at = l.2; number = e.0; call = e.1; call_at = e.2; low = range.0; high = range.1; step = inside.0; step_at = inside.1 }
+
 -- steps that write nothing at the address keep its word
 none_given : (a d : ℕ) (xs : List Step) → WritesNothing a xs → last_given (written_at a) d xs ≡ d
 unfolding last_given
@@ -96,25 +119,19 @@ module _ (a w t j : ℕ) (list : List Step) (diaries : List (List Entry)) (d new
   -- no step behind the call writes there
   behind : (p : ℕ) (x : Step) → length (left_by call) ≤ p → slice_get list p ≡ Some x → written_at a x ≡ None
   behind p x le here =
-      let less = within list p x here in
-      let l = some_positive (entered_at p) diaries (omega (arith, one.once p less)) in
-      let e = some_positive (enters_at p) l.1 l.3 in
-      let range = enters_range p e.1 e.3 in
-      let of_l : IsOf list l.1 = every_at (IsOf list) diaries one.each l.0 l.1 l.2 in
-      let starts : Begins (left_by e.1) list = every_at (λ (x : Entry). Begins (left_by x) list) l.1 of_l.begins e.0 e.1 e.2 in
-      let inside = in_middle e.1.before e.1.steps starts.0 p x (subst (λ (z : List Step). slice_get z p ≡ Some x) starts.1 here) range.0 range.1 in
+      let e = entered_call list diaries one p x here in
       ⊎_elim
-      (λ (same : l.0 ≡ j).
-      let both : Some l.1 ≡ Some d = sym l.2 ∙ ap (slice_get diaries) same ∙ at in
-      let own : l.1 ≡ d = cc both in
-      in_part newer call earlier e.0 e.1 (subst (λ (q : List Entry). slice_get q e.0 ≡ Some e.1) (own ∙ is) e.2)
+      (λ (same : e.diary ≡ j).
+      let both : Some e.calls ≡ Some d = sym e.diary_at ∙ ap (slice_get diaries) same ∙ at in
+      let own : e.calls ≡ d = cc both in
+      in_part newer call earlier e.number e.call (subst (λ (q : List Entry). slice_get q e.number ≡ Some e.call) (own ∙ is) e.call_at)
       (λ y. (i : ℕ) → slice_get y.steps i ≡ Some x → p < length y.before + length y.steps → written_at a x ≡ None)
       (from_newer newer none)
       (λ i k less. absurd (omega (arith, less, le, length-append call.before call.steps)))
       (from_earlier earlier low)
-      inside.0 inside.1 range.1)
-      (λ (apart : l.0 ≢ j). every_at (λ (s : Step). written_at a s ≡ None) e.1.steps (every_at (λ (y : Entry). WritesNothing a y.steps) l.1 (others l.0 l.1 l.2 apart) e.0 e.1 e.2) inside.0 x inside.1)
-      (cases_eq l.0 j)
+      e.step e.step_at e.high)
+      (λ (apart : e.diary ≢ j). every_at (λ (s : Step). written_at a s ≡ None) e.call.steps (every_at (λ (y : Entry). WritesNothing a y.steps) e.calls (others e.diary e.calls e.diary_at apart) e.number e.call e.call_at) e.step x e.step_at)
+      (cases_eq e.diary j)
     where
       from_newer : (es : List Entry) → CallsWriteNothing a es → Every (λ (y : Entry). (i : ℕ) → slice_get y.steps i ≡ Some x → p < length y.before + length y.steps → written_at a x ≡ None) es
       from_newer [] h = tt
@@ -148,7 +165,7 @@ view_at [] i r e = absurd cc
 view_at (x ∷ xs) zero r e = let is : x ≡ r = cc e in ap (λ (q : RiderState). Some q.view) is
 view_at (x ∷ xs) (suc i) r e = view_at xs i r e
 
-whose_calls : (riders : List RiderState) (i : ℕ) (d : List Entry) → slice_get (map (λ (q : RiderState). q.calls) riders) i ≡ Some d → (r : RiderState) × (slice_get riders i ≡ Some r) × (r.calls ≡ d)
+pub whose_calls : (riders : List RiderState) (i : ℕ) (d : List Entry) → slice_get (map (λ (q : RiderState). q.calls) riders) i ≡ Some d → (r : RiderState) × (slice_get riders i ≡ Some r) × (r.calls ≡ d)
 whose_calls [] i d e = absurd cc
 whose_calls (x ∷ xs) zero d e = let is : x.calls ≡ d = cc e in (x, refl, is)
 whose_calls (x ∷ xs) (suc i) d e = whose_calls xs i d e
@@ -161,9 +178,23 @@ whose_view (x ∷ xs) (suc i) v e = whose_view xs i v e
 pub images_hold_words : ImagesHoldWords
 images_hold_words cells words stores list riders i j cell k a n begun done v w image r one ruled image_is at h others here =
     let m = image_is k v here in
-    let quiet : EachRider (λ l q. l ≢ j → IsQuietBetween (cell + k) h.since.steps done q.touches) (map (λ (q : RiderState). q.view) riders) =
-    λ l q e apart. let x = whose_view riders l q e in subst (λ (z : RiderView). IsQuietBetween (cell + k) h.since.steps done z.touches) x.2 (subst (λ (y : ℕ). IsQuietBetween (cell + k) y done x.0.view.touches) (sym h.since_is) (others l x.0 x.1 apart).quiet) in
-    let found : v ≡ w = loads_of_newest cells words stores (map (λ (q : RiderState). q.view) riders) i j (cell + k) v begun done w h.seen h.since h.met h.left r.view m.0 h.late h.middle h.recent h.older ruled (view_at riders j r at) m.1 m.2 m.3 quiet h.touches h.after h.silent h.low h.stored in
+    let e = h.entered in
+    let s = h.stored in
+    let quiet : EachRider (λ l q. l ≢ j → IsQuietBetween (cell + k) s.since.steps done q.touches) (map (λ (q : RiderState). q.view) riders) =
+    λ l q at apart. let x = whose_view riders l q at in subst (λ (z : RiderView). IsQuietBetween (cell + k) s.since.steps done z.touches) x.2 (subst (λ (y : ℕ). IsQuietBetween (cell + k) y done x.0.view.touches) (sym s.since_is) (others l x.0 x.1 apart).quiet) in
+    let found : v ≡ w = loads_of_newest cells words stores (map (λ (q : RiderState). q.view) riders) i j (cell + k) v begun done w s.seen s.since s.met s.left r.view m.0 s.late s.middle s.recent s.older ruled (view_at riders j r at) m.1 m.2 m.3 quiet s.touches s.after s.silent s.low s.stored in
     let nobody : (l : ℕ) (q : List Entry) → slice_get (map (λ (z : RiderState). z.calls) riders) l ≡ Some q → l ≢ j → CallsWriteNothing a q =
-    λ l q e apart. let x = whose_calls riders l q e in subst (CallsWriteNothing a) x.2 (others l x.0 x.1 apart).calls in
-    found ∙ sym (newest_word a w h.slot j list (map (λ (z : RiderState). z.calls) riders) r.calls h.newer h.call h.earlier h.first h.rest one (calls_at riders j r at) h.calls h.none h.steps h.newest nobody)
+    λ l q at apart. let x = whose_calls riders l q at in subst (CallsWriteNothing a) x.2 (others l x.0 x.1 apart).calls in
+    found ∙ sym (newest_word a w e.slot j list (map (λ (z : RiderState). z.calls) riders) r.calls e.newer e.call e.earlier e.first e.rest one (calls_at riders j r at) e.calls_are e.none e.steps e.silent nobody)
+
+-- where nobody wrote at an address, the word there is 0
+pub none_wrote : (a : ℕ) (list : List Step) (riders : List RiderState) → IsOneList list (map (λ (q : RiderState). q.calls) riders) → ((l : ℕ) (q : RiderState) → slice_get riders l ≡ Some q → CallsWriteNothing a q.calls) → word a list ≡ 0
+unfolding word
+none_wrote a list riders one none =
+    none_given a 0 list
+    (every_from (λ (s : Step). written_at a s ≡ None) list
+    (λ p x here.
+    let e = entered_call list (map (λ (z : RiderState). z.calls) riders) one p x here in
+    let q = whose_calls riders e.diary e.calls e.diary_at in
+    let nothing : CallsWriteNothing a e.calls = subst (CallsWriteNothing a) q.2 (none e.diary q.0 q.1) in
+    every_at (λ (s : Step). written_at a s ≡ None) e.call.steps (every_at (λ (y : Entry). WritesNothing a y.steps) e.calls nothing e.number e.call e.call_at) e.step x e.step_at))

@@ -3,7 +3,6 @@ use Rattle.std.proofs.Common.{◌≡◌, ℕ, ◌+◌, ◌-◌, ◌*◌, ◌%◌
 use Rattle.std.specs.Prelude.{Option, if◌then◌else◌}
 use Rattle.std.specs.List.{AllByRecursion as Every}
 use Rattle.std.proofs.lemmas.Bool.{eq-eqb, eqb-true, both_ways, cases_lt, lt-ltb}
-use Rattle.std.proofs.lemmas.Nat.{div-mul-add, mod-mul-add}
 use Rattle.hl_model.specs.declared.step.Step.{Step}
 use Rattle.hl_model.specs.declared.step.Step.TheVariants.{Write, FlushDone, CleanTake}
 use Rattle.hl_model.specs.Offsets.{tail, is_entered}
@@ -23,26 +22,12 @@ use Rattle.hl_keeper.specs.Passes.{cell_at}
 use Rattle.hl_keeper.specs.Pages.{first_cell}
 use Rattle.hl_laws.proofs.WorkLaws.{next_page-parts}
 use Rattle.hl_images.specs.Entered.{IsOneCall, newest_writes, swept_by, IsWriteOf, IsSweepOf, AreEntered}
-use Rattle.hl_images.specs.ImageWords.{WritesNothing, CallsWriteNothing}
+use Rattle.hl_images.specs.ImageWords.{WritesNothing, CallsWriteNothing, LastWrites}
 use Rattle.hl_images.proofs.PlaceLaws.{shorter, frees_before, cleans_later}
-use Rattle.hl_images.proofs.WalkLaws.{Walked, push_other, push_call, stop, stored, Far, Kept, far_writes, kept_sweep, write_is_late, sweep_is_late, newest_every, parts_of}
-
--- the newest call that writes at an address, with its newest write
-pub record NewestCall (a : ℕ) (calls : List Entry) : Type 0 where
-  pub newer : List Entry
-  pub call : Entry
-  pub earlier : List Entry
-  pub calls_are : calls ≡ newer ++ call ∷ earlier
-  pub none : CallsWriteNothing a newer
-  pub slot : ℕ
-  pub value : ℕ
-  pub first : List Step
-  pub rest : List Step
-  pub steps : call.steps ≡ first ++ Write slot a value ∷ rest
-  pub silent : WritesNothing a rest
+use Rattle.hl_images.proofs.WalkLaws.{Walked, push_other, push_call, stop, stored, Far, Kept, far_writes, kept_sweep, write_is_late, sweep_is_late, newest_every, parts_of, cell_of_place}
 
 -- the newest write of some steps
-newest_step : (a : ℕ) (steps : List Step) → WritesNothing a steps ⊎ ((slot v : ℕ) × (first rest : List Step) × (steps ≡ first ++ Write slot a v ∷ rest) × WritesNothing a rest)
+pub newest_step : (a : ℕ) (steps : List Step) → WritesNothing a steps ⊎ ((slot v : ℕ) × (first rest : List Step) × (steps ≡ first ++ Write slot a v ∷ rest) × WritesNothing a rest)
 newest_step a [] = inl tt
 newest_step a (s ∷ steps) = by (newest_step a steps)
   where
@@ -59,28 +44,31 @@ newest_step a (s ∷ steps) = by (newest_step a steps)
     by (inl none) = other s none (written_at a s) refl
     by (inr h) = inr (h.0, h.1, s ∷ h.2, h.3, ap (λ (l : List Step). s ∷ l) h.4, h.5)
 
-pub newest_call : (a : ℕ) (calls : List Entry) → CallsWriteNothing a calls ⊎ NewestCall a calls
+pub newest_call : (a : ℕ) (calls : List Entry) → CallsWriteNothing a calls ⊎ ((v : ℕ) × LastWrites a v calls)
 newest_call a [] = inl tt
 newest_call a (e ∷ calls) = by (newest_step a e.steps) (newest_call a calls)
   where
-    by : (WritesNothing a e.steps ⊎ ((slot v : ℕ) × (first rest : List Step) × (e.steps ≡ first ++ Write slot a v ∷ rest) × WritesNothing a rest)) → (CallsWriteNothing a calls ⊎ NewestCall a calls) → CallsWriteNothing a (e ∷ calls) ⊎ NewestCall a (e ∷ calls)
+    by : (WritesNothing a e.steps ⊎ ((slot v : ℕ) × (first rest : List Step) × (e.steps ≡ first ++ Write slot a v ∷ rest) × WritesNothing a rest)) → (CallsWriteNothing a calls ⊎ ((v : ℕ) × LastWrites a v calls)) → CallsWriteNothing a (e ∷ calls) ⊎ ((v : ℕ) × LastWrites a v (e ∷ calls))
     by (inr h) r =
-        inr (record { newer = []; call = e; earlier = calls; calls_are = refl; none = tt; slot = h.0; value = h.1; first = h.2; rest = h.3; steps = h.4; silent = h.5 })
+        inr (h.1, record { newer = []; call = e; earlier = calls; calls_are = refl; none = tt; slot = h.0; first = h.2; rest = h.3; steps = h.4; silent = h.5 })
     by (inl none) (inl r) = inl (none, r)
-    by (inl none) (inr r) =
-        inr (record {
-          newer = e ∷ r.newer;
-          call = r.call;
-          earlier = r.earlier;
-          calls_are = ap (λ (l : List Entry). e ∷ l) r.calls_are;
-          none = (none, r.none);
-          slot = r.slot;
-          value = r.value;
-          first = r.first;
-          rest = r.rest;
-          steps = r.steps;
-          silent = r.silent;
-        })
+    by (inl none) (inr l) =
+        let r = l.1 in
+        inr (
+          l.0,
+          record {
+            newer = e ∷ r.newer;
+            call = r.call;
+            earlier = r.earlier;
+            calls_are = ap (λ (l : List Entry). e ∷ l) r.calls_are;
+            none = (none, r.none);
+            slot = r.slot;
+            first = r.first;
+            rest = r.rest;
+            steps = r.steps;
+            silent = r.silent;
+          },
+        )
 
 -- the newest writes of two lists of steps
 pub writes_both : (xs ys older : List Step) → newest_writes (xs ++ ys) older ≡ newest_writes ys (newest_writes xs older)
@@ -94,14 +82,14 @@ writes_front (Write t a v ∷ xs) older = writes_front xs (Write t a v ∷ older
 writes_front (_ ∷ xs) older = writes_front xs older
 
 -- the newest call among some touches
-next_call : (ts : List Touch) (e : Entry) (older : List Entry) → AreTied ts (e ∷ older) → (front : List Touch) × (met left : Extent) × (rest : List Touch) × (ts ≡ front ++ Called met left ∷ rest) × (left.steps ≡ length (left_by e))
+pub next_call : (ts : List Touch) (e : Entry) (older : List Entry) → AreTied ts (e ∷ older) → (front : List Touch) × (met left : Extent) × (rest : List Touch) × (ts ≡ front ++ Called met left ∷ rest) × (left.steps ≡ length (left_by e)) × (met.steps ≡ length e.before)
 next_call [] e older h = absurd h
-next_call (Called met left ∷ before) e older h = ([], met, left, before, refl, h.1 ∙ sym (length-append e.before e.steps))
-next_call (Stored d v ∷ before) e older h = let n = next_call before e older h in (Stored d v ∷ n.0, n.1, n.2, n.3, ap (λ (l : List Touch). Stored d v ∷ l) n.4, n.5)
-next_call (Loaded d v ∷ before) e older h = let n = next_call before e older h in (Loaded d v ∷ n.0, n.1, n.2, n.3, ap (λ (l : List Touch). Loaded d v ∷ l) n.4, n.5)
-next_call (Changed d f v ∷ before) e older h = let n = next_call before e older h in (Changed d f v ∷ n.0, n.1, n.2, n.3, ap (λ (l : List Touch). Changed d f v ∷ l) n.4, n.5)
-next_call (Looked w x ∷ before) e older h = let n = next_call before e older h in (Looked w x ∷ n.0, n.1, n.2, n.3, ap (λ (l : List Touch). Looked w x ∷ l) n.4, n.5)
-next_call (Met m x ∷ before) e older h = let n = next_call before e older h in (Met m x ∷ n.0, n.1, n.2, n.3, ap (λ (l : List Touch). Met m x ∷ l) n.4, n.5)
+next_call (Called met left ∷ before) e older h = ([], met, left, before, refl, h.1 ∙ sym (length-append e.before e.steps), h.0)
+next_call (Stored d v ∷ before) e older h = let n = next_call before e older h in (Stored d v ∷ n.0, n.1, n.2, n.3, ap (λ (l : List Touch). Stored d v ∷ l) n.4, n.5, n.6)
+next_call (Loaded d v ∷ before) e older h = let n = next_call before e older h in (Loaded d v ∷ n.0, n.1, n.2, n.3, ap (λ (l : List Touch). Loaded d v ∷ l) n.4, n.5, n.6)
+next_call (Changed d f v ∷ before) e older h = let n = next_call before e older h in (Changed d f v ∷ n.0, n.1, n.2, n.3, ap (λ (l : List Touch). Changed d f v ∷ l) n.4, n.5, n.6)
+next_call (Looked w x ∷ before) e older h = let n = next_call before e older h in (Looked w x ∷ n.0, n.1, n.2, n.3, ap (λ (l : List Touch). Looked w x ∷ l) n.4, n.5, n.6)
+next_call (Met m x ∷ before) e older h = let n = next_call before e older h in (Met m x ∷ n.0, n.1, n.2, n.3, ap (λ (l : List Touch). Met m x ∷ l) n.4, n.5, n.6)
 
 -- The call of these entries, with all that stands before it, where what waits there has no write of the cell but in later
 -- pages
@@ -185,11 +173,6 @@ module _ (sizes : Sizes) (whole : List Step) (page_some : 0 < sizes.page_size) (
   walk_to call earlier (Met name count ∷ before) newer waiting swept h tied begins ones long none far kept few =
       push_other cell (AtCall sizes call earlier IsFar) (length later) (Met name count) before (newer ++ call ∷ earlier) (newer ++ call ∷ earlier) (λ l e. e) (λ late f. f) (walk_to call earlier before newer waiting swept h tied begins ones long none far kept few)
 
-  -- the cell of the address
-  own_cell : cell_at sizes place ≡ cell
-  own_cell =
-      ap (λ (x : ℕ). x % sizes.frames * sizes.page_size + place % sizes.page_size) (div-mul-add p sizes.page_size k within) ∙ ap (λ (x : ℕ). p % sizes.frames * sizes.page_size + x) (mod-mul-add p sizes.page_size k within)
-
   -- one touch more that stores nothing there
   push_recent : (w : ℕ) (t : Touch) (ts : List Touch) (calls newer : List Entry) → ((l : List Touch) → last_store cell l ≡ Some w → last_store cell (t ∷ l) ≡ Some w) → ((m : ℕ) → Every (λ (e : Entry). length (left_by e) ≤ m) newer → Every (λ (e : Entry). length (left_by e) ≤ m) calls)
       → HasRecent sizes cell place w whole ts calls → HasRecent sizes cell place w whole (t ∷ ts) newer
@@ -219,7 +202,7 @@ module _ (sizes : Sizes) (whole : List Step) (page_some : 0 < sizes.page_size) (
       let same : Write h.0 h.1 v ≡ Write slot place w = sym h.2 ∙ is in
       let address_is : h.1 ≡ place = cc same in
       let value_is : v ≡ w = cc same in
-      let cell_is : x ≡ cell = sym h.3 ∙ ap (cell_at sizes) address_is ∙ own_cell in
+      let cell_is : x ≡ cell = sym h.3 ∙ ap (cell_at sizes) address_is ∙ cell_of_place sizes p k within in
       let next = next_call before h.4 h.5 (subst (AreTied before) h.6 tied) in
       record {
         recent = t ∷ next.0;
@@ -242,20 +225,21 @@ module _ (sizes : Sizes) (whole : List Step) (page_some : 0 < sizes.page_size) (
   -- no sweep stored there once the address was in the log
   no_sweep : (w v : ℕ) (ts : List Touch) (calls : List Entry) (swept : Option ℕ) → IsSweepOf sizes cell v calls swept → Rises calls → Every (λ (e : Entry). Begins (left_by e) whole) calls → Every (λ (e : Entry). length e.before ≤ length later) calls → HasRecent sizes cell place w whole ts calls → ⊥
   no_sweep w v ts calls swept h rises begins few r =
-      let q = h.1 in
-      let list = h.5 in
-      let rest : cell ≡ q % sizes.frames * sizes.page_size + (cell - first_cell sizes q) = omega (arith, h.3) in
-      let frame = parts_of sizes.page_size (p % sizes.frames) k (q % sizes.frames) (cell - first_cell sizes q) within (omega (arith, h.3, h.4)) (sym rest) in
+      let s = h.0 in
+      let q = s.1 in
+      let list = s.2 in
+      let rest : cell ≡ q % sizes.frames * sizes.page_size + (cell - first_cell sizes q) = omega (arith, s.6) in
+      let frame = parts_of sizes.page_size (p % sizes.frames) k (q % sizes.frames) (cell - first_cell sizes q) within (omega (arith, s.6, s.7)) (sym rest) in
       let e = entry list (CleanTake ∷ []) in
-      let b : Begins (list ++ CleanTake ∷ []) whole = (subst (Every (λ (x : Entry). Begins (left_by x) whole)) h.7 begins).0 in
-      let short : length list ≤ length later = (subst (Every (λ (x : Entry). length x.before ≤ length later)) h.7 few).0 in
-      let low : length (left_by r.call) ≤ length (list ++ CleanTake ∷ []) = r.low (length (list ++ CleanTake ∷ [])) (subst (Every (λ (x : Entry). length (left_by x) ≤ length (list ++ CleanTake ∷ []))) (sym h.7) (all_low e h.6 (subst Rises h.7 rises).0)) in
+      let b : Begins (list ++ CleanTake ∷ []) whole = (subst (Every (λ (x : Entry). Begins (left_by x) whole)) s.4 begins).0 in
+      let short : length list ≤ length later = (subst (Every (λ (x : Entry). length x.before ≤ length later)) s.4 few).0 in
+      let low : length (left_by r.call) ≤ length (list ++ CleanTake ∷ []) = r.low (length (list ++ CleanTake ∷ [])) (subst (Every (λ (x : Entry). length (left_by x) ≤ length (list ++ CleanTake ∷ []))) (sym s.4) (all_low e s.3 (subst Rises s.4 rises).0)) in
       ⊎_elim
       (λ (less : q < p).
       let entered : is_entered sizes p (left_by r.call) ≡ true = lt-ltb (p * sizes.page_size) (tail sizes (left_by r.call)) (omega (arith, r.below)) in
       let is = frees_before sizes whole page_some frames_some accepted p q (left_by r.call) list (CleanTake ∷ []) less frame.0 r.begins entered b (inr ([], CleanTake, refl, tt, inl refl)) low in
-      both_ways (is_freed sizes q list) (next_page-parts (cleaning sizes) list (marks (cleaning sizes) list) q h.8).1 is)
-      (λ (le : p ≤ q). omega (arith, short, cleans_later sizes whole page_some frames_some accepted p later done q list (shorter sizes whole page_some frames_some accepted list (CleanTake ∷ []) b) h.8 le))
+      both_ways (is_freed sizes q list) (next_page-parts (cleaning sizes) list (marks (cleaning sizes) list) q s.5).1 is)
+      (λ (le : p ≤ q). omega (arith, short, cleans_later sizes whole page_some frames_some accepted p later done q list (shorter sizes whole page_some frames_some accepted list (CleanTake ∷ []) b) s.5 le))
       (cases_lt q p)
 
   -- nor did a write that waits, but for that

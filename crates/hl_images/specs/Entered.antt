@@ -2,19 +2,20 @@
 use Rattle.std.specs.Prelude.{ℕ, ◌≡◌, ◌<◌, ◌≤◌, ◌+◌, ◌⊎◌, Bool, true, false, Option, Some, None, List, [], ◌∷◌, ◌++◌}
 use Rattle.std.specs.List.{AllByRecursion}
 use Rattle.hl_model.specs.declared.step.Step.{Step}
-use Rattle.hl_model.specs.declared.step.Step.TheVariants.{Look, Write, CleanTake, CleanDone}
+use Rattle.hl_model.specs.declared.step.Step.TheVariants.{Look, Write, CleanDone}
 use Rattle.hl_model.specs.Offsets.{tail}
-use Rattle.hl_model.specs.Pages.{next_to_clean, is_freed}
+use Rattle.hl_model.specs.Pages.{is_freed}
 use Rattle.hl_model.specs.Settled.{safe_read_only}
 use Rattle.hl_model.specs.Sizes.{Sizes}
 use Rattle.hl_history.specs.declared.view.Entry.{Entry}
-use Rattle.hl_history.specs.Lists.{entry, left_by}
+use Rattle.hl_history.specs.Lists.{left_by}
 use Rattle.hl_words.specs.declared.view.Touch.{Touch}
 use Rattle.hl_words.specs.declared.view.Touch.TheVariants.{Stored, Loaded, Changed, Called, Looked, Met}
 use Rattle.hl_words.specs.States.{RiderState}
 use Rattle.hl_keeper.specs.Passes.{cell_at}
 use Rattle.hl_keeper.specs.Pages.{first_cell}
 use Rattle.hl_keeper.specs.Touches.{is_call}
+use Rattle.hl_images.specs.Sweeps.{IsSweep}
 
 -- a step that a pass makes without the lock
 abbrev pub is_touch : Step → Bool
@@ -45,12 +46,9 @@ abbrev pub IsWriteOf : Sizes → ℕ → ℕ → List Entry → Step → Type 0
 IsWriteOf sizes d v calls w = (t a : ℕ) × (w ≡ Write t a v) × (cell_at sizes a ≡ d)
     × (e : Entry) × (older : List Entry) × (calls ≡ e ∷ older) × (a < tail sizes (left_by e))
 
--- the store of the value into the cell is of the sweep of a page, which the newest call so far took to clean
+-- the store of the value into the cell is a 0 of the sweep of this page
 abbrev pub IsSweepOf : Sizes → ℕ → ℕ → List Entry → Option ℕ → Type 0
-IsSweepOf sizes d v calls swept = (v ≡ 0) × (p : ℕ) × (swept ≡ Some p)
-    × (first_cell sizes p ≤ d) × (d < first_cell sizes p + sizes.page_size)
-    × (list : List Step) × (older : List Entry) × (calls ≡ entry list (CleanTake ∷ []) ∷ older)
-    × (next_to_clean sizes list ≡ Some p)
+IsSweepOf sizes d v calls swept = (sweep : IsSweep sizes d v calls) × (swept ≡ Some sweep.1)
 
 -- Each of these stores is a write that a later call of these entered, or one that still waits, in their order; or it is a
 -- 0 of the sweep of a page that the rider itself took to clean, and freed by its next call that entered a step, or hasn't
@@ -71,12 +69,42 @@ AreEntered sizes (Called met left ∷ before) (call ∷ calls) waiting swept =
 AreEntered sizes (Looked which x ∷ before) calls waiting swept = AreEntered sizes before calls waiting swept
 AreEntered sizes (Met name count ∷ before) calls waiting swept = AreEntered sizes before calls waiting swept
 
+-- the 0 of the sweep of a page into the cell is among these touches
+abbrev pub HasZero : Sizes → ℕ → ℕ → List Touch → List Entry → Type 0
+HasZero sizes p d [] calls = ⊥
+HasZero sizes p d (Stored x v ∷ before) calls =
+    ((x ≡ d) × IsSweepOf sizes d v calls (Some p)) ⊎ HasZero sizes p d before calls
+HasZero sizes p d (Loaded x v ∷ before) calls = HasZero sizes p d before calls
+HasZero sizes p d (Changed x found v ∷ before) calls = HasZero sizes p d before calls
+HasZero sizes p d (Called met left ∷ before) [] = ⊥
+HasZero sizes p d (Called met left ∷ before) (call ∷ calls) = HasZero sizes p d before calls
+HasZero sizes p d (Looked which x ∷ before) calls = HasZero sizes p d before calls
+HasZero sizes p d (Met name count ∷ before) calls = HasZero sizes p d before calls
+
+-- so it is with each cell of the page
+abbrev pub IsSwept : Sizes → ℕ → List Touch → List Entry → Type 0
+IsSwept sizes p touches calls = (d : ℕ) → first_cell sizes p ≤ d → d < first_cell sizes p + sizes.page_size
+    → HasZero sizes p d touches calls
+
+-- each of these calls that freed a page was made after the whole sweep of it
+abbrev pub FreesSwept : Sizes → List Touch → List Entry → Type 0
+FreesSwept sizes [] calls = Unit {0}
+FreesSwept sizes (Stored d v ∷ before) calls = FreesSwept sizes before calls
+FreesSwept sizes (Loaded d v ∷ before) calls = FreesSwept sizes before calls
+FreesSwept sizes (Changed d found v ∷ before) calls = FreesSwept sizes before calls
+FreesSwept sizes (Called met left ∷ before) [] = ⊥
+FreesSwept sizes (Called met left ∷ before) (call ∷ calls) =
+    ((p : ℕ) → call.steps ≡ CleanDone p ∷ [] → IsSwept sizes p before calls) × FreesSwept sizes before calls
+FreesSwept sizes (Looked which x ∷ before) calls = FreesSwept sizes before calls
+FreesSwept sizes (Met name count ∷ before) calls = FreesSwept sizes before calls
+
 -- So it is with each store of a rider, where the one list is this: what still waits was of a pass that was abandoned, and
--- lies above what is sealed; and a page that it swept and didn't free isn't free
+-- lies above what is sealed; a page that it freed, it swept; and one that it swept and didn't free isn't free
 pub record StoresEnter (sizes : Sizes) (whole : List Step) (r : RiderState) : Type 0 where
   pub waiting : List Step
   pub swept : Option ℕ
   pub entered : AreEntered sizes r.view.touches r.calls waiting swept
+  pub frees : FreesSwept sizes r.view.touches r.calls
   pub calls : AllByRecursion (λ e. IsOneCall e.steps) r.calls
   pub above : AllByRecursion (λ w. (t a v : ℕ) → w ≡ Write t a v → safe_read_only whole ≤ a) waiting
   pub unfreed : (p : ℕ) → swept ≡ Some p → is_freed sizes p whole ≡ false

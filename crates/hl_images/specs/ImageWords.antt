@@ -23,20 +23,22 @@ WritesNothing a steps = AllByRecursion (λ s. written_at a s ≡ None) steps
 abbrev pub CallsWriteNothing : ℕ → List Entry → Type 0
 CallsWriteNothing a calls = AllByRecursion (λ e. WritesNothing a e.steps) calls
 
--- A rider's newest write at an address, w, as its calls tell, and as its touches do: the call that entered it left fewer
--- steps than `begun`; the rider's newest store into the cell before that call, and since one that left n steps, was of w;
--- and it stored nothing there since, but after calls that met more steps than `done`
-pub record IsNewestWrite (a c n begun done w : ℕ) (r : RiderState) : Type 0 where
+-- the newest write of these calls at an address is of this value
+pub record LastWrites (a v : ℕ) (calls : List Entry) : Type 0 where
   pub newer : List Entry
   pub call : Entry
   pub earlier : List Entry
-  pub calls : r.calls ≡ newer ++ call ∷ earlier
+  pub calls_are : calls ≡ newer ++ call ∷ earlier
   pub none : CallsWriteNothing a newer
   pub slot : ℕ
   pub first : List Step
   pub rest : List Step
-  pub steps : call.steps ≡ first ++ Write slot a w ∷ rest
-  pub newest : WritesNothing a rest
+  pub steps : call.steps ≡ first ++ Write slot a v ∷ rest
+  pub silent : WritesNothing a rest
+
+-- The newest store of these touches into a cell before a call that left fewer steps than `begun`, and since one that left
+-- n, was of this value; and they stored nothing there since, but after calls that met more steps than `done`
+pub record LastStores (c n begun done v : ℕ) (ts : List Touch) : Type 0 where
   pub late : List Touch
   pub middle : List Touch
   pub recent : List Touch
@@ -46,11 +48,16 @@ pub record IsNewestWrite (a c n begun done w : ℕ) (r : RiderState) : Type 0 wh
   pub met : Extent
   pub left : Extent
   pub since_is : since.steps ≡ n
-  pub touches : r.view.touches ≡ late ++ (middle ++ Called met left ∷ (recent ++ Called seen since ∷ older))
+  pub touches : ts ≡ late ++ (middle ++ Called met left ∷ (recent ++ Called seen since ∷ older))
   pub low : left.steps < begun
   pub after : BeginsAfter done late
   pub silent : last_store c middle ≡ None
-  pub stored : last_store c recent ≡ Some w
+  pub stored : last_store c recent ≡ Some v
+
+-- the newest write of a rider at an address is of this value, as its calls tell, and as its touches do
+pub record IsNewestWrite (a c n begun done v : ℕ) (r : RiderState) : Type 0 where
+  pub entered : LastWrites a v r.calls
+  pub stored : LastStores c n begun done v r.view.touches
 
 -- another rider writes nothing at the address, and stores nothing into the cell between the calls
 pub record IsNoWriter (a c n done : ℕ) (r : RiderState) : Type 0 where

@@ -19,17 +19,20 @@ use Rattle.hl_keeper.specs.Passes.{PassRecord, store_fault, with_store, with_cha
 use Rattle.hl_keeper.specs.Pages.{first_cell, loaded_all, zeroed}
 use Rattle.hl_keeper.specs.Touches.{AreTouches, is_call}
 use Rattle.hl_domain.specs.Domains.{with_entry, with_held}
-use Rattle.hl_images.specs.Entered.{is_touch, IsOneCall, newest_writes, AreEntered, StoresEnter}
+use Rattle.hl_images.specs.Entered.{is_touch, IsOneCall, newest_writes, AreEntered, IsSwept, FreesSwept, StoresEnter}
 
 -- the stores of a rider that has no pass, and swept this page if any and didn't free it yet
 pub record RiderEnters (sizes : Sizes) (swept : Option ℕ) (r : RiderState) : Type 0 where
   pub entered : AreEntered sizes r.view.touches r.calls [] swept
+  pub frees : FreesSwept sizes r.view.touches r.calls
+  pub sweep : (p : ℕ) → swept ≡ Some p → IsSwept sizes p r.view.touches r.calls
   pub calls : AllByRecursion (λ e. IsOneCall e.steps) r.calls
 
 -- the stores of a pass's rider, where those of the pass's touches wait; the pass sees no tail above that of the list that
 -- the newest call of its rider left
 pub record PassEnters (sizes : Sizes) (p : PassRecord) : Type 0 where
   pub entered : AreEntered sizes p.rider.view.touches p.rider.calls (newest_writes p.touches []) None
+  pub frees : FreesSwept sizes p.rider.view.touches p.rider.calls
   pub calls : AllByRecursion (λ e. IsOneCall e.steps) p.rider.calls
   pub touches : AreTouches p.slot p.held p.touches
   pub newest : Entry
@@ -46,7 +49,8 @@ pub record RidersStayEntered (sizes : Sizes) : Type 0 where
       → RiderEnters sizes swept (with_view (told past r.view) r)
   -- a call that makes one step, which frees no page
   pub call : (was now : ℕ) (list : List Step) (s : Step) (r : RiderState) → is_touch s ≡ false
-      → clean_of s ≡ None → RiderEnters sizes None r → RiderEnters sizes None (with_entry was now list (s ∷ []) r)
+      → clean_of s ≡ None → RiderEnters sizes None r
+      → RiderEnters sizes None (with_entry was now list (s ∷ []) r)
   -- one that makes none
   pub refused : (swept : Option ℕ) (was now : ℕ) (list : List Step) (r : RiderState)
       → RiderEnters sizes swept r → RiderEnters sizes swept (with_entry was now list [] r)
@@ -82,7 +86,8 @@ pub record PassesStayEntered (sizes : Sizes) : Type 0 where
       (with_held epoch view (with_rider (with_entry was now list (p.touches ++ s ∷ []) p.rider) p))
   -- a call of the pass's rider that makes one step, which frees no page, while touches of the pass wait
   pub call : (was now : ℕ) (list : List Step) (s : Step) (p : PassRecord) → is_touch s ≡ false
-      → clean_of s ≡ None → 0 < sizes.page_size → IsAccepted sizes (list ++ s ∷ []) → IsOf list p.rider.calls → PassEnters sizes p
+      → clean_of s ≡ None → 0 < sizes.page_size → IsAccepted sizes (list ++ s ∷ []) → IsOf list p.rider.calls
+      → PassEnters sizes p
       → PassEnters sizes (with_rider (with_entry was now list (s ∷ []) p.rider) p)
   -- a call that makes none
   pub refused : (was now : ℕ) (list : List Step) (p : PassRecord) → 0 < sizes.page_size

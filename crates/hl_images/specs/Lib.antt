@@ -4,7 +4,9 @@ pub mod Flushes
 pub mod Pairs
 pub mod ImageWords
 pub mod Sealed
+pub mod Sweeps
 pub mod Entered
 pub mod Accepted
 pub mod Kept
+pub mod Sums
 pub mod Calls

@@ -1,11 +1,12 @@
 //! What follows from a page's flush and from a domain's ending: each law the contract of a function that does nothing.
 ghost use Rattle.hl_model.specs.Sizes.{Sizes as SIZES};
-ghost use Rattle.hl_images.specs.Accepted.{ImagesAreWords, ImagesAreWrites};
+ghost use Rattle.hl_images.specs.Accepted.{ImagesAreWords, ImagesAreWrites, ImagesAreZero};
 ghost use Rattle.hl_images.specs.Flushes.{LaterStates, TakenIsCopied, AnsweredIsFlushed, CopiedStays, FlushedStays, FlushedIsImaged};
 ghost use Rattle.hl_images.specs.ImageWords.{ImagesHoldWords};
 ghost use Rattle.hl_images.specs.Kept.{RidersStayEntered, PassesStayEntered};
 ghost use Rattle.hl_images.specs.Pairs.{FlushedByTwoStays, FlushedByTwoIsImaged};
 ghost use Rattle.hl_images.specs.Sealed.{PendingStaysAbove, LaterStaysAbove};
+ghost use Rattle.hl_images.specs.Sums.{ImagesAreSums, ImagesAreSumsAnywhere};
 
 use hl_action::Task;
 
@@ -65,7 +66,7 @@ pub fn later_stays_above()
     ensures { LaterStaysAbove }
 {}
 
-/// A word of an image is that of the one list, where one rider alone wrote at its address, and each store of any rider is a
+/// A word of an image is that of the one list, where no rider but one wrote at its address, and each store of any rider is a
 /// write that its calls entered, or a 0 of its sweeps.
 pub fn images_are_words<F: Task>()
     ensures { ImagesAreWords F }
@@ -74,6 +75,23 @@ pub fn images_are_words<F: Task>()
 /// Where more than one rider wrote at its address, a word of an image is what one of them wrote there last.
 pub fn images_are_writes<F: Task>()
     ensures { ImagesAreWrites F }
+{}
+
+/// Where nobody wrote at its address, a word of an image is 0.
+pub fn images_are_zero<F: Task>()
+    ensures { ImagesAreZero F }
+{}
+
+/// Where each rider only added at its address, or only sweeps pages, a word of an image of the first page of a frame is the
+/// sum of all that was added, modulo 2^64.
+pub fn images_are_sums<F: Task>()
+    ensures { ImagesAreSums F }
+{}
+
+/// So it is on each page, where the stores of the other riders are writes that their calls entered elsewhere, or 0s of their
+/// sweeps.
+pub fn images_are_sums_anywhere<F: Task>()
+    ensures { ImagesAreSumsAnywhere F }
 {}
 
 /// Each store of a rider without a pass stays a write that its calls entered, or a 0 of its sweeps, by all that such a rider

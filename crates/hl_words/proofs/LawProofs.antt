@@ -3,7 +3,7 @@ use Rattle.std.proofs.Common.{◌≡◌, ◌≢◌, ℕ, zero, suc, ◌+◌, ◌
 use Rattle.std.specs.Prelude.{if◌then◌else◌}
 use Rattle.std.specs.List.{AllByRecursion as Every, sum, sum_by}
 use Rattle.std.proofs.lemmas.Bool.{eq-eqb, ne_eqb, eqb-true, eqb-false, cases_eq}
-use Rattle.std.proofs.lemmas.List.{length-set}
+use Rattle.std.proofs.lemmas.List.{append-nil, length-set}
 use Rattle.std.proofs.lemmas.List.Sums.{sum_by-cons}
 use Rattle.hl_words.specs.declared.view.Touch.{Touch}
 use Rattle.hl_words.specs.declared.view.Touch.TheVariants.{Stored, Loaded, Changed, Called, Looked, Met}
@@ -51,46 +51,49 @@ adds_before c t before totals adds rest own i u at =
 one_add : (v found more w a s : ℕ) → v ≡ (found + more) % 2 ^ 64 → found ≡ w → w ≡ a % 2 ^ 64 → s ≡ a + more → v ≡ s % 2 ^ 64
 one_add v found more w a s is same sum total = omega arith
 
-adds_total : (c : ℕ) (order : List TouchBy) (totals : List ℕ) → IsSerial order → Every (λ (t : TouchBy). t.rider < length totals) order
-    → ((i s : ℕ) → slice_get totals i ≡ Some s → AddsUp c s (touches_of i order)) → held c order ≡ sum totals % 2 ^ 64
-adds_total c [] totals h e adds = let z : sum totals ≡ 0 = all_zero totals adds in omega (arith, z)
-adds_total c (t ∷ before) totals h e adds =
+-- Where a cell holds 0, and the riders touch it from then on by loads and adds alone, it holds the sum of what they add
+pub adds_since : (c : ℕ) (front base : List TouchBy) (totals : List ℕ) → IsSerial (front ++ base) → held c base ≡ 0 → Every (λ (t : TouchBy). t.rider < length totals) front
+    → ((i s : ℕ) → slice_get totals i ≡ Some s → AddsUp c s (touches_of i front)) → held c (front ++ base) ≡ sum totals % 2 ^ 64
+adds_since c [] base totals h none e adds = let z : sum totals ≡ 0 = all_zero totals adds in omega (arith, z, none)
+adds_since c (t ∷ front) base totals h none e adds =
     let s = there totals t.rider e.0 in
-    by s.0 s.1 t.touch h.0 (subst (AddsUp c s.0) (own_more t.rider t.touch before) (adds t.rider s.0 s.1))
-    (λ rest own. adds_total c before (set totals t.rider rest) h.1
-    (every_weaker (λ (x : TouchBy). x.rider < length totals) (λ (x : TouchBy). x.rider < length (set totals t.rider rest)) before (λ x less. omega (arith, less, length-set totals t.rider rest)) e.1)
-    (adds_before c t before totals adds rest own))
+    by s.0 s.1 t.touch h.0 (subst (AddsUp c s.0) (own_more t.rider t.touch front) (adds t.rider s.0 s.1))
+    (λ rest own. adds_since c front base (set totals t.rider rest) h.1 none
+    (every_weaker (λ (x : TouchBy). x.rider < length totals) (λ (x : TouchBy). x.rider < length (set totals t.rider rest)) front (λ x less. omega (arith, less, length-set totals t.rider rest)) e.1)
+    (adds_before c t front totals adds rest own))
   where
-    by : (s : ℕ) → slice_get totals t.rider ≡ Some s → (x : Touch) → Finds before x → AddsUp c s (x ∷ touches_of t.rider before)
-        → ((rest : ℕ) → AddsUp c rest (touches_of t.rider before) → held c before ≡ sum (set totals t.rider rest) % 2 ^ 64) → left_by c x (held c before) ≡ sum totals % 2 ^ 64
+    by : (s : ℕ) → slice_get totals t.rider ≡ Some s → (x : Touch) → Finds (front ++ base) x → AddsUp c s (x ∷ touches_of t.rider front)
+        → ((rest : ℕ) → AddsUp c rest (touches_of t.rider front) → held c (front ++ base) ≡ sum (set totals t.rider rest) % 2 ^ 64) → left_by c x (held c (front ++ base)) ≡ sum totals % 2 ^ 64
     by s at x f own sooner = at_touch x f own
       where
         -- the rider's total stays
-        stays : AddsUp c s (touches_of t.rider before) → held c before ≡ sum totals % 2 ^ 64
+        stays : AddsUp c s (touches_of t.rider front) → held c (front ++ base) ≡ sum totals % 2 ^ 64
         stays own =
             let whole : s ≡ s + 0 = omega arith in
             let same : sum (set totals t.rider s) ≡ sum totals = omega (arith, sum_put totals t.rider s s 0 at whole) in
             sooner s own ∙ ap (λ (n : ℕ). n % 2 ^ 64) same
 
-        at_touch : (x : Touch) → Finds before x → AddsUp c s (x ∷ touches_of t.rider before) → left_by c x (held c before) ≡ sum totals % 2 ^ 64
-        at_touch (Stored d v) f own = ap (λ (b : Bool). if b then v else held c before) (ne_eqb d c own.0) ∙ stays own.1
+        at_touch : (x : Touch) → Finds (front ++ base) x → AddsUp c s (x ∷ touches_of t.rider front) → left_by c x (held c (front ++ base)) ≡ sum totals % 2 ^ 64
+        at_touch (Stored d v) f own = ap (λ (b : Bool). if b then v else held c (front ++ base)) (ne_eqb d c own.0) ∙ stays own.1
         at_touch (Loaded d v) f own = stays own
         at_touch (Called met left) f own = stays own
         at_touch (Looked which x) f own = stays own
         at_touch (Met name count) f own = stays own
         at_touch (Changed d found v) f own =
             ⊎_elim
-            (λ (a : (d ≢ c) × AddsUp c s (touches_of t.rider before)). ap (λ (b : Bool). if b then v else held c before) (ne_eqb d c a.0) ∙ stays a.1)
-            (λ (a : (d ≡ c) × ((more : ℕ) × (rest : ℕ) × (s ≡ rest + more) × (v ≡ (found + more) % 2 ^ 64) × AddsUp c rest (touches_of t.rider before))).
-            ap (λ (b : Bool). if b then v else held c before) (eq-eqb d c a.0)
-            ∙ one_add v found a.1.0 (held c before) (sum (set totals t.rider a.1.1)) (sum totals) a.1.3 (f ∙ ap (λ (k : ℕ). held k before) a.0) (sooner a.1.1 a.1.4) (sum_put totals t.rider s a.1.1 a.1.0 at a.1.2))
+            (λ (a : (d ≢ c) × AddsUp c s (touches_of t.rider front)). ap (λ (b : Bool). if b then v else held c (front ++ base)) (ne_eqb d c a.0) ∙ stays a.1)
+            (λ (a : (d ≡ c) × ((more : ℕ) × (rest : ℕ) × (s ≡ rest + more) × (v ≡ (found + more) % 2 ^ 64) × AddsUp c rest (touches_of t.rider front))).
+            ap (λ (b : Bool). if b then v else held c (front ++ base)) (eq-eqb d c a.0)
+            ∙ one_add v found a.1.0 (held c (front ++ base)) (sum (set totals t.rider a.1.1)) (sum totals) a.1.3 (f ∙ ap (λ (k : ℕ). held k (front ++ base)) a.0) (sooner a.1.1 a.1.4) (sum_put totals t.rider s a.1.1 a.1.0 at a.1.2))
             own
 
 pub no_add_is_lost : NoAddIsLost
 no_add_is_lost cells words stores riders c totals ruled less long adds =
     let h = ruled.order in
+    let all : h.0 ++ [] ≡ h.0 = append-nil h.0 in
     h.1.last c less
-    ∙ adds_total c h.0 totals h.1.serial
+    ∙ sym (ap (held c) all)
+    ∙ adds_since c h.0 [] totals (subst IsSerial (sym all) h.1.serial) refl
     (every_weaker (λ (t : TouchBy). t.rider < length riders) (λ (t : TouchBy). t.rider < length totals) h.0 (λ t l. omega (arith, l, long)) h.1.theirs)
     (λ i s at. let r = there riders i (omega (arith, within totals i s at, long)) in subst (AddsUp c s) (h.1.each i r.0 r.1) (adds i r.0 r.1 s at))
 

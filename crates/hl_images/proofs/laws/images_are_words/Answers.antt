@@ -1,5 +1,5 @@
 -- the law
-use Rattle.hl_images.proofs.AcceptedLaws.{images_are_words}
+use Rattle.hl_images.proofs.HoldLaws.{images_are_words}
 use Rattle.hl_images.proofs.laws.images_are_words.Goals as goal
 
 pub returns : goal.returns

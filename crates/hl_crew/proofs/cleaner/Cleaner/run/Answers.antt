@@ -1,9 +1,11 @@
-use Rattle.hl_crew.proofs.SweepLaws.{still_as_given, cleaner_stores}
+use Rattle.std.proofs.Common.{sym}
+use Rattle.hl_crew.proofs.HandLaws.{rider_as_given}
+use Rattle.hl_crew.proofs.RiderLaws.{cleaner_works}
 use Rattle.hl_crew.proofs.cleaner.Cleaner.run.Goals as goal
 
--- the cleaner stores only to clean
+-- the cleaner stores only to sweep, and flushes nothing
 pub invariant_of-behind-seat : goal.invariant_of-behind-seat
 invariant_of-behind-seat g c =
     let cleaner = c.args.self.now in
-    still_as_given g.K.Given.riders _ _
-    (cleaner_stores g.row.F.Denot cleaner.domain.now cleaner.shared.now.orders.cuts _ _ _ _ c.clean_all.ensures) c.behind-seat.invariant
+    let works = cleaner_works g.K.Given.serves g.row.F.Denot cleaner.domain.now cleaner.shared.now.orders.cuts _ _ _ _ c.clean_all.ensures in
+    rider_as_given g.K.Given.serves g.K.Given.sizes g.K.Given.riders _ _ (rw (sym c.requires.0) at works) c.behind-seat.invariant

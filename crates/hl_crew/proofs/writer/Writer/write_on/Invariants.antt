@@ -1,6 +1,7 @@
-use Rattle.hl_crew.specs.Sweeps.{StoresNoMore}
+use Rattle.std.specs.Prelude.{false}
+use Rattle.hl_crew.specs.Riders.{WritesOn}
 use Rattle.hl_crew.proofs.writer.Writer.write_on.Given as goal
 
--- the rider stored nothing
+-- the writer stored nothing
 abbrev pub invariant-loop : goal.invariant-loop
-invariant-loop g l = StoresNoMore l.initial.own.rider l.own.rider
+invariant-loop g l = WritesOn g.W.PageWriter.has false l.self.domain.now.sizes l.initial.own l.own

@@ -1,0 +1,36 @@
+-- What holds of each of some things that are done one after another, holds of all together.
+use Rattle.std.proofs.Common.{◌≡◌, ℕ, zero, suc, Bool, true, false, inl, inr, not}
+use Rattle.std.specs.Prelude.{Result, Ok, Err}
+use Rattle.hl_crew.specs.declared.messages.Over.{Over}
+use Rattle.hl_crew.specs.Goes.{Followed, Ended, UpTo}
+use Rattle.hl_crew.specs.Looks.{Looks, LooksNext}
+
+module _ {S : Type 0} (Holds : S → S → Type 0) (same : (old new : S) → new ≡ old → Holds old new)
+    (then : (old mid new : S) → Holds old mid → Holds mid new → Holds old new) where
+  module _ {X : Type 0} (One : ℕ → Result Bool X → S → S → Type 0)
+      (each : (i : ℕ) (result : Result Bool X) (old new : S) → One i result old new → Holds old new) where
+    pub followed_holds : (n : ℕ) (old new : S) → Followed One n old new → Holds old new
+    followed_holds zero old new is = same old new is
+    followed_holds (suc n) old new (mid, before, one) = then old mid new (followed_holds n old mid before) (each n (Ok true) mid new one)
+
+    ended_holds : (most n : ℕ) (result : Result (Unit {0}) X) (old new : S) → Ended One most n result old new → Holds old new
+    ended_holds most n (Ok done) old new (inl (all, is)) = same old new is
+    ended_holds most n (Ok done) old new (inr (fewer, one)) = each n (Ok false) old new one
+    ended_holds most n (Err error) old new (fewer, one) = each n (Err error) old new one
+
+    pub up_to_holds : (most : ℕ) (result : Result (Unit {0}) X) (old new : S) → UpTo One most result old new → Holds old new
+    up_to_holds most result old new goes = then old goes.last new (followed_holds goes.count old goes.last goes.followed) (ended_holds most goes.count result goes.last new goes.ended)
+
+  -- looks
+  module _ (Finds : Result Bool Over → S → S → Type 0) (each : (result : Result Bool Over) (old new : S) → Finds result old new → Holds old new) where
+    look_holds : (result : Result Bool Over) (old new : S) → Looks Finds result old new → Holds old new
+    look_holds (Ok true) old new found = each (Ok false) old new found
+    look_holds (Ok false) old new (found, finds) = each (Ok found) old new finds
+    look_holds (Err over) old new found = each (Err over) old new found
+
+    next_holds : (i : ℕ) (result : Result Bool Over) (old new : S) → LooksNext Finds i result old new → Holds old new
+    next_holds i (Ok next) old new look = look_holds (Ok (not next)) old new look
+    next_holds i (Err over) old new look = look_holds (Err over) old new look
+
+    pub looks_hold : (most : ℕ) (result : Result (Unit {0}) Over) (old new : S) → UpTo (LooksNext Finds) most result old new → Holds old new
+    looks_hold = up_to_holds (LooksNext Finds) next_holds

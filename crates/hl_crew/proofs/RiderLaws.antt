@@ -1,0 +1,333 @@
+-- What a crew's calls do leaves it so that its riders store only to sweep, and flush only what they imaged.
+use Rattle.std.proofs.Common.{◌≡◌, ℕ, zero, suc, ◌+◌, ◌≤◌, Bool, true, false, List, [], ◌∷◌, Some, None, slice_get, refl, sym, ap, ◌∙◌, subst, inl, inr, arith}
+use Rattle.std.specs.Prelude.{Result, Ok, Err, MatchResult, Option, unwrap_or, ◌&&◌, ◌||◌, ◌==◌, All}
+use Rattle.std.specs.List.{list_any}
+use Rattle.std.proofs.lemmas.Option.{get_or_from_slice_get, slice_get_within}
+use Rattle.hl_model.specs.declared.step.Step.{Step}
+use Rattle.hl_model.specs.declared.step.Step.TheVariants.{Raise, Settle, Shift, Close, Take, Done, FlushTake, FlushDone, CleanTake, CleanDone}
+use Rattle.hl_model.specs.declared.snapshot.Snapshot.{Snapshot}
+use Rattle.hl_model.specs.declared.fault.Fault.{Fault}
+use Rattle.hl_model.specs.declared.fault.Fault.TheVariants.{JournalFull, NoneClosed, NoneSealed}
+use Rattle.hl_model.specs.Pages.{flushes, next_to_clean}
+use Rattle.hl_model.specs.Replies.{or_fault, unless_fault, unless_page}
+use Rattle.hl_model.specs.Sizes.{Sizes}
+use Rattle.hl_action.specs.Jobs.{ReadyRecord}
+use Rattle.hl_history.specs.declared.view.Entry.{Entry}
+use Rattle.hl_history.specs.Lists.{entry}
+use Rattle.hl_words.specs.declared.view.RiderView.{RiderView}
+use Rattle.hl_words.specs.declared.view.Touch.TheVariants.{Stored}
+use Rattle.hl_words.specs.States.{RiderState, with_view}
+use Rattle.hl_keeper.specs.Calls.{step_fault, room_fault}
+use Rattle.hl_keeper.specs.Keepers.{KeeperState}
+use Rattle.hl_keeper.specs.Pages.{BroomRecord, first_cell, loaded_all, zeroed}
+use Rattle.hl_keeper.specs.declared.load.PageJob.{PageJob}
+use Rattle.hl_domain.specs.Domains.{DomainState, Call, LeavesUnderLock, answered, call_of, no_step, steps_if, with_entry}
+use Rattle.hl_lag.specs.Lag.{lag_of}
+use Rattle.hl_images.specs.Later.{IsLater}
+use Rattle.hl_images.specs.Sweeps.{AreSweeps}
+use Rattle.hl_images.proofs.LaterLaws.{same as is_same, still, touch as later_touch, loads as later_loads, call as later_call}
+use Rattle.hl_crew.specs.declared.messages.Over.{Over}
+use Rattle.hl_crew.specs.declared.orders.Cuts.{Cuts}
+use Rattle.hl_crew.specs.declared.orders.Cuts.TheVariants.{Never, EachTurn, Above}
+use Rattle.hl_crew.specs.declared.flusher.FlusherState.{FlusherState}
+use Rattle.hl_crew.specs.declared.orders.Orders.{Orders}
+use Rattle.hl_crew.specs.Cutting.{MakesRoom, EndsTurn, OrCuts}
+use Rattle.hl_crew.specs.Flushes.{HoldState, AnswersPage, Tells, TellsNext, FailsNext}
+use Rattle.hl_crew.specs.Goes.{Followed, UpTo}
+use Rattle.hl_crew.specs.Lags.{is_lag_step, MakesIf, MakesNext, KeepsLag}
+use Rattle.hl_crew.specs.Looks.{LooksNext}
+use Rattle.hl_crew.specs.Riders.{has_flushed, WorksOn}
+use Rattle.hl_crew.specs.Runs.{FlushesIf, Flushes, Acts, Fails, MakesTurn, TurnsNext, Serves, ServesNext}
+use Rattle.hl_crew.specs.Tries.{TriesAgain, Tries}
+use Rattle.hl_crew.specs.Turns.{SendState, swept, swept_by, Brooms, SendsPage, RunsAction, Cleans, Frees, Finds}
+use Rattle.hl_crew.proofs.LagLaws.{lag_kinds}
+use Rattle.hl_crew.proofs.RepeatLaws.{followed_holds, up_to_holds, looks_hold}
+
+-- the page that an accepted take names
+pub named : {J : Type 0} (none : Fault) (told : ℕ → J) (page : J → ℕ) → ((p : ℕ) → page (told p) ≡ p) → (room : Option Fault) (next : Option ℕ) (job : J)
+    → Ok job ≡ unless_fault (or_fault room (unless_page none next)) (told (unwrap_or next 0)) → next ≡ Some (page job)
+named none told page is None (Some p) job e = let same : job ≡ told p = cc e in ap Some (sym (ap page same ∙ is p))
+named none told page is None None job e = absurd cc
+named none told page is (Some f) next job e = absurd cc
+
+-- a call whose one step flushes no page
+quiet : {X : Type 0} (result : Result X Fault) (s : Step) → ((p : ℕ) → flushes p s ≡ false) → (p : ℕ) → list_any (flushes p) (steps_if result (s ∷ [])) ≡ false
+quiet (Ok x) s none p = ap (λ b. b || false) (none p)
+quiet (Err fault) s none p = refl
+
+-- a step of the lag flushes none
+lag_quiet : (s : Step) → is_lag_step s ≡ true → (p : ℕ) → flushes p s ≡ false
+lag_quiet (Raise x) is p = refl
+lag_quiet Settle is p = refl
+lag_quiet (Shift x) is p = refl
+lag_quiet Close is p = refl
+lag_quiet _ is p = absurd cc
+
+-- nor does one that ended badly
+pub failed_quiet : (page : ℕ) (p : ℕ) → flushes p (FlushDone page false) ≡ false
+failed_quiet page p = by (page == p)
+  where
+    by : (same : Bool) → (same && false) ≡ false
+    by true = refl
+    by false = refl
+
+-- loads leave the stores as they are
+loads_sweep : (sizes : Sizes) (cell : ℕ) (words : List ℕ) (view : RiderView) (calls : List Entry) → AreSweeps sizes view.touches calls → AreSweeps sizes (loaded_all cell words view).touches calls
+unfolding loaded_all
+loads_sweep sizes cell [] view calls is = is
+loads_sweep sizes cell (w ∷ words) view calls is = loads_sweep sizes (cell + 1) words _ calls is
+
+-- a crew, that serves or not, on a domain of these sizes
+module _ (serves : Bool) (sizes : Sizes) where
+  -- a rider that did nothing
+  pub no_more : (old new : RiderState) → new ≡ old → WorksOn serves sizes old new
+  no_more old new same = subst (λ r. WorksOn serves sizes old r) (sym same) (record { later = is_same old; sweeps = λ s. s; flushes = λ serving p. refl })
+
+  -- one thing after another
+  pub then : (old mid new : RiderState) → WorksOn serves sizes old mid → WorksOn serves sizes mid new → WorksOn serves sizes old new
+  then old mid new a b = record {
+    later = still old mid new a.later b.later;
+    sweeps = λ s. b.sweeps (a.sweeps s);
+    flushes = λ serving p. b.flushes serving p ∙ a.flushes serving p;
+  }
+
+  -- a call that flushes no page, if the crew serves
+  call_works : {F : Type 0} {domain : DomainState} {call : Call} {H : KeeperState F → KeeperState F → Type 0} → LeavesUnderLock F domain call H
+      → (serves ≡ true → (p : ℕ) (list : List Step) → list_any (flushes p) (call.steps list) ≡ false) → WorksOn serves sizes call.old call.new
+  call_works {call = call} left none = subst (λ r. WorksOn serves sizes call.old r) (sym left.entered) (record {
+    later = later_call left.before.cut left.after.cut left.list (call.steps left.list) call.old;
+    sweeps = λ s. s;
+    flushes = λ serving p. ap (λ b. b || has_flushed p call.old.calls) (none serving p left.list);
+  })
+
+  pub step_works : {F X : Type 0} {domain : DomainState} {H : KeeperState F → KeeperState F → Type 0} (s : Step) (result : Result X Fault) (old new : RiderState) → LeavesUnderLock F domain (answered result (call_of s old new)) H
+      → (serves ≡ true → (p : ℕ) → flushes p s ≡ false) → WorksOn serves sizes old new
+  step_works s result old new left none = call_works left (λ serving p list. quiet result s (none serving) p)
+
+  -- a call that made no step
+  pub none_works : {F : Type 0} {domain : DomainState} {H : KeeperState F → KeeperState F → Type 0} (old new : RiderState) → LeavesUnderLock F domain (no_step old new) H → WorksOn serves sizes old new
+  none_works old new left = call_works left (λ serving p list. refl)
+
+  -- loads of some words
+  pub loads_work : (cell : ℕ) (words : List ℕ) (old new : RiderState) → new ≡ with_view (loaded_all cell words old.view) old → WorksOn serves sizes old new
+  loads_work cell words old new is = subst (λ r. WorksOn serves sizes old r) (sym is) (record {
+    later = later_loads cell words old;
+    sweeps = λ s. loads_sweep sizes cell words old.view old.calls s;
+    flushes = λ serving p. refl;
+  })
+
+  -- what a crew's calls on one domain do
+  module _ (F : Type 0) (domain : DomainState) (cuts : Cuts) where
+    -- tries that others follow, all but the last
+    pub again_work : {X : Type 0} (Answered : Result X Fault → RiderState → RiderState → Type 0) → ((old new : RiderState) → Answered (Err JournalFull) old new → WorksOn serves sizes old new)
+        → (n : ℕ) (old new : RiderState) → Followed (TriesAgain F domain cuts Answered) n old new → WorksOn serves sizes old new
+    again_work Answered each = followed_holds (WorksOn serves sizes) no_more then (TriesAgain F domain cuts Answered) again
+      where
+        again : (i : ℕ) (next : Result Bool Fault) (old new : RiderState) → TriesAgain F domain cuts Answered i next old new → WorksOn serves sizes old new
+        again i next old new (refused, answered, room, cut) = then old refused new (each old refused answered) (none_works refused new cut)
+
+    pub tries_work : {X : Type 0} (Answered : Result X Fault → RiderState → RiderState → Type 0) → ((answer : Result X Fault) (old new : RiderState) → Answered answer old new → WorksOn serves sizes old new)
+        → (result : Result X Fault) (old new : RiderState) → Tries F domain cuts Answered result old new → WorksOn serves sizes old new
+    tries_work Answered each result old new tries =
+        then old tries.last new (again_work Answered (each (Err JournalFull)) tries.before old tries.last tries.again) (each result tries.last new tries.answered)
+
+    room_works : (made : Bool) (old new : RiderState) → MakesRoom F domain made old new → WorksOn serves sizes old new
+    room_works true old new cut = none_works old new cut
+    room_works false old new same = no_more old new same
+
+    pub or_cuts_work : (done result : Result Bool Over) (old new : RiderState) → OrCuts F domain cuts done result old new → WorksOn serves sizes old new
+    or_cuts_work done result old new (inl (is, same, room)) = no_more old new same
+    or_cuts_work done result old new (inr (full, room, is, cut)) = none_works old new cut
+
+    turn_end_works : (cuts : Cuts) (old new : RiderState) → EndsTurn F domain cuts old new → WorksOn serves sizes old new
+    turn_end_works Never old new same = no_more old new same
+    turn_end_works EachTurn old new cut = none_works old new cut
+    turn_end_works (Above steps) old new (is_cut, mid, looked, room) = then old mid new (none_works old mid looked) (room_works is_cut mid new room)
+
+    action_works : (i : ℕ) (result : Result Bool Over) (old new : RiderState) → RunsAction F domain cuts i result old new → WorksOn serves sizes old new
+    action_works i (Ok true) old new one =
+        then old one.mid new (step_works Take (Ok one.ready) old one.mid one.taken (λ serving p. refl)) (tries_work _ (λ answer a b done. step_works (Done one.ready.firing.ticket) answer a b done (λ serving p. refl)) _ one.mid new one.done.2)
+    action_works i (Ok false) old new (fault, none, taken) = step_works {F = F} {X = ReadyRecord F} Take (Err fault) old new taken (λ serving p. refl)
+    action_works i (Err over) old new (inl (fault, other, is, taken)) = step_works {F = F} {X = ReadyRecord F} Take (Err fault) old new taken (λ serving p. refl)
+    action_works i (Err over) old new (inr (ready, mid, taken, done)) =
+        then old mid new (step_works Take (Ok ready) old mid taken (λ serving p. refl)) (tries_work _ (λ answer a b done. step_works (Done ready.firing.ticket) answer a b done (λ serving p. refl)) _ mid new done.2)
+
+    load_works : (answer : Result PageJob Fault) (old new : RiderState) {H : KeeperState F → KeeperState F → Type 0} → LeavesUnderLock F domain (answered answer (call_of FlushTake old new)) H → WorksOn serves sizes old new
+    load_works answer old new taken = step_works FlushTake answer old new taken (λ serving p. refl)
+
+    -- a page that is sent
+    send_works : (i : ℕ) (result : Result Bool Over) (old new : SendState) → SendsPage F domain i result old new → WorksOn serves sizes old.rider new.rider
+    send_works i (Ok true) old new ((load, taken, puts), more) = load_works (Ok load) old.rider new.rider taken
+    send_works i (Ok false) old new ((taken, same), sent) = load_works (Err NoneSealed) old.rider new.rider taken
+    send_works i (Err over) old new (inl (fault, other, is, (taken, same)), sent) = load_works (Err fault) old.rider new.rider taken
+    send_works i (Err over) old new (inr (lost, (load, taken, puts)), sent) = load_works (Ok load) old.rider new.rider taken
+
+-- what a flusher does
+module _ {L : Type 0} (sizes : Sizes) (F : Type 0) (domain : DomainState) where
+  -- what two states of it are known to be
+  abbrev FlusherWorks : Bool → FlusherState L → FlusherState L → Type 0
+  FlusherWorks serves old new = WorksOn serves sizes old.rider new.rider
+
+  flusher_same : (serves : Bool) (old new : FlusherState L) → new ≡ old → FlusherWorks serves old new
+  flusher_same serves old new same = no_more serves sizes old.rider new.rider (ap (λ (o : FlusherState L). o.rider) same)
+
+  flusher_then : (serves : Bool) (old mid new : FlusherState L) → FlusherWorks serves old mid → FlusherWorks serves mid new → FlusherWorks serves old new
+  flusher_then serves old mid new = then serves sizes old.rider mid.rider new.rider
+
+  make_works : (serves wanted : Bool) (step : Step) (result : Result (Unit {0}) Fault) (old new : FlusherState L) → is_lag_step step ≡ true → MakesIf F domain wanted step result old new → FlusherWorks serves old new
+  make_works serves false step result old new lag (is, same) = flusher_same serves old new same
+  make_works serves true step (Ok done) old new lag (answer, made, is) = step_works serves sizes step (Ok answer) old.rider new.rider made (λ serving. lag_quiet step lag)
+  make_works serves true step (Err fault) old new lag (made, is) = step_works serves sizes {F = F} {X = ℕ} step (Err fault) old.rider new.rider made (λ serving. lag_quiet step lag)
+
+  lag_step_works : (serves : Bool) (now : Snapshot) (steps : List Step) → All (λ step. is_lag_step step ≡ true) steps → (i : ℕ) (result : Result Bool Fault) (old new : FlusherState L) → MakesNext F domain serves now steps i result old new → FlusherWorks serves old new
+  lag_step_works serves now steps kinds i (Ok true) old new (step, at, made) = make_works serves _ step _ old new (kind steps kinds i step at) made
+    where
+      kind : (steps : List Step) → All (λ step. is_lag_step step ≡ true) steps → (i : ℕ) (step : Step) → slice_get steps i ≡ Some step → is_lag_step step ≡ true
+      kind steps kinds i step at = subst (λ (s : Step). is_lag_step s ≡ true) (get_or_from_slice_get steps i step step at) (kinds i step (slice_get_within steps i step at))
+  lag_step_works serves now steps kinds i (Ok false) old new none = absurd none
+  lag_step_works serves now steps kinds i (Err fault) old new (step, at, made) = make_works serves _ step _ old new (kind steps kinds i step at) made
+    where
+      kind : (steps : List Step) → All (λ step. is_lag_step step ≡ true) steps → (i : ℕ) (step : Step) → slice_get steps i ≡ Some step → is_lag_step step ≡ true
+      kind steps kinds i step at = subst (λ (s : Step). is_lag_step s ≡ true) (get_or_from_slice_get steps i step step at) (kinds i step (slice_get_within steps i step at))
+
+  lag_works : (serves : Bool) (mutable resident : ℕ) (result : Result (Unit {0}) Over) (old new : FlusherState L) → KeepsLag F domain serves mutable resident result old new → FlusherWorks serves old new
+  lag_works serves mutable resident result old new lag =
+      let steps : List Step = lag_of domain.sizes.page_size lag.now.six mutable resident in
+      up_to_holds (FlusherWorks serves) (flusher_same serves) (flusher_then serves) (MakesNext F domain serves lag.now steps) (lag_step_works serves lag.now steps (lag_kinds domain.sizes.page_size lag.now.six mutable resident)) _ lag.made _ new lag.steps
+
+  -- what it does with pages that it sent, if the writers don't take them themselves
+  abbrev HoldWorks : HoldState L → HoldState L → Type 0
+  HoldWorks old new = WorksOn false sizes old.own.rider new.own.rider
+
+  hold_same : (old new : HoldState L) → new ≡ old → HoldWorks old new
+  hold_same old new same = no_more false sizes old.own.rider new.own.rider (ap (λ (h : HoldState L). h.own.rider) same)
+
+  hold_then : (old mid new : HoldState L) → HoldWorks old mid → HoldWorks mid new → HoldWorks old new
+  hold_then old mid new = then false sizes old.own.rider mid.own.rider new.own.rider
+
+  answer_works : (page : ℕ) (ok : Bool) (result : Result (Unit {0}) Over) (old new : HoldState L) → AnswersPage F domain page ok result old new → HoldWorks old new
+  answer_works page ok result old new one = step_works false sizes (FlushDone page ok) one.answer old.own.rider new.own.rider one.answers.met (λ serving. absurd cc)
+
+  told_works : (page : ℕ) (ok : Bool) (result : Result (Unit {0}) Over) (old new : HoldState L) → Tells F domain page ok result old new → HoldWorks old new
+  told_works page ok result old new (inl (none, is, same)) = no_more false sizes old.own.rider new.own.rider (ap (λ (h : HoldState L). h.own.rider) same)
+  told_works page ok result old new (inr one) = answer_works page ok result old new one
+
+  tell_works : (i : ℕ) (result : Result Bool Over) (old new : HoldState L) → TellsNext F domain i result old new → HoldWorks old new
+  tell_works i (Ok true) old new (page, ok, told) = told_works page ok _ old new told
+  tell_works i (Ok false) old new none = absurd none
+  tell_works i (Err over) old new (inl (lost, same)) = hold_same old new same
+  tell_works i (Err over) old new (inr (page, ok, told)) = told_works page ok _ old new told
+
+  fail_works : (i : ℕ) (result : Result Bool Over) (old new : HoldState L) → FailsNext F domain i result old new → HoldWorks old new
+  fail_works i (Ok true) old new (page, one) = answer_works page false _ old new one
+  fail_works i (Ok false) old new none = absurd none
+  fail_works i (Err over) old new (page, one) = answer_works page false _ old new one
+
+  flush_works : (serves : Bool) (result : Result (Unit {0}) Over) (old new : FlusherState L) → FlushesIf F domain serves result old new → FlusherWorks serves old new
+  flush_works true result old new (is, same) = flusher_same true old new same
+  flush_works false result old new flushed =
+      then false sizes old.rider flushed.sender.rider new.rider
+      (up_to_holds (λ (a b : SendState). WorksOn false sizes a.rider b.rider) (λ (a b : SendState) (is : b ≡ a). no_more false sizes a.rider b.rider (ap (λ (s : SendState). s.rider) is)) (λ (a b c : SendState). then false sizes a.rider b.rider c.rider)
+      (SendsPage F domain) (send_works false sizes F domain Never) 4 flushed.sent _ flushed.sender flushed.sends)
+      (then false sizes flushed.sender.rider flushed.mid.own.rider new.rider (up_to_holds HoldWorks hold_same hold_then (TellsNext F domain) tell_works _ flushed.told _ flushed.mid flushed.tells)
+      (up_to_holds HoldWorks hold_same hold_then (FailsNext F domain) fail_works _ flushed.failed flushed.mid _ flushed.fails))
+
+  fails_work : (serves : Bool) (result : Result (Unit {0}) Over) (over : Over) (last new : FlusherState L) → Fails F domain result over last new → FlusherWorks serves last new
+  fails_work serves result over last new (is, same) = flusher_same serves last new same
+
+  -- its turns by these orders
+  module _ (orders : Orders) (serves : Bool) where
+    flushes_work : (result : Result (Unit {0}) Over) (acted new : FlusherState L) → Flushes F domain orders serves result acted new → FlusherWorks serves acted new
+    flushes_work result acted new part = flusher_then serves acted part.last new (flush_works serves part.flushed acted part.last part.flushes) (by part.flushed part.ends)
+      where
+        by : (flushed : Result (Unit {0}) Over) → MatchResult flushed (λ _. (result ≡ Ok tt) × EndsTurn F domain orders.cuts part.last.rider new.rider × (new ≡ record part.last { rider = new.rider })) (λ over. Fails F domain result over part.last new) → FlusherWorks serves part.last new
+        by (Ok done) (is, ends, same) = turn_end_works serves sizes F domain orders.cuts orders.cuts part.last.rider new.rider ends
+        by (Err over) fails = fails_work serves result over part.last new fails
+
+    acts_work : (result : Result (Unit {0}) Over) (lagged new : FlusherState L) → Acts F domain orders serves result lagged new → FlusherWorks serves lagged new
+    acts_work result lagged new (ran, acted, runs, part) =
+        then serves sizes lagged.rider acted new.rider
+        (up_to_holds (WorksOn serves sizes) (no_more serves sizes) (then serves sizes) (RunsAction F domain orders.cuts) (action_works serves sizes F domain orders.cuts) 4 ran lagged.rider acted runs) (by ran part)
+      where
+        by : (ran : Result (Unit {0}) Over) → MatchResult ran (λ _. Flushes F domain orders serves result (record lagged { rider = acted }) new) (λ over. Fails F domain result over (record lagged { rider = acted }) new) → WorksOn serves sizes acted new.rider
+        by (Ok done) part = flushes_work result _ new part
+        by (Err over) fails = fails_work serves result over _ new fails
+
+    turn_works : (result : Result (Unit {0}) Over) (old new : FlusherState L) → MakesTurn F domain orders serves result old new → FlusherWorks serves old new
+    turn_works result old new turn = flusher_then serves old turn.lagged new (lag_works serves orders.mutable orders.resident turn.lag old turn.lagged turn.keeps) (by turn.lag turn.acts)
+      where
+        by : (lag : Result (Unit {0}) Over) → MatchResult lag (λ _. Acts F domain orders serves result turn.lagged new) (λ over. Fails F domain result over turn.lagged new) → FlusherWorks serves turn.lagged new
+        by (Ok done) part = acts_work result turn.lagged new part
+        by (Err over) fails = fails_work serves result over turn.lagged new fails
+
+    pub turned_works : (result : Result Bool Over) (old new : FlusherState L) → Serves F domain orders serves result old new → FlusherWorks serves old new
+    turned_works result old new one = flusher_then serves old one.mid new (turn_works one.made old one.mid one.turn) (or_cuts_work serves sizes F domain orders.cuts _ result one.mid.rider new.rider one.cuts)
+
+    run_works : (i : ℕ) (result : Result Bool Over) (old new : FlusherState L) → TurnsNext F domain orders serves i result old new → FlusherWorks serves old new
+    run_works i (Ok true) old new turn = turn_works (Ok tt) old new turn
+    run_works i (Ok false) old new none = absurd none
+    run_works i (Err over) old new turn = turn_works (Err over) old new turn
+
+    serve_works : (i : ℕ) (result : Result Bool Over) (old new : FlusherState L) → ServesNext F domain orders serves i result old new → FlusherWorks serves old new
+    serve_works i (Ok true) old new (moved, one) = turned_works (Ok moved) old new one
+    serve_works i (Ok false) old new same = flusher_same serves old new same
+    serve_works i (Err over) old new one = turned_works (Err over) old new one
+
+    -- all turns of a flusher: so many, or until its stop
+    pub turns_work : (most : ℕ) (result : Result (Unit {0}) Over) (old new : FlusherState L) → UpTo (TurnsNext F domain orders serves) most result old new → FlusherWorks serves old new
+    turns_work = up_to_holds (FlusherWorks serves) (flusher_same serves) (flusher_then serves) (TurnsNext F domain orders serves) run_works
+
+    pub served_work : (most : ℕ) (result : Result (Unit {0}) Over) (old new : FlusherState L) → UpTo (ServesNext F domain orders serves) most result old new → FlusherWorks serves old new
+    served_work = up_to_holds (FlusherWorks serves) (flusher_same serves) (flusher_then serves) (ServesNext F domain orders serves) serve_works
+
+-- the zeros of a sweep behind the call that took its page
+zeros_sweep : (sizes : Sizes) (p n : ℕ) (list : List Step) (older : List Entry) (view : RiderView) → next_to_clean sizes list ≡ Some p → n ≤ sizes.page_size → AreSweeps sizes view.touches (entry list (CleanTake ∷ []) ∷ older)
+    → AreSweeps sizes (zeroed (first_cell sizes p) n view).touches (entry list (CleanTake ∷ []) ∷ older)
+unfolding zeroed
+zeros_sweep sizes p zero list older view names within is = is
+zeros_sweep sizes p (suc n) list older view names within is =
+    ((refl, p, list, older, refl, names, omega arith, omega (arith, within)), zeros_sweep sizes p n list older view names (omega (arith, within)) is)
+
+-- a rider that swept is a later one
+zeros_later : (cell n : ℕ) (r : RiderState) → IsLater r (with_view (zeroed cell n r.view) r)
+unfolding zeroed
+zeros_later cell zero r = is_same r
+zeros_later cell (suc n) r =
+    let mid : RiderState = with_view (zeroed cell n r.view) r in still r mid _ (zeros_later cell n r) (later_touch (Stored (cell + n) 0) mid)
+
+-- a cleaner's looks
+module _ (serves : Bool) (F : Type 0) (domain : DomainState) (cuts : Cuts) where
+  broom_works : (answer : Result BroomRecord Fault) (old new : RiderState) → Brooms F domain answer old new → WorksOn serves domain.sizes old new
+  broom_works answer old new taken = step_works serves domain.sizes CleanTake answer old new taken (λ serving p. refl)
+
+  -- the sweep of a page that was taken
+  sweep_works : (broom : BroomRecord) (old taker : RiderState) → Brooms F domain (Ok broom) old taker → WorksOn serves domain.sizes old (swept_by domain broom taker)
+  unfolding step_fault
+  sweep_works broom old taker t =
+      let next = named NoneClosed (λ p. record { stamp = t.before.stamp; page = p; swept = 0 }) (λ (b : BroomRecord). b.page) (λ p. refl) (room_fault t.before 1) (next_to_clean t.before.core.sizes t.list) broom (t.holds.0 t.list t.met.stands).reply in
+      let names : next_to_clean domain.sizes t.list ≡ Some broom.page = subst (λ (z : Sizes). next_to_clean z t.list ≡ Some broom.page) t.met.sizes_are next in
+      let took : RiderState = with_entry t.before.cut t.after.cut t.list (CleanTake ∷ []) old in
+      let entered : taker ≡ took = t.entered in
+      let swept : WorksOn serves domain.sizes old (swept_by domain broom took) = record {
+        later = still old took (swept_by domain broom took) (later_call t.before.cut t.after.cut t.list (CleanTake ∷ []) old) (zeros_later (first_cell domain.sizes broom.page) domain.sizes.page_size took);
+        sweeps = λ s. zeros_sweep domain.sizes broom.page domain.sizes.page_size t.list old.calls took.view names (omega arith) s;
+        flushes = λ serving p. refl;
+      } in
+      subst (λ (r : RiderState). WorksOn serves domain.sizes old (swept_by domain broom r)) (sym entered) swept
+
+  free_works : (broom : BroomRecord) (result : Result (Unit {0}) Over) (old new : RiderState) → Frees F domain cuts broom result old new → WorksOn serves domain.sizes old new
+  free_works broom result old new frees = tries_work serves domain.sizes F domain cuts _ (λ answer a b done. step_works serves domain.sizes (CleanDone broom.page) answer a b done (λ serving p. refl)) _ old new frees.2
+
+  clean_works : (result : Result Bool Over) (old new : RiderState) → Cleans F domain cuts result old new → WorksOn serves domain.sizes old new
+  clean_works (Ok true) old new one = then serves domain.sizes old (swept_by domain one.broom one.taker) new (sweep_works one.broom old one.taker one.taken) (free_works (swept domain one.broom) _ _ new one.done)
+  clean_works (Ok false) old new taken = broom_works _ old new taken
+  clean_works (Err over) old new (inl (fault, other, is, taken)) = broom_works (Err fault) old new taken
+  clean_works (Err over) old new (inr (broom, taker, taken, inl (strange, is, same))) = then serves domain.sizes old taker new (broom_works (Ok broom) old taker taken) (no_more serves domain.sizes taker new same)
+  clean_works (Err over) old new (inr (broom, taker, taken, inr frees)) = then serves domain.sizes old (swept_by domain broom taker) new (sweep_works broom old taker taken) (free_works (swept domain broom) _ _ new frees)
+
+  find_works : (result : Result Bool Over) (old new : RiderState) → Finds F domain cuts result old new → WorksOn serves domain.sizes old new
+  find_works result old new (done, mid, cleans, or) = then serves domain.sizes old mid new (clean_works done old mid cleans) (or_cuts_work serves domain.sizes F domain cuts done result mid new or)
+
+  -- all looks of a cleaner
+  pub cleaner_works : (most : ℕ) (result : Result (Unit {0}) Over) (old new : RiderState) → UpTo (LooksNext (Finds F domain cuts)) most result old new → WorksOn serves domain.sizes old new
+  cleaner_works = looks_hold (WorksOn serves domain.sizes) (no_more serves domain.sizes) (then serves domain.sizes) (Finds F domain cuts) find_works

@@ -1,0 +1,99 @@
+-- What the riders of a crew store and flush.
+use Rattle.std.specs.Prelude.{ℕ, ◌≡◌, ◌≢◌, Bool, true, false, List, [], ◌∷◌}
+use Rattle.std.specs.List.{AllByRecursion, list_any}
+use Rattle.hl_model.specs.Pages.{flushes}
+use Rattle.hl_model.specs.Sizes.{Sizes}
+use Rattle.hl_history.specs.declared.view.Entry.{Entry}
+use Rattle.hl_words.specs.States.{RiderState}
+use Rattle.hl_image.specs.Image.{image}
+use Rattle.hl_images.specs.Flushes.{HasFlushed}
+use Rattle.hl_images.specs.Later.{IsLater}
+use Rattle.hl_images.specs.Sweeps.{StoresSweep}
+use Rattle.hl_crew.specs.declared.hands.Hands.{Hands}
+use Rattle.hl_crew.specs.declared.writer.WriterState.{WriterState}
+
+-- each of these riders stores only to sweep pages
+abbrev pub StoreSweeps : Sizes → List RiderState → Type 0
+StoreSweeps sizes riders = AllByRecursion (StoresSweep sizes) riders
+
+-- some call of these answered page p as flushed
+abbrev pub has_flushed : ℕ → List Entry → Bool
+has_flushed p calls = list_any (λ e. list_any (flushes p) e.steps) calls
+
+-- the rider answered no page as flushed
+abbrev pub FlushesNone : RiderState → Type 0
+FlushesNone r = (p : ℕ) → has_flushed p r.calls ≡ false
+
+-- each page that the rider answered as flushed it had copied, and the writer has the image of just these words
+abbrev pub HasImages : {W : Type 0} → (W → ℕ → List ℕ → Type 0) → Sizes → RiderState → W → Type 0
+HasImages has sizes r pages = (p : ℕ) → has_flushed p r.calls ≡ true
+    → (words : List ℕ) × has pages p (image p words) × HasFlushed sizes p words r
+
+-- so it is with a crew's riders and its page writers: each of the writers' riders flushed only such pages, the others none
+abbrev pub AreImaged : {W : Type 0} → (W → ℕ → List ℕ → Type 0) → Sizes → List RiderState → List W → Type 0
+AreImaged has sizes (flusher ∷ writing ∷ also_writing ∷ cleaner ∷ []) (first ∷ second ∷ []) =
+    FlushesNone flusher × HasImages has sizes writing first × HasImages has sizes also_writing second
+    × FlushesNone cleaner
+AreImaged has sizes _ _ = ⊥
+
+-- a writer keeps what it has of all pages but one
+abbrev pub KeepsOthers : {W : Type 0} → (W → ℕ → List ℕ → Type 0) → ℕ → W → W → Type 0
+KeepsOthers has page before after =
+    (other : ℕ) (bytes : List ℕ) → other ≢ page → has before other bytes → has after other bytes
+
+-- a page was written so, and the writer has it, beside what it has of others
+abbrev pub Puts : {W : Type 0} → (W → ℕ → List ℕ → Type 0) → (W → ℕ → List ℕ → W → Type 0)
+    → W → ℕ → List ℕ → W → Type 0
+Puts has wrote before page bytes after =
+    wrote before page bytes after × has after page bytes × KeepsOthers has page before after
+
+-- the write of a page failed so, and the writer has what it has of others
+abbrev pub PutsNone : {W : Type 0} → (W → ℕ → List ℕ → Type 0) → (W → ℕ → List ℕ → W → Type 0)
+    → W → ℕ → List ℕ → W → Type 0
+PutsNone has failed before page bytes after =
+    failed before page bytes after × KeepsOthers has page before after
+
+-- between the two a rider did more: it stored only to sweep, and if the crew serves, it flushed no page
+pub record WorksOn (serves : Bool) (sizes : Sizes) (old new : RiderState) : Type 0 where
+  pub later : IsLater old new
+  pub sweeps : StoresSweep sizes old → StoresSweep sizes new
+  pub flushes : serves ≡ true → (p : ℕ) → has_flushed p new.calls ≡ has_flushed p old.calls
+
+-- the same of a writer: if the crew serves, its rider flushed only pages whose images it wrote
+pub record WritesOn {L W : Type 0} (has : W → ℕ → List ℕ → Type 0) (serves : Bool) (sizes : Sizes)
+    (old new : WriterState L W) : Type 0 where
+  pub later : IsLater old.rider new.rider
+  pub sweeps : StoresSweep sizes old.rider → StoresSweep sizes new.rider
+  pub images : serves ≡ true → HasImages has sizes old.rider old.pages → HasImages has sizes new.rider new.pages
+
+-- the same of all hands of a crew
+pub record AllWorkOn {L W : Type 0} (has : W → ℕ → List ℕ → Type 0) (serves : Bool) (sizes : Sizes)
+    (old new : Hands L W) : Type 0 where
+  pub flusher : WorksOn serves sizes old.flusher.rider new.flusher.rider
+  pub first : WritesOn has serves sizes old.first new.first
+  pub second : WritesOn has serves sizes old.second new.second
+  pub cleaner : WorksOn serves sizes old.cleaner new.cleaner
+
+-- the riders of a crew, in the order in which it is given them
+abbrev pub riders_in : {L W : Type 0} → Hands L W → List RiderState
+riders_in hands =
+    hands.flusher.rider ∷ hands.first.rider ∷ hands.second.rider ∷ hands.cleaner ∷ []
+
+-- its page writers, in their order
+abbrev pub writers_in : {L W : Type 0} → Hands L W → List W
+writers_in hands = hands.first.pages ∷ hands.second.pages ∷ []
+
+-- the rider of a crew stores only to sweep, if all riders did that it was given; and if the crew serves, this holds of what
+-- it flushed, if those had flushed nothing
+pub record IsAsGiven (given : List RiderState) (serves : Bool) (sizes : Sizes) (r : RiderState)
+    (Flushed : Type 0) : Type 0 where
+  pub sweeps : StoreSweeps sizes given → StoresSweep sizes r
+  pub images : serves ≡ true → AllByRecursion FlushesNone given → Flushed
+
+-- so it is with all hands
+abbrev pub AreAsGiven : {L W : Type 0} → (W → ℕ → List ℕ → Type 0) → List RiderState → Bool → Sizes
+    → Hands L W → Type 0
+AreAsGiven has given serves sizes hands =
+    (StoreSweeps sizes given → StoreSweeps sizes (riders_in hands))
+    × (serves ≡ true → AllByRecursion FlushesNone given
+    → AreImaged has sizes (riders_in hands) (writers_in hands))
