@@ -1,6 +1,7 @@
 -- What threads returned, in the order of their numbers.
-use Rattle.std.proofs.Common.{◌≡◌, ℕ, zero, suc, ◌+◌, ◌-◌, ◌<◌, ◌≤◌, Bool, true, false, List, [], ◌∷◌, ◌++◌, map, length, slice_index_or, refl, ap, sym, ◌∙◌, subst, subst₂, Option, Some, None, Result, Ok, Err, IsOk, IfOk, IfErr, IfSome, MatchResult, option_map, Vec, vec_len, vec_capacity, arith, ltb-true, ltb-false}
-use Rattle.std.specs.Prelude.{nat_lt}
+use Rattle.std.proofs.Common.{◌≡◌, ℕ, zero, suc, ◌+◌, ◌-◌, ◌<◌, ◌≤◌, Bool, true, false, List, [], ◌∷◌, ◌++◌, map, length, slice_index_or, refl, ap, sym, ◌∙◌, subst, subst₂, Option, Some, None, Result, Ok, Err, IsOk, IfOk, IfErr, IfSome, MatchResult, option_map, Vec, vec_len, vec_capacity, arith, ltb-true, ltb-false, inl, inr}
+use Rattle.std.specs.Prelude.{nat_lt, drop, is_some, IfSome}
+use Rattle.std.specs.List.{AllByRecursion}
 use Rattle.std.proofs.Common.{Global}
 use Rattle.std.proofs.lemmas.List.{get_or-map, get_or_append_left, get_or-append_right, length-map, length-append}
 use Rattle.std.specs.Iterator.Runs.{CollectsByExtend}
@@ -13,9 +14,17 @@ use Rattle.hl_model.specs.declared.fault.Fault.TheVariants.{OutOfMemory}
 use Rattle.hl_words.specs.States.{RiderState, new_rider, new_riders}
 use Rattle.hl_words.proofs.Dealing.{new_long}
 use Rattle.hl_domain.specs.Domains.{DomainState}
-use Rattle.hl_crew.specs.Sweeps.{StoresToClean, StoreToClean}
+use Rattle.hl_model.specs.Sizes.{Sizes}
+use Rattle.hl_image.specs.Pages.{Pages, image_at}
+use Rattle.hl_images.specs.Sweeps.{StoresSweep}
+use Rattle.hl_crew.specs.Riders.{has_flushed, AreImaged, FlushesNone, StoreSweeps}
+use Rattle.hl.specs.declared.crew.CrewRiders.{CrewRiders}
+use Rattle.hl.specs.declared.memory.MemoryDevice.{MemoryDevice}
+use Rattle.hl.specs.declared.refused.Refused.{Refused}
+use Rattle.hl.specs.Crews.{riders_of}
+use Rattle.hl.specs.Devices.{device_has, has_page, on_memory}
 use Rattle.hl.specs.Sessions.{SessionState}
-use Rattle.hl.specs.Closings.{rider_at, Tells, AreReturned, AllReturned, AreAllReturned}
+use Rattle.hl.specs.Closings.{rider_at, Tells, AreReturned, FlushesTaken, AllReturned, AreAllReturned, AreLeft}
 
 -- how long a row is that one was put behind
 one_longer : {X : Type 0} (xs : List X) (x : X) (old new : ℕ) → old ≡ length xs → new ≡ old + 1 → new ≡ length (xs ++ (x ∷ []))
@@ -44,37 +53,50 @@ new_at (suc n) i none within = by_test (new_at n i none) (nat_lt i n) refl
         let first : i - n ≡ 0 = omega (arith, same) in
         get_or-append_right (new_riders n) (new_rider n ∷ []) n i none (new_long n) (omega (arith, same)) ∙ ap (λ k. slice_index_or (new_rider n ∷ []) k none) first ∙ ap new_rider (sym same)
 
--- a new rider stored nothing
-new_stores : (name : ℕ) → StoresToClean (new_rider name)
-new_stores name has = absurd (let contrary : false ≡ true = has in cc)
-
 -- what holds of two rows holds of the one behind the other, and of the second alone
-both_store : (xs ys : List RiderState) → StoreToClean xs → StoreToClean ys → StoreToClean (xs ++ ys)
-both_store [] ys all others = others
-both_store (x ∷ xs) ys all others = (all.0, both_store xs ys all.1 others)
+both_all : (P : RiderState → Type 0) (xs ys : List RiderState) → AllByRecursion P xs → AllByRecursion P ys → AllByRecursion P (xs ++ ys)
+both_all P [] ys all others = others
+both_all P (x ∷ xs) ys all others = (all.0, both_all P xs ys all.1 others)
 
-last_store : (xs ys : List RiderState) → StoreToClean (xs ++ ys) → StoreToClean ys
-last_store [] ys all = all
-last_store (x ∷ xs) ys all = last_store xs ys all.1
+last_all : (P : RiderState → Type 0) (xs ys : List RiderState) → AllByRecursion P (xs ++ ys) → AllByRecursion P ys
+last_all P [] ys all = all
+last_all P (x ∷ xs) ys all = last_all P xs ys all.1
 
-news_store : (n : ℕ) → StoreToClean (new_riders n)
-news_store zero = tt
-news_store (suc n) = both_store (new_riders n) (new_rider n ∷ []) (news_store n) (new_stores n, tt)
+news_all : (P : RiderState → Type 0) → ((name : ℕ) → P (new_rider name)) → (n : ℕ) → AllByRecursion P (new_riders n)
+news_all P each zero = tt
+news_all P each (suc n) = both_all P (new_riders n) (new_rider n ∷ []) (news_all P each n) (each n, tt)
 
--- the riders of a crew that were taken out of new ones store to clean
-pub crew_given : (n : ℕ) (all olds crew : List RiderState) → all ≡ new_riders n → all ≡ olds ++ crew → StoreToClean crew
-crew_given n all olds crew new parts = last_store olds crew (subst StoreToClean (sym new ∙ parts) (news_store n))
+-- what holds of new riders holds of those of a crew that were taken out of new ones
+pub crew_given : (P : RiderState → Type 0) → ((name : ℕ) → P (new_rider name)) → (n : ℕ) (all olds crew : List RiderState) → all ≡ new_riders n → all ≡ olds ++ crew → AllByRecursion P crew
+crew_given P each n all olds crew new parts = last_all P olds crew (subst (AllByRecursion P) (sym new ∙ parts) (news_all P each n))
 
--- the rider at a place stores to clean, where all do
-stores_at : (riders : List RiderState) (number name : ℕ) → StoreToClean riders → StoresToClean (slice_index_or riders number (new_rider name))
-stores_at [] number name all = new_stores name
-stores_at (r ∷ riders) zero name all = all.0
-stores_at (r ∷ riders) (suc number) name all = stores_at riders number name all.1
+-- a new rider stored nothing, and flushed nothing
+pub new_sweeps : (sizes : Sizes) (name : ℕ) → StoresSweep sizes (new_rider name)
+new_sweeps sizes name = tt
 
--- and so at a place behind others
-stores_behind : (news back : List RiderState) (number : ℕ) → length news ≤ number → StoreToClean back → StoresToClean (rider_at (news ++ back) number)
-stores_behind news back number behind all =
-    subst StoresToClean (sym (get_or-append_right news back (length news) number (new_rider number) refl behind)) (stores_at back (number - length news) number all)
+pub new_flushes : (name : ℕ) → FlushesNone (new_rider name)
+new_flushes name page = refl
+
+-- a crew whose pages are imaged has each page that it flushed on a device
+none_taken : (Took : ℕ → List ℕ → Type 0) (sizes : Sizes) (r : RiderState) → FlushesNone r → FlushesTaken Took sizes r
+none_taken Took sizes r none page flushed = absurd (let contrary : false ≡ true = sym (none page) ∙ flushed in cc)
+
+pub crew_taken : {L W : Type 0} (has : W → ℕ → List ℕ → Type 0) (Took : ℕ → List ℕ → Type 0) (sizes : Sizes) (crew : CrewRiders L) (v w : W) → ((page : ℕ) (bytes : List ℕ) → has v page bytes → Took page bytes) → ((page : ℕ) (bytes : List ℕ) → has w page bytes → Took page bytes)
+    → AreImaged has sizes (riders_of crew) (v ∷ w ∷ []) → AllByRecursion (FlushesTaken Took sizes) (riders_of crew)
+crew_taken has Took sizes crew v w first second are = (
+  none_taken Took sizes crew.flusher are.0,
+  (
+    λ page flushed. let one = are.1 page flushed in (one.0, first page _ one.1, one.2),
+    (λ page flushed. let one = are.2 page flushed in (one.0, second page _ one.1, one.2), (none_taken Took sizes crew.cleaner are.3, tt)),
+  ),
+)
+
+-- what is behind the first of two rows
+behind : (n : ℕ) (xs ys : List RiderState) → n ≡ length xs → drop n (xs ++ ys) ≡ ys
+behind zero [] ys is = refl
+behind zero (x ∷ xs) ys is = absurd (omega (arith, is))
+behind (suc n) [] ys is = absurd (omega (arith, is))
+behind (suc n) (x ∷ xs) ys is = behind n xs ys (omega (arith, is))
 
 -- of threads of one log, of whose sessions so much holds
 module _ {Out : Type 0} (F : Type 0) (log : DomainState) (Returns : ℕ → SessionState → SessionState → Out → Type 0) where
@@ -106,11 +128,12 @@ module _ {Out : Type 0} (F : Type 0) (log : DomainState) (Returns : ℕ → Sess
   work_returned g f jobs olds (Err error) same numbered calls len each = tt
 
   -- results and riders of threads whose riders were new, with a crew's riders behind
-  pub with_crew : (all olds crew : List RiderState) (outs : List (Result Out Fault)) (news back : List RiderState)
-      → all ≡ new_riders log.riders → all ≡ olds ++ crew → length outs ≡ length olds → length news ≡ length olds → length crew ≡ 4 → length back ≡ 4 → StoreToClean back
-      → AreReturned F log Returns (rider_at olds) outs news → AllReturned F log Returns outs (news ++ back)
-  with_crew all olds crew outs news back new parts long many four others stores each =
+  pub with_crew : (Took : ℕ → List ℕ → Type 0) (all olds crew : List RiderState) (outs : List (Result Out Fault)) (news back : List RiderState)
+      → all ≡ new_riders log.riders → all ≡ olds ++ crew → length outs ≡ length olds → length news ≡ length olds → length crew ≡ 4 → length back ≡ 4
+      → StoreSweeps log.sizes back → AllByRecursion (FlushesTaken Took log.sizes) back → AreReturned F log Returns (rider_at olds) outs news → AllReturned F log Returns Took outs (news ++ back)
+  with_crew Took all olds crew outs news back new parts long many four others sweeps taken each =
       let count : length olds + 4 ≡ log.riders = omega (arith, ap length parts, length-append olds crew, four, ap length new, new_long log.riders) in
+      let crews : drop (length outs) (news ++ back) ≡ back = behind (length outs) news back (long ∙ sym many) in
       record {
         back = length-append news back ∙ omega (arith, count, others, many);
         threads = omega (arith, count, long);
@@ -119,19 +142,70 @@ module _ {Out : Type 0} (F : Type 0) (log : DomainState) (Returns : ℕ → Sess
             let old : rider_at olds number ≡ new_rider number = sym (get_or_append_left olds crew (new_rider number) number here) ∙ ap (λ l. rider_at l number) (sym parts ∙ new) ∙ new_at log.riders number (new_rider number) (omega (arith, here, count)) in
             let now : rider_at news number ≡ rider_at (news ++ back) number = sym (get_or_append_left news back (new_rider number) number (omega (arith, here, many))) in
             subst₂ (λ (r s : RiderState). Tells F log (Returns number) r s (slice_index_or outs number other)) old now (each number other within);
-        crew = λ number behind. stores_behind news back number (omega (arith, behind, long, many)) stores;
+        sweeps = subst (StoreSweeps log.sizes) (sym crews) sweeps;
+        images = subst (AllByRecursion (FlushesTaken Took log.sizes)) (sym crews) taken;
       }
 
 -- what all threads returned, where the crew served, or why it was refused
-pub gathered : {Out S : Type 0} (F : Type 0) (log : DomainState) (Returns : ℕ → SessionState → SessionState → Out → Type 0) (served : Result S Fault) (outs : Result (Vec (Result Out Fault) Global) Fault) (returned : List (Result Out Fault)) (riders : List RiderState)
-    → MatchResult served (λ _. IsOk outs) (λ fault. outs ≡ Err fault) → IfErr served (λ fault. fault ≡ OutOfMemory) → IfOk outs (λ outs. outs.items ≡ returned) → AllReturned F log Returns returned riders
-    → AreAllReturned F log Returns outs riders
-gathered F log Returns served (Ok outs) returned riders told memory are all = subst (λ l. AllReturned F log Returns l riders) (sym are) all
-gathered F log Returns (Ok end) (Err fault) returned riders told memory are all = absurd (let e : false ≡ true = told in cc)
-gathered F log Returns (Err refused) (Err fault) returned riders told memory are all =
+pub gathered : {Out S : Type 0} (F : Type 0) (log : DomainState) (Returns : ℕ → SessionState → SessionState → Out → Type 0) (Took : ℕ → List ℕ → Type 0) (served : Result S Fault) (outs : Result (Vec (Result Out Fault) Global) Fault) (returned : List (Result Out Fault)) (riders : List RiderState)
+    → MatchResult served (λ _. IsOk outs) (λ fault. outs ≡ Err fault) → IfErr served (λ fault. fault ≡ OutOfMemory) → IfOk outs (λ outs. outs.items ≡ returned) → AllReturned F log Returns Took returned riders
+    → AreAllReturned F log Returns Took outs riders
+gathered F log Returns Took served (Ok outs) returned riders told memory are all = subst (λ l. AllReturned F log Returns Took l riders) (sym are) all
+gathered F log Returns Took (Ok end) (Err fault) returned riders told memory are all = absurd (let e : false ≡ true = told in cc)
+gathered F log Returns Took (Err refused) (Err fault) returned riders told memory are all =
     let same : fault ≡ refused = cc told in
     same ∙ memory
 
 -- what is known of one log is known of another that is the same
-pub all_of_same : {Out : Type 0} (F : Type 0) (log other : DomainState) (Returns : ℕ → SessionState → SessionState → Out → Type 0) (outs : Result (Vec (Result Out Fault) Global) Fault) (riders : List RiderState) → log ≡ other → AreAllReturned F log Returns outs riders → AreAllReturned F other Returns outs riders
-all_of_same F log other Returns outs riders same known = subst (λ l. AreAllReturned F l Returns outs riders) same known
+pub all_of_same : {Out : Type 0} (F : Type 0) (log other : DomainState) (Returns : ℕ → SessionState → SessionState → Out → Type 0) (Took : ℕ → List ℕ → Type 0) (outs : Result (Vec (Result Out Fault) Global) Fault) (riders : List RiderState) → log ≡ other → AreAllReturned F log Returns Took outs riders → AreAllReturned F other Returns Took outs riders
+all_of_same F log other Returns Took outs riders same known = subst (λ l. AreAllReturned F l Returns Took outs riders) same known
+
+-- what holds of pages that are on devices holds of those that a crew was given and handed back
+pub moved : {W : Type 0} (has : W → ℕ → List ℕ → Type 0) (sizes : Sizes) (riders others : List RiderState) (first second one two : W) → others ≡ riders → one ≡ first → two ≡ second → AreImaged has sizes riders (first ∷ second ∷ []) → AreImaged has sizes others (one ∷ two ∷ [])
+moved {W} has sizes riders others first second one two same is_first is_second are =
+    subst (λ (rs : List RiderState). AreImaged has sizes rs (one ∷ two ∷ [])) (sym same)
+    (subst (λ (w : W). AreImaged has sizes riders (w ∷ two ∷ [])) (sym is_first) (subst (λ (w : W). AreImaged has sizes riders (first ∷ w ∷ [])) (sym is_second) are))
+
+-- a crew that did nothing
+pub none_imaged : {W : Type 0} (has : W → ℕ → List ℕ → Type 0) (sizes : Sizes) (f a b c : RiderState) (v w : W) → AllByRecursion FlushesNone (f ∷ a ∷ b ∷ c ∷ []) → AreImaged has sizes (f ∷ a ∷ b ∷ c ∷ []) (v ∷ w ∷ [])
+none_imaged has sizes f a b c v w none = (none.0, (λ page flushed. absurd (contrary a page none.1.0 flushed)), (λ page flushed. absurd (contrary b page none.1.1.0 flushed)), none.1.1.1.0)
+  where
+    contrary : (r : RiderState) (page : ℕ) → FlushesNone r → has_flushed page r.calls ≡ true → ⊥
+    contrary r page none flushed = let e : false ≡ true = sym (none page) ∙ flushed in cc
+
+-- a crew that was refused for memory tells so
+pub served_or_memory : {E B S : Type 0} (end : Result E (Refused B)) (told : Result S Fault) (of : E → S) → MatchResult end (λ e. told ≡ Ok (of e)) (λ refused. told ≡ Err refused.fault) → IfErr end (λ refused. refused.fault ≡ OutOfMemory) → IfErr told (λ fault. fault ≡ OutOfMemory)
+served_or_memory (Ok e) told of is memory = subst (λ t. IfErr t (λ fault. fault ≡ OutOfMemory)) (sym is) tt
+served_or_memory (Err refused) told of is memory = subst (λ t. IfErr t (λ fault. fault ≡ OutOfMemory)) (sym is) memory
+
+-- what is left without a device in memory, and with one
+pub left_without : {Out : Type 0} (F : Type 0) (log : DomainState) (Returns : ℕ → SessionState → SessionState → Out → Type 0) (Took : ℕ → List ℕ → Type 0) (outs : Result (Vec (Result Out Fault) Global) Fault) (device : Option MemoryDevice) (riders : List RiderState)
+    → is_some device ≡ false → AreLeft F log Returns Took (outs, device) riders → AreAllReturned F log Returns Took outs riders
+left_without F log Returns Took outs None riders none left = left
+left_without F log Returns Took outs (Some d) riders none left = absurd cc
+
+pub left_with : {Out : Type 0} (F : Type 0) (log : DomainState) (Returns : ℕ → SessionState → SessionState → Out → Type 0) (Took : ℕ → List ℕ → Type 0) (outs : Result (Vec (Result Out Fault) Global) Fault) (device : Option MemoryDevice) (d : MemoryDevice) (riders : List RiderState)
+    → device ≡ Some d → AreLeft F log Returns Took (outs, device) riders → AreAllReturned F log Returns (on_memory d) outs riders
+left_with F log Returns Took outs device d riders is left = subst (λ (o : Option MemoryDevice). AreAllReturned F log Returns (device_has Took o) outs riders) is left
+
+-- the pages that a crew flushed by page writers of one kind, of which this is left
+pub sinks_taken : {L W P : Type 0} (Took : P → ℕ → List ℕ → Type 0) (work : P) (named : Option P) (memory : W → Option Pages) (sizes : Sizes) (crew : CrewRiders L) (v w : W) (device : Option MemoryDevice)
+    → named ≡ Some work → is_some (memory v) ≡ is_some (memory w) → is_some device ≡ is_some (memory v) → IfSome device (λ d. memory v ≡ Some d.first) → IfSome device (λ d. memory w ≡ Some d.second)
+    → AreImaged (λ sink page bytes. has_page (λ page bytes. IfSome named (λ work. Took work page bytes)) (memory sink) page bytes) sizes (riders_of crew) (v ∷ w ∷ []) → AllByRecursion (FlushesTaken (device_has (Took work) device) sizes) (riders_of crew)
+sinks_taken {L} {W} {P} Took work named memory sizes crew v w device is same kind first second are =
+    crew_taken (λ (sink : W) page bytes. has_page (λ page bytes. IfSome named (λ work. Took work page bytes)) (memory sink) page bytes) (device_has (Took work) device) sizes crew v w (by_first (memory v) device kind first) (by_second (memory w) device (kind ∙ same) second) are
+  where
+    told : (page : ℕ) (bytes : List ℕ) → IfSome named (λ work. Took work page bytes) → Took work page bytes
+    told page bytes there = subst (λ (o : Option P). IfSome o (λ work. Took work page bytes)) is there
+
+    by_first : (m : Option Pages) (device : Option MemoryDevice) → is_some device ≡ is_some m → IfSome device (λ d. m ≡ Some d.first) → (page : ℕ) (bytes : List ℕ) → has_page (λ page bytes. IfSome named (λ work. Took work page bytes)) m page bytes → device_has (Took work) device page bytes
+    by_first None None kind is page bytes there = told page bytes there
+    by_first (Some m) (Some d) kind is page bytes there = let same : m ≡ d.first = cc is in inl (subst (λ (k : Pages). image_at page k ≡ Some bytes) same there)
+    by_first None (Some d) kind is page bytes there = absurd cc
+    by_first (Some m) None kind is page bytes there = absurd cc
+
+    by_second : (m : Option Pages) (device : Option MemoryDevice) → is_some device ≡ is_some m → IfSome device (λ d. m ≡ Some d.second) → (page : ℕ) (bytes : List ℕ) → has_page (λ page bytes. IfSome named (λ work. Took work page bytes)) m page bytes → device_has (Took work) device page bytes
+    by_second None None kind is page bytes there = told page bytes there
+    by_second (Some m) (Some d) kind is page bytes there = let same : m ≡ d.second = cc is in inr (subst (λ (k : Pages). image_at page k ≡ Some bytes) same there)
+    by_second None (Some d) kind is page bytes there = absurd cc
+    by_second (Some m) None kind is page bytes there = absurd cc

@@ -1,6 +1,6 @@
 -- What a session stores and loads of a record, word for word.
-use Rattle.std.proofs.Common.{◌≡◌, ℕ, zero, suc, ◌+◌, ◌<◌, ◌≤◌, List, [], ◌∷◌, ◌++◌, length, take, set, get_or, refl, ap, sym, ◌∙◌, subst, arith, append_assoc, append-nil, inl, inr, Some, Ok, Err}
-use Rattle.std.specs.Prelude.{◌⊎◌, ◌-◌, if◌then◌else◌, nat_lt, nat_le, Option, None, Result, MatchResult}
+use Rattle.std.proofs.Common.{◌≡◌, ℕ, suc, ◌+◌, ◌<◌, ◌≤◌, List, [], ◌∷◌, ◌++◌, length, take, set, get_or, refl, ap, sym, ◌∙◌, subst, arith, append_assoc, append-nil, inl, inr, Some, Ok, Err}
+use Rattle.std.specs.Prelude.{◌-◌, if◌then◌else◌, nat_lt, nat_le, Option, None, Result, MatchResult}
 use Rattle.std.proofs.lemmas.Bool.{lt-ltb, le-ltb, lt-leb}
 use Rattle.std.specs.List.{AllByRecursion as Every}
 use Rattle.std.proofs.Math.Seq.{take-suc, take-suc-set}
@@ -12,14 +12,13 @@ use Rattle.hl_model.specs.declared.view.View.{View}
 use Rattle.hl_model.specs.Sizes.{Sizes}
 use Rattle.hl_words.specs.declared.view.Touch.{Touch}
 use Rattle.hl_words.specs.declared.view.Touch.TheVariants.{Stored}
-use Rattle.hl_words.specs.declared.view.RiderView.{RiderView}
 use Rattle.hl_words.specs.States.{RiderState}
 use Rattle.hl_model.specs.declared.fault.Fault.TheVariants.{Below, Beyond, Evicted}
 use Rattle.hl_model.specs.Replies.{unless_fault, unless_refused}
 use Rattle.hl_keeper.specs.Passes.{PassRecord, seen, cell_at, store_fault, load_fault, with_store, with_load}
 use Rattle.hl_domain.specs.Domains.{DomainState, Refreshed}
 use Rattle.hl.specs.Sessions.{SessionState, with_pass}
-use Rattle.hl.specs.Records.{row_fault, with_loads, entered_steps, own_steps, writes_in, writes_at, StoresOrRefreshes, stores_in, stored_at, AreStored, RefusesStore, StopsAt, Places, IsRefused, AreInVain, Appends}
+use Rattle.hl.specs.Records.{row_fault, with_loads, entered_steps, own_steps, writes_in, writes_at, StoresOrRefreshes, stores_in, stored_at, AreStored, RefusesStore, Places, AreInVain, Appends}
 
 every_append : {X : Type 0} (P : X → Type 0) (xs ys : List X) → Every P xs → Every P ys → Every P (xs ++ ys)
 every_append P [] ys a b = b

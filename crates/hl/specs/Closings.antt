@@ -1,15 +1,21 @@
 -- What is left of a log that was opened and closed by one call.
-use Rattle.std.specs.Prelude.{◌≡◌, ◌≢◌, ◌<◌, ◌≤◌, ◌+◌, ◌⊎◌, ℕ, Result, Ok, Err, MatchResult, List, length, slice_index_or, Vec}
+use Rattle.std.specs.Prelude.{◌≡◌, ◌≢◌, ◌<◌, ◌+◌, ◌⊎◌, ℕ, true, Option, Result, Ok, Err, MatchResult, List, length, drop, slice_index_or, Vec}
+use Rattle.std.specs.List.{AllByRecursion}
 use Rattle.std.specs.declared.alloc.Global.{Global}
 use Rattle.hl_model.specs.declared.fault.Fault.{Fault}
 use Rattle.hl_model.specs.declared.fault.Fault.TheVariants.{OutOfMemory, Stranger}
 use Rattle.hl_model.specs.Sizes.{Sizes}
 use Rattle.hl_words.specs.States.{RiderState, new_rider}
 use Rattle.hl_domain.specs.Domains.{DomainState, IsEnding}
-use Rattle.hl_crew.specs.Sweeps.{StoresToClean}
+use Rattle.hl_image.specs.Image.{image}
+use Rattle.hl_images.specs.Flushes.{HasFlushed}
+use Rattle.hl_crew.specs.Riders.{has_flushed, StoreSweeps}
 use Rattle.hl.specs.declared.open.Closed.{Closed}
 use Rattle.hl.specs.declared.opening.Opening.{Opening}
+use Rattle.hl.specs.declared.memory.MemoryDevice.{MemoryDevice}
+use Rattle.hl.specs.declared.memory.Written.{Written}
 use Rattle.hl.specs.declared.refused.Refused.{Refused}
+use Rattle.hl.specs.Devices.{device_has, on_memory}
 use Rattle.hl.specs.Openings.{was_refused}
 use Rattle.hl.specs.Sessions.{SessionState, Entered, Left}
 
@@ -64,20 +70,38 @@ AreReturned {Out} F log Returns olds outs riders =
     (number : ℕ) (other : Result Out Fault) → number < length outs
     → Tells F log (Returns number) (olds number) (rider_at riders number) (slice_index_or outs number other)
 
+-- each page that the rider answered as flushed it had copied, and this holds of the image of just these words
+abbrev pub FlushesTaken : (ℕ → List ℕ → Type 0) → Sizes → RiderState → Type 0
+FlushesTaken Took sizes r = (page : ℕ) → has_flushed page r.calls ≡ true
+    → (words : List ℕ) × Took page (image page words) × HasFlushed sizes page words r
+
 -- a thread for each rider of the log, but the crew's four, has such a result, and its rider was the new one of its
--- number; all riders came back, those of the threads in their order before the crew's, of which each stored into cells
--- only if a call of its own took a page to clean
+-- number; all riders came back, those of the threads in their order before the crew's. Each of these stored into cells only
+-- to sweep pages, and of the image of each page that it flushed this holds
 pub record AllReturned {Out : Type 0} (F : Type 0) (log : DomainState)
-    (Returns : ℕ → SessionState → SessionState → Out → Type 0)
+    (Returns : ℕ → SessionState → SessionState → Out → Type 0) (Took : ℕ → List ℕ → Type 0)
     (outs : List (Result Out Fault)) (riders : List RiderState) : Type 0 where
   pub back : length riders ≡ log.riders
   pub threads : length outs + 4 ≡ log.riders
   pub each : AreReturned F log Returns new_rider outs riders
-  pub crew : (number : ℕ) → length outs ≤ number → StoresToClean (rider_at riders number)
+  pub sweeps : StoreSweeps log.sizes (drop (length outs) riders)
+  pub images : AllByRecursion (FlushesTaken Took log.sizes) (drop (length outs) riders)
 
 -- so it is, or memory or a thread was refused once the threads had begun
 abbrev pub AreAllReturned : {Out : Type 0} → (F : Type 0) → DomainState
-    → (ℕ → SessionState → SessionState → Out → Type 0)
+    → (ℕ → SessionState → SessionState → Out → Type 0) → (ℕ → List ℕ → Type 0)
     → Result (Vec (Result Out Fault) Global) Fault → List RiderState → Type 0
-AreAllReturned F log Returns outs riders =
-    MatchResult outs (λ outs. AllReturned F log Returns outs.items riders) (λ fault. fault ≡ OutOfMemory)
+AreAllReturned F log Returns Took outs riders =
+    MatchResult outs (λ outs. AllReturned F log Returns Took outs.items riders) (λ fault. fault ≡ OutOfMemory)
+
+-- the same of what was written: the device has the pages that the crew flushed
+abbrev pub AreWritten : {Out : Type 0} → (F : Type 0) → DomainState
+    → (ℕ → SessionState → SessionState → Out → Type 0) → Written Out → List RiderState → Type 0
+AreWritten F log Returns written riders =
+    AreAllReturned F log Returns (on_memory written.device) written.outs riders
+
+-- the same of what was left: the device in memory has such a page, or this holds, if there is none
+abbrev pub AreLeft : {Out : Type 0} → (F : Type 0) → DomainState
+    → (ℕ → SessionState → SessionState → Out → Type 0) → (ℕ → List ℕ → Type 0)
+    → Result (Vec (Result Out Fault) Global) Fault × Option MemoryDevice → List RiderState → Type 0
+AreLeft F log Returns Took left riders = AreAllReturned F log Returns (device_has Took left.1) left.0 riders

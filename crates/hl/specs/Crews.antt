@@ -19,6 +19,11 @@ abbrev pub crew_of : {L W : Type 0} → Result (CrewEnd L W) (Refused (Crew L W)
 crew_of (Ok end) = end.riders
 crew_of (Err refused) = riders_of refused.back.riders
 
+-- the page writers of a crew that has ended, or was refused
+abbrev pub writers_of : {L W : Type 0} → Result (CrewEnd L W) (Refused (Crew L W)) → List W
+writers_of (Ok end) = end.writers
+writers_of (Err refused) = refused.back.first ∷ refused.back.second ∷ []
+
 -- the duty is one for logs of this many frames
 unfoldable pub can_serve : Sizes → Duty → Bool
 can_serve sizes duty = nat_eq duty.frames sizes.frames

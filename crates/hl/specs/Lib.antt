@@ -1,5 +1,12 @@
+pub mod Attempts
 pub mod Closings
 pub mod Crews
+pub mod Devices
+pub mod Helps
 pub mod Openings
 pub mod Records
+pub mod Reports
+pub mod Rests
+pub mod Rooms
 pub mod Sessions
+pub mod Waits

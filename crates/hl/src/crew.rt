@@ -1,10 +1,11 @@
 //! A crew's riders, writers and counts by their names.
+ghost use Rattle.std.specs.List.{AllByRecursion};
 ghost use Rattle.std.specs.Prelude.{◌≡◌, ◌+◌, ◌<◌, ◌++◌, [], ◌∷◌, true, false, Ok, Err, IfOk, IfErr, IfNone, IfSome, MatchResult, length};
 ghost use Rattle.hl_model.specs.declared.fault.Fault.TheVariants.{OutOfMemory, Size};
 ghost use Rattle.hl_crew.specs.Ordered.{duty_orders};
-ghost use Rattle.hl_crew.specs.Sweeps.{StoreToClean};
+ghost use Rattle.hl_crew.specs.Riders.{AreImaged, FlushesNone, StoreSweeps};
 ghost use Rattle.hl.specs.Openings.{was_refused};
-ghost use Rattle.hl.specs.Crews.{can_serve, crew_of, riders_of};
+ghost use Rattle.hl.specs.Crews.{can_serve, crew_of, riders_of, writers_of};
 
 use crate::log::Log;
 use crate::refused::Refused;
@@ -129,7 +130,7 @@ pub struct CrewReport<L: Realm, W> {
 impl<L: Realm, W> Crew<L, W> {
     /// Serves a log until its stop is given: a flusher, two writers and a cleaner, each in a thread
     /// of its own. [`CrewReport::of`] gives the crew back out of what this returns, which also tells the duty's orders.
-    /// Of what the crew stored the same is known as at [`serve`](fn@serve).
+    /// Of what the crew stored and flushed the same is known as at [`serve`](fn@serve).
     ///
     /// Faults, with the crew handed back: `Size` if the duty was checked for another number of
     /// frames; `OutOfMemory` if memory or a thread was refused. What was done until then stays
@@ -155,7 +156,10 @@ impl<L: Realm, W> Crew<L, W> {
         ensures memory { can_serve log.now.sizes duty ≡ true
             → IfErr result (λ refused. refused.fault ≡ OutOfMemory) }
         ensures orders { IfOk result (λ end. end.orders ≡ duty_orders duty) }
-        ensures stores { StoreToClean (riders_of self.riders) → StoreToClean (crew_of result) }
+        ensures sweeps { let sizes = log.now.sizes
+            in StoreSweeps sizes (riders_of self.riders) → StoreSweeps sizes (crew_of result) }
+        ensures images { AllByRecursion FlushesNone (riders_of self.riders)
+            → AreImaged W.has log.now.sizes (crew_of result) (writers_of result) }
     {
         if !is_for(duty, log.params()) {
             return Err(Refused {
@@ -237,19 +241,20 @@ pub(crate) struct Served {
     orders: Orders,
 }
 
-/// The riders of a crew, and whether it has served or why it was refused. Its writers are dropped.
-pub(crate) fn parted<L: Realm, W: Drop>(
+/// A crew, and whether it has served or why it was refused.
+pub(crate) fn parted<L: Realm, W>(
     end: Result<CrewEnd<L, W>, Refused<Crew<L, W>>>,
-) -> (CrewRiders<L>, Result<Served, Fault>)
-    ensures riders { riders_of result.0 ≡ crew_of end }
+) -> (Crew<L, W>, Result<Served, Fault>)
+    ensures riders { riders_of result.0.riders ≡ crew_of end }
+    ensures writers { result.0.first ∷ result.0.second ∷ [] ≡ writers_of end }
     ensures served { MatchResult end (λ end. result.1 ≡ Ok (record { orders = end.orders }))
         (λ refused. result.1 ≡ Err refused.fault) }
 {
     match end {
         Ok(end) => {
             let orders = end.orders();
-            (CrewReport::of(end).crew.riders, Ok(Served { orders }))
+            (CrewReport::of(end).crew, Ok(Served { orders }))
         }
-        Err(Refused { fault, back }) => (back.riders, Err(fault)),
+        Err(Refused { fault, back }) => (back, Err(fault)),
     }
 }

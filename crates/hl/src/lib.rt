@@ -8,11 +8,15 @@
 //! |---|---|
 //! | to open a log, use it and close it | [`with_log`], with an [`Opening`] and a [`Part`] of your own |
 //! | the same with threads and a crew | [`with_threads`], with a [`Work`] of your own and a [`Duty`] |
+//! | the same with a device in memory that comes back | [`with_memory`], with a [`MemoryDevice`] |
 //! | to place, store and load words in a thread | a [`Session`], which a [`Rider`] enters |
+//! | to try again what was refused for now, to wait for the others | [`attempt`], [`Session::help`], [`Session::wait`] |
+//! | to leave the slot while a thread does something else | [`Session::suspend`], which returns a [`Resting`] |
 //! | to place small records without the lock | a [`Lease`], which [`Session::lease`] returns |
 //! | pages written and frames freed behind the threads | a [`Crew`], by a [`Duty`], with two page writers, until its [`Stop`] is given |
 //! | to know why a call was refused, and what it was handed | [`Fault`], [`Refused`] |
 //! | jobs that run once all threads have moved on | a [`Task`], the `Job` of your [`Work`] or [`Part`], which [`Session::bump`] stores |
+//! | to see what a log is at, and who holds it up | [`report`](fn@report) |
 //! | the log's own calls (raises, shifts, pages by hand) | the methods of [`Log`], which is a [`Domain`] |
 //! | the forms for one thread, or under a lock of your own | `hl_cells`, `hl_core`: they aren't re-exported here |
 //!
@@ -21,11 +25,14 @@
 #![tactic(auto)]
 
 mod crew;
+pub mod laws;
 mod log;
+mod memory;
 mod open;
 mod opening;
 mod part;
 mod refused;
+mod reports;
 mod session;
 mod sink;
 mod threads;
@@ -44,9 +51,11 @@ pub use hl_laws::Base;
 pub use hl_model::{Fault, HasSizes, Params, RawSizes, Reply, Six, Sizes, Snapshot, Step, View};
 pub use hl_words::{OffsetWords, Past, Realm, Rider, RiderView, Seed, Touch, Words};
 pub use log::Log;
+pub use memory::{MemoryDevice, Written, with_memory};
 pub use open::{Closed, with_log};
 pub use opening::Opening;
 pub use part::Part;
 pub use refused::Refused;
-pub use session::Session;
+pub use reports::report;
+pub use session::{Helping, Resting, Session, attempt};
 pub use threads::{Outs, Work, with_threads};

@@ -8,9 +8,14 @@ ghost use Rattle.hl_keeper.specs.Leases.{placed};
 ghost use Rattle.hl_domain.specs.Domains.{pass_call, with_held, after_news, stays_current, MakesUnderLock, Refreshed};
 ghost use Rattle.hl.specs.Sessions.{with_pass, Asked, Entered, Left};
 
+mod help;
 mod pasts;
 mod records;
+mod rest;
 mod rider;
+mod room;
+mod tries;
+mod waiting;
 mod words;
 
 use crate::log::Log;
@@ -22,8 +27,10 @@ use hl_domain::{Lease, Pass};
 use hl_epoch::Epochs;
 use hl_model::{Fault, View};
 use hl_words::{Realm, Rider};
+pub use rest::Resting;
 use std::marker::Model;
 use std::sync::Wait;
+pub use tries::{Helping, attempt};
 
 /// A protected thread: its pass, with the log and the runtime that the pass's calls need. What is
 /// of another log doesn't compile with it.

@@ -1,21 +1,23 @@
 //! A log that threads use beside a crew, opened and closed by one call.
-ghost use Rattle.std.specs.Prelude.{◌≡◌, ◌++◌, ◌≤◌, ℕ, List, map, length, true, false, Err, IsOk, IfOk, IfErr, MatchResult, ⊤};
+ghost use Rattle.std.specs.List.{AllByRecursion};
+ghost use Rattle.std.specs.Prelude.{◌≡◌, ◌++◌, ◌≤◌, ℕ, List, map, length, true, false, Some, is_some, Err, IsOk, IfOk, IfErr, MatchResult, ⊤};
 ghost use Rattle.hl_model.specs.declared.fault.Fault.TheVariants.{OutOfMemory, Size};
 ghost use Rattle.hl_words.specs.States.{IsSeedOf, new_riders};
-ghost use Rattle.hl_crew.specs.Ordered.{duty_orders};
-ghost use Rattle.hl_crew.specs.Sweeps.{StoreToClean};
+ghost use Rattle.hl_crew.specs.Riders.{FlushesNone, StoreSweeps};
 ghost use Rattle.hl.specs.Openings.{of_sizes, opened_as, IsInRange};
 ghost use Rattle.hl.specs.Sessions.{SessionState};
 ghost use Rattle.hl.specs.Crews.{can_run, can_serve, riders_of};
-ghost use Rattle.hl.specs.Closings.{rider_at, IsClosed, Tells, AreReturned, AreAllReturned};
+ghost use Rattle.hl.specs.Closings.{rider_at, IsClosed, Tells, AreReturned, FlushesTaken, AreAllReturned, AreLeft};
+ghost use Rattle.hl.specs.Devices.{device_has};
 
 use crate::crew::{Crew, CrewRiders, Served, is_for, parted};
 use crate::log::Log;
+use crate::memory::MemoryDevice;
 use crate::open::Closed;
 use crate::opening::Opening;
 use crate::refused::Refused;
 use crate::session::Session;
-use crate::sink::Sink;
+use crate::sink::{Named, Sink};
 use hl_action::Task;
 use hl_crew::{Duty, OpenGate, Stop};
 use hl_model::{Fault, HasSizes, Sizes};
@@ -70,8 +72,11 @@ type Worked<L, T> = (Result<T, Fault>, Rider<L>);
 /// stand in their order before the crew's four. Each place holds what that thread returned, and then its rider, new at
 /// first, entered a session of this log, was in it as `Work::returns` says, and left it. Or it holds the fault by which
 /// the rider was refused its session, or the thread, once it had run, couldn't leave its own. So what a thread's calls
-/// met and did is tied to the one list of the ending. Of the crew's riders none stored into a cell but one whose calls took
-/// a page to clean: where no page was closed, the threads alone changed words.
+/// met and did is tied to the one list of the ending.
+///
+/// The crew's riders stored into cells only to sweep pages that their calls took to clean: where no page was closed, the
+/// threads alone changed words. Of each page that they flushed `Work::took` says that the device took its image, and the
+/// words of that image are the page's, by `hl_images::laws::flushed_is_imaged`.
 ///
 /// If the crew's own thread can't be made, the riders work without a crew, and it serves after them: a rider that waits
 /// for a frame then waits for good.
@@ -91,29 +96,35 @@ pub fn with_threads<R: Threads + Wait + Sync, P: Work<R> + Sync, S: HasSizes>(
     ensures memory { can_run (of_sizes S.sizes_of opening) duty ≡ true
         → IfErr result (λ fault. fault ≡ OutOfMemory) }
     ensures closed { let o = of_sizes S.sizes_of opening
-        in IfOk result (IsClosed o (AreAllReturned P.Job (opened_as o) (P.returns work.now))) }
+        in IfOk result (IsClosed o (AreAllReturned P.Job (opened_as o) (P.returns work.now) (P.took work.now))) }
 {
-    threads_of_sizes(rt, alloc, opening.of_sizes(), duty, work)
+    let Closed { out, ending } = threads_of_sizes(rt, alloc, opening.of_sizes(), duty, work, None)?;
+    Ok(Closed { out: out.0, ending })
 }
 
-// The same, of wide sizes.
-fn threads_of_sizes<R: Threads + Wait + Sync, P: Work<R> + Sync>(
+// What threads left, and the device in memory, if there is one.
+type Left<T> = (Result<Outs<T>, Fault>, Option<MemoryDevice>);
+
+/// The threads, their log and the crew, which writes its pages to this device, or else to that of the work.
+pub(crate) fn threads_of_sizes<R: Threads + Wait + Sync, P: Work<R> + Sync>(
     rt: &R,
     alloc: Global,
     opening: Opening<Sizes>,
     duty: Duty,
     work: &P,
-) -> Result<Closed<Result<Outs<P::Out>, Fault>, P::Job>, Fault>
+    device: Option<MemoryDevice>,
+) -> Result<Closed<Left<P::Out>, P::Job>, Fault>
     ensures size { can_run opening duty ≡ false → result ≡ Err Size }
     ensures memory { can_run opening duty ≡ true → IfErr result (λ fault. fault ≡ OutOfMemory) }
+    ensures kind { IfOk result (λ closed. is_some closed.out.1 ≡ is_some device) }
     ensures closed { IfOk result (IsClosed opening
-        (AreAllReturned P.Job (opened_as opening) (P.returns work.now))) }
+        (AreLeft P.Job (opened_as opening) (P.returns work.now) (P.took work.now))) }
 {
     if !has_room(&opening, duty) {
         return Err(Fault::Size);
     }
     let seed = Seed::make(alloc, opening.params, opening.riders as usize)?;
-    threads_over::<Brand, R, P>(rt, alloc, seed, opening, duty, work)
+    threads_over::<Brand, R, P>(rt, alloc, seed, opening, duty, work, device)
 }
 
 // Whether the opening is in range, has riders for the crew, and as many frames as its duty was checked for.
@@ -135,7 +146,8 @@ fn threads_over<L: Realm + Send + Sync, R: Threads + Wait + Sync, P: Work<R> + S
     opening: Opening<Sizes>,
     duty: Duty,
     work: &P,
-) -> Result<Closed<Result<Outs<P::Out>, Fault>, P::Job>, Fault>
+    device: Option<MemoryDevice>,
+) -> Result<Closed<Left<P::Out>, P::Job>, Fault>
     requires seed { IsSeedOf L.name L.parts L.table seed }
     requires sizes { (seed.sizes ≡ opening.params) × (seed.riders ≡ opening.riders) }
     requires named { (seed.sizes ≡ L.sizes) × (opening.stamp ≡ L.stamp) × (opening.journal ≡ L.limit) }
@@ -143,11 +155,12 @@ fn threads_over<L: Realm + Send + Sync, R: Threads + Wait + Sync, P: Work<R> + S
     requires four { 4 ≤ opening.riders }
     requires duty { can_serve opening.params duty ≡ true }
     ensures memory { IfErr result (λ fault. fault ≡ OutOfMemory) }
+    ensures kind { IfOk result (λ closed. is_some closed.out.1 ≡ is_some device) }
     ensures closed { IfOk result (IsClosed opening
-        (AreAllReturned P.Job (opened_as opening) (P.returns work.now))) }
+        (AreLeft P.Job (opened_as opening) (P.returns work.now) (P.took work.now))) }
 {
     let (log, riders) = Log::<L, P::Job>::open(alloc, seed, opening.journal, opening.stamp)?;
-    let (out, riders) = run_all(rt, alloc, &log, riders, duty, work);
+    let (out, riders) = run_all(rt, alloc, &log, riders, duty, work, device);
     let ending = match log.close(riders) {
         Ok(ending) => Ok(ending),
         Err((fault, _log, _riders)) => Err(fault),
@@ -163,24 +176,30 @@ fn run_all<L: Realm + Send + Sync, R: Threads + Wait + Sync, P: Work<R> + Sync>(
     mut riders: Vec<Rider<L>>,
     duty: Duty,
     work: &P,
-) -> (Result<Outs<P::Out>, Fault>, Vec<Rider<L>>)
+    device: Option<MemoryDevice>,
+) -> (Left<P::Out>, Vec<Rider<L>>)
     requires new { riders.items ≡ new_riders log.now.riders }
     requires four { 4 ≤ log.now.riders }
     requires duty { can_serve log.now.sizes duty ≡ true }
-    ensures { AreAllReturned P.Job log.now (P.returns work.now) result.0 result.1.items }
+    ensures kind { is_some result.0.1 ≡ is_some device }
+    ensures left { AreLeft P.Job log.now (P.returns work.now) (P.took work.now) result.0 result.1.items }
 {
     let Some(crew) = CrewRiders::take_from(&mut riders) else {
-        return (Err(Fault::Size), riders);
+        return ((Err(Fault::Size), device), riders);
     };
     let stop = Stop::new();
     // If the first one's thread can't be made, it runs after the second: a crew that ran first would wait for its stop.
-    let ((crew, served), worked) = thread::join(
+    let ((crew, device, served), worked) = thread::join(
         rt,
-        || -> (CrewRiders<L>, Result<Served, Fault>)
+        || -> (CrewRiders<L>, Option<MemoryDevice>, Result<Served, Fault>)
             requires { can_serve log.now.sizes duty ≡ true }
-            ensures memory { IfErr result.1 (λ fault. fault ≡ OutOfMemory) }
-            ensures stores { StoreToClean (riders_of crew) → StoreToClean (riders_of result.0) }
-        { serve_behind(rt, alloc, log, crew, duty, work, &stop) },
+            ensures memory { IfErr result.2 (λ fault. fault ≡ OutOfMemory) }
+            ensures sweeps { StoreSweeps log.entry.now.sizes (riders_of crew)
+                → StoreSweeps log.entry.now.sizes (riders_of result.0) }
+            ensures images { AllByRecursion FlushesNone (riders_of crew) → AllByRecursion
+                (FlushesTaken (device_has (P.took work.entry.now) result.1) log.entry.now.sizes) (riders_of result.0) }
+            ensures kind { is_some result.1 ≡ is_some device }
+        { serve_behind(rt, alloc, log, crew, duty, work, device, &stop) },
         || -> Result<Vec<Worked<L, P::Out>>, AllocError>
             ensures { IfOk result (λ worked. (length worked.items ≡ length riders.items)
                 × AreReturned P.Job log.entry.now (P.returns work.entry.now) (rider_at riders.items)
@@ -188,11 +207,11 @@ fn run_all<L: Realm + Send + Sync, R: Threads + Wait + Sync, P: Work<R> + Sync>(
         { work_to_the_stop(rt, alloc, log, riders, work, &stop) },
     );
     let Ok(worked) = worked else {
-        return (Err(Fault::OutOfMemory), Vec::new(alloc));
+        return ((Err(Fault::OutOfMemory), device), Vec::new(alloc));
     };
     match gather_all(alloc, worked, crew, served) {
-        Ok(all) => all,
-        Err(fault) => (Err(fault), Vec::new(alloc)),
+        Ok(all) => ((all.0, device), all.1),
+        Err(fault) => ((Err(fault), device), Vec::new(alloc)),
     }
 }
 
@@ -301,7 +320,7 @@ fn work_one<L: Realm + Send + Sync, R: Wait, P: Work<R>>(
     }
 }
 
-// The crew serves; its riders come back even if it was refused.
+// The crew serves; its riders and the device come back even if it was refused.
 fn serve_behind<L: Realm + Send + Sync, R: Threads + Wait + Sync, P: Work<R> + Sync>(
     rt: &R,
     alloc: Global,
@@ -309,19 +328,54 @@ fn serve_behind<L: Realm + Send + Sync, R: Threads + Wait + Sync, P: Work<R> + S
     riders: CrewRiders<L>,
     duty: Duty,
     work: &P,
+    device: Option<MemoryDevice>,
     stop: &Stop,
-) -> (CrewRiders<L>, Result<Served, Fault>)
+) -> (CrewRiders<L>, Option<MemoryDevice>, Result<Served, Fault>)
     requires { can_serve log.now.sizes duty ≡ true }
-    ensures served { MatchResult result.1
-        (λ served. served.orders ≡ duty_orders duty) (λ fault. fault ≡ OutOfMemory) }
-    ensures stores { StoreToClean (riders_of riders) → StoreToClean (riders_of result.0) }
+    ensures memory { IfErr result.2 (λ fault. fault ≡ OutOfMemory) }
+    ensures sweeps { StoreSweeps log.now.sizes (riders_of riders)
+        → StoreSweeps log.now.sizes (riders_of result.0) }
+    ensures images { AllByRecursion FlushesNone (riders_of riders) → AllByRecursion
+        (FlushesTaken (device_has (P.took work.now) result.1) log.now.sizes) (riders_of result.0) }
+    ensures kind { is_some result.1 ≡ is_some device }
 {
-    let first = Sink::new(rt, work);
-    let second = Sink::new(rt, work);
+    serve_named::<Brand, L, R, P>(rt, alloc, log, riders, duty, work, device, stop)
+}
+
+// The same, where the page writers name the work.
+fn serve_named<
+    T: Named<P> + Send,
+    L: Realm + Send + Sync,
+    R: Threads + Wait + Sync,
+    P: Work<R> + Sync,
+>(
+    rt: &R,
+    alloc: Global,
+    log: &Log<L, P::Job>,
+    riders: CrewRiders<L>,
+    duty: Duty,
+    work: &P,
+    device: Option<MemoryDevice>,
+    stop: &Stop,
+) -> (CrewRiders<L>, Option<MemoryDevice>, Result<Served, Fault>)
+    requires duty { can_serve log.now.sizes duty ≡ true }
+    requires work { T.work ≡ Some work.now }
+    requires kind { T.in_memory ≡ is_some device }
+    ensures memory { IfErr result.2 (λ fault. fault ≡ OutOfMemory) }
+    ensures sweeps { StoreSweeps log.now.sizes (riders_of riders)
+        → StoreSweeps log.now.sizes (riders_of result.0) }
+    ensures images { AllByRecursion FlushesNone (riders_of riders) → AllByRecursion
+        (FlushesTaken (device_has (P.took work.now) result.1) log.now.sizes) (riders_of result.0) }
+    ensures kind { is_some result.1 ≡ is_some device }
+{
+    let (first, second) = MemoryDevice::into_parts(device);
     let crew = Crew {
         riders,
-        first,
-        second,
+        first: Sink::<R, P, T>::new(rt, work, first),
+        second: Sink::<R, P, T>::new(rt, work, second),
     };
-    parted(crew.serve(rt, alloc, log, &OpenGate, duty, stop))
+    let (crew, served) = parted(crew.serve(rt, alloc, log, &OpenGate, duty, stop));
+    let first = crew.first.into_memory();
+    let device = MemoryDevice::of_parts(first, crew.second.into_memory());
+    (crew.riders, device, served)
 }

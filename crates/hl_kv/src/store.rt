@@ -17,7 +17,7 @@
 ghost use Rattle.std.specs.Prelude.{◌<◌, vec_len};
 
 use crate::device::{Device, PAGE_SIZE, PLACES, zeros};
-use hl::{Fault, Lease, Realm, Refused, Session};
+use hl::{Fault, Lease, Realm, Session};
 use std::alloc::Global;
 use std::sync::Wait;
 use std::sync::atomic::AtomicU64;
@@ -270,23 +270,16 @@ impl<'a, 'b, R: Wait + Clock, L: Realm> Seat<'a, 'b, R, L> {
         stored
     }
 
-    // Lets others go on, and wakes the crew if it sleeps. If the oldest action is safe, it is run here.
+    // Helps the log on; naps if nothing was ready. A full journal is cut.
     fn wait(&mut self) -> Result<(), Fault> {
-        self.session.ring();
-        let Ok(ready) = self.session.take() else {
-            thread::sleep(self.rt, Duration::from_micros(50));
-            return Ok(());
-        };
-        let mut ran = ready.run();
-        for _ in 0..TRIES {
-            match self.session.done(ran) {
-                Ok(_) => return Ok(()),
-                Err(Refused { back, .. }) => ran = back,
+        match self.session.help() {
+            Ok(true) => {}
+            Ok(false) => thread::sleep(self.rt, Duration::from_micros(50)),
+            Err(Fault::JournalFull) => {
+                self.session.cut();
             }
-            // If it stayed taken, the log would stand still.
-            self.session.cut();
+            Err(fault) => return Err(fault),
         }
-        ran.forsake();
-        Err(Fault::JournalFull)
+        Ok(())
     }
 }

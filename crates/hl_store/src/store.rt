@@ -1,8 +1,7 @@
-use hl::{Fault, Realm, Session};
+use hl::{Fault, Realm, Session, attempt};
 use std::alloc::{AllocError, Global};
 use std::collections::HashMap;
 use std::sync::{Mutex, MutexGuard, Wait};
-use std::thread;
 
 /// How many parts the index has, each under a lock of its own.
 const BUCKETS: usize = 16;
@@ -53,14 +52,17 @@ impl Store {
         session: &mut Session<R, L>,
         key: u64,
     ) -> Result<Option<u64>, Fault> {
-        let bucket = self.lock(rt, key)?;
-        match bucket.get(&key) {
-            Some(address) => load(session, *address).map(Some),
-            None => Ok(None),
-        }
+        attempt(session, TRIES, |session| {
+            let bucket = self.lock(rt, key)?;
+            match bucket.get(&key) {
+                Some(address) => session.load(*address).map(Some),
+                None => Ok(None),
+            }
+        })
     }
 
-    /// Changes the value of a key: in its place where the session may still write there, else in a new record.
+    /// Changes the value of a key: in its place where the session may still write there, else in a new record. Between two
+    /// tries the bucket is let go: a thread that waits for it can't refresh, and while it doesn't, no frame comes free.
     pub(crate) fn change<R: Wait, L: Realm>(
         &self,
         rt: &R,
@@ -68,19 +70,9 @@ impl Store {
         key: u64,
         change: Change,
     ) -> Result<(), Fault> {
-        for _ in 0..TRIES {
-            match self.change_once(rt, session, key, change) {
-                // The bucket is let go of first: a thread that waits for it can't refresh, and while it doesn't, no
-                // frame comes free.
-                Err(Fault::Busy { .. } | Fault::TouchesFull) => {
-                    session.ring();
-                    session.refresh()?;
-                    thread::yield_now();
-                }
-                answer => return answer,
-            }
-        }
-        self.change_once(rt, session, key, change)
+        attempt(session, TRIES, |session| {
+            self.change_once(rt, session, key, change)
+        })
     }
 
     // The same, tried once, with the key's bucket held.
@@ -94,16 +86,15 @@ impl Store {
         let mut bucket = self.lock(rt, key)?;
         let value = match bucket.get(&key) {
             Some(address) => {
-                let address = *address;
-                let value = change.of(Some(load(session, address)?));
-                match session.store(address, value) {
+                let value = change.of(Some(session.load(*address)?));
+                match session.store(*address, value) {
                     Err(Fault::Below { .. }) => value,
                     answer => return answer,
                 }
             }
             None => change.of(None),
         };
-        let address = place(session, key, value)?;
+        let address = session.append(&[key, value])? + 1;
         match bucket.insert(key, address) {
             Ok(_) => Ok(()),
             Err(_) => Err(Fault::OutOfMemory),
@@ -114,25 +105,5 @@ impl Store {
     fn lock<'a, R: Wait>(&'a self, rt: &R, key: u64) -> Result<MutexGuard<'a, Bucket>, Fault> {
         let bucket = self.buckets.get(key as usize % BUCKETS).ok_or(Fault::Size)?;
         Ok(bucket.lock(rt))
-    }
-}
-
-// Places a record at the tail: the address of its value.
-fn place<R: Wait, L: Realm>(
-    session: &mut Session<R, L>,
-    key: u64,
-    value: u64,
-) -> Result<u64, Fault> {
-    Ok(session.append(&[key, value])? + 1)
-}
-
-// Loads a value that another session may have placed since this one refreshed.
-fn load<R: Wait, L: Realm>(session: &mut Session<R, L>, address: u64) -> Result<u64, Fault> {
-    match session.load(address) {
-        Err(Fault::Beyond { .. }) => {
-            session.refresh()?;
-            session.load(address)
-        }
-        answer => answer,
     }
 }

@@ -2,6 +2,7 @@
 //! devices that fail, no fault at the greatest numbers, drops, printed text, exact turns, and one happy path of
 //! what the built program doesn't call. Each module tries the crate that it is named after, `tables` both tables
 //! of epochs, `report` that of `hl_monitor`, `refused` the type of `hl` for refusals, `log` its threads, `crew` its crew,
+//! `images` what that writes, `daily` what a session does between two tries,
 //! `tickets` and `counters` the calls of `hl_tickets` and `hl_counters` once. What else a clause says is tested nowhere;
 //! that the clauses mean what was meant is shown by the examples that the built program is run on.
 //!
@@ -17,11 +18,15 @@ mod counters;
 #[cfg(test)]
 mod crew;
 #[cfg(test)]
+mod daily;
+#[cfg(test)]
 mod drain;
 #[cfg(test)]
 mod frames;
 #[cfg(test)]
 mod image;
+#[cfg(test)]
+mod images;
 #[cfg(test)]
 mod line;
 #[cfg(test)]

@@ -134,7 +134,7 @@ drawn_of log number old new ticket s =
       ticket_is = s.ran.ticket_is;
     }
 
-module _ {F J : Type 0} (o : Opening Sizes) (outs : List (Result (Result ℕ Fault) Fault)) (riders : List RiderState) (ending : EndingState F) (all : AllReturned J (opened_as o) bumps_once outs riders) (end : IsEnding o.params riders ending) where
+module _ {F J : Type 0} (Took : ℕ → List ℕ → Type 0) (o : Opening Sizes) (outs : List (Result (Result ℕ Fault) Fault)) (riders : List RiderState) (ending : EndingState F) (all : AllReturned J (opened_as o) bumps_once Took outs riders) (end : IsEnding o.params riders ending) where
   abbrev calls_of : List (List Entry)
   calls_of = map (λ r. r.calls) riders
 
@@ -179,15 +179,15 @@ module _ {F J : Type 0} (o : Opening Sizes) (outs : List (Result (Result ℕ Fau
       }
 
 -- what the threads' log left
-pub tickets_left : {F : Type 0} (J : Type 0) (o : Opening Sizes) (result : Result (Closed (Result (Vec (Result (Result ℕ Fault) Fault) Global) Fault) F) Fault)
-    → IfOk result (IsClosed o (AreAllReturned J (opened_as o) bumps_once))
+pub tickets_left : {F : Type 0} (J : Type 0) (Took : ℕ → List ℕ → Type 0) (o : Opening Sizes) (result : Result (Closed (Result (Vec (Result (Result ℕ Fault) Fault) Global) Fault) F) Fault)
+    → IfOk result (IsClosed o (AreAllReturned J (opened_as o) bumps_once Took))
     → IfOk result (λ drawn. IfOk drawn.out (λ outs. IfOk drawn.ending (λ ending. AreTickets o.riders outs.items ending.snapshot.epoch)))
-tickets_left {F} J o (Ok closed) told = by_parts closed.out closed.ending told.riders told.left told.ending
+tickets_left {F} J Took o (Ok closed) told = by_parts closed.out closed.ending told.riders told.left told.ending
   where
-    by_parts : (out : Result (Vec (Result (Result ℕ Fault) Fault) Global) Fault) (ending : Result (EndingState F) Fault) (riders : List RiderState) → AreAllReturned J (opened_as o) bumps_once out riders
+    by_parts : (out : Result (Vec (Result (Result ℕ Fault) Fault) Global) Fault) (ending : Result (EndingState F) Fault) (riders : List RiderState) → AreAllReturned J (opened_as o) bumps_once Took out riders
         → MatchResult ending (λ ending. (length riders ≡ o.riders) × IsEnding o.params riders ending) (λ fault. (fault ≡ Stranger o.stamp) × (length riders ≢ o.riders))
         → IfOk out (λ outs. IfOk ending (λ ending. AreTickets o.riders outs.items ending.snapshot.epoch))
-    by_parts (Ok outs) (Ok ending) riders all end = tickets_of o outs.items riders ending all end.1
+    by_parts (Ok outs) (Ok ending) riders all end = tickets_of Took o outs.items riders ending all end.1
     by_parts (Ok outs) (Err fault) riders all end = tt
     by_parts (Err fault) ending riders all end = tt
-tickets_left J o (Err fault) told = tt
+tickets_left J Took o (Err fault) told = tt

@@ -79,7 +79,7 @@ drew_of Draws log number old new answer at s draws is =
     }
 
 -- what the threads' log left, where both drew
-module _ {J : Type 0} (o : Opening Sizes) (outs : List (Result (Option Answer) Fault)) (riders : List RiderState) (all : AllReturned J (opened_as o) answers outs riders) where
+module _ {J : Type 0} (Took : ℕ → List ℕ → Type 0) (o : Opening Sizes) (outs : List (Result (Option Answer) Fault)) (riders : List RiderState) (all : AllReturned J (opened_as o) answers Took outs riders) where
   stood_at : (number : ℕ) (answer : Answer) → slice_get outs number ≡ Some (Ok (Some answer)) → Stood J (opened_as o) (answers number) (new_rider number) (Ok (rider_at riders number)) (Some answer)
   stood_at number answer at =
       let told = all.each number (Ok (Some answer)) (slice_get_within outs number (Ok (Some answer)) at) in
@@ -106,14 +106,14 @@ module _ {J : Type 0} (o : Opening Sizes) (outs : List (Result (Option Answer) F
       }
 
 -- the same of what `with_threads` returned
-pub turns_left : (o : Opening Sizes) (result : Result (Closed (Result (Vec (Result (Option Answer) Fault) Global) Fault) NoJob) Fault) (closed : Closed (Result (Vec (Result (Option Answer) Fault) Global) Fault) NoJob)
+pub turns_left : (Took : ℕ → List ℕ → Type 0) (o : Opening Sizes) (result : Result (Closed (Result (Vec (Result (Option Answer) Fault) Global) Fault) NoJob) Fault) (closed : Closed (Result (Vec (Result (Option Answer) Fault) Global) Fault) NoJob)
     (outs : Vec (Result (Option Answer) Fault) Global) (ending : EndingState NoJob) (first second : Answer)
     → result ≡ Ok closed → closed.out ≡ Ok outs → closed.ending ≡ Ok ending → slice_get outs.items 0 ≡ Some (Ok (Some first)) → slice_get outs.items 1 ≡ Some (Ok (Some second)) → first.steps ≡ second.steps → LaterCallsBegin NoJob
-    → IfOk result (IsClosed o (AreAllReturned NoJob (opened_as o) answers))
+    → IfOk result (IsClosed o (AreAllReturned NoJob (opened_as o) answers Took))
     → AreInTurn o (record { first = first.ticket; second = second.ticket; ending = ending })
-turns_left o result closed outs ending first second opened outs_are ending_is at also same law told =
-    let left : IsClosed o (AreAllReturned NoJob (opened_as o) answers) closed = subst (λ k. IfOk k (IsClosed o (AreAllReturned NoJob (opened_as o) answers))) opened told in
+turns_left Took o result closed outs ending first second opened outs_are ending_is at also same law told =
+    let left : IsClosed o (AreAllReturned NoJob (opened_as o) answers Took) closed = subst (λ k. IfOk k (IsClosed o (AreAllReturned NoJob (opened_as o) answers Took))) opened told in
     let riders = left.riders in
-    let all : AllReturned NoJob (opened_as o) answers outs.items riders = subst (λ k. AreAllReturned NoJob (opened_as o) answers k riders) outs_are left.left in
+    let all : AllReturned NoJob (opened_as o) answers Took outs.items riders = subst (λ k. AreAllReturned NoJob (opened_as o) answers Took k riders) outs_are left.left in
     let end = subst (λ k. MatchResult k (λ ending. (length riders ≡ o.riders) × IsEnding o.params riders ending) (λ fault. (fault ≡ Stranger o.stamp) × (length riders ≢ o.riders))) ending_is left.ending in
-    in_turn o outs.items riders all ending first second law end.1 at also same
+    in_turn Took o outs.items riders all ending first second law end.1 at also same

@@ -1,10 +1,10 @@
-use Rattle.std.proofs.Common.{◌≡◌, ◌+◌, ◌-◌, ◌<◌, ◌≤◌, length, take, set, Some, Err, refl, sym, ap, subst, ◌∙◌, arith}
+use Rattle.std.proofs.Common.{◌≡◌, ◌-◌, ◌<◌, ◌≤◌, length, take, Some, Err, sym, ap, subst, ◌∙◌}
 use Rattle.std.specs.Prelude.{None}
 use Rattle.std.proofs.lemmas.List.{length-set}
 use Rattle.hl_model.specs.declared.fault.Fault.TheVariants.{Beyond, Evicted}
 use Rattle.hl_model.specs.declared.view.View.{View}
 use Rattle.hl_model.specs.Replies.{unless_fault}
-use Rattle.hl_keeper.specs.Passes.{seen, load_fault}
+use Rattle.hl_keeper.specs.Passes.{seen}
 use Rattle.hl.specs.Sessions.{SessionState}
 use Rattle.hl.proofs.RecordLaws.{row_evicted, row_beyond, row_free, load_free, loads_see, session_next}
 use Rattle.hl.proofs.session.Session.load_into.Goals as goal

@@ -1,0 +1,33 @@
+use Rattle.std.proofs.Common.{suc, ap, ◌∙◌}
+use Rattle.hl.specs.Sessions.{SessionState}
+use Rattle.hl.proofs.WaitLaws.{round_made}
+use Rattle.hl.proofs.session.Session.wait.Goals as goal
+
+pub loop-preserved : goal.loop-preserved
+loop-preserved g c =
+    let kept = c.safe-safe.ensures.kept in
+    let before = c.loop.invariant in (
+      tt,
+      tt,
+      c.in-Ok.ensures.log ∙ ap (λ (s : SessionState). s.log) kept ∙ before.2,
+      c.in-Ok.ensures.slot ∙ ap (λ (s : SessionState). s.pass.slot) kept ∙ before.3,
+      (
+        suc before.4.0,
+        (
+          c.loop.self.pass,
+          c.in-Ok.field-0,
+          before.4.1,
+          round_made g.row.F.Denot c.args.self.now.log g.F.Task.gives g.P.Promise.keeps c.args.ticket c.safe-safe.result c.loop.self c.safe-safe.new.self c.help_or_nap.new.self _ before.2 c.if-ticket-safe.false c.safe-safe.ensures.met kept c.in-Ok.ensures.helped,
+        ),
+      ),
+    )
+
+pub returns-in-Err-clause-waits : goal.returns-in-Err-clause-waits
+returns-in-Err-clause-waits g c =
+    let before = c.loop.invariant in
+    record {
+      rounds = before.4.0;
+      last = c.loop.self.pass;
+      before = before.4.1;
+      ended = round_made g.row.F.Denot c.args.self.now.log g.F.Task.gives g.P.Promise.keeps c.args.ticket c.safe-safe.result c.loop.self c.safe-safe.new.self c.help_or_nap.new.self _ before.2 c.if-ticket-safe.false c.safe-safe.ensures.met c.safe-safe.ensures.kept c.in-Err.ensures.helped;
+    }
