@@ -1,7 +1,7 @@
--- Where nothing is closed, no page was taken to clean, and whoever stores only to clean stored nothing.
+-- Where nothing is closed, no page was taken to clean, and whoever stores only to sweep stored nothing.
 use Rattle.std.proofs.Common.{◌≡◌, ℕ, ◌/◌, ◌<◌, Bool, true, false, List, [], ◌∷◌, ◌++◌, refl, sym, ap, ◌∙◌, subst, arith}
 use Rattle.std.specs.Prelude.{◌||◌, Option, Some, None}
-use Rattle.std.specs.List.{AllByRecursion, list_any}
+use Rattle.std.specs.List.{AllByRecursion as Every, list_any}
 use Rattle.std.proofs.lemmas.List.Folds.{list_any-append}
 use Rattle.std.proofs.Math.Nat.{div-le_self}
 use Rattle.hl_model.specs.declared.fault.Fault.TheVariants.{NoneClosed}
@@ -15,12 +15,12 @@ use Rattle.hl_laws.proofs.BoundLaws.{closed-append}
 use Rattle.hl_laws.proofs.LawProofs.{accepted_meets_no_fault}
 use Rattle.hl_laws.proofs.WorkLaws.{next_page-parts}
 use Rattle.hl_history.specs.declared.view.Entry.{Entry}
-use Rattle.hl_history.specs.Lists.{Begins, left_by, IsOf}
+use Rattle.hl_history.specs.Lists.{Begins, entry, left_by, IsOf}
 use Rattle.hl_words.specs.declared.view.Touch.{Touch}
 use Rattle.hl_words.specs.declared.view.Touch.TheVariants.{Stored, Loaded, Changed, Called, Looked, Met}
 use Rattle.hl_words.specs.Laws.{AddsUp}
 use Rattle.hl_words.specs.States.{RiderState}
-use Rattle.hl_crew.specs.Sweeps.{has_store, has_clean_take, StoresToClean}
+use Rattle.hl_images.specs.Sweeps.{IsSweep, AreSweeps, StoresSweep}
 
 clean_only : (s : Step) → takes_to_clean s ≡ true → s ≡ CleanTake
 clean_only CleanTake h = refl
@@ -75,24 +75,21 @@ call_takes A e none begins =
     by false true c h = absurd cc
     by false false c h = refl
 
-calls_take : (A : List Step) (calls : List Entry) → list_any takes_to_clean A ≡ false → AllByRecursion (λ e. Begins (left_by e) A) calls → has_clean_take calls ≡ false
-calls_take A [] none all = refl
-calls_take A (e ∷ calls) none all = ap (λ b. b || has_clean_take calls) (call_takes A e none all.0) ∙ calls_take A calls none all.1
+-- touches that store only to sweep add nothing to any cell, where no call took a page to clean
+nothing_swept : (A : List Step) (sizes : Sizes) (cell : ℕ) (touches : List Touch) (calls : List Entry) → list_any takes_to_clean A ≡ false → Every (λ e. Begins (left_by e) A) calls → AreSweeps sizes touches calls → AddsUp cell 0 touches
+nothing_swept A sizes cell [] calls none all sweeps = refl
+nothing_swept A sizes cell (Stored d v ∷ before) calls none all sweeps =
+    let sweep : IsSweep sizes d v calls = sweeps.0 in
+    let here = subst (Every (λ e. Begins (left_by e) A)) sweep.4 all in
+    let took : list_any takes_to_clean (CleanTake ∷ []) ≡ false = call_takes A (entry sweep.2 (CleanTake ∷ [])) none here.0 in
+    absurd (cc took)
+nothing_swept A sizes cell (Loaded d v ∷ before) calls none all sweeps = nothing_swept A sizes cell before calls none all sweeps
+nothing_swept A sizes cell (Changed d found v ∷ before) calls none all sweeps = absurd sweeps
+nothing_swept A sizes cell (Called met left ∷ before) [] none all sweeps = absurd sweeps
+nothing_swept A sizes cell (Called met left ∷ before) (call ∷ calls) none all sweeps = nothing_swept A sizes cell before calls none all.1 sweeps
+nothing_swept A sizes cell (Looked which x ∷ before) calls none all sweeps = nothing_swept A sizes cell before calls none all sweeps
+nothing_swept A sizes cell (Met name count ∷ before) calls none all sweeps = nothing_swept A sizes cell before calls none all sweeps
 
--- touches without a store add nothing to any cell
-nothing_added : (cell : ℕ) (touches : List Touch) → has_store touches ≡ false → AddsUp cell 0 touches
-nothing_added cell [] none = refl
-nothing_added cell (Stored d v ∷ before) none = absurd cc
-nothing_added cell (Loaded d v ∷ before) none = nothing_added cell before none
-nothing_added cell (Changed d found v ∷ before) none = absurd cc
-nothing_added cell (Called met left ∷ before) none = nothing_added cell before none
-nothing_added cell (Looked which x ∷ before) none = nothing_added cell before none
-nothing_added cell (Met name count ∷ before) none = nothing_added cell before none
-
--- a rider of such a list that stores only to clean added nothing to any cell
-pub quiet_rider : (A : List Step) (cell : ℕ) (r : RiderState) → list_any takes_to_clean A ≡ false → IsOf A r.calls → StoresToClean r → AddsUp cell 0 r.view.touches
-quiet_rider A cell r none of stores = nothing_added cell r.view.touches (by (has_store r.view.touches) refl)
-  where
-    by : (t : Bool) → has_store r.view.touches ≡ t → has_store r.view.touches ≡ false
-    by false e = e
-    by true e = absurd (let contrary : true ≡ false = sym (stores e) ∙ calls_take A r.calls none of.begins in cc)
+-- a rider of such a list that stores only to sweep added nothing to any cell
+pub quiet_rider : (A : List Step) (sizes : Sizes) (cell : ℕ) (r : RiderState) → list_any takes_to_clean A ≡ false → IsOf A r.calls → StoresSweep sizes r → AddsUp cell 0 r.view.touches
+quiet_rider A sizes cell r none of sweeps = nothing_swept A sizes cell r.view.touches r.calls none of.begins sweeps

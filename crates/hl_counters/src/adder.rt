@@ -2,22 +2,24 @@
 ghost use Rattle.std.specs.Prelude.{◌≡◌, ◌<◌, List};
 ghost use Rattle.hl_words.specs.declared.view.Touch.{Touch as TOUCH};
 ghost use Rattle.hl_sums.specs.Adding.{AddsNothing};
-ghost use Rattle.hl_counters.specs.Counters.{AddsEach, AddsOne};
+ghost use Rattle.hl_counters.specs.Counters.{AddsEach, AddsOne, CountsOn};
 ghost use Rattle.hl_counters.specs.declared.TheConstants.{COUNTERS};
 
 use crate::{Add, COUNTERS, Sums};
 use hl::{Realm, Session};
+use hl_images::laws as images;
 use hl_words::laws;
 use std::sync::Wait;
 
-/// Makes those of the adds that are this thread's, and returns what it added to each counter.
+/// Makes those of the adds that are this thread's, and returns what it added to each counter. Nothing else is written.
 pub(crate) fn add_all<R: Wait, L: Realm>(
     session: &mut Session<R, L>,
     adds: &[Add],
     thread: u64,
 ) -> Sums
-    ensures { AddsEach session.old.log.sizes result
+    ensures sums { AddsEach session.old.log.sizes result
         session.old.pass.rider.view.touches session.new.pass.rider.view.touches }
+    ensures counts { CountsOn session.old.log.sizes session.old.pass session.new.pass }
 {
     let mut sums = [0; 4];
     place(session);
@@ -33,8 +35,10 @@ pub(crate) fn add_all<R: Wait, L: Realm>(
 // thread's own lies there or above it, so that the thread sees the counters below its tail.
 fn place<R: Wait, L: Realm>(session: &mut Session<R, L>)
     ensures touches { AddsNothing session.old.pass.rider.view.touches session.new.pass.rider.view.touches }
+    ensures counts { CountsOn session.old.log.sizes session.old.pass session.new.pass }
     ensures log { session.new.log ≡ session.old.log }
 {
+    images::passes_stay_entered();
     let _ = session.allocate(COUNTERS);
 }
 
@@ -43,6 +47,7 @@ fn add_one<R: Wait, L: Realm>(session: &mut Session<R, L>, sums: &mut Sums, add:
     ensures sums { (start : List TOUCH) → let sizes = session.old.log.sizes
         in AddsEach sizes sums.old start session.old.pass.rider.view.touches
         → AddsEach sizes sums.new start session.new.pass.rider.view.touches }
+    ensures counts { CountsOn session.old.log.sizes session.old.pass session.new.pass }
     ensures log { session.new.log ≡ session.old.log }
 {
     keep_up(session);
@@ -58,8 +63,10 @@ fn add_one<R: Wait, L: Realm>(session: &mut Session<R, L>, sums: &mut Sums, add:
 // Brings the session up to date, so that it has room for a touch. If that is refused, it goes on as it is.
 fn keep_up<R: Wait, L: Realm>(session: &mut Session<R, L>)
     ensures touches { AddsNothing session.old.pass.rider.view.touches session.new.pass.rider.view.touches }
+    ensures counts { CountsOn session.old.log.sizes session.old.pass session.new.pass }
     ensures log { session.new.log ≡ session.old.log }
 {
+    images::passes_stay_entered();
     let _ = session.keep_up();
 }
 
@@ -68,9 +75,11 @@ fn add_to<R: Wait, L: Realm>(session: &mut Session<R, L>, counter: u64, number: 
     requires { counter < COUNTERS }
     ensures added { AddsOne session.old.log.sizes counter number result
         session.old.pass.rider.view.touches session.new.pass.rider.view.touches }
+    ensures counts { CountsOn session.old.log.sizes session.old.pass session.new.pass }
     ensures log { session.new.log ≡ session.old.log }
 {
     laws::adds_add_up();
+    images::passes_stay_entered();
     match session.fetch_add(counter, number) {
         Ok(_) => true,
         Err(_) => false,

@@ -12,8 +12,8 @@
 //! | `open`, `sealed`, `flushed`, `closed`, `free` | frames by what they are at |
 //! | `steps`, `cut` | steps since the last cut, and steps cut, as the caller counts them |
 //!
-//! [`report`] writes it. Its text is `report_text` of `specs/Reports.antt`, a function of the numbers alone;
-//! `worked` has two reports computed by it.
+//! [`report`] writes it, and [`put_lines`] more lines of the kind. The report's text is `report_text` of
+//! `specs/Reports.antt`, a function of the numbers alone; `worked` has two reports computed by it.
 //!
 //! | Module | What it does |
 //! |---|---|
@@ -24,4 +24,4 @@
 mod lines;
 pub mod worked;
 
-pub use lines::report;
+pub use lines::{put_lines, report};

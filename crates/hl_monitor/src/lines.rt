@@ -52,10 +52,11 @@ pub fn report<W: Write>(
     put_lines(writer, &lines)
 }
 
-/// Writes a line for each of these labels and its number.
+/// Writes a line for each of these labels and its number: what goes behind a report. A label is ASCII, and has at most 16
+/// characters.
 ///
 /// Fault: `Stream` as for a report.
-fn put_lines<W: Write>(writer: &mut W, lines: &[(&str, u64)]) -> Result<(), Fault>
+pub fn put_lines<W: Write>(writer: &mut W, lines: &[(&str, u64)]) -> Result<(), Fault>
     requires { list_all (λ line. is_label line.0.now) lines.now ≡ true }
     ensures ok { OnOk result (Appends (W.contents writer.old) (W.contents writer.new) (lines_of lines.now)) }
     ensures err { IfErr result (λ fault. fault ≡ Fault.Stream) }

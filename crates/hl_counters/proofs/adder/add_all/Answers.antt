@@ -4,7 +4,7 @@ use Rattle.hl_counters.proofs.adder.add_all.Goals.{then-add-thread, else-add-thr
 use Rattle.hl_counters.proofs.adder.add_all.Goals as goal
 
 pub loop-add-init : goal.loop-add-init
-loop-add-init g c = (c.place.ensures.log, starts_at_zero c.args.session.now.log.sizes _ _ c.place.ensures.touches)
+loop-add-init g c = (c.place.ensures.log, starts_at_zero c.args.session.now.log.sizes _ _ c.place.ensures.touches, c.place.ensures.counts)
 
 pub loop-add-preserved : goal.loop-add-preserved
 loop-add-preserved g c =
@@ -12,6 +12,6 @@ loop-add-preserved g c =
     elim c.if-add-thread.branch [
       | then-add-thread w ↦
           let start = c.args.session.now.pass.rider.view.touches in
-          rw (w.session-is, w.sums-is) (w.add_one.ensures.log ∙ before.0, (rw before.0 at w.add_one.ensures.sums) start before.1)
+          rw (w.session-is, w.sums-is) (w.add_one.ensures.log ∙ before.0, (rw before.0 at w.add_one.ensures.sums) start before.1, λ room h. (rw before.0 at w.add_one.ensures.counts) room (before.2 room h))
       | else-add-thread w ↦ rw (w.session-is, w.sums-is) before
     ]

@@ -18,3 +18,9 @@ returns-else-add_to-clause-sums g c =
     let mid = c.keep_up.new.session in
     sums_refused old.log.sizes c.args.sums.now start old.pass.rider.view.touches mid.pass.rider.view.touches c.add_to.new.session.pass.rider.view.touches each c.keep_up.ensures.touches
     c.args.add.counter c.args.add.number (rw c.keep_up.ensures.log at c.if-add_to.ensures.added)
+
+pub returns-then-add_to-clause-counts : goal.returns-then-add_to-clause-counts
+returns-then-add_to-clause-counts g c = λ room h. (rw c.keep_up.ensures.log at c.if-add_to.ensures.counts) room (c.keep_up.ensures.counts room h)
+
+pub returns-else-add_to-clause-counts : goal.returns-else-add_to-clause-counts
+returns-else-add_to-clause-counts g c = λ room h. (rw c.keep_up.ensures.log at c.if-add_to.ensures.counts) room (c.keep_up.ensures.counts room h)
