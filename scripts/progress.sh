@@ -19,7 +19,7 @@ progress_begins() {
     shift
     order=("$@")
     while IFS=: read -r name rest; do
-        uses["${name%% *}"]="$rest"
+        [ -z "$name" ] || uses["${name%% *}"]="$rest"
     done < "$top/crates.txt"
     for name in "${order[@]}"; do
         left["$name"]="${weights[$name]:-$(weight_by_lines "$name")}"

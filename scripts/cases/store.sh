@@ -11,6 +11,14 @@ stores() {
     awk '/ copies / { copies = $5; written = $7 } END { exit !(copies > 1000 && written > 8) }' "$room/text"
 }
 
+# Nothing is cut: on the device each word that one thread alone wrote is its newest write of the journal.
+store_of_images() {
+    timeout 60 "$kv" 4 0 --frames 8 --images > "$room/text" 2>&1 || { cat "$room/text"; return 1; }
+    cat "$room/text"
+    awk '/^checked [0-9]+ words of [0-9]+ images$/ { words = $2; images = $5 } END { exit !(words > 200000 && images > 50) }' \
+        "$room/text"
+}
+
 # Words that it doesn't take: the line of its usage, and status 2.
 store_refused() {
     local status=0
@@ -28,6 +36,7 @@ store_out_of_range() {
 check "a store that is evicted, each read compared" stores 1 2 --frames 8 --compare
 check "a store that is evicted, four threads" stores 4 2 --frames 8
 check "a store that is evicted, by Zipf" stores 4 2 --frames 8 --zipf --reads 20
+check "a store's images and its journal" store_of_images
 check "a store without words" store_refused
 check "a store of an unknown option" store_refused 1 1 --key 5
 check "a store of too many threads" store_out_of_range 65 1

@@ -166,13 +166,6 @@ moved {W} has sizes riders others first second one two same is_first is_second a
     subst (λ (rs : List RiderState). AreImaged has sizes rs (one ∷ two ∷ [])) (sym same)
     (subst (λ (w : W). AreImaged has sizes riders (w ∷ two ∷ [])) (sym is_first) (subst (λ (w : W). AreImaged has sizes riders (first ∷ w ∷ [])) (sym is_second) are))
 
--- a crew that did nothing
-pub none_imaged : {W : Type 0} (has : W → ℕ → List ℕ → Type 0) (sizes : Sizes) (f a b c : RiderState) (v w : W) → AllByRecursion FlushesNone (f ∷ a ∷ b ∷ c ∷ []) → AreImaged has sizes (f ∷ a ∷ b ∷ c ∷ []) (v ∷ w ∷ [])
-none_imaged has sizes f a b c v w none = (none.0, (λ page flushed. absurd (contrary a page none.1.0 flushed)), (λ page flushed. absurd (contrary b page none.1.1.0 flushed)), none.1.1.1.0)
-  where
-    contrary : (r : RiderState) (page : ℕ) → FlushesNone r → has_flushed page r.calls ≡ true → ⊥
-    contrary r page none flushed = let e : false ≡ true = sym (none page) ∙ flushed in cc
-
 -- a crew that was refused for memory tells so
 pub served_or_memory : {E B S : Type 0} (end : Result E (Refused B)) (told : Result S Fault) (of : E → S) → MatchResult end (λ e. told ≡ Ok (of e)) (λ refused. told ≡ Err refused.fault) → IfErr end (λ refused. refused.fault ≡ OutOfMemory) → IfErr told (λ fault. fault ≡ OutOfMemory)
 served_or_memory (Ok e) told of is memory = subst (λ t. IfErr t (λ fault. fault ≡ OutOfMemory)) (sym is) tt

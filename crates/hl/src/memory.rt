@@ -86,9 +86,9 @@ pub struct Written<T> {
     pub device: MemoryDevice,
 }
 
-/// The same as [`with_threads`](crate::with_threads), with a device in memory, which comes back with what it has. The pages
-/// go to it, and the work's own `write_page` isn't called. Each page that the crew flushed is there, as an image of words that
-/// are the page's, by `hl_images::laws::flushed_is_imaged`.
+/// The same as [`with_threads`](crate::with_threads), with a device in memory, which comes back with what it has. The
+/// pages go to it, and the work's own `write_page` isn't called. Each page that the crew flushed is there, as an image
+/// of words that are the page's, by `hl_images::laws::flushed_is_imaged`.
 ///
 /// A page beyond the device's last can't be written, and is tried again and again: the log then runs out of frames.
 ///

@@ -1,7 +1,6 @@
 -- What a crew's hands keep of what they were given.
 use Rattle.std.proofs.Common.{◌≡◌, ℕ, Bool, true, false, List, [], ◌∷◌, sym, ap, ◌∙◌, subst}
 use Rattle.std.specs.Prelude.{Result, Ok, Err, IfOk, IfErr}
-use Rattle.std.specs.List.{AllByRecursion}
 use Rattle.hl_model.specs.declared.fault.Fault.{Fault}
 use Rattle.hl_model.specs.declared.fault.Fault.TheVariants.{OutOfMemory}
 use Rattle.hl_model.specs.Sizes.{Sizes}
@@ -13,7 +12,7 @@ use Rattle.hl_crew.specs.declared.messages.Over.{Over}
 use Rattle.hl_crew.specs.declared.orders.Orders.{Orders}
 use Rattle.hl_crew.specs.declared.writer.WriterState.{WriterState}
 use Rattle.hl_crew.specs.Goes.{UpTo}
-use Rattle.hl_crew.specs.Riders.{StoreSweeps, FlushesNone, HasImages, Puts, PutsNone, WorksOn, WritesOn, AllWorkOn, IsAsGiven, AreAsGiven, riders_in, writers_in}
+use Rattle.hl_crew.specs.Riders.{FlushesNone, HasImages, WritesPage, FailsPage, WorksOn, WritesOn, AllWorkOn, IsAsGiven, AreAsGiven, riders_in, writers_in}
 use Rattle.hl_crew.specs.Rounds.{MakesRound}
 use Rattle.hl_crew.proofs.RepeatLaws.{up_to_holds}
 use Rattle.hl_crew.proofs.RiderLaws.{no_more, then, turned_works, cleaner_works}
@@ -64,48 +63,11 @@ module _ {L W : Type 0} (has : W → ℕ → List ℕ → Type 0) (serves : Bool
           ),
     )
 
-    -- as each thread leaves its own
-    pub gathered : (hands : Hands L W) → IsAsGiven given serves sizes hands.flusher.rider (FlushesNone hands.flusher.rider) → IsAsGiven given serves sizes hands.first.rider (HasImages has sizes hands.first.rider hands.first.pages)
-        → IsAsGiven given serves sizes hands.second.rider (HasImages has sizes hands.second.rider hands.second.pages) → IsAsGiven given serves sizes hands.cleaner (FlushesNone hands.cleaner) → AreAsGiven has given serves sizes hands
-    gathered hands f a b c = (
-      λ all. (f.sweeps all, (a.sweeps all, (b.sweeps all, (c.sweeps all, tt)))),
-      λ serving none. (f.images serving none, a.images serving none, b.images serving none, c.images serving none),
-    )
-
--- before anything was done: a rider that flushed no page has images of all that it flushed
-none_imaged : {W : Type 0} (has : W → ℕ → List ℕ → Type 0) (sizes : Sizes) (r : RiderState) (pages : W) → FlushesNone r → HasImages has sizes r pages
-none_imaged has sizes r pages none p flushed = absurd (let contrary : false ≡ true = sym (none p) ∙ flushed in cc)
-
-module _ {L W : Type 0} (has : W → ℕ → List ℕ → Type 0) (serves : Bool) (sizes : Sizes) (given : List RiderState) (hands : Hands L W) (is : given ≡ riders_in hands) where
-  pub flusher_given : IsAsGiven given serves sizes hands.flusher.rider (FlushesNone hands.flusher.rider)
-  flusher_given = record {
-    sweeps = λ all. (subst (StoreSweeps sizes) is all).0;
-    images = λ serving none. (subst (AllByRecursion FlushesNone) is none).0;
-  }
-
-  pub first_given : IsAsGiven given serves sizes hands.first.rider (HasImages has sizes hands.first.rider hands.first.pages)
-  first_given = record {
-    sweeps = λ all. (subst (StoreSweeps sizes) is all).1.0;
-    images = λ serving none. none_imaged has sizes hands.first.rider hands.first.pages (subst (AllByRecursion FlushesNone) is none).1.0;
-  }
-
-  pub second_given : IsAsGiven given serves sizes hands.second.rider (HasImages has sizes hands.second.rider hands.second.pages)
-  second_given = record {
-    sweeps = λ all. (subst (StoreSweeps sizes) is all).1.1.0;
-    images = λ serving none. none_imaged has sizes hands.second.rider hands.second.pages (subst (AllByRecursion FlushesNone) is none).1.1.0;
-  }
-
-  pub cleaner_given : IsAsGiven given serves sizes hands.cleaner (FlushesNone hands.cleaner)
-  cleaner_given = record {
-    sweeps = λ all. (subst (StoreSweeps sizes) is all).1.1.1.0;
-    images = λ serving none. (subst (AllByRecursion FlushesNone) is none).1.1.1.0;
-  }
-
 -- the last rounds of a crew that serves
 pub rounds_work : {L W : Type 0} (has : W → ℕ → List ℕ → Type 0) (F : Type 0) (domain : DomainState) (orders : Orders) (lets : ℕ → Type 0) (wrote failed : W → ℕ → List ℕ → W → Type 0) (failures : W → ℕ) (most : ℕ) (result : Result (Unit {0}) Over) (old new : Hands L W)
-    → UpTo (MakesRound F domain orders lets (Puts has wrote) (PutsNone has failed) failures) most result old new → AllWorkOn has true domain.sizes old new
+    → UpTo (MakesRound F domain orders lets (WritesPage has wrote) (FailsPage has failed) failures) most result old new → AllWorkOn has true domain.sizes old new
 rounds_work {L} {W} has F domain orders lets wrote failed failures most result old new made =
-    up_to_holds (AllWorkOn has true domain.sizes) (hands_same has true domain.sizes) (hands_then has true domain.sizes) (MakesRound F domain orders lets (Puts has wrote) (PutsNone has failed) failures) round most result old new made
+    up_to_holds (AllWorkOn has true domain.sizes) (hands_same has true domain.sizes) (hands_then has true domain.sizes) (MakesRound F domain orders lets (WritesPage has wrote) (FailsPage has failed) failures) round most result old new made
   where
     -- the flusher's turn, where nobody looks behind it
     turn_alone : (result : Result Bool Over) (old new : Hands L W) → WorksOn true domain.sizes old.flusher.rider new.flusher.rider → new ≡ record old { flusher = new.flusher } → AllWorkOn has true domain.sizes old new
@@ -116,7 +78,7 @@ rounds_work {L} {W} has F domain orders lets wrote failed failures most result o
       cleaner = no_more true domain.sizes old.cleaner new.cleaner (ap (λ (h : Hands L W). h.cleaner) same);
     }
 
-    round : (i : ℕ) (result : Result Bool Over) (old new : Hands L W) → MakesRound F domain orders lets (Puts has wrote) (PutsNone has failed) failures i result old new → AllWorkOn has true domain.sizes old new
+    round : (i : ℕ) (result : Result Bool Over) (old new : Hands L W) → MakesRound F domain orders lets (WritesPage has wrote) (FailsPage has failed) failures i result old new → AllWorkOn has true domain.sizes old new
     round i (Ok true) old new (turned, one, looks) = record {
       flusher = subst (λ f. WorksOn true domain.sizes old.flusher.rider f.rider) (sym looks.flusher) (turned_works domain.sizes F domain orders true (Ok true) old.flusher turned one);
       first = writer_works has true F domain orders.cuts lets wrote failed failures _ looks.first.0 old.first new.first looks.first.1;

@@ -179,16 +179,14 @@ module _ {L : Type 0} (sizes : Sizes) (F : Type 0) (domain : DomainState) where
   make_works serves true step (Ok done) old new lag (answer, made, is) = step_works serves sizes step (Ok answer) old.rider new.rider made (λ serving. lag_quiet step lag)
   make_works serves true step (Err fault) old new lag (made, is) = step_works serves sizes {F = F} {X = ℕ} step (Err fault) old.rider new.rider made (λ serving. lag_quiet step lag)
 
+  -- each of the lag's steps is one
+  kind_at : (steps : List Step) → All (λ step. is_lag_step step ≡ true) steps → (i : ℕ) (step : Step) → slice_get steps i ≡ Some step → is_lag_step step ≡ true
+  kind_at steps kinds i step at = subst (λ (s : Step). is_lag_step s ≡ true) (get_or_from_slice_get steps i step step at) (kinds i step (slice_get_within steps i step at))
+
   lag_step_works : (serves : Bool) (now : Snapshot) (steps : List Step) → All (λ step. is_lag_step step ≡ true) steps → (i : ℕ) (result : Result Bool Fault) (old new : FlusherState L) → MakesNext F domain serves now steps i result old new → FlusherWorks serves old new
-  lag_step_works serves now steps kinds i (Ok true) old new (step, at, made) = make_works serves _ step _ old new (kind steps kinds i step at) made
-    where
-      kind : (steps : List Step) → All (λ step. is_lag_step step ≡ true) steps → (i : ℕ) (step : Step) → slice_get steps i ≡ Some step → is_lag_step step ≡ true
-      kind steps kinds i step at = subst (λ (s : Step). is_lag_step s ≡ true) (get_or_from_slice_get steps i step step at) (kinds i step (slice_get_within steps i step at))
+  lag_step_works serves now steps kinds i (Ok true) old new (step, at, made) = make_works serves _ step _ old new (kind_at steps kinds i step at) made
   lag_step_works serves now steps kinds i (Ok false) old new none = absurd none
-  lag_step_works serves now steps kinds i (Err fault) old new (step, at, made) = make_works serves _ step _ old new (kind steps kinds i step at) made
-    where
-      kind : (steps : List Step) → All (λ step. is_lag_step step ≡ true) steps → (i : ℕ) (step : Step) → slice_get steps i ≡ Some step → is_lag_step step ≡ true
-      kind steps kinds i step at = subst (λ (s : Step). is_lag_step s ≡ true) (get_or_from_slice_get steps i step step at) (kinds i step (slice_get_within steps i step at))
+  lag_step_works serves now steps kinds i (Err fault) old new (step, at, made) = make_works serves _ step _ old new (kind_at steps kinds i step at) made
 
   lag_works : (serves : Bool) (mutable resident : ℕ) (result : Result (Unit {0}) Over) (old new : FlusherState L) → KeepsLag F domain serves mutable resident result old new → FlusherWorks serves old new
   lag_works serves mutable resident result old new lag =

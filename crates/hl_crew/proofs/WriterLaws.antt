@@ -29,7 +29,7 @@ use Rattle.hl_crew.specs.declared.writer.WriterState.{WriterState}
 use Rattle.hl_crew.specs.Goes.{UpTo}
 use Rattle.hl_crew.specs.Looks.{LooksNext}
 use Rattle.hl_crew.specs.Pages.{FlushesPage, FlushesOne, Passes, FindsPage}
-use Rattle.hl_crew.specs.Riders.{has_flushed, HasImages, KeepsOthers, Puts, PutsNone, WorksOn, WritesOn}
+use Rattle.hl_crew.specs.Riders.{has_flushed, HasImages, KeepsOthers, WritesPage, FailsPage, WorksOn, WritesOn}
 use Rattle.hl_crew.specs.Tries.{EndsFlush, TriesFor}
 use Rattle.hl_crew.specs.Turns.{Loads}
 use Rattle.hl_crew.specs.Writes.{IsWritten, IsNotWritten}
@@ -117,21 +117,21 @@ module _ {W : Type 0} (has : W → ℕ → List ℕ → Type 0) (serves : Bool) 
   written_works : (wrote : W → ℕ → List ℕ → W → Type 0) (job : PageJob) (old new : RiderState) (before after : W) → IsWritten wrote sizes job old new before after → WorksOn serves sizes old new
   written_works wrote job old new before after is = loads_work serves sizes _ is.words old new is.loaded
 
-  unwritten_works : (failed : W → ℕ → List ℕ → W → Type 0) (failures : W → ℕ) (job : PageJob) (old new : RiderState) (before after : W) → IsNotWritten (PutsNone has failed) failures sizes job old new before after
+  unwritten_works : (failed : W → ℕ → List ℕ → W → Type 0) (failures : W → ℕ) (job : PageJob) (old new : RiderState) (before after : W) → IsNotWritten (FailsPage has failed) failures sizes job old new before after
       → WorksOn serves sizes old new × KeepsOthers has job.page before after
   unwritten_works failed failures job old new before after (inl (same, pages)) = (no_more serves sizes old new same, λ other bytes apart there. subst (λ (w : W). has w other bytes) (sym pages) there)
-  unwritten_works failed failures job old new before after (inr (more, is)) = (written_works (PutsNone has failed) job old new before after is, is.written.1)
+  unwritten_works failed failures job old new before after (inr (more, is)) = (written_works (FailsPage has failed) job old new before after is, is.written.1)
 
 -- a page that was sent
 pub told_page_writes : {L W : Type 0} (has : W → ℕ → List ℕ → Type 0) (wrote failed : W → ℕ → List ℕ → W → Type 0) (failures : W → ℕ) (sizes : Sizes) (job : PageJob) (old new : WriterState L W) (ok : Bool)
-    → (ok ≡ true → IsWritten (Puts has wrote) sizes job old.rider new.rider old.pages new.pages) → (ok ≡ false → IsNotWritten (PutsNone has failed) failures sizes job old.rider new.rider old.pages new.pages) → WritesOn has false sizes old new
+    → (ok ≡ true → IsWritten (WritesPage has wrote) sizes job old.rider new.rider old.pages new.pages) → (ok ≡ false → IsNotWritten (FailsPage has failed) failures sizes job old.rider new.rider old.pages new.pages) → WritesOn has false sizes old new
 told_page_writes {L} {W} has wrote failed failures sizes job old new ok written unwritten = of_rider (by ok written unwritten)
   where
     of_rider : WorksOn false sizes old.rider new.rider → WritesOn has false sizes old new
     of_rider works = record { later = works.later; sweeps = works.sweeps; images = λ serving. absurd cc }
 
-    by : (ok : Bool) → (ok ≡ true → IsWritten (Puts has wrote) sizes job old.rider new.rider old.pages new.pages) → (ok ≡ false → IsNotWritten (PutsNone has failed) failures sizes job old.rider new.rider old.pages new.pages) → WorksOn false sizes old.rider new.rider
-    by true written unwritten = written_works has false sizes (Puts has wrote) job old.rider new.rider old.pages new.pages (written refl)
+    by : (ok : Bool) → (ok ≡ true → IsWritten (WritesPage has wrote) sizes job old.rider new.rider old.pages new.pages) → (ok ≡ false → IsNotWritten (FailsPage has failed) failures sizes job old.rider new.rider old.pages new.pages) → WorksOn false sizes old.rider new.rider
+    by true written unwritten = written_works has false sizes (WritesPage has wrote) job old.rider new.rider old.pages new.pages (written refl)
     by false written unwritten = (unwritten_works has false sizes failed failures job old.rider new.rider old.pages new.pages (unwritten refl)).0
 
 -- a writer that takes its pages itself
@@ -165,7 +165,7 @@ module _ {L W : Type 0} (has : W → ℕ → List ℕ → Type 0) (serves : Bool
       }
 
   flushes_page : (Behind : Result Bool Over → WriterState L W → WriterState L W → Type 0) → ((passed : Result Bool Over) (old new : WriterState L W) → Behind passed old new → Works old new)
-      → (ok : Bool) (passed : Result Bool Over) (result : Result (Unit {0}) Over) (old new : WriterState L W) → FlushesPage F domain cuts lets (Puts has wrote) (PutsNone has failed) failures Behind ok passed result old new → Works old new
+      → (ok : Bool) (passed : Result Bool Over) (result : Result (Unit {0}) Over) (old new : WriterState L W) → FlushesPage F domain cuts lets (WritesPage has wrote) (FailsPage has failed) failures Behind ok passed result old new → Works old new
   flushes_page Behind behind true passed result old new one =
       let is = one.copies.1 in
       let page = one.load.page in
@@ -189,20 +189,20 @@ module _ {L W : Type 0} (has : W → ℕ → List ℕ → Type 0) (serves : Bool
   refuses_works fault old new taken same = rider_writes has serves domain.sizes old new (step_works serves domain.sizes {F = F} {X = PageJob} FlushTake (Err fault) old.rider new.rider taken (λ serving p. refl)) (ap (λ (s : WriterState L W). s.pages) same)
 
   flushes_one : (Behind : Result Bool Over → WriterState L W → WriterState L W → Type 0) → ((passed : Result Bool Over) (old new : WriterState L W) → Behind passed old new → Works old new)
-      → (result : Result Bool Over) (old new : WriterState L W) → FlushesOne F domain cuts lets (Puts has wrote) (PutsNone has failed) failures Behind result old new → Works old new
+      → (result : Result Bool Over) (old new : WriterState L W) → FlushesOne F domain cuts lets (WritesPage has wrote) (FailsPage has failed) failures Behind result old new → Works old new
   flushes_one Behind behind result old new (inl (is, (taken, same))) = refuses_works NoneSealed old new taken same
   flushes_one Behind behind result old new (inr (inl (fault, other, is, (taken, same)))) = refuses_works fault old new taken same
   flushes_one Behind behind result old new (inr (inr (ok, passed, ended, one, is))) = flushes_page Behind behind ok passed ended old new one
 
-  passes_work : (n : ℕ) (passed : Result Bool Over) (old new : WriterState L W) → Passes F domain cuts lets (Puts has wrote) (PutsNone has failed) failures n passed old new → Works old new
+  passes_work : (n : ℕ) (passed : Result Bool Over) (old new : WriterState L W) → Passes F domain cuts lets (WritesPage has wrote) (FailsPage has failed) failures n passed old new → Works old new
   passes_work zero passed old new (is, same) = writer_same has serves domain.sizes old new same
-  passes_work (suc n) passed old new one = flushes_one (Passes F domain cuts lets (Puts has wrote) (PutsNone has failed) failures n) (passes_work n) passed old new one
+  passes_work (suc n) passed old new one = flushes_one (Passes F domain cuts lets (WritesPage has wrote) (FailsPage has failed) failures n) (passes_work n) passed old new one
 
-  finds_page : (result : Result Bool Over) (old new : WriterState L W) → FindsPage F domain cuts lets (Puts has wrote) (PutsNone has failed) failures result old new → Works old new
+  finds_page : (result : Result Bool Over) (old new : WriterState L W) → FindsPage F domain cuts lets (WritesPage has wrote) (FailsPage has failed) failures result old new → Works old new
   finds_page result old new (done, mid, flushes, or, pages, counts) =
-      writer_then has serves domain.sizes old mid new (flushes_one (Passes F domain cuts lets (Puts has wrote) (PutsNone has failed) failures 3) (passes_work 3) done old mid flushes)
+      writer_then has serves domain.sizes old mid new (flushes_one (Passes F domain cuts lets (WritesPage has wrote) (FailsPage has failed) failures 3) (passes_work 3) done old mid flushes)
       (rider_writes has serves domain.sizes mid new (or_cuts_work serves domain.sizes F domain cuts done result mid.rider new.rider or) pages)
 
   -- all its looks
-  pub writer_works : (most : ℕ) (result : Result (Unit {0}) Over) (old new : WriterState L W) → UpTo (LooksNext (FindsPage F domain cuts lets (Puts has wrote) (PutsNone has failed) failures)) most result old new → Works old new
-  writer_works = looks_hold Works (writer_same has serves domain.sizes) (writer_then has serves domain.sizes) (FindsPage F domain cuts lets (Puts has wrote) (PutsNone has failed) failures) finds_page
+  pub writer_works : (most : ℕ) (result : Result (Unit {0}) Over) (old new : WriterState L W) → UpTo (LooksNext (FindsPage F domain cuts lets (WritesPage has wrote) (FailsPage has failed) failures)) most result old new → Works old new
+  writer_works = looks_hold Works (writer_same has serves domain.sizes) (writer_then has serves domain.sizes) (FindsPage F domain cuts lets (WritesPage has wrote) (FailsPage has failed) failures) finds_page

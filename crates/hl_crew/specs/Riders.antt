@@ -42,15 +42,15 @@ KeepsOthers has page before after =
     (other : ℕ) (bytes : List ℕ) → other ≢ page → has before other bytes → has after other bytes
 
 -- a page was written so, and the writer has it, beside what it has of others
-abbrev pub Puts : {W : Type 0} → (W → ℕ → List ℕ → Type 0) → (W → ℕ → List ℕ → W → Type 0)
+abbrev pub WritesPage : {W : Type 0} → (W → ℕ → List ℕ → Type 0) → (W → ℕ → List ℕ → W → Type 0)
     → W → ℕ → List ℕ → W → Type 0
-Puts has wrote before page bytes after =
+WritesPage has wrote before page bytes after =
     wrote before page bytes after × has after page bytes × KeepsOthers has page before after
 
 -- the write of a page failed so, and the writer has what it has of others
-abbrev pub PutsNone : {W : Type 0} → (W → ℕ → List ℕ → Type 0) → (W → ℕ → List ℕ → W → Type 0)
+abbrev pub FailsPage : {W : Type 0} → (W → ℕ → List ℕ → Type 0) → (W → ℕ → List ℕ → W → Type 0)
     → W → ℕ → List ℕ → W → Type 0
-PutsNone has failed before page bytes after =
+FailsPage has failed before page bytes after =
     failed before page bytes after × KeepsOthers has page before after
 
 -- between the two a rider did more: it stored only to sweep, and if the crew serves, it flushed no page

@@ -38,8 +38,8 @@ use std::thread::Threads;
 /// With as many resident pages as frames, the head never passes the page whose frame the page above
 /// the tail needs, and no frame comes free: [`Duty`] excludes that.
 ///
-/// If the riders had stored into cells only to sweep pages that they had taken to clean, so it is with those that come back:
-/// where the crew took no page to clean, they stored nothing.
+/// If the riders had stored into cells only to sweep pages that they had taken to clean, so it is with those that
+/// come back: where the crew took no page to clean, they stored nothing.
 ///
 /// `OutOfMemory` if memory or a thread was refused; then riders and page writers are handed back.
 /// Steps that were made until then stay in the journal.
@@ -77,13 +77,13 @@ where
     run_until::<R, E, F, P, L, W, G, Brand>(rt, alloc, domain, riders, pages, gate, orders, term)
 }
 
-/// Runs a crew on a domain, as [`run_crew`] does, until its stop is given: but each writer takes its pages itself, copies,
-/// writes and answers them, so no acknowledgement is a stranger. It sleeps while there is nothing to do, and ends once
-/// nothing is in flight. If the journal is full, it cuts it where the duty lets it; else a full journal ends it before its
-/// stop. The end tells the duty's orders. Of what the riders stored the same holds. If they had flushed nothing, then each page
-/// that those which come back flushed is with the writer of that rider, as the image of the words that the rider copied
-/// between its take and its answer: at the domain's end it is an image of the page, by `hl_images`. Of a page whose write
-/// failed, or whose answer was refused, nothing is said.
+/// Runs a crew on a domain, as [`run_crew`] does, until its stop is given: but each writer takes its pages itself,
+/// copies, writes and answers them, so no acknowledgement is a stranger. It sleeps while there is nothing to do, and
+/// ends once nothing is in flight. If the journal is full, it cuts it where the duty lets it; else a full journal
+/// ends it before its stop. The end tells the duty's orders. Of what the riders stored the same holds. If they had
+/// flushed nothing, then each page that those which come back flushed is with the writer of that rider, as the image
+/// of the words that the rider copied between its take and its answer: at the domain's end it is an image of the
+/// page, by `hl_images`. Of a page whose write failed, or whose answer was refused, nothing is said.
 ///
 /// A thread that has entered a page may wake it by [`Stop::ring`]; a crew that nobody wakes looks at least
 /// every 160 milliseconds, and sooner after it had something to do.

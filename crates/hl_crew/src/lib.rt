@@ -11,7 +11,8 @@
 //! | two writers | under [`serve`]: take a sealed page, copy it without the lock, write its image, and answer it |
 //! | the cleaner | takes a closed page, sweeps it without the lock, and frees its frame |
 //!
-//! Under [`run_crew`] the flusher takes the pages, sends them to the writers, which copy and write them, and answers each.
+//! Under [`run_crew`] the flusher takes the pages, sends them to the writers, which copy and write them, and answers
+//! each.
 //!
 //! # What an acknowledgement can do
 //!
@@ -28,44 +29,45 @@
 //!
 //! # How it waits
 //!
-//! Whoever looks for pages and finds none, or meets a write that failed, sleeps until the flusher has made another turn. A
-//! flusher that serves sleeps after a turn that entered no step, until a page was written or somebody
-//! calls [`Stop::ring`], and at most a millisecond. Each such turn more in a row doubles that, up
-//! to 160 milliseconds. It makes the lag's steps whether or not other actions wait: a raise and a settle once its last
-//! settle has taken effect, a shift and a close once its last close has. A flusher that makes a number of turns makes them if
-//! no action waits or is taken, and waits for an acknowledgement of each page that it sent.
+//! Whoever looks for pages and finds none, or meets a write that failed, sleeps until the flusher has made another
+//! turn. A flusher that serves sleeps after a turn that entered no step, until a page was written or somebody calls
+//! [`Stop::ring`], and at most a millisecond. Each such turn more in a row doubles that, up to 160 milliseconds. It
+//! makes the lag's steps whether or not other actions wait: a raise and a settle once its last settle has taken
+//! effect, a shift and a close once its last close has. A flusher that makes a number of turns makes them if no
+//! action waits or is taken, and waits for an acknowledgement of each page that it sent.
 //!
 //! # How it ends
 //!
-//! The flusher ends once its turns are over or its stop is given, or earlier if the journal is full, unless it serves by
-//! a duty that cuts, or if a channel fails; the others end once they find no page. A crew that serves then makes at most 1,000
-//! rounds in the thread that called it, of a turn of the flusher and all looks of the others, up to the first in which the
-//! flusher got nowhere. At the end no page that it took is in flight, and no action that it took is still
-//! taken. What was taken and can't be answered is forsaken: such a page stays in flight or in
-//! cleaning, and such an action stays taken. Riders and page writers come back by value, even if a
-//! thread couldn't be made: each lies under a lock that its thread takes once.
+//! The flusher ends once its turns are over or its stop is given, or earlier if the journal is full, unless it serves
+//! by a duty that cuts, or if a channel fails; the others end once they find no page. A crew that serves then makes
+//! at most 1,000 rounds in the thread that called it, of a turn of the flusher and all looks of the others, up to the
+//! first in which the flusher got nowhere. At the end no page that it took is in flight, and no action that it took
+//! is still taken. What was taken and can't be answered is forsaken: such a page stays in flight or in cleaning, and
+//! such an action stays taken. Riders and page writers come back by value, even if a thread couldn't be made: each
+//! lies under a lock that its thread takes once.
 //!
 //! # What is proved of it
 //!
-//! Of a crew as a whole: that riders and page writers come back is in its types. That no refusal is
-//! other than `OutOfMemory` is a clause, and so is what all its threads ran by, which
-//! [`CrewEnd::orders`] tells. So is that a rider that comes back stored only 0s of pages that a call of
-//! its own had just taken to clean, if that held of all riders before: a crew that took no page to
-//! clean changed no word. And under [`serve`] each page that a rider flushed is with that rider's page writer, as the image
-//! of the words that it copied between its take and its answer; by `hl_images` they are the page's at the end. Inside, of each function that does a step: what it made under the
-//! domain's lock, in what order, and what it counted. A flusher's turn makes those of the lag's steps that it wants, in their
-//! order up to the first that is refused, and ends if the journal is
-//! full; if its actions end well, it ran each that it took and answered it done, up to four. Of a page that a writer takes
-//! itself: its rider took the page, loaded its words once the gate let it through, and answered it, and if it was answered
-//! as written, the image of exactly these words was written; if as failed, nothing was written, or the
-//! write failed and was counted so. Of pages that are sent: the flusher takes them up to four a turn, or to the first take
-//! that finds none; as many acknowledgements as it sent pages are answered and counted once each, as each says, and each page
-//! that none of them named once as failed. A turn that ended well ended by
-//! the cut that was ordered; where a part failed, the turn failed for the same reason. A full journal is cut only if that was
-//! ordered, and what ends something is then tried again, up to a thousand times. A page reported as clean was swept. Whoever
-//! looks for pages looks until a look fails, or one is in vain that was begun once the flusher had ended. No clause says that
-//! a thread gets on, what a channel delivers, or what [`CrewEnd`] counts in all: what lies under a lock or
-//! comes from a channel is known by its type alone.
+//! Of a crew as a whole: that riders and page writers come back is in its types. That no refusal is other than
+//! `OutOfMemory` is a clause, and so is what all its threads ran by, which [`CrewEnd::orders`] tells. So is that a
+//! rider that comes back stored only 0s of pages that a call of its own had just taken to clean, if that held of all
+//! riders before: a crew that took no page to clean changed no word. And under [`serve`] each page that a rider
+//! flushed is with that rider's page writer, as the image of the words that it copied between its take and its
+//! answer; by `hl_images` they are the page's at the end.
+//!
+//! Inside, of each function that does a step: what it made under the domain's lock, in what order, and what it
+//! counted. A flusher's turn makes those of the lag's steps that it wants, in their order up to the first that is
+//! refused, and ends if the journal is full; if its actions end well, it ran each that it took and answered it done,
+//! up to four. Of a page that a writer takes itself: its rider took the page, loaded its words once the gate let it
+//! through, and answered it, and if it was answered as written, the image of exactly these words was written; if as
+//! failed, nothing was written, or the write failed and was counted so. Of pages that are sent: the flusher takes
+//! them up to four a turn, or to the first take that finds none; as many acknowledgements as it sent pages are
+//! answered and counted once each, as each says, and each page that none of them named once as failed. A turn that
+//! ended well ended by the cut that was ordered; where a part failed, the turn failed for the same reason. A full
+//! journal is cut only if that was ordered, and what ends something is then tried again, up to a thousand times. A
+//! page reported as clean was swept. Whoever looks for pages looks until a look fails, or one is in vain that was
+//! begun once the flusher had ended. No clause says that a thread gets on, what a channel delivers, or what
+//! [`CrewEnd`] counts in all: what lies under a lock or comes from a channel is known by its type alone.
 //!
 //! | Module | What it has |
 //! |---|---|

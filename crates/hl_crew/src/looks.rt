@@ -31,8 +31,8 @@ pub(crate) struct Looker<'x, R> {
 }
 
 impl<R: Wait> Looker<'_, R> {
-    /// Looks again and again, at most this many times, until a look fails, or one is in vain that was begun once the flusher
-    /// had ended.
+    /// Looks again and again, at most this many times, until a look fails, or one is in vain that was begun once the
+    /// flusher had ended.
     pub(crate) fn look_on<S, H: Look<S>>(
         &self,
         hand: &H,
@@ -52,9 +52,9 @@ impl<R: Wait> Looker<'_, R> {
         Ok(())
     }
 
-    // Looks for a page, once it is known whether the flusher has ended: what it did before such a look is found by the next.
-    // If there is none, it sleeps until the flusher has made another turn, unless the flusher had ended. True if the look was
-    // in vain, and the flusher had ended before it.
+    // Looks for a page, once it is known whether the flusher has ended: what it did before such a look is found by
+    // the next. If there is none, it sleeps until the flusher has made another turn, unless the flusher had ended.
+    // True if the look was in vain, and the flusher had ended before it.
     fn look_once<S, H: Look<S>>(&self, hand: &H, own: &mut S, has_ended: bool) -> Result<bool, Over>
         ensures looks { Looks (H.finds hand.now) result own.old own.new }
         ensures last { IfOk result (λ is_last. is_last ≡ true → has_ended ≡ true) }

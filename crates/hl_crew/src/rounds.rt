@@ -3,7 +3,7 @@ ghost use Rattle.std.specs.Prelude.{◌≡◌, is_none, true};
 ghost use Rattle.hl_crew.specs.Goes.{UpTo};
 ghost use Rattle.hl_crew.specs.Lags.{IsLag};
 ghost use Rattle.hl_crew.specs.Rounds.{AllLook, MakesRound};
-ghost use Rattle.hl_crew.specs.Riders.{AllWorkOn, Puts, PutsNone};
+ghost use Rattle.hl_crew.specs.Riders.{AllWorkOn, WritesPage, FailsPage};
 
 use crate::cleaner::Cleaner;
 use crate::flusher::Flusher;
@@ -57,7 +57,8 @@ where
         requires lag { let orders = self.now.shared.now.orders
             in IsLag self.now.domain.now.sizes.frames orders.mutable orders.resident }
         ensures { UpTo (MakesRound F self.now.domain.now self.now.shared.now.orders
-            (G.lets self.now.gate.now) (Puts W.has W.wrote) (PutsNone W.has W.failed) W.failures) most result hands.old hands.new }
+            (G.lets self.now.gate.now) (WritesPage W.has W.wrote) (FailsPage W.has W.failed) W.failures)
+            most result hands.old hands.new }
     {
         let flusher = Flusher {
             rt: self.rt,
@@ -77,7 +78,8 @@ where
     // The writers and the cleaner look for pages until they find none.
     fn look<W: PageWriter>(&self, hands: &mut Hands<L, W>)
         ensures { AllLook F self.now.domain.now self.now.shared.now.orders
-            (G.lets self.now.gate.now) (Puts W.has W.wrote) (PutsNone W.has W.failed) W.failures hands.old hands.new }
+            (G.lets self.now.gate.now) (WritesPage W.has W.wrote) (FailsPage W.has W.failed) W.failures
+            hands.old hands.new }
     {
         let writer = Writer {
             rt: self.rt,

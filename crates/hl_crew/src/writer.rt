@@ -1,5 +1,5 @@
 ghost use Rattle.std.specs.Prelude.{◌≡◌, is_none, true, false};
-ghost use Rattle.hl_crew.specs.Riders.{Puts, PutsNone, WritesOn};
+ghost use Rattle.hl_crew.specs.Riders.{WritesPage, FailsPage, WritesOn};
 ghost use Rattle.hl_crew.specs.Writes.{IsWritten, IsNotWritten};
 
 use crate::counts::Counts;
@@ -132,9 +132,10 @@ where
         ensures gate { result.ok ≡ true → G.lets self.now.gate.now job.page }
         ensures written { let sizes = self.now.domain.now.sizes
             in result.ok ≡ true
-            → IsWritten (Puts W.has W.wrote) sizes job own.old.rider own.new.rider own.old.pages own.new.pages }
+            → IsWritten (WritesPage W.has W.wrote) sizes job
+            own.old.rider own.new.rider own.old.pages own.new.pages }
         ensures failed { let sizes = self.now.domain.now.sizes
-            in result.ok ≡ false → IsNotWritten (PutsNone W.has W.failed) W.failures sizes job
+            in result.ok ≡ false → IsNotWritten (FailsPage W.has W.failed) W.failures sizes job
             own.old.rider own.new.rider own.old.pages own.new.pages }
     {
         if !self.may_write(job.page) {

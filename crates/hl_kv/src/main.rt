@@ -1,13 +1,15 @@
 //! A small key-value store over a log, after FASTER: an example. Its functions are proved safe, and to end; that no add is
 //! lost is only tested, by the program itself.
 //!
-//! `hl_kv THREADS SECONDS [--reads PERCENT] [--zipf] [--keys N] [--frames F] [--compare]`: so many threads read counters
+//! `hl_kv THREADS SECONDS [--reads PERCENT] [--zipf] [--keys N] [--frames F] [--compare] [--images]`: so many threads read counters
 //! and add to them, beside a crew, and a line a second tells how far they are. At the end each counter is compared with
 //! what the threads added by their own account; with `--compare` a thread that is alone upserts, too, and compares all that
-//! it reads. With 0 seconds each thread makes 4,096 operations.
+//! it reads. With 0 seconds each thread makes 4,096 operations; with `--images` it makes sixteen times as many, and the
+//! images of all pages that were written are compared with the journal.
 #![tactic(auto)]
 
 mod device;
+mod images;
 mod store;
 mod work;
 
@@ -17,7 +19,7 @@ use std::{env, io};
 use work::Plan;
 
 const USAGE: &[u8] =
-    b"usage: hl_kv THREADS SECONDS [--reads PERCENT] [--zipf] [--keys N] [--frames F] [--compare]\n";
+    b"usage: hl_kv THREADS SECONDS [--reads PERCENT] [--zipf] [--keys N] [--frames F] [--compare] [--images]\n";
 
 fn main(rt: HostRuntime) -> io::Result<ExitCode> {
     let words = env::args(&rt)?.collect::<Vec<String>>(rt.alloc())?;
@@ -42,12 +44,14 @@ fn plan_of(words: &[String]) -> Option<Plan> {
         keys: 100_000,
         frames: 256,
         compares: false,
+        images: false,
     };
     let mut rest = words.iter().skip(3);
     while let Some(option) = rest.next() {
         match option.as_str() {
             "--zipf" => plan.by_zipf = true,
             "--compare" => plan.compares = plan.threads == 1,
+            "--images" => plan.images = true,
             "--reads" => plan.reads = rest.next()?.parse().ok()?,
             "--keys" => plan.keys = rest.next()?.parse().ok()?,
             "--frames" => plan.frames = rest.next()?.parse().ok()?,

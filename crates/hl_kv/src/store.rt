@@ -59,6 +59,8 @@ pub(crate) enum Trouble {
     Fuzzy,
     /// A key doesn't hold what the threads put there.
     Differs { key: u64, held: u64, due: u64 },
+    /// On the device a word isn't what the journal says.
+    Image { address: u64, held: Option<u64>, due: u64 },
 }
 
 pub(crate) type Outcome<T> = Result<T, Trouble>;

@@ -1,5 +1,6 @@
 //! The threads that use the store, and what they check.
 use crate::device::{PAGE_SIZE, zeros};
+use crate::images;
 use crate::store::{Operation, Outcome, Seat, Store, Trouble};
 use hl::{
     ArrayVec, Duty, Fault, Holder, Lease, NoJob, Opening, Params, Realm, Session, Work,
@@ -31,7 +32,16 @@ pub(crate) struct Plan {
     pub(crate) frames: u64,
     /// Whether the thread, if it is alone, upserts too, and compares all that it reads with a row of its own.
     pub(crate) compares: bool,
+    /// Whether nothing is cut from the journal, each thread makes so many batches, and the images are compared with it.
+    pub(crate) images: bool,
 }
+
+/// How many batches a thread makes where the images are compared.
+const BATCHES: u64 = 16;
+
+/// How many steps the journal has room for: where it is cut, and where it isn't.
+const JOURNAL: u64 = 1 << 15;
+const WHOLE_JOURNAL: u64 = 1 << 22;
 
 // What the threads share. The keys below `plan.keys` are counters; those above are marks, one of each thread.
 #[derive(Drop)]
@@ -58,12 +68,15 @@ pub(crate) fn run<R: Threads + Wait + Clock + Print + Sync>(
     let opening = Opening {
         params,
         riders: plan.threads.saturating_add(4),
-        journal: 1 << 15,
+        journal: if plan.images { WHOLE_JOURNAL } else { JOURNAL },
         stamp: 1,
     };
     // A quarter of the frames is for what is placed while the crew works or sleeps.
     let resident = plan.frames - plan.frames / 4;
-    let duty = Duty::checked(params, resident - resident / 4, resident).ok_or(Fault::Size)?;
+    let mut duty = Duty::checked(params, resident - resident / 4, resident).ok_or(Fault::Size)?;
+    if !plan.images {
+        duty = duty.cutting_above(JOURNAL / 2);
+    }
     let shared = Shared {
         alloc,
         plan,
@@ -74,11 +87,16 @@ pub(crate) fn run<R: Threads + Wait + Clock + Print + Sync>(
         operations: AtomicU64::new(0),
         copies: AtomicU64::new(0),
     };
-    let closed = with_threads(rt, alloc, opening, duty.cutting_above(1 << 14), &shared)?;
+    let closed = with_threads(rt, alloc, opening, duty, &shared)?;
     let outs = closed.out?;
-    closed.ending?;
+    let ending = closed.ending?;
     for ended in outs {
         ended??;
+    }
+    if plan.images {
+        let words = images::compare(alloc, &shared.store.device, &ending)?;
+        let pages = ending.snapshot.six.flushed / PAGE_SIZE;
+        println!(rt; "checked {words} words of {pages} images").map_err(|_| Fault::Stream)?;
     }
     Ok(())
 }
@@ -111,7 +129,9 @@ impl<R: Wait + Clock + Print> Work<R> for Shared {
             self.tell_end(rt).map_err(|_| Fault::Stream)?;
         }
         // A session that finds no room in the journal when it is left loses its slot.
-        seat.session.cut();
+        if !self.plan.images {
+            seat.session.cut();
+        }
         Ok(())
     }
 
@@ -150,7 +170,12 @@ impl<'a, 'b, R: Wait + Clock + Print, L: Realm> Seat<'a, 'b, R, L> {
                 self.report(shared, second).map_err(|_| Fault::Stream)?;
             }
             told = second;
-            if shared.plan.seconds <= second {
+            let is_over = if shared.plan.images {
+                BATCHES <= batch
+            } else {
+                shared.plan.seconds <= second
+            };
+            if is_over {
                 break;
             }
         }

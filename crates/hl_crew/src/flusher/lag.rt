@@ -14,8 +14,9 @@ use hl_words::{Realm, Rider};
 use std::sync::Wait;
 
 impl<R: Wait, E: Epochs + Drop, F: Task, P: Promise, L: Realm> Flusher<'_, R, E, F, P, L> {
-    /// Wakes who looks for pages if there are some, and makes the lag's steps that it wants, up to the first that is refused. A crew that serves waits for its own settle and
-    /// close alone; another wants none while any action waits or is taken.
+    /// Wakes who looks for pages if there are some, and makes the lag's steps that it wants, up to the first that is
+    /// refused. A crew that serves waits for its own settle and close alone; another wants none while any action waits or
+    /// is taken.
     ///
     /// With as many resident pages as frames, the head never passes page N - F, N being the number
     /// of pages up to the tail, and page N needs that page's frame: then no frame comes free.

@@ -3,7 +3,7 @@ ghost use Rattle.std.specs.Prelude.{◌≡◌, ◌^◌, ◌-◌};
 ghost use Rattle.hl_crew.specs.Goes.{UpTo};
 ghost use Rattle.hl_crew.specs.Looks.{LooksNext};
 ghost use Rattle.hl_crew.specs.Pages.{FindsPage, Flushes, Passes, PassesIf};
-ghost use Rattle.hl_crew.specs.Riders.{Puts, PutsNone};
+ghost use Rattle.hl_crew.specs.Riders.{WritesPage, FailsPage};
 
 use crate::ends::{Flush, end};
 use crate::gate::Gate;
@@ -34,7 +34,7 @@ where
     W: PageWriter,
 {
     ghost finds = { λ writer. FindsPage F writer.domain.now writer.shared.now.orders.cuts
-        (G.lets writer.gate.now) (Puts W.has W.wrote) (PutsNone W.has W.failed) W.failures };
+        (G.lets writer.gate.now) (WritesPage W.has W.wrote) (FailsPage W.has W.failed) W.failures };
 
     /// Flushes a page. If the journal is full and may be cut, it is cut, and that counts as a page.
     fn find(&self, own: &mut WriterState<L, W>) -> Result<bool, Over> {
@@ -59,7 +59,8 @@ where
         sleeper: &Parker,
     ) -> Result<(), Over>
         ensures { UpTo (LooksNext (FindsPage F self.now.domain.now self.now.shared.now.orders.cuts
-            (G.lets self.now.gate.now) (Puts W.has W.wrote) (PutsNone W.has W.failed) W.failures)) (2 ^ 64 - 1) result own.old own.new }
+            (G.lets self.now.gate.now) (WritesPage W.has W.wrote) (FailsPage W.has W.failed) W.failures))
+            (2 ^ 64 - 1) result own.old own.new }
     {
         let looker = Looker {
             rt: self.rt,
@@ -75,7 +76,8 @@ where
     #[cycle(flush)]
     fn flush<W: PageWriter>(&self, own: &mut WriterState<L, W>, behind: u64) -> Result<bool, Over>
         ensures { Flushes F self.now.domain.now self.now.shared.now.orders.cuts
-            (G.lets self.now.gate.now) (Puts W.has W.wrote) (PutsNone W.has W.failed) W.failures behind result own.old own.new }
+            (G.lets self.now.gate.now) (WritesPage W.has W.wrote) (FailsPage W.has W.failed) W.failures
+            behind result own.old own.new }
     {
         let load = match self.domain.flush_take(self.rt, &mut own.rider) {
             Ok(load) => load,
@@ -102,9 +104,10 @@ where
         behind: u64,
     ) -> Result<bool, Over>
         ensures { PassesIf F self.now.domain.now self.now.shared.now.orders.cuts
-            (G.lets self.now.gate.now) (Puts W.has W.wrote) (PutsNone W.has W.failed) W.failures
+            (G.lets self.now.gate.now) (WritesPage W.has W.wrote) (FailsPage W.has W.failed) W.failures
             (Passes F self.now.domain.now self.now.shared.now.orders.cuts
-            (G.lets self.now.gate.now) (Puts W.has W.wrote) (PutsNone W.has W.failed) W.failures behind) ok result own.old own.new }
+            (G.lets self.now.gate.now) (WritesPage W.has W.wrote) (FailsPage W.has W.failed) W.failures behind)
+            ok result own.old own.new }
     {
         if ok {
             return Ok(true);

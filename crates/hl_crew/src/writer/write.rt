@@ -1,6 +1,6 @@
 ghost use Rattle.std.specs.Prelude.{◌≡◌, IfSome, IfNone};
 ghost use Rattle.hl_crew.specs.Writes.{IsWritten, IsNotWritten};
-ghost use Rattle.hl_crew.specs.Riders.{Puts, PutsNone};
+ghost use Rattle.hl_crew.specs.Riders.{WritesPage, FailsPage};
 
 use crate::gate::Gate;
 use crate::writer::{Writer, WriterState};
@@ -45,10 +45,10 @@ where
         ensures counts { own.new.counts ≡ own.old.counts }
         ensures page { IfSome result (λ written. written.page ≡ job.page) }
         ensures written { let sizes = self.now.domain.now.sizes
-            in IfSome result (λ written. IsWritten (Puts W.has W.wrote) sizes job
+            in IfSome result (λ written. IsWritten (WritesPage W.has W.wrote) sizes job
             own.old.rider own.new.rider own.old.pages own.new.pages) }
         ensures refused { let sizes = self.now.domain.now.sizes
-            in IfNone result (IsNotWritten (PutsNone W.has W.failed) W.failures sizes job
+            in IfNone result (IsNotWritten (FailsPage W.has W.failed) W.failures sizes job
             own.old.rider own.new.rider own.old.pages own.new.pages) }
     {
         self.domain.known();

@@ -1,7 +1,7 @@
 use Rattle.std.proofs.Common.{Err, refl, inl, inr}
 use Rattle.std.specs.Prelude.{Ok}
 use Rattle.std.proofs.lemmas.Result.{err_from_is_err_and}
-use Rattle.hl_crew.specs.Riders.{Puts, PutsNone}
+use Rattle.hl_crew.specs.Riders.{WritesPage, FailsPage}
 use Rattle.hl_crew.proofs.PageLaws.{copies_of, passes_more}
 use Rattle.hl_crew.proofs.writer.Writer.+flush.Goals as goal
 
@@ -22,7 +22,7 @@ flush-returns-in_err-end g t c =
         taker = c.flush_take.new.rider;
         taken = c.in-Ok.ensures.met;
         copier = told.new.own;
-        copies = rw c.ok-ok.ensures (copies_of (g.G.Gate.lets writer.gate.now) (Puts g.W.PageWriter.has g.W.PageWriter.wrote) (PutsNone g.W.PageWriter.has g.W.PageWriter.failed) g.W.PageWriter.failures writer.domain.now.sizes told.result.ok c.in-Ok.load _ _ _ _
+        copies = rw c.ok-ok.ensures (copies_of (g.G.Gate.lets writer.gate.now) (WritesPage g.W.PageWriter.has g.W.PageWriter.wrote) (FailsPage g.W.PageWriter.has g.W.PageWriter.failed) g.W.PageWriter.failures writer.domain.now.sizes told.result.ok c.in-Ok.load _ _ _ _
             (rw c.job.ensures at told.ensures.gate) (rw c.job.ensures at told.ensures.written) (rw c.job.ensures at told.ensures.failed));
         uncounted = told.ensures.counts;
         last = c.flush_behind-passed.new.own;
@@ -47,7 +47,7 @@ flush-returns g t c =
         taker = c.flush_take.new.rider;
         taken = c.in-Ok.ensures.met;
         copier = told.new.own;
-        copies = rw c.ok-ok.ensures (copies_of (g.G.Gate.lets writer.gate.now) (Puts g.W.PageWriter.has g.W.PageWriter.wrote) (PutsNone g.W.PageWriter.has g.W.PageWriter.failed) g.W.PageWriter.failures writer.domain.now.sizes told.result.ok c.in-Ok.load _ _ _ _
+        copies = rw c.ok-ok.ensures (copies_of (g.G.Gate.lets writer.gate.now) (WritesPage g.W.PageWriter.has g.W.PageWriter.wrote) (FailsPage g.W.PageWriter.has g.W.PageWriter.failed) g.W.PageWriter.failures writer.domain.now.sizes told.result.ok c.in-Ok.load _ _ _ _
             (rw c.job.ensures at told.ensures.gate) (rw c.job.ensures at told.ensures.written) (rw c.job.ensures at told.ensures.failed));
         uncounted = told.ensures.counts;
         last = c.flush_behind-passed.new.own;
@@ -63,5 +63,5 @@ pub flush_behind-returns : goal.flush_behind-returns
 flush_behind-returns g t c =
     let writer = c.args.self.now in
     rw c.if-ok.false
-    (passes_more g.row.F.Denot writer.domain.now writer.shared.now.orders.cuts (g.G.Gate.lets writer.gate.now) (Puts g.W.PageWriter.has g.W.PageWriter.wrote) (PutsNone g.W.PageWriter.has g.W.PageWriter.failed) g.W.PageWriter.failures c.args.behind _ _ _
+    (passes_more g.row.F.Denot writer.domain.now writer.shared.now.orders.cuts (g.G.Gate.lets writer.gate.now) (WritesPage g.W.PageWriter.has g.W.PageWriter.wrote) (FailsPage g.W.PageWriter.has g.W.PageWriter.failed) g.W.PageWriter.failures c.args.behind _ _ _
     c.if-behind-eq0.false c.flush.ensures)
