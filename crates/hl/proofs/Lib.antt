@@ -1,3 +1,4 @@
+pub mod EvictedLaws
 pub mod HelpLaws
 pub mod OutLaws
 pub mod RecordLaws

@@ -2,6 +2,7 @@ pub mod Attempts
 pub mod Closings
 pub mod Crews
 pub mod Devices
+pub mod Evictions
 pub mod Helps
 pub mod Openings
 pub mod Records

@@ -1,6 +1,6 @@
 //! The tests of the crew and of what runs above it, of what no clause says: that its threads run beside one another,
 //! what they count, and what comes back; when a crew that serves cuts; that jobs are called by a crew alone; how a race
-//! ends at a full journal, and what its audit sees; what the programs of `hl_uses` print.
+//! ends at a full journal, and what its audit sees.
 //!
 //! This crate has no code beside its tests: a crate with tests is proved twice.
 #![tactic(auto)]
@@ -21,8 +21,6 @@ mod pouch;
 mod races;
 #[cfg(test)]
 mod serves;
-#[cfg(test)]
-mod uses;
 #[cfg(test)]
 mod waits;
 #[cfg(test)]

@@ -10,7 +10,7 @@ use std::thread::Threads;
 /// A core under a lock of the author's own: two threads place a hundred records each. The words are the author's too.
 ///
 /// Faults: `OutOfMemory`; `Stream` if the writer fails.
-pub fn run<R: Threads + Wait + Sync, W: Write>(
+pub(crate) fn run<R: Threads + Wait + Sync, W: Write>(
     rt: &R,
     alloc: Global,
     out: &mut W,

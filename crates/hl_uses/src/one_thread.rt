@@ -9,7 +9,7 @@ use std::io::Write;
 /// Fills a page with a record, settles it, flushes it to memory, closes it and frees its frame.
 ///
 /// Faults: `OutOfMemory`; `Stream` if the writer fails.
-pub fn run<W: Write>(alloc: Global, out: &mut W) -> Result<(), Fault> {
+pub(crate) fn run<W: Write>(alloc: Global, out: &mut W) -> Result<(), Fault> {
     // Pages of 4 words, 2 frames, 1 slot, 4 places for actions.
     let params = Params::checked(4, 2, 1, 4).ok_or(Fault::Size)?;
     let mut engine = Engine::<CountTable, NoJob, AnyAnswer>::open(alloc, params)?;

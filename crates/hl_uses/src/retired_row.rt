@@ -26,7 +26,7 @@ type RowCore = Core<CountTable, Retired>;
 /// used. The row itself is what the bump stores.
 ///
 /// Faults: `OutOfMemory`; `Stream` if the writer fails.
-pub fn run<W: Write>(alloc: Global, out: &mut W) -> Result<(), Fault> {
+pub(crate) fn run<W: Write>(alloc: Global, out: &mut W) -> Result<(), Fault> {
     let params = Params::checked(4, 2, 2, 4).ok_or(Fault::Size)?;
     let mut core = RowCore::open(alloc, params)?;
     run_on(alloc, &mut core, out)

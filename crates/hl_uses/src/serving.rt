@@ -22,7 +22,7 @@ type Crew<L> = [Rider<L>; 4];
 /// ended.
 ///
 /// Faults: `OutOfMemory`; `Stream` if the writer fails.
-pub fn run<R: Threads + Wait + Sync, W: Write>(
+pub(crate) fn run<R: Threads + Wait + Sync, W: Write>(
     rt: &R,
     alloc: Global,
     out: &mut W,
