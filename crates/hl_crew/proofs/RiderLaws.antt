@@ -162,6 +162,10 @@ module _ (serves : Bool) (sizes : Sizes) where
     send_works i (Err over) old new (inl (fault, other, is, (taken, same)), sent) = load_works (Err fault) old.rider new.rider taken
     send_works i (Err over) old new (inr (lost, (load, taken, puts)), sent) = load_works (Ok load) old.rider new.rider taken
 
+-- each of the lag's steps is one
+kind_at : (steps : List Step) → All (λ step. is_lag_step step ≡ true) steps → (i : ℕ) (step : Step) → slice_get steps i ≡ Some step → is_lag_step step ≡ true
+kind_at steps kinds i step at = subst (λ (s : Step). is_lag_step s ≡ true) (get_or_from_slice_get steps i step step at) (kinds i step (slice_get_within steps i step at))
+
 -- what a flusher does
 module _ {L : Type 0} (sizes : Sizes) (F : Type 0) (domain : DomainState) where
   -- what two states of it are known to be
@@ -178,10 +182,6 @@ module _ {L : Type 0} (sizes : Sizes) (F : Type 0) (domain : DomainState) where
   make_works serves false step result old new lag (is, same) = flusher_same serves old new same
   make_works serves true step (Ok done) old new lag (answer, made, is) = step_works serves sizes step (Ok answer) old.rider new.rider made (λ serving. lag_quiet step lag)
   make_works serves true step (Err fault) old new lag (made, is) = step_works serves sizes {F = F} {X = ℕ} step (Err fault) old.rider new.rider made (λ serving. lag_quiet step lag)
-
-  -- each of the lag's steps is one
-  kind_at : (steps : List Step) → All (λ step. is_lag_step step ≡ true) steps → (i : ℕ) (step : Step) → slice_get steps i ≡ Some step → is_lag_step step ≡ true
-  kind_at steps kinds i step at = subst (λ (s : Step). is_lag_step s ≡ true) (get_or_from_slice_get steps i step step at) (kinds i step (slice_get_within steps i step at))
 
   lag_step_works : (serves : Bool) (now : Snapshot) (steps : List Step) → All (λ step. is_lag_step step ≡ true) steps → (i : ℕ) (result : Result Bool Fault) (old new : FlusherState L) → MakesNext F domain serves now steps i result old new → FlusherWorks serves old new
   lag_step_works serves now steps kinds i (Ok true) old new (step, at, made) = make_works serves _ step _ old new (kind_at steps kinds i step at) made
