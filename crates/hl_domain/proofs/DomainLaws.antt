@@ -203,6 +203,7 @@ stands_noted st = record {
   stores_are = st.stores_are;
   read_only_is = st.read_only_is;
   head_is = st.head_is;
+  safe_read_only_is = st.safe_read_only_is;
   total_is = st.total_is;
   total_most = st.total_most;
   journal_most = st.journal_most;

@@ -1,4 +1,5 @@
--- Calls of riders that met no fewer steps than others' left, or were told of these, in the one list.
+-- Calls of riders that met no fewer steps than others' left, or were told of these, and loads of the safe read-only offset,
+-- in the one list.
 use Rattle.std.proofs.Common.{◌≡◌, ℕ, zero, suc, ◌+◌, ◌≤◌, List, [], ◌∷◌, ◌++◌, length, map, Some, slice_get, refl, sym, ap, ◌∙◌, subst, arith, append_assoc, length-append}
 use Rattle.std.specs.List.{AllByRecursion as Every}
 use Rattle.hl_model.specs.declared.step.Step.{Step}
@@ -12,9 +13,11 @@ use Rattle.hl_words.specs.declared.view.RiderView.{RiderView}
 use Rattle.hl_words.specs.Rule.{RisesTo}
 use Rattle.hl_words.specs.States.{RiderState, AreTied}
 use Rattle.hl_words.specs.Past.{CallsAfterMet}
+use Rattle.hl_words.specs.Views.{looked}
 use Rattle.hl_domain.specs.Domains.{IsEnding}
 use Rattle.hl_keeper.specs.Endings.{EndingState}
-use Rattle.hl_domain.specs.Told.{calls_in, LaterCallsBegin, ToldCallsBegin}
+use Rattle.hl_keeper.proofs.SettledLaws.{loads_are_settled as settled}
+use Rattle.hl_domain.specs.Told.{calls_in, LaterCallsBegin, ToldCallsBegin, LoadsAreSettled}
 
 -- the diary's call at the place of a call among the touches
 record IsThere (calls : List Entry) (place : ℕ) (met left : Extent) : Type 0 where
@@ -87,3 +90,9 @@ told_calls_begin law F sizes riders ending i j met left first n r q newer betwee
     let e = there newer (between ++ Met q.view.name (length past) ∷ earlier) met left r.calls own in
     let d = there (later ++ recent) older first n q.calls its in
     (e.call, d.call, e.at, d.at, later_calls_begin F sizes riders ending i j (calls_in newer) (calls_in (later ++ recent)) r q e.call d.call end ati atj e.at d.at (omega (arith, le.0, e.met_is, d.left_is)))
+
+-- what was loaded of the safe read-only offset
+pub loads_are_settled : (F : Type 0) → LoadsAreSettled F
+loads_are_settled F sizes riders ending i r end at =
+    settled sizes (end.steps_cut ++ ending.journal) (looked r.view.touches).safe_read_only end.accepted
+    (end.ruled.rule.offset i r.view (at_mapped (λ (q : RiderState). q.view) riders i r at)).3

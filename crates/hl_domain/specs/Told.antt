@@ -1,6 +1,7 @@
--- What the calls of a rider meet that met no fewer steps than another's left, or was told of them. Each statement is the
--- contract of a function of the module laws.
+-- What the calls of a rider meet that met no fewer steps than another's left, or was told of them; and what it found in the
+-- word of the safe read-only offset. Each statement is the contract of a function of the module laws.
 use Rattle.std.specs.Prelude.{ℕ, suc, ◌≡◌, ◌+◌, ◌≤◌, List, [], ◌∷◌, ◌++◌, length, Some, slice_get}
+use Rattle.std.specs.List.{AllByRecursion}
 use Rattle.hl_model.specs.Sizes.{Sizes}
 use Rattle.hl_history.specs.declared.view.Entry.{Entry}
 use Rattle.hl_history.specs.Lists.{Begins, left_by}
@@ -8,7 +9,9 @@ use Rattle.hl_words.specs.declared.view.Extent.{Extent}
 use Rattle.hl_words.specs.declared.view.Touch.{Touch}
 use Rattle.hl_words.specs.declared.view.Touch.TheVariants.{Stored, Loaded, Changed, Called, Looked, Met}
 use Rattle.hl_words.specs.States.{RiderState}
+use Rattle.hl_words.specs.Views.{looked}
 use Rattle.hl_keeper.specs.Endings.{EndingState}
+use Rattle.hl_keeper.specs.Stores.{IsSettled}
 use Rattle.hl_domain.specs.Domains.{IsEnding}
 
 -- A call that met no fewer steps than another left met a list that begins with what that one left
@@ -42,3 +45,9 @@ ToldCallsBegin F = (sizes : Sizes) (riders : List RiderState) (ending : EndingSt
     → q.view.touches ≡ later ++ past
     → (e d : Entry) × (slice_get r.calls (calls_in newer) ≡ Some e)
     × (slice_get q.calls (calls_in (later ++ recent)) ≡ Some d) × Begins (left_by d) e.before
+
+-- Each value that a rider loaded of the safe read-only offset is settled in the one list
+abbrev pub LoadsAreSettled : Type 0 → Type 0
+LoadsAreSettled F = (sizes : Sizes) (riders : List RiderState) (ending : EndingState F) (i : ℕ)
+    (r : RiderState) → (end : IsEnding sizes riders ending) → slice_get riders i ≡ Some r
+    → AllByRecursion (IsSettled (end.steps_cut ++ ending.journal)) (looked r.view.touches).safe_read_only

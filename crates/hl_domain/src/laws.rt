@@ -1,5 +1,5 @@
 //! What follows from a domain's ending: the contract of a function that does nothing.
-ghost use Rattle.hl_domain.specs.Told.{LaterCallsBegin, ToldCallsBegin};
+ghost use Rattle.hl_domain.specs.Told.{LaterCallsBegin, ToldCallsBegin, LoadsAreSettled};
 
 use hl_action::Task;
 
@@ -13,4 +13,11 @@ pub fn later_calls_begin<F: Task>()
 /// was told of a bump is answered a greater number.
 pub fn told_calls_begin<F: Task>()
     ensures { ToldCallsBegin F }
+{}
+
+/// What a rider found in the word of the safe read-only offset was that offset once the one list had so many steps, and
+/// no step behind these writes below it. So where a pass was told that an address is read-only, nobody writes there any
+/// more.
+pub fn loads_are_settled<F: Task>()
+    ensures { LoadsAreSettled F }
 {}

@@ -9,7 +9,7 @@
 //! | Value | What it is |
 //! |---|---|
 //! | a [`Domain`] | a keeper under its lock, and the words: shared by a `&` |
-//! | a [`Keeper`] | the core, the journal with the base of the steps cut, the right to store the master's three words |
+//! | a [`Keeper`] | the core, the journal with the base of the steps cut, the right to store the master's four words |
 //! | a `Rider` | the right to act; its share, how many steps it entered; its diary, in proofs. `close` needs all |
 //! | a [`Pass`] | the right to act for a slot, with its touches: what it did since its last locked call |
 //! | a [`Load`], a [`Broom`] | a page that was taken, to be flushed or to be cleaned; each must be ended |
@@ -27,11 +27,12 @@
 //! calls of all threads' riders and passes are those of one list of steps, the one that is there at the end. `snapshot`,
 //! `holders` and `frame_of` take no rider and note nothing: each is answered at some list.
 //!
-//! `look`, `store`, `load`, `fetch_add`, `compare_exchange`, `copy_page` and `sweep` take no lock, and their clauses are
+//! `look`, `store`, `load`, `region`, `fetch_add`, `compare_exchange`, `copy_page` and `sweep` take no lock, and their clauses are
 //! exact in the pass, the broom and the rider; `keep_up` takes the lock only if anything is new, or the pass has no
 //! room for a touch. `close` hands on the rule of the words too, of exactly what these riders did: all of it has one order,
 //! in which the calls stand. A load, or a change, found what the newest store before it left there, or 0 before any; a look
-//! found an address to which a raise or a shift of the list moved, or 0.
+//! found an address to which a raise or a shift of the list moved, or 0. Below a safe read-only offset that was loaded
+//! no later step of the list writes ([`laws::loads_are_settled`]).
 //!
 //! A thread that ends with a pass in its hands leaves the slot protected for good, and its rider missing.
 //!
@@ -45,6 +46,6 @@ pub use domain::Domain;
 pub use hl_keeper::{
     Action, AnyAnswer, ArrayVec, Ask, Base, Broom, CountTable, Drain, Ending, Epochs, Fault,
     Firing, FrameState, HasSizes, Holder, Keeper, Kept, Lease, Load, Master, NoJob, PageJob,
-    Params, Pass, Past, Promise, Ran, RawSizes, Ready, Realm, Reply, Rider, ScanTable, Seed, Six,
-    Sizes, Snapshot, Step, Task, View, Words, unlocked, worked,
+    Params, Pass, Past, Promise, Ran, RawSizes, Ready, Realm, Region, Reply, Rider, ScanTable,
+    Seed, Six, Sizes, Snapshot, Step, Task, View, Words, unlocked, worked,
 };

@@ -68,7 +68,7 @@ module _ {F : Type 0} (core : State (KeptRecord F)) (journal : JournalState) (st
   acquire_made u core' slot journal' stamps' master' rider after pass room stepped j given m r p =
       subst (λ (own : ℕ). Replied (step_fault keeper A (Acquire t)) (acquired_pass keeper t rider A) (made (step_fault keeper A (Acquire t)) A (Acquire t)) (keeper_of core' journal' (with_own own stamps') master') (Ok pass)) (sym given.own)
       (core_made keeper A (Acquire t) u core' (entered_reply slot) pass _ journal' stamps'.row.items stamps'.given master'.offsets master'.total master'.called st room stepped (p ∙ whole) j stamped
-      (quiet keeper A (Acquire t) master'.offsets st refl refl refl (ap (λ (z : MasterState). z.offsets) m)) (ap (λ (z : MasterState). z.total) m))
+      (quiet keeper A (Acquire t) master'.offsets st refl refl refl refl (ap (λ (z : MasterState). z.offsets) m)) (ap (λ (z : MasterState). z.total) m))
     where
       B : List Step
       B = A ++ Acquire t ∷ []

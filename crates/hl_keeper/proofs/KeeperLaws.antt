@@ -6,7 +6,9 @@ use Rattle.hl_model.specs.declared.step.Step.{Step}
 use Rattle.hl_model.specs.Bases.{Base, base_of}
 use Rattle.hl_model.specs.Sizes.{Sizes}
 use Rattle.hl_model.specs.Offsets.{read_only, head}
+use Rattle.hl_model.specs.Settled.{settles}
 use Rattle.hl_laws.proofs.OffsetLaws.{read_only-nil, head-nil}
+use Rattle.hl_laws.proofs.SettledLaws.{done_greatest-nil}
 use Rattle.hl_action.specs.Jobs.{KeptRecord}
 use Rattle.hl_words.specs.declared.view.Extent.{Extent}
 use Rattle.hl_words.specs.declared.view.OffsetWords.{OffsetWords}
@@ -21,7 +23,7 @@ use Rattle.hl_keeper.specs.Stamps.{is_acquire, acquires_in, slot_stamps}
 use Rattle.hl_keeper.specs.Stores.{stores_of}
 use Rattle.hl_keeper.specs.Calls.{room_fault}
 use Rattle.hl_keeper.proofs.JournalLaws.{full-none}
-use Rattle.hl_keeper.proofs.StoreLaws.{stores-nil}
+use Rattle.hl_keeper.proofs.StoreLaws.{stores-nil, newest-settled}
 use Rattle.hl_keeper.proofs.StampLaws.{acquires_in-nil, acquires_in-stay, slot_stamps-nil, slot_stamps-stay}
 
 module _ {F : Type 0} where
@@ -37,6 +39,7 @@ module _ {F : Type 0} where
     stores_are = ap (λ (z : MasterState). z.offsets) m ∙ sym stores-nil;
     read_only_is = ap (λ (z : MasterState). newest z.offsets.read_only) m ∙ sym read_only-nil;
     head_is = ap (λ (z : MasterState). newest z.offsets.head) m ∙ sym head-nil;
+    safe_read_only_is = ap (λ (z : MasterState). newest z.offsets.safe_read_only) m ∙ sym (done_greatest-nil settles);
     total_is = ap (λ (z : MasterState). z.total) m;
     total_most = omega (arith, ap (λ (z : MasterState). z.total) m);
     journal_most = omega (arith, ap (λ (z : JournalState). length z.steps) j);
@@ -61,6 +64,7 @@ module _ {F : Type 0} where
     stores_are = st.stores_are;
     read_only_is = st.read_only_is;
     head_is = st.head_is;
+    safe_read_only_is = st.safe_read_only_is;
     total_is = st.total_is;
     total_most = st.total_most;
     journal_most = omega (arith, ap length j);
@@ -106,6 +110,7 @@ module _ {F : Type 0} where
         stores_are = s;
         read_only_is = r;
         head_is = h;
+        safe_read_only_is = ap (λ (z : OffsetWords). newest z.safe_read_only) s ∙ newest-settled core.sizes (A ++ xs) core_st.accepted;
         total_is = omega (arith, t, st.total_is, length-append A xs);
         total_most = omega (arith, t, most.1, counted old A st);
         journal_most = omega (arith, len, most.0);

@@ -11,6 +11,7 @@ pub mod TouchedLaws
 pub mod SlotLaws
 pub mod StepLaws
 pub mod StoreLaws
+pub mod SettledLaws
 pub mod AcquireLaws
 pub mod ActionLaws
 pub mod SweepLaws

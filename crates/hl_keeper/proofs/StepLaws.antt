@@ -3,15 +3,20 @@ use Rattle.std.proofs.Common.{◌≡◌, ℕ, ◌+◌, ◌≤◌, true, false, c
 use Rattle.std.specs.Prelude.{Option, Some, None, Ok, Err}
 use Rattle.hl_model.specs.declared.fault.Fault.{Fault}
 use Rattle.hl_model.specs.declared.step.Reply.{Reply}
+use Rattle.hl_model.specs.declared.step.Reply.TheVariants.{Settled}
 use Rattle.hl_model.specs.declared.step.Step.{Step}
-use Rattle.hl_model.specs.declared.step.Step.TheVariants.{Raise, Shift}
-use Rattle.hl_model.specs.Actions.{bumps}
+use Rattle.hl_model.specs.declared.action.Kind.{Kind}
+use Rattle.hl_model.specs.declared.step.Step.TheVariants.{Raise, Shift, Done}
+use Rattle.hl_model.specs.Actions.{is_done, bumps, action_at}
 use Rattle.hl_model.specs.Epochs.{is_bump}
 use Rattle.hl_model.specs.Offsets.{raised_to, shifted_to, read_only, head}
-use Rattle.hl_model.specs.Replies.{or_fault, fault_of, answer_of, unless_fault}
+use Rattle.hl_model.specs.Replies.{kind_or_job_0, done_answer, or_fault, fault_of, answer_of, unless_fault}
+use Rattle.hl_model.specs.Settled.{settles}
+use Rattle.hl_laws.proofs.AcceptedLaws.{IsAccepted-push}
 use Rattle.hl_laws.proofs.ActionLaws.{bumps-push}
 use Rattle.hl_laws.proofs.NoFaultLaws.{unless_err, unless_ok, raise-none, shift-none}
 use Rattle.hl_laws.proofs.OffsetLaws.{read_only-stay, head-stay, read_only-raise, head-shift}
+use Rattle.hl_laws.proofs.SettledLaws.{done_greatest-grows, action_at-done}
 use Rattle.hl_action.specs.Jobs.{KeptRecord}
 use Rattle.hl_words.specs.declared.view.Extent.{Extent}
 use Rattle.hl_words.specs.declared.view.OffsetWords.{OffsetWords}
@@ -21,11 +26,20 @@ use Rattle.hl_core.specs.Standing.{State, Stands}
 use Rattle.hl_core.specs.Steps.{Stepped}
 use Rattle.hl_keeper.specs.Journals.{JournalState, journal_of, full_fault, with_steps}
 use Rattle.hl_keeper.specs.Keepers.{job_tag, KeeperState, KeeperStands, IsKeeper, steps_most}
-use Rattle.hl_keeper.specs.Stores.{stores_of}
+use Rattle.hl_keeper.specs.Stores.{stores_of, with_settled}
 use Rattle.hl_keeper.specs.Calls.{room_fault, origin_fault, step_fault, end_fault, made, Replied}
 use Rattle.hl_keeper.proofs.EnterLaws.{stepped_on}
-use Rattle.hl_keeper.proofs.StoreLaws.{stores-stay, stores-raise, stores-shift, stores-bump, newest-ended}
+use Rattle.hl_keeper.proofs.StoreLaws.{stores-stay, stores-raise, stores-shift, stores-bump, stores-done, newest-ended, newest-settled}
 use Rattle.hl_keeper.proofs.KeeperLaws.{moved, Stamped, grown, room-none, counted}
+
+-- the other offset words stay at a done
+same_read_only : (r : Reply) (o : OffsetWords) → newest (with_settled r o).read_only ≡ newest o.read_only
+same_read_only (Settled x) o = refl
+same_read_only _ o = refl
+
+same_head : (r : Reply) (o : OffsetWords) → newest (with_settled r o).head ≡ newest o.head
+same_head (Settled x) o = refl
+same_head _ o = refl
 
 -- the master's stores are those of the list with the step
 pub record Follow (A : List Step) (s : Step) (offsets : OffsetWords) : Type 0 where
@@ -94,10 +108,10 @@ module _ {F : Type 0} where
   pub core_told : (keeper : KeeperState F) (A : List Step) (s : Step) (core : State (KeptRecord F)) (r : Reply) → Stepped job_tag keeper.core A s core (Ok r) → (fault_of keeper.core.sizes A s ≡ None) × (r ≡ answer_of keeper.core.sizes A (A ++ s ∷ []) s)
   core_told keeper A s core r stepped = let on = stepped_on job_tag keeper.core A s core r stepped in (on.0, on.1)
 
-  -- a step that moves neither offset, and ends no epoch
-  pub quiet : (keeper : KeeperState F) (A : List Step) (s : Step) (offsets : OffsetWords) → KeeperStands keeper A → raised_to s ≡ 0 → shifted_to s ≡ 0 → is_bump s ≡ false → offsets ≡ keeper.offsets → Follow A s offsets
-  quiet keeper A s offsets st r h b e = record {
-    stores_are = e ∙ st.stores_are ∙ sym (stores-stay A s r h b);
+  -- a step that moves neither offset, and ends no epoch and no action
+  pub quiet : (keeper : KeeperState F) (A : List Step) (s : Step) (offsets : OffsetWords) → KeeperStands keeper A → raised_to s ≡ 0 → shifted_to s ≡ 0 → is_bump s ≡ false → is_done s ≡ false → offsets ≡ keeper.offsets → Follow A s offsets
+  quiet keeper A s offsets st r h b d e = record {
+    stores_are = e ∙ st.stores_are ∙ sym (stores-stay A s r h b d);
     read_only_is = ap (λ (z : OffsetWords). newest z.read_only) e ∙ st.read_only_is ∙ sym (read_only-stay A s r);
     head_is = ap (λ (z : OffsetWords). newest z.head) e ∙ st.head_is ∙ sym (head-stay A s h);
   }
@@ -155,6 +169,27 @@ module _ {F : Type 0} where
   pub bump_rises : (keeper : KeeperState F) (A : List Step) (s : Step) (n : ℕ) → KeeperStands keeper A → n ≡ bumps (A ++ s ∷ []) → newest keeper.offsets.ended ≤ n
   bump_rises keeper A s n st is =
       omega (arith, is, bumps-push A s, newest-ended A, ap (λ (z : OffsetWords). newest z.ended) st.stores_are)
+
+  -- so is the safe read-only word by the done of a settle
+  pub done_follows : (keeper : KeeperState F) (A : List Step) (c : ℕ) (r : Reply) (offsets : OffsetWords) → KeeperStands keeper A → (fault_of keeper.core.sizes A (Done c) ≡ None) × (r ≡ answer_of keeper.core.sizes A (A ++ Done c ∷ []) (Done c)) → offsets ≡ with_settled r keeper.offsets → Follow A (Done c) offsets
+  done_follows keeper A c r offsets st told e = record {
+    stores_are = e ∙ ap (with_settled r) st.stores_are ∙ ap (λ z. with_settled z (stores_of A)) answer ∙ sym (stores-done A c kind refl);
+    read_only_is = ap (λ (z : OffsetWords). newest z.read_only) e ∙ same_read_only r keeper.offsets ∙ st.read_only_is ∙ sym (read_only-stay A (Done c) refl);
+    head_is = ap (λ (z : OffsetWords). newest z.head) e ∙ same_head r keeper.offsets ∙ st.head_is ∙ sym (head-stay A (Done c) refl);
+  }
+    where
+      kind : Kind
+      kind = kind_or_job_0 (action_at c A)
+
+      answer : r ≡ done_answer (A ++ Done c ∷ []) kind
+      answer = told.1 ∙ ap (λ o. done_answer (A ++ Done c ∷ []) (kind_or_job_0 o)) (action_at-done c A)
+
+  -- and doesn't fall
+  pub done_rises : (keeper : KeeperState F) (A : List Step) (c : ℕ) (r : Reply) → KeeperStands keeper A → (fault_of keeper.core.sizes A (Done c) ≡ None) × (r ≡ answer_of keeper.core.sizes A (A ++ Done c ∷ []) (Done c)) → newest keeper.offsets.safe_read_only ≤ newest (with_settled r keeper.offsets).safe_read_only
+  done_rises keeper A c r st told =
+      let B : List Step = A ++ Done c ∷ [] in
+      let f : Follow A (Done c) (with_settled r keeper.offsets) = done_follows keeper A c r (with_settled r keeper.offsets) st told refl in
+      omega (arith, st.safe_read_only_is, done_greatest-grows settles A (Done c), newest-settled keeper.core.sizes B (IsAccepted-push keeper.core.sizes A (Done c) st.core_stands.accepted told.0), ap (λ (z : OffsetWords). newest z.safe_read_only) f.stores_are)
 
   -- the replies are the offsets
   pub raise_told : (keeper : KeeperState F) (A : List Step) (x : ℕ) → fault_of keeper.core.sizes A (Raise x) ≡ None → x ≡ read_only (A ++ Raise x ∷ [])

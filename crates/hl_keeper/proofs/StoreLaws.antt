@@ -1,19 +1,30 @@
 -- The stores of the master's words, told by a list of steps.
-use Rattle.std.proofs.Common.{◌≡◌, ℕ, zero, suc, ◌+◌, ◌<◌, true, false, cond, ltb, List, [], ◌∷◌, ◌++◌, map, reverse, refl, ap, ◌∙◌, arith}
+use Rattle.std.proofs.Common.{◌≡◌, ℕ, zero, suc, ◌+◌, ◌<◌, true, false, cond, ltb, max, List, [], ◌∷◌, ◌++◌, map, reverse, refl, sym, ap, ◌∙◌, arith}
+use Rattle.std.specs.Prelude.{Some, None}
 use Rattle.std.specs.List.{filter}
 use Rattle.std.proofs.lemmas.Bool.{lt-ltb}
 use Rattle.std.proofs.lemmas.List.{map-append, reverse-append}
 use Rattle.std.proofs.lemmas.List.Elements.{filter-append}
+use Rattle.hl_model.specs.declared.action.Kind.{Kind}
+use Rattle.hl_model.specs.declared.action.Kind.TheVariants.{User, Settle as Settling, Close as Closing}
+use Rattle.hl_model.specs.declared.action.Waiting.{Waiting}
 use Rattle.hl_model.specs.declared.step.Step.{Step}
-use Rattle.hl_model.specs.declared.step.Step.TheVariants.{Raise, Shift}
-use Rattle.hl_model.specs.Actions.{bumps}
+use Rattle.hl_model.specs.declared.step.Step.TheVariants.{Raise, Shift, Done}
+use Rattle.hl_model.specs.Lists.{gather, gather_after}
+use Rattle.hl_model.specs.Sizes.{Sizes}
+use Rattle.hl_model.specs.Actions.{bumps, is_done, action_at}
 use Rattle.hl_model.specs.Epochs.{is_bump}
 use Rattle.hl_model.specs.Offsets.{raised_to, shifted_to}
+use Rattle.hl_model.specs.Replies.{kind_or_job_0, done_answer, fault_of, IsAccepted}
+use Rattle.hl_model.specs.Settled.{settles, safe_read_only}
+use Rattle.hl_model.proofs.ListLaws.{gather-push}
+use Rattle.hl_laws.proofs.AcceptedLaws.{accepted_has}
 use Rattle.hl_laws.proofs.ActionLaws.{bumps-push}
-use Rattle.hl_words.specs.declared.view.OffsetWords.{OffsetWords}
+use Rattle.hl_laws.proofs.DrainLaws.{done_fault-none}
+use Rattle.hl_laws.proofs.SettledLaws.{done_greatest-nil, done_greatest-quiet, done_greatest-done, action_at-taken}
 use Rattle.hl_words.specs.declared.which.Which.TheVariants.{ReadOnly, Head, Ended}
 use Rattle.hl_words.specs.Views.{newest, no_offsets, with_offset}
-use Rattle.hl_keeper.specs.Stores.{moves_in, down_from, stores_of}
+use Rattle.hl_keeper.specs.Stores.{moves_in, down_from, if_settle, settled_by, settled_in, stores_of, with_settled}
 
 -- what one step more puts before the others
 moves-push : (to : Step → ℕ) (A : List Step) (s : Step) → moves_in to (A ++ s ∷ []) ≡ reverse (cond (ltb 0 (to s)) (to s ∷ []) []) ++ moves_in to A
@@ -31,42 +42,92 @@ moves-stay to A s h = moves-push to A s ∙ ap (λ n. reverse (cond (ltb 0 n) (n
 moves-more : (to : Step → ℕ) (A : List Step) (s : Step) → 0 < to s → moves_in to (A ++ s ∷ []) ≡ to s ∷ moves_in to A
 moves-more to A s lt = moves-push to A s ∙ ap (λ b. reverse (cond b (to s ∷ []) []) ++ moves_in to A) (lt-ltb 0 (to s) lt)
 
--- the stores told part by part
-stores_parts : (A B : List Step) (read_only head ended : List ℕ) → moves_in raised_to B ≡ read_only → moves_in shifted_to B ≡ head → down_from (bumps B) ≡ ended → ◌≡◌ {A = OffsetWords} (stores_of B) (record { read_only = read_only; head = head; ended = ended })
-unfolding stores_of
-stores_parts A B read_only head ended r h e = rw (r, h, e) refl
-
 -- a step that is no bump ends no epoch
 ended-stay : (A : List Step) (s : Step) → is_bump s ≡ false → down_from (bumps (A ++ s ∷ [])) ≡ down_from (bumps A)
 ended-stay A s h = ap down_from (bumps-push A s ∙ ap (λ b. bumps A + cond b 1 0) h ∙ omega arith)
 
+-- no step settled anything
+pub settled-nil : settled_in [] ≡ []
+unfolding settled_in gather gather_after
+settled-nil = refl
+
+-- what one step more settles, before what the others did
+pub settled-push : (A : List Step) (s : Step) → settled_in (A ++ s ∷ []) ≡ reverse (settled_by A s) ++ settled_in A
+unfolding settled_in
+settled-push A s = ap reverse (gather-push settled_by A s) ∙ reverse-append (gather settled_by A) (settled_by A s)
+
+-- a step that ends no action settles nothing
+settled-stay : (A : List Step) (s : Step) → is_done s ≡ false → settled_in (A ++ s ∷ []) ≡ settled_in A
+settled-stay A s h = settled-push A s ∙ ap (λ l. reverse l ++ settled_in A) (none s h)
+  where
+    none : (s : Step) → is_done s ≡ false → settled_by A s ≡ []
+    none (Done ticket) h = cc
+    none _ h = refl
+
+-- the done of an action of this kind
+settled-done : (A : List Step) (c : ℕ) (k : Kind) → kind_or_job_0 (action_at c A) ≡ k → settled_in (A ++ Done c ∷ []) ≡ reverse (if_settle (safe_read_only (A ++ Done c ∷ [])) k) ++ settled_in A
+settled-done A c k is = settled-push A (Done c) ∙ ap (λ z. reverse (if_settle (safe_read_only (A ++ Done c ∷ [])) z) ++ settled_in A) is
+
 -- before any step nothing is stored
 pub stores-nil : stores_of [] ≡ no_offsets
-unfolding stores_of moves_in bumps down_from
+unfolding stores_of moves_in bumps down_from settled_in gather gather_after
 stores-nil = refl
 
--- a step that moves no offset and ends no epoch stores nothing
-pub stores-stay : (A : List Step) (s : Step) → raised_to s ≡ 0 → shifted_to s ≡ 0 → is_bump s ≡ false → stores_of (A ++ s ∷ []) ≡ stores_of A
+-- a step that moves no offset, and ends no epoch and no action, stores nothing
+pub stores-stay : (A : List Step) (s : Step) → raised_to s ≡ 0 → shifted_to s ≡ 0 → is_bump s ≡ false → is_done s ≡ false → stores_of (A ++ s ∷ []) ≡ stores_of A
 unfolding stores_of
-stores-stay A s r h e = rw (moves-stay raised_to A s r, moves-stay shifted_to A s h, ended-stay A s e) refl
+stores-stay A s r h e d = rw (moves-stay raised_to A s r, moves-stay shifted_to A s h, ended-stay A s e, settled-stay A s d) refl
 
 -- a raise stores the read-only offset
 pub stores-raise : (A : List Step) (x : ℕ) → 0 < x → stores_of (A ++ Raise x ∷ []) ≡ with_offset ReadOnly x (stores_of A)
 unfolding stores_of
-stores-raise A x lt = rw (moves-more raised_to A (Raise x) lt, moves-stay shifted_to A (Raise x) refl, ended-stay A (Raise x) refl) refl
+stores-raise A x lt = rw (moves-more raised_to A (Raise x) lt, moves-stay shifted_to A (Raise x) refl, ended-stay A (Raise x) refl, settled-stay A (Raise x) refl) refl
 
 -- a shift the head
 pub stores-shift : (A : List Step) (x : ℕ) → 0 < x → stores_of (A ++ Shift x ∷ []) ≡ with_offset Head x (stores_of A)
 unfolding stores_of
-stores-shift A x lt = rw (moves-stay raised_to A (Shift x) refl, moves-more shifted_to A (Shift x) lt, ended-stay A (Shift x) refl) refl
+stores-shift A x lt = rw (moves-stay raised_to A (Shift x) refl, moves-more shifted_to A (Shift x) lt, ended-stay A (Shift x) refl, settled-stay A (Shift x) refl) refl
 
 -- a bump the epoch that it ends
 pub stores-bump : (A : List Step) (s : Step) (n : ℕ) → raised_to s ≡ 0 → shifted_to s ≡ 0 → is_bump s ≡ true → n ≡ bumps (A ++ s ∷ []) → stores_of (A ++ s ∷ []) ≡ with_offset Ended n (stores_of A)
 unfolding stores_of down_from
-stores-bump A s n r h b e = rw (moves-stay raised_to A s r, moves-stay shifted_to A s h, e, more) refl
+stores-bump A s n r h b e = rw (moves-stay raised_to A s r, moves-stay shifted_to A s h, e, more, settled-stay A s (none s b)) refl
   where
+    none : (s : Step) → is_bump s ≡ true → is_done s ≡ false
+    none (Done ticket) h = cc
+    none _ h = refl
+
     more : bumps (A ++ s ∷ []) ≡ suc (bumps A)
     more = bumps-push A s ∙ ap (λ z. bumps A + cond z 1 0) b ∙ omega arith
+
+-- a done what its answer tells
+pub stores-done : (A : List Step) (c : ℕ) (k : Kind) → kind_or_job_0 (action_at c A) ≡ k → stores_of (A ++ Done c ∷ []) ≡ with_settled (done_answer (A ++ Done c ∷ []) k) (stores_of A)
+unfolding stores_of
+stores-done A c (User tag) is = rw (moves-stay raised_to A (Done c) refl, moves-stay shifted_to A (Done c) refl, ended-stay A (Done c) refl, settled-done A c (User tag) is) refl
+stores-done A c (Settling x) is = rw (moves-stay raised_to A (Done c) refl, moves-stay shifted_to A (Done c) refl, ended-stay A (Done c) refl, settled-done A c (Settling x) is) refl
+stores-done A c (Closing x) is = rw (moves-stay raised_to A (Done c) refl, moves-stay shifted_to A (Done c) refl, ended-stay A (Done c) refl, settled-done A c (Closing x) is) refl
+
+-- the newest safe read-only offset that was stored is the list's
+pub newest-settled : (sizes : Sizes) (A : List Step) → IsAccepted sizes A → newest (stores_of A).safe_read_only ≡ safe_read_only A
+unfolding stores_of
+newest-settled sizes = accepted_has sizes (λ A. newest (settled_in A) ≡ safe_read_only A) none step
+  where
+    none : newest (settled_in []) ≡ safe_read_only []
+    none = ap newest settled-nil ∙ sym (done_greatest-nil settles)
+
+    by_kind : (A : List Step) (c : ℕ) (k : Kind) → kind_or_job_0 (action_at c A) ≡ k → safe_read_only (A ++ Done c ∷ []) ≡ max (safe_read_only A) (settles k) → newest (settled_in A) ≡ safe_read_only A → newest (settled_in (A ++ Done c ∷ [])) ≡ safe_read_only (A ++ Done c ∷ [])
+    by_kind A c (User tag) is more before = omega (arith, ap newest (settled-done A c (User tag) is), more, before)
+    by_kind A c (Settling x) is more before = ap newest (settled-done A c (Settling x) is)
+    by_kind A c (Closing x) is more before = omega (arith, ap newest (settled-done A c (Closing x) is), more, before)
+
+    done : (A : List Step) (c : ℕ) → IsAccepted sizes A → fault_of sizes A (Done c) ≡ None → newest (settled_in A) ≡ safe_read_only A → newest (settled_in (A ++ Done c ∷ [])) ≡ safe_read_only (A ++ Done c ∷ [])
+    done A c a h before =
+        let w : (w : Waiting) × (action_at c A ≡ Some w) × (w.ticket ≡ c) × (_ ≡ Some w) = action_at-taken A c (done_fault-none sizes A c h) in
+        by_kind A c w.0.kind (ap kind_or_job_0 w.1) (done_greatest-done sizes settles A c w.0 a h w.1) before
+
+    step : (A : List Step) (s : Step) → IsAccepted sizes A → fault_of sizes A s ≡ None → newest (settled_in A) ≡ safe_read_only A → newest (settled_in (A ++ s ∷ [])) ≡ safe_read_only (A ++ s ∷ [])
+    step A (Done c) a h before = done A c a h before
+    step A s a h before = ap newest (settled-stay A s refl) ∙ before ∙ sym (done_greatest-quiet sizes settles A s a refl)
 
 -- the newest epoch that was stored is the number of bumps
 pub newest-ended : (A : List Step) → newest (stores_of A).ended ≡ bumps A

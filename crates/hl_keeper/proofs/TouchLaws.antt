@@ -9,6 +9,7 @@ use Rattle.hl_model.specs.declared.step.Step.{Step}
 use Rattle.hl_model.specs.declared.step.Step.TheVariants.{Refresh, Release, Allocate, Look, Write}
 use Rattle.hl_model.specs.declared.view.View.{View}
 use Rattle.hl_model.specs.Sizes.{Sizes}
+use Rattle.hl_model.specs.Actions.{is_done}
 use Rattle.hl_model.specs.Epochs.{is_bump, mark, enters, leaves, is_protected}
 use Rattle.hl_model.specs.Lists.{until_last}
 use Rattle.hl_model.specs.Offsets.{raised_to, shifted_to, read_only, head, place_of, tail_past, tail}
@@ -24,7 +25,7 @@ use Rattle.hl_keeper.specs.Stores.{stores_of}
 use Rattle.hl_keeper.proofs.StoreLaws.{stores-stay}
 use Rattle.hl_keeper.specs.Touches.{view_past, view_after, IsTouch, AreTouches, is_call}
 
--- a step that moves no slot, no offset and no page that is freed
+-- a step that moves no slot, no offset and no page that is freed, and ends no action
 pub record IsStill (s : Step) : Type 0 where
   pub enters_none : (t : ℕ) → enters t s ≡ false
   pub leaves_none : (t : ℕ) → leaves t s ≡ false
@@ -33,11 +34,12 @@ pub record IsStill (s : Step) : Type 0 where
   pub tail_stays : (page_size tail : ℕ) → tail_past page_size tail s ≡ tail
   pub frees_none : (p : ℕ) → frees p s ≡ false
   pub bumps_none : is_bump s ≡ false
+  pub dones_none : is_done s ≡ false
 
 -- a touch is such a step
 pub touch_still : (t : ℕ) (v : View) (s : Step) → IsTouch t v s → IsStill s
-touch_still t v (Look u r h) is = record { enters_none = λ t. refl; leaves_none = λ t. refl; raises_none = refl; shifts_none = refl; tail_stays = λ p q. refl; frees_none = λ p. refl; bumps_none = refl }
-touch_still t v (Write u a x) is = record { enters_none = λ t. refl; leaves_none = λ t. refl; raises_none = refl; shifts_none = refl; tail_stays = λ p q. refl; frees_none = λ p. refl; bumps_none = refl }
+touch_still t v (Look u r h) is = record { enters_none = λ t. refl; leaves_none = λ t. refl; raises_none = refl; shifts_none = refl; tail_stays = λ p q. refl; frees_none = λ p. refl; bumps_none = refl; dones_none = refl }
+touch_still t v (Write u a x) is = record { enters_none = λ t. refl; leaves_none = λ t. refl; raises_none = refl; shifts_none = refl; tail_stays = λ p q. refl; frees_none = λ p. refl; bumps_none = refl; dones_none = refl }
 touch_still t v _ is = absurd is
 
 -- a look of a slot that isn't below its view is accepted, and its view is then what the look brings
@@ -132,7 +134,7 @@ touches_leave_stores t A v (s ∷ xs) are =
     let still = touch_still t v s are.0 in
     ap stores_of (sym (append_assoc A (s ∷ []) xs))
     ∙ touches_leave_stores t (A ++ s ∷ []) (view_past v s) xs are.1
-    ∙ stores-stay A s still.raises_none still.shifts_none still.bumps_none
+    ∙ stores-stay A s still.raises_none still.shifts_none still.bumps_none still.dones_none
 
 -- touches, and one more
 pub touches_more : (t : ℕ) (v : View) (xs : List Step) (s : Step) → AreTouches t v xs → IsTouch t (view_after v xs) s → AreTouches t v (xs ++ s ∷ []) × (view_after v (xs ++ s ∷ []) ≡ view_past (view_after v xs) s)

@@ -6,6 +6,7 @@ use Rattle.hl_model.specs.declared.fault.Fault.{Fault}
 use Rattle.hl_model.specs.declared.step.Reply.{Reply}
 use Rattle.hl_model.specs.declared.step.Step.{Step}
 use Rattle.hl_model.specs.declared.step.Step.TheVariants.{Refresh, Release, Allocate}
+use Rattle.hl_model.specs.Actions.{is_done}
 use Rattle.hl_model.specs.Epochs.{is_bump}
 use Rattle.hl_model.specs.Offsets.{raised_to, shifted_to, read_only, head}
 use Rattle.hl_model.specs.Replies.{or_fault, fault_of, answer_of, unless_fault}
@@ -36,11 +37,11 @@ use Rattle.hl_keeper.proofs.StoreLaws.{stores-stay}
 use Rattle.hl_keeper.proofs.KeeperLaws.{moved, Stamped, grown, room-none, counted}
 use Rattle.hl_keeper.proofs.StampLaws.{acquires_in-stay, slot_stamps-stay, call_acquires, touches_leave_stamps}
 
--- a pass's own step moves no offset that the words show, and ends no epoch
-pub call_raises : (s : Step) → is_call s ≡ true → (raised_to s ≡ 0) × (shifted_to s ≡ 0) × (is_bump s ≡ false)
-call_raises (Refresh t) h = (refl, refl, refl)
-call_raises (Release t) h = (refl, refl, refl)
-call_raises (Allocate t n) h = (refl, refl, refl)
+-- a pass's own step moves no offset that the words show, and ends no epoch and no action
+pub call_raises : (s : Step) → is_call s ≡ true → (raised_to s ≡ 0) × (shifted_to s ≡ 0) × (is_bump s ≡ false) × (is_done s ≡ false)
+call_raises (Refresh t) h = (refl, refl, refl, refl)
+call_raises (Release t) h = (refl, refl, refl, refl)
+call_raises (Allocate t n) h = (refl, refl, refl, refl)
 call_raises _ h = cc
 
 -- where they are 0, there are none
@@ -184,7 +185,7 @@ module _ {F : Type 0} where
       still : (read_only (A ++ p.touches) ≡ read_only A) × (head (A ++ p.touches) ≡ head A)
       still = let z = touches_leave_offsets keeper.core.sizes p.slot A p.held p.touches at.may.lawful in (z.0, z.1)
 
-      quiet : (raised_to s ≡ 0) × (shifted_to s ≡ 0) × (is_bump s ≡ false)
+      quiet : (raised_to s ≡ 0) × (shifted_to s ≡ 0) × (is_bump s ≡ false) × (is_done s ≡ false)
       quiet = call_raises s at.may.kind
 
       stamped : Stamped keeper (A ++ (p.touches ++ s ∷ [])) keeper.stamps keeper.acquired
@@ -206,7 +207,7 @@ module _ {F : Type 0} where
           (same ∙ at.sizes)
           (j ∙ ap (with_steps (s ∷ [])) b ∙ steps_assoc (journal_of keeper) p.touches (s ∷ []))
           stamped
-          (ap (λ (z : MasterState). z.offsets) m ∙ st.stores_are ∙ sym (touches_leave_stores p.slot A p.held p.touches at.may.lawful) ∙ sym (stores-stay (A ++ p.touches) s quiet.0 quiet.1 quiet.2) ∙ ap stores_of whole)
+          (ap (λ (z : MasterState). z.offsets) m ∙ st.stores_are ∙ sym (touches_leave_stores p.slot A p.held p.touches at.may.lawful) ∙ sym (stores-stay (A ++ p.touches) s quiet.0 quiet.1 quiet.2 quiet.3) ∙ ap stores_of whole)
           (ap (λ (z : MasterState). newest z.offsets.read_only) m ∙ st.read_only_is ∙ sym still.0 ∙ sym (read_only-stay (A ++ p.touches) s quiet.0) ∙ ap read_only whole)
           (ap (λ (z : MasterState). newest z.offsets.head) m ∙ st.head_is ∙ sym still.1 ∙ sym (head-stay (A ++ p.touches) s quiet.1) ∙ ap head whole)
           (omega (arith, ap (λ (z : MasterState). z.total) m, n, len))

@@ -3,6 +3,7 @@ use Rattle.std.specs.Prelude.{◌≡◌, ℕ, ◌^◌, ◌≤◌, List, ◌++◌
 use Rattle.hl_model.specs.declared.step.Step.{Step}
 use Rattle.hl_model.specs.Sizes.{Sizes}
 use Rattle.hl_model.specs.Offsets.{read_only, head}
+use Rattle.hl_model.specs.Settled.{safe_read_only}
 use Rattle.hl_model.specs.Bases.{Base, base_of}
 use Rattle.hl_action.specs.Jobs.{KeptRecord}
 use Rattle.hl_words.specs.declared.view.Extent.{Extent}
@@ -70,6 +71,7 @@ pub record KeeperStands {F : Type 0} (keeper : KeeperState F) (A : List Step) : 
   pub stores_are : keeper.offsets ≡ stores_of A
   pub read_only_is : newest keeper.offsets.read_only ≡ read_only A
   pub head_is : newest keeper.offsets.head ≡ head A
+  pub safe_read_only_is : newest keeper.offsets.safe_read_only ≡ safe_read_only A
   pub total_is : keeper.total ≡ length A
   pub total_most : keeper.total ≤ steps_most
   pub journal_most : length keeper.journal ≤ keeper.limit

@@ -7,6 +7,7 @@ pub mod Lending
 pub mod Pages
 pub mod Parts
 pub mod Passes
+pub mod Regions
 pub mod Stamps
 pub mod Stores
 pub mod Taking

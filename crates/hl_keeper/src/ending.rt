@@ -18,7 +18,7 @@ pub struct Ending<F: Task, P: Promise> {
     pub left: Drain<Kept<F, P>>,
     /// All quantities.
     pub snapshot: Snapshot,
-    /// What the words hold: the cells, and the master's three.
+    /// What the words hold: the cells, and the master's four.
     pub words: LastWords,
 }
 

@@ -7,7 +7,7 @@
 //!
 //! A keeper stands at a list of accepted steps where its core does, the list is the steps that were
 //! cut and then its journal, its base is that of the steps cut, the master's words were stored as
-//! its raises, its shifts and its bumps say, and the riders' steps in all are as many as the list
+//! its raises, shifts, bumps and dones say, and the riders' steps in all are as many as the list
 //! has: `KeeperStands` in `specs/Keepers.antt`. Each keeper stands at some list: that is
 //! in its type. Each locked call says: at whatever list the keeper stood, the answer is the
 //! definitions' after that list and the pass's touches, and the keeper then stands at the list with
@@ -21,7 +21,7 @@
 //!
 //! # Touches
 //!
-//! Eight calls take no lock: a pass's `look`, `keeps_up`, `store`, `load`, `fetch_add` and
+//! Nine calls take no lock: a pass's `look`, `keeps_up`, `store`, `load`, `region`, `fetch_add` and
 //! `compare_exchange`, and a rider's `copy_page` and `sweep`. Of these a store, an add, an exchange that stored, and a
 //! look that raised the view are touches. Touches are lawful in the pass's own view, and enter the
 //! journal, in their order, before the step of the pass's next locked call: what the slot's view
@@ -62,6 +62,7 @@ mod offsets;
 mod pages;
 mod pass;
 mod queries;
+mod region;
 mod rider;
 mod slots;
 mod sweep;
@@ -85,3 +86,4 @@ pub use keeper::Keeper;
 pub use lease::Lease;
 pub use load::{Broom, Load, PageJob};
 pub use pass::Pass;
+pub use region::Region;

@@ -1,9 +1,13 @@
-//! What a pass does without the lock: looks at the offset words, and stores and loads of cells.
-ghost use Rattle.std.specs.Prelude.{◌≡◌, ◌*◌, ◌<◌, Some, None, max, length, IfOk, OnOk, MatchResult};
+//! What a pass does without the lock: looks at the offset words, stores and loads of cells, and the question in which
+//! region an address is.
+ghost use Rattle.std.specs.Prelude.{◌≡◌, ◌*◌, ◌<◌, ◌≤◌, Some, None, max, length, IfOk, OnOk, IfErr, MatchResult};
+ghost use Rattle.hl_model.specs.declared.fault.Fault.TheVariants.{Beyond as BEYOND};
 ghost use Rattle.hl_model.specs.Replies.{unless_fault, unless_refused};
 ghost use Rattle.hl_keeper.specs.Passes.{PassRecord, seen, touches_most, touch_fault, store_fault, load_fault, with_look, with_store, with_load, last_read_only, last_head, LooksOn};
+ghost use Rattle.hl_keeper.specs.Regions.{IsToldRegion};
 
 use crate::pass::Pass;
+use crate::region::Region;
 use crate::touches::TOUCHES_MOST;
 use hl_model::{Fault, Sizes, Step, View, cell_of};
 use hl_pass::{may_load, may_store, raised, rises};
@@ -94,6 +98,35 @@ pub fn load<L: Realm>(
     pass.may_load(a)?;
     let cell = cell_of(params, a);
     Ok(words.load_cell(&mut pass.rider, cell))
+}
+
+/// Tells in which region an address is. Below the read-only offset that the pass saw it loads the word of the safe
+/// read-only offset, for its rider alone: that is no touch, and not below what the rider loaded of it before.
+///
+/// `Beyond` if the address isn't below the tail that the pass saw, nor evicted.
+#[inline(always)]
+pub fn region<L: Realm>(words: &Words<L>, pass: &mut Pass<L>, a: u64) -> Result<Region, Fault>
+    ensures region { IfOk result (λ region. IsToldRegion pass.old pass.new a region) }
+    ensures beyond { let saw = seen pass.old
+        in IfErr result (λ fault. (fault ≡ BEYOND saw.tail) × (saw.head ≤ a) × (saw.tail ≤ a)
+        × (pass.new ≡ pass.old)) }
+{
+    let seen = pass.own.view;
+    if a < seen.head {
+        return Ok(Region::Evicted);
+    }
+    if a >= seen.tail {
+        return Err(Fault::Beyond { tail: seen.tail });
+    }
+    if a >= seen.read_only {
+        return Ok(Region::Mutable);
+    }
+    let safe_read_only = words.load_offset(&mut pass.rider, Which::SafeReadOnly);
+    if a < safe_read_only {
+        Ok(Region::ReadOnly)
+    } else {
+        Ok(Region::Fuzzy)
+    }
 }
 
 impl<L: Realm> Pass<L> {

@@ -120,14 +120,14 @@ impl<E: Epochs + Drop, F: Task, P: Promise, L: Realm> Keeper<E, F, P, L> {
     }
 
     /// Tells that a taken action was run: it is then done. A settle and a close raise their offset
-    /// to what they stored; for a job this returns the tag, and what the job answered is in the
-    /// `Ran`.
+    /// to what they stored, and a settle stores its word; for a job this returns the tag, and what
+    /// the job answered is in the `Ran`.
     ///
     /// Faults, with it handed back: `Stranger` if it is of another domain, `JournalFull`,
     /// `NotTaken`.
     pub fn done(
         &mut self,
-        _words: &Words<L>,
+        words: &Words<L>,
         rider: &mut Rider<L>,
         ran: Ran,
     ) -> Result<Reply, (Fault, Ran)>
@@ -143,7 +143,7 @@ impl<E: Epochs + Drop, F: Task, P: Promise, L: Realm> Keeper<E, F, P, L> {
         if let Err(fault) = self.own(ran.origin()) {
             return Err((fault, ran));
         }
-        match self.one(rider, &Step::Done { ticket }) {
+        match self.finish(words, rider, ticket) {
             Ok(reply) => {
                 ran.forsake();
                 Ok(reply)

@@ -1,7 +1,7 @@
-//! One step of a rider, as the calls about pages and the done of an action make it, and the bare bump.
+//! One step of a rider, as the calls about pages make it, and the bare bump.
 ghost use Rattle.std.specs.Prelude.{◌≡◌, true, false, List, [], ◌∷◌, ◌++◌, OnErr, MatchResult};
 ghost use Rattle.hl_model.specs.declared.step.Step.TheVariants.{Bare as BARE};
-ghost use Rattle.hl_model.specs.Actions.{bumps};
+ghost use Rattle.hl_model.specs.Actions.{is_done, bumps};
 ghost use Rattle.hl_model.specs.Epochs.{is_bump};
 ghost use Rattle.hl_model.specs.Offsets.{raised_to, shifted_to};
 ghost use Rattle.hl_model.specs.Replies.{answer_of};
@@ -23,7 +23,8 @@ impl<E: Epochs + Drop, F: Task, P: Promise, L: Realm> Keeper<E, F, P, L> {
     #[inline(always)]
     pub(crate) fn one(&mut self, rider: &mut Rider<L>, step: &Step) -> Result<Reply, Fault>
         requires acted { is_acted step.now ≡ true }
-        requires quiet { (raised_to step.now ≡ 0) × (shifted_to step.now ≡ 0) × (is_bump step.now ≡ false) }
+        requires quiet { (raised_to step.now ≡ 0) × (shifted_to step.now ≡ 0) × (is_bump step.now ≡ false)
+            × (is_done step.now ≡ false) }
         requires unstamped { is_acquire step.now ≡ false }
         ensures made { Makes self.old step.now
             (λ A. answer_of self.old.core.sizes A (A ++ step.now ∷ []) step.now) self.new result }

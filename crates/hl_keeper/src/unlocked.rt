@@ -14,10 +14,11 @@
 //! | [`fetch_add`] | adds to a word in one step | `Below`, `Beyond`, `TouchesFull` |
 //! | [`compare_exchange`] | stores a word where another stands, in one step | `Below`, `Beyond`, `TouchesFull` |
 //! | [`load`] | loads a word in the pass's view | `Evicted`, `Beyond` |
+//! | [`region`] | tells in which region of the log an address is | `Beyond` |
 //! | [`copy_page`] | loads all cells of a page | `Stranger` |
 //! | [`sweep`] | stores 0 into all cells of a page | `Stranger` |
 
 pub use crate::exchange::{compare_exchange, fetch_add};
-pub use crate::look::{load, look, store};
+pub use crate::look::{load, look, region, store};
 pub use crate::news::keeps_up;
 pub use crate::sweep::{copy_page, sweep};

@@ -331,6 +331,7 @@ module _ (room : Room) where
         read_only = empty (room.cells + 8);
         head = empty (room.cells + 9);
         ended = empty (room.cells + 10);
-        never_falls = (no_stores, no_stores, no_stores);
-        offset = each (Below no_offsets) (λ k. (no_loads, no_loads, no_loads)) room.riders 0;
+        safe_read_only = empty (room.cells + 11);
+        never_falls = (no_stores, no_stores, no_stores, no_stores);
+        offset = each (Below no_offsets) (λ k. (no_loads, no_loads, no_loads, no_loads)) room.riders 0;
       }

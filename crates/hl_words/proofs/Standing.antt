@@ -11,7 +11,7 @@ use Rattle.hl_words.specs.declared.view.Known.{Known}
 use Rattle.hl_words.specs.declared.view.OffsetWords.{OffsetWords}
 use Rattle.hl_words.specs.declared.view.RiderView.{RiderView}
 use Rattle.hl_words.specs.declared.which.Which.{Which}
-use Rattle.hl_words.specs.declared.which.Which.TheVariants.{ReadOnly, Head, Ended}
+use Rattle.hl_words.specs.declared.which.Which.TheVariants.{ReadOnly, Head, Ended, SafeReadOnly}
 use Rattle.hl_words.specs.Views.{newest, offset_of, greatest_of, with_offset, place_of, touched, with_loaded, looked, called, told}
 use Rattle.hl_words.specs.Rule.{SomeRider, called_by, last_called, RisesTo, IsLookUpTo, HasOneOrder, NeverFalls, AreLoads, IsRuledAt}
 use Rattle.hl_words.specs.Seats.{IsKnown}
@@ -21,7 +21,7 @@ use Rattle.hl_words.proofs.Lawful.{cell_from, lawful_from}
 
 -- what the rider loaded of the offset words are loads of these stores
 abbrev pub Below : OffsetWords → RiderView → Type 0
-Below last r = AreLoads last.read_only (looked r.touches).read_only × AreLoads last.head (looked r.touches).head × AreLoads last.ended (looked r.touches).ended
+Below last r = AreLoads last.read_only (looked r.touches).read_only × AreLoads last.head (looked r.touches).head × AreLoads last.ended (looked r.touches).ended × AreLoads last.safe_read_only (looked r.touches).safe_read_only
 
 -- the newest value of a word is 0 or one of its stores
 newest_stored : (stores : List ℕ) → (newest stores ≡ 0) ⊎ Contains stores (newest stores)
@@ -64,12 +64,19 @@ unfolding greatest
 more_looked ReadOnly ReadOnly y o = (omega arith, λ e. omega arith)
 more_looked ReadOnly Head y o = (omega arith, λ e. absurd (cc e))
 more_looked ReadOnly Ended y o = (omega arith, λ e. absurd (cc e))
+more_looked ReadOnly SafeReadOnly y o = (omega arith, λ e. absurd (cc e))
 more_looked Head ReadOnly y o = (omega arith, λ e. absurd (cc e))
 more_looked Head Head y o = (omega arith, λ e. omega arith)
 more_looked Head Ended y o = (omega arith, λ e. absurd (cc e))
+more_looked Head SafeReadOnly y o = (omega arith, λ e. absurd (cc e))
 more_looked Ended ReadOnly y o = (omega arith, λ e. absurd (cc e))
 more_looked Ended Head y o = (omega arith, λ e. absurd (cc e))
 more_looked Ended Ended y o = (omega arith, λ e. omega arith)
+more_looked Ended SafeReadOnly y o = (omega arith, λ e. absurd (cc e))
+more_looked SafeReadOnly ReadOnly y o = (omega arith, λ e. absurd (cc e))
+more_looked SafeReadOnly Head y o = (omega arith, λ e. absurd (cc e))
+more_looked SafeReadOnly Ended y o = (omega arith, λ e. absurd (cc e))
+more_looked SafeReadOnly SafeReadOnly y o = (omega arith, λ e. omega arith)
 
 -- each load of such a word gave no more than the greatest
 looks_up_to : (which : Which) (x : ℕ) (l : List Touch) → greatest_of which (looked l) ≤ x → Every (IsLookUpTo which x) l
@@ -89,7 +96,8 @@ pub record IsStanding (cells : ℕ) (words : List ℕ) (last : OffsetWords) (m :
   pub read_only : slice_index words (cells + 8) ≡ newest last.read_only
   pub head : slice_index words (cells + 9) ≡ newest last.head
   pub ended : slice_index words (cells + 10) ≡ newest last.ended
-  pub never_falls : NeverFalls last.read_only × NeverFalls last.head × NeverFalls last.ended
+  pub safe_read_only : slice_index words (cells + 11) ≡ newest last.safe_read_only
+  pub never_falls : NeverFalls last.read_only × NeverFalls last.head × NeverFalls last.ended × NeverFalls last.safe_read_only
   pub offset : Every (Below last) riders
 
 -- the two forms of the rule say the same
@@ -101,6 +109,7 @@ standing_from cells words last m riders h =
       read_only = h.rule.read_only;
       head = h.rule.head;
       ended = h.rule.ended;
+      safe_read_only = h.rule.safe_read_only;
       never_falls = h.rule.never_falls;
       offset = every_from (Below last) riders h.rule.offset;
     }
@@ -115,6 +124,7 @@ ruled_from cells words last m riders h =
         read_only = h.read_only;
         head = h.head;
         ended = h.ended;
+        safe_read_only = h.safe_read_only;
         never_falls = h.never_falls;
         offset = every_at (Below last) riders h.offset;
       };
@@ -133,6 +143,7 @@ module _ (front : List RiderView) (r : RiderView) (back : List RiderView) where
         read_only = h.read_only;
         head = h.head;
         ended = h.ended;
+        safe_read_only = h.safe_read_only;
         never_falls = h.never_falls;
         offset = (b.0, every_append (Below last) front back (every_front (Below last) front (r ∷ back) h.offset) b.1);
       }
@@ -147,6 +158,7 @@ module _ (front : List RiderView) (r : RiderView) (back : List RiderView) where
         read_only = h.read_only;
         head = h.head;
         ended = h.ended;
+        safe_read_only = h.safe_read_only;
         never_falls = h.never_falls;
         offset = every_append (Below last) front (r ∷ back) (every_front (Below last) front back h.offset.1) (h.offset.0, every_back (Below last) front back h.offset.1);
       }
@@ -154,16 +166,17 @@ module _ (front : List RiderView) (r : RiderView) (back : List RiderView) where
   -- the rider's view changes to q, and the words to `after`
   changed : (cells : ℕ) (words after : List ℕ) (last : OffsetWords) (m : Extent) (t : Touch) (q : RiderView) → (h : IsStanding cells words last m (front ++ r ∷ back))
       → (o : HasOneOrder cells after (front ++ q ∷ back)) × (last_called o.0 ≡ called_by t (last_called h.order.0))
-      → (slice_index after (cells + 8) ≡ slice_index words (cells + 8)) → (slice_index after (cells + 9) ≡ slice_index words (cells + 9)) → (slice_index after (cells + 10) ≡ slice_index words (cells + 10))
+      → (slice_index after (cells + 8) ≡ slice_index words (cells + 8)) → (slice_index after (cells + 9) ≡ slice_index words (cells + 9)) → (slice_index after (cells + 10) ≡ slice_index words (cells + 10)) → (slice_index after (cells + 11) ≡ slice_index words (cells + 11))
       → Below last q
       → IsStanding cells after last (called_by t m) (front ++ q ∷ back)
-  changed cells words after last m t q h order read_only head ended below =
+  changed cells words after last m t q h order read_only head ended safe below =
       record {
         order = order.0;
         called_is = order.1 ∙ ap (called_by t) h.called_is;
         read_only = read_only ∙ h.read_only;
         head = head ∙ h.head;
         ended = ended ∙ h.ended;
+        safe_read_only = safe ∙ h.safe_read_only;
         never_falls = h.never_falls;
         offset = every_append (Below last) front (q ∷ back) (every_front (Below last) front (r ∷ back) h.offset) (below, (every_back (Below last) front (r ∷ back) h.offset).1);
       }
@@ -178,6 +191,7 @@ module _ (front : List RiderView) (r : RiderView) (back : List RiderView) where
       (get_or-set_other words c (cells + 8) v 0 (λ e. omega arith))
       (get_or-set_other words c (cells + 9) v 0 (λ e. omega arith))
       (get_or-set_other words c (cells + 10) v 0 (λ e. omega arith))
+      (get_or-set_other words c (cells + 11) v 0 (λ e. omega arith))
       (every_back (Below last) front (r ∷ back) h.offset).0
 
   -- a cell found, and changed in the same step
@@ -191,6 +205,7 @@ module _ (front : List RiderView) (r : RiderView) (back : List RiderView) where
       (get_or-set_other words c (cells + 8) v 0 (λ e. omega arith))
       (get_or-set_other words c (cells + 9) v 0 (λ e. omega arith))
       (get_or-set_other words c (cells + 10) v 0 (λ e. omega arith))
+      (get_or-set_other words c (cells + 11) v 0 (λ e. omega arith))
       (every_back (Below last) front (r ∷ back) h.offset).0
 
   -- a load of a cell
@@ -201,6 +216,7 @@ module _ (front : List RiderView) (r : RiderView) (back : List RiderView) where
       let q = touched t r in
       changed cells words words last m t q h
       (order_more cells words words front r q back t refl refl h.order (is ∙ h.order.1.last c less) tt h.order.1.last)
+      refl
       refl
       refl
       refl
@@ -216,6 +232,7 @@ module _ (front : List RiderView) (r : RiderView) (back : List RiderView) where
       refl
       refl
       refl
+      refl
       (every_back (Below last) front (r ∷ back) h.offset).0
 
   -- the rider is told what some rider did
@@ -225,6 +242,7 @@ module _ (front : List RiderView) (r : RiderView) (back : List RiderView) where
       let q = told k r in
       changed cells words words last m (Met k.name (length k.touches)) q h
       (order_more cells words words front r q back (Met k.name (length k.touches)) refl refl h.order tt (met_last k.name (length k.touches) cells words (front ++ r ∷ back) h.order (counted some)) h.order.1.last)
+      refl
       refl
       refl
       refl
@@ -245,17 +263,20 @@ module _ (front : List RiderView) (r : RiderView) (back : List RiderView) where
       refl
       refl
       refl
+      refl
       (below which found (every_back (Below last) front (r ∷ back) h.offset).0)
     where
       at_most : (last : OffsetWords) (which : Which) (p : RiderView) → Below last p → greatest_of which (looked p.touches) ≤ offset_of which last
       at_most last ReadOnly p b = b.0.0
       at_most last Head p b = b.1.0
       at_most last Ended p b = b.2.0
+      at_most last SafeReadOnly p b = b.3.0
 
       below : (which : Which) → x ≡ offset_of which last → Below last r → Below last (with_loaded which x r)
-      below ReadOnly e b = (load_newest last.read_only (looked r.touches).read_only x e b.0, b.1, b.2)
-      below Head e b = (b.0, load_newest last.head (looked r.touches).head x e b.1, b.2)
-      below Ended e b = (b.0, b.1, load_newest last.ended (looked r.touches).ended x e b.2)
+      below ReadOnly e b = (load_newest last.read_only (looked r.touches).read_only x e b.0, b.1, b.2, b.3)
+      below Head e b = (b.0, load_newest last.head (looked r.touches).head x e b.1, b.2, b.3)
+      below Ended e b = (b.0, b.1, load_newest last.ended (looked r.touches).ended x e b.2, b.3)
+      below SafeReadOnly e b = (b.0, b.1, b.2, load_newest last.safe_read_only (looked r.touches).safe_read_only x e b.3)
 
 -- the cells stay where a word of the master's changes
 order_beside : (cells : ℕ) (words : List ℕ) (riders : List RiderView) (i x : ℕ) → cells ≤ i → (h : HasOneOrder cells words riders) → (o : HasOneOrder cells (set words i x) riders) × (last_called o.0 ≡ last_called h.0)
@@ -279,6 +300,7 @@ pub found_offset : (which : Which) (cells : ℕ) (words : List ℕ) (last : Offs
 found_offset ReadOnly cells words last m riders h = h.read_only
 found_offset Head cells words last m riders h = h.head
 found_offset Ended cells words last m riders h = h.ended
+found_offset SafeReadOnly cells words last m riders h = h.safe_read_only
 
 -- a store of an offset word that does not fall
 pub after_set : (which : Which) (cells : ℕ) (words : List ℕ) (last : OffsetWords) (m : Extent) (riders : List RiderView) (x : ℕ) → length words ≡ cells + 19 → offset_of which last ≤ x
@@ -291,8 +313,9 @@ after_set ReadOnly cells words last m riders x width le h =
       read_only = get_or-set_same words (cells + 8) x 0 (omega arith);
       head = get_or-set_other words (cells + 8) (cells + 9) x 0 (λ e. omega arith) ∙ h.head;
       ended = get_or-set_other words (cells + 8) (cells + 10) x 0 (λ e. omega arith) ∙ h.ended;
-      never_falls = (store_rises last.read_only x le h.never_falls.0, h.never_falls.1, h.never_falls.2);
-      offset = every_weaker (Below last) (Below (with_offset ReadOnly x last)) riders (λ r b. (store_more last.read_only (looked r.touches).read_only x le b.0, b.1, b.2)) h.offset;
+      safe_read_only = get_or-set_other words (cells + 8) (cells + 11) x 0 (λ e. omega arith) ∙ h.safe_read_only;
+      never_falls = (store_rises last.read_only x le h.never_falls.0, h.never_falls.1, h.never_falls.2, h.never_falls.3);
+      offset = every_weaker (Below last) (Below (with_offset ReadOnly x last)) riders (λ r b. (store_more last.read_only (looked r.touches).read_only x le b.0, b.1, b.2, b.3)) h.offset;
     }
 after_set Head cells words last m riders x width le h =
     let o = order_beside cells words riders (cells + 9) x (omega arith) h.order in
@@ -302,8 +325,9 @@ after_set Head cells words last m riders x width le h =
       read_only = get_or-set_other words (cells + 9) (cells + 8) x 0 (λ e. omega arith) ∙ h.read_only;
       head = get_or-set_same words (cells + 9) x 0 (omega arith);
       ended = get_or-set_other words (cells + 9) (cells + 10) x 0 (λ e. omega arith) ∙ h.ended;
-      never_falls = (h.never_falls.0, store_rises last.head x le h.never_falls.1, h.never_falls.2);
-      offset = every_weaker (Below last) (Below (with_offset Head x last)) riders (λ r b. (b.0, store_more last.head (looked r.touches).head x le b.1, b.2)) h.offset;
+      safe_read_only = get_or-set_other words (cells + 9) (cells + 11) x 0 (λ e. omega arith) ∙ h.safe_read_only;
+      never_falls = (h.never_falls.0, store_rises last.head x le h.never_falls.1, h.never_falls.2, h.never_falls.3);
+      offset = every_weaker (Below last) (Below (with_offset Head x last)) riders (λ r b. (b.0, store_more last.head (looked r.touches).head x le b.1, b.2, b.3)) h.offset;
     }
 after_set Ended cells words last m riders x width le h =
     let o = order_beside cells words riders (cells + 10) x (omega arith) h.order in
@@ -313,6 +337,19 @@ after_set Ended cells words last m riders x width le h =
       read_only = get_or-set_other words (cells + 10) (cells + 8) x 0 (λ e. omega arith) ∙ h.read_only;
       head = get_or-set_other words (cells + 10) (cells + 9) x 0 (λ e. omega arith) ∙ h.head;
       ended = get_or-set_same words (cells + 10) x 0 (omega arith);
-      never_falls = (h.never_falls.0, h.never_falls.1, store_rises last.ended x le h.never_falls.2);
-      offset = every_weaker (Below last) (Below (with_offset Ended x last)) riders (λ r b. (b.0, b.1, store_more last.ended (looked r.touches).ended x le b.2)) h.offset;
+      safe_read_only = get_or-set_other words (cells + 10) (cells + 11) x 0 (λ e. omega arith) ∙ h.safe_read_only;
+      never_falls = (h.never_falls.0, h.never_falls.1, store_rises last.ended x le h.never_falls.2, h.never_falls.3);
+      offset = every_weaker (Below last) (Below (with_offset Ended x last)) riders (λ r b. (b.0, b.1, store_more last.ended (looked r.touches).ended x le b.2, b.3)) h.offset;
+    }
+after_set SafeReadOnly cells words last m riders x width le h =
+    let o = order_beside cells words riders (cells + 11) x (omega arith) h.order in
+    record {
+      order = o.0;
+      called_is = o.1 ∙ h.called_is;
+      read_only = get_or-set_other words (cells + 11) (cells + 8) x 0 (λ e. omega arith) ∙ h.read_only;
+      head = get_or-set_other words (cells + 11) (cells + 9) x 0 (λ e. omega arith) ∙ h.head;
+      ended = get_or-set_other words (cells + 11) (cells + 10) x 0 (λ e. omega arith) ∙ h.ended;
+      safe_read_only = get_or-set_same words (cells + 11) x 0 (omega arith);
+      never_falls = (h.never_falls.0, h.never_falls.1, h.never_falls.2, store_rises last.safe_read_only x le h.never_falls.3);
+      offset = every_weaker (Below last) (Below (with_offset SafeReadOnly x last)) riders (λ r b. (b.0, b.1, b.2, store_more last.safe_read_only (looked r.touches).safe_read_only x le b.3)) h.offset;
     }

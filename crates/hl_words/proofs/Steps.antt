@@ -16,7 +16,7 @@ use Rattle.hl_words.specs.declared.view.RiderView.{RiderView}
 use Rattle.hl_words.specs.declared.view.SeatView.{SeatView}
 use Rattle.hl_words.specs.declared.view.Room.{Room}
 use Rattle.hl_words.specs.declared.which.Which.{Which}
-use Rattle.hl_words.specs.declared.which.Which.TheVariants.{ReadOnly, Head, Ended}
+use Rattle.hl_words.specs.declared.which.Which.TheVariants.{ReadOnly, Head, Ended, SafeReadOnly}
 use Rattle.hl_words.specs.Views.{place_of, offset_of, greatest_of, touched, added, exchanged, with_loaded, looked}
 use Rattle.hl_words.specs.Rule.{IsRuledAt}
 use Rattle.hl_words.specs.Seats.{rider_seat, riders_in, HasPast, IsKnown, IsKept, Holds, Stores, Loads, Adds, Exchanges, Looks}
@@ -196,6 +196,7 @@ module _ (room : Room) (slots : ℕ) (id : ℕ) where
       at_most ReadOnly last r x e b = omega (arith, b.0.0)
       at_most Head last r x e b = omega (arith, b.1.0)
       at_most Ended last r x e b = omega (arith, b.2.0)
+      at_most SafeReadOnly last r x e b = omega (arith, b.3.0)
 
       only : (x : ℕ) (r : RiderView) → greatest_of which (looked r.touches) ≤ x → (i : ℕ) (q : RiderView) → slice_get (r ∷ []) i ≡ Some q → greatest_of which (looked q.touches) ≤ x
       only x r le zero q e = let same : r ≡ q = cc e in subst (λ (p : RiderView). greatest_of which (looked p.touches) ≤ x) same le

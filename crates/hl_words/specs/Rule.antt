@@ -193,7 +193,7 @@ AreLoads stores loads = (greatest (λ x. x) loads ≤ newest stores)
 
 -- The rule on words, the master's stores and the riders' views: first the cells, of which the one order says
 -- all and the two clauses below it what follows for each cell and each rider; then the read-only word, the head
--- word and that of the last epoch that ended
+-- word, that of the last epoch that ended and the safe read-only word
 pub record IsRuled (cells : ℕ) (words : List ℕ) (stores : OffsetWords)
     (riders : List RiderView) : Type 0 where
   pub order : HasOneOrder cells words riders
@@ -202,11 +202,14 @@ pub record IsRuled (cells : ℕ) (words : List ℕ) (stores : OffsetWords)
   pub read_only : slice_index words (cells + 8) ≡ newest stores.read_only
   pub head : slice_index words (cells + 9) ≡ newest stores.head
   pub ended : slice_index words (cells + 10) ≡ newest stores.ended
+  pub safe_read_only : slice_index words (cells + 11) ≡ newest stores.safe_read_only
   pub never_falls : NeverFalls stores.read_only × NeverFalls stores.head × NeverFalls stores.ended
+      × NeverFalls stores.safe_read_only
   pub offset : EachRider
       (λ i r. AreLoads stores.read_only (looked r.touches).read_only
       × AreLoads stores.head (looked r.touches).head
-      × AreLoads stores.ended (looked r.touches).ended) riders
+      × AreLoads stores.ended (looked r.touches).ended
+      × AreLoads stores.safe_read_only (looked r.touches).safe_read_only) riders
 
 -- the rule, and the newest call of the order left the one list so far
 pub record IsRuledAt (cells : ℕ) (words : List ℕ) (stores : OffsetWords) (called : Extent)

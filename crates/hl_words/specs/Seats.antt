@@ -53,7 +53,7 @@ HasPast past r = (more : List Touch) × (r.touches ≡ more ++ past)
 abbrev pub IsKnown : List RiderView → Known → Type 0
 IsKnown riders k = SomeRider (λ i r. (r.name ≡ k.name) × HasPast k.touches r) riders
 
--- The table has eight unused words, then the cells and, eight words apart, the master's three words; the seats stand
+-- The table has eight unused words, then the cells and, eight words apart, the master's four words; the seats stand
 -- for all riders, and the rule holds, the master having seat 0, which knows how far the newest call left the list; what
 -- each past tells was done
 pub record IsKept (room : Room) (words : List ℕ) (views : List SeatView) : Type 0 where

@@ -62,7 +62,7 @@ pub record WordsState : Type 0 where
   pub cells : ℕ
   pub riders : ℕ
 
--- the words at their end, without the unused ones before the cells: so many cells, and then the master's three words
+-- the words at their end, without the unused ones before the cells: so many cells, and then the master's four words
 pub record LastState : Type 0 where
   pub cells : ℕ
   pub words : List ℕ
@@ -85,7 +85,7 @@ abbrev pub first_rider : SeatView → RiderView
 first_rider v = slice_index_or v.riders 0 unused
 
 -- the first table of a seed, or that of words: its rule is that of this room, and it has the cells and 27 words
--- more, of which three are the master's
+-- more, of which four are the master's
 pub record IsTableOf (room : Room) (key : Room) (table : TableId) : Type 0 where
   pub key_is : key ≡ room
   pub words_are : table.words ≡ room.cells + 27

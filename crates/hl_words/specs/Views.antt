@@ -1,4 +1,4 @@
--- What a rider's view is after one more store or load, and the master's three words by name.
+-- What a rider's view is after one more store or load, and the master's four words by name.
 use Rattle.std.specs.Prelude.{ℕ, zero, suc, ◌+◌, ◌%◌, ◌^◌, ◌==◌, if◌then◌else◌, List, [], ◌∷◌, length}
 use Rattle.hl_model.specs.Lists.{greatest}
 use Rattle.hl_words.specs.declared.view.Touch.{Touch}
@@ -8,11 +8,11 @@ use Rattle.hl_words.specs.declared.view.Known.{Known}
 use Rattle.hl_words.specs.declared.view.OffsetWords.{OffsetWords}
 use Rattle.hl_words.specs.declared.view.RiderView.{RiderView}
 use Rattle.hl_words.specs.declared.which.Which.{Which}
-use Rattle.hl_words.specs.declared.which.Which.TheVariants.{ReadOnly, Head, Ended}
+use Rattle.hl_words.specs.declared.which.Which.TheVariants.{ReadOnly, Head, Ended, SafeReadOnly}
 
 -- the master's words before any store or load
 abbrev pub no_offsets : OffsetWords
-no_offsets = record { read_only = []; head = []; ended = [] }
+no_offsets = record { read_only = []; head = []; ended = []; safe_read_only = [] }
 
 -- the newest of these values, which stands first, or the 0 that a word has before any store
 abbrev pub newest : List ℕ → ℕ
@@ -24,18 +24,21 @@ abbrev pub offset_of : Which → OffsetWords → ℕ
 offset_of ReadOnly o = newest o.read_only
 offset_of Head o = newest o.head
 offset_of Ended o = newest o.ended
+offset_of SafeReadOnly o = newest o.safe_read_only
 
 -- the greatest of the one, or 0
 abbrev pub greatest_of : Which → OffsetWords → ℕ
 greatest_of ReadOnly o = greatest (λ x. x) o.read_only
 greatest_of Head o = greatest (λ x. x) o.head
 greatest_of Ended o = greatest (λ x. x) o.ended
+greatest_of SafeReadOnly o = greatest (λ x. x) o.safe_read_only
 
 -- the same with x as the newest of the one
 abbrev pub with_offset : Which → ℕ → OffsetWords → OffsetWords
-with_offset ReadOnly x o = record { read_only = x ∷ o.read_only; head = o.head; ended = o.ended }
-with_offset Head x o = record { read_only = o.read_only; head = x ∷ o.head; ended = o.ended }
-with_offset Ended x o = record { read_only = o.read_only; head = o.head; ended = x ∷ o.ended }
+with_offset ReadOnly x o = record (o) { read_only = x ∷ o.read_only }
+with_offset Head x o = record (o) { head = x ∷ o.head }
+with_offset Ended x o = record (o) { ended = x ∷ o.ended }
+with_offset SafeReadOnly x o = record (o) { safe_read_only = x ∷ o.safe_read_only }
 
 -- where a word of the master's lies: behind this many cells and eight words more, so that no line of a cache
 -- has one of them beside a cell
@@ -43,6 +46,7 @@ abbrev pub place_of : Which → ℕ → ℕ
 place_of ReadOnly cells = cells + 8
 place_of Head cells = cells + 9
 place_of Ended cells = cells + 10
+place_of SafeReadOnly cells = cells + 11
 
 -- the view of the rider of this name that did nothing
 abbrev pub fresh : ℕ → RiderView

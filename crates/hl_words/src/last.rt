@@ -3,7 +3,7 @@ ghost use Rattle.std.specs.Slots.{slots_items, slots_len, IsFull};
 ghost use Rattle.hl_words.specs.States.{LastState};
 ghost use Rattle.hl_words.specs.Views.{place_of};
 
-use crate::which::{ENDED_AT, FIRST, HEAD_AT, READ_ONLY_AT, Which};
+use crate::which::{ENDED_AT, FIRST, HEAD_AT, READ_ONLY_AT, SAFE_READ_ONLY_AT, Which};
 use atomic_table::Closed;
 use std::alloc::Global;
 use std::marker::Model;
@@ -63,6 +63,7 @@ impl LastWords {
             Which::ReadOnly => self.closed.word(self.cells + READ_ONLY_AT),
             Which::Head => self.closed.word(self.cells + HEAD_AT),
             Which::Ended => self.closed.word(self.cells + ENDED_AT),
+            Which::SafeReadOnly => self.closed.word(self.cells + SAFE_READ_ONLY_AT),
         }
     }
 }

@@ -1,7 +1,7 @@
-//! Shared words: cells, which many threads load and store with no lock, and three words that one stores and all load.
+//! Shared words: cells, which many threads load and store with no lock, and four words that one stores and all load.
 //!
 //! A `Seed` becomes `Words`, which threads share by a `&`, one `Master` and some `Rider`s. A rider stores into cells,
-//! changes one in one step, and loads any word. The master alone stores its three words, the two offset words and the last
+//! changes one in one step, and loads any word. The master alone stores its four words, the three offset words and the last
 //! epoch that ended: they never fall. It also counts the journal steps that riders enter. At the end `Words::close` takes
 //! them all back, and gives the `LastWords`, to be read alone.
 //!

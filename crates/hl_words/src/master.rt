@@ -5,7 +5,7 @@ use crate::seed::{Realm, WordSeat};
 use std::marker::Model;
 use std::sync::ledger::{Book, Share};
 
-/// The right to store its three words, and to count journal steps. Contracts see its stores, how many steps all riders
+/// The right to store its four words, and to count journal steps. Contracts see its stores, how many steps all riders
 /// entered, and how far the newest call that was noted left the one list.
 #[derive(Drop)]
 pub struct Master<L: Realm> {

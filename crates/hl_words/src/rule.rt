@@ -80,6 +80,26 @@ impl Play<(), SeatView> for LoadEnded {
     ghost then = { Looks Ended };
 }
 
+/// A rider's load of the word of the safe read-only offset.
+pub struct LoadSafeReadOnly;
+
+impl Play<(), SeatView> for LoadSafeReadOnly {
+    ghost use Rattle.hl_words.specs.Seats.{Looks};
+    ghost use Rattle.hl_words.specs.declared.which.Which.TheVariants.{SafeReadOnly};
+
+    ghost then = { Looks SafeReadOnly };
+}
+
+/// The master's store of the word of the safe read-only offset.
+pub struct StoreSafeReadOnly;
+
+impl Play<(), SeatView> for StoreSafeReadOnly {
+    ghost use Rattle.hl_words.specs.Seats.{Sets};
+    ghost use Rattle.hl_words.specs.declared.which.Which.TheVariants.{SafeReadOnly};
+
+    ghost then = { Sets SafeReadOnly };
+}
+
 /// The master's store of the word of the last epoch that ended.
 pub struct StoreEnded;
 

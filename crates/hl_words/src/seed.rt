@@ -56,7 +56,7 @@ impl<L: Realm> Named for HistoryOf<L> {
 /// The right to put steps behind the one list of a realm. Contracts see it as the list.
 pub type Scribe<L> = hl_history::Scribe<HistoryOf<L>>;
 
-/// Words that nobody has opened yet: the cells, the master's three words, a ledger with a part for each rider, and the
+/// Words that nobody has opened yet: the cells, the master's four words, a ledger with a part for each rider, and the
 /// empty list with a diary for each. It is the one witness that its realm is new: it is used up by `Words::open`.
 #[derive(Drop)]
 pub struct Seed {
@@ -92,7 +92,7 @@ impl Model for Seed {
 }
 
 impl Seed {
-    /// Makes the words of an allocator of these sizes: F * P cells and the master's three words, all 0, for 1 to 2,048
+    /// Makes the words of an allocator of these sizes: F * P cells and the master's four words, all 0, for 1 to 2,048
     /// riders.
     ///
     /// `OutOfMemory` if memory was refused; then nothing is made.

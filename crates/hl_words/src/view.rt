@@ -38,6 +38,7 @@ pub struct OffsetWords {
     pub read_only: LinkedList<u64>,
     pub head: LinkedList<u64>,
     pub ended: LinkedList<u64>,
+    pub safe_read_only: LinkedList<u64>,
 }
 
 /// What a rider did.
@@ -48,7 +49,7 @@ pub struct RiderView {
     pub touches: LinkedList<Touch>,
 }
 
-/// What one seat of the table knows: the master's knows its stores of its three words, and each seat the views
+/// What one seat of the table knows: the master's knows its stores of its four words, and each seat the views
 /// of the riders that it stands for. A rider's seat stands for that rider alone. The master's stands for those that
 /// aren't dealt out yet, and at the end for all.
 pub struct SeatView {

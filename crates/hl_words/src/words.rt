@@ -10,18 +10,18 @@ mod pasts;
 use crate::master::Master;
 use crate::rider::Rider;
 use crate::rule::{
-    AddCell, Deal, ExchangeCell, LoadCell, LoadEnded, LoadHead, LoadReadOnly, StoreCell,
-    StoreEnded, StoreHead, StoreReadOnly,
+    AddCell, Deal, ExchangeCell, LoadCell, LoadEnded, LoadHead, LoadReadOnly, LoadSafeReadOnly,
+    StoreCell, StoreEnded, StoreHead, StoreReadOnly, StoreSafeReadOnly,
 };
 use crate::seed::{HistoryOf, Realm, Scribe, Seed, WordTable};
 use crate::view::Room;
-use crate::which::{ENDED_AT, FIRST, HEAD_AT, READ_ONLY_AT, Which};
+use crate::which::{ENDED_AT, FIRST, HEAD_AT, READ_ONLY_AT, SAFE_READ_ONLY_AT, Which};
 use hl_history::History;
 use hl_model::Fault;
 use std::alloc::Global;
 use std::marker::{Model, PhantomData};
 
-/// The cells and the master's three words, which any thread may load through a `&`, and the one list of steps,
+/// The cells and the master's four words, which any thread may load through a `&`, and the one list of steps,
 /// behind which the scribe puts more. No call here waits or takes memory but those that open. Contracts see how many
 /// cells and how many riders there are.
 #[derive(Drop)]
@@ -175,6 +175,11 @@ impl<L: Realm> Words<L> {
             ),
             Which::Head => shared.store::<StoreHead>(seat, self.room.cells + HEAD_AT, offset),
             Which::Ended => shared.store::<StoreEnded>(seat, self.room.cells + ENDED_AT, offset),
+            Which::SafeReadOnly => shared.store::<StoreSafeReadOnly>(
+                seat,
+                self.room.cells + SAFE_READ_ONLY_AT,
+                offset,
+            ),
         }
     }
 
@@ -192,6 +197,9 @@ impl<L: Realm> Words<L> {
             Which::ReadOnly => shared.load::<LoadReadOnly>(seat, self.room.cells + READ_ONLY_AT),
             Which::Head => shared.load::<LoadHead>(seat, self.room.cells + HEAD_AT),
             Which::Ended => shared.load::<LoadEnded>(seat, self.room.cells + ENDED_AT),
+            Which::SafeReadOnly => {
+                shared.load::<LoadSafeReadOnly>(seat, self.room.cells + SAFE_READ_ONLY_AT)
+            }
         }
     }
 }

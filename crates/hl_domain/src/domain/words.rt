@@ -1,15 +1,17 @@
 //! What riders do without the lock.
-ghost use Rattle.std.specs.Prelude.{◌≡◌, ◌≢◌, ◌+◌, ◌%◌, ◌^◌, ◌==◌, Some, None, max, length, IfOk, OnOk, OnErr, MatchResult};
+ghost use Rattle.std.specs.Prelude.{◌≡◌, ◌≢◌, ◌≤◌, ◌+◌, ◌%◌, ◌^◌, ◌==◌, Some, None, max, length, IfOk, OnOk, IfErr, OnErr, MatchResult};
+ghost use Rattle.hl_model.specs.declared.fault.Fault.TheVariants.{Beyond as BEYOND};
 ghost use Rattle.hl_model.specs.Replies.{unless_fault, unless_refused};
 ghost use Rattle.hl_words.specs.States.{with_view};
 ghost use Rattle.hl_keeper.specs.Passes.{seen, touch_fault, store_fault, load_fault, with_look, with_store, with_change, with_load, last_read_only, last_head, LooksOn};
+ghost use Rattle.hl_keeper.specs.Regions.{IsToldRegion};
 ghost use Rattle.hl_keeper.specs.Calls.{unless_stranger};
 ghost use Rattle.hl_keeper.specs.Pages.{first_cell, zeroed, loaded_all};
 
 use crate::domain::Domain;
 use hl_action::{Promise, Task};
 use hl_epoch::Epochs;
-use hl_keeper::{Broom, PageJob, Pass, unlocked};
+use hl_keeper::{Broom, PageJob, Pass, Region, unlocked};
 use hl_model::{Fault, View};
 use hl_words::{Realm, Rider};
 
@@ -65,6 +67,20 @@ impl<E: Epochs + Drop, F: Task, P: Promise, L: Realm> Domain<E, F, P, L> {
             (λ _. pass.new ≡ old) }
     {
         unlocked::load(&self.words, self.params, pass, a)
+    }
+
+    /// Tells in which region of the log an address is, as an engine asks before it changes a record. Below the read-only
+    /// offset that the pass saw it loads the word of the safe read-only offset, and no more: that is no touch, and no step.
+    ///
+    /// `Beyond` where the address isn't below the tail that the pass saw, nor evicted.
+    #[inline(always)]
+    pub fn region(&self, pass: &mut Pass<L>, a: u64) -> Result<Region, Fault>
+        ensures region { IfOk result (λ region. IsToldRegion pass.old pass.new a region) }
+        ensures beyond { let saw = seen pass.old
+            in IfErr result (λ fault. (fault ≡ BEYOND saw.tail) × (saw.head ≤ a) × (saw.tail ≤ a)
+            × (pass.new ≡ pass.old)) }
+    {
+        unlocked::region(&self.words, pass, a)
     }
 
     /// Adds a number to the word at an address of the log, modulo 2^64, in one step: no store of another rider comes

@@ -11,14 +11,14 @@ returns-in-Err-clause-made g c =
     let stranger = rw c.origin.ensures at c.in-Err.ensures in
     λ A st. made_refused k A s (end_fault k A o s) c.in-Err.fault _ st (end_stranger k A o s c.in-Err.fault stranger)
 
-pub returns-in-Err-one-clause-made : goal.returns-in-Err-one-clause-made
-returns-in-Err-one-clause-made g c =
+pub returns-in-Err-finish-clause-made : goal.returns-in-Err-finish-clause-made
+returns-in-Err-finish-clause-made g c =
     let k = c.args.self.now in
     let o = c.args.ran.origin in
     let s = DONE c.args.ran.ticket in
     let own = rw c.origin.ensures at c.in_default.ensures in
-    let made = rw c.ticket-ticket.ensures at c.in-Err-one.ensures.made in
-    λ A st. replied_refusal (step_fault k A s) (end_fault k A o s) _ _ A s c.one.new.self c.in-Err-one.fault (end_own k A o s c.in_default.field-0 own) (made A st)
+    let made = rw c.ticket-ticket.ensures at c.in-Err-finish.ensures.made in
+    λ A st. replied_refusal (step_fault k A s) (end_fault k A o s) _ _ A s c.finish.new.self c.in-Err-finish.fault (end_own k A o s c.in_default.field-0 own) (made A st)
 
 pub returns-in-Ok-clause-made : goal.returns-in-Ok-clause-made
 returns-in-Ok-clause-made g c =
@@ -27,4 +27,4 @@ returns-in-Ok-clause-made g c =
     let s = DONE c.args.ran.ticket in
     let own = rw c.origin.ensures at c.in_default.ensures in
     let made = rw c.ticket-ticket.ensures at c.in-Ok.ensures.made in
-    λ A st. replied_end (step_fault k A s) (end_fault k A o s) _ c.in-Ok.reply A s c.one.new.self c.in-Ok.reply _ (end_own k A o s c.in_default.field-0 own) (made A st) (λ e. e)
+    λ A st. replied_end (step_fault k A s) (end_fault k A o s) _ c.in-Ok.reply A s c.finish.new.self c.in-Ok.reply _ (end_own k A o s c.in_default.field-0 own) (made A st) (λ e. e)

@@ -46,7 +46,7 @@ invariant_of-self-2 g c =
     let st = c.self.invariant.of.standing.1 in
     record {
       of = record {
-        standing = (_, (core_made k A s c.in_ok-room.field-0 c.act.new.self c.in_ok-reply.reply c.in_ok-reply.reply _ c.note.new.journal c.self.inside.stamps.row.items c.self.inside.stamps.given c.note.new.master.offsets c.note.new.master.total c.note.new.master.called st room (c.in_ok-reply.ensures.made A st.core_stands) (core_told k A s c.act.new.self c.in_ok-reply.reply (c.in_ok-reply.ensures.made A st.core_stands)).1 c.note.ensures.journal (unstamped k A s st c.requires.unstamped) (quiet k A s c.note.new.master.offsets st c.requires.quiet.0 c.requires.quiet.1 c.requires.quiet.2 (ap (λ (m : MasterState). m.offsets) c.note.ensures.master)) (ap (λ (m : MasterState). m.total) c.note.ensures.master)).standing);
+        standing = (_, (core_made k A s c.in_ok-room.field-0 c.act.new.self c.in_ok-reply.reply c.in_ok-reply.reply _ c.note.new.journal c.self.inside.stamps.row.items c.self.inside.stamps.given c.note.new.master.offsets c.note.new.master.total c.note.new.master.called st room (c.in_ok-reply.ensures.made A st.core_stands) (core_told k A s c.act.new.self c.in_ok-reply.reply (c.in_ok-reply.ensures.made A st.core_stands)).1 c.note.ensures.journal (unstamped k A s st c.requires.unstamped) (quiet k A s c.note.new.master.offsets st c.requires.quiet.0 c.requires.quiet.1 c.requires.quiet.2 c.requires.quiet.3 (ap (λ (m : MasterState). m.offsets) c.note.ensures.master)) (ap (λ (m : MasterState). m.total) c.note.ensures.master)).standing);
         sizes_are = c.in_ok-reply.ensures.sizes ∙ c.self.invariant.of.sizes_are;
         stamp_is = c.self.invariant.of.stamp_is;
       };
@@ -58,4 +58,4 @@ returns-clause-made g c =
     let k : KeeperState g.row.F.Denot = (keeper_of c.self.inside.core c.self.inside.journal c.self.inside.stamps c.self.inside.master) in
     let s = c.args.step.now in
     let room = rw (sym c.self.view_is) at c.in_ok-room.ensures in
-    rw (sym c.self.view_is) (λ A st. core_made k A s c.in_ok-room.field-0 c.act.new.self c.in_ok-reply.reply c.in_ok-reply.reply _ c.note.new.journal c.self.inside.stamps.row.items c.self.inside.stamps.given c.note.new.master.offsets c.note.new.master.total c.note.new.master.called st room (c.in_ok-reply.ensures.made A st.core_stands) (core_told k A s c.act.new.self c.in_ok-reply.reply (c.in_ok-reply.ensures.made A st.core_stands)).1 c.note.ensures.journal (unstamped k A s st c.requires.unstamped) (quiet k A s c.note.new.master.offsets st c.requires.quiet.0 c.requires.quiet.1 c.requires.quiet.2 (ap (λ (m : MasterState). m.offsets) c.note.ensures.master)) (ap (λ (m : MasterState). m.total) c.note.ensures.master))
+    rw (sym c.self.view_is) (λ A st. core_made k A s c.in_ok-room.field-0 c.act.new.self c.in_ok-reply.reply c.in_ok-reply.reply _ c.note.new.journal c.self.inside.stamps.row.items c.self.inside.stamps.given c.note.new.master.offsets c.note.new.master.total c.note.new.master.called st room (c.in_ok-reply.ensures.made A st.core_stands) (core_told k A s c.act.new.self c.in_ok-reply.reply (c.in_ok-reply.ensures.made A st.core_stands)).1 c.note.ensures.journal (unstamped k A s st c.requires.unstamped) (quiet k A s c.note.new.master.offsets st c.requires.quiet.0 c.requires.quiet.1 c.requires.quiet.2 c.requires.quiet.3 (ap (λ (m : MasterState). m.offsets) c.note.ensures.master)) (ap (λ (m : MasterState). m.total) c.note.ensures.master))

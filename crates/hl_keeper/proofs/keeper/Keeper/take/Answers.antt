@@ -54,7 +54,7 @@ invariant_of-self-2 g c =
           (core_made k A TAKE c.in_ok-room.field-0 c.take.new.self (Taken c.in_ok-firing.firing.ticket) (tt {0}) (tt {0}) c.note.new.journal c.self.inside.stamps.row.items c.self.inside.stamps.given c.note.new.master.offsets c.note.new.master.total c.note.new.master.called st room (c.in_ok-firing.ensures.made A st.core_stands)
               refl
               c.note.ensures.journal (unstamped k A TAKE st refl)
-              (quiet k A TAKE c.note.new.master.offsets st refl refl refl (ap (λ (m : MasterState). m.offsets) c.note.ensures.master))
+              (quiet k A TAKE c.note.new.master.offsets st refl refl refl refl (ap (λ (m : MasterState). m.offsets) c.note.ensures.master))
               (ap (λ (m : MasterState). m.total) c.note.ensures.master)).standing,
         );
         sizes_are = c.in_ok-firing.ensures.sizes ∙ c.self.invariant.of.sizes_are;
@@ -71,5 +71,5 @@ returns-clause-made g c =
     rw (sym c.self.view_is) (λ A st. core_made k A TAKE c.in_ok-room.field-0 c.take.new.self (Taken c.in_ok-firing.firing.ticket) (record { origin = c.of.result.origin; firing = c.of.result.firing }) _ c.note.new.journal c.self.inside.stamps.row.items c.self.inside.stamps.given c.note.new.master.offsets c.note.new.master.total c.note.new.master.called st room (c.in_ok-firing.ensures.made A st.core_stands)
     (take_firing k A c.take.new.self c.in_ok-firing.firing c.of.result c.in_ok-firing.kept st (c.in_ok-firing.ensures.made A st.core_stands) c.in_ok-firing.ensures.safe (c.of.ensures ∙ ap (λ (origin : ℕ). let r : ReadyRecord g.row.F.Denot = record { origin = origin; firing = c.in_ok-firing.firing; kept = c.in_ok-firing.kept } in r) c.own.ensures))
     c.note.ensures.journal (unstamped k A TAKE st refl)
-    (quiet k A TAKE c.note.new.master.offsets st refl refl refl (ap (λ (m : MasterState). m.offsets) c.note.ensures.master))
+    (quiet k A TAKE c.note.new.master.offsets st refl refl refl refl (ap (λ (m : MasterState). m.offsets) c.note.ensures.master))
     (ap (λ (m : MasterState). m.total) c.note.ensures.master))

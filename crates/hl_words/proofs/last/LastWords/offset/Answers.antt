@@ -18,3 +18,8 @@ pub returns-in-Ended : goal.returns-in-Ended
 returns-in-Ended c =
     let cells = c.self.inside.cells in
     rw c.in-Ended.is (read_behind (slots_items c.self.inside.closed.words) (cells + 18) (cells + 10) c.word-in-Ended.result (omega arith) c.word-in-Ended.ensures ∙ ap (λ l. slice_index l.words (l.cells + 10)) c.self.view_is)
+
+pub returns-in-SafeReadOnly : goal.returns-in-SafeReadOnly
+returns-in-SafeReadOnly c =
+    let cells = c.self.inside.cells in
+    rw c.in-SafeReadOnly.is (read_behind (slots_items c.self.inside.closed.words) (cells + 19) (cells + 11) c.word-in-SafeReadOnly.result (omega arith) c.word-in-SafeReadOnly.ensures ∙ ap (λ l. slice_index l.words (l.cells + 11)) c.self.view_is)
