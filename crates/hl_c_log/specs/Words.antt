@@ -5,10 +5,13 @@ use Rattle.hl_model.specs.Replies.{unless_fault}
 use Rattle.hl_model.specs.declared.fault.Fault.{Fault}
 use Rattle.hl_answers.specs.declared.outcome.Brief.{Brief}
 use Rattle.hl_answers.specs.declared.outcome.Outcome.{Outcome}
-use Rattle.hl_answers.specs.Outcomes.{brief_of, no_core, reply_told, told_of}
+use Rattle.hl_answers.specs.Outcomes.{accepted, brief_of, fault_told, no_core, reply_told, told_of}
 use Rattle.hl_pass.specs.declared.news.News.{News}
 use Rattle.hl_log.specs.Passes.{with_look}
-use Rattle.hl_pass.specs.Views.{store_fault, load_fault, raised, is_current}
+use Rattle.hl_log.specs.Regions.{region_of}
+use Rattle.hl_log.specs.declared.region.Region.{Region}
+use Rattle.hl_log.specs.declared.region.Region.TheVariants.{Mutable, Fuzzy, ReadOnly, Evicted}
+use Rattle.hl_pass.specs.Views.{beyond_fault, store_fault, load_fault, raised, is_current}
 use Rattle.hl_c_log.specs.Rows.{PassRow}
 
 -- what is told of a fault, or of this word where there is none
@@ -37,3 +40,21 @@ abbrev pub KeepsUp : Option PassRow.Denot → Option PassRow.Denot → ℕ → T
 KeepsUp None new number = (number ≡ 255) × (new ≡ None)
 KeepsUp (Some p) new number = (new ≡ Some p)
     × ((news : News) × (number ≡ (if is_current p.own.view p.own.epoch news then 1 else 0)))
+
+-- a region as a number
+abbrev pub region_number : Region → ℕ
+region_number Mutable = 1
+region_number Fuzzy = 2
+region_number ReadOnly = 3
+region_number Evicted = 4
+
+-- what is told of a fault, or of this region with the safe read-only offset that was loaded
+abbrev pub region_told : Option Fault → Region → ℕ → Outcome
+region_told (Some fault) region safe_read_only = fault_told fault
+region_told None region safe_read_only = accepted (region_number region) safe_read_only 0 0
+
+-- a pass told the region of an address, by what it sees and the safe read-only offset that the outcome has, and stays
+abbrev pub TellsRegion : Option PassRow.Denot → ℕ → Option PassRow.Denot → Outcome → Type 0
+TellsRegion None a new outcome = (outcome ≡ no_core) × (new ≡ None)
+TellsRegion (Some p) a new outcome = (new ≡ Some p)
+    × (outcome ≡ region_told (beyond_fault p.own.view a) (region_of p.own.view outcome.b a) outcome.b)

@@ -1,4 +1,5 @@
 pub mod Calls
 pub mod Logs
 pub mod Passes
+pub mod Regions
 pub mod Taken
