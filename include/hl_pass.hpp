@@ -232,23 +232,16 @@ class Pass {
     }
     /// Loads a word, without the lock; one that was never stored is 0. Evicted, Beyond.
     [[nodiscard]] Result<Word> load(Word address) noexcept { return detail::one(hl_pass_load(&pass_, address)); }
-    /// Loads the words from an address on, as many as there are places. Evicted, Beyond; Size, of a null pointer. Nothing
-    /// is loaded then.
+    /// Loads the words from an address on, one after another, as many as there are places. Evicted, Beyond; Size, where
+    /// the places are a null pointer. Nothing is loaded then.
     [[nodiscard]] Result<void> load_into(Word address, Word *words, std::size_t count) noexcept {
-        if (count == 0) return {};
-        if (!words) return Refused(Refusal{Fault::Size});
-        // What lies between two words that the pass may load it may load. The greatest address is above every tail.
-        auto first = load(address);
-        if (!first) return Refused(first.error());
-        auto last = load(count - 1 > ~address ? ~Word{0} : address + (count - 1));
-        if (!last) return Refused(last.error());
-        for (std::size_t i = 0; i < count; i++)
-            words[i] = *load(address + i);
-        return {};
+        Word no_word = 0;
+        if (!words && count != 0) return Refused(Refusal{Fault::Size});
+        return detail::nothing(hl_pass_load_into(&pass_, address, words ? words : &no_word, count));
     }
-    /// Which region the word of an address is in, by what the pass sees and the safe read-only offset as it is now. Beyond.
-    /// A word in the fuzzy region is read-only for all once each pass has moved on and the settle is done; till then what
-    /// it has may change.
+    /// Which region the word of an address is in, by what the pass sees and the safe read-only offset as it is now. Beyond,
+    /// where the address isn't below the tail that the pass sees, nor evicted. A word in the fuzzy region is read-only for
+    /// all once each pass has moved on and the settle is done; till then what it has may change.
     [[nodiscard]] Result<Region> region(Word address) noexcept {
         return detail::made(hl_pass_region(&pass_, address),
                             [](const hl_outcome &it) { return static_cast<Region>(it.a); });

@@ -70,9 +70,10 @@ static void dones() {
     is("the earlier settle's done", log.done(1) && pass.region(7).value() == Region::ReadOnly);
 }
 
-/// The region by the offsets as they are, for one pass in one thread.
-static Region wanted(const hl::View &view, const hl::Offsets &now, Word address) {
+/// The region by the offsets as they are, for one pass in one thread; none above what it sees.
+static std::optional<Region> wanted(const hl::View &view, const hl::Offsets &now, Word address) {
     if (address < view.head) return Region::Evicted;
+    if (address >= view.tail) return std::nullopt;
     if (address >= view.read_only) return Region::Mutable;
     return address < now.safe_read_only ? Region::ReadOnly : Region::Fuzzy;
 }
@@ -103,13 +104,14 @@ static void random_regions() {
         now = log.offsets();
         Word address = now.tail + 1 - below(std::min<Word>(now.tail + 2, 80));
         auto told = pass.region(address);
-        bool is_beyond = address >= pass.view().tail;
-        if (told.has_value() == is_beyond || (told && *told != wanted(pass.view(), now, address))) {
+        auto want = wanted(pass.view(), now, address);
+        bool is_wanted = want ? told.has_value() && *told == *want : !told && told.error() == Fault::Beyond;
+        if (!is_wanted) {
             std::printf("the region of %llu after %d steps\n", (unsigned long long)address, made);
             wrong++;
             return;
         }
-        seen[is_beyond ? 0 : static_cast<Word>(*told)]++;
+        seen[told ? static_cast<Word>(*told) : 0]++;
     }
     for (Word times : seen)
         is("each region is seen often", times > 1000);

@@ -1,6 +1,6 @@
 -- What a call of a pass without the lock makes of its handle.
-use Rattle.std.specs.Prelude.{◌≡◌, ℕ, if◌then◌else◌, Option, Some, None}
-use Rattle.hl_model.specs.declared.step.Reply.TheVariants.{Value, Looked}
+use Rattle.std.specs.Prelude.{◌≡◌, ℕ, if◌then◌else◌, Option, Some, None, List, length, IfSome}
+use Rattle.hl_model.specs.declared.step.Reply.TheVariants.{Value, Looked, Readable}
 use Rattle.hl_model.specs.Replies.{unless_fault}
 use Rattle.hl_model.specs.declared.fault.Fault.{Fault}
 use Rattle.hl_answers.specs.declared.outcome.Brief.{Brief}
@@ -8,10 +8,10 @@ use Rattle.hl_answers.specs.declared.outcome.Outcome.{Outcome}
 use Rattle.hl_answers.specs.Outcomes.{accepted, brief_of, fault_told, no_core, reply_told, told_of}
 use Rattle.hl_pass.specs.declared.news.News.{News}
 use Rattle.hl_log.specs.Passes.{with_look}
-use Rattle.hl_log.specs.Regions.{region_of}
+use Rattle.hl_log.specs.Addresses.{region_fault, region_of, row_fault}
 use Rattle.hl_log.specs.declared.region.Region.{Region}
 use Rattle.hl_log.specs.declared.region.Region.TheVariants.{Mutable, Fuzzy, ReadOnly, Evicted}
-use Rattle.hl_pass.specs.Views.{beyond_fault, store_fault, load_fault, raised, is_current}
+use Rattle.hl_pass.specs.Views.{store_fault, load_fault, raised, is_current}
 use Rattle.hl_c_log.specs.Rows.{PassRow}
 
 -- what is told of a fault, or of this word where there is none
@@ -28,6 +28,14 @@ Stores (Some p) a found new brief = (new ≡ Some p) × (brief ≡ word_told (st
 abbrev pub Loads : Option PassRow.Denot → ℕ → ℕ → Option PassRow.Denot → Brief → Type 0
 Loads None a found new brief = (brief ≡ brief_of no_core) × (new ≡ None)
 Loads (Some p) a found new brief = (new ≡ Some p) × (brief ≡ word_told (load_fault p.own.view a) found)
+
+-- a pass loaded words into so many places, or judged by what it sees that it may not, and left them as they were; it
+-- stays
+abbrev pub LoadsRow : Option PassRow.Denot → ℕ → List ℕ → Option PassRow.Denot → List ℕ → Brief → Type 0
+LoadsRow None a places new words brief = (brief ≡ brief_of no_core) × (new ≡ None) × (words ≡ places)
+LoadsRow (Some p) a places new words brief = let met = row_fault p.own.view a (length places) in
+    (new ≡ Some p) × (brief ≡ brief_of (told_of (unless_fault met Readable)))
+    × (length words ≡ length places) × IfSome met (λ _. words ≡ places)
 
 -- a pass saw the two offsets that it loaded, where they are above its own, and tells what it sees
 abbrev pub Looks : Option PassRow.Denot → Option PassRow.Denot → Outcome → Type 0
@@ -57,4 +65,4 @@ region_told None region safe_read_only = accepted (region_number region) safe_re
 abbrev pub TellsRegion : Option PassRow.Denot → ℕ → Option PassRow.Denot → Outcome → Type 0
 TellsRegion None a new outcome = (outcome ≡ no_core) × (new ≡ None)
 TellsRegion (Some p) a new outcome = (new ≡ Some p)
-    × (outcome ≡ region_told (beyond_fault p.own.view a) (region_of p.own.view outcome.b a) outcome.b)
+    × (outcome ≡ region_told (region_fault p.own.view a) (region_of p.own.view outcome.b a) outcome.b)

@@ -3,7 +3,7 @@ ghost use Rattle.std.specs.Prelude.{◌≡◌, Result, MatchResult};
 ghost use Rattle.hl_model.specs.declared.step.Reply.TheVariants.{Value as VALUE};
 ghost use Rattle.hl_core.specs.Steps.{told};
 ghost use Rattle.hl_answers.specs.Outcomes.{accepted, brief_of, fault_told, told_of, no_core};
-ghost use Rattle.hl_c_log.specs.Words.{region_number, Stores, Loads, Looks, KeepsUp, TellsRegion};
+ghost use Rattle.hl_c_log.specs.Words.{region_number, Stores, Loads, LoadsRow, Looks, KeepsUp, TellsRegion};
 
 use crate::pass_handle::PassHandle;
 use hl_answers::{Brief, Outcome};
@@ -70,6 +70,21 @@ pub extern "C" fn hl_pass_load(pass: &mut PassHandle, address: u64) -> Brief
             let found = own.load(address);
             pass.put(own);
             word_told(found)
+        }
+        None => no_pass(),
+    }
+}
+
+/// Loads the words from an address on into so many places.
+#[unsafe(no_mangle)]
+pub extern "C" fn hl_pass_load_into(pass: &mut PassHandle, address: u64, words: &mut [u64]) -> Brief
+    ensures { LoadsRow pass.old.slot.value address words.old pass.new.slot.value words.new result }
+{
+    match pass.take() {
+        Some(own) => {
+            let loaded = own.load_into(address, words);
+            pass.put(own);
+            Outcome::of(loaded.map(|()| Reply::Readable)).brief()
         }
         None => no_pass(),
     }

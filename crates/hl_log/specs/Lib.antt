@@ -1,5 +1,5 @@
+pub mod Addresses
 pub mod Calls
 pub mod Logs
 pub mod Passes
-pub mod Regions
 pub mod Taken

@@ -1,7 +1,6 @@
 //! Which region of the log an address lies in, without the lock.
 ghost use Rattle.std.specs.Prelude.{◌≡◌, None, Some, MatchResult};
-ghost use Rattle.hl_pass.specs.Views.{beyond_fault};
-ghost use Rattle.hl_log.specs.Regions.{region_of};
+ghost use Rattle.hl_log.specs.Addresses.{region_fault, region_of};
 
 use crate::pass::Pass;
 use crate::shared::Shared;
@@ -24,17 +23,17 @@ pub enum Region {
 impl Pass {
     /// The region of an address, by what the pass sees and the safe read-only offset, which it loads and tells too.
     ///
-    /// `Beyond` where the address isn't below the tail that the pass sees.
+    /// `Beyond` where the address isn't below the tail that the pass sees, nor below the head that it sees.
     #[inline(always)]
     pub fn region(&self, address: u64) -> Result<(Region, u64), Fault>
         ensures { let view = self.now.own.view
-            in let met = beyond_fault view address
+            in let met = region_fault view address
             in MatchResult result
             (λ told. (met ≡ None) × (told.0 ≡ region_of view told.1 address))
             (λ fault. met ≡ Some fault) }
     {
         let view = self.own.view;
-        if address >= view.tail {
+        if address >= view.head && address >= view.tail {
             return Err(Fault::Beyond { tail: view.tail });
         }
         let shared: &Shared = &self.shared;
@@ -43,7 +42,7 @@ impl Pass {
     }
 }
 
-/// The region of an address that is below the tail.
+/// The region of an address that has one.
 #[inline(always)]
 fn region_of(view: View, safe_read_only: u64, address: u64) -> Region
     ensures { result ≡ region_of view safe_read_only address }

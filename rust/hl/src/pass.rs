@@ -157,23 +157,17 @@ impl<'a> Pass<'a> {
         answers::number(unsafe { raw::hl_pass_load(&mut self.handle, address) })
     }
 
-    /// Loads the words from an address on, as many as there are places, without the lock. Evicted, Beyond: nothing is
-    /// loaded then.
+    /// Loads the words from an address on, one after another, as many as there are places, without the lock. Evicted,
+    /// Beyond: nothing is loaded then.
+    #[inline]
     pub fn load_into(&mut self, address: u64, words: &mut [u64]) -> Result<(), Fault> {
-        let Some(more) = words.len().checked_sub(1) else {
-            return Ok(());
-        };
-        // What lies between two words that the pass may load it may load. The greatest address is above every tail.
-        self.load(address)?;
-        self.load(address.saturating_add(more as u64))?;
-        for (address, word) in (address..).zip(words) {
-            *word = self.load(address)?;
-        }
-        Ok(())
+        // The pointer of a row without words isn't null either.
+        let (places, count) = (words.as_mut_ptr(), words.len());
+        answers::number(unsafe { raw::hl_pass_load_into(&mut self.handle, address, places, count) }).map(drop)
     }
 
     /// Which region the word of an address is in, by what the pass sees and the safe read-only offset as it is now,
-    /// without the lock. Beyond.
+    /// without the lock. Beyond, where the address isn't below the tail that the pass sees, nor evicted.
     ///
     /// A word in the fuzzy region is read-only for all once each pass has moved on and the settle is done; till then what
     /// it has may change.

@@ -63,10 +63,10 @@ fn regions() -> Result<(), Fault> {
 
 /// The region by the offsets as they are, for one pass in one thread.
 fn wanted(view: View, now: Offsets, address: u64) -> Result<Region, Fault> {
-    if address >= view.tail {
-        Err(Fault::Beyond { tail: view.tail })
-    } else if address < view.head {
+    if address < view.head {
         Ok(Region::Evicted)
+    } else if address >= view.tail {
+        Err(Fault::Beyond { tail: view.tail })
     } else if address >= view.read_only {
         Ok(Region::Mutable)
     } else if address < now.safe_read_only {
