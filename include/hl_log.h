@@ -173,6 +173,36 @@ hl_brief hl_pass_compare_exchange(hl_pass *pass, uint64_t address, uint64_t curr
 /* Loads a word: a the word. HL_EVICTED, a the head that the pass sees: the address is below it. HL_BEYOND. */
 hl_brief hl_pass_load(hl_pass *pass, uint64_t address);
 
+/* Loads the words from an address on, one after another, into count places. HL_EVICTED, as of a load; HL_BEYOND, a the
+ * tail that the pass sees: the last of them isn't below it. Nothing is loaded then. The pointer is never null. */
+hl_brief hl_pass_load_into(hl_pass *pass, uint64_t address, uint64_t *words, size_t count);
+
+/* What may be done to a word of the log. */
+enum hl_region {
+    HL_REGION_MUTABLE = 1,   /* the pass may store there */
+    HL_REGION_FUZZY = 2,     /* the pass may store there no more, and another may still */
+    HL_REGION_READ_ONLY = 3, /* no pass may store there */
+    HL_REGION_EVICTED = 4    /* the pass may not load there: the word is on the device */
+};
+
+/* Which region the word of an address is in, by what the pass sees and the safe read-only offset as it is now: a the
+ * region (hl_region), b that offset. HL_BEYOND, a the tail that the pass sees: the address isn't below it, nor evicted.
+ * A word in the fuzzy region is read-only for all once each pass has moved on and the settle is done; till then what it
+ * has may change. */
+hl_outcome hl_pass_region(hl_pass *pass, uint64_t address);
+
+/* The same by names. */
+typedef struct hl_region_told {
+    uint64_t number;
+    uint64_t region;
+    uint64_t safe_read_only;
+} hl_region_told;
+
+static inline hl_region_told hl_as_region(hl_outcome told) {
+    hl_region_told region = {told.number, told.a, told.b};
+    return region;
+}
+
 /* Sees the read-only offset and the head as they are now: b to d what the pass sees. They never fall. The next call
  * under the lock enters the look. */
 hl_outcome hl_pass_look(hl_pass *pass);

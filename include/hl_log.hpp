@@ -12,12 +12,10 @@
 #ifndef HL_LOG_HPP
 #define HL_LOG_HPP
 
-#include "hl.hpp"
-#include "hl_log.h"
+#include "hl_pass.hpp"
 
 #include <atomic>
 #include <cstddef>
-#include <mutex>
 #include <new>
 #include <utility>
 
@@ -30,138 +28,6 @@ struct Holder {
     Word epoch;
     Word ticket;
     Word count;
-};
-
-namespace detail {
-
-/// What a log, its passes and its pages share: the proved log, and its lock.
-struct Block {
-    Block() = default;
-    Block(const Block &) = delete;
-    Block &operator=(const Block &) = delete;
-    ~Block() { hl_log_free(&log); }
-
-    std::mutex mutex;
-    hl_log log{};
-    // How many have it.
-    std::atomic<Word> owners{1};
-};
-
-/// One of those that have a block; the last one gives it back.
-class Shared {
-  public:
-    Shared() = default;
-    explicit Shared(Block *block) noexcept : block_(block) {}
-    Shared(const Shared &other) noexcept : block_(other.block_) {
-        if (block_) block_->owners.fetch_add(1, std::memory_order_relaxed);
-    }
-    Shared(Shared &&other) noexcept : block_(std::exchange(other.block_, nullptr)) {}
-    Shared &operator=(Shared other) noexcept {
-        std::swap(block_, other.block_);
-        return *this;
-    }
-    ~Shared() {
-        if (block_ && block_->owners.fetch_sub(1, std::memory_order_acq_rel) == 1) delete block_;
-    }
-
-    explicit operator bool() const noexcept { return block_ != nullptr; }
-
-    /// Makes a call of the log under its lock, or of one that isn't open.
-    template <class Call, class... Words> auto ask(Call call, Words... words) const noexcept {
-        hl_log none{};
-        if (!block_) return call(&none, words...);
-        std::lock_guard<std::mutex> lock(block_->mutex);
-        return call(&block_->log, words...);
-    }
-
-  private:
-    Block *block_ = nullptr;
-};
-
-/// A stamp for one more log: 2^32 times its number, so that the stamps of its slots are no other log's.
-inline Word next_stamp() noexcept {
-    static std::atomic<Word> logs{0};
-    return logs.fetch_add(1, std::memory_order_relaxed) % (Word{1} << 30) << 32;
-}
-
-} // namespace detail
-
-// ---- A slot's part ----
-
-/// A protected slot of a log, which is released where it goes out of scope. One thread at a time uses a pass. Refresh
-/// often: a slot that doesn't holds back each action that was stored since. Threads may store to one word, and a load
-/// finds one of the words stored there. Where it was moved from its calls answer NoCore.
-class Pass {
-  public:
-    Pass(Pass &&other) noexcept
-        : shared_(std::move(other.shared_)), pass_(std::exchange(other.pass_, {})), slot_(other.slot_),
-          view_(other.view_) {}
-    /// The slot that was here is released, and the other one's is here.
-    Pass &operator=(Pass &&other) noexcept {
-        Pass taken(std::move(other));
-        std::swap(shared_, taken.shared_);
-        std::swap(pass_, taken.pass_);
-        std::swap(slot_, taken.slot_);
-        std::swap(view_, taken.view_);
-        return *this;
-    }
-    ~Pass() {
-        if (!shared_) return;
-        (void)shared_.ask(hl_log_release, &pass_);
-        hl_pass_abandon(&pass_);
-    }
-
-    Word slot() const noexcept { return slot_; }
-    /// What the slot has seen.
-    View view() const noexcept { return view_; }
-
-    /// Moves on to the current epoch, and sees the offsets as they are.
-    [[nodiscard]] Result<Entered> refresh() noexcept {
-        hl_outcome told = shared_.ask(hl_log_refresh, &pass_);
-        if (told.number == 0) view_ = detail::view_of(told);
-        return detail::entered(told);
-    }
-    /// Places a record of so many words, and sees the tail behind it: its address. Size, SpaceSpent, Busy.
-    [[nodiscard]] Result<Word> allocate(Word words) noexcept {
-        auto address = detail::one(shared_.ask(hl_log_allocate, &pass_, words));
-        if (address) view_.tail = *address + words;
-        return address;
-    }
-
-    /// Sees the read-only offset and the head as they are now, without the lock.
-    View look() noexcept {
-        hl_outcome told = hl_pass_look(&pass_);
-        if (told.number == 0) view_ = detail::view_of(told);
-        return view_;
-    }
-    /// Whether nothing is new to it: neither offset is above the one that it sees, and the epoch of its slot hasn't ended.
-    /// If something is, look or refresh. It takes no lock.
-    bool keeps_up() noexcept { return hl_pass_keeps_up(&pass_) == 1; }
-    /// Stores a word, without the lock. Below, Beyond.
-    [[nodiscard]] Result<void> store(Word address, Word word) noexcept {
-        return detail::nothing(hl_pass_store(&pass_, address, word));
-    }
-    /// Loads a word, without the lock; one that was never stored is 0. Evicted, Beyond.
-    [[nodiscard]] Result<Word> load(Word address) noexcept { return detail::one(hl_pass_load(&pass_, address)); }
-    /// Adds to a word in one step, modulo 2^64, without the lock: what it found. Below, Beyond.
-    [[nodiscard]] Result<Word> fetch_add(Word address, Word more) noexcept {
-        return detail::one(hl_pass_fetch_add(&pass_, address, more));
-    }
-    /// Stores a word where `current` stands, in one step and without the lock: what it found, so it stored where that is
-    /// `current`. Below, Beyond.
-    [[nodiscard]] Result<Word> compare_exchange(Word address, Word current, Word word) noexcept {
-        return detail::one(hl_pass_compare_exchange(&pass_, address, current, word));
-    }
-
-  private:
-    friend class Log;
-    Pass(detail::Shared shared, hl_pass pass, Word slot, View view) noexcept
-        : shared_(std::move(shared)), pass_(pass), slot_(slot), view_(view) {}
-
-    detail::Shared shared_;
-    hl_pass pass_;
-    Word slot_;
-    View view_;
 };
 
 // ---- Pages ----
@@ -254,6 +120,16 @@ class Clean {
 };
 
 // ---- A log ----
+
+namespace detail {
+
+/// A stamp for one more log: 2^32 times its number, so that the stamps of its slots are no other log's.
+inline Word next_stamp() noexcept {
+    static std::atomic<Word> logs{0};
+    return logs.fetch_add(1, std::memory_order_relaxed) % (Word{1} << 30) << 32;
+}
+
+} // namespace detail
 
 /// A log that threads share by a reference. It moves, and frees itself. Where it was moved from its calls answer NoCore,
 /// or only zeros.

@@ -27,18 +27,14 @@ static std::vector<Word> record(Word thread, Word number) {
     return words;
 }
 
-/// Places a record and stores its words, which nobody else does until the next refresh.
+/// Appends a record, and brings the pass up to date.
 static void append(hl::Pass &pass, const std::vector<Word> &words) {
-    auto address = pass.allocate(words.size());
-    while (!address) {
+    while (!pass.append(words.data(), words.size())) {
         // No frame is free: the oldest one comes back once every thread has moved on.
         std::this_thread::yield();
         pass.refresh().value();
-        address = pass.allocate(words.size());
     }
-    for (Word i = 0; i < words.size(); i++)
-        pass.store(*address + i, words[i]).value();
-    pass.refresh().value();
+    pass.keep_up().value();
 }
 
 /// One turn of the thread that flushes: it seals what lies below an address, writes sealed pages, and frees what is

@@ -19,7 +19,8 @@ static_assert(gives_slots<hl::Core &>::value && !gives_slots<hl::Core>::value, "
 // Whether the value of an answer that goes away at once is given without an exception.
 template <class... T> constexpr bool gives_quietly = (noexcept(*std::declval<hl::Result<T>>()) && ...);
 static_assert(gives_quietly<hl::Word, hl::Sizes, hl::Offsets, hl::Snapshot, hl::Lag>, "a plain value of an answer");
-static_assert(gives_quietly<hl::Core, hl::Slot, hl::Log, hl::Pass, hl::Flush, hl::Clean>, "a value that only moves");
+static_assert(gives_quietly<hl::Core, hl::Slot, hl::Log, hl::Pass, hl::Lease, hl::Flush, hl::Clean>,
+              "a value that only moves");
 
 /// An answer is to be this fault.
 template <class T> static void wants(const char *name, const hl::Result<T> &told, hl::Fault fault) {

@@ -145,6 +145,8 @@ static void pages(void) {
     wants("an exchange", hl_pass_compare_exchange(&pass, 0, 12, 13).a, 12);
     wants("a raise", hl_log_raise(&log, PAGE_SIZE).number, 0);
     wants("a look", hl_pass_look(&pass).b, PAGE_SIZE);
+    wants("a row", hl_pass_load_into(&pass, 0, words, PAGE_SIZE).number, 0);
+    wants("a region", hl_pass_region(&pass, 0).a, HL_REGION_FUZZY);
     wants("a settle", hl_log_settle(&log).number, 0);
     wants("news", hl_pass_keeps_up(&pass), 0);
     wants("who holds it up", hl_log_holders(&log, 0).a, 1);

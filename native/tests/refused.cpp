@@ -76,6 +76,14 @@ int main() {
         is("the settle is done", log.take().has_value() && log.done(1).has_value());
         hl::Flush flush = refuses_each("a page to flush", [&] { return log.flush_take(); }).value();
         is("its number", flush.page() == 0);
+
+        // A slot that rested is refused memory for its pass.
+        requests = 0;
+        refused = 1;
+        auto entered = pass.rest([] {});
+        refused = 0;
+        is("a rest", !entered.has_value() && entered.error() == hl::Fault::OutOfMemory);
+        is("its slot is free", log.snapshot().protected_slots == 0 && log.acquire(2).has_value());
     }
     is("what is out at last", out == before);
     return wrong != 0;

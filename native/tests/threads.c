@@ -49,6 +49,10 @@ static void nothing_there(void) {
     wants("a store of no pass", hl_pass_store(&pass, 0, 1).number, HL_NO_CORE);
     wants("a load of no pass", hl_pass_load(&pass, 0).number, HL_NO_CORE);
     wants("a look of no pass", hl_pass_look(&pass).number, HL_NO_CORE);
+    words[0] = 7;
+    wants("a row of no pass", hl_pass_load_into(&pass, 0, words, 1).number, HL_NO_CORE);
+    wants("its place", words[0], 7);
+    wants_all("a region of no pass", hl_pass_region(&pass, 0), (hl_outcome){HL_NO_CORE, 0, 0, 0, 0});
     wants("the news of no pass", hl_pass_keeps_up(&pass), HL_NO_CORE);
     wants("an end of no pass", hl_pass_abandon(&pass), HL_NO_CORE);
     wants("a copy of no page", hl_log_copy_page(&page, words, PAGE_SIZE).number, HL_NO_CORE);
@@ -70,6 +74,7 @@ static void sizes(void) {
 static void one_pass(void) {
     hl_log log = {0};
     hl_pass pass = {0}, other = {0};
+    uint64_t words[3] = {1, 1, 1};
     hl_log_open(&log, PAGE_SIZE, 4, 4, 4, 1000);
     wants("a slot that isn't there", hl_log_acquire(&log, &pass, 4).number, HL_NO_SLOT);
     wants_all("an acquire", hl_log_acquire(&log, &pass, 2), (hl_outcome){0, 1, 0, 0, 0});
@@ -84,6 +89,16 @@ static void one_pass(void) {
     wants_both("a load", hl_pass_load(&pass, 1), 0, 7);
     wants_both("a word that was never stored", hl_pass_load(&pass, 0), 0, 0);
     wants_both("a load beyond", hl_pass_load(&pass, 2), HL_BEYOND, 2);
+    wants_both("a row", hl_pass_load_into(&pass, 0, words, 2), 0, 0);
+    wants("its first word", words[0], 0);
+    wants("its last word", words[1], 7);
+    wants("the word behind it", words[2], 1);
+    wants_both("a row that ends beyond", hl_pass_load_into(&pass, 0, words, 3), HL_BEYOND, 2);
+    wants_both("a row above the tail", hl_pass_load_into(&pass, 3, words, 1), HL_BEYOND, 2);
+    wants_both("no words", hl_pass_load_into(&pass, 3, words, 0), 0, 0);
+    wants("a place that stays", words[0], 0);
+    wants_all("a mutable word", hl_pass_region(&pass, 1), (hl_outcome){0, HL_REGION_MUTABLE, 0, 0, 0});
+    wants_all("a word beyond", hl_pass_region(&pass, 2), (hl_outcome){HL_BEYOND, 2, 0, 0, 0});
     wants_both("an addition", hl_pass_fetch_add(&pass, 1, 5), 0, 7);
     wants_both("an exchange", hl_pass_compare_exchange(&pass, 1, 12, 20), 0, 12);
     wants_both("an exchange that found another", hl_pass_compare_exchange(&pass, 1, 12, 30), 0, 20);
@@ -98,6 +113,7 @@ static void one_pass(void) {
     wants_both("an addition after the look", hl_pass_fetch_add(&pass, 0, 3), HL_BELOW, 1);
     wants_both("an exchange after the look", hl_pass_compare_exchange(&pass, 0, 3, 4), HL_BELOW, 1);
     wants_both("a load after the look", hl_pass_load(&pass, 0), 0, 3);
+    wants_all("a fuzzy word", hl_pass_region(&pass, 0), (hl_outcome){0, HL_REGION_FUZZY, 0, 0, 0});
     wants_both("an end of the epoch", hl_log_bare(&log), 0, 1);
     wants("an epoch that ended", hl_pass_keeps_up(&pass), 0);
     wants_all("a refresh", hl_log_refresh(&log, &pass), (hl_outcome){0, 2, 1, 0, 2});
@@ -125,6 +141,8 @@ static void greatest(void) {
     wants_both("a load so far up", hl_pass_load(&pass, UINT64_MAX), HL_BEYOND, 4);
     wants_both("an addition so far up", hl_pass_fetch_add(&pass, UINT64_MAX, 1), HL_BEYOND, 4);
     wants_both("an exchange so far up", hl_pass_compare_exchange(&pass, UINT64_MAX, 0, 1), HL_BEYOND, 4);
+    wants_both("a row so far up", hl_pass_load_into(&pass, UINT64_MAX, &word, 1), HL_BEYOND, 4);
+    wants_all("a region so far up", hl_pass_region(&pass, UINT64_MAX), (hl_outcome){HL_BEYOND, 4, 0, 0, 0});
     wants_both("so great a word", hl_pass_store(&pass, 3, UINT64_MAX), 0, 0);
     wants_both("an addition to it", hl_pass_fetch_add(&pass, 3, 2), 0, UINT64_MAX);
     wants_both("their sum", hl_pass_load(&pass, 3), 0, 1);
@@ -181,7 +199,11 @@ static void sealed_page(hl_log *log, hl_pass *pass) {
     wants_all("a refresh", hl_log_refresh(log, pass), (hl_outcome){0, 2, PAGE_SIZE, 0, 2 * PAGE_SIZE});
     wants("nobody", hl_log_holders(log, 0).number, HL_OUT_OF_RANGE);
     wants_all("a take", hl_log_take(log), (hl_outcome){0, 1, 0, 0, 0});
+    wants_all("a word before the done", hl_pass_region(pass, 0), (hl_outcome){0, HL_REGION_FUZZY, 0, 0, 0});
     wants_all("a done", hl_log_done(log, 1), (hl_outcome){0, PAGE_SIZE, HL_SETTLES, 0, 0});
+    hl_region_told told = hl_as_region(hl_pass_region(pass, PAGE_SIZE - 1));
+    wants("a read-only word", told.number == 0 && told.region == HL_REGION_READ_ONLY, 1);
+    wants("the safe offset", told.safe_read_only, PAGE_SIZE);
 }
 
 static void pages(void) {
@@ -211,6 +233,8 @@ static void pages(void) {
     wants_both("a load before the look", hl_pass_load(&pass, 0), 0, 11);
     hl_pass_look(&pass);
     wants_both("a load after the look", hl_pass_load(&pass, 0), HL_EVICTED, PAGE_SIZE);
+    wants_both("an evicted row", hl_pass_load_into(&pass, PAGE_SIZE - 1, words, 2), HL_EVICTED, PAGE_SIZE);
+    wants_all("an evicted word", hl_pass_region(&pass, 0), (hl_outcome){0, HL_REGION_EVICTED, PAGE_SIZE, 0, 0});
     wants_both("a close", hl_log_close(&log), 0, 2);
     hl_log_refresh(&log, &pass);
     hl_log_take(&log);
@@ -227,6 +251,7 @@ static void pages(void) {
     hl_log_refresh(&log, &pass);
     wants_all("its take", hl_log_take(&log), (hl_outcome){0, 3, 1, 77, 0});
     wants_all("its end", hl_log_done(&log, 3), (hl_outcome){0, 77, HL_JOB, 0, 0});
+    wants("the safe offset as before", hl_pass_region(&pass, PAGE_SIZE).b, PAGE_SIZE);
     hl_log_release(&log, &pass);
     hl_log_free(&log);
     hl_log_free(&second);

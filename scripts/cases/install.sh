@@ -103,13 +103,15 @@ crate_tests() {
         answers_journals "$room/rust_journals"
 }
 
-# A program of one's own that names the installed crate.
+# An example as a program of one's own that names the installed crate: by_the_crate EXAMPLE [WORD..]
 by_the_crate() {
+    local example="$1"
+    shift
     mkdir -p "$room/app_in_rust/src"
     printf '%s\n' '[package]' 'name = "app"' 'edition = "2021"' '[dependencies]' \
         "hl = { path = \"$installed/share/hl/rust\" }" > "$room/app_in_rust/Cargo.toml"
-    cp "$top/rust/hl/examples/append_log.rs" "$room/app_in_rust/src/main.rs"
-    (cd "$room/app_in_rust" && with_cargo HL_DIR= cargo run --quiet --offline -- "$room/rust.log")
+    cp "$top/rust/hl/examples/$example.rs" "$room/app_in_rust/src/main.rs"
+    (cd "$room/app_in_rust" && with_cargo HL_DIR= timeout 100 cargo run --quiet --offline -- "$@")
 }
 
 # All files tell the version.
@@ -189,6 +191,10 @@ if has_all "what ./hl install lays out" as ld objcopy nm ar rt; then
             native/tests/refused.cpp
         ! watches_threads c++ || options=-fsanitize=thread check "threads in C++ by ThreadSanitizer" \
             builds_and_runs c++ c++17 native/tests/log.cpp 20000
+        check "daily calls in C++" builds_and_runs c++ c++17 native/tests/daily.cpp
+        check "counters that are evicted in C++" builds_and_runs c++ c++17 native/examples/counters.cpp
+        ! watches_threads c++ || options=-fsanitize=thread check "counters in C++ by ThreadSanitizer" \
+            builds_and_runs c++ c++17 native/examples/counters.cpp
         check "two forms of C++ in one program" of_two_forms
         check "a form of C++ that is too old" refuses_old_forms
         check "a log in C++ beside the core" log_in_cpp
@@ -200,6 +206,7 @@ if has_all "what ./hl install lays out" as ld objcopy nm ar rt; then
     fi
     if has_all "programs in Rust" cargo cc; then
         check "the tests of the Rust crate" crate_tests
-        check "an append-only log in Rust" by_the_crate
+        check "an append-only log in Rust" by_the_crate append_log "$room/rust.log"
+        check "counters that are evicted in Rust" by_the_crate counters
     fi
 fi

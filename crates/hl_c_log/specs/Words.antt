@@ -1,13 +1,16 @@
 -- What a call of a pass without the lock makes of its handle.
-use Rattle.std.specs.Prelude.{◌≡◌, ℕ, if◌then◌else◌, Option, Some, None}
-use Rattle.hl_model.specs.declared.step.Reply.TheVariants.{Value, Looked}
+use Rattle.std.specs.Prelude.{◌≡◌, ℕ, if◌then◌else◌, Option, Some, None, List, length, IfSome}
+use Rattle.hl_model.specs.declared.step.Reply.TheVariants.{Value, Looked, Readable}
 use Rattle.hl_model.specs.Replies.{unless_fault}
 use Rattle.hl_model.specs.declared.fault.Fault.{Fault}
 use Rattle.hl_answers.specs.declared.outcome.Brief.{Brief}
 use Rattle.hl_answers.specs.declared.outcome.Outcome.{Outcome}
-use Rattle.hl_answers.specs.Outcomes.{brief_of, no_core, reply_told, told_of}
+use Rattle.hl_answers.specs.Outcomes.{accepted, brief_of, fault_told, no_core, reply_told, told_of}
 use Rattle.hl_pass.specs.declared.news.News.{News}
 use Rattle.hl_log.specs.Passes.{with_look}
+use Rattle.hl_log.specs.Addresses.{region_fault, region_of, row_fault}
+use Rattle.hl_log.specs.declared.region.Region.{Region}
+use Rattle.hl_log.specs.declared.region.Region.TheVariants.{Mutable, Fuzzy, ReadOnly, Evicted}
 use Rattle.hl_pass.specs.Views.{store_fault, load_fault, raised, is_current}
 use Rattle.hl_c_log.specs.Rows.{PassRow}
 
@@ -26,6 +29,14 @@ abbrev pub Loads : Option PassRow.Denot → ℕ → ℕ → Option PassRow.Denot
 Loads None a found new brief = (brief ≡ brief_of no_core) × (new ≡ None)
 Loads (Some p) a found new brief = (new ≡ Some p) × (brief ≡ word_told (load_fault p.own.view a) found)
 
+-- a pass loaded words into so many places, or judged by what it sees that it may not, and left them as they were; it
+-- stays
+abbrev pub LoadsRow : Option PassRow.Denot → ℕ → List ℕ → Option PassRow.Denot → List ℕ → Brief → Type 0
+LoadsRow None a places new words brief = (brief ≡ brief_of no_core) × (new ≡ None) × (words ≡ places)
+LoadsRow (Some p) a places new words brief = let met = row_fault p.own.view a (length places) in
+    (new ≡ Some p) × (brief ≡ brief_of (told_of (unless_fault met Readable)))
+    × (length words ≡ length places) × IfSome met (λ _. words ≡ places)
+
 -- a pass saw the two offsets that it loaded, where they are above its own, and tells what it sees
 abbrev pub Looks : Option PassRow.Denot → Option PassRow.Denot → Outcome → Type 0
 Looks None new outcome = (outcome ≡ no_core) × (new ≡ None)
@@ -37,3 +48,21 @@ abbrev pub KeepsUp : Option PassRow.Denot → Option PassRow.Denot → ℕ → T
 KeepsUp None new number = (number ≡ 255) × (new ≡ None)
 KeepsUp (Some p) new number = (new ≡ Some p)
     × ((news : News) × (number ≡ (if is_current p.own.view p.own.epoch news then 1 else 0)))
+
+-- a region as a number
+abbrev pub region_number : Region → ℕ
+region_number Mutable = 1
+region_number Fuzzy = 2
+region_number ReadOnly = 3
+region_number Evicted = 4
+
+-- what is told of a fault, or of this region with the safe read-only offset that was loaded
+abbrev pub region_told : Option Fault → Region → ℕ → Outcome
+region_told (Some fault) region safe_read_only = fault_told fault
+region_told None region safe_read_only = accepted (region_number region) safe_read_only 0 0
+
+-- a pass told the region of an address, by what it sees and the safe read-only offset that the outcome has, and stays
+abbrev pub TellsRegion : Option PassRow.Denot → ℕ → Option PassRow.Denot → Outcome → Type 0
+TellsRegion None a new outcome = (outcome ≡ no_core) × (new ≡ None)
+TellsRegion (Some p) a new outcome = (new ≡ Some p)
+    × (outcome ≡ region_told (region_fault p.own.view a) (region_of p.own.view outcome.b a) outcome.b)

@@ -12,7 +12,9 @@
 //! (`CallsBy`, in `specs/Passes.antt`).
 //!
 //! Without it: a store and a load are judged by what the pass sees (`Stores` and `Loads`, in `specs/Words.antt`), and
-//! are one access of one word. That a word is stored is in the code alone: no clause tells what a word has.
+//! are one access of one word; a row of words is loaded one after another (`LoadsRow`). The region of an address is told
+//! by what the pass sees and by the safe read-only offset that it loaded, which it tells too (`TellsRegion`). That a word
+//! is stored is in the code alone: no clause tells what a word has.
 //!
 //! # Threads
 //!
@@ -66,6 +68,6 @@ pub use steps::{
 };
 pub use threads::{sent_log, sent_page, sent_pass};
 pub use words::{
-    hl_pass_compare_exchange, hl_pass_fetch_add, hl_pass_keeps_up, hl_pass_load, hl_pass_look,
-    hl_pass_store,
+    hl_pass_compare_exchange, hl_pass_fetch_add, hl_pass_keeps_up, hl_pass_load, hl_pass_load_into,
+    hl_pass_look, hl_pass_region, hl_pass_store,
 };

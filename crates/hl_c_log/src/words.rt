@@ -1,12 +1,13 @@
 //! The calls of a pass without the lock.
-ghost use Rattle.std.specs.Prelude.{◌≡◌, Result};
+ghost use Rattle.std.specs.Prelude.{◌≡◌, Result, MatchResult};
 ghost use Rattle.hl_model.specs.declared.step.Reply.TheVariants.{Value as VALUE};
 ghost use Rattle.hl_core.specs.Steps.{told};
-ghost use Rattle.hl_answers.specs.Outcomes.{brief_of, told_of, no_core};
-ghost use Rattle.hl_c_log.specs.Words.{Stores, Loads, Looks, KeepsUp};
+ghost use Rattle.hl_answers.specs.Outcomes.{accepted, brief_of, fault_told, told_of, no_core};
+ghost use Rattle.hl_c_log.specs.Words.{region_number, Stores, Loads, LoadsRow, Looks, KeepsUp, TellsRegion};
 
 use crate::pass_handle::PassHandle;
 use hl_answers::{Brief, Outcome};
+use hl_log::Region;
 use hl_model::{Fault, Reply};
 
 /// Stores a word.
@@ -74,6 +75,21 @@ pub extern "C" fn hl_pass_load(pass: &mut PassHandle, address: u64) -> Brief
     }
 }
 
+/// Loads the words from an address on into so many places.
+#[unsafe(no_mangle)]
+pub extern "C" fn hl_pass_load_into(pass: &mut PassHandle, address: u64, words: &mut [u64]) -> Brief
+    ensures { LoadsRow pass.old.slot.value address words.old pass.new.slot.value words.new result }
+{
+    match pass.take() {
+        Some(own) => {
+            let loaded = own.load_into(address, words);
+            pass.put(own);
+            Outcome::of(loaded.map(|()| Reply::Readable)).brief()
+        }
+        None => no_pass(),
+    }
+}
+
 /// Sees the offsets that rose: its view.
 #[unsafe(no_mangle)]
 pub extern "C" fn hl_pass_look(pass: &mut PassHandle) -> Outcome
@@ -102,6 +118,42 @@ pub extern "C" fn hl_pass_keeps_up(pass: &mut PassHandle) -> u64
             if current { 1 } else { 0 }
         }
         None => 255,
+    }
+}
+
+/// Which region of the log an address lies in: its number, and the safe read-only offset that was loaded.
+#[unsafe(no_mangle)]
+pub extern "C" fn hl_pass_region(pass: &mut PassHandle, address: u64) -> Outcome
+    ensures { TellsRegion pass.old.slot.value address pass.new.slot.value result }
+{
+    match pass.take() {
+        Some(own) => {
+            let found = own.region(address);
+            pass.put(own);
+            region_told(found)
+        }
+        None => Outcome::no_core(),
+    }
+}
+
+/// What is told of a region with the safe read-only offset, or of the fault in their place.
+#[inline(always)]
+fn region_told(found: Result<(Region, u64), Fault>) -> Outcome
+    ensures { MatchResult found
+        (λ told. result ≡ accepted (region_number told.0) told.1 0 0)
+        (λ fault. result ≡ fault_told fault) }
+{
+    match found {
+        Ok((region, safe_read_only)) => {
+            let number = match region {
+                Region::Mutable => 1,
+                Region::Fuzzy => 2,
+                Region::ReadOnly => 3,
+                Region::Evicted => 4,
+            };
+            Outcome::accepted(number, safe_read_only, 0, 0)
+        }
+        Err(fault) => Outcome::of_fault(fault),
     }
 }
 

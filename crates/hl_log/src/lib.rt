@@ -1,7 +1,7 @@
 //! A log for threads under a lock of its caller's, with no brand: a [`Log`], and a [`Pass`] for each thread.
 //!
 //! The log has the core, and one call at a time uses it: its caller keeps it under a lock. What threads share with no
-//! lock, the words of the frames and three words that the log's calls store, lies in one block that the log and its
+//! lock, the words of the frames and four words that the log's calls store, lies in one block that the log and its
 //! passes own together, so a pass outlives its log safely.
 //!
 //! # What is promised
@@ -16,13 +16,15 @@
 //! accepted, as a look.
 //!
 //! A store is judged by what the pass sees, and is one store of one word; so are the load and the two changes in place.
-//! A look brings the offsets that it loaded, and the next call of the pass enters it into the list.
+//! A look brings the offsets that it loaded, and the next call of the pass enters it into the list. The region of an
+//! address is told by what the pass sees and the safe read-only offset that it loads, which it tells too
+//! ([`Pass::region`]).
 //!
 //! # What isn't
 //!
-//! No clause tells what a word has, nor that the log's calls store the three words, which are meant to tell passes that
-//! something is new. So a look may bring offsets that are older than those of the log, and that it brings none above
-//! them is in the code alone. It never falls below what the pass saw.
+//! No clause tells what a word has, nor that the log's calls store the four words: three are meant to tell passes that
+//! something is new, and the fourth is the safe read-only offset. So a look may bring offsets that are older than those
+//! of the log, and that it brings none above them is in the code alone. It never falls below what the pass saw.
 #![tactic(auto)]
 
 mod acquire;
@@ -31,6 +33,7 @@ mod log;
 mod open;
 mod pages;
 mod pass;
+mod region;
 mod shared;
 mod step;
 mod taken;
@@ -39,5 +42,6 @@ mod unlocked;
 pub use hl_pass::News;
 pub use log::Log;
 pub use pass::Pass;
+pub use region::Region;
 pub use shared::Shared;
 pub use taken::Taken;

@@ -6,7 +6,7 @@ use std::alloc::Global;
 use std::sync::atomic::AtomicU64;
 use std::sync::atomic::Ordering::SeqCst;
 
-/// What a log and its passes share with no lock: the words of the frames, and three words that the log's calls store
+/// What a log and its passes share with no lock: the words of the frames, and four words that the log's calls store
 /// and passes load.
 #[derive(Drop)]
 pub struct Shared {
@@ -14,6 +14,7 @@ pub struct Shared {
     pub(crate) read_only: AtomicU64,
     pub(crate) head: AtomicU64,
     pub(crate) ended: AtomicU64,
+    pub(crate) safe_read_only: AtomicU64,
     pub(crate) sizes: Sizes,
     ghost fits: { length cells.items ≡ sizes.frames * sizes.page_size },
 }
@@ -33,6 +34,7 @@ impl Shared {
             read_only: AtomicU64::new(0),
             head: AtomicU64::new(0),
             ended: AtomicU64::new(0),
+            safe_read_only: AtomicU64::new(0),
             sizes,
         })
     }
@@ -43,7 +45,7 @@ impl Shared {
         &self.cells[cell_of(self.sizes, address) as usize]
     }
 
-    /// All three words.
+    /// The three words that tell a pass of something new.
     #[inline(always)]
     pub(crate) fn news(&self) -> News {
         News {

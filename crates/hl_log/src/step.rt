@@ -49,6 +49,7 @@ fn tell(shared: &Shared, reply: Reply) {
         Reply::Raised(read_only) => shared.read_only.store(read_only, SeqCst),
         Reply::Shifted(head) => shared.head.store(head, SeqCst),
         Reply::Ticket(ended) | Reply::Bumped(ended) => shared.ended.store(ended, SeqCst),
+        Reply::Settled(safe) => shared.safe_read_only.store(safe, SeqCst),
         _ => {}
     }
 }

@@ -1,6 +1,7 @@
 //! What a pass does without the lock.
-ghost use Rattle.std.specs.Prelude.{◌≡◌, None, Some, MatchResult};
+ghost use Rattle.std.specs.Prelude.{◌≡◌, None, Some, length, IfSome, MatchResult};
 ghost use Rattle.hl_model.specs.Replies.{unless_fault};
+ghost use Rattle.hl_log.specs.Addresses.{row_fault};
 ghost use Rattle.hl_log.specs.Passes.{with_look, IsRisen};
 ghost use Rattle.hl_pass.specs.Views.{store_fault, load_fault, is_current};
 
@@ -65,6 +66,30 @@ impl Pass {
         may_load(self.own.view, address)?;
         let shared: &Shared = &self.shared;
         Ok(shared.cell(address).load(SeqCst))
+    }
+
+    /// Loads the words from an address on, as many as there are places.
+    ///
+    /// Faults: `Evicted` where the address is below the head that the pass sees, `Beyond` where the last of them isn't
+    /// below the tail that it sees; then nothing is loaded.
+    pub fn load_into(&self, address: u64, words: &mut [u64]) -> Result<(), Fault>
+        ensures answer { result ≡ unless_fault (row_fault self.now.own.view address (length words.old)) tt }
+        ensures kept { IfSome (row_fault self.now.own.view address (length words.old))
+            (λ _. words.new ≡ words.old) }
+        ensures places { length words.new ≡ length words.old }
+    {
+        let view = self.own.view;
+        if address < view.head {
+            return Err(Fault::Evicted { head: view.head });
+        }
+        if view.tail.saturating_sub(address) < words.len() as u64 {
+            return Err(Fault::Beyond { tail: view.tail });
+        }
+        let shared: &Shared = &self.shared;
+        for k in 0..words.len() {
+            words[k] = shared.cell(address + k as u64).load(SeqCst);
+        }
+        Ok(())
     }
 
     /// Loads both offset words, the read-only offset's and the head's: each of the two offsets that the pass sees

@@ -22,21 +22,17 @@ fn record(thread: u64, number: u64) -> Vec<u64> {
     [length, thread, number].into_iter().chain(rest).collect()
 }
 
-/// Places a record and stores its words, which nobody else does until the next refresh.
+/// Appends a record, and brings the pass up to date.
 fn append(pass: &mut Pass<'_>, words: &[u64]) -> Outcome {
-    let address = loop {
-        match pass.allocate(words.len() as u64) {
-            Ok(address) => break address,
-            // No frame is free: the oldest one comes back once every thread has moved on.
-            Err(hl::Fault::Busy { .. }) => thread::yield_now(),
-            Err(fault) => return Err(fault.into()),
+    while let Err(fault) = pass.append(words) {
+        // No frame is free: the oldest one comes back once every thread has moved on.
+        if !matches!(fault, hl::Fault::Busy { .. }) {
+            return Err(fault.into());
         }
+        thread::yield_now();
         pass.refresh()?;
-    };
-    for (address, word) in (address..).zip(words) {
-        pass.store(address, *word)?;
     }
-    pass.refresh()?;
+    pass.keep_up()?;
     Ok(())
 }
 

@@ -1,7 +1,7 @@
 //! What the library's answers tell.
 
 use crate::raw::{Brief, LagSteps, Outcome, Quantities, Six};
-use crate::{Action, Done, Entered, Fault, LagStep, Offsets, Snapshot, View};
+use crate::{Action, Done, Entered, Fault, LagStep, Offsets, Region, Snapshot, View};
 
 /// The same numbers, read one by one, as the library stores them: a read of two at once, into which the compiler joins
 /// them where it may, would wait until both stores have left the processor's buffer.
@@ -58,6 +58,15 @@ pub(crate) fn done(told: Outcome) -> Done {
         1 => Done::Job(told.a),
         2 => Done::Settled(told.a),
         _ => Done::Closed(told.a),
+    }
+}
+
+pub(crate) fn region(number: u64) -> Region {
+    match number {
+        1 => Region::Mutable,
+        2 => Region::Fuzzy,
+        3 => Region::ReadOnly,
+        _ => Region::Evicted,
     }
 }
 

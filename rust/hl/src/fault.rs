@@ -92,7 +92,8 @@ impl Fault {
         match number {
             1 => Fault::NoSlot,
             2 => Fault::Occupied,
-            3 => Fault::NotProtected,
+            // A pass that has no slot any more has an empty handle.
+            3 | 255 => Fault::NotProtected,
             4 => Fault::Stale,
             5 => Fault::DrainFull,
             6 => Fault::EpochsSpent,

@@ -17,6 +17,7 @@
 mod answers;
 mod core;
 mod fault;
+mod lease;
 mod log;
 mod pages;
 mod pass;
@@ -26,12 +27,14 @@ mod told;
 
 pub use crate::core::Core;
 pub use fault::Fault;
+pub use lease::Lease;
 pub use log::Log;
 pub use pages::{Clean, Flush};
 pub use pass::Pass;
 pub use slot::Slot;
 pub use told::{
-    Action, Done, Entered, Frame, Holder, Kind, LagStep, Offsets, Pending, RawSizes, Sizes, Snapshot, View,
+    Action, Done, Entered, Frame, Holder, Kind, LagStep, Offsets, Pending, RawSizes, Region, Sizes, Snapshot,
+    View,
 };
 
 /// The version of this crate.

@@ -1,7 +1,7 @@
 //! What a thread does in its slot, under the lock and without it.
 
-use crate::raw::{self, Handle};
-use crate::{answers, Entered, Fault, Log, View};
+use crate::raw::{self, Brief, Handle, Outcome};
+use crate::{answers, Entered, Fault, Lease, Log, Region, View};
 
 /// A protected slot of a [`Log`], which is released where it is dropped.
 ///
@@ -62,12 +62,79 @@ impl<'a> Pass<'a> {
         Ok(address)
     }
 
+    /// Places a piece of so many words, as [`allocate`](Pass::allocate) places a record. Size, SpaceSpent, Busy.
+    pub fn lease(&mut self, words: u64) -> Result<Lease, Fault> {
+        let address = self.allocate(words)?;
+        Ok(Lease::of(address, words))
+    }
+
+    /// Places a record and stores its words: its address. The pass sees no raise in between, so no store is refused. Size,
+    /// where there are no words or more than a page has; SpaceSpent, Busy.
+    pub fn append(&mut self, words: &[u64]) -> Result<u64, Fault> {
+        let first = self.allocate(words.len() as u64)?;
+        for (address, word) in (first..).zip(words) {
+            self.store(address, *word)?;
+        }
+        Ok(first)
+    }
+
+    /// Brings the pass up to date, as a thread wants before each of its operations: without the lock where nothing is new
+    /// to it ([`keeps_up`](Pass::keeps_up)), else by a refresh. What it sees.
+    #[inline]
+    pub fn keep_up(&mut self) -> Result<View, Fault> {
+        if !self.keeps_up() {
+            self.refresh()?;
+        }
+        Ok(self.view)
+    }
+
+    /// Helps the log on, as a thread wants between two tries: takes the oldest action, if it is ready, hands the tag of a
+    /// job to `job`, and the action is done; then refreshes. Whether it took one. An action is done where its job panics,
+    /// too.
+    pub fn help(&mut self, job: impl FnOnce(u64)) -> Result<bool, Fault> {
+        let helped = match self.log.take() {
+            Ok(action) => {
+                let _taken = Taken {
+                    log: self.log,
+                    ticket: action.ticket,
+                };
+                if let Some(tag) = action.tag {
+                    job(tag);
+                }
+                true
+            }
+            Err(Fault::Empty | Fault::NotReady { .. }) => false,
+            Err(fault) => return Err(fault),
+        };
+        self.refresh()?;
+        Ok(helped)
+    }
+
+    /// Releases the slot while `work` runs, as for a wait for a device, so that it holds nothing back; then protects it
+    /// again (FASTER's `Suspend` and `Resume`). What was looked up before must be looked up anew. Occupied: another has
+    /// the slot now; OutOfMemory. The pass then has no slot, as where `work` panics, and its calls answer NotProtected.
+    pub fn rest(&mut self, work: impl FnOnce()) -> Result<Entered, Fault> {
+        let (pass, slot) = (&mut self.handle, self.slot);
+        self.log
+            .ask_briefly(|log| unsafe { raw::hl_log_release(log, pass) })?;
+        work();
+        let entered = self
+            .log
+            .ask(|log| unsafe { raw::hl_log_acquire(log, pass, slot) })
+            .map(answers::entered)?;
+        self.view = entered.view;
+        Ok(entered)
+    }
+
     /// Sees the read-only offset and the head as they are now, without the lock.
     #[inline]
     pub fn look(&mut self) -> View {
-        // SAFETY of this call and those below: the handle was opened with the pass, and is used by one thread at a time.
+        // SAFETY of this call and those below: the handle is the pass's, and is used by one thread at a time.
         let told = unsafe { raw::hl_pass_look(&mut self.handle) };
-        self.view = answers::view(answers::one_by_one(&told));
+        let told = answers::one_by_one(&told);
+        if told.number == 0 {
+            self.view = answers::view(told);
+        }
         self.view
     }
 
@@ -88,6 +155,26 @@ impl<'a> Pass<'a> {
     #[inline]
     pub fn load(&mut self, address: u64) -> Result<u64, Fault> {
         answers::number(unsafe { raw::hl_pass_load(&mut self.handle, address) })
+    }
+
+    /// Loads the words from an address on, one after another, as many as there are places, without the lock. Evicted,
+    /// Beyond: nothing is loaded then.
+    #[inline]
+    pub fn load_into(&mut self, address: u64, words: &mut [u64]) -> Result<(), Fault> {
+        // The pointer of a row without words isn't null either.
+        let (places, count) = (words.as_mut_ptr(), words.len());
+        answers::number(unsafe { raw::hl_pass_load_into(&mut self.handle, address, places, count) }).map(drop)
+    }
+
+    /// Which region the word of an address is in, by what the pass sees and the safe read-only offset as it is now,
+    /// without the lock. Beyond, where the address isn't below the tail that the pass sees, nor evicted.
+    ///
+    /// A word in the fuzzy region is read-only for all once each pass has moved on and the settle is done; till then what
+    /// it has may change.
+    #[inline]
+    pub fn region(&mut self, address: u64) -> Result<Region, Fault> {
+        let Outcome { number, a, .. } = unsafe { raw::hl_pass_region(&mut self.handle, address) };
+        answers::number(Brief { number, a }).map(answers::region)
     }
 
     /// Adds to a word in one step, modulo 2^64, without the lock: what it found. Below, Beyond.
@@ -115,6 +202,9 @@ impl<'a> Pass<'a> {
 impl Drop for Pass<'_> {
     fn drop(&mut self) {
         let pass = &mut self.handle;
+        if !pass.is_open() {
+            return;
+        }
         let told = self
             .log
             .ask_briefly(|log| unsafe { raw::hl_log_release(log, pass) });
@@ -123,5 +213,17 @@ impl Drop for Pass<'_> {
             // SAFETY: as above.
             unsafe { raw::hl_pass_abandon(&mut self.handle) };
         }
+    }
+}
+
+/// An action that was taken, which is done where this is dropped, whatever its job did.
+struct Taken<'a> {
+    log: &'a Log,
+    ticket: u64,
+}
+
+impl Drop for Taken<'_> {
+    fn drop(&mut self) {
+        let _ = self.log.done(self.ticket);
     }
 }

@@ -163,6 +163,8 @@ extern "C" {
     pub(crate) fn hl_pass_compare_exchange(pass: *mut Handle, address: u64, current: u64, word: u64)
         -> Brief;
     pub(crate) fn hl_pass_load(pass: *mut Handle, address: u64) -> Brief;
+    pub(crate) fn hl_pass_load_into(pass: *mut Handle, address: u64, words: *mut u64, count: usize) -> Brief;
+    pub(crate) fn hl_pass_region(pass: *mut Handle, address: u64) -> Outcome;
     pub(crate) fn hl_pass_look(pass: *mut Handle) -> Outcome;
     pub(crate) fn hl_pass_keeps_up(pass: *mut Handle) -> u64;
     pub(crate) fn hl_pass_abandon(pass: *mut Handle) -> u64;

@@ -210,6 +210,19 @@ pub enum LagStep {
     Close,
 }
 
+/// What may be done to a word of the log.
+#[derive(Clone, Copy, Debug, PartialEq, Eq)]
+pub enum Region {
+    /// The pass may store there.
+    Mutable,
+    /// The pass may store there no more, and another may still.
+    Fuzzy,
+    /// No pass may store there.
+    ReadOnly,
+    /// The pass may not load there: the word is on the device.
+    Evicted,
+}
+
 /// A slot that holds up the oldest pending action: its epoch isn't above the action's ticket.
 #[derive(Clone, Copy, Debug, PartialEq, Eq)]
 pub struct Holder {

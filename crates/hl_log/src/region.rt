@@ -1,0 +1,59 @@
+//! Which region of the log an address lies in, without the lock.
+ghost use Rattle.std.specs.Prelude.{◌≡◌, None, Some, MatchResult};
+ghost use Rattle.hl_log.specs.Addresses.{region_fault, region_of};
+
+use crate::pass::Pass;
+use crate::shared::Shared;
+use hl_model::{Fault, View};
+use std::sync::atomic::Ordering::SeqCst;
+
+/// What may be done to a word of the log (FASTER, HybridLog).
+#[derive(Clone, Copy, Debug, PartialEq, Eq)]
+pub enum Region {
+    /// The pass may store there.
+    Mutable,
+    /// The pass may store there no more, and another may still.
+    Fuzzy,
+    /// No pass may store there.
+    ReadOnly,
+    /// The pass may not load there: the word is on the device.
+    Evicted,
+}
+
+impl Pass {
+    /// The region of an address, by what the pass sees and the safe read-only offset, which it loads and tells too.
+    ///
+    /// `Beyond` where the address isn't below the tail that the pass sees, nor below the head that it sees.
+    #[inline(always)]
+    pub fn region(&self, address: u64) -> Result<(Region, u64), Fault>
+        ensures { let view = self.now.own.view
+            in let met = region_fault view address
+            in MatchResult result
+            (λ told. (met ≡ None) × (told.0 ≡ region_of view told.1 address))
+            (λ fault. met ≡ Some fault) }
+    {
+        let view = self.own.view;
+        if address >= view.head && address >= view.tail {
+            return Err(Fault::Beyond { tail: view.tail });
+        }
+        let shared: &Shared = &self.shared;
+        let safe_read_only = shared.safe_read_only.load(SeqCst);
+        Ok((region_of(view, safe_read_only, address), safe_read_only))
+    }
+}
+
+/// The region of an address that has one.
+#[inline(always)]
+fn region_of(view: View, safe_read_only: u64, address: u64) -> Region
+    ensures { result ≡ region_of view safe_read_only address }
+{
+    if address < view.head {
+        Region::Evicted
+    } else if address >= view.read_only {
+        Region::Mutable
+    } else if address < safe_read_only {
+        Region::ReadOnly
+    } else {
+        Region::Fuzzy
+    }
+}
