@@ -7,8 +7,11 @@
 // sealed pages and copies them, shifts the head, closes what lies below it, and sweeps the closed pages. docs/RULES.md
 // has the rules.
 //
+// An operation of an engine begins with keep_up(), asks for the region() of a record, and calls help() between two tries:
+// the example counters.cpp adds to counters so, whose pages leave memory meanwhile.
+//
 // A pass and a page may outlive their log, and the log may be moved: what they share is kept until the last of them is
-// gone. No call throws but value() of an answer.
+// gone. No call throws but value() of an answer, and help() and rest() what is thrown by the function that they call.
 #ifndef HL_LOG_HPP
 #define HL_LOG_HPP
 

@@ -14,6 +14,9 @@ static LOGS: AtomicU64 = AtomicU64::new(0);
 /// Each thread acquires a slot of its own. Whoever flushes raises the read-only offset and settles it, takes the sealed
 /// pages, copies them, shifts the head, closes what lies below it, and sweeps the closed pages.
 ///
+/// An operation of an engine begins with [`Pass::keep_up`], asks for the [`Pass::region`] of a record, and calls
+/// [`Pass::help`] between two tries: the example `counters` adds to counters so, whose pages leave memory meanwhile.
+///
 /// ```
 /// use hl::{Log, Sizes};
 ///
