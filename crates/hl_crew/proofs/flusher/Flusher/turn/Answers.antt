@@ -21,3 +21,13 @@ returns-in_err-flush g c =
         },
       );
     })
+
+pub returns-in_err-run_actions : goal.returns-in_err-run_actions
+returns-in_err-run_actions g c =
+    let p = err_from_is_err_and c.from_residual-in_err-run_actions.result c.from_residual-in_err-run_actions.ensures.1 in
+    rw (p.1, p.2) (record {
+      lag = Ok tt;
+      lagged = c.keep_lag.new.own;
+      keeps = c.in_ok-keep_lag.ensures;
+      acts = (Err c.in_err-run_actions.field-0.0, c.run_actions.new.rider, c.in_err-run_actions.ensures, (refl, refl));
+    })
