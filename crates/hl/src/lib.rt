@@ -10,6 +10,7 @@
 //! | the same with threads and a crew | [`with_threads`], with a [`Work`] of your own and a [`Duty`] |
 //! | the same with a device in memory that comes back | [`with_memory`], with a [`MemoryDevice`] |
 //! | to place, store and load words in a thread | a [`Session`], which a [`Rider`] enters |
+//! | to know whether a record may be changed in place, copied, or read from the device | [`Session::region`], which returns a [`Region`] |
 //! | to try again what was refused for now, to wait for the others | [`attempt`], [`Session::help`], [`Session::wait`] |
 //! | to leave the slot while a thread does something else | [`Session::suspend`], which returns a [`Resting`] |
 //! | to place small records without the lock | a [`Lease`], which [`Session::lease`] returns |
@@ -42,7 +43,7 @@ pub use hl_action::{AnyAnswer, Firing, Kept, NoJob, Promise, Ran, Ready, Task};
 pub use hl_counts::CountTable;
 pub use hl_crew::{CrewEnd, Cuts, Duty, Gate, OpenGate, Orders, Stop, run_crew, serve};
 pub use hl_domain::{
-    ArrayVec, Broom, Domain, Ending, FrameState, Holder, Keeper, Lease, Load, PageJob, Pass,
+    ArrayVec, Broom, Domain, Ending, FrameState, Holder, Keeper, Lease, Load, PageJob, Pass, Region,
 };
 pub use hl_drain::{Action, Ask, Drain};
 pub use hl_epoch::{Epochs, ScanTable};

@@ -11,6 +11,7 @@ ghost use Rattle.hl.specs.Sessions.{with_pass, Asked, Entered, Left};
 mod help;
 mod pasts;
 mod records;
+mod region;
 mod rest;
 mod rider;
 mod room;
