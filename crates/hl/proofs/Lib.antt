@@ -1,3 +1,5 @@
+pub mod ConfigLaws
+pub mod FinishLaws
 pub mod HelpLaws
 pub mod OutLaws
 pub mod RecordLaws

@@ -1,7 +1,9 @@
 pub mod Attempts
 pub mod Closings
+pub mod Configs
 pub mod Crews
 pub mod Devices
+pub mod Finishes
 pub mod Helps
 pub mod Openings
 pub mod Records
