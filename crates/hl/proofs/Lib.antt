@@ -1,4 +1,6 @@
+pub mod ConfigLaws
 pub mod EvictedLaws
+pub mod FinishLaws
 pub mod HelpLaws
 pub mod OutLaws
 pub mod RecordLaws

@@ -24,7 +24,7 @@ use Rattle.hl.specs.declared.refused.Refused.{Refused}
 use Rattle.hl.specs.Crews.{riders_of}
 use Rattle.hl.specs.Devices.{device_has, has_page, on_memory}
 use Rattle.hl.specs.Sessions.{SessionState}
-use Rattle.hl.specs.Closings.{rider_at, Tells, AreReturned, FlushesTaken, AllReturned, AreAllReturned, AreLeft}
+use Rattle.hl.specs.Closings.{rider_at, Tells, AreReturned, FlushesTaken, CountReturned, AreCountReturned, AreAllReturned, AreLeft}
 
 -- how long a row is that one was put behind
 one_longer : {X : Type 0} (xs : List X) (x : X) (old new : ℕ) → old ≡ length xs → new ≡ old + 1 → new ≡ length (xs ++ (x ∷ []))
@@ -52,6 +52,10 @@ new_at (suc n) i none within = by_test (new_at n i none) (nat_lt i n) refl
         let same : i ≡ n = omega (arith, ltb-false i n e, within) in
         let first : i - n ≡ 0 = omega (arith, same) in
         get_or-append_right (new_riders n) (new_rider n ∷ []) n i none (new_long n) (omega (arith, same)) ∙ ap (λ k. slice_index_or (new_rider n ∷ []) k none) first ∙ ap new_rider (sym same)
+
+-- as many new riders as there are
+pub all_new : (n : ℕ) (all : List RiderState) → all ≡ new_riders n → (length all ≡ n) × (all ≡ new_riders (length all))
+all_new n all new = let long : length all ≡ n = ap length new ∙ new_long n in (long, new ∙ ap new_riders (sym long))
 
 -- what holds of two rows holds of the one behind the other, and of the second alone
 both_all : (P : RiderState → Type 0) (xs ys : List RiderState) → AllByRecursion P xs → AllByRecursion P ys → AllByRecursion P (xs ++ ys)
@@ -128,18 +132,18 @@ module _ {Out : Type 0} (F : Type 0) (log : DomainState) (Returns : ℕ → Sess
   work_returned g f jobs olds (Err error) same numbered calls len each = tt
 
   -- results and riders of threads whose riders were new, with a crew's riders behind
-  pub with_crew : (Took : ℕ → List ℕ → Type 0) (all olds crew : List RiderState) (outs : List (Result Out Fault)) (news back : List RiderState)
-      → all ≡ new_riders log.riders → all ≡ olds ++ crew → length outs ≡ length olds → length news ≡ length olds → length crew ≡ 4 → length back ≡ 4
-      → StoreSweeps log.sizes back → AllByRecursion (FlushesTaken Took log.sizes) back → AreReturned F log Returns (rider_at olds) outs news → AllReturned F log Returns Took outs (news ++ back)
-  with_crew Took all olds crew outs news back new parts long many four others sweeps taken each =
-      let count : length olds + 4 ≡ log.riders = omega (arith, ap length parts, length-append olds crew, four, ap length new, new_long log.riders) in
+  pub with_crew : (Took : ℕ → List ℕ → Type 0) (total : ℕ) (all olds crew : List RiderState) (outs : List (Result Out Fault)) (news back : List RiderState)
+      → all ≡ new_riders total → all ≡ olds ++ crew → length outs ≡ length olds → length news ≡ length olds → length crew ≡ 4 → length back ≡ 4
+      → StoreSweeps log.sizes back → AllByRecursion (FlushesTaken Took log.sizes) back → AreReturned F log Returns (rider_at olds) outs news → CountReturned F log Returns Took total outs (news ++ back)
+  with_crew Took total all olds crew outs news back new parts long many four others sweeps taken each =
+      let count : length olds + 4 ≡ total = omega (arith, ap length parts, length-append olds crew, four, ap length new, new_long total) in
       let crews : drop (length outs) (news ++ back) ≡ back = behind (length outs) news back (long ∙ sym many) in
       record {
         back = length-append news back ∙ omega (arith, count, others, many);
         threads = omega (arith, count, long);
         each = λ number other within.
             let here : number < length olds = omega (arith, within, long) in
-            let old : rider_at olds number ≡ new_rider number = sym (get_or_append_left olds crew (new_rider number) number here) ∙ ap (λ l. rider_at l number) (sym parts ∙ new) ∙ new_at log.riders number (new_rider number) (omega (arith, here, count)) in
+            let old : rider_at olds number ≡ new_rider number = sym (get_or_append_left olds crew (new_rider number) number here) ∙ ap (λ l. rider_at l number) (sym parts ∙ new) ∙ new_at total number (new_rider number) (omega (arith, here, count)) in
             let now : rider_at news number ≡ rider_at (news ++ back) number = sym (get_or_append_left news back (new_rider number) number (omega (arith, here, many))) in
             subst₂ (λ (r s : RiderState). Tells F log (Returns number) r s (slice_index_or outs number other)) old now (each number other within);
         sweeps = subst (StoreSweeps log.sizes) (sym crews) sweeps;
@@ -147,18 +151,18 @@ module _ {Out : Type 0} (F : Type 0) (log : DomainState) (Returns : ℕ → Sess
       }
 
 -- what all threads returned, where the crew served, or why it was refused
-pub gathered : {Out S : Type 0} (F : Type 0) (log : DomainState) (Returns : ℕ → SessionState → SessionState → Out → Type 0) (Took : ℕ → List ℕ → Type 0) (served : Result S Fault) (outs : Result (Vec (Result Out Fault) Global) Fault) (returned : List (Result Out Fault)) (riders : List RiderState)
-    → MatchResult served (λ _. IsOk outs) (λ fault. outs ≡ Err fault) → IfErr served (λ fault. fault ≡ OutOfMemory) → IfOk outs (λ outs. outs.items ≡ returned) → AllReturned F log Returns Took returned riders
-    → AreAllReturned F log Returns Took outs riders
-gathered F log Returns Took served (Ok outs) returned riders told memory are all = subst (λ l. AllReturned F log Returns Took l riders) (sym are) all
-gathered F log Returns Took (Ok end) (Err fault) returned riders told memory are all = absurd (let e : false ≡ true = told in cc)
-gathered F log Returns Took (Err refused) (Err fault) returned riders told memory are all =
+pub gathered : {Out S : Type 0} (F : Type 0) (log : DomainState) (Returns : ℕ → SessionState → SessionState → Out → Type 0) (Took : ℕ → List ℕ → Type 0) (total : ℕ) (served : Result S Fault) (outs : Result (Vec (Result Out Fault) Global) Fault) (returned : List (Result Out Fault)) (riders : List RiderState)
+    → MatchResult served (λ _. IsOk outs) (λ fault. outs ≡ Err fault) → IfErr served (λ fault. fault ≡ OutOfMemory) → IfOk outs (λ outs. outs.items ≡ returned) → CountReturned F log Returns Took total returned riders
+    → AreCountReturned F log Returns Took total outs riders
+gathered F log Returns Took total served (Ok outs) returned riders told memory are all = subst (λ l. CountReturned F log Returns Took total l riders) (sym are) all
+gathered F log Returns Took total (Ok end) (Err fault) returned riders told memory are all = absurd (let e : false ≡ true = told in cc)
+gathered F log Returns Took total (Err refused) (Err fault) returned riders told memory are all =
     let same : fault ≡ refused = cc told in
     same ∙ memory
 
--- what is known of one log is known of another that is the same
-pub all_of_same : {Out : Type 0} (F : Type 0) (log other : DomainState) (Returns : ℕ → SessionState → SessionState → Out → Type 0) (Took : ℕ → List ℕ → Type 0) (outs : Result (Vec (Result Out Fault) Global) Fault) (riders : List RiderState) → log ≡ other → AreAllReturned F log Returns Took outs riders → AreAllReturned F other Returns Took outs riders
-all_of_same F log other Returns Took outs riders same known = subst (λ l. AreAllReturned F l Returns Took outs riders) same known
+-- what is known of one log and so many riders is known of what is the same
+pub all_of_same : {Out : Type 0} (F : Type 0) (log other : DomainState) (Returns : ℕ → SessionState → SessionState → Out → Type 0) (Took : ℕ → List ℕ → Type 0) (total many : ℕ) (outs : Result (Vec (Result Out Fault) Global) Fault) (riders : List RiderState) → log ≡ other → total ≡ many → AreCountReturned F log Returns Took total outs riders → AreCountReturned F other Returns Took many outs riders
+all_of_same F log other Returns Took total many outs riders same count known = subst₂ (λ l n. AreCountReturned F l Returns Took n outs riders) same count known
 
 -- what holds of pages that are on devices holds of those that a crew was given and handed back
 pub moved : {W : Type 0} (has : W → ℕ → List ℕ → Type 0) (sizes : Sizes) (riders others : List RiderState) (first second one two : W) → others ≡ riders → one ≡ first → two ≡ second → AreImaged has sizes riders (first ∷ second ∷ []) → AreImaged has sizes others (one ∷ two ∷ [])
@@ -172,13 +176,13 @@ served_or_memory (Ok e) told of is memory = subst (λ t. IfErr t (λ fault. faul
 served_or_memory (Err refused) told of is memory = subst (λ t. IfErr t (λ fault. fault ≡ OutOfMemory)) (sym is) memory
 
 -- what is left without a device in memory, and with one
-pub left_without : {Out : Type 0} (F : Type 0) (log : DomainState) (Returns : ℕ → SessionState → SessionState → Out → Type 0) (Took : ℕ → List ℕ → Type 0) (outs : Result (Vec (Result Out Fault) Global) Fault) (device : Option MemoryDevice) (riders : List RiderState)
-    → is_some device ≡ false → AreLeft F log Returns Took (outs, device) riders → AreAllReturned F log Returns Took outs riders
-left_without F log Returns Took outs None riders none left = left
-left_without F log Returns Took outs (Some d) riders none left = absurd cc
+pub left_without : {Out : Type 0} (F : Type 0) (log : DomainState) (Returns : ℕ → SessionState → SessionState → Out → Type 0) (Took : ℕ → List ℕ → Type 0) (total : ℕ) (outs : Result (Vec (Result Out Fault) Global) Fault) (device : Option MemoryDevice) (riders : List RiderState)
+    → is_some device ≡ false → AreLeft F log Returns Took total (outs, device) riders → AreCountReturned F log Returns Took total outs riders
+left_without F log Returns Took total outs None riders none left = left
+left_without F log Returns Took total outs (Some d) riders none left = absurd cc
 
 pub left_with : {Out : Type 0} (F : Type 0) (log : DomainState) (Returns : ℕ → SessionState → SessionState → Out → Type 0) (Took : ℕ → List ℕ → Type 0) (outs : Result (Vec (Result Out Fault) Global) Fault) (device : Option MemoryDevice) (d : MemoryDevice) (riders : List RiderState)
-    → device ≡ Some d → AreLeft F log Returns Took (outs, device) riders → AreAllReturned F log Returns (on_memory d) outs riders
+    → device ≡ Some d → AreLeft F log Returns Took log.riders (outs, device) riders → AreAllReturned F log Returns (on_memory d) outs riders
 left_with F log Returns Took outs device d riders is left = subst (λ (o : Option MemoryDevice). AreAllReturned F log Returns (device_has Took o) outs riders) is left
 
 -- the pages that a crew flushed by page writers of one kind, of which this is left

@@ -18,7 +18,7 @@ use Rattle.hl_model.specs.Replies.{unless_fault, unless_refused}
 use Rattle.hl_keeper.specs.Passes.{PassRecord, seen, cell_at, store_fault, load_fault, with_store, with_load}
 use Rattle.hl_domain.specs.Domains.{DomainState, Refreshed}
 use Rattle.hl.specs.Sessions.{SessionState, with_pass}
-use Rattle.hl.specs.Records.{row_fault, with_loads, entered_steps, own_steps, writes_in, writes_at, StoresOrRefreshes, stores_in, stored_at, AreStored, RefusesStore, Places, AreInVain, Appends}
+use Rattle.hl.specs.Records.{row_fault, with_loads, entered_steps, own_steps, writes_in, writes_at, StoresOrRefreshes, stores_in, stored_at, AreStored, RefusesStore, Places, AreInVain}
 
 every_append : {X : Type 0} (P : X → Type 0) (xs ys : List X) → Every P xs → Every P ys → Every P (xs ++ ys)
 every_append P [] ys a b = b
@@ -151,13 +151,11 @@ store_answered F log a v p m q (Some f) r none met answer is =
 pub refresh_refused : (F : Type 0) (log : DomainState) (a : ℕ) (fault : Fault) (p q : PassRecord) → Refreshed F log p q (Err fault) → RefusesStore F log a fault p q
 refresh_refused F log a fault p q r = record { last = p; none = none_stored log.sizes a p p refl; refused = inr r }
 
--- after some tries in vain a record was asked for once more, and answered so
-pub appended : (F : Type 0) (log : DomainState) (words : List ℕ) (p m q : PassRecord) (r : Result ℕ Fault) (times : ℕ) → AreInVain F log words times p m → Places F log words m q r → Appends F log words p q r
-appended F log words p m q r times vain places = record { times = times; before = m; vain = vain; places = places }
-
 -- one more try in vain
-pub vain_next : (F : Type 0) (log : DomainState) (words : List ℕ) (p m q : PassRecord) (read_only times : ℕ) (r : Result ℕ Fault) → AreInVain F log words times p m → r ≡ Err (Below read_only) → Places F log words m q r → AreInVain F log words (suc times) p q
-vain_next F log words p m q read_only times r vain is places = (m, read_only, vain, subst (Places F log words m q) is places)
+pub vain_next : (F : Type 0) (log : DomainState) (words : List ℕ) (p m q : PassRecord) (read_only vain : ℕ) (r : Result ℕ Fault) → AreInVain F log words vain p m → r ≡ Err (Below read_only) → Places F log words m q r → AreInVain F log words (vain + 1) p q
+vain_next F log words p m q read_only vain r before is places =
+    let next : suc vain ≡ vain + 1 = omega arith in
+    subst (λ n. AreInVain F log words n p q) next (m, read_only, before, subst (Places F log words m q) is places)
 
 -- when a row is refused, and when it isn't
 pub row_evicted : (p : PassRecord) (a n : ℕ) → a < (seen p).head → row_fault p a n ≡ Some (Evicted (seen p).head)

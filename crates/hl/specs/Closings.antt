@@ -75,24 +75,36 @@ abbrev pub FlushesTaken : (ℕ → List ℕ → Type 0) → Sizes → RiderState
 FlushesTaken Took sizes r = (page : ℕ) → has_flushed page r.calls ≡ true
     → (words : List ℕ) × Took page (image page words) × HasFlushed sizes page words r
 
--- a thread for each rider of the log, but the crew's four, has such a result, and its rider was the new one of its
+-- a thread for each of so many riders, but the crew's four, has such a result, and its rider was the new one of its
 -- number; all riders came back, those of the threads in their order before the crew's. Each of these stored into cells only
 -- to sweep pages, and of the image of each page that it flushed this holds
-pub record AllReturned {Out : Type 0} (F : Type 0) (log : DomainState)
-    (Returns : ℕ → SessionState → SessionState → Out → Type 0) (Took : ℕ → List ℕ → Type 0)
+pub record CountReturned {Out : Type 0} (F : Type 0) (log : DomainState)
+    (Returns : ℕ → SessionState → SessionState → Out → Type 0) (Took : ℕ → List ℕ → Type 0) (count : ℕ)
     (outs : List (Result Out Fault)) (riders : List RiderState) : Type 0 where
-  pub back : length riders ≡ log.riders
-  pub threads : length outs + 4 ≡ log.riders
+  pub back : length riders ≡ count
+  pub threads : length outs + 4 ≡ count
   pub each : AreReturned F log Returns new_rider outs riders
   pub sweeps : StoreSweeps log.sizes (drop (length outs) riders)
   pub images : AllByRecursion (FlushesTaken Took log.sizes) (drop (length outs) riders)
 
--- so it is, or memory or a thread was refused once the threads had begun
+-- so it is of all riders of the log
+abbrev pub AllReturned : {Out : Type 0} → (F : Type 0) → DomainState
+    → (ℕ → SessionState → SessionState → Out → Type 0) → (ℕ → List ℕ → Type 0)
+    → List (Result Out Fault) → List RiderState → Type 0
+AllReturned F log Returns Took outs riders = CountReturned F log Returns Took log.riders outs riders
+
+-- so it is of so many, or memory or a thread was refused once the threads had begun
+abbrev pub AreCountReturned : {Out : Type 0} → (F : Type 0) → DomainState
+    → (ℕ → SessionState → SessionState → Out → Type 0) → (ℕ → List ℕ → Type 0) → ℕ
+    → Result (Vec (Result Out Fault) Global) Fault → List RiderState → Type 0
+AreCountReturned F log Returns Took count outs riders = MatchResult outs
+    (λ outs. CountReturned F log Returns Took count outs.items riders) (λ fault. fault ≡ OutOfMemory)
+
+-- so it is of all riders of the log
 abbrev pub AreAllReturned : {Out : Type 0} → (F : Type 0) → DomainState
     → (ℕ → SessionState → SessionState → Out → Type 0) → (ℕ → List ℕ → Type 0)
     → Result (Vec (Result Out Fault) Global) Fault → List RiderState → Type 0
-AreAllReturned F log Returns Took outs riders =
-    MatchResult outs (λ outs. AllReturned F log Returns Took outs.items riders) (λ fault. fault ≡ OutOfMemory)
+AreAllReturned F log Returns Took outs riders = AreCountReturned F log Returns Took log.riders outs riders
 
 -- the same of what was written: the device has the pages that the crew flushed
 abbrev pub AreWritten : {Out : Type 0} → (F : Type 0) → DomainState
@@ -100,8 +112,9 @@ abbrev pub AreWritten : {Out : Type 0} → (F : Type 0) → DomainState
 AreWritten F log Returns written riders =
     AreAllReturned F log Returns (on_memory written.device) written.outs riders
 
--- the same of what was left: the device in memory has such a page, or this holds, if there is none
+-- the same of what so many riders left: the device in memory has such a page, or this holds, if there is none
 abbrev pub AreLeft : {Out : Type 0} → (F : Type 0) → DomainState
-    → (ℕ → SessionState → SessionState → Out → Type 0) → (ℕ → List ℕ → Type 0)
+    → (ℕ → SessionState → SessionState → Out → Type 0) → (ℕ → List ℕ → Type 0) → ℕ
     → Result (Vec (Result Out Fault) Global) Fault × Option MemoryDevice → List RiderState → Type 0
-AreLeft F log Returns Took left riders = AreAllReturned F log Returns (device_has Took left.1) left.0 riders
+AreLeft F log Returns Took count left riders =
+    AreCountReturned F log Returns (device_has Took left.1) count left.0 riders

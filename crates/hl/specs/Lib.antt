@@ -1,8 +1,10 @@
 pub mod Attempts
 pub mod Closings
+pub mod Configs
 pub mod Crews
 pub mod Devices
 pub mod Evictions
+pub mod Finishes
 pub mod Helps
 pub mod Openings
 pub mod Records

@@ -1,5 +1,5 @@
 -- What a session does with a whole record: it places and stores one, or loads one.
-use Rattle.std.specs.Prelude.{◌≡◌, ◌⊎◌, ℕ, zero, suc, ◌+◌, ◌-◌, ◌<◌, nat_lt, if◌then◌else◌, Option, Some, None, Result, Ok, Err, MatchResult, List, [], ◌∷◌, ◌++◌, length, take}
+use Rattle.std.specs.Prelude.{◌≡◌, ◌⊎◌, ℕ, zero, suc, ◌+◌, ◌-◌, ◌<◌, ◌≤◌, nat_lt, if◌then◌else◌, Option, Some, None, Result, Ok, Err, MatchResult, List, [], ◌∷◌, ◌++◌, length, take}
 use Rattle.std.specs.List.{AllByRecursion}
 use Rattle.hl_model.specs.declared.fault.Fault.{Fault}
 use Rattle.hl_model.specs.declared.fault.Fault.TheVariants.{Below, Beyond, Evicted}
@@ -126,10 +126,13 @@ abbrev pub Places : (F : Type 0) → DomainState → List ℕ → PassRecord →
 Places F log words old new result = MatchResult result (λ address. IsPlaced F log words address old new)
     (λ fault. IsRefused F log words fault old new)
 
--- a record of these words was appended, and answered so: after some places in vain
-pub record Appends (F : Type 0) (log : DomainState) (words : List ℕ) (old new : PassRecord) (result : Result ℕ Fault)
-    : Type 0 where
-  pub times : ℕ
-  pub before : PassRecord
-  pub vain : AreInVain F log words times old before
-  pub places : Places F log words before new result
+-- a record of these words was appended, and answered so: it was asked for at most so often before, each time in vain; and
+-- just so often, if even the last was
+pub record Appends (F : Type 0) (log : DomainState) (words : List ℕ) (again : ℕ) (old new : PassRecord)
+    (result : Result ℕ Fault) : Type 0 where
+  pub vain : ℕ
+  pub most : vain ≤ again
+  pub last : PassRecord
+  pub before : AreInVain F log words vain old last
+  pub places : Places F log words last new result
+  pub all_tried : (read_only : ℕ) → result ≡ Err (Below read_only) → vain ≡ again

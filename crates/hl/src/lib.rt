@@ -7,7 +7,8 @@
 //! | You want | Take |
 //! |---|---|
 //! | to open a log, use it and close it | [`with_log`], with an [`Opening`] and a [`Part`] of your own |
-//! | the same with threads and a crew | [`with_threads`], with a [`Work`] of your own and a [`Duty`] |
+//! | the same with threads and a crew, in few words | [`run_threads`], with a [`Config`] and a [`Work`] of your own |
+//! | that with an opening and a duty of your own, and with an ending whatever the threads met | [`with_threads`] |
 //! | the same with a device in memory that comes back | [`with_memory`], with a [`MemoryDevice`] |
 //! | to place, store and load words in a thread | a [`Session`], which a [`Rider`] enters |
 //! | to know whether a record may be changed in place, copied, or read from the device | [`Session::region`], which returns a [`Region`] |
@@ -25,7 +26,9 @@
 //! A value without it (a [`Load`], a [`Broom`], a [`Ready`]) is recognised by the log's stamp.
 #![tactic(auto)]
 
+mod config;
 mod crew;
+mod finished;
 pub mod laws;
 mod log;
 mod memory;
@@ -37,20 +40,57 @@ mod reports;
 mod session;
 mod sink;
 mod threads;
+mod work;
 
+pub use config::{Config, Number};
 pub use crew::{Crew, CrewReport, CrewRiders};
-pub use hl_action::{AnyAnswer, Firing, Kept, NoJob, Promise, Ran, Ready, Task};
+pub use finished::{Finished, run_threads};
+pub use hl_action::{AnyAnswer, NoJob};
+/// The ticket of an action, and the safe epoch under which it is run.
+pub use hl_action::Firing;
+/// A job that a bump stores, with its tag: `Kept::new(tag, job)`.
+pub use hl_action::Kept;
+/// What a job's answer is to be: [`AnyAnswer`] asks for nothing.
+pub use hl_action::Promise;
+/// An action that was run: [`Session::done`] answers it. It must be spent, by that or by `forsake`.
+pub use hl_action::Ran;
+/// An action that was taken. It must be spent, by `run` or by `forsake`.
+pub use hl_action::Ready;
+/// What a job is: it is called once, under a [`Firing`].
+pub use hl_action::Task;
 pub use hl_counts::CountTable;
-pub use hl_crew::{CrewEnd, Cuts, Duty, Gate, OpenGate, Orders, Stop, run_crew, serve};
-pub use hl_domain::{
-    ArrayVec, Broom, Domain, Ending, FrameState, Holder, Keeper, Lease, Load, PageJob, Pass, Region,
-};
-pub use hl_drain::{Action, Ask, Drain};
+pub use hl_crew::{CrewEnd, Cuts, Duty, Gate, OpenGate, Orders, run_crew, serve};
+/// What ends a crew, and wakes it.
+pub use hl_crew::Stop;
+pub use hl_domain::{ArrayVec, Broom, Domain, Ending, FrameState, Keeper, Load, PageJob, Pass};
+/// A slot that holds an action up, with its epoch.
+pub use hl_domain::Holder;
+/// What is left of a piece of words: `take(n)` returns a record's address, without the lock.
+pub use hl_domain::Lease;
+/// Where an address lies: [`Session::region`] tells.
+pub use hl_domain::Region;
+pub use hl_drain::{Action, Drain};
+/// What a bump stores: `Ask::Settle`, `Ask::Close`, or `Ask::User(Kept::new(tag, job))`.
+pub use hl_drain::Ask;
 pub use hl_epoch::{Epochs, ScanTable};
 pub use hl_image::{HexWriter, MemoryWriter, PageWriter};
 pub use hl_laws::Base;
-pub use hl_model::{Fault, HasSizes, Params, RawSizes, Reply, Six, Sizes, Snapshot, Step, View};
-pub use hl_words::{OffsetWords, Past, Realm, Rider, RiderView, Seed, Touch, Words};
+pub use hl_model::{HasSizes, Params, RawSizes, Sizes, Step};
+/// Why a call was refused, by its number.
+pub use hl_model::Fault;
+/// What a done answers: a job's tag, or the offset that was moved.
+pub use hl_model::Reply;
+/// The six offsets.
+pub use hl_model::Six;
+/// All quantities of a log at once.
+pub use hl_model::Snapshot;
+/// The read-only offset, the head and the tail that a session saw.
+pub use hl_model::View;
+pub use hl_words::{OffsetWords, Realm, RiderView, Seed, Touch, Words};
+/// What a session did up to a moment, to be told to another.
+pub use hl_words::Past;
+/// A thread's right to act.
+pub use hl_words::Rider;
 pub use log::Log;
 pub use memory::{MemoryDevice, Written, with_memory};
 pub use open::{Closed, with_log};
@@ -59,4 +99,5 @@ pub use part::Part;
 pub use refused::Refused;
 pub use reports::report;
 pub use session::{Helping, Resting, Session, attempt};
-pub use threads::{Outs, Work, with_threads};
+pub use threads::{Outs, with_threads};
+pub use work::Work;

@@ -9,7 +9,8 @@ ghost use Rattle.hl.specs.Openings.{of_sizes, opened_as};
 
 use crate::open::Closed;
 use crate::opening::Opening;
-use crate::threads::{Outs, Work, threads_of_sizes};
+use crate::threads::{Outs, threads_of_sizes};
+use crate::work::Work;
 use hl_crew::Duty;
 use hl_image::MemoryWriter;
 use hl_model::{Fault, HasSizes};

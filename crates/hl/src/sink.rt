@@ -1,7 +1,7 @@
 //! Where a crew's two writers write the pages of a log with threads.
 ghost use Rattle.std.specs.Prelude.{◌≡◌, ◌≤◌, ◌^◌, Some, is_some};
 
-use crate::threads::Work;
+use crate::work::Work;
 use hl_image::{MemoryWriter, PageWriter};
 use hl_model::Fault;
 use std::marker::{Brand, PhantomData};

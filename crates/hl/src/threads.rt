@@ -1,11 +1,10 @@
 //! A log that threads use beside a crew, opened and closed by one call.
 ghost use Rattle.std.specs.List.{AllByRecursion};
-ghost use Rattle.std.specs.Prelude.{◌≡◌, ◌++◌, ◌≤◌, ℕ, List, map, length, true, false, Some, is_some, Err, IsOk, IfOk, IfErr, MatchResult, ⊤};
+ghost use Rattle.std.specs.Prelude.{◌≡◌, ◌++◌, ◌≤◌, map, length, true, false, Some, is_some, Err, IsOk, IfOk, IfErr, MatchResult};
 ghost use Rattle.hl_model.specs.declared.fault.Fault.TheVariants.{OutOfMemory, Size};
 ghost use Rattle.hl_words.specs.States.{IsSeedOf, new_riders};
 ghost use Rattle.hl_crew.specs.Riders.{FlushesNone, StoreSweeps};
 ghost use Rattle.hl.specs.Openings.{of_sizes, opened_as, IsInRange};
-ghost use Rattle.hl.specs.Sessions.{SessionState};
 ghost use Rattle.hl.specs.Crews.{can_run, can_serve, riders_of};
 ghost use Rattle.hl.specs.Closings.{rider_at, IsClosed, Tells, AreReturned, FlushesTaken, AreAllReturned, AreLeft};
 ghost use Rattle.hl.specs.Devices.{device_has};
@@ -18,7 +17,7 @@ use crate::opening::Opening;
 use crate::refused::Refused;
 use crate::session::Session;
 use crate::sink::{Named, Sink};
-use hl_action::Task;
+use crate::work::Work;
 use hl_crew::{Duty, OpenGate, Stop};
 use hl_model::{Fault, HasSizes, Sizes};
 use hl_words::{Realm, Rider, Seed};
@@ -27,36 +26,6 @@ use std::marker::Brand;
 use std::sync::Wait;
 use std::thread;
 use std::thread::Threads;
-
-/// What the threads of a program do with a log. They share it.
-pub trait Work<R: Wait> {
-    /// The jobs that their bumps store, which the crew runs: [`NoJob`](hl_action::NoJob) if they store none.
-    type Job: Task + Send;
-
-    /// What a thread returns.
-    type Out: Send + Drop;
-
-    /// What holds of a page whose image the device took; nothing, unless a program says so.
-    ghost took: { Self → ℕ → List ℕ → Type 0 } = { λ _ _ _. ⊤ };
-
-    /// What holds of the session of a thread of this number before `run` and after it, and of what it returns; nothing,
-    /// unless a program says so. A session shows contracts its rider, and so each call that the thread made.
-    ghost returns: { Self → ℕ → SessionState → SessionState → Self.Out → Type 0 } = { λ _ _ _ _ _. ⊤ };
-
-    /// What the thread of this number does in its session; threads are counted from 0.
-    fn run<L: Realm + Send + Sync>(
-        &self,
-        rt: &R,
-        session: &mut Session<R, L, Self::Job>,
-        number: u64,
-    ) -> Self::Out
-        ensures { returns self.now number session.old session.new result };
-
-    /// Writes the image of a page to the program's device: whether it did, and then what `took` says holds. Two writers of the
-    /// crew call it.
-    fn write_page(&self, rt: &R, page: u64, image: &[u8]) -> bool
-        ensures { result ≡ true → took self.now page image.now };
-}
 
 /// What each thread returned, or why it got no session, or couldn't leave its own.
 pub type Outs<T> = Vec<Result<T, Fault>>;
@@ -118,7 +87,7 @@ pub(crate) fn threads_of_sizes<R: Threads + Wait + Sync, P: Work<R> + Sync>(
     ensures memory { can_run opening duty ≡ true → IfErr result (λ fault. fault ≡ OutOfMemory) }
     ensures kind { IfOk result (λ closed. is_some closed.out.1 ≡ is_some device) }
     ensures closed { IfOk result (IsClosed opening
-        (AreLeft P.Job (opened_as opening) (P.returns work.now) (P.took work.now))) }
+        (AreLeft P.Job (opened_as opening) (P.returns work.now) (P.took work.now) opening.riders)) }
 {
     if !has_room(&opening, duty) {
         return Err(Fault::Size);
@@ -157,7 +126,7 @@ fn threads_over<L: Realm + Send + Sync, R: Threads + Wait + Sync, P: Work<R> + S
     ensures memory { IfErr result (λ fault. fault ≡ OutOfMemory) }
     ensures kind { IfOk result (λ closed. is_some closed.out.1 ≡ is_some device) }
     ensures closed { IfOk result (IsClosed opening
-        (AreLeft P.Job (opened_as opening) (P.returns work.now) (P.took work.now))) }
+        (AreLeft P.Job (opened_as opening) (P.returns work.now) (P.took work.now) opening.riders)) }
 {
     let (log, riders) = Log::<L, P::Job>::open(alloc, seed, opening.journal, opening.stamp)?;
     let (out, riders) = run_all(rt, alloc, &log, riders, duty, work, device);
@@ -168,8 +137,8 @@ fn threads_over<L: Realm + Send + Sync, R: Threads + Wait + Sync, P: Work<R> + S
     Ok(Closed { out, ending })
 }
 
-// The threads and the crew: what they left, and the riders.
-fn run_all<L: Realm + Send + Sync, R: Threads + Wait + Sync, P: Work<R> + Sync>(
+/// The threads, whose riders are all of these but the last four, and the crew with those: what they left, and the riders.
+pub(crate) fn run_all<L: Realm + Send + Sync, R: Threads + Wait + Sync, P: Work<R> + Sync>(
     rt: &R,
     alloc: Global,
     log: &Log<L, P::Job>,
@@ -178,11 +147,12 @@ fn run_all<L: Realm + Send + Sync, R: Threads + Wait + Sync, P: Work<R> + Sync>(
     work: &P,
     device: Option<MemoryDevice>,
 ) -> (Left<P::Out>, Vec<Rider<L>>)
-    requires new { riders.items ≡ new_riders log.now.riders }
-    requires four { 4 ≤ log.now.riders }
+    requires new { riders.items ≡ new_riders (length riders.items) }
+    requires four { 4 ≤ length riders.items }
     requires duty { can_serve log.now.sizes duty ≡ true }
     ensures kind { is_some result.0.1 ≡ is_some device }
-    ensures left { AreLeft P.Job log.now (P.returns work.now) (P.took work.now) result.0 result.1.items }
+    ensures left { AreLeft P.Job log.now (P.returns work.now) (P.took work.now) (length riders.items)
+        result.0 result.1.items }
 {
     let Some(crew) = CrewRiders::take_from(&mut riders) else {
         return ((Err(Fault::Size), device), riders);

@@ -22,9 +22,10 @@ impl<'a, R: Wait, L: Realm, F: Task, P: Promise, E: Epochs + Drop> Session<'a, R
     /// which nobody was told.
     ///
     /// Faults: those of [`allocate`](Session::allocate), among them `Size` if there are no words or more than a page has;
-    /// `JournalFull` of a refresh; `Below` if each place became read-only. What was placed before stays placed.
+    /// `JournalFull` of a refresh; `Below` if it was placed 64 times, and each place became read-only. What was placed
+    /// before stays placed.
     pub fn append(&mut self, words: &[u64]) -> Result<u64, Fault>
-        ensures appended { Appends F self.old.log words.now self.old.pass self.new.pass result }
+        ensures appended { Appends F self.old.log words.now 63 self.old.pass self.new.pass result }
         ensures within { IfOk result (λ address. address + length words.now ≤ 2 ^ 48) }
         ensures one_page { let page_size = self.old.log.sizes.page_size
             in IfOk result (λ a. a / page_size ≡ (a + length words.now - 1) / page_size) }

@@ -1,4 +1,4 @@
-use Rattle.std.proofs.Common.{suc, Err, subst, ap, ◌∙◌}
+use Rattle.std.proofs.Common.{Err, subst, ap, ◌∙◌}
 use Rattle.hl_domain.specs.Domains.{DomainState}
 use Rattle.hl.specs.Records.{Places}
 use Rattle.hl.proofs.RecordLaws.{vain_next}
@@ -13,9 +13,6 @@ loop-preserved g c =
     let r = c.place.result in
     let met = c.loop.invariant in (
       c.place.ensures.log ∙ met.0,
-      (
-        suc met.1.0,
-        vain_next F c.args.self.now.log words c.args.self.now.pass m q c.in-Err-Below.field-0-0 met.1.0 r met.1.1 (c.in-Err-Below.is ∙ ap Err c.in-Err-Below.field-0-is)
-            (subst (λ (l : DomainState). Places F l words m q r) met.0 c.place.ensures.places),
-      ),
+      vain_next F c.args.self.now.log words c.args.self.now.pass m q c.in-Err-Below.field-0-0 c.loop.counter r met.1 (c.in-Err-Below.is ∙ ap Err c.in-Err-Below.field-0-is)
+          (subst (λ (l : DomainState). Places F l words m q r) met.0 c.place.ensures.places),
     )

@@ -1,0 +1,168 @@
+//! What a log with threads and a crew is opened with, in few words.
+ghost use Rattle.std.specs.Prelude.{◌≡◌, true, false, Err, IfNone, IfOk, IfSome, IsOk};
+ghost use Rattle.hl_model.specs.declared.fault.Fault.TheVariants.{Size};
+ghost use Rattle.hl.specs.Configs.{all_fit, fits, for_threads, with_frames, opening_of, IsDutyOf};
+ghost use Rattle.hl.specs.Crews.{can_run};
+
+use crate::opening::Opening;
+use hl_crew::Duty;
+use hl_model::{Fault, Sizes};
+use std::fmt;
+
+/// The greatest length of a journal, and the greatest stamp.
+const STEPS_MOST: u64 = 1 << 62;
+
+/// The numbers of a log with threads and a crew, for [`run_threads`](crate::run_threads). Begin with
+/// [`for_threads`](Config::for_threads), and name what is to differ: `Config { page_size: 64, ..Config::for_threads(4) }`.
+#[derive(Clone, Copy, Debug, PartialEq, Eq)]
+pub struct Config {
+    /// How many threads, 1 to 1,024. Each has a slot.
+    pub threads: u64,
+    /// Words a page: a power of two, 4 to 2^20.
+    pub page_size: u64,
+    /// How many pages the memory has room for, 2 to 2^16.
+    pub frames: u64,
+    /// Places for actions, 1 to 4,096.
+    pub actions: u64,
+    /// About how many pages at the tail may be written, 1 to `resident`.
+    pub mutable: u64,
+    /// About how many pages at the tail may be read, less than `frames`.
+    pub resident: u64,
+    /// How many steps the journal may keep, at most 2^62. The crew cuts it once it is half full.
+    pub journal: u64,
+    /// Tells this log from the program's other logs; at most 2^62.
+    pub stamp: u64,
+}
+
+/// A number of a [`Config`]. It is displayed as its name and its range.
+#[derive(Clone, Copy, Debug, PartialEq, Eq)]
+pub enum Number {
+    Threads,
+    PageSize,
+    Frames,
+    Actions,
+    Mutable,
+    Resident,
+    Journal,
+    Stamp,
+}
+
+impl Config {
+    /// For so many threads: pages of 4,096 words, 256 frames, which are 8 MiB, 16 places for actions, a journal of 2^15
+    /// steps, and stamp 1. Of the frames 64 are free for new pages while the crew works; 144 of the pages may be written.
+    pub const fn for_threads(threads: u64) -> Config
+        ensures { result ≡ for_threads threads }
+    {
+        Config {
+            threads,
+            page_size: 4096,
+            frames: 256,
+            actions: 16,
+            mutable: 144,
+            resident: 192,
+            journal: 1 << 15,
+            stamp: 1,
+        }
+    }
+
+    /// The same with so many frames, and with `mutable` and `resident` that go with them: a quarter of the frames, and at
+    /// least one, is free for new pages, and a quarter of the other pages is read-only.
+    pub fn with_frames(self, frames: u64) -> Config
+        ensures { result ≡ with_frames frames self }
+    {
+        let resident = frames - (frames / 4).max(1).min(frames);
+        Config {
+            frames,
+            mutable: resident - resident / 4,
+            resident,
+            ..self
+        }
+    }
+
+    /// A number that is out of its range; `None` if each is in its own.
+    pub fn out_of_range(&self) -> Option<Number>
+        ensures out { IfSome result (λ number. fits self.now number ≡ false) }
+        ensures none { IfNone result (all_fit self.now ≡ true) }
+    {
+        if !self.fits(Number::Threads) {
+            Some(Number::Threads)
+        } else if !self.fits(Number::PageSize) {
+            Some(Number::PageSize)
+        } else if !self.fits(Number::Frames) {
+            Some(Number::Frames)
+        } else if !self.fits(Number::Actions) {
+            Some(Number::Actions)
+        } else if !self.fits(Number::Mutable) {
+            Some(Number::Mutable)
+        } else if !self.fits(Number::Resident) {
+            Some(Number::Resident)
+        } else if !self.fits(Number::Journal) {
+            Some(Number::Journal)
+        } else if !self.fits(Number::Stamp) {
+            Some(Number::Stamp)
+        } else {
+            None
+        }
+    }
+
+    // Whether a number is in its range.
+    #[tactic(auto, unfolding(crate::specs::Configs::fits))]
+    fn fits(&self, number: Number) -> bool
+        ensures { result ≡ fits self.now number }
+    {
+        match number {
+            Number::Threads => 1 <= self.threads && self.threads <= 1024,
+            Number::PageSize => {
+                4 <= self.page_size && self.page_size <= 1 << 20 && self.page_size.is_power_of_two()
+            }
+            Number::Frames => 2 <= self.frames && self.frames <= 1 << 16,
+            Number::Actions => 1 <= self.actions && self.actions <= 4096,
+            Number::Mutable => 1 <= self.mutable && self.mutable <= self.resident,
+            Number::Resident => self.resident < self.frames,
+            Number::Journal => self.journal <= STEPS_MOST,
+            Number::Stamp => self.stamp <= STEPS_MOST,
+        }
+    }
+
+    /// What [`with_threads`](crate::with_threads) takes for these numbers: an opening with a slot and a rider for each thread,
+    /// and five riders more, and the duty of the crew.
+    ///
+    /// Fault: `Size` if a number is out of its range. [`out_of_range`](Config::out_of_range) says which.
+    pub fn checked(&self) -> Result<(Opening, Duty), Fault>
+        ensures size { all_fit self.now ≡ false → result ≡ Err Size }
+        ensures ok { all_fit self.now ≡ true → IsOk result }
+        ensures opening { IfOk result (λ both. both.0 ≡ opening_of self.now) }
+        ensures duty { IfOk result (λ both. IsDutyOf self.now both.1) }
+        ensures runs { IfOk result (λ both. can_run both.0 both.1 ≡ true) }
+    {
+        if self.out_of_range().is_some() {
+            return Err(Fault::Size);
+        }
+        let sizes = Sizes::checked(self.page_size, self.frames, self.threads, self.actions);
+        let params = sizes.ok_or(Fault::Size)?;
+        let duty = Duty::checked(params, self.mutable, self.resident).ok_or(Fault::Size)?;
+        let opening = Opening {
+            params,
+            riders: self.threads + 5,
+            journal: self.journal,
+            stamp: self.stamp,
+        };
+        Ok((opening, duty.cutting_above(self.journal / 2)))
+    }
+}
+
+impl fmt::Display for Number {
+    fn fmt<W: fmt::Write>(&self, f: &mut fmt::Formatter<W>) -> fmt::Result {
+        let text = match self {
+            Number::Threads => "threads: 1 to 1,024",
+            Number::PageSize => "page_size: a power of two, 4 to 2^20",
+            Number::Frames => "frames: 2 to 65,536",
+            Number::Actions => "actions: 1 to 4,096",
+            Number::Mutable => "mutable: 1 to resident",
+            Number::Resident => "resident: less than frames",
+            Number::Journal => "journal: at most 2^62",
+            Number::Stamp => "stamp: at most 2^62",
+        };
+        write!(f, "{text}")
+    }
+}

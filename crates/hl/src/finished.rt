@@ -1,0 +1,179 @@
+//! A log that threads use beside a crew, and one session more, opened and closed by one call, with one result.
+ghost use Rattle.std.specs.Prelude.{◌≡◌, ◌+◌, ◌≤◌, ◌⊎◌, length, map, true, false, Ok, Err, MatchResult};
+ghost use Rattle.hl_model.specs.declared.fault.Fault.TheVariants.{OutOfMemory, Size};
+ghost use Rattle.hl_words.specs.States.{IsSeedOf};
+ghost use Rattle.hl.specs.Closings.{Tells};
+ghost use Rattle.hl.specs.Configs.{all_fit, opening_of};
+ghost use Rattle.hl.specs.Crews.{can_serve};
+ghost use Rattle.hl.specs.Finishes.{AreFinished, Finishing, IsFinish, IsFirstFault, IsNoFinish, IsUnfinished};
+ghost use Rattle.hl.specs.Openings.{IsInRange};
+
+use crate::config::Config;
+use crate::log::Log;
+use crate::opening::Opening;
+use crate::refused::Refused;
+use crate::session::Session;
+use crate::threads::{Outs, run_all};
+use crate::work::Work;
+use hl_action::{AnyAnswer, NoJob, Task};
+use hl_crew::Duty;
+use hl_domain::Ending;
+use hl_model::{Fault, Sizes};
+use hl_words::{Realm, Rider, Seed};
+use std::alloc::Global;
+use std::marker::Brand;
+use std::sync::Wait;
+use std::thread::Threads;
+
+/// What is left of a log each of whose threads has a result.
+#[derive(Drop)]
+pub struct Finished<T, F: Task = NoJob> {
+    /// What the threads returned, by their numbers.
+    pub outs: Vec<T>,
+    /// What [`Work::finish`](crate::Work::finish) returned.
+    pub last: Option<T>,
+    /// What is left of the log.
+    pub ending: Ending<F, AnyAnswer>,
+}
+
+/// Opens a log, runs its threads beside a crew as [`with_threads`](crate::with_threads) does, calls `Work::finish` once they
+/// have ended, and closes the log. What they returned comes back with the ending, in one result.
+///
+/// Faults, the first of these: `Size` if a number of the configuration is out of its range, and nothing was done;
+/// `OutOfMemory` if memory or a thread was refused, before the threads ran or after; the fault by which the first of the
+/// threads that have no result was refused its session, or couldn't leave it (`JournalFull`); and that of the session of
+/// `finish`. After a fault nothing is left of the log: where its ending is wanted all the same, take `with_threads`.
+pub fn run_threads<R: Threads + Wait + Sync, P: Work<R> + Sync>(
+    rt: &R,
+    alloc: Global,
+    config: Config,
+    work: &P,
+) -> Result<Finished<P::Out, P::Job>, Fault>
+    ensures size { all_fit config ≡ false → result ≡ Err Size }
+    ensures finished { all_fit config ≡ true → MatchResult result
+        (AreFinished P.Job (opening_of config) (P.returns work.now) (P.took work.now) (P.finishes work.now))
+        (IsUnfinished P.Job (opening_of config) (P.returns work.now) (P.took work.now) (P.finishes work.now)) }
+{
+    let (opening, duty) = match config.checked() {
+        Ok(both) => both,
+        Err(fault) => return Err(fault),
+    };
+    let seed = match Seed::make(alloc, opening.params, opening.riders as usize) {
+        Ok(seed) => seed,
+        Err(fault) => return Err(fault),
+    };
+    run_over::<Brand, R, P>(rt, alloc, seed, opening, duty, work)
+}
+
+// The same over the words of a seed.
+fn run_over<L: Realm + Send + Sync, R: Threads + Wait + Sync, P: Work<R> + Sync>(
+    rt: &R,
+    alloc: Global,
+    seed: Seed,
+    opening: Opening<Sizes>,
+    duty: Duty,
+    work: &P,
+) -> Result<Finished<P::Out, P::Job>, Fault>
+    requires seed { IsSeedOf L.name L.parts L.table seed }
+    requires sizes { (seed.sizes ≡ opening.params) × (seed.riders ≡ opening.riders) }
+    requires named { (seed.sizes ≡ L.sizes) × (opening.stamp ≡ L.stamp) × (opening.journal ≡ L.limit) }
+    requires range { IsInRange opening }
+    requires five { 5 ≤ opening.riders }
+    requires duty { can_serve opening.params duty ≡ true }
+    ensures finished { MatchResult result
+        (AreFinished P.Job opening (P.returns work.now) (P.took work.now) (P.finishes work.now))
+        (IsUnfinished P.Job opening (P.returns work.now) (P.took work.now) (P.finishes work.now)) }
+{
+    let (log, mut riders) = match Log::<L, P::Job>::open(
+        alloc,
+        seed,
+        opening.journal,
+        opening.stamp,
+    ) {
+        Ok(opened) => opened,
+        Err(fault) => return Err(fault),
+    };
+    let Some(last) = riders.pop() else {
+        unreachable!()
+    };
+    let ((outs, _device), riders) = run_all(rt, alloc, &log, riders, duty, work, None);
+    let outs = match outs {
+        Ok(outs) => outs,
+        Err(fault) => return Err(fault),
+    };
+    let outs = match all_of(alloc, outs) {
+        Ok(outs) => outs,
+        Err(fault) => return Err(fault),
+    };
+    finish_log(rt, log, riders, last, work, outs)
+}
+
+// What all threads returned; or the first fault among their results, or that memory was refused.
+fn all_of<T: Drop>(alloc: Global, outs: Outs<T>) -> Result<Vec<T>, Fault>
+    ensures { MatchResult result (λ all. outs.items ≡ map (λ out. Ok out) all.items)
+        (λ fault. (fault ≡ OutOfMemory) ⊎ IsFirstFault outs.items fault) }
+{
+    let mut all = Vec::new(alloc);
+    for out in outs {
+        match out {
+            Ok(out) => {
+                if all.push(out).is_err() {
+                    return Err(Fault::OutOfMemory);
+                }
+            }
+            Err(fault) => return Err(fault),
+        }
+    }
+    Ok(all)
+}
+
+// Calls `Work::finish` in a session of this rider, and closes the log with it behind the others.
+fn finish_log<L: Realm + Send + Sync, R: Wait, P: Work<R>>(
+    rt: &R,
+    log: Log<L, P::Job>,
+    mut riders: Vec<Rider<L>>,
+    last: Rider<L>,
+    work: &P,
+    outs: Vec<P::Out>,
+) -> Result<Finished<P::Out, P::Job>, Fault>
+    requires all { length riders.items + 1 ≡ log.riders }
+    ensures closed { MatchResult result
+        (λ finished. (finished.outs ≡ outs) × IsFinish P.Job log (P.finishes work.now) riders.items last finished)
+        (λ fault. (fault ≡ OutOfMemory) ⊎ IsNoFinish P.Job log (P.finishes work.now) last fault) }
+{
+    let (done, rider) = finish_one(rt, &log, last, work);
+    if riders.push(rider).is_err() {
+        return Err(Fault::OutOfMemory);
+    }
+    let last = match done {
+        Ok(last) => last,
+        Err(fault) => return Err(fault),
+    };
+    let Ok(ending) = log.close(riders) else {
+        unreachable!()
+    };
+    Ok(Finished { outs, last, ending })
+}
+
+// The session that finishes.
+fn finish_one<L: Realm + Send + Sync, R: Wait, P: Work<R>>(
+    rt: &R,
+    log: &Log<L, P::Job>,
+    rider: Rider<L>,
+    work: &P,
+) -> (Result<Option<P::Out>, Fault>, Rider<L>)
+    ensures { Tells P.Job log.now (Finishing (P.finishes work.now)) rider result.1 result.0 }
+{
+    let mut session = match Session::enter(rt, log, rider) {
+        Ok(session) => session,
+        Err(Refused { fault, back }) => return (Err(fault), back),
+    };
+    let out = work.finish(rt, &mut session);
+    // Of the session that `finish` left no more is known than its type, and that says which log it is of.
+    session.log().known();
+    log.known();
+    match session.leave() {
+        Ok(rider) => (Ok(out), rider),
+        Err(Refused { fault, back }) => (Err(fault), back.abandon()),
+    }
+}
