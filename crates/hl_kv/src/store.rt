@@ -17,7 +17,7 @@
 ghost use Rattle.std.specs.Prelude.{◌<◌, vec_len};
 
 use crate::device::{Device, PAGE_SIZE, PLACES, zeros};
-use hl::{Fault, Lease, Realm, Session};
+use hl::{Fault, Lease, Realm, Region, Session};
 use std::alloc::Global;
 use std::sync::Wait;
 use std::sync::atomic::AtomicU64;
@@ -107,8 +107,6 @@ pub(crate) struct Seat<'a, 'b, R: Wait, L: Realm> {
     pub(crate) session: &'a mut Session<'b, R, L>,
     pub(crate) store: &'a Store,
     pub(crate) lease: Lease,
-    /// The greatest safe read-only offset that it was told.
-    pub(crate) safe_read_only: u64,
     /// How many records it copied to the tail.
     pub(crate) copies: u64,
 }
@@ -203,19 +201,11 @@ impl<'a, 'b, R: Wait + Clock, L: Realm> Seat<'a, 'b, R, L> {
 
     // Adds to a record's value in place: `None`. Else the sum, for a new record, if no thread may write there any more.
     fn add_in_place(&mut self, record: u64, more: u64) -> Outcome<Option<u64>> {
-        match self.session.fetch_add(record, more) {
-            Err(Fault::Below { .. }) => {}
-            added => return Ok(added.map(|_| None)?),
+        match self.session.region(record)? {
+            Region::Mutable => Ok(self.session.fetch_add(record, more).map(|_| None)?),
+            Region::Fuzzy => Err(Trouble::Fuzzy),
+            Region::ReadOnly | Region::Evicted => Ok(Some(self.load(record)?.wrapping_add(more))),
         }
-        // The log is asked under its lock, unless an earlier answer is enough.
-        if self.safe_read_only <= record {
-            let (now, _, _) = self.session.log().snapshot(self.rt);
-            self.safe_read_only = now.six.safe_read_only;
-        }
-        if self.safe_read_only <= record {
-            return Err(Trouble::Fuzzy);
-        }
-        Ok(Some(self.load(record)?.wrapping_add(more)))
     }
 
     // Does what the trouble asks for before the next attempt, which keeps up. What nothing helps against is the error.

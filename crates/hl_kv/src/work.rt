@@ -117,7 +117,6 @@ impl<R: Wait + Clock + Print> Work<R> for Shared {
             session,
             store: &self.store,
             lease: Lease::of(0, 0),
-            safe_read_only: 0,
             copies: 0,
         };
         seat.work(self, number)?;
