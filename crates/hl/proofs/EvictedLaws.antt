@@ -22,16 +22,16 @@ use Rattle.hl.specs.Evictions.{EvictedWereFlushed}
 -- the place of an element that passes
 passes_at : {X : Type 0} (p : X → Bool) (xs : List X) → list_any p xs ≡ true → (k : ℕ) × (x : X) × (slice_get xs k ≡ Some x) × (p x ≡ true)
 passes_at p [] none = absurd cc
-passes_at {X} p (x ∷ xs) some = by (p x) refl some
+passes_at {X} p (x ∷ xs) some = by (p x) refl (λ any. passes_at p xs any) some
   where
-    by : (b : Bool) → p x ≡ b → (b || list_any p xs) ≡ true → (k : ℕ) × (y : X) × (slice_get (x ∷ xs) k ≡ Some y) × (p y ≡ true)
-    by true is any = (0, x, refl, is)
-    by false is any = let later = passes_at p xs any in (suc later.0, later.1, later.2, later.3)
+    by : (b : Bool) → p x ≡ b → (list_any p xs ≡ true → (k : ℕ) × (y : X) × (slice_get xs k ≡ Some y) × (p y ≡ true)) → (b || list_any p xs) ≡ true → (k : ℕ) × (y : X) × (slice_get (x ∷ xs) k ≡ Some y) × (p y ≡ true)
+    by true is later any = (0, x, refl, is)
+    by false is later any = let l = later any in (suc l.0, l.1, l.2, l.3)
 
 -- an address below a number of whole pages is on one of them
 page_within : (a size count : ℕ) → a < size * count → a / size < count
 page_within a zero count less = absurd (omega (arith, less))
-page_within a (suc n) count less = (div-lt_iff_lt-mul {suc n} {a} {count} (omega arith)).1 (omega (arith, less))
+page_within a (suc n) count less = (div-lt_iff_lt-mul {k = suc n} {x = a} {y = count} (omega arith)).1 (omega (arith, less))
 
 flushed_early : (sizes : Sizes) (list : List Step) (p : ℕ) → p < flushed_run sizes list → list_any (flushes p) list ≡ true
 unfolding flushed_run is_complete
