@@ -11,6 +11,8 @@ mod device;
 mod store;
 mod work;
 
+use device::PAGE_SIZE;
+use hl::Config;
 use std::io::Write;
 use std::process::ExitCode;
 use std::{env, io};
@@ -25,6 +27,10 @@ fn main(rt: HostRuntime) -> io::Result<ExitCode> {
         rt.stderr().write_all(USAGE)?;
         return Ok(ExitCode::from(2));
     };
+    if let Some(number) = plan.config.out_of_range() {
+        writeln!(rt.stderr(), "hl_kv: {number}")?;
+        return Ok(ExitCode::from(2));
+    }
     if let Err(trouble) = work::run(&rt, rt.alloc(), plan) {
         println!(rt; "{trouble:?}")?;
         return Ok(ExitCode::from(1));
@@ -35,22 +41,24 @@ fn main(rt: HostRuntime) -> io::Result<ExitCode> {
 // The plan that the program's words ask for; `None` if they ask for something else.
 fn plan_of(words: &[String]) -> Option<Plan> {
     let mut plan = Plan {
-        threads: words.get(1)?.parse().ok()?,
+        config: Config {
+            page_size: PAGE_SIZE,
+            ..Config::for_threads(words.get(1)?.parse().ok()?)
+        },
         seconds: words.get(2)?.parse().ok()?,
         reads: 50,
         by_zipf: false,
         keys: 100_000,
-        frames: 256,
         compares: false,
     };
     let mut rest = words.iter().skip(3);
     while let Some(option) = rest.next() {
         match option.as_str() {
             "--zipf" => plan.by_zipf = true,
-            "--compare" => plan.compares = plan.threads == 1,
+            "--compare" => plan.compares = plan.config.threads == 1,
             "--reads" => plan.reads = rest.next()?.parse().ok()?,
             "--keys" => plan.keys = rest.next()?.parse().ok()?,
-            "--frames" => plan.frames = rest.next()?.parse().ok()?,
+            "--frames" => plan.config = plan.config.with_frames(rest.next()?.parse().ok()?),
             _ => return None,
         }
     }
