@@ -26,11 +26,17 @@ store_refused() {
     [ "$status" = 2 ] && [ ! -s "$room/text" ] && grep -q '^usage: hl_kv' "$room/errors"
 }
 
-# A size out of range: the log's fault, and status 1.
+# A number out of its range: its name and its range, and status 2.
 store_out_of_range() {
-    local status=0
+    local status=0 told=$1
+    shift
     "$kv" "$@" > "$room/text" 2> "$room/errors" || status=$?
-    [ "$status" = 1 ] && [ ! -s "$room/errors" ] && [ "$(cat "$room/text")" = "Log(Size)" ]
+    [ "$status" = 2 ] && [ ! -s "$room/text" ] && [ "$(cat "$room/errors")" = "hl_kv: $told" ]
+}
+
+# The least number of frames, or more than 8 MiB of them: each thread makes 4,096 operations.
+store_of_frames() {
+    [ "$("$kv" 2 0 --frames "$1")" = "checked 100000 counters" ]
 }
 
 check "a store that is evicted, each read compared" stores 1 2 --frames 8 --compare
@@ -39,5 +45,7 @@ check "a store that is evicted, by Zipf" stores 4 2 --frames 8 --zipf --reads 20
 check "a store's images and its journal" store_of_images
 check "a store without words" store_refused
 check "a store of an unknown option" store_refused 1 1 --key 5
-check "a store of too many threads" store_out_of_range 65 1
-check "a store of too few frames" store_out_of_range 1 1 --frames 3
+check "a store of too many threads" store_out_of_range "threads: 1 to 1,024" 1025 1
+check "a store of too few frames" store_out_of_range "frames: 2 to 65,536" 1 1 --frames 1
+check "a store of two frames" store_of_frames 2
+check "a store of more than 8 MiB in memory" store_of_frames 257

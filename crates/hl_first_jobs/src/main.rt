@@ -3,9 +3,7 @@
 
 ghost use Rattle.std.specs.Prelude.{◌≡◌};
 
-use hl::{
-    Ask, Duty, Fault, Firing, Kept, Opening, Params, Realm, Session, Task, Work, with_threads,
-};
+use hl::{Ask, Config, Fault, Firing, Kept, Realm, Session, Task, Work, run_threads};
 use std::alloc::Global;
 use std::io;
 use std::process::ExitCode;
@@ -66,34 +64,21 @@ impl<R: Wait> Work<R> for Retiring {
     }
 }
 
-/// The threads retire their rows; the answer is how many words were freed once their log was closed.
+/// Four threads retire their rows; the answer is how many words were freed once their log was closed.
 fn retire_rows<R: Threads + Wait + Sync>(rt: &R, alloc: Global) -> Result<u64, Fault> {
     let freed = Arc::new(alloc, AtomicU64::new(0)).map_err(|_| Fault::OutOfMemory)?;
     let work = Retiring {
         alloc,
         freed: Arc::try_clone(&freed).map_err(|_| Fault::OutOfMemory)?,
     };
-    run(rt, alloc, &work)?;
-    Ok(freed.load(Ordering::SeqCst))
-}
-
-// Opens a log with 16 places for actions, runs the threads, and closes it.
-fn run<R: Threads + Wait + Sync>(rt: &R, alloc: Global, work: &Retiring) -> Result<(), Fault> {
-    let params = Params::checked(64, 64, 4, 16).ok_or(Fault::Size)?;
-    let opening = Opening {
-        params,
-        riders: 8,
-        journal: 10_000,
-        stamp: 1,
+    let config = Config {
+        page_size: 64,
+        ..Config::for_threads(4)
     };
-    let duty = Duty::checked(params, 2, 32).ok_or(Fault::Size)?;
-    let closed = with_threads(rt, alloc, opening, duty, work)?;
-    let outs = closed.out?;
-    closed.ending?;
-    for retired in outs {
-        retired??;
+    for retired in run_threads(rt, alloc, config, &work)?.outs {
+        retired?;
     }
-    Ok(())
+    Ok(freed.load(Ordering::SeqCst))
 }
 
 fn main(rt: HostRuntime) -> io::Result<ExitCode> {

@@ -1,7 +1,7 @@
 //! A first log: four threads place a word each, and a crew flushes behind them.
 #![tactic(auto)]
 
-use hl::{Duty, Fault, NoJob, Opening, Params, Realm, Session, Work, with_threads};
+use hl::{Config, Fault, NoJob, Realm, Session, Work, run_threads};
 use std::alloc::Global;
 use std::io;
 use std::process::ExitCode;
@@ -32,22 +32,17 @@ impl<R: Wait> Work<R> for OneWord {
     }
 }
 
-/// Opens a log of pages of 64 words, 64 frames, 4 slots and 16 places for actions; the answer is where it ended.
+/// Opens a log for four threads, runs them, and closes it; the answer is where it ended.
 fn place_words<R: Threads + Wait + Sync>(rt: &R, alloc: Global) -> Result<u64, Fault> {
-    let params = Params::checked(64, 64, 4, 16).ok_or(Fault::Size)?;
-    let opening = Opening {
-        params,
-        riders: 8,
-        journal: 10_000,
-        stamp: 1,
+    let config = Config {
+        page_size: 64,
+        ..Config::for_threads(4)
     };
-    let duty = Duty::checked(params, 2, 32).ok_or(Fault::Size)?;
-    let duty = duty.cutting_above(5_000);
-    let closed = with_threads(rt, alloc, opening, duty, &OneWord)?;
-    for word in closed.out? {
-        word??;
+    let finished = run_threads(rt, alloc, config, &OneWord)?;
+    for word in finished.outs {
+        word?;
     }
-    Ok(closed.ending?.snapshot.six.tail)
+    Ok(finished.ending.snapshot.six.tail)
 }
 
 fn main(rt: HostRuntime) -> io::Result<ExitCode> {

@@ -1,11 +1,11 @@
 //! A small key-value store over a log, after FASTER: an example. Its functions are proved safe, and to end; that no add is
 //! lost is only tested, by the program itself.
 //!
-//! `hl_kv THREADS SECONDS [--reads PERCENT] [--zipf] [--keys N] [--frames F] [--compare] [--images]`: so many threads read counters
-//! and add to them, beside a crew, and a line a second tells how far they are. At the end each counter is compared with
-//! what the threads added by their own account; with `--compare` a thread that is alone upserts, too, and compares all that
-//! it reads. With 0 seconds each thread makes 4,096 operations; with `--images` it makes sixteen times as many, and the
-//! images of all pages that were written are compared with the journal.
+//! `hl_kv THREADS SECONDS [--reads PERCENT] [--zipf] [--keys N] [--frames F] [--compare] [--images]`: so many threads read
+//! counters and add to them, beside a crew, and a line a second tells how far they are. At the end each counter is
+//! compared with what the threads added by their own account; with `--compare` a thread that is alone upserts, too, and
+//! compares all that it reads. With 0 seconds each thread makes 4,096 operations; with `--images` it makes sixteen times
+//! as many, and the images of all pages that were written are compared with the journal.
 #![tactic(auto)]
 
 mod device;
@@ -13,6 +13,8 @@ mod images;
 mod store;
 mod work;
 
+use device::PAGE_SIZE;
+use hl::Config;
 use std::io::Write;
 use std::process::ExitCode;
 use std::{env, io};
@@ -27,6 +29,10 @@ fn main(rt: HostRuntime) -> io::Result<ExitCode> {
         rt.stderr().write_all(USAGE)?;
         return Ok(ExitCode::from(2));
     };
+    if let Some(number) = plan.config.out_of_range() {
+        writeln!(rt.stderr(), "hl_kv: {number}")?;
+        return Ok(ExitCode::from(2));
+    }
     if let Err(trouble) = work::run(&rt, rt.alloc(), plan) {
         println!(rt; "{trouble:?}")?;
         return Ok(ExitCode::from(1));
@@ -37,12 +43,14 @@ fn main(rt: HostRuntime) -> io::Result<ExitCode> {
 // The plan that the program's words ask for; `None` if they ask for something else.
 fn plan_of(words: &[String]) -> Option<Plan> {
     let mut plan = Plan {
-        threads: words.get(1)?.parse().ok()?,
+        config: Config {
+            page_size: PAGE_SIZE,
+            ..Config::for_threads(words.get(1)?.parse().ok()?)
+        },
         seconds: words.get(2)?.parse().ok()?,
         reads: 50,
         by_zipf: false,
         keys: 100_000,
-        frames: 256,
         compares: false,
         images: false,
     };
@@ -50,11 +58,11 @@ fn plan_of(words: &[String]) -> Option<Plan> {
     while let Some(option) = rest.next() {
         match option.as_str() {
             "--zipf" => plan.by_zipf = true,
-            "--compare" => plan.compares = plan.threads == 1,
+            "--compare" => plan.compares = plan.config.threads == 1,
             "--images" => plan.images = true,
             "--reads" => plan.reads = rest.next()?.parse().ok()?,
             "--keys" => plan.keys = rest.next()?.parse().ok()?,
-            "--frames" => plan.frames = rest.next()?.parse().ok()?,
+            "--frames" => plan.config = plan.config.with_frames(rest.next()?.parse().ok()?),
             _ => return None,
         }
     }

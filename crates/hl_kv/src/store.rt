@@ -28,7 +28,7 @@ use std::time::{Clock, Duration};
 /// How often an operation is attempted, and how many records of a chain are looked at.
 const TRIES: u32 = 100_000;
 
-/// How many pages the device keeps. The other places are for what the frames hold.
+/// How many pages the device keeps. The other places are for what is written while a page is let go.
 const PAGES_MOST: u64 = PLACES - 512;
 
 /// A record is its key, its value, and where the record before it in its chain has its value: 0 if there is none.
@@ -106,12 +106,27 @@ pub(crate) struct Seat<'a, 'b, R: Wait, L: Realm> {
     pub(crate) rt: &'a R,
     pub(crate) session: &'a mut Session<'b, R, L>,
     pub(crate) store: &'a Store,
-    pub(crate) lease: Lease,
+    lease: Lease,
     /// How many records it copied to the tail.
     pub(crate) copies: u64,
 }
 
 impl<'a, 'b, R: Wait + Clock, L: Realm> Seat<'a, 'b, R, L> {
+    /// A seat that has no piece yet.
+    pub(crate) fn new(
+        rt: &'a R,
+        session: &'a mut Session<'b, R, L>,
+        store: &'a Store,
+    ) -> Seat<'a, 'b, R, L> {
+        Seat {
+            rt,
+            session,
+            store,
+            lease: Lease::of(0, 0),
+            copies: 0,
+        }
+    }
+
     /// Does an operation: attempts it until it is done, or refused for good. Returns what a read found.
     pub(crate) fn apply(&mut self, key: u64, operation: Operation) -> Outcome<Option<u64>> {
         for _ in 0..TRIES {

@@ -2,10 +2,7 @@
 use crate::device::{PAGE_SIZE, zeros};
 use crate::images;
 use crate::store::{Operation, Outcome, Seat, Store, Trouble};
-use hl::{
-    ArrayVec, Duty, Fault, Holder, Lease, NoJob, Opening, Params, Realm, Session, Work,
-    with_threads,
-};
+use hl::{ArrayVec, Config, Fault, Holder, NoJob, Realm, Session, Work, run_threads};
 use std::alloc::Global;
 use std::num::{nearest_u64_to_f64, saturating_f64_to_u64};
 use std::sync::Wait;
@@ -23,13 +20,13 @@ const DRAWS: u64 = 1 << 20;
 /// What the program is to do.
 #[derive(Clone, Copy)]
 pub(crate) struct Plan {
-    pub(crate) threads: u64,
+    /// The sizes of the log, and how many threads use it.
+    pub(crate) config: Config,
     pub(crate) seconds: u64,
     /// How many of a hundred operations are reads.
     pub(crate) reads: u64,
     pub(crate) by_zipf: bool,
     pub(crate) keys: u64,
-    pub(crate) frames: u64,
     /// Whether the thread, if it is alone, upserts too, and compares all that it reads with a row of its own.
     pub(crate) compares: bool,
     /// Whether nothing is cut from the journal, each thread makes so many batches, and the images are compared with it.
@@ -39,8 +36,7 @@ pub(crate) struct Plan {
 /// How many batches a thread makes where the images are compared.
 const BATCHES: u64 = 16;
 
-/// How many steps the journal has room for: where it is cut, and where it isn't.
-const JOURNAL: u64 = 1 << 15;
+/// How many steps the journal has room for then: twice as many as they make, since the crew cuts above the half.
 const WHOLE_JOURNAL: u64 = 1 << 22;
 
 // What the threads share. The keys below `plan.keys` are counters; those above are marks, one of each thread.
@@ -51,9 +47,8 @@ struct Shared {
     store: Store,
     // Keys by Zipf's law; none if each is drawn as often.
     drawn: Vec<u64>,
-    // What the threads that have ended added to each counter, by their own account; and how many haven't ended.
+    // What the threads that have ended added to each counter, by their own account.
     sums: Vec<AtomicU64>,
-    working: AtomicU64,
     operations: AtomicU64,
     copies: AtomicU64,
 }
@@ -64,41 +59,29 @@ pub(crate) fn run<R: Threads + Wait + Clock + Print + Sync>(
     alloc: Global,
     plan: Plan,
 ) -> Outcome<()> {
-    let params = Params::checked(PAGE_SIZE, plan.frames, plan.threads, 16).ok_or(Fault::Size)?;
-    let opening = Opening {
-        params,
-        riders: plan.threads.saturating_add(4),
-        journal: if plan.images { WHOLE_JOURNAL } else { JOURNAL },
-        stamp: 1,
-    };
-    // A quarter of the frames is for what is placed while the crew works or sleeps.
-    let resident = plan.frames - plan.frames / 4;
-    let mut duty = Duty::checked(params, resident - resident / 4, resident).ok_or(Fault::Size)?;
-    if !plan.images {
-        duty = duty.cutting_above(JOURNAL / 2);
-    }
     let shared = Shared {
         alloc,
         plan,
         store: Store::open(alloc, plan.keys)?,
         drawn: zipf_row(alloc, if plan.by_zipf { plan.keys } else { 0 })?,
         sums: zeros(alloc, plan.keys)?,
-        working: AtomicU64::new(plan.threads),
         operations: AtomicU64::new(0),
         copies: AtomicU64::new(0),
     };
-    let closed = with_threads(rt, alloc, opening, duty, &shared)?;
-    let outs = closed.out?;
-    let ending = closed.ending?;
-    for ended in outs {
-        ended??;
+    let mut config = plan.config;
+    if plan.images {
+        config.journal = WHOLE_JOURNAL;
+    }
+    let finished = run_threads(rt, alloc, config, &shared)?;
+    for ended in finished.outs {
+        ended?;
     }
     if plan.images {
-        let words = images::compare(alloc, &shared.store.device, &ending)?;
-        let pages = ending.snapshot.six.flushed / PAGE_SIZE;
+        let words = images::compare(alloc, &shared.store.device, &finished.ending)?;
+        let pages = finished.ending.snapshot.six.flushed / PAGE_SIZE;
         println!(rt; "checked {words} words of {pages} images").map_err(|_| Fault::Stream)?;
     }
-    Ok(())
+    finished.last.unwrap_or(Ok(()))
 }
 
 impl<R: Wait + Clock + Print> Work<R> for Shared {
@@ -112,26 +95,23 @@ impl<R: Wait + Clock + Print> Work<R> for Shared {
         session: &mut Session<R, L>,
         number: u64,
     ) -> Outcome<()> {
-        let mut seat = Seat {
-            rt,
-            session,
-            store: &self.store,
-            lease: Lease::of(0, 0),
-            copies: 0,
-        };
+        let mut seat = Seat::new(rt, session, &self.store);
         seat.work(self, number)?;
-        if self.working.fetch_sub(1, SeqCst) == 1 {
-            // The last to end reads what all have left.
-            for (key, sum) in self.sums.iter().enumerate() {
-                seat.expect(key as u64, sum.load(SeqCst))?;
-            }
-            self.tell_end(rt).map_err(|_| Fault::Stream)?;
-        }
         // A session that finds no room in the journal when it is left loses its slot.
         if !self.plan.images {
             seat.session.cut();
         }
         Ok(())
+    }
+
+    // Reads what all have left.
+    fn finish<L: Realm + Send + Sync>(
+        &self,
+        rt: &R,
+        session: &mut Session<R, L>,
+    ) -> Option<Outcome<()>> {
+        let mut seat = Seat::new(rt, session, &self.store);
+        Some(seat.check(self))
     }
 
     fn write_page(&self, _rt: &R, page: u64, image: &[u8]) -> bool {
@@ -151,6 +131,15 @@ impl Shared {
 }
 
 impl<'a, 'b, R: Wait + Clock + Print, L: Realm> Seat<'a, 'b, R, L> {
+    // Compares each counter with what the threads added to it, and prints that all was right.
+    fn check(&mut self, shared: &Shared) -> Outcome<()> {
+        for (key, sum) in shared.sums.iter().enumerate() {
+            self.expect(key as u64, sum.load(SeqCst))?;
+        }
+        shared.tell_end(self.rt).map_err(|_| Fault::Stream)?;
+        Ok(())
+    }
+
     // What a thread does until its time is over.
     fn work(&mut self, shared: &Shared, number: u64) -> Outcome<()> {
         let sums = vec![in shared.alloc; 0; shared.sums.len()];

@@ -10,10 +10,14 @@ mod count;
 mod store;
 
 use std::io;
+use std::process::ExitCode;
 
-fn main(rt: HostRuntime) -> io::Result<()> {
-    if let Err(fault) = count::run(&rt, rt.alloc(), &mut rt.stdout()) {
-        println!(rt; "{fault}")?;
+fn main(rt: HostRuntime) -> io::Result<ExitCode> {
+    match count::run(&rt, rt.alloc(), &mut rt.stdout()) {
+        Ok(()) => Ok(ExitCode::from(0)),
+        Err(fault) => {
+            println!(rt; "{fault}")?;
+            Ok(ExitCode::from(1))
+        }
     }
-    Ok(())
 }
