@@ -11,6 +11,7 @@
 //! | `journals` | how many steps a journal holds |
 //! | `protected` | a thread that settles and cuts with a pass in its hands, and asks who holds it up |
 //! | `keeps_up` | when a pass that is kept up refreshes, and when it doesn't |
+//! | `regions` | an address that goes through the four regions of the log |
 //! | `turns` | two threads that bump a new domain |
 //! | `passing` | two threads that pass a value |
 //! | `sums` | two threads that add to a counter of a new domain |
@@ -60,6 +61,8 @@ mod play;
 mod protected;
 #[cfg(test)]
 mod refusals;
+#[cfg(test)]
+mod regions;
 #[cfg(test)]
 mod shared;
 #[cfg(test)]
