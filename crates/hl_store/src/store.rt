@@ -1,4 +1,4 @@
-use hl::{Fault, Realm, Session, attempt};
+use hl::{Fault, Realm, Region, Session, attempt};
 use std::alloc::{AllocError, Global};
 use std::collections::HashMap;
 use std::sync::{Mutex, MutexGuard, Wait};
@@ -87,9 +87,10 @@ impl Store {
         let value = match bucket.get(&key) {
             Some(address) => {
                 let value = change.of(Some(session.load(*address)?));
-                match session.store(*address, value) {
-                    Err(Fault::Below { .. }) => value,
-                    answer => return answer,
+                // Nobody else changes a record of this bucket, so a fuzzy one needn't be waited for.
+                match session.region(*address)? {
+                    Region::Mutable => return session.store(*address, value),
+                    _ => value,
                 }
             }
             None => change.of(None),
