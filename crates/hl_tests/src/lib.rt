@@ -2,7 +2,7 @@
 //! devices that fail, no fault at the greatest numbers, drops, printed text, exact turns, and one happy path of
 //! what the built program doesn't call. Each module tries the crate that it is named after, `tables` both tables
 //! of epochs, `report` that of `hl_monitor`, `refused` the type of `hl` for refusals, `log` its threads, `crew` its crew,
-//! `images` what that writes, `daily` what a session does between two tries,
+//! `images` what that writes, `daily` what a session does between two tries, `config` its calls in few words,
 //! `tickets` and `counters` the calls of `hl_tickets` and `hl_counters` once. What else a clause says is tested nowhere;
 //! that the clauses mean what was meant is shown by the examples that the built program is run on.
 //!
@@ -13,6 +13,8 @@
 
 #[cfg(test)]
 mod action;
+#[cfg(test)]
+mod config;
 #[cfg(test)]
 mod counters;
 #[cfg(test)]

@@ -1,0 +1,62 @@
+//! A log of `hl` by its configuration: when a work finishes, and what a number out of its range is called.
+use hl::{Config, Fault, NoJob, Realm, Session, Work, run_threads};
+use std::sync::Wait;
+use std::sync::atomic::AtomicU64;
+use std::sync::atomic::Ordering::SeqCst;
+use std::test::Fail;
+
+// Threads that count how many of them have ended; what finishes tells how many had by then, and counts for ten.
+#[derive(Drop)]
+struct Ends {
+    ended: AtomicU64,
+}
+
+impl<R: Wait> Work<R> for Ends {
+    type Job = NoJob;
+
+    type Out = u64;
+
+    fn run<L: Realm + Send + Sync>(
+        &self,
+        _rt: &R,
+        _session: &mut Session<R, L>,
+        number: u64,
+    ) -> u64 {
+        self.ended.fetch_add(1, SeqCst);
+        number
+    }
+
+    fn finish<L: Realm + Send + Sync>(&self, _rt: &R, _session: &mut Session<R, L>) -> Option<u64> {
+        Some(self.ended.fetch_add(10, SeqCst))
+    }
+
+    fn write_page(&self, _rt: &R, _page: u64, _image: &[u8]) -> bool {
+        true
+    }
+}
+
+// The least number of frames; the threads leave in any order.
+#[test]
+fn a_work_finishes_once_and_after_its_threads(rt: HostRuntime) -> Result<(), Fail> {
+    let work = Ends {
+        ended: AtomicU64::new(0),
+    };
+    let config = Config {
+        page_size: 4,
+        ..Config::for_threads(3).with_frames(2)
+    };
+    let finished = run_threads(&rt, rt.alloc(), config, &work)?;
+    assert_eq!(rt; finished.outs.as_slice(), [0, 1, 2].as_slice());
+    assert_eq!(rt; finished.last, Some(3));
+    assert_eq!(rt; work.ended.load(SeqCst), 13);
+    Ok(())
+}
+
+#[test]
+fn a_number_out_of_its_range_is_displayed_with_it(rt: HostRuntime) -> Result<(), Fail> {
+    let config = Config::for_threads(4).with_frames(1);
+    let number = config.out_of_range().ok_or(Fault::Size)?;
+    let text = format!(in rt.alloc(); "{number}")?;
+    assert_eq!(rt; text.as_str(), "frames: 2 to 65,536");
+    Ok(())
+}
