@@ -46,7 +46,7 @@ pub(crate) fn compare<F: Task, P: Promise>(
         return Err(Trouble::Log(Fault::JournalFull));
     }
     let flushed = ending.snapshot.six.flushed;
-    let words = writes(alloc, flushed, &ending.journal)?;
+    let words = by_address(alloc, flushed, &ending.journal)?;
     let mut compared = 0u64;
     for (word, address) in words.iter().zip(0u64..) {
         let held = device.word(address);
@@ -60,7 +60,7 @@ pub(crate) fn compare<F: Task, P: Promise>(
 }
 
 // What was written at each address below the end.
-fn writes(alloc: Global, end: u64, journal: &[Step]) -> Result<Vec<Writes>, Fault> {
+fn by_address(alloc: Global, end: u64, journal: &[Step]) -> Result<Vec<Writes>, Fault> {
     let mut words = Vec::new(alloc);
     for _ in 0..end {
         words.push(Writes::None).map_err(|_| Fault::OutOfMemory)?;
