@@ -13,7 +13,8 @@ use std::fmt;
 const STEPS_MOST: u64 = 1 << 62;
 
 /// The numbers of a log with threads and a crew, for [`run_threads`](crate::run_threads). Begin with
-/// [`for_threads`](Config::for_threads), and name what is to differ: `Config { page_size: 64, ..Config::for_threads(4) }`.
+/// [`for_threads`](Config::for_threads), and name what is to differ: `Config { page_size: 64,
+/// ..Config::for_threads(4) }`.
 #[derive(Clone, Copy, Debug, PartialEq, Eq)]
 pub struct Config {
     /// How many threads, 1 to 1,024. Each has a slot.
@@ -48,8 +49,9 @@ pub enum Number {
 }
 
 impl Config {
-    /// For so many threads: pages of 4,096 words, 256 frames, which are 8 MiB, 16 places for actions, a journal of 2^15
-    /// steps, and stamp 1. Of the frames 64 are free for new pages while the crew works; 144 of the pages may be written.
+    /// For so many threads: pages of 4,096 words, 256 frames, which are 8 MiB, 16 places for actions, a journal of
+    /// 2^15 steps, and stamp 1. Of the frames 64 are free for new pages while the crew works; 144 of the pages may be
+    /// written.
     pub const fn for_threads(threads: u64) -> Config
         ensures { result ≡ for_threads threads }
     {
@@ -65,8 +67,8 @@ impl Config {
         }
     }
 
-    /// The same with so many frames, and with `mutable` and `resident` that go with them: a quarter of the frames, and at
-    /// least one, is free for new pages, and a quarter of the other pages is read-only.
+    /// The same with so many frames, and with `mutable` and `resident` that go with them: a quarter of the frames,
+    /// and at least one, is free for new pages, and a quarter of the other pages is read-only.
     pub fn with_frames(self, frames: u64) -> Config
         ensures { result ≡ with_frames frames self }
     {
@@ -124,8 +126,8 @@ impl Config {
         }
     }
 
-    /// What [`with_threads`](crate::with_threads) takes for these numbers: an opening with a slot and a rider for each thread,
-    /// and five riders more, and the duty of the crew.
+    /// What [`with_threads`](crate::with_threads) takes for these numbers: an opening with a slot and a rider for
+    /// each thread, and five riders more, and the duty of the crew.
     ///
     /// Fault: `Size` if a number is out of its range. [`out_of_range`](Config::out_of_range) says which.
     pub fn checked(&self) -> Result<(Opening, Duty), Fault>

@@ -36,13 +36,14 @@ pub struct Finished<T, F: Task = NoJob> {
     pub ending: Ending<F, AnyAnswer>,
 }
 
-/// Opens a log, runs its threads beside a crew as [`with_threads`](crate::with_threads) does, calls `Work::finish` once they
-/// have ended, and closes the log. What they returned comes back with the ending, in one result.
+/// Opens a log, runs its threads beside a crew as [`with_threads`](crate::with_threads) does, calls `Work::finish`
+/// once they have ended, and closes the log. What they returned comes back with the ending, in one result.
 ///
 /// Faults, the first of these: `Size` if a number of the configuration is out of its range, and nothing was done;
-/// `OutOfMemory` if memory or a thread was refused, before the threads ran or after; the fault by which the first of the
-/// threads that have no result was refused its session, or couldn't leave it (`JournalFull`); and that of the session of
-/// `finish`. After a fault nothing is left of the log: where its ending is wanted all the same, take `with_threads`.
+/// `OutOfMemory` if memory or a thread was refused, before the threads ran or after; the fault by which the first of
+/// the threads that have no result was refused its session, or couldn't leave it (`JournalFull`); and that of the
+/// session of `finish`. After a fault nothing is left of the log: where its ending is wanted all the same, take
+/// `with_threads`.
 pub fn run_threads<R: Threads + Wait + Sync, P: Work<R> + Sync>(
     rt: &R,
     alloc: Global,
@@ -138,7 +139,8 @@ fn finish_log<L: Realm + Send + Sync, R: Wait, P: Work<R>>(
 ) -> Result<Finished<P::Out, P::Job>, Fault>
     requires all { length riders.items + 1 ≡ log.riders }
     ensures closed { MatchResult result
-        (λ finished. (finished.outs ≡ outs) × IsFinish P.Job log (P.finishes work.now) riders.items last finished)
+        (λ finished. (finished.outs ≡ outs)
+        × IsFinish P.Job log (P.finishes work.now) riders.items last finished)
         (λ fault. (fault ≡ OutOfMemory) ⊎ IsNoFinish P.Job log (P.finishes work.now) last fault) }
 {
     let (done, rider) = finish_one(rt, &log, last, work);

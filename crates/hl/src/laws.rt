@@ -4,15 +4,16 @@ ghost use Rattle.hl.specs.Evictions.{EvictedWereFlushed};
 ghost use Rattle.hl.specs.Waits.{SafeAfterAllMovedOn};
 
 /// Once the number of a bump is safe, each slot that was protected before the bump has refreshed or left since. So a
-/// session that [`wait`](crate::Session::wait) answered for a ticket of another's knows it of that bump, in the one list.
+/// session that [`wait`](crate::Session::wait) answered for a ticket of another's knows it of that bump, in the one
+/// list.
 #[tactic(auto, using(crate::proofs::WaitLaws::safe_after_all_moved_on))]
 pub fn safe_after_all_moved_on()
     ensures { SafeAfterAllMovedOn }
 {}
 
-/// Evicted means written: the page of an address below the head was answered as flushed by one of the log's riders. After
-/// [`with_threads`](crate::with_threads) that is one of the crew's, unless a thread flushed it itself, and `Work::took`
-/// says of it that the device took its image.
+/// Evicted means written: the page of an address below the head was answered as flushed by one of the log's riders.
+/// After [`with_threads`](crate::with_threads) that is one of the crew's, unless a thread flushed it itself, and
+/// `Work::took` says of it that the device took its image.
 pub fn evicted_were_flushed()
     ensures { EvictedWereFlushed }
 {}

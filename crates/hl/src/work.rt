@@ -34,14 +34,14 @@ pub trait Work<R: Wait> {
     ) -> Self::Out
         ensures { returns self.now number session.old session.new result };
 
-    /// Writes the image of a page to the program's device: whether it did, and then what `took` says holds. Two writers of the
-    /// crew call it.
+    /// Writes the image of a page to the program's device: whether it did, and then what `took` says holds. Two
+    /// writers of the crew call it.
     fn write_page(&self, rt: &R, page: u64, image: &[u8]) -> bool
         ensures { result ≡ true → took self.now page image.now };
 
-    /// What is done once, in a session of its own, when all threads of [`run_threads`](crate::run_threads) have ended and
-    /// before the log is closed: nothing, and `None`, unless a program says so. With `None` the session is left as it was. No
-    /// crew serves by then, so a page that is `Busy` stays so.
+    /// What is done once, in a session of its own, when all threads of [`run_threads`](crate::run_threads) have ended
+    /// and before the log is closed: nothing, and `None`, unless a program says so. With `None` the session is left
+    /// as it was. No crew serves by then, so a page that is `Busy` stays so.
     fn finish<L: Realm + Send + Sync>(
         &self,
         _rt: &R,

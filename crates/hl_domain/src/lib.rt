@@ -17,22 +17,23 @@
 //!
 //! # Under the lock: one list for all threads
 //!
-//! A locked call of a domain is its keeper's, and hl_keeper tells what these are. Beside the keeper lies the one list of
-//! all steps, in the proofs alone. Each call, accepted or refused, notes in its rider's diary the list that it met and the
-//! steps that it put behind it: `LeavesUnderLock` in `specs/Domains.antt` says so, and that between the keepers before
-//! and after the call the keeper's own clause holds, at that list. The rider also notes how many steps each of the two has
-//! cut, and the next call meets what this one left. After a refusal the keeper is equal to the one before.
-//! `close` ties all together: one accepted list begins with what each call of each rider met and left, the calls of one
-//! rider follow each other there, and each of its steps was entered by exactly one call. So the answers to all locked
-//! calls of all threads' riders and passes are those of one list of steps, the one that is there at the end. `snapshot`,
-//! `holders` and `frame_of` take no rider and note nothing: each is answered at some list.
+//! A locked call of a domain is its keeper's, and hl_keeper tells what these are. Beside the keeper lies the one list
+//! of all steps, in the proofs alone. Each call, accepted or refused, notes in its rider's diary the list that it met
+//! and the steps that it put behind it: `LeavesUnderLock` in `specs/Domains.antt` says so, and that between the
+//! keepers before and after the call the keeper's own clause holds, at that list. The rider also notes how many steps
+//! each of the two has cut, and the next call meets what this one left. After a refusal the keeper is equal to the
+//! one before. `close` ties all together: one accepted list begins with what each call of each rider met and left,
+//! the calls of one rider follow each other there, and each of its steps was entered by exactly one call. So the
+//! answers to all locked calls of all threads' riders and passes are those of one list of steps, the one that is
+//! there at the end. `snapshot`, `holders` and `frame_of` take no rider and note nothing: each is answered at some
+//! list.
 //!
-//! `look`, `store`, `load`, `region`, `fetch_add`, `compare_exchange`, `copy_page` and `sweep` take no lock, and their clauses are
-//! exact in the pass, the broom and the rider; `keep_up` takes the lock only if anything is new, or the pass has no
-//! room for a touch. `close` hands on the rule of the words too, of exactly what these riders did: all of it has one order,
-//! in which the calls stand. A load, or a change, found what the newest store before it left there, or 0 before any; a look
-//! found an address to which a raise or a shift of the list moved, or 0. Below a safe read-only offset that was loaded
-//! no later step of the list writes ([`laws::loads_are_settled`]).
+//! `look`, `store`, `load`, `region`, `fetch_add`, `compare_exchange`, `copy_page` and `sweep` take no lock, and
+//! their clauses are exact in the pass, the broom and the rider; `keep_up` takes the lock only if anything is new, or
+//! the pass has no room for a touch. `close` hands on the rule of the words too, of exactly what these riders did:
+//! all of it has one order, in which the calls stand. A load, or a change, found what the newest store before it left
+//! there, or 0 before any; a look found an address to which a raise or a shift of the list moved, or 0. Below a safe
+//! read-only offset that was loaded no later step of the list writes ([`laws::loads_are_settled`]).
 //!
 //! A thread that ends with a pass in its hands leaves the slot protected for good, and its rider missing.
 //!

@@ -1,10 +1,10 @@
 //! The calls on a keeper's `Words` that take no lock: what a `Domain` does without its lock, for a
 //! `Keeper` under a lock of your own.
 //!
-//! A pass looks at the offsets, stores a word, loads one, and changes one in place; a rider copies
-//! a page that is to be flushed, and sweeps one that is to be cleaned. All but the look need the
-//! sizes that the words were opened with, which `Keeper::params` returns; the two that name a page
-//! also need the keeper's stamp.
+//! A pass looks at the offsets, stores a word, loads one, changes one in place, and asks for a
+//! region; a rider copies a page that is to be flushed, and sweeps one that is to be cleaned. All
+//! but `keeps_up`, `look` and `region` need the sizes that the words were opened with, which
+//! `Keeper::params` returns; the two that name a page also need the keeper's stamp.
 //!
 //! | Call | What it does | Its faults |
 //! |---|---|---|
