@@ -58,9 +58,17 @@ pub(crate) enum Trouble {
     /// The record is read-only for this thread, and maybe not yet for every other.
     Fuzzy,
     /// A key doesn't hold what the threads put there.
-    Differs { key: u64, held: u64, due: u64 },
+    Differs {
+        key: u64,
+        held: u64,
+        due: u64,
+    },
     /// On the device a word isn't what the journal says.
-    Image { address: u64, held: Option<u64>, due: u64 },
+    Image {
+        address: u64,
+        held: Option<u64>,
+        due: u64,
+    },
 }
 
 pub(crate) type Outcome<T> = Result<T, Trouble>;
