@@ -135,7 +135,7 @@ enum hl_fault {
     HL_NOT_IN_FLIGHT = 21,
     HL_NONE_CLOSED = 22,
     HL_NOT_CLEANING = 23,
-    HL_STRANGER = 26, /* of hl_log.h alone; a: a stamp */
+    HL_STRANGER = 26, /* a: a stamp, told by hl_log.h alone */
     HL_OUT_OF_MEMORY = 29,
     HL_WINDOW_FULL = 32,
     /* no fault of the rules: */

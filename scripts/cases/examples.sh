@@ -1,5 +1,8 @@
 # Each script of examples/ has the text that stands beside it, in both forms. NAME.args has further words for run, such
-# as --flush, which slow has none of.
+# as --flush, which slow has none of. So have those of data/, each with a line that is no step.
+
+# All these scripts.
+texted=("$scripts"/../examples/*.script "$scripts"/cases/data/*.script)
 
 # The status that a text ends with: 2 where its last line is no step.
 status_of() {
@@ -9,7 +12,7 @@ status_of() {
     esac
 }
 
-for script in "$scripts"/../examples/*.script; do
+for script in "${texted[@]}"; do
     of="${script%.script}"
     name="${of##*/}"
     status="$(status_of "$of.expected")"

@@ -1,9 +1,8 @@
 # The judge of traces: the lines of the examples, each with its reply, agree, and a changed reply deviates where it stands.
 
-# Makes a trace of an example's script and text.
+# Makes a trace of a script and the text beside it.
 trace_of() {
-    local of="$scripts/../examples/$1"
-    awk 'NR == FNR { line[NR] = $0; next } { print line[FNR] " -> " $0 }' "$of.script" "$of.expected" > "$room/trace"
+    awk 'NR == FNR { line[NR] = $0; next } { print line[FNR] " -> " $0 }' "$1" "${1%.script}.expected" > "$room/trace"
 }
 
 # Both programs say this of the trace: judged STATUS LINE..
@@ -29,8 +28,8 @@ agrees_up_to_a_bad_line() {
 
 # Line by line: the last byte of its reply is another, or missing, or is followed by one more.
 deviates_at_each_line() {
-    local name="$1" lines number line reply changed
-    trace_of "$name"
+    local lines number line reply changed
+    trace_of "$1"
     cp "$room/trace" "$room/agrees"
     lines="$(wc -l < "$room/agrees")"
     for ((number = 1; number <= lines; number++)); do
@@ -99,19 +98,19 @@ explains_a_deviation() {
     [ "$status" = 1 ] && sed -n 3p "$room/text" | grep -q '^    Ticket 1 waits .* slot 0 is at epoch 1'
 }
 
-for script in "$scripts"/../examples/*.script; do
+for script in "${texted[@]}"; do
     name="${script##*/}"
     name="${name%.script}"
     if [ ! -s "$script" ] || [ -e "${script%.script}.args" ]; then
         continue
     elif [ "$(status_of "${script%.script}.expected")" = 2 ]; then
-        check "the trace of $name, judged" agrees_up_to_a_bad_line "$name"
+        check "the trace of $name, judged" agrees_up_to_a_bad_line "$script"
     else
-        check "the trace of $name, judged" agrees "$name"
+        check "the trace of $name, judged" agrees "$script"
     fi
 done
 for name in first_action fuzzy_region; do
-    check "a changed reply of $name, judged" deviates_at_each_line "$name"
+    check "a changed reply of $name, judged" deviates_at_each_line "$scripts/../examples/$name.script"
 done
 : > "$room/trace"
 check "no line, judged" judged 0 "0 lines agree"

@@ -6,7 +6,7 @@ answers_stay() {
     python3 -B "$scripts/shown/told.py" "$program" < "$1" > "$room/text" && cmp "${1%.script}.expected" "$room/text"
 }
 
-for script in "$scripts"/../examples/*.script; do
+for script in "${texted[@]}"; do
     name="$(basename "$script" .script)"
     [ -e "${script%.script}.args" ] || check "the answers of $name among questions" answers_stay "$script"
 done

@@ -1,6 +1,6 @@
 # The program runs over a table of epochs that counts its slots. Over the one that scans them, which the small program
-# runs for tests, each script of examples/ has the same text.
-for script in "$scripts"/../examples/*.script; do
+# runs for tests, each script has the same text.
+for script in "${texted[@]}"; do
     of="${script%.script}"
     words=()
     [ ! -e "$of.args" ] || mapfile -t words < "$of.args"

@@ -12,7 +12,7 @@ import re
 import sys
 from pathlib import Path
 
-PAGE, PROGRAM = "README.md", "crates/hl_first_log/src/main.rt"
+PAGE, PROGRAM = "README.md", "crates/example_first_log/src/main.rt"
 PART = re.compile(r"^struct OneWord;\n.*?(?=\nfn main\()", re.MULTILINE | re.DOTALL)
 # Where the page shows it: the first block behind this comment.
 PLACE = re.compile(rf"(<!-- cut out of {re.escape(PROGRAM)} -->\n```rust\n).*?(?=```)", re.DOTALL)

@@ -1,5 +1,7 @@
 """Who or what stands in the way of a refused step, in one sentence, by what the program told of that moment."""
 
+import re
+
 from told import Action, Line, Sizes, State
 
 
@@ -9,7 +11,12 @@ def reason(sizes: Sizes | None, line: Line) -> str | None:
         return "No script may have this line here, and nothing after it was run: docs/FORMATS.md tells the lines."
     if line.fault is None:
         return None
-    return REASONS[line.fault](sizes, line.state, line)
+    return sentence_of(line.fault)(sizes, line.state, line)
+
+
+def sentence_of(fault: str):
+    """The function that makes a fault's sentence, if there is one: it has the fault's name, as Python spells names."""
+    return globals().get(re.sub(r"(?<!^)(?=[A-Z])", "_", fault).lower())
 
 
 def slots_in_the_way(sizes: Sizes | None, line: Line) -> list[int]:
@@ -164,16 +171,6 @@ def no_job(sizes, state, line):
         if (action.kind, action.number) == ("user", tag):
             return f"The job of tag {tag} went with ticket {action.ticket}, and each goes once."
     return f"The job of tag {tag} is done already, and each goes once."
-
-
-REASONS = {
-    "NoSlot": no_slot, "Occupied": occupied, "NotProtected": not_protected, "Stale": stale, "DrainFull": drain_full,
-    "EpochsSpent": epochs_spent, "WindowFull": window_full, "Empty": empty, "NotReady": not_ready,
-    "NotTaken": not_taken, "NotAbove": not_above, "AboveTail": above_tail, "NotPage": not_page,
-    "AboveFlushed": above_flushed, "Size": size, "Busy": busy, "SpaceSpent": space_spent, "Below": below,
-    "Beyond": beyond, "Evicted": evicted, "NoneSealed": none_sealed, "NotInFlight": not_in_flight,
-    "NoneClosed": none_closed, "NotCleaning": not_cleaning, "NoJob": no_job,
-}  # fmt: skip
 
 
 def in_the_way(state: State, ticket: int) -> list[int]:

@@ -8,7 +8,7 @@ use Rattle.hl.specs.declared.config.Config.{Config}
 use Rattle.hl.specs.declared.config.Number.{Number}
 use Rattle.hl.specs.declared.config.Number.TheVariants.{Threads, PageSize, Frames, Actions, Mutable, Resident, Journal, Stamp}
 use Rattle.hl.specs.Configs.{all_fit, fits, opening_of, sizes_of_config}
-use Rattle.hl.specs.Crews.{can_run, can_serve}
+use Rattle.hl.specs.Crews.{can_run}
 use Rattle.hl.specs.Openings.{can_open, IsInRange}
 use Rattle.hl.specs.declared.opening.Opening.{Opening}
 
@@ -45,7 +45,7 @@ duty_in_range c fit = duty_of_two c (one_fits c Mutable fit) (one_fits c Residen
 
 -- the log can be opened with riders for its crew
 own_runs : (c : Config) (duty : Duty) → all_fit c ≡ true → duty.frames ≡ c.frames → can_run (opening_of c) duty ≡ true
-unfolding all_fit fits can_run can_open can_serve
+unfolding all_fit fits can_run can_open
 own_runs c duty fit frames = search (rules, nat_tests)
 
 pub runs : (c : Config) (sizes : Sizes) (duty : Duty) → all_fit c ≡ true → sizes ≡ sizes_of_config c → duty.frames ≡ c.frames → can_run (record { params = sizes; riders = c.threads + 5; journal = c.journal; stamp = c.stamp }) duty ≡ true
@@ -56,7 +56,7 @@ opens_of_run : (o : Opening Sizes) (duty : Duty) → can_run o duty ≡ true →
 unfolding can_run
 opens_of_run o duty run = search rules
 
-pub serves_of_run : (o : Opening Sizes) (duty : Duty) → can_run o duty ≡ true → can_serve o.params duty ≡ true
+pub serves_of_run : (o : Opening Sizes) (duty : Duty) → can_run o duty ≡ true → duty.frames ≡ o.params.frames
 unfolding can_run
 serves_of_run o duty run = search rules
 

@@ -1,19 +1,16 @@
 -- The page of an address below the head was flushed by somebody.
-use Rattle.std.proofs.Common.{◌≡◌, ℕ, zero, suc, ◌+◌, ◌*◌, ◌/◌, ◌<◌, ◌≤◌, Bool, true, false, List, [], ◌∷◌, Some, slice_get, map, refl, sym, ap, ◌∙◌, subst, arith}
+use Rattle.std.proofs.Common.{◌≡◌, ℕ, zero, suc, ◌*◌, ◌/◌, ◌<◌, Bool, true, false, List, [], ◌∷◌, Some, slice_get, map, refl, sym, subst, arith}
 use Rattle.std.specs.Prelude.{◌||◌}
 use Rattle.std.specs.List.{list_any}
 use Rattle.std.proofs.Math.Nat.{div-lt_iff_lt-mul}
 use Rattle.std.proofs.lemmas.Map.Keys.{any_passes_from_place}
 use Rattle.hl_model.specs.declared.step.Step.{Step}
 use Rattle.hl_model.specs.Lists.{greatest}
-use Rattle.hl_model.specs.Offsets.{head}
 use Rattle.hl_model.specs.Pages.{flushes, flushes_below, flushed_run, is_complete, is_flushed}
-use Rattle.hl_model.specs.Replies.{IsAccepted}
 use Rattle.hl_model.specs.Sizes.{Sizes}
 use Rattle.hl_laws.proofs.PageFacts.{head-le-flushed}
 use Rattle.hl_laws.proofs.RunLaws.{run_passes}
 use Rattle.hl_history.specs.declared.view.Entry.{Entry}
-use Rattle.hl_history.specs.Lists.{IsOneList}
 use Rattle.hl_words.specs.States.{RiderState}
 use Rattle.hl_crew.specs.Riders.{has_flushed}
 use Rattle.hl_images.proofs.WordLaws.{entered_call, whose_calls}
@@ -43,7 +40,7 @@ evicted_were_flushed sizes list riders a accepted one less =
     let early : page < flushed_run sizes list = page_within a sizes.page_size (flushed_run sizes list) (omega (arith, less, head-le-flushed sizes list accepted)) in
     let step = passes_at (flushes page) list (flushed_early sizes list page early) in
     let call = entered_call list (map (λ (r : RiderState). r.calls) riders) one step.0 step.1 step.2 in
-    let rider = whose_calls riders call.diary call.calls call.diary_at in
+    let rider = whose_calls riders call.whose call.calls call.record_at in
     let inside : list_any (flushes page) call.call.steps ≡ true = any_passes_from_place (flushes page) call.call.steps call.step step.1 call.step_at step.3 in
     let told : has_flushed page call.calls ≡ true = any_passes_from_place (λ (e : Entry). list_any (flushes page) e.steps) call.calls call.number call.call call.call_at inside in
-    (call.diary, rider.0, rider.1, subst (λ calls. has_flushed page calls ≡ true) (sym rider.2) told)
+    (call.whose, rider.0, rider.1, subst (λ calls. has_flushed page calls ≡ true) (sym rider.2) told)

@@ -11,10 +11,10 @@ use Rattle.hl.specs.declared.finished.Finished.{Finished}
 use Rattle.hl.specs.declared.memory.MemoryDevice.{MemoryDevice}
 use Rattle.hl.specs.declared.opening.Opening.{Opening}
 use Rattle.hl.specs.Closings.{CountReturned, AreCountReturned, AreLeft}
-use Rattle.hl.specs.Finishes.{AreFinished, IsFinish, IsFirstFault, IsNoFinish, IsUnfinished}
+use Rattle.hl.specs.LastSession.{AreFinished, IsFinish, IsFirstFault, IsNoFinish, IsUnfinished}
 use Rattle.hl.specs.Openings.{opened_as}
 use Rattle.hl.specs.Sessions.{SessionState}
-use Rattle.hl.proofs.OutLaws.{all_of_same, left_without}
+use Rattle.hl.proofs.OutLaws.{left_without}
 
 -- the element behind a list, and the list, are those of another that is the same
 snoc_same : {X : Type 0} (xs ys : List X) (x y : X) → xs ++ x ∷ [] ≡ ys ++ y ∷ [] → (xs ≡ ys) × (x ≡ y)
@@ -35,46 +35,49 @@ last_new (suc n) rest last parts =
     let count : n ≡ length rest = sym (new_long n) ∙ ap length both.0 in
     (omega (arith, count), sym both.0 ∙ ap new_riders count, sym both.1 ∙ ap new_rider count)
 
-module _ {Out : Type 0} (F : Type 0) (o : Opening Sizes) (log : DomainState) (Returns : ℕ → SessionState → SessionState → Out → Type 0) (Took : ℕ → List ℕ → Type 0) (Finishes : SessionState → SessionState → Out → Type 0)
-    (same : log ≡ opened_as o) (rest : List RiderState) (last : RiderState) (parts : new_riders o.riders ≡ rest ++ last ∷ []) (device : Option MemoryDevice) (none : is_some device ≡ false) (riders : List RiderState) where
-  -- what the threads left
-  returned_of : (outs : Result (Vec (Result Out Fault) Global) Fault) → AreLeft F log Returns Took (length rest) (outs, device) riders → AreCountReturned F (opened_as o) Returns Took (length rest) outs riders
-  returned_of outs left = all_of_same F log (opened_as o) Returns Took (length rest) (length rest) outs riders same refl (left_without F log Returns Took (length rest) outs device riders none left)
+-- the threads of a log of this opening left this: their riders and the last one were all riders, each of them new
+pub record ThreadsLeft {Out : Type 0} (F : Type 0) (o : Opening Sizes) (Returns : ℕ → SessionState → SessionState → Out → Type 0) (Took : ℕ → List ℕ → Type 0)
+    (log : DomainState) (rest : List RiderState) (last : RiderState) (riders : List RiderState) (outs : Result (Vec (Result Out Fault) Global) Fault) : Type 0 where
+  pub same : log ≡ opened_as o
+  pub others : length rest + 1 ≡ o.riders
+  pub last_is : last ≡ new_rider (length rest)
+  pub returned : AreCountReturned F (opened_as o) Returns Took (length rest) outs riders
+
+pub threads_left : {Out : Type 0} (F : Type 0) (o : Opening Sizes) (Returns : ℕ → SessionState → SessionState → Out → Type 0) (Took : ℕ → List ℕ → Type 0) {log : DomainState} {rest : List RiderState} {last : RiderState} {riders : List RiderState} {outs : Result (Vec (Result Out Fault) Global) Fault} (device : Option MemoryDevice)
+    → log ≡ opened_as o → new_riders o.riders ≡ rest ++ last ∷ [] → is_some device ≡ false → AreLeft F log Returns Took (length rest) (outs, device) riders → ThreadsLeft F o Returns Took log rest last riders outs
+threads_left F o Returns Took {log} {rest} {last} {riders} {outs} device same parts none left =
+    let new = last_new o.riders rest last parts in
+    record { same = same; others = new.0; last_is = new.2; returned = subst (λ l. AreCountReturned F l Returns Took (length rest) outs riders) same (left_without F log Returns Took (length rest) outs device riders none left) }
+
+module _ {Out : Type 0} {F : Type 0} {o : Opening Sizes} {Returns : ℕ → SessionState → SessionState → Out → Type 0} {Took : ℕ → List ℕ → Type 0} {log : DomainState} {rest : List RiderState} {last : RiderState} {riders : List RiderState} {outs : Result (Vec (Result Out Fault) Global) Fault}
+    (t : ThreadsLeft F o Returns Took log rest last riders outs) {v : Vec (Result Out Fault) Global} (is : outs ≡ Ok v) where
+  returned : CountReturned F (opened_as o) Returns Took (length rest) v.items riders
+  returned = subst (λ r. AreCountReturned F (opened_as o) Returns Took (length rest) r riders) is t.returned
 
   -- with the last one the riders are all
-  pub all_there : (v : Vec (Result Out Fault) Global) → AreLeft F log Returns Took (length rest) (Ok v, device) riders → length riders + 1 ≡ log.riders
-  all_there v left =
-      let back = (returned_of (Ok v) left).back in
-      let count = (last_new o.riders rest last parts).0 in
-      ap (λ n. n + 1) back ∙ count ∙ sym (ap (λ (l : DomainState). l.riders) same)
+  pub all_there : length riders + 1 ≡ log.riders
+  all_there = ap (λ n. n + 1) returned.back ∙ t.others ∙ sym (ap (λ (l : DomainState). l.riders) t.same)
 
-  pub refused_memory : (fault : Fault) → AreLeft F log Returns Took (length rest) (Err fault, device) riders → IsUnfinished F o Returns Took Finishes fault
-  refused_memory fault left = inl (returned_of (Err fault) left)
+  pub refused_thread : (Finishes : SessionState → SessionState → Out → Type 0) (fault : Fault) → (fault ≡ OutOfMemory) ⊎ IsFirstFault v.items fault → IsUnfinished F o Returns Took Finishes fault
+  refused_thread Finishes fault (inl memory) = inl memory
+  refused_thread Finishes fault (inr first) = inr (inl (record { count = length rest; others = t.others; outs = v.items; riders = riders; returned = returned; first = first }))
 
-  pub refused_thread : (v : Vec (Result Out Fault) Global) (fault : Fault) → AreLeft F log Returns Took (length rest) (Ok v, device) riders → (fault ≡ OutOfMemory) ⊎ IsFirstFault v.items fault → IsUnfinished F o Returns Took Finishes fault
-  refused_thread v fault left (inl memory) = inl memory
-  refused_thread v fault left (inr first) = inr (inl (record { count = length rest; others = (last_new o.riders rest last parts).0; outs = v.items; riders = riders; returned = returned_of (Ok v) left; first = first }))
-
-  pub finished_or : (v : Vec (Result Out Fault) Global) (all : Vec Out Global) (result : Result (Finished Out F) Fault) → AreLeft F log Returns Took (length rest) (Ok v, device) riders → v.items ≡ map (λ out. Ok out) all.items
+  pub finished_or : (Finishes : SessionState → SessionState → Out → Type 0) (all : Vec Out Global) (result : Result (Finished Out F) Fault) → v.items ≡ map (λ out. Ok out) all.items
       → MatchResult result (λ finished. (finished.outs ≡ all) × IsFinish F log Finishes riders last finished) (λ fault. (fault ≡ OutOfMemory) ⊎ IsNoFinish F log Finishes last fault)
       → MatchResult result (AreFinished F o Returns Took Finishes) (IsUnfinished F o Returns Took Finishes)
-  finished_or v all (Ok finished) left are (outs, finish) =
-      let new = last_new o.riders rest last parts in
-      record {
-        count = length rest;
-        others = new.0;
-        riders = riders;
-        returned = subst (λ l. CountReturned F (opened_as o) Returns Took (length rest) l riders) (are ∙ ap (λ (w : Vec Out Global). map (λ out. Ok out) w.items) (sym outs)) (returned_of (Ok v) left);
-        finish = subst₂ (λ (l : DomainState) (r : RiderState). IsFinish F l Finishes riders r finished) same new.2 finish;
-      }
-  finished_or v all (Err fault) left are (inl memory) = inl memory
-  finished_or v all (Err fault) left are (inr failed) =
-      let new = last_new o.riders rest last parts in
-      inr (inr (record {
-        count = length rest;
-        others = new.0;
-        outs = all.items;
-        riders = riders;
-        returned = subst (λ l. CountReturned F (opened_as o) Returns Took (length rest) l riders) are (returned_of (Ok v) left);
-        failed = subst₂ (λ (l : DomainState) (r : RiderState). IsNoFinish F l Finishes r fault) same new.2 failed;
-      }))
+  finished_or Finishes all (Ok finished) are (outs, finish) = record {
+    count = length rest;
+    others = t.others;
+    riders = riders;
+    returned = subst (λ l. CountReturned F (opened_as o) Returns Took (length rest) l riders) (are ∙ ap (λ (w : Vec Out Global). map (λ out. Ok out) w.items) (sym outs)) returned;
+    finish = subst₂ (λ (l : DomainState) (r : RiderState). IsFinish F l Finishes riders r finished) t.same t.last_is finish;
+  }
+  finished_or Finishes all (Err fault) are (inl memory) = inl memory
+  finished_or Finishes all (Err fault) are (inr failed) = inr (inr (record {
+    count = length rest;
+    others = t.others;
+    outs = all.items;
+    riders = riders;
+    returned = subst (λ l. CountReturned F (opened_as o) Returns Took (length rest) l riders) are returned;
+    failed = subst₂ (λ (l : DomainState) (r : RiderState). IsNoFinish F l Finishes r fault) t.same t.last_is failed;
+  }))

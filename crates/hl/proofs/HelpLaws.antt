@@ -1,8 +1,7 @@
 -- Rounds of help: what is tried again, and that a rider's calls stay.
-use Rattle.std.proofs.Common.{◌≡◌, ℕ, zero, suc, ◌+◌, Bool, true, false, List, [], ◌∷◌, ◌++◌, length, refl, sym, ap, ◌∙◌, subst, append_assoc, append-nil, add-one, inl, inr}
+use Rattle.std.proofs.Common.{◌≡◌, ℕ, Bool, true, false, List, [], ◌∷◌, ◌++◌, refl, sym, ap, ◌∙◌, subst, append_assoc, append-nil, inl, inr}
 use Rattle.std.specs.Prelude.{Result, Ok, Err, MatchResult}
 use Rattle.hl_model.specs.declared.fault.Fault.{Fault}
-use Rattle.hl_model.specs.declared.fault.Fault.TheVariants.{JournalFull}
 use Rattle.hl_model.specs.declared.step.Reply.{Reply}
 use Rattle.hl_model.specs.declared.step.Step.{Step}
 use Rattle.hl_model.specs.declared.step.Step.TheVariants.{Refresh, Take, Done}
@@ -13,21 +12,14 @@ use Rattle.hl_action.specs.declared.ran.Outcome.{Outcome}
 use Rattle.hl_history.specs.declared.view.Entry.{Entry}
 use Rattle.hl_history.specs.Lists.{entry}
 use Rattle.hl_words.specs.States.{RiderState}
-use Rattle.hl_keeper.specs.Keepers.{KeeperState, KeeperStands}
+use Rattle.hl_keeper.specs.Keepers.{KeeperState}
 use Rattle.hl_keeper.specs.Passes.{PassRecord, with_rider}
-use Rattle.hl_domain.specs.Domains.{DomainState, Call, no_step, LeavesUnderLock, Refreshed}
-use Rattle.hl_crew.specs.Cutting.{CutsJournal}
-use Rattle.hl_crew.specs.Overs.{is_full}
-use Rattle.hl_crew.specs.Tries.{EndsAction}
+use Rattle.hl_domain.specs.Domains.{DomainState, Call, LeavesUnderLock, Refreshed}
+use Rattle.hl_crew.specs.Goes.{Followed}
+use Rattle.hl_crew.specs.Tries.{EndsAction, TriesAgain, Tries}
+use Rattle.hl_crew.proofs.RepeatLaws.{followed_holds}
 use Rattle.hl.specs.Records.{entered_steps}
-use Rattle.hl.specs.Sessions.{SessionState, with_pass, KeepsAllButRider}
-use Rattle.hl.specs.Helps.{WasRun, Takes, AreVainDones, Finishes, TakesAndEnds, RunsOldest, Helps, AreOfHelp, Enters}
-
--- a done more that was refused, and the cut after it
-pub vain_done : (F : Type 0) (log : DomainState) (ran : Outcome) (n : ℕ) (old mid refused new : RiderState)
-    → AreVainDones F log ran n old mid → EndsAction F log ran.origin ran.ticket (Err JournalFull) mid refused → CutsJournal F log refused new
-    → AreVainDones F log ran (n + 1) old new
-vain_done F log ran n old mid refused new before ends cuts = rw add-one (mid, refused, before, ends, cuts)
+use Rattle.hl.specs.Helps.{WasRun, Takes, TakesAndEnds, RunsOldest, Helps, AreOfHelp, Enters}
 
 -- a rider has its calls, and maybe more
 abbrev pub Grew : RiderState → RiderState → Type 0
@@ -45,17 +37,16 @@ pub grew_call : {F : Type 0} {log : DomainState} (call : Call) (Holds : KeeperSt
 grew_call call Holds left = (entry left.list (call.steps left.list) ∷ [], ap (λ (r : RiderState). r.calls) left.entered)
 
 module _ (F : Type 0) (log : DomainState) where
-  grew_vain : (ran : Outcome) (n : ℕ) (old new : RiderState) → AreVainDones F log ran n old new → Grew old new
-  grew_vain ran zero old new same = grew_same old new same
-  grew_vain ran (suc n) old new (mid, refused, before, ends, cuts) =
-      grew_then old mid new (grew_vain ran n old mid before) (grew_then mid refused new (grew_call _ _ ends) (grew_call _ _ cuts))
-
-  grew_finishes : (ran : Outcome) (result : Result Reply Fault) (old new : RiderState) → Finishes F log ran result old new → Grew old new
-  grew_finishes ran result old new f = grew_then old f.last new (grew_vain ran f.vain old f.last f.before) (grew_call _ _ f.answer)
+  grew_tries : (ran : Outcome) (result : Result Reply Fault) (old new : RiderState) → Tries F log true (EndsAction F log ran.origin ran.ticket) result old new → Grew old new
+  grew_tries ran result old new t =
+      grew_then old t.last new (followed_holds Grew grew_same grew_then (TriesAgain F log true (EndsAction F log ran.origin ran.ticket)) again t.before old t.last t.again) (grew_call _ _ t.answered)
+    where
+      again : (i : ℕ) (next : Result Bool Fault) (old new : RiderState) → TriesAgain F log true (EndsAction F log ran.origin ran.ticket) i next old new → Grew old new
+      again i next old new (refused, ends, may, cuts) = grew_then old refused new (grew_call _ _ ends) (grew_call _ _ cuts)
 
   module _ (gives : F → FiringRecord → ℕ → Type 0) (keeps : ℕ → FiringRecord → ℕ → Type 0) where
     grew_ends : (result : Result Reply Fault) (old new : RiderState) → TakesAndEnds F log gives keeps result old new → Grew old new
-    grew_ends result old new t = grew_then old t.taken new (grew_call _ _ t.takes) (grew_finishes t.ran result t.taken new t.ends)
+    grew_ends result old new t = grew_then old t.taken new (grew_call _ _ t.takes) (grew_tries t.ran result t.taken new t.ends)
 
     pub grew_runs : (result : Result Bool Fault) (old new : RiderState) → RunsOldest F log gives keeps result old new → Grew old new
     grew_runs (Ok true) old new (reply, ends) = grew_ends (Ok reply) old new ends
@@ -76,10 +67,14 @@ entered_by_call : {F : Type 0} {log : DomainState} (call : Call) (Holds : Keeper
 entered_by_call call Holds left = ap (λ (r : RiderState). entered_steps r.calls) left.entered
 
 module _ (F : Type 0) (log : DomainState) where
-  vain_enter : (ran : Outcome) (n : ℕ) (old new : RiderState) → AreVainDones F log ran n old new → entered_steps new.calls ≡ entered_steps old.calls
-  vain_enter ran zero old new same = ap (λ (r : RiderState). entered_steps r.calls) same
-  vain_enter ran (suc n) old new (mid, refused, before, ends, cuts) =
-      entered_by_call _ _ cuts ∙ append-nil (entered_steps refused.calls) ∙ entered_by_call _ _ ends ∙ append-nil (entered_steps mid.calls) ∙ vain_enter ran n old mid before
+  abbrev EntersNone : RiderState → RiderState → Type 0
+  EntersNone old new = entered_steps new.calls ≡ entered_steps old.calls
+
+  tries_enter : (ran : Outcome) (n : ℕ) (old new : RiderState) → Followed (TriesAgain F log true (EndsAction F log ran.origin ran.ticket)) n old new → EntersNone old new
+  tries_enter ran = followed_holds EntersNone (λ old new same. ap (λ (r : RiderState). entered_steps r.calls) same) (λ old mid new first second. second ∙ first) (TriesAgain F log true (EndsAction F log ran.origin ran.ticket)) again
+    where
+      again : (i : ℕ) (next : Result Bool Fault) (old new : RiderState) → TriesAgain F log true (EndsAction F log ran.origin ran.ticket) i next old new → EntersNone old new
+      again i next old new (refused, ends, may, cuts) = entered_by_call _ _ cuts ∙ append-nil (entered_steps refused.calls) ∙ entered_by_call _ _ ends ∙ append-nil (entered_steps old.calls)
 
   module _ (gives : F → FiringRecord → ℕ → Type 0) (keeps : ℕ → FiringRecord → ℕ → Type 0) where
     runs_enter : (did : Bool) (old new : RiderState) → RunsOldest F log gives keeps (Ok did) old new
@@ -87,7 +82,7 @@ module _ (F : Type 0) (log : DomainState) where
     runs_enter true old new (reply, t) = (
       Take ∷ Done t.ran.ticket ∷ [],
       (t.ran.ticket, refl),
-      entered_by_call _ _ t.ends.answer ∙ ap (λ l. l ++ Done t.ran.ticket ∷ []) (vain_enter t.ran t.ends.vain t.taken t.ends.last t.ends.before ∙ entered_by_call _ _ t.takes)
+      entered_by_call _ _ t.ends.answered ∙ ap (λ l. l ++ Done t.ran.ticket ∷ []) (tries_enter t.ran t.ends.before t.taken t.ends.last t.ends.again ∙ entered_by_call _ _ t.takes)
           ∙ append_assoc (entered_steps old.calls) (Take ∷ []) (Done t.ran.ticket ∷ []),
     )
     runs_enter false old new (fault, none) = ([], refl, entered_by_call _ _ none.0)
@@ -106,40 +101,10 @@ module _ (F : Type 0) (log : DomainState) where
         → Refreshed F log mid new (Ok view) → Helps F log gives keeps (Ok did) old new
     helped did old mid new view runs same refreshed = (mid.rider, view, runs, subst (λ p. Refreshed F log p new (Ok view)) same refreshed)
 
-    -- one of which the refresh was refused
-    pub refresh_refused : (did : Bool) (fault : Fault) (old mid new : PassRecord) → RunsOldest F log gives keeps (Ok did) old.rider mid.rider → mid ≡ with_rider mid.rider old
-        → Refreshed F log mid new (Err fault) → Helps F log gives keeps (Err fault) old new
-    refresh_refused did fault old mid new runs same refreshed = inr (did, mid.rider, runs, subst (λ p. Refreshed F log p new (Err fault)) same refreshed)
-
--- a session that twice kept all but its rider
-pub kept_then : (old mid new : SessionState) → KeepsAllButRider old mid → KeepsAllButRider mid new → KeepsAllButRider old new
-kept_then old mid new first second = second ∙ ap (λ (s : SessionState). with_pass (with_rider new.pass.rider s.pass) s) first
-
--- a session's cut
-pub cut_made : {F : Type 0} (log : DomainState) (count : ℕ) (old new : RiderState) → LeavesUnderLock F log (no_step old new) (λ before after. (count ≡ length before.journal)
-    × (after.journal ≡ []) × (after.cut ≡ before.cut + length before.journal) × (after.core ≡ before.core) × (after.limit ≡ before.limit)
-    × ((A : List Step) → KeeperStands before A → KeeperStands after A)) → CutsJournal F log old new
-cut_made log count old new left = record {
-  list = left.list;
-  before = left.before;
-  after = left.after;
-  met = left.met;
-  left = left.left;
-  entered = left.entered;
-  rises = left.rises;
-  holds = (left.holds.1, left.holds.2, left.holds.3);
-}
-
--- another refusal than that of a full journal
-pub is_another : (fault : Fault) → is_full fault ≡ false → fault ≡ JournalFull → ⊥
-is_another fault none same =
-    let full : is_full fault ≡ true = ap is_full same in
-    absurd cc
-
 module _ (F : Type 0) (log : DomainState) (gives : F → FiringRecord → ℕ → Type 0) (keeps : ℕ → FiringRecord → ℕ → Type 0) where
   -- an action was taken and run, and answered done or not
   pub runs_it : (ready : ReadyRecord F) (ran : Outcome) (old taken new : RiderState) (result : Result Bool Fault) (answer : Result Reply Fault) → Takes F log (Ok ready) old taken → WasRun gives keeps ready ran
-      → Finishes F log ran answer taken new → MatchResult answer (λ _. result ≡ Ok true) (λ fault. result ≡ Err fault) → RunsOldest F log gives keeps result old new
+      → Tries F log true (EndsAction F log ran.origin ran.ticket) answer taken new → MatchResult answer (λ _. result ≡ Ok true) (λ fault. result ≡ Err fault) → RunsOldest F log gives keeps result old new
   runs_it ready ran old taken new result (Ok reply) takes run ends is =
       subst (λ r. RunsOldest F log gives keeps r old new) (sym is) (reply, record { ready = ready; taken = taken; takes = takes; ran = ran; was_run = run; ends = ends })
   runs_it ready ran old taken new result (Err fault) takes run ends is =

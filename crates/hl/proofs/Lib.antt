@@ -1,4 +1,5 @@
 pub mod ConfigLaws
+pub mod DoneLaws
 pub mod EvictedLaws
 pub mod FinishLaws
 pub mod HelpLaws

@@ -3,7 +3,7 @@ use Rattle.std.proofs.Common.{◌≡◌, ℕ, zero, suc, ◌+◌, ◌-◌, ◌<�
 use Rattle.std.specs.Prelude.{nat_lt, drop, is_some, IfSome}
 use Rattle.std.specs.List.{AllByRecursion}
 use Rattle.std.proofs.Common.{Global}
-use Rattle.std.proofs.lemmas.List.{get_or-map, get_or_append_left, get_or-append_right, length-map, length-append}
+use Rattle.std.proofs.lemmas.List.{drop_at, get_or-map, get_or_append_left, get_or-append_right, length-map, length-append}
 use Rattle.std.specs.Iterator.Runs.{CollectsByExtend}
 use Rattle.std.specs.Fn.{FnReturns}
 use Rattle.std.specs.Fork.{GivesJobs}
@@ -11,17 +11,17 @@ use Rattle.std.specs.declared.alloc.AllocError.{AllocError}
 use denote.Param.Members.{Shared}
 use Rattle.hl_model.specs.declared.fault.Fault.{Fault}
 use Rattle.hl_model.specs.declared.fault.Fault.TheVariants.{OutOfMemory}
+use Rattle.hl_model.proofs.ListLaws.{all-append}
+use Rattle.hl_history.proofs.Calls.{every_back}
 use Rattle.hl_words.specs.States.{RiderState, new_rider, new_riders}
 use Rattle.hl_words.proofs.Dealing.{new_long}
 use Rattle.hl_domain.specs.Domains.{DomainState}
 use Rattle.hl_model.specs.Sizes.{Sizes}
 use Rattle.hl_image.specs.Pages.{Pages, image_at}
 use Rattle.hl_images.specs.Sweeps.{StoresSweep}
-use Rattle.hl_crew.specs.Riders.{has_flushed, AreImaged, FlushesNone, StoreSweeps}
-use Rattle.hl.specs.declared.crew.CrewRiders.{CrewRiders}
+use Rattle.hl_crew.specs.declared.crew.Crew.{Crew}
+use Rattle.hl_crew.specs.Riders.{AreImaged, FlushesNone, StoreSweeps, riders_of}
 use Rattle.hl.specs.declared.memory.MemoryDevice.{MemoryDevice}
-use Rattle.hl.specs.declared.refused.Refused.{Refused}
-use Rattle.hl.specs.Crews.{riders_of}
 use Rattle.hl.specs.Devices.{device_has, has_page, on_memory}
 use Rattle.hl.specs.Sessions.{SessionState}
 use Rattle.hl.specs.Closings.{rider_at, Tells, AreReturned, FlushesTaken, CountReturned, AreCountReturned, AreAllReturned, AreLeft}
@@ -57,22 +57,14 @@ new_at (suc n) i none within = by_test (new_at n i none) (nat_lt i n) refl
 pub all_new : (n : ℕ) (all : List RiderState) → all ≡ new_riders n → (length all ≡ n) × (all ≡ new_riders (length all))
 all_new n all new = let long : length all ≡ n = ap length new ∙ new_long n in (long, new ∙ ap new_riders (sym long))
 
--- what holds of two rows holds of the one behind the other, and of the second alone
-both_all : (P : RiderState → Type 0) (xs ys : List RiderState) → AllByRecursion P xs → AllByRecursion P ys → AllByRecursion P (xs ++ ys)
-both_all P [] ys all others = others
-both_all P (x ∷ xs) ys all others = (all.0, both_all P xs ys all.1 others)
-
-last_all : (P : RiderState → Type 0) (xs ys : List RiderState) → AllByRecursion P (xs ++ ys) → AllByRecursion P ys
-last_all P [] ys all = all
-last_all P (x ∷ xs) ys all = last_all P xs ys all.1
-
+-- what holds of each new rider holds of all
 news_all : (P : RiderState → Type 0) → ((name : ℕ) → P (new_rider name)) → (n : ℕ) → AllByRecursion P (new_riders n)
 news_all P each zero = tt
-news_all P each (suc n) = both_all P (new_riders n) (new_rider n ∷ []) (news_all P each n) (each n, tt)
+news_all P each (suc n) = all-append P (new_riders n) (new_rider n ∷ []) (news_all P each n) (each n, tt)
 
 -- what holds of new riders holds of those of a crew that were taken out of new ones
 pub crew_given : (P : RiderState → Type 0) → ((name : ℕ) → P (new_rider name)) → (n : ℕ) (all olds crew : List RiderState) → all ≡ new_riders n → all ≡ olds ++ crew → AllByRecursion P crew
-crew_given P each n all olds crew new parts = last_all P olds crew (subst (AllByRecursion P) (sym new ∙ parts) (news_all P each n))
+crew_given P each n all olds crew new parts = every_back P olds crew (subst (AllByRecursion P) (sym new ∙ parts) (news_all P each n))
 
 -- a new rider stored nothing, and flushed nothing
 pub new_sweeps : (sizes : Sizes) (name : ℕ) → StoresSweep sizes (new_rider name)
@@ -85,22 +77,15 @@ new_flushes name page = refl
 none_taken : (Took : ℕ → List ℕ → Type 0) (sizes : Sizes) (r : RiderState) → FlushesNone r → FlushesTaken Took sizes r
 none_taken Took sizes r none page flushed = absurd (let contrary : false ≡ true = sym (none page) ∙ flushed in cc)
 
-pub crew_taken : {L W : Type 0} (has : W → ℕ → List ℕ → Type 0) (Took : ℕ → List ℕ → Type 0) (sizes : Sizes) (crew : CrewRiders L) (v w : W) → ((page : ℕ) (bytes : List ℕ) → has v page bytes → Took page bytes) → ((page : ℕ) (bytes : List ℕ) → has w page bytes → Took page bytes)
-    → AreImaged has sizes (riders_of crew) (v ∷ w ∷ []) → AllByRecursion (FlushesTaken Took sizes) (riders_of crew)
-crew_taken has Took sizes crew v w first second are = (
-  none_taken Took sizes crew.flusher are.0,
+pub crew_taken : {L W : Type 0} (has : W → ℕ → List ℕ → Type 0) (Took : ℕ → List ℕ → Type 0) (sizes : Sizes) (crew : Crew L W) → ((page : ℕ) (bytes : List ℕ) → has crew.first page bytes → Took page bytes) → ((page : ℕ) (bytes : List ℕ) → has crew.second page bytes → Took page bytes)
+    → AreImaged has sizes crew → AllByRecursion (FlushesTaken Took sizes) (riders_of crew.riders)
+crew_taken has Took sizes crew first second are = (
+  none_taken Took sizes crew.riders.flusher are.flusher,
   (
-    λ page flushed. let one = are.1 page flushed in (one.0, first page _ one.1, one.2),
-    (λ page flushed. let one = are.2 page flushed in (one.0, second page _ one.1, one.2), (none_taken Took sizes crew.cleaner are.3, tt)),
+    λ page flushed. let one = are.first page flushed in (one.0, first page _ one.1, one.2),
+    (λ page flushed. let one = are.second page flushed in (one.0, second page _ one.1, one.2), (none_taken Took sizes crew.riders.cleaner are.cleaner, tt)),
   ),
 )
-
--- what is behind the first of two rows
-behind : (n : ℕ) (xs ys : List RiderState) → n ≡ length xs → drop n (xs ++ ys) ≡ ys
-behind zero [] ys is = refl
-behind zero (x ∷ xs) ys is = absurd (omega (arith, is))
-behind (suc n) [] ys is = absurd (omega (arith, is))
-behind (suc n) (x ∷ xs) ys is = behind n xs ys (omega (arith, is))
 
 -- of threads of one log, of whose sessions so much holds
 module _ {Out : Type 0} (F : Type 0) (log : DomainState) (Returns : ℕ → SessionState → SessionState → Out → Type 0) where
@@ -137,7 +122,7 @@ module _ {Out : Type 0} (F : Type 0) (log : DomainState) (Returns : ℕ → Sess
       → StoreSweeps log.sizes back → AllByRecursion (FlushesTaken Took log.sizes) back → AreReturned F log Returns (rider_at olds) outs news → CountReturned F log Returns Took total outs (news ++ back)
   with_crew Took total all olds crew outs news back new parts long many four others sweeps taken each =
       let count : length olds + 4 ≡ total = omega (arith, ap length parts, length-append olds crew, four, ap length new, new_long total) in
-      let crews : drop (length outs) (news ++ back) ≡ back = behind (length outs) news back (long ∙ sym many) in
+      let crews : drop (length outs) (news ++ back) ≡ back = drop_at news back (length outs) (many ∙ sym long) in
       record {
         back = length-append news back ∙ omega (arith, count, others, many);
         threads = omega (arith, count, long);
@@ -164,17 +149,6 @@ gathered F log Returns Took total (Err refused) (Err fault) returned riders told
 pub all_of_same : {Out : Type 0} (F : Type 0) (log other : DomainState) (Returns : ℕ → SessionState → SessionState → Out → Type 0) (Took : ℕ → List ℕ → Type 0) (total many : ℕ) (outs : Result (Vec (Result Out Fault) Global) Fault) (riders : List RiderState) → log ≡ other → total ≡ many → AreCountReturned F log Returns Took total outs riders → AreCountReturned F other Returns Took many outs riders
 all_of_same F log other Returns Took total many outs riders same count known = subst₂ (λ l n. AreCountReturned F l Returns Took n outs riders) same count known
 
--- what holds of pages that are on devices holds of those that a crew was given and handed back
-pub moved : {W : Type 0} (has : W → ℕ → List ℕ → Type 0) (sizes : Sizes) (riders others : List RiderState) (first second one two : W) → others ≡ riders → one ≡ first → two ≡ second → AreImaged has sizes riders (first ∷ second ∷ []) → AreImaged has sizes others (one ∷ two ∷ [])
-moved {W} has sizes riders others first second one two same is_first is_second are =
-    subst (λ (rs : List RiderState). AreImaged has sizes rs (one ∷ two ∷ [])) (sym same)
-    (subst (λ (w : W). AreImaged has sizes riders (w ∷ two ∷ [])) (sym is_first) (subst (λ (w : W). AreImaged has sizes riders (first ∷ w ∷ [])) (sym is_second) are))
-
--- a crew that was refused for memory tells so
-pub served_or_memory : {E B S : Type 0} (end : Result E (Refused B)) (told : Result S Fault) (of : E → S) → MatchResult end (λ e. told ≡ Ok (of e)) (λ refused. told ≡ Err refused.fault) → IfErr end (λ refused. refused.fault ≡ OutOfMemory) → IfErr told (λ fault. fault ≡ OutOfMemory)
-served_or_memory (Ok e) told of is memory = subst (λ t. IfErr t (λ fault. fault ≡ OutOfMemory)) (sym is) tt
-served_or_memory (Err refused) told of is memory = subst (λ t. IfErr t (λ fault. fault ≡ OutOfMemory)) (sym is) memory
-
 -- what is left without a device in memory, and with one
 pub left_without : {Out : Type 0} (F : Type 0) (log : DomainState) (Returns : ℕ → SessionState → SessionState → Out → Type 0) (Took : ℕ → List ℕ → Type 0) (total : ℕ) (outs : Result (Vec (Result Out Fault) Global) Fault) (device : Option MemoryDevice) (riders : List RiderState)
     → is_some device ≡ false → AreLeft F log Returns Took total (outs, device) riders → AreCountReturned F log Returns Took total outs riders
@@ -186,23 +160,18 @@ pub left_with : {Out : Type 0} (F : Type 0) (log : DomainState) (Returns : ℕ �
 left_with F log Returns Took outs device d riders is left = subst (λ (o : Option MemoryDevice). AreAllReturned F log Returns (device_has Took o) outs riders) is left
 
 -- the pages that a crew flushed by page writers of one kind, of which this is left
-pub sinks_taken : {L W P : Type 0} (Took : P → ℕ → List ℕ → Type 0) (work : P) (named : Option P) (memory : W → Option Pages) (sizes : Sizes) (crew : CrewRiders L) (v w : W) (device : Option MemoryDevice)
-    → named ≡ Some work → is_some (memory v) ≡ is_some (memory w) → is_some device ≡ is_some (memory v) → IfSome device (λ d. memory v ≡ Some d.first) → IfSome device (λ d. memory w ≡ Some d.second)
-    → AreImaged (λ sink page bytes. has_page (λ page bytes. IfSome named (λ work. Took work page bytes)) (memory sink) page bytes) sizes (riders_of crew) (v ∷ w ∷ []) → AllByRecursion (FlushesTaken (device_has (Took work) device) sizes) (riders_of crew)
-sinks_taken {L} {W} {P} Took work named memory sizes crew v w device is same kind first second are =
-    crew_taken (λ (sink : W) page bytes. has_page (λ page bytes. IfSome named (λ work. Took work page bytes)) (memory sink) page bytes) (device_has (Took work) device) sizes crew v w (by_first (memory v) device kind first) (by_second (memory w) device (kind ∙ same) second) are
+pub sinks_taken : {L W P : Type 0} (Took : P → ℕ → List ℕ → Type 0) (work : P) (named : Option P) (memory : W → Option Pages) (sizes : Sizes) (crew : Crew L W) (device : Option MemoryDevice)
+    → named ≡ Some work → is_some (memory crew.first) ≡ is_some (memory crew.second) → is_some device ≡ is_some (memory crew.first) → IfSome device (λ d. memory crew.first ≡ Some d.first) → IfSome device (λ d. memory crew.second ≡ Some d.second)
+    → AreImaged (λ sink page bytes. has_page (λ page bytes. IfSome named (λ work. Took work page bytes)) (memory sink) page bytes) sizes crew → AllByRecursion (FlushesTaken (device_has (Took work) device) sizes) (riders_of crew.riders)
+sinks_taken {L} {W} {P} Took work named memory sizes crew device is same kind first second are =
+    crew_taken (λ (sink : W) page bytes. has_page (λ page bytes. IfSome named (λ work. Took work page bytes)) (memory sink) page bytes) (device_has (Took work) device) sizes crew (by (λ d. d.first) (λ d page bytes. inl) (memory crew.first) device kind first) (by (λ d. d.second) (λ d page bytes. inr) (memory crew.second) device (kind ∙ same) second) are
   where
     told : (page : ℕ) (bytes : List ℕ) → IfSome named (λ work. Took work page bytes) → Took work page bytes
     told page bytes there = subst (λ (o : Option P). IfSome o (λ work. Took work page bytes)) is there
 
-    by_first : (m : Option Pages) (device : Option MemoryDevice) → is_some device ≡ is_some m → IfSome device (λ d. m ≡ Some d.first) → (page : ℕ) (bytes : List ℕ) → has_page (λ page bytes. IfSome named (λ work. Took work page bytes)) m page bytes → device_has (Took work) device page bytes
-    by_first None None kind is page bytes there = told page bytes there
-    by_first (Some m) (Some d) kind is page bytes there = let same : m ≡ d.first = cc is in inl (subst (λ (k : Pages). image_at page k ≡ Some bytes) same there)
-    by_first None (Some d) kind is page bytes there = absurd cc
-    by_first (Some m) None kind is page bytes there = absurd cc
-
-    by_second : (m : Option Pages) (device : Option MemoryDevice) → is_some device ≡ is_some m → IfSome device (λ d. m ≡ Some d.second) → (page : ℕ) (bytes : List ℕ) → has_page (λ page bytes. IfSome named (λ work. Took work page bytes)) m page bytes → device_has (Took work) device page bytes
-    by_second None None kind is page bytes there = told page bytes there
-    by_second (Some m) (Some d) kind is page bytes there = let same : m ≡ d.second = cc is in inr (subst (λ (k : Pages). image_at page k ≡ Some bytes) same there)
-    by_second None (Some d) kind is page bytes there = absurd cc
-    by_second (Some m) None kind is page bytes there = absurd cc
+    by : (row : MemoryDevice → Pages) → ((d : MemoryDevice) (page : ℕ) (bytes : List ℕ) → image_at page (row d) ≡ Some bytes → on_memory d page bytes)
+        → (m : Option Pages) (device : Option MemoryDevice) → is_some device ≡ is_some m → IfSome device (λ d. m ≡ Some (row d)) → (page : ℕ) (bytes : List ℕ) → has_page (λ page bytes. IfSome named (λ work. Took work page bytes)) m page bytes → device_has (Took work) device page bytes
+    by row on None None kind is page bytes there = told page bytes there
+    by row on (Some m) (Some d) kind is page bytes there = let same : m ≡ row d = cc is in on d page bytes (subst (λ (k : Pages). image_at page k ≡ Some bytes) same there)
+    by row on None (Some d) kind is page bytes there = absurd cc
+    by row on (Some m) None kind is page bytes there = absurd cc

@@ -1,50 +1,30 @@
 -- What a session stores and loads of a record, word for word.
 use Rattle.std.proofs.Common.{◌≡◌, ℕ, suc, ◌+◌, ◌<◌, ◌≤◌, List, [], ◌∷◌, ◌++◌, length, take, set, get_or, refl, ap, sym, ◌∙◌, subst, arith, append_assoc, append-nil, inl, inr, Some, Ok, Err}
-use Rattle.std.specs.Prelude.{◌-◌, if◌then◌else◌, nat_lt, nat_le, Option, None, Result, MatchResult}
-use Rattle.std.proofs.lemmas.Bool.{lt-ltb, le-ltb, lt-leb}
+use Rattle.std.specs.Prelude.{◌-◌, if◌then◌else◌, nat_le, Option, None, Result, MatchResult}
+use Rattle.std.proofs.lemmas.Bool.{le-ltb, lt-leb}
 use Rattle.std.specs.List.{AllByRecursion as Every}
 use Rattle.std.proofs.Math.Seq.{take-suc, take-suc-set}
 use Rattle.std.proofs.lemmas.List.{length-take}
 use Rattle.hl_model.specs.declared.fault.Fault.{Fault}
 use Rattle.hl_model.specs.declared.step.Step.{Step}
-use Rattle.hl_model.specs.declared.step.Step.TheVariants.{Acquire, Refresh, Release, Bump, Settle, Close, Bare, Take, Done, Raise, Shift, Allocate, Look, Write, Read, FlushTake, FlushDone, CleanTake, CleanDone}
+use Rattle.hl_model.specs.declared.step.Step.TheVariants.{Refresh, Write}
 use Rattle.hl_model.specs.declared.view.View.{View}
 use Rattle.hl_model.specs.Sizes.{Sizes}
 use Rattle.hl_words.specs.declared.view.Touch.{Touch}
 use Rattle.hl_words.specs.declared.view.Touch.TheVariants.{Stored}
 use Rattle.hl_words.specs.States.{RiderState}
-use Rattle.hl_model.specs.declared.fault.Fault.TheVariants.{Below, Beyond, Evicted}
+use Rattle.hl_model.specs.declared.fault.Fault.TheVariants.{Beyond, Evicted}
 use Rattle.hl_model.specs.Replies.{unless_fault, unless_refused}
+use Rattle.hl_model.proofs.ListLaws.{all-append}
 use Rattle.hl_keeper.specs.Passes.{PassRecord, seen, cell_at, store_fault, load_fault, with_store, with_load}
 use Rattle.hl_domain.specs.Domains.{DomainState, Refreshed}
 use Rattle.hl.specs.Sessions.{SessionState, with_pass}
-use Rattle.hl.specs.Records.{row_fault, with_loads, entered_steps, own_steps, writes_in, writes_at, StoresOrRefreshes, stores_in, stored_at, AreStored, RefusesStore, Places, AreInVain}
-
-every_append : {X : Type 0} (P : X → Type 0) (xs ys : List X) → Every P xs → Every P ys → Every P (xs ++ ys)
-every_append P [] ys a b = b
-every_append P (x ∷ xs) ys a b = (a.0, every_append P xs ys a.1 b)
+use Rattle.hl.specs.Records.{with_loads, entered_steps, own_steps, writes_in, writes_at, StoresOrRefreshes, stores_in, stored_at, AreStored, RefusesStore}
 
 writes_in-append : (xs ys : List Step) → writes_in (xs ++ ys) ≡ writes_in xs ++ writes_in ys
 writes_in-append [] ys = refl
 writes_in-append (Write t a v ∷ xs) ys = ap (λ l. Write t a v ∷ l) (writes_in-append xs ys)
-writes_in-append (Acquire t ∷ xs) ys = writes_in-append xs ys
-writes_in-append (Refresh t ∷ xs) ys = writes_in-append xs ys
-writes_in-append (Release t ∷ xs) ys = writes_in-append xs ys
-writes_in-append (Bump tag ∷ xs) ys = writes_in-append xs ys
-writes_in-append (Settle ∷ xs) ys = writes_in-append xs ys
-writes_in-append (Close ∷ xs) ys = writes_in-append xs ys
-writes_in-append (Bare ∷ xs) ys = writes_in-append xs ys
-writes_in-append (Take ∷ xs) ys = writes_in-append xs ys
-writes_in-append (Done c ∷ xs) ys = writes_in-append xs ys
-writes_in-append (Raise x ∷ xs) ys = writes_in-append xs ys
-writes_in-append (Shift x ∷ xs) ys = writes_in-append xs ys
-writes_in-append (Allocate t n ∷ xs) ys = writes_in-append xs ys
-writes_in-append (Look t r h ∷ xs) ys = writes_in-append xs ys
-writes_in-append (Read t a ∷ xs) ys = writes_in-append xs ys
-writes_in-append (FlushTake ∷ xs) ys = writes_in-append xs ys
-writes_in-append (FlushDone p ok ∷ xs) ys = writes_in-append xs ys
-writes_in-append (CleanTake ∷ xs) ys = writes_in-append xs ys
-writes_in-append (CleanDone p ∷ xs) ys = writes_in-append xs ys
+writes_in-append (_ ∷ xs) ys = writes_in-append xs ys
 
 writes_at-append : (t a : ℕ) (xs ys : List ℕ) → writes_at t a (xs ++ ys) ≡ writes_at t a xs ++ writes_at t (a + length xs) ys
 writes_at-append t a [] ys = ap (λ n. writes_at t n ys) (omega arith)
@@ -101,7 +81,7 @@ stored_then sizes a b xs ys p m q at x y = record {
   slot = y.slot ∙ x.slot;
   behind = x.behind ++ y.behind;
   steps = y.steps ∙ ap (λ l. l ++ y.behind) x.steps ∙ append_assoc (own_steps p) x.behind y.behind;
-  kinds = every_append (StoresOrRefreshes p.slot) x.behind y.behind x.kinds (subst (λ t. Every (StoresOrRefreshes t) y.behind) x.slot y.kinds);
+  kinds = all-append (StoresOrRefreshes p.slot) x.behind y.behind x.kinds (subst (λ t. Every (StoresOrRefreshes t) y.behind) x.slot y.kinds);
   writes = writes_in-append x.behind y.behind ∙ ap (λ l. l ++ writes_in y.behind) x.writes
       ∙ ap (λ l. writes_at p.slot a xs ++ l) (y.writes ∙ ap (λ t. writes_at t b ys) x.slot ∙ ap (λ n. writes_at p.slot n ys) at)
       ∙ sym (writes_at-append p.slot a xs ys);
@@ -151,30 +131,7 @@ store_answered F log a v p m q (Some f) r none met answer is =
 pub refresh_refused : (F : Type 0) (log : DomainState) (a : ℕ) (fault : Fault) (p q : PassRecord) → Refreshed F log p q (Err fault) → RefusesStore F log a fault p q
 refresh_refused F log a fault p q r = record { last = p; none = none_stored log.sizes a p p refl; refused = inr r }
 
--- one more try in vain
-pub vain_next : (F : Type 0) (log : DomainState) (words : List ℕ) (p m q : PassRecord) (read_only vain : ℕ) (r : Result ℕ Fault) → AreInVain F log words vain p m → r ≡ Err (Below read_only) → Places F log words m q r → AreInVain F log words (vain + 1) p q
-vain_next F log words p m q read_only vain r before is places =
-    let next : suc vain ≡ vain + 1 = omega arith in
-    subst (λ n. AreInVain F log words n p q) next (m, read_only, before, subst (Places F log words m q) is places)
-
--- when a row is refused, and when it isn't
-pub row_evicted : (p : PassRecord) (a n : ℕ) → a < (seen p).head → row_fault p a n ≡ Some (Evicted (seen p).head)
-unfolding row_fault
-row_evicted p a n less = ap (λ b. if b then Some (Evicted (seen p).head) else (if nat_lt ((seen p).tail - a) n then Some (Beyond (seen p).tail) else None)) (lt-ltb a (seen p).head less)
-
-pub row_beyond : (p : PassRecord) (a n : ℕ) → (seen p).head ≤ a → (seen p).tail - a < n → row_fault p a n ≡ Some (Beyond (seen p).tail)
-unfolding row_fault
-row_beyond p a n head few =
-    ap (λ b. if b then Some (Evicted (seen p).head) else (if nat_lt ((seen p).tail - a) n then Some (Beyond (seen p).tail) else None)) (le-ltb a (seen p).head head)
-    ∙ ap (λ b. if b then Some (Beyond (seen p).tail) else None) (lt-ltb ((seen p).tail - a) n few)
-
-pub row_free : (p : PassRecord) (a n : ℕ) → (seen p).head ≤ a → n ≤ (seen p).tail - a → row_fault p a n ≡ None
-unfolding row_fault
-row_free p a n head many =
-    ap (λ b. if b then Some (Evicted (seen p).head) else (if nat_lt ((seen p).tail - a) n then Some (Beyond (seen p).tail) else None)) (le-ltb a (seen p).head head)
-    ∙ ap (λ b. if b then Some (Beyond (seen p).tail) else None) (le-ltb ((seen p).tail - a) n many)
-
--- each word of such a row may be loaded
+-- each word of a row below the tail may be loaded
 pub load_free : (p m : PassRecord) (a n k : ℕ) → (seen p).head ≤ a → n ≤ (seen p).tail - a → k < n → seen m ≡ seen p → load_fault m (a + k) ≡ None
 unfolding load_fault
 load_free p m a n k head many less same =

@@ -1,18 +1,21 @@
 -- Operations that are tried again.
-use Rattle.std.proofs.Common.{◌≡◌, ℕ, ◌+◌, Bool, true, false, ◌∙◌, add-one, Ok, Err}
-use Rattle.std.specs.Prelude.{Result, IfErr}
+use Rattle.std.proofs.Common.{◌≡◌, ◌≤◌, ℕ, Ok, Err, inr}
+use Rattle.std.specs.Prelude.{◌⊎◌, Bool, Option, None, Result, IfErr}
 use Rattle.hl_model.specs.declared.fault.Fault.{Fault}
-use Rattle.hl.specs.Attempts.{is_curable, AreInVain, TriesInVain}
+use Rattle.hl_crew.specs.Goes.{Followed}
+use Rattle.hl.specs.declared.session.tries.Cure.{Cure}
+use Rattle.hl.specs.Attempts.{Attempts, TriesNext}
 
--- one more try in vain
-pub vain_try : {O S X : Type 0} (Tries : O → S → Result X Fault → O → S → Type 0) (Helps : S → Result Bool Fault → S → Type 0) (n : ℕ) (o : O) (old : S) (m : O) (mid : S) (p : O) (new : S)
-    → AreInVain Tries Helps n o old m mid → TriesInVain Tries Helps m mid p new → AreInVain Tries Helps (n + 1) o old p new
-vain_try Tries Helps n o old m mid p new before one = rw add-one (m, mid, before, one)
+module _ {O S T X : Type 0} (Tries : O → S → Result T X → O → S → Type 0)
+    (Cures : X → Option Cure → Type 0) (Helps : S → Result Bool Fault → S → Type 0) where
+  -- whatever an answer is, all tries were made
+  pub if_all : (r : Result T X) {n again : ℕ} → n ≡ again → IfErr r (λ error. Cures error None ⊎ (n ≡ again))
+  if_all (Ok out) all = tt
+  if_all (Err error) all = inr all
 
-pub is_one_way : (b : Bool) → false ≡ b → b ≡ true → ⊥
-is_one_way b first second = let both : false ≡ true = first ∙ second in absurd cc
-
--- whatever an answer is, all tries were made
-pub if_all : {X : Type 0} (r : Result X Fault) {n again : ℕ} → n ≡ again → IfErr r (λ fault. is_curable fault ≡ true → n ≡ again)
-if_all (Ok x) all = tt
-if_all (Err fault) all = λ curable. all
+  -- the last try, behind those in vain
+  pub last_try : (again n : ℕ) (result : Result T X) (o p q : O) (old last new : S)
+      → n ≤ again → Followed (TriesNext Tries Cures Helps) n (o, old) (p, last) → Tries p last result q new
+      → IfErr result (λ error. Cures error None ⊎ (n ≡ again)) → Attempts Tries Cures Helps again result o old new
+  last_try again n result o p q old last new most before answer all =
+      record { vain = n; most = most; operation = p; last = last; before = before; left = q; answer = answer; all_tried = all }

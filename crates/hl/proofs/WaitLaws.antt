@@ -1,52 +1,42 @@
 -- What follows once the number of a bump is safe.
-use Rattle.std.proofs.Common.{◌≡◌, ℕ, zero, suc, ◌+◌, ◌<◌, ◌≤◌, Bool, true, false, List, [], ◌∷◌, ◌++◌, refl, sym, ap, ◌∙◌, subst, arith, append_assoc}
-use Rattle.std.specs.Prelude.{Option, Some, None, Result, Ok, Err, IfOk}
+use Rattle.std.proofs.Common.{◌≡◌, ℕ, ◌+◌, ◌<◌, ◌≤◌, Bool, true, false, [], ◌∷◌, ◌++◌, refl, sym, ap, ◌∙◌, subst, subst₂, arith, append_assoc}
+use Rattle.std.specs.Prelude.{Some, Result, Ok, Err, IfOk}
 use Rattle.std.specs.List.{list_any, AllByRecursion as Every}
 use Rattle.std.proofs.lemmas.Bool.{true_from_ne_false}
 use Rattle.hl_model.specs.declared.fault.Fault.{Fault}
 use Rattle.hl_model.specs.declared.step.Step.{Step}
-use Rattle.hl_model.specs.declared.step.Step.TheVariants.{Acquire, Refresh, Release, Bump, Settle, Close, Bare, Take, Done, Raise, Shift, Allocate, Look, Write, Read, FlushTake, FlushDone, CleanTake, CleanDone}
+use Rattle.hl_model.specs.declared.step.Step.TheVariants.{Acquire, Refresh, Release, Bare}
 use Rattle.hl_model.specs.Actions.{bumps}
 use Rattle.hl_model.specs.Epochs.{is_bump, enters, leaves, epoch_of, slot_epoch, safe_epoch}
 use Rattle.hl_model.specs.Headline.{moves_on}
-use Rattle.hl_model.specs.Replies.{unless_fault, IsAccepted}
+use Rattle.hl_model.specs.Replies.{IsAccepted}
 use Rattle.hl_action.specs.Firings.{FiringRecord}
 use Rattle.hl_history.specs.declared.view.Entry.{Entry}
 use Rattle.hl_history.specs.Lists.{entry, left_by, Begins}
 use Rattle.hl_words.specs.States.{RiderState}
-use Rattle.hl_keeper.specs.Calls.{Makes}
 use Rattle.hl_keeper.specs.Passes.{PassRecord, with_rider}
-use Rattle.hl_domain.specs.Domains.{DomainState, call_of, MakesUnderLock}
+use Rattle.hl_domain.specs.Domains.{DomainState}
+use Rattle.hl_domain.specs.Riders.{Bares}
 use Rattle.hl_laws.proofs.ActionLaws.{bumps-push, current_epoch-bumps}
 use Rattle.hl_laws.proofs.DrainLaws.{protected-slot}
 use Rattle.hl_laws.proofs.EpochLaws.{slot_epoch-stays, slot_epoch-range, safe_epoch-below}
 use Rattle.hl_laws.proofs.LawProofs.{slot_epoch-protected, keeps_epoch}
+use Rattle.hl_laws.proofs.NoFaultLaws.{unless_ok}
+use Rattle.hl_images.proofs.PlaceLaws.{every_in}
+use Rattle.hl_crew.specs.Goes.{Followed}
+use Rattle.hl_crew.proofs.RepeatLaws.{followed_holds}
 use Rattle.hl.specs.Helps.{Helps}
+use Rattle.hl.specs.Overs.{HelpsOn, LooksAtOver}
 use Rattle.hl.specs.Sessions.{SessionState, KeepsAllButRider}
-use Rattle.hl.specs.Waits.{SafeAfterAllMovedOn, LooksAtSafe, RoundOf, AreRounds, ForAll, Waits}
+use Rattle.hl.specs.Waits.{SafeAfterAllMovedOn, LooksAtSafe, RoundOf, RoundsNext, ForAll, Waits}
 use Rattle.hl.proofs.HelpLaws.{Grew, grew_same, grew_then, grew_call, grew_helps}
 
 -- a bump is no step of a slot
 bump_is_quiet : (t : ℕ) (s : Step) → is_bump s ≡ true → (enters t s ≡ false) × (leaves t s ≡ false)
-bump_is_quiet t (Bump tag) is = (refl, refl)
-bump_is_quiet t Settle is = (refl, refl)
-bump_is_quiet t Close is = (refl, refl)
-bump_is_quiet t Bare is = (refl, refl)
 bump_is_quiet t (Acquire u) is = cc
 bump_is_quiet t (Refresh u) is = cc
 bump_is_quiet t (Release u) is = cc
-bump_is_quiet t Take is = cc
-bump_is_quiet t (Done c) is = cc
-bump_is_quiet t (Raise x) is = cc
-bump_is_quiet t (Shift x) is = cc
-bump_is_quiet t (Allocate u n) is = cc
-bump_is_quiet t (Look u r h) is = cc
-bump_is_quiet t (Write u a v) is = cc
-bump_is_quiet t (Read u a) is = cc
-bump_is_quiet t FlushTake is = cc
-bump_is_quiet t (FlushDone p ok) is = cc
-bump_is_quiet t CleanTake is = cc
-bump_is_quiet t (CleanDone p) is = cc
+bump_is_quiet t _ is = (refl, refl)
 
 pub safe_after_all_moved_on : SafeAfterAllMovedOn
 safe_after_all_moved_on sizes A s steps accepted bump safe t protected = true_from_ne_false (list_any (moves_on t) steps) early
@@ -72,25 +62,14 @@ safe_after_all_moved_on sizes A s steps accepted bump safe t protected = true_fr
         omega (arith, below, safe, (slot_epoch-range t A (epoch_of t A) before).1, current_epoch-bumps A)
 
 -- rounds
-grew_rounds : (F : Type 0) (log : DomainState) (gives : F → FiringRecord → ℕ → Type 0) (keeps : ℕ → FiringRecord → ℕ → Type 0) (ticket n : ℕ) (old new : PassRecord)
-    → AreRounds F log gives keeps ticket n old new → Grew old.rider new.rider
-grew_rounds F log gives keeps ticket zero old new same = grew_same old.rider new.rider (ap (λ (p : PassRecord). p.rider) same)
-grew_rounds F log gives keeps ticket (suc n) old new (mid, did, before, round) =
-    grew_then old.rider mid.rider new.rider (grew_rounds F log gives keeps ticket n old mid before)
-    (grew_then mid.rider round.looked new.rider (grew_call _ _ round.looks) (grew_helps F log gives keeps (Ok did) (with_rider round.looked mid) new round.helps))
-
--- what holds of each element holds of one in the middle
-every_in : {X : Type 0} (P : X → Type 0) (xs : List X) (x : X) (ys : List X) → Every P (xs ++ x ∷ ys) → P x
-every_in P [] x ys all = all.0
-every_in P (z ∷ xs) x ys all = every_in P xs x ys all.1
-
-answered_by : (o : Option Fault) (x y : ℕ) → Ok x ≡ unless_fault o y → x ≡ y
-answered_by None x y is = cc
-answered_by (Some fault) x y is = absurd cc
+grew_rounds : (F : Type 0) (log : DomainState) (gives : F → FiringRecord → ℕ → Type 0) (keeps : ℕ → FiringRecord → ℕ → Type 0) (ticket n : ℕ) (old new : PassRecord) → Followed (RoundsNext F log gives keeps ticket) n old new → Grew old.rider new.rider
+grew_rounds F log gives keeps ticket =
+    followed_holds (λ (a b : PassRecord). Grew a.rider b.rider) (λ (a b : PassRecord) same. grew_same a.rider b.rider (ap (λ (p : PassRecord). p.rider) same)) (λ (a b c : PassRecord). grew_then a.rider b.rider c.rider) (RoundsNext F log gives keeps ticket)
+    (λ i next (a b : PassRecord) round. grew_then a.rider round.1.looked b.rider (grew_call _ _ round.1.looks) (grew_helps F log gives keeps (Ok round.0) (with_rider round.1.looked a) b round.1.helps))
 
 -- a bump that stored nothing, and then a wait for its number
 pub for_all : (F : Type 0) (log : DomainState) (gives : F → FiringRecord → ℕ → Type 0) (keeps : ℕ → FiringRecord → ℕ → Type 0) (ticket safe : ℕ) (bumped : RiderState) (old new : PassRecord)
-    → MakesUnderLock F log (call_of Bare old.rider bumped) (Ok ticket) (λ before. Makes before Bare (λ A. bumps (A ++ Bare ∷ [])))
+    → Bares F log (Ok ticket) old.rider bumped
     → Waits F log gives keeps ticket (Ok safe) (with_rider bumped old) new → ForAll old.rider new.rider
 for_all F log gives keeps ticket safe bumped old new bump waits =
     let A = bump.list in
@@ -106,7 +85,7 @@ for_all F log gives keeps ticket safe bumped old new bump waits =
     let sizes = looks.before.core.sizes in
     let accepted : IsAccepted sizes (A ++ Bare ∷ begins.0) = subst (IsAccepted sizes) whole looks.met.stands.core_stands.accepted in
     let told : safe ≡ safe_epoch sizes.slots B = looks.holds.1 B looks.met.stands in
-    let number : ticket ≡ bumps (A ++ Bare ∷ []) = answered_by _ ticket _ (bump.holds.0 A bump.met.stands).reply in
+    let number : ticket ≡ bumps (A ++ Bare ∷ []) = (unless_ok _ ticket _ (bump.holds.0 A bump.met.stands).reply).1 in
     let most : bumps A + 1 ≤ safe_epoch sizes.slots (A ++ Bare ∷ begins.0) =
     subst (λ l. bumps A + 1 ≤ safe_epoch sizes.slots l) whole (omega (arith, told, number, bumps-push A Bare, waits.ended.0)) in
     record {
@@ -118,21 +97,22 @@ for_all F log gives keeps ticket safe bumped old new bump waits =
     }
 
 pub for_all_if : (F : Type 0) (log : DomainState) (gives : F → FiringRecord → ℕ → Type 0) (keeps : ℕ → FiringRecord → ℕ → Type 0) (ticket : ℕ) (bumped : RiderState) (old new : PassRecord) (r : Result ℕ Fault)
-    → MakesUnderLock F log (call_of Bare old.rider bumped) (Ok ticket) (λ before. Makes before Bare (λ A. bumps (A ++ Bare ∷ [])))
+    → Bares F log (Ok ticket) old.rider bumped
     → Waits F log gives keeps ticket r (with_rider bumped old) new → IfOk r (λ _. ForAll old.rider new.rider)
 for_all_if F log gives keeps ticket bumped old new (Ok safe) bump waits = for_all F log gives keeps ticket safe bumped old new bump waits
 for_all_if F log gives keeps ticket bumped old new (Err fault) bump waits = tt
 
--- a round of a session
-pub round_made : (F : Type 0) (log : DomainState) (gives : F → FiringRecord → ℕ → Type 0) (keeps : ℕ → FiringRecord → ℕ → Type 0) (ticket safe : ℕ) (s looked new : SessionState) (help : Result Bool Fault) → s.log ≡ log → safe < ticket
-    → LooksAtSafe F s.log safe s.pass.rider looked.pass.rider → KeepsAllButRider s looked → Helps F looked.log gives keeps help looked.pass new.pass → RoundOf F log gives keeps ticket help s.pass new.pass
-round_made F log gives keeps ticket safe s looked new help same above looks kept helps =
-    let log_is : looked.log ≡ log = ap (λ (z : SessionState). z.log) kept ∙ same in
-    let pass_is : looked.pass ≡ with_rider looked.pass.rider s.pass = ap (λ (z : SessionState). z.pass) kept in
-    record {
-      safe = safe;
-      above = above;
-      looked = looked.pass.rider;
-      looks = subst (λ l. LooksAtSafe F l safe s.pass.rider looked.pass.rider) same looks;
-      helps = subst (λ p. Helps F log gives keeps help p new.pass) pass_is (subst (λ l. Helps F l gives keeps help looked.pass new.pass) log_is helps);
-    }
+module _ (F : Type 0) (log : DomainState) (gives : F → FiringRecord → ℕ → Type 0) (keeps : ℕ → FiringRecord → ℕ → Type 0) (ticket : ℕ) (s looked new : SessionState) (help : Result Bool Fault) (same : s.log ≡ log)
+    (kept : KeepsAllButRider s looked) (helps : Helps F looked.log gives keeps help looked.pass new.pass) where
+  -- a round of help of a session that was told something before, by its rider
+  then_helps : Helps F log gives keeps help (with_rider looked.pass.rider s.pass) new.pass
+  then_helps = subst₂ (λ (l : DomainState) (p : PassRecord). Helps F l gives keeps help p new.pass) (ap (λ (z : SessionState). z.log) kept ∙ same) (ap (λ (z : SessionState). z.pass) kept) helps
+
+  -- one that waits for a ticket
+  pub round_made : (safe : ℕ) → safe < ticket → LooksAtSafe F s.log safe s.pass.rider looked.pass.rider → RoundOf F log gives keeps ticket help s.pass new.pass
+  round_made safe above looks =
+      record { safe = safe; above = above; looked = looked.pass.rider; looks = subst (λ l. LooksAtSafe F l safe s.pass.rider looked.pass.rider) same looks; helps = then_helps }
+
+  -- one that waits for an action
+  pub helped_on : (over : Bool) → over ≡ false → LooksAtOver F s.log ticket over s.pass.rider looked.pass.rider → HelpsOn F log gives keeps ticket help s.pass new.pass
+  helped_on over not_yet looks = record { looked = looked.pass.rider; looks = subst₂ (λ l b. LooksAtOver F l ticket b s.pass.rider looked.pass.rider) same not_yet looks; helps = then_helps }

@@ -1,5 +1,5 @@
 -- What is left of a log that was opened and closed by one call.
-use Rattle.std.specs.Prelude.{◌≡◌, ◌≢◌, ◌<◌, ◌+◌, ◌⊎◌, ℕ, true, Option, Result, Ok, Err, MatchResult, List, length, drop, slice_index_or, Vec}
+use Rattle.std.specs.Prelude.{◌≡◌, ◌≢◌, ◌<◌, ◌+◌, ◌⊎◌, ℕ, true, Option, Result, Ok, Err, IfErr, MatchResult, List, length, map, drop, slice_index_or, Vec}
 use Rattle.std.specs.List.{AllByRecursion}
 use Rattle.std.specs.declared.alloc.Global.{Global}
 use Rattle.hl_model.specs.declared.fault.Fault.{Fault}
@@ -9,7 +9,7 @@ use Rattle.hl_words.specs.States.{RiderState, new_rider}
 use Rattle.hl_domain.specs.Domains.{DomainState, IsEnding}
 use Rattle.hl_image.specs.Image.{image}
 use Rattle.hl_images.specs.Flushes.{HasFlushed}
-use Rattle.hl_crew.specs.Riders.{has_flushed, StoreSweeps}
+use Rattle.hl_crew.specs.Riders.{has_flushed, FlushesNone, StoreSweeps}
 use Rattle.hl.specs.declared.open.Closed.{Closed}
 use Rattle.hl.specs.declared.opening.Opening.{Opening}
 use Rattle.hl.specs.declared.memory.MemoryDevice.{MemoryDevice}
@@ -70,10 +70,25 @@ AreReturned {Out} F log Returns olds outs riders =
     (number : ℕ) (other : Result Out Fault) → number < length outs
     → Tells F log (Returns number) (olds number) (rider_at riders number) (slice_index_or outs number other)
 
+-- so it is of these, of which each has its rider beside it; those riders were these
+abbrev pub HaveWorked : {Out : Type 0} → (F : Type 0) → DomainState
+    → (ℕ → SessionState → SessionState → Out → Type 0) → List RiderState
+    → List (Result Out Fault × RiderState) → Type 0
+HaveWorked F log Returns olds worked = (length worked ≡ length olds)
+    × AreReturned F log Returns (rider_at olds) (map (λ one. one.0) worked) (map (λ one. one.1) worked)
+
 -- each page that the rider answered as flushed it had copied, and this holds of the image of just these words
 abbrev pub FlushesTaken : (ℕ → List ℕ → Type 0) → Sizes → RiderState → Type 0
 FlushesTaken Took sizes r = (page : ℕ) → has_flushed page r.calls ≡ true
     → (words : List ℕ) × Took page (image page words) × HasFlushed sizes page words r
+
+-- a crew served, or was refused since memory was: its riders, which were these and are these, still store into cells only
+-- to sweep pages, if they did; and if they had flushed none, this holds of the image of each page that they flushed
+pub record HasServed {X : Type 0} (sizes : Sizes) (Took : ℕ → List ℕ → Type 0) (olds riders : List RiderState)
+    (result : Result X Fault) : Type 0 where
+  pub memory : IfErr result (λ fault. fault ≡ OutOfMemory)
+  pub sweeps : StoreSweeps sizes olds → StoreSweeps sizes riders
+  pub images : AllByRecursion FlushesNone olds → AllByRecursion (FlushesTaken Took sizes) riders
 
 -- a thread for each of so many riders, but the crew's four, has such a result, and its rider was the new one of its
 -- number; all riders came back, those of the threads in their order before the crew's. Each of these stored into cells only

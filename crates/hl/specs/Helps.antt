@@ -1,7 +1,6 @@
 -- One round of help: the oldest action is run if it is ready, and then the session refreshes.
-use Rattle.std.specs.Prelude.{◌≡◌, ◌⊎◌, ℕ, zero, suc, ◌≤◌, Bool, true, false, is_some, IfSome, IsSomeAnd, IfOk, OnErr, Result, Ok, Err, List, [], ◌∷◌, ◌++◌}
+use Rattle.std.specs.Prelude.{◌≡◌, ◌⊎◌, ℕ, Bool, true, false, is_some, IfSome, IsSomeAnd, Result, Ok, Err, List, [], ◌∷◌, ◌++◌}
 use Rattle.hl_model.specs.declared.fault.Fault.{Fault}
-use Rattle.hl_model.specs.declared.fault.Fault.TheVariants.{JournalFull}
 use Rattle.hl_model.specs.declared.step.Reply.{Reply}
 use Rattle.hl_model.specs.declared.step.Step.{Step}
 use Rattle.hl_model.specs.declared.step.Step.TheVariants.{Refresh, Take, Done}
@@ -9,16 +8,12 @@ use Rattle.hl_model.specs.declared.view.View.{View}
 use Rattle.hl_action.specs.Firings.{FiringRecord}
 use Rattle.hl_action.specs.Jobs.{ReadyRecord}
 use Rattle.hl_action.specs.declared.ran.Outcome.{Outcome}
-use Rattle.hl_core.specs.Steps.{CameOut}
 use Rattle.hl_words.specs.States.{RiderState}
-use Rattle.hl_keeper.specs.Calls.{Makes, Stays}
-use Rattle.hl_keeper.specs.Keepers.{job_tag}
 use Rattle.hl_keeper.specs.Passes.{PassRecord, with_rider}
-use Rattle.hl_keeper.specs.Taking.{taken_from, ready_told}
-use Rattle.hl_domain.specs.Domains.{DomainState, call_of, answered, LeavesUnderLock, Refreshed}
-use Rattle.hl_crew.specs.Cutting.{CutsJournal}
+use Rattle.hl_domain.specs.Domains.{DomainState, Refreshed}
+pub use Rattle.hl_domain.specs.Riders.{Takes}
 use Rattle.hl_crew.specs.Overs.{is_none_ready}
-use Rattle.hl_crew.specs.Tries.{EndsAction}
+use Rattle.hl_crew.specs.Tries.{EndsAction, Tries}
 use Rattle.hl.specs.Records.{entered_steps}
 
 -- an action was run: it is of the same origin and ticket, and its job, if it has one, gave the answer
@@ -31,44 +26,19 @@ pub record WasRun {F : Type 0} (gives : F → FiringRecord → ℕ → Type 0) (
   pub kept : IfSome ready.kept (λ kept. IsSomeAnd ran.answer (keeps kept.tag ready.firing))
 
 module _ (F : Type 0) (log : DomainState) where
-  -- a rider asked for the oldest action, and was answered so
-  abbrev pub Takes : Result (ReadyRecord F) Fault → RiderState → RiderState → Type 0
-  Takes result old new =
-      LeavesUnderLock F log (answered result (call_of Take old new)) (λ before after.
-      Makes before Take (taken_from before) after (ready_told result) × Stays before after
-      × IfOk result (λ ready. CameOut job_tag before.core after.core ready.firing.ticket ready.kept)
-      × OnErr result (after ≡ before))
-
-  -- so many dones of it, one after another, were refused since the journal was full, and after each it was cut
-  abbrev pub AreVainDones : Outcome → ℕ → RiderState → RiderState → Type 0
-  AreVainDones ran zero old new = new ≡ old
-  AreVainDones ran (suc n) old new =
-      (mid : RiderState) × (refused : RiderState) × AreVainDones ran n old mid
-      × EndsAction F log ran.origin ran.ticket (Err JournalFull) mid refused × CutsJournal F log refused new
-
-  -- the last of some dones was answered so: at most a thousand came before it, and as many did, if even the last was
-  -- refused since the journal was full
-  pub record Finishes (ran : Outcome) (result : Result Reply Fault) (old new : RiderState) : Type 0 where
-    pub vain : ℕ
-    pub most : vain ≤ 1000
-    pub last : RiderState
-    pub before : AreVainDones ran vain old last
-    pub answer : EndsAction F log ran.origin ran.ticket result last new
-    pub all_tried : result ≡ Err JournalFull → vain ≡ 1000
-
   module _ (gives : F → FiringRecord → ℕ → Type 0) (keeps : ℕ → FiringRecord → ℕ → Type 0) where
-    -- the oldest action was taken and run, and its done was answered so
+    -- the oldest action was taken and run, and its done was answered so, by as many tries as that takes
     pub record TakesAndEnds (result : Result Reply Fault) (old new : RiderState) : Type 0 where
       pub ready : ReadyRecord F
       pub taken : RiderState
-      pub takes : Takes (Ok ready) old taken
+      pub takes : Takes F log (Ok ready) old taken
       pub ran : Outcome
       pub was_run : WasRun gives keeps ready ran
-      pub ends : Finishes ran result taken new
+      pub ends : Tries F log true (EndsAction F log ran.origin ran.ticket) result taken new
 
     -- the take was refused so, and no more was done
     abbrev pub TakesNone : Fault → Bool → RiderState → RiderState → Type 0
-    TakesNone fault none_ready old new = Takes (Err fault) old new × (is_none_ready fault ≡ none_ready)
+    TakesNone fault none_ready old new = Takes F log (Err fault) old new × (is_none_ready fault ≡ none_ready)
 
     -- the oldest action was run and is done; or none was ready; or a take or a done was refused so
     abbrev pub RunsOldest : Result Bool Fault → RiderState → RiderState → Type 0

@@ -4,9 +4,10 @@ pub mod Configs
 pub mod Crews
 pub mod Devices
 pub mod Evictions
-pub mod Finishes
+pub mod LastSession
 pub mod Helps
 pub mod Openings
+pub mod Overs
 pub mod Records
 pub mod Reports
 pub mod Rests

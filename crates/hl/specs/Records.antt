@@ -1,5 +1,5 @@
 -- What a session does with a whole record: it places and stores one, or loads one.
-use Rattle.std.specs.Prelude.{◌≡◌, ◌⊎◌, ℕ, zero, suc, ◌+◌, ◌-◌, ◌<◌, ◌≤◌, nat_lt, if◌then◌else◌, Option, Some, None, Result, Ok, Err, MatchResult, List, [], ◌∷◌, ◌++◌, length, take}
+use Rattle.std.specs.Prelude.{◌≡◌, ◌⊎◌, ℕ, ◌+◌, ◌-◌, ◌<◌, ◌≤◌, nat_lt, if◌then◌else◌, Bool, Option, Some, None, Result, Ok, Err, MatchResult, List, [], ◌∷◌, ◌++◌, length, take}
 use Rattle.std.specs.List.{AllByRecursion}
 use Rattle.hl_model.specs.declared.fault.Fault.{Fault}
 use Rattle.hl_model.specs.declared.fault.Fault.TheVariants.{Below, Beyond, Evicted}
@@ -13,6 +13,7 @@ use Rattle.hl_words.specs.declared.view.Touch.TheVariants.{Stored, Loaded, Chang
 use Rattle.hl_keeper.specs.Passes.{PassRecord, seen, cell_at, store_fault, with_load, with_rider, with_tail}
 use Rattle.hl_keeper.specs.Calls.{call_fault, MakesTouched}
 use Rattle.hl_domain.specs.Domains.{DomainState, pass_call, with_held, MakesUnderLock, Refreshed}
+use Rattle.hl_crew.specs.Goes.{Followed}
 
 -- the fault of n words from address a on, of which each is to be loaded: the first is below the head, or there aren't so
 -- many below the tail
@@ -115,11 +116,10 @@ IsRefused F log words fault old new =
     ⊎ ((address : ℕ) × (placed : PassRecord) × Allocated F log (length words) old placed (Ok address)
     × StopsAt F log address words fault placed new)
 
--- n times, one after another, a record of these words was refused since a word of it lay below the read-only offset
-abbrev pub AreInVain : (F : Type 0) → DomainState → List ℕ → ℕ → PassRecord → PassRecord → Type 0
-AreInVain F log words zero old new = new ≡ old
-AreInVain F log words (suc n) old new = (mid : PassRecord) × (read_only : ℕ)
-    × AreInVain F log words n old mid × IsRefused F log words (Below read_only) mid new
+-- a record of these words was refused since a word of it lay below the read-only offset: another try may follow
+abbrev pub PlacesNext : (F : Type 0) → DomainState → List ℕ
+    → ℕ → Result Bool Fault → PassRecord → PassRecord → Type 0
+PlacesNext F log words i next old new = (read_only : ℕ) × IsRefused F log words (Below read_only) old new
 
 -- a record of these words was asked for once, and answered so
 abbrev pub Places : (F : Type 0) → DomainState → List ℕ → PassRecord → PassRecord → Result ℕ Fault → Type 0
@@ -133,6 +133,6 @@ pub record Appends (F : Type 0) (log : DomainState) (words : List ℕ) (again : 
   pub vain : ℕ
   pub most : vain ≤ again
   pub last : PassRecord
-  pub before : AreInVain F log words vain old last
+  pub before : Followed (PlacesNext F log words) vain old last
   pub places : Places F log words last new result
   pub all_tried : (read_only : ℕ) → result ≡ Err (Below read_only) → vain ≡ again

@@ -8,7 +8,7 @@ use Rattle.hl_model.specs.declared.snapshot.Snapshot.{Snapshot}
 use Rattle.hl_model.specs.Snapshots.{snapshot_of}
 use Rattle.hl_core.specs.declared.holders.Holder.{Holder}
 use Rattle.hl_core.specs.Holding.{oldest, holders}
-use Rattle.hl_image.specs.Streams.{BreaksOff}
+use Rattle.hl_line.specs.Streams.{BreaksOff}
 use Rattle.hl_monitor.specs.Reports.{line_of, report_text}
 use Rattle.hl_domain.specs.Domains.{DomainState, UnderLock}
 

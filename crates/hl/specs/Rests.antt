@@ -1,7 +1,10 @@
 -- A rider between two sessions of its log.
-use Rattle.std.specs.Prelude.{Result, Ok, Err}
+use Rattle.std.specs.Prelude.{◌≡◌, ℕ, Bool, Result, Ok, Err}
+use Rattle.hl_model.specs.declared.fault.Fault.{Fault}
 use Rattle.hl_words.specs.States.{RiderState}
+use Rattle.hl_keeper.specs.Passes.{PassRecord, with_rider}
 use Rattle.hl_domain.specs.Domains.{DomainState}
+use Rattle.hl_crew.specs.Goes.{Followed}
 use Rattle.hl.specs.declared.refused.Refused.{Refused}
 use Rattle.hl.specs.Openings.{was_refused}
 use Rattle.hl.specs.Sessions.{SessionState, Entered, Left}
@@ -28,3 +31,28 @@ Suspended F session result = Left F session (left_rider result)
 -- a rider that rests was to enter again, and was answered as an acquire of the least slot that isn't protected
 abbrev pub Resumed : (F : Type 0) → RestState → Result SessionState (Refused RestState) → Type 0
 Resumed F rest result = Entered F rest.log rest.rider (entered_session result)
+
+module _ (F : Type 0) (log : DomainState) where
+  -- a rider was to enter, and was refused: another try may follow
+  abbrev pub EntersNext : ℕ → Result Bool Fault → RiderState → RiderState → Type 0
+  EntersNext i next old new = (fault : Fault) × Entered F log old (Err (was_refused fault new))
+
+  -- a rider entered, after so many tries that were refused
+  pub record Reenters (rider : RiderState) (pass : PassRecord) : Type 0 where
+    pub refused : ℕ
+    pub last : RiderState
+    pub before : Followed EntersNext refused rider last
+    pub entered : Entered F log last (Ok (record { log = log; pass = pass }))
+
+  -- a pass left its slot, a call returned this, and the rider entered again; or the pass couldn't leave, and has its rider
+  abbrev pub RestsOf : {X : Type 0} → (X → Type 0) → Result X Fault → PassRecord → PassRecord → Type 0
+  RestsOf Gives (Ok x) old new =
+      Gives x × (left : RiderState) × Left F (record { log = log; pass = old }) (Ok left) × Reenters left new
+  RestsOf Gives (Err fault) old new =
+      Left F (record { log = log; pass = old }) (Err (was_refused fault (record { log = log; pass = new })))
+      × (new ≡ with_rider new.rider old)
+
+-- likewise a session
+abbrev pub Rests : (F : Type 0) {X : Type 0} → (X → Type 0) → Result X Fault → SessionState → SessionState
+    → Type 0
+Rests F Gives result old new = RestsOf F old.log Gives result old.pass new.pass

@@ -1,5 +1,5 @@
 -- A session waits until an epoch is safe, and for all threads that are protected.
-use Rattle.std.specs.Prelude.{◌≡◌, ℕ, zero, suc, ◌+◌, ◌<◌, ◌≤◌, true, Bool, Result, Ok, Err, MatchResult, List, [], ◌∷◌, ◌++◌}
+use Rattle.std.specs.Prelude.{◌≡◌, ℕ, ◌+◌, ◌<◌, ◌≤◌, true, Bool, Result, Ok, Err, MatchResult, List, [], ◌∷◌, ◌++◌}
 use Rattle.std.specs.List.{list_any}
 use Rattle.hl_model.specs.declared.fault.Fault.{Fault}
 use Rattle.hl_model.specs.declared.step.Step.{Step}
@@ -13,10 +13,11 @@ use Rattle.hl_action.specs.Firings.{FiringRecord}
 use Rattle.hl_history.specs.declared.view.Entry.{Entry}
 use Rattle.hl_history.specs.Lists.{entry}
 use Rattle.hl_words.specs.States.{RiderState}
-use Rattle.hl_keeper.specs.Calls.{Makes}
 use Rattle.hl_keeper.specs.Keepers.{KeeperStands}
 use Rattle.hl_keeper.specs.Passes.{PassRecord, with_rider}
-use Rattle.hl_domain.specs.Domains.{DomainState, call_of, no_step, LeavesUnderLock, MakesUnderLock}
+use Rattle.hl_domain.specs.Domains.{DomainState, no_step, LeavesUnderLock}
+use Rattle.hl_domain.specs.Riders.{Bares}
+use Rattle.hl_crew.specs.Goes.{Followed}
 use Rattle.hl.specs.Helps.{Helps}
 
 -- each slot that was protected after the list A has refreshed or left among these steps
@@ -55,17 +56,15 @@ module _ (F : Type 0) (log : DomainState) where
       pub looks : LooksAtSafe safe old.rider looked
       pub helps : Helps F log gives keeps help (with_rider looked old) new
 
-    -- so many rounds, none of which was refused
-    abbrev pub AreRounds : ℕ → ℕ → PassRecord → PassRecord → Type 0
-    AreRounds ticket zero old new = new ≡ old
-    AreRounds ticket (suc n) old new =
-        (mid : PassRecord) × (did : Bool) × AreRounds ticket n old mid × RoundOf ticket (Ok did) mid new
+    -- a round that wasn't refused: another may follow
+    abbrev pub RoundsNext : ℕ → ℕ → Result Bool Fault → PassRecord → PassRecord → Type 0
+    RoundsNext ticket i next old new = (did : Bool) × RoundOf ticket (Ok did) old new
 
     -- after some rounds the session found the ticket safe, and tells the safe epoch; or a round more was refused so
     pub record Waits (ticket : ℕ) (result : Result ℕ Fault) (old new : PassRecord) : Type 0 where
       pub rounds : ℕ
       pub last : PassRecord
-      pub before : AreRounds ticket rounds old last
+      pub before : Followed (RoundsNext ticket) rounds old last
       pub ended : MatchResult result
           (λ safe. (ticket ≤ safe) × LooksAtSafe safe last.rider new.rider × (new ≡ with_rider new.rider last))
           (λ fault. RoundOf ticket (Err fault) last new)
@@ -74,7 +73,6 @@ module _ (F : Type 0) (log : DomainState) where
     pub record WaitsForAll (result : Result ℕ Fault) (old new : PassRecord) : Type 0 where
       pub bump : Result ℕ Fault
       pub bumped : RiderState
-      pub met : MakesUnderLock F log (call_of Bare old.rider bumped) bump (λ before.
-          Makes before Bare (λ A. bumps (A ++ Bare ∷ [])))
+      pub met : Bares F log bump old.rider bumped
       pub waits : MatchResult bump (λ ticket. Waits ticket result (with_rider bumped old) new)
           (λ fault. (result ≡ Err fault) × (new ≡ with_rider bumped old))

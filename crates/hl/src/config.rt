@@ -126,8 +126,9 @@ impl Config {
         }
     }
 
-    /// What [`with_threads`](crate::with_threads) takes for these numbers: an opening with a slot and a rider for
-    /// each thread, and five riders more, and the duty of the crew.
+    /// What [`run_threads`](crate::run_threads) opens for these numbers: an opening with a slot and a rider for each
+    /// thread, four riders for the crew and one for [`finish`](crate::Work::finish), and the duty of the crew.
+    /// [`with_threads`](crate::with_threads) would run a thread for that rider, too: take 1 from `riders` for it.
     ///
     /// Fault: `Size` if a number is out of its range. [`out_of_range`](Config::out_of_range) says which.
     pub fn checked(&self) -> Result<(Opening, Duty), Fault>

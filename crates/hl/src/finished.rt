@@ -4,8 +4,7 @@ ghost use Rattle.hl_model.specs.declared.fault.Fault.TheVariants.{OutOfMemory, S
 ghost use Rattle.hl_words.specs.States.{IsSeedOf};
 ghost use Rattle.hl.specs.Closings.{Tells};
 ghost use Rattle.hl.specs.Configs.{all_fit, opening_of};
-ghost use Rattle.hl.specs.Crews.{can_serve};
-ghost use Rattle.hl.specs.Finishes.{AreFinished, Finishing, IsFinish, IsFirstFault, IsNoFinish, IsUnfinished};
+ghost use Rattle.hl.specs.LastSession.{AreFinished, Finishing, IsFinish, IsFirstFault, IsNoFinish, IsUnfinished};
 ghost use Rattle.hl.specs.Openings.{IsInRange};
 
 use crate::config::Config;
@@ -42,7 +41,7 @@ pub struct Finished<T, F: Task = NoJob> {
 /// Faults, the first of these: `Size` if a number of the configuration is out of its range, and nothing was done;
 /// `OutOfMemory` if memory or a thread was refused, before the threads ran or after; the fault by which the first of
 /// the threads that have no result was refused its session, or couldn't leave it (`JournalFull`); and that of the
-/// session of `finish`. After a fault nothing is left of the log: where its ending is wanted all the same, take
+/// session of `finish`. After a fault nothing is left of the log: if its ending is wanted all the same, take
 /// `with_threads`.
 pub fn run_threads<R: Threads + Wait + Sync, P: Work<R> + Sync>(
     rt: &R,
@@ -53,7 +52,8 @@ pub fn run_threads<R: Threads + Wait + Sync, P: Work<R> + Sync>(
     ensures size { all_fit config ≡ false → result ≡ Err Size }
     ensures finished { all_fit config ≡ true → MatchResult result
         (AreFinished P.Job (opening_of config) (P.returns work.now) (P.took work.now) (P.finishes work.now))
-        (IsUnfinished P.Job (opening_of config) (P.returns work.now) (P.took work.now) (P.finishes work.now)) }
+        (IsUnfinished P.Job (opening_of config) (P.returns work.now) (P.took work.now)
+        (P.finishes work.now)) }
 {
     let (opening, duty) = match config.checked() {
         Ok(both) => both,
@@ -80,7 +80,7 @@ fn run_over<L: Realm + Send + Sync, R: Threads + Wait + Sync, P: Work<R> + Sync>
     requires named { (seed.sizes ≡ L.sizes) × (opening.stamp ≡ L.stamp) × (opening.journal ≡ L.limit) }
     requires range { IsInRange opening }
     requires five { 5 ≤ opening.riders }
-    requires duty { can_serve opening.params duty ≡ true }
+    requires duty { duty.frames ≡ opening.params.frames }
     ensures finished { MatchResult result
         (AreFinished P.Job opening (P.returns work.now) (P.took work.now) (P.finishes work.now))
         (IsUnfinished P.Job opening (P.returns work.now) (P.took work.now) (P.finishes work.now)) }
@@ -116,13 +116,8 @@ fn all_of<T: Drop>(alloc: Global, outs: Outs<T>) -> Result<Vec<T>, Fault>
 {
     let mut all = Vec::new(alloc);
     for out in outs {
-        match out {
-            Ok(out) => {
-                if all.push(out).is_err() {
-                    return Err(Fault::OutOfMemory);
-                }
-            }
-            Err(fault) => return Err(fault),
+        if all.push(out?).is_err() {
+            return Err(Fault::OutOfMemory);
         }
     }
     Ok(all)

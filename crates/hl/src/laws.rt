@@ -1,6 +1,7 @@
-//! What follows for those who wait, and for those whose page was evicted: each the contract of a function that does
-//! nothing.
+//! What follows for those who wait, for a ticket or for an action, and for those whose page was evicted: each the
+//! contract of a function that does nothing.
 ghost use Rattle.hl.specs.Evictions.{EvictedWereFlushed};
+ghost use Rattle.hl.specs.Overs.{OverWereDone};
 ghost use Rattle.hl.specs.Waits.{SafeAfterAllMovedOn};
 
 /// Once the number of a bump is safe, each slot that was protected before the bump has refreshed or left since. So a
@@ -16,4 +17,10 @@ pub fn safe_after_all_moved_on()
 /// `Work::took` says of it that the device took its image.
 pub fn evicted_were_flushed()
     ensures { EvictedWereFlushed }
+{}
+
+/// An action that was stored and is over is done: its done stands in the one list. So a session that
+/// [`wait_until_over`](crate::Session::wait_until_over) answered knows it of a ticket that a bump was answered.
+pub fn over_were_done()
+    ensures { OverWereDone }
 {}

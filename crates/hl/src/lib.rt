@@ -27,7 +27,6 @@
 #![tactic(auto)]
 
 mod config;
-mod crew;
 mod finished;
 pub mod laws;
 mod log;
@@ -43,7 +42,6 @@ mod threads;
 mod work;
 
 pub use config::{Config, Number};
-pub use crew::{Crew, CrewReport, CrewRiders};
 pub use finished::{Finished, run_threads};
 pub use hl_action::{AnyAnswer, NoJob};
 /// The ticket of an action, and the safe epoch under which it is run.
@@ -59,7 +57,10 @@ pub use hl_action::Ready;
 /// What a job is: it is called once, under a [`Firing`].
 pub use hl_action::Task;
 pub use hl_counts::CountTable;
-pub use hl_crew::{CrewEnd, Cuts, Duty, Gate, OpenGate, Orders, run_crew, serve};
+/// Four riders and two page writers, which serve a log until its [`Stop`] is given.
+pub use hl_crew::{
+    Crew, CrewEnd, CrewReport, CrewRiders, Cuts, Duty, Gate, Limits, OpenGate, run_crew,
+};
 /// What ends a crew, and wakes it.
 pub use hl_crew::Stop;
 pub use hl_domain::{ArrayVec, Broom, Domain, Ending, FrameState, Keeper, Load, PageJob, Pass};
@@ -98,6 +99,6 @@ pub use opening::Opening;
 pub use part::Part;
 pub use refused::Refused;
 pub use reports::report;
-pub use session::{Helping, Resting, Session, attempt};
+pub use session::{Curable, Cure, Helping, Resting, Session, attempt};
 pub use threads::{Outs, with_threads};
 pub use work::Work;

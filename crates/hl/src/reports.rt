@@ -3,7 +3,7 @@ ghost use Rattle.std.specs.Prelude.{◌≡◌, ◌++◌, OnOk, OnErr, IfErr};
 ghost use Rattle.std.specs.List.{flat_map};
 ghost use Rattle.std.specs.Io.KnownBytes.{Appends};
 ghost use Rattle.hl_model.specs.declared.fault.Fault.TheVariants.{Stream};
-ghost use Rattle.hl_image.specs.Streams.{BreaksOff};
+ghost use Rattle.hl_line.specs.Streams.{BreaksOff};
 ghost use Rattle.hl.specs.Reports.{action_text, holder_text, oldest_text, Reports};
 
 use crate::log::Log;

@@ -1,15 +1,15 @@
 //! A thread's time in a slot of a log.
-ghost use Rattle.std.specs.Prelude.{◌≡◌, ◌+◌, ◌-◌, ◌/◌, ◌^◌, ◌≤◌, ◌++◌, Ok, true, false, IfOk, IfErr, MatchResult};
-ghost use Rattle.hl_model.specs.declared.step.Step.TheVariants.{Allocate as ALLOCATE};
-ghost use Rattle.hl_model.specs.Offsets.{place_of, tail};
+ghost use Rattle.std.specs.Prelude.{◌≡◌, ◌+◌, ◌-◌, ◌/◌, ◌^◌, ◌≤◌, Ok, true, false, IfOk, IfErr, MatchResult};
 ghost use Rattle.hl_keeper.specs.Passes.{seen, with_rider, with_tail};
-ghost use Rattle.hl_keeper.specs.Calls.{call_fault, MakesTouched};
 ghost use Rattle.hl_keeper.specs.Leases.{placed};
-ghost use Rattle.hl_domain.specs.Domains.{pass_call, with_held, after_news, stays_current, MakesUnderLock, Refreshed};
+ghost use Rattle.hl_domain.specs.Domains.{with_held, after_news, stays_current, Refreshed};
+ghost use Rattle.hl_domain.specs.Riders.{Allocates};
 ghost use Rattle.hl.specs.Sessions.{with_pass, Asked, Entered, Left};
 
 mod help;
+mod over;
 mod pasts;
+mod pause;
 mod records;
 mod region;
 mod rest;
@@ -31,7 +31,7 @@ use hl_words::{Realm, Rider};
 pub use rest::Resting;
 use std::marker::Model;
 use std::sync::Wait;
-pub use tries::{Helping, attempt};
+pub use tries::{Curable, Cure, Helping, attempt};
 
 /// A protected thread: its pass, with the log and the runtime that the pass's calls need. What is
 /// of another log doesn't compile with it.
@@ -107,7 +107,7 @@ impl<'a, R: Wait, L: Realm, F: Task, P: Promise, E: Epochs + Drop> Session<'a, R
         }
     }
 
-    /// Moves the slot on to the current epoch and offsets; returns the view.
+    /// Moves the slot on to the current epoch and offsets. Returns the view.
     ///
     /// Faults: `Stranger` if the session saw an offset above the present one; `JournalFull`.
     pub fn refresh(&mut self) -> Result<View, Fault>
@@ -135,17 +135,13 @@ impl<'a, R: Wait, L: Realm, F: Task, P: Promise, E: Epochs + Drop> Session<'a, R
         self.log.keep_up(self.rt, &mut self.pass)
     }
 
-    /// Places a record of n words; returns the address of its first word. The record is on one
+    /// Places a record of n words. Returns the address of its first word. The record is on one
     /// page, and not below the tail that the session saw. The session then sees the record's end as
     /// its tail.
     ///
     /// Faults: `JournalFull`, `Size`, `SpaceSpent`, `Busy`.
     pub fn allocate(&mut self, n: u64) -> Result<u64, Fault>
-        ensures met { let p = self.old.pass
-            in let call = pass_call p (ALLOCATE p.slot n) self.new.pass.rider
-            in MakesUnderLock F self.old.log call result (λ old.
-            MakesTouched old p (ALLOCATE p.slot n) (λ A. call_fault old A p (ALLOCATE p.slot n))
-            (λ A. place_of old.core.sizes.page_size (tail old.core.sizes (A ++ p.touches)) n)) }
+        ensures met { Allocates F self.old.log n result self.old.pass self.new.pass.rider }
         ensures pass { let pass = with_rider self.new.pass.rider self.old.pass
             in MatchResult result
             (λ a. self.new ≡ with_pass (with_held pass.epoch (with_tail (a + n) (seen pass)) pass) self.old)
@@ -163,14 +159,11 @@ impl<'a, R: Wait, L: Realm, F: Task, P: Promise, E: Epochs + Drop> Session<'a, R
     ///
     /// Faults: those of `allocate`.
     pub fn lease(&mut self, n: u64) -> Result<Lease, Fault>
-        ensures met { let p = self.old.pass
-            in let call = pass_call p (ALLOCATE p.slot n) self.new.pass.rider
-            in MakesUnderLock F self.old.log call (placed result) (λ old.
-            MakesTouched old p (ALLOCATE p.slot n) (λ A. call_fault old A p (ALLOCATE p.slot n))
-            (λ A. place_of old.core.sizes.page_size (tail old.core.sizes (A ++ p.touches)) n)) }
+        ensures met { Allocates F self.old.log n (placed result) self.old.pass self.new.pass.rider }
         ensures pass { let pass = with_rider self.new.pass.rider self.old.pass
             in MatchResult result
-            (λ lease. self.new ≡ with_pass (with_held pass.epoch (with_tail lease.end (seen pass)) pass) self.old)
+            (λ lease. self.new
+            ≡ with_pass (with_held pass.epoch (with_tail lease.end (seen pass)) pass) self.old)
             (λ _. self.new ≡ with_pass pass self.old) }
         ensures piece { IfOk result (λ lease. lease.end ≡ lease.next + n) }
         ensures above { IfOk result (λ lease. (seen self.old.pass).tail ≤ lease.next) }
@@ -180,7 +173,7 @@ impl<'a, R: Wait, L: Realm, F: Task, P: Promise, E: Epochs + Drop> Session<'a, R
         self.log.lease(self.rt, &mut self.pass, n)
     }
 
-    /// Releases the slot; returns the rider.
+    /// Releases the slot. Returns the rider.
     ///
     /// Faults, with the session handed back: `JournalFull`.
     pub fn leave(self) -> Result<Rider<L>, Refused<Session<'a, R, L, F, P, E>>>
@@ -231,8 +224,8 @@ impl<'a, R: Wait, L: Realm, F: Task, P: Promise, E: Epochs + Drop> Session<'a, R
         }
     }
 
-    // The same session, which wakes this crew.
-    pub(crate) fn beside(self, bell: &'a Stop) -> Session<'a, R, L, F, P, E>
+    // The same session, which wakes this crew, if there is one.
+    pub(crate) fn with_bell(self, bell: Option<&'a Stop>) -> Session<'a, R, L, F, P, E>
         ensures { result ≡ self.entry }
     {
         let Session {
@@ -245,7 +238,7 @@ impl<'a, R: Wait, L: Realm, F: Task, P: Promise, E: Epochs + Drop> Session<'a, R
             rt,
             log,
             pass,
-            bell: Some(bell),
+            bell,
         }
     }
 

@@ -2,13 +2,10 @@
 ghost use Rattle.std.specs.Prelude.{◌≡◌, ◌≤◌, ◌^◌, Some, is_some};
 
 use crate::work::Work;
-use hl_image::{MemoryWriter, PageWriter};
+use hl_image::{MemoryWriter, PageWriter, with_one_more};
 use hl_model::Fault;
 use std::marker::{Brand, PhantomData};
 use std::sync::Wait;
-
-/// The count of failures stays here.
-const FAILURES_LAST: u64 = 1 << 62;
 
 /// Names a work, and whether its pages go to memory: what lies in a crew is known by its type alone.
 pub(crate) trait Named<P> {
@@ -86,7 +83,7 @@ impl<'a, R: Wait, P: Work<R>, T: Named<P>> PageWriter for Sink<'a, R, P, T> {
         if written {
             return Ok(());
         }
-        self.failures = FAILURES_LAST.min(self.failures + 1);
+        self.failures = with_one_more(self.failures);
         Err(Fault::Device)
     }
 

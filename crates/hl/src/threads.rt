@@ -1,15 +1,13 @@
 //! A log that threads use beside a crew, opened and closed by one call.
-ghost use Rattle.std.specs.List.{AllByRecursion};
 ghost use Rattle.std.specs.Prelude.{◌≡◌, ◌++◌, ◌≤◌, map, length, true, false, Some, is_some, Err, IsOk, IfOk, IfErr, MatchResult};
 ghost use Rattle.hl_model.specs.declared.fault.Fault.TheVariants.{OutOfMemory, Size};
 ghost use Rattle.hl_words.specs.States.{IsSeedOf, new_riders};
-ghost use Rattle.hl_crew.specs.Riders.{FlushesNone, StoreSweeps};
+ghost use Rattle.hl_crew.specs.Riders.{riders_of};
 ghost use Rattle.hl.specs.Openings.{of_sizes, opened_as, IsInRange};
-ghost use Rattle.hl.specs.Crews.{can_run, can_serve, riders_of};
-ghost use Rattle.hl.specs.Closings.{rider_at, IsClosed, Tells, AreReturned, FlushesTaken, AreAllReturned, AreLeft};
+ghost use Rattle.hl.specs.Crews.{can_run};
+ghost use Rattle.hl.specs.Closings.{AreAllReturned, AreLeft, HasServed, HaveWorked, IsClosed, Tells};
 ghost use Rattle.hl.specs.Devices.{device_has};
 
-use crate::crew::{Crew, CrewRiders, Served, is_for, parted};
 use crate::log::Log;
 use crate::memory::MemoryDevice;
 use crate::open::Closed;
@@ -18,7 +16,7 @@ use crate::refused::Refused;
 use crate::session::Session;
 use crate::sink::{Named, Sink};
 use crate::work::Work;
-use hl_crew::{Duty, OpenGate, Stop};
+use hl_crew::{Crew, CrewReport, CrewRiders, Duty, OpenGate, Stop};
 use hl_model::{Fault, HasSizes, Sizes};
 use hl_words::{Realm, Rider, Seed};
 use std::alloc::{AllocError, Global};
@@ -33,17 +31,24 @@ pub type Outs<T> = Vec<Result<T, Fault>>;
 // The same of one thread, with its rider.
 type Worked<L, T> = (Result<T, Fault>, Rider<L>);
 
+// What a crew that served hands back: its riders, the device in memory, if there is one, and its report.
+type Served<L> = (
+    CrewRiders<L>,
+    Option<MemoryDevice>,
+    Result<CrewReport, Fault>,
+);
+
 /// Opens a log, runs a thread for each rider but four, and a crew with those four, and closes the
 /// log. Each thread is in a session while it works, and the crew serves until all have ended. A
 /// rider whose thread can't be made works after another, in that one's thread.
 ///
-/// Where `out` is `Ok`, its places are the threads' numbers, and no rider is missing: in `IsClosed` the threads' riders
+/// If `out` is `Ok`, its places are the threads' numbers, and no rider is missing: in `IsClosed` the threads' riders
 /// stand in their order before the crew's four. Each place holds what that thread returned, and then its rider, new at
 /// first, entered a session of this log, was in it as `Work::returns` says, and left it. Or it holds the fault by which
 /// the rider was refused its session, or the thread, once it had run, couldn't leave its own. So what a thread's calls
 /// met and did is tied to the one list of the ending.
 ///
-/// The crew's riders stored into cells only to sweep pages that their calls took to clean: where no page was closed, the
+/// The crew's riders stored into cells only to sweep pages that their calls took to clean: if no page was closed, the
 /// threads alone changed words. Of each page that they flushed `Work::took` says that the device took its image, and the
 /// words of that image are the page's, by `hl_images::laws::flushed_is_imaged`.
 ///
@@ -65,7 +70,8 @@ pub fn with_threads<R: Threads + Wait + Sync, P: Work<R> + Sync, S: HasSizes>(
     ensures memory { can_run (of_sizes S.sizes_of opening) duty ≡ true
         → IfErr result (λ fault. fault ≡ OutOfMemory) }
     ensures closed { let o = of_sizes S.sizes_of opening
-        in IfOk result (IsClosed o (AreAllReturned P.Job (opened_as o) (P.returns work.now) (P.took work.now))) }
+        in IfOk result
+        (IsClosed o (AreAllReturned P.Job (opened_as o) (P.returns work.now) (P.took work.now))) }
 {
     let Closed { out, ending } = threads_of_sizes(rt, alloc, opening.of_sizes(), duty, work, None)?;
     Ok(Closed { out: out.0, ending })
@@ -102,9 +108,9 @@ fn has_room(opening: &Opening<Sizes>, duty: Duty) -> bool
     ensures value { result ≡ can_run opening.now duty }
     ensures range { result ≡ true → IsInRange opening.now }
     ensures four { result ≡ true → 4 ≤ opening.now.riders }
-    ensures duty { result ≡ true → can_serve opening.now.params duty ≡ true }
+    ensures duty { result ≡ true → duty.frames ≡ opening.now.params.frames }
 {
-    opening.is_in_range() && 4 <= opening.riders && is_for(duty, opening.params)
+    opening.is_in_range() && 4 <= opening.riders && duty.frames() == opening.params.frames()
 }
 
 // The same over the words of a seed.
@@ -122,7 +128,7 @@ fn threads_over<L: Realm + Send + Sync, R: Threads + Wait + Sync, P: Work<R> + S
     requires named { (seed.sizes ≡ L.sizes) × (opening.stamp ≡ L.stamp) × (opening.journal ≡ L.limit) }
     requires range { IsInRange opening }
     requires four { 4 ≤ opening.riders }
-    requires duty { can_serve opening.params duty ≡ true }
+    requires duty { duty.frames ≡ opening.params.frames }
     ensures memory { IfErr result (λ fault. fault ≡ OutOfMemory) }
     ensures kind { IfOk result (λ closed. is_some closed.out.1 ≡ is_some device) }
     ensures closed { IfOk result (IsClosed opening
@@ -149,7 +155,7 @@ pub(crate) fn run_all<L: Realm + Send + Sync, R: Threads + Wait + Sync, P: Work<
 ) -> (Left<P::Out>, Vec<Rider<L>>)
     requires new { riders.items ≡ new_riders (length riders.items) }
     requires four { 4 ≤ length riders.items }
-    requires duty { can_serve log.now.sizes duty ≡ true }
+    requires duty { duty.frames ≡ log.now.sizes.frames }
     ensures kind { is_some result.0.1 ≡ is_some device }
     ensures left { AreLeft P.Job log.now (P.returns work.now) (P.took work.now) (length riders.items)
         result.0 result.1.items }
@@ -161,20 +167,20 @@ pub(crate) fn run_all<L: Realm + Send + Sync, R: Threads + Wait + Sync, P: Work<
     // If the first one's thread can't be made, it runs after the second: a crew that ran first would wait for its stop.
     let ((crew, device, served), worked) = thread::join(
         rt,
-        || -> (CrewRiders<L>, Option<MemoryDevice>, Result<Served, Fault>)
-            requires { can_serve log.now.sizes duty ≡ true }
-            ensures memory { IfErr result.2 (λ fault. fault ≡ OutOfMemory) }
-            ensures sweeps { StoreSweeps log.entry.now.sizes (riders_of crew)
-                → StoreSweeps log.entry.now.sizes (riders_of result.0) }
-            ensures images { AllByRecursion FlushesNone (riders_of crew) → AllByRecursion
-                (FlushesTaken (device_has (P.took work.entry.now) result.1) log.entry.now.sizes) (riders_of result.0) }
-            ensures kind { is_some result.1 ≡ is_some device }
+        || -> Served<L>
+            requires { duty.frames ≡ log.now.sizes.frames }
+            ensures { HasServed log.entry.now.sizes (device_has (P.took work.entry.now) result.1)
+                (riders_of crew) (riders_of result.0) result.2 × (is_some result.1 ≡ is_some device) }
         { serve_behind(rt, alloc, log, crew, duty, work, device, &stop) },
         || -> Result<Vec<Worked<L, P::Out>>, AllocError>
-            ensures { IfOk result (λ worked. (length worked.items ≡ length riders.items)
-                × AreReturned P.Job log.entry.now (P.returns work.entry.now) (rider_at riders.items)
-                (map (λ one. one.0) worked.items) (map (λ one. one.1) worked.items)) }
-        { work_to_the_stop(rt, alloc, log, riders, work, &stop) },
+            ensures { IfOk result
+                (λ worked. HaveWorked P.Job log.entry.now (P.returns work.entry.now) riders.items
+                worked.items) }
+        {
+            let worked = work_all(rt, alloc, log, riders, work, &stop);
+            stop.give();
+            worked
+        },
     );
     let Ok(worked) = worked else {
         return ((Err(Fault::OutOfMemory), device), Vec::new(alloc));
@@ -190,7 +196,7 @@ fn gather_all<L: Realm, T: Drop>(
     alloc: Global,
     worked: Vec<Worked<L, T>>,
     crew: CrewRiders<L>,
-    served: Result<Served, Fault>,
+    served: Result<CrewReport, Fault>,
 ) -> Result<(Result<Outs<T>, Fault>, Vec<Rider<L>>), Fault>
     ensures outs { IfOk result (λ all. IfOk all.0
         (λ outs. outs.items ≡ map (λ one. one.0) worked.items)) }
@@ -199,47 +205,17 @@ fn gather_all<L: Realm, T: Drop>(
     ensures riders { IfOk result (λ all. all.1.items ≡ map (λ one. one.1) worked.items ++ riders_of crew) }
     ensures memory { IfErr result (λ fault. fault ≡ OutOfMemory) }
 {
-    let (outs, riders) = gather(alloc, worked, crew)?;
-    match served {
-        Ok(_served) => Ok((Ok(outs), riders)),
-        Err(fault) => Ok((Err(fault), riders)),
-    }
-}
-
-// What each thread returned, and all riders.
-fn gather<L: Realm, T: Drop>(
-    alloc: Global,
-    worked: Vec<Worked<L, T>>,
-    crew: CrewRiders<L>,
-) -> Result<(Outs<T>, Vec<Rider<L>>), Fault>
-    ensures outs { IfOk result (λ all. all.0.items ≡ map (λ one. one.0) worked.items) }
-    ensures riders { IfOk result (λ all. all.1.items ≡ map (λ one. one.1) worked.items ++ riders_of crew) }
-    ensures memory { IfErr result (λ fault. fault ≡ OutOfMemory) }
-{
     let parted: Result<(Outs<T>, Vec<Rider<L>>), AllocError> = worked.into_iter().unzip(alloc);
     let Ok((outs, mut riders)) = parted else {
         return Err(Fault::OutOfMemory);
     };
-    crew.put_back(&mut riders)?;
-    Ok((outs, riders))
-}
-
-// Each rider's thread; then the crew is stopped.
-fn work_to_the_stop<L: Realm + Send + Sync, R: Threads + Wait + Sync, P: Work<R> + Sync>(
-    rt: &R,
-    alloc: Global,
-    log: &Log<L, P::Job>,
-    riders: Vec<Rider<L>>,
-    work: &P,
-    stop: &Stop,
-) -> Result<Vec<Worked<L, P::Out>>, AllocError>
-    ensures { IfOk result (λ worked. (length worked.items ≡ length riders.items)
-        × AreReturned P.Job log.now (P.returns work.now) (rider_at riders.items)
-        (map (λ one. one.0) worked.items) (map (λ one. one.1) worked.items)) }
-{
-    let worked = work_all(rt, alloc, log, riders, work, stop);
-    stop.give();
-    worked
+    if let Err((fault, _)) = crew.put_back(&mut riders) {
+        return Err(fault);
+    }
+    match served {
+        Ok(_) => Ok((Ok(outs), riders)),
+        Err(fault) => Ok((Err(fault), riders)),
+    }
 }
 
 // Each rider's thread.
@@ -251,9 +227,8 @@ fn work_all<L: Realm + Send + Sync, R: Threads + Wait + Sync, P: Work<R> + Sync>
     work: &P,
     stop: &Stop,
 ) -> Result<Vec<Worked<L, P::Out>>, AllocError>
-    ensures { IfOk result (λ worked. (length worked.items ≡ length riders.items)
-        × AreReturned P.Job log.now (P.returns work.now) (rider_at riders.items)
-        (map (λ one. one.0) worked.items) (map (λ one. one.1) worked.items)) }
+    ensures { IfOk result
+        (λ worked. HaveWorked P.Job log.now (P.returns work.now) riders.items worked.items) }
 {
     let jobs = riders.into_iter().enumerate().collect::<Vec<_>>(alloc)?;
     thread::map_vec(
@@ -277,7 +252,7 @@ fn work_one<L: Realm + Send + Sync, R: Wait, P: Work<R>>(
     ensures { Tells P.Job log.now (P.returns work.now number) rider result.1 result.0 }
 {
     let mut session = match Session::enter(rt, log, rider) {
-        Ok(session) => session.beside(stop),
+        Ok(session) => session.with_bell(Some(stop)),
         Err(Refused { fault, back }) => return (Err(fault), back),
     };
     let out = work.run(rt, &mut session, number);
@@ -300,19 +275,16 @@ fn serve_behind<L: Realm + Send + Sync, R: Threads + Wait + Sync, P: Work<R> + S
     work: &P,
     device: Option<MemoryDevice>,
     stop: &Stop,
-) -> (CrewRiders<L>, Option<MemoryDevice>, Result<Served, Fault>)
-    requires { can_serve log.now.sizes duty ≡ true }
-    ensures memory { IfErr result.2 (λ fault. fault ≡ OutOfMemory) }
-    ensures sweeps { StoreSweeps log.now.sizes (riders_of riders)
-        → StoreSweeps log.now.sizes (riders_of result.0) }
-    ensures images { AllByRecursion FlushesNone (riders_of riders) → AllByRecursion
-        (FlushesTaken (device_has (P.took work.now) result.1) log.now.sizes) (riders_of result.0) }
-    ensures kind { is_some result.1 ≡ is_some device }
+) -> Served<L>
+    requires { duty.frames ≡ log.now.sizes.frames }
+    ensures { HasServed log.now.sizes (device_has (P.took work.now) result.1)
+        (riders_of riders) (riders_of result.0)
+        result.2 × (is_some result.1 ≡ is_some device) }
 {
     serve_named::<Brand, L, R, P>(rt, alloc, log, riders, duty, work, device, stop)
 }
 
-// The same, where the page writers name the work.
+// The same, with page writers that name the work.
 fn serve_named<
     T: Named<P> + Send,
     L: Realm + Send + Sync,
@@ -327,16 +299,13 @@ fn serve_named<
     work: &P,
     device: Option<MemoryDevice>,
     stop: &Stop,
-) -> (CrewRiders<L>, Option<MemoryDevice>, Result<Served, Fault>)
-    requires duty { can_serve log.now.sizes duty ≡ true }
+) -> Served<L>
+    requires duty { duty.frames ≡ log.now.sizes.frames }
     requires work { T.work ≡ Some work.now }
     requires kind { T.in_memory ≡ is_some device }
-    ensures memory { IfErr result.2 (λ fault. fault ≡ OutOfMemory) }
-    ensures sweeps { StoreSweeps log.now.sizes (riders_of riders)
-        → StoreSweeps log.now.sizes (riders_of result.0) }
-    ensures images { AllByRecursion FlushesNone (riders_of riders) → AllByRecursion
-        (FlushesTaken (device_has (P.took work.now) result.1) log.now.sizes) (riders_of result.0) }
-    ensures kind { is_some result.1 ≡ is_some device }
+    ensures { HasServed log.now.sizes (device_has (P.took work.now) result.1)
+        (riders_of riders) (riders_of result.0)
+        result.2 × (is_some result.1 ≡ is_some device) }
 {
     let (first, second) = MemoryDevice::into_parts(device);
     let crew = Crew {
@@ -344,7 +313,7 @@ fn serve_named<
         first: Sink::<R, P, T>::new(rt, work, first),
         second: Sink::<R, P, T>::new(rt, work, second),
     };
-    let (crew, served) = parted(crew.serve(rt, alloc, log, &OpenGate, duty, stop));
+    let (crew, served) = crew.serve(rt, alloc, log, &OpenGate, duty, stop);
     let first = crew.first.into_memory();
     let device = MemoryDevice::of_parts(first, crew.second.into_memory());
     (crew.riders, device, served)

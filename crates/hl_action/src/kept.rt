@@ -8,8 +8,8 @@ use crate::task::Task;
 use hl_model::Tagged;
 use std::marker::{Model, PhantomData};
 
-/// A job stored under a tag. It can be called on every firing, and whatever it answers keeps the promise P for
-/// its tag: both facts are in its type.
+/// A job stored under a tag. It can be called on every firing, and whatever it returns keeps the promise P
+/// for its tag: both facts are in its type.
 pub struct Kept<F: Task, P: Promise> {
     tag: u64,
     job: F,

@@ -3,14 +3,15 @@
 //!
 //! A job is code that is called on a `Firing`: the ticket of its action, and the safe epoch when that action
 //! was taken. Stored under a tag it is a `Kept`, whose type says that it can be called on every firing, and
-//! that whatever it answers keeps a `Promise` for its tag. So whoever runs it need know nothing else of it.
+//! that whatever it returns keeps a `Promise` for its tag. So whoever runs it need know nothing else of it.
 //!
-//! An action that was taken is a `Ready`: `run` consumes it, calls its job, if it has one, and gives a `Ran`
-//! with the answer, which waits for the action to be done. Jobs that no action has yet stand on a `Shelf`.
+//! An action that was taken is a `Ready`: `run` consumes it, calls its job, if it has one, and returns a
+//! `Ran` with what the job returned, which waits for the action to be done. Jobs that no action has yet stand
+//! on a `Shelf`.
 //!
-//! What the types alone forbid: that a job runs twice, since `run` takes it and nothing copies it; that it runs
-//! under a firing whose ticket is above that firing's safe epoch, since no such `Firing` can be made; and that a taken
-//! action is dropped by oversight, since a `Ready` and a `Ran` must be spent.
+//! What the types alone forbid: that a job runs twice, since `run` takes it and nothing copies it; that it
+//! runs under a firing whose ticket is above that firing's safe epoch, since no such `Firing` can be made;
+//! and that a taken action is dropped by oversight, since a `Ready` and a `Ran` must be spent.
 #![tactic(auto)]
 
 mod firing;

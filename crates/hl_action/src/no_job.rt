@@ -18,7 +18,7 @@ impl Task for NoJob {
     }
 }
 
-/// The promise that each answer keeps.
+/// The promise that whatever a job returns keeps.
 pub struct AnyAnswer;
 
 impl Promise for AnyAnswer {

@@ -9,7 +9,7 @@ pub struct Outcome {
     pub origin: u64,
     /// The action's ticket, an epoch.
     pub ticket: u64,
-    /// What its job answered. None where it had no job: a settle or a close.
+    /// What its job returned. None if it had no job: a settle or a close.
     pub answer: Option<u64>,
 }
 
@@ -48,7 +48,7 @@ impl Ran {
         self.outcome.ticket
     }
 
-    /// What its job answered. None where it had no job.
+    /// Returns what its job returned, or None if it had no job.
     pub fn answer(&self) -> Option<u64>
         ensures { result ≡ self.now.answer }
     {
@@ -63,7 +63,7 @@ impl Ran {
         outcome
     }
 
-    /// Lets it go: the action was run, and where no done is made of it, stays taken for good.
+    /// Lets it go: the action was run, and if no done is made of it, stays taken for good.
     pub fn forsake(self) {
         let Ran { outcome: _ } = self;
     }

@@ -46,14 +46,14 @@ impl<F: Task, P: Promise> Ready<F, P> {
         self.firing.ticket()
     }
 
-    /// The tag of its job. None where it has no job.
+    /// Returns the tag of its job, or None if it has no job.
     pub fn tag(&self) -> Option<u64>
         ensures { result ≡ option_map (λ kept. kept.tag) self.now.kept }
     {
         self.kept.as_ref().map(|kept| kept.tag())
     }
 
-    /// Calls the job, if there is one. Its answer keeps the promise for its tag under the firing.
+    /// Calls the job, if there is one. What it returns keeps the promise for its tag under the firing.
     pub fn run(self) -> Ran
         ensures origin { result.origin ≡ self.origin }
         ensures ticket { result.ticket ≡ self.firing.ticket }

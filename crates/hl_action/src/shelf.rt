@@ -40,7 +40,7 @@ impl<F: Task, P: Promise> Shelf<F, P> {
     ///
     /// # Errors
     ///
-    /// `OutOfMemory` where the places were refused.
+    /// `OutOfMemory` if the places were refused.
     pub fn open(alloc: Global, n: u64) -> Result<Shelf<F, P>, Fault>
         ensures free { IfOk result (λ shelf. shelf ≡ replicate n None) }
         ensures error { IfErr result (λ fault. fault ≡ OutOfMemory) }
@@ -55,7 +55,7 @@ impl<F: Task, P: Promise> Shelf<F, P> {
         Ok(Shelf { places })
     }
 
-    /// Puts a job at the place of its tag. Hands it back, and changes nothing, where there is no such place or
+    /// Puts a job at the place of its tag. Hands it back, and changes nothing, if there is no such place or
     /// another job is there.
     pub fn put(&mut self, kept: Kept<F, P>) -> Option<Kept<F, P>>
         ensures back { result ≡ (if has_place self.old kept.tag then None else Some kept) }
@@ -72,7 +72,7 @@ impl<F: Task, P: Promise> Shelf<F, P> {
         }
     }
 
-    /// Takes the job of a tag. None where it isn't there.
+    /// Takes the job of a tag; returns it, or None if it isn't there.
     pub fn take(&mut self, tag: u64) -> Option<Kept<F, P>>
         ensures value { result ≡ job_of self.old tag }
         ensures after { self.new ≡ slice_set self.old tag None }

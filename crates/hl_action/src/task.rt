@@ -5,15 +5,15 @@ use crate::firing::Firing;
 
 /// Code that can be called once, on a firing. A closure is one by `Call`, a struct by an impl of its own.
 ///
-/// It stands where a bound on `FnOnce` would: the type of a stored job says what its call requires and gives,
-/// and no type can yet say that of such a bound. A function that writes a closure can't name what is made of it
-/// (`Kept`, `Ready`, `Shelf`): it passes `Call` of it, or a closure that makes such jobs, to a function that is
-/// generic over the task. Jobs that are structs can be named anywhere.
+/// It stands where a bound on `FnOnce` would: the type of a stored job says what its call requires and
+/// ensures, and no type can yet say that of such a bound. A function that writes a closure can't name what is
+/// made of it (`Kept`, `Ready`, `Shelf`): it passes `Call` of it, or a closure that makes such jobs, to a
+/// function that is generic over the task. Jobs that are structs can be named anywhere.
 pub trait Task: Drop {
     /// It can be called on this firing.
     ghost can: { Self → FiringRecord → Type 0 };
 
-    /// It may give this answer for this firing.
+    /// It may return this number for this firing.
     ghost gives: { Self → FiringRecord → ℕ → Type 0 };
 
     /// Calls it.
@@ -22,7 +22,7 @@ pub trait Task: Drop {
         ensures { gives self firing result };
 }
 
-/// A closure as a job: it can be called where the closure can be, and gives what the closure returns.
+/// A closure as a job: it can be called if the closure can be, and returns what the closure returns.
 #[derive(Drop)]
 pub struct Call<F>(pub F);
 

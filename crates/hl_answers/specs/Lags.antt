@@ -14,20 +14,20 @@ no_step = record { kind = 0; address = 0 }
 
 -- a step of a lag: 1 a raise, 2 a settle, 3 a shift, 4 a close, and the address to which the first and the
 -- third move their offset; a lag has no others
-abbrev pub step_told : Step → LagStep
-step_told (Raise x) = record { kind = 1; address = x }
-step_told Settle = record { kind = 2; address = 0 }
-step_told (Shift x) = record { kind = 3; address = x }
-step_told Close = record { kind = 4; address = 0 }
-step_told _ = no_step
+abbrev pub lag_step : Step → LagStep
+lag_step (Raise x) = record { kind = 1; address = x }
+lag_step Settle = record { kind = 2; address = 0 }
+lag_step (Shift x) = record { kind = 3; address = x }
+lag_step Close = record { kind = 4; address = 0 }
+lag_step _ = no_step
 
 -- the step at a place of a lag, if there is one
 abbrev pub step_at : List Step → ℕ → LagStep
-step_at steps place = unwrap_or (option_map step_told (slice_get steps place)) no_step
+step_at steps place = unwrap_or (option_map lag_step (slice_get steps place)) no_step
 
 -- how many steps a lag has, and the step at each place
-abbrev pub lag_told : List Step → LagOutcome
-lag_told steps = record {
+abbrev pub lag_outcome : List Step → LagOutcome
+lag_outcome steps = record {
   number = 0;
   count = length steps;
   steps = map (step_at steps) (0 ∷ 1 ∷ 2 ∷ 3 ∷ []);
@@ -42,5 +42,5 @@ no_lag number = record { number = number; count = 0; steps = replicate 4 no_step
 unfoldable pub lag_answer : Sizes → Six → ℕ → ℕ → LagOutcome
 lag_answer sizes six mutable resident =
     if nat_le 1 mutable && nat_le mutable resident && nat_lt resident sizes.frames
-    then lag_told (lag_of sizes.page_size six mutable resident)
+    then lag_outcome (lag_of sizes.page_size six mutable resident)
     else no_lag 254

@@ -51,36 +51,36 @@ second_of (NotReady front safe) = safe
 second_of _ = 0
 
 -- a fault: its number, and what it carries
-abbrev pub fault_told : Fault → Outcome
-fault_told fault = record { number = number_of fault; a = first_of fault; b = second_of fault; c = 0; d = 0 }
+abbrev pub fault_outcome : Fault → Outcome
+fault_outcome fault = record { number = number_of fault; a = first_of fault; b = second_of fault; c = 0; d = 0 }
 
 -- an answer: the epoch with the view, the view alone, what a done did with its kind (1 a job, 2 a settle, 3 a
 -- close), or its one number
-abbrev pub reply_told : Reply → Outcome
-reply_told (Entered epoch view) = accepted epoch view.read_only view.head view.tail
-reply_told (Looked view) = accepted 0 view.read_only view.head view.tail
-reply_told (Ran tag) = accepted tag 1 0 0
-reply_told (Settled x) = accepted x 2 0 0
-reply_told (Closed x) = accepted x 3 0 0
-reply_told Left = accepted 0 0 0 0
-reply_told Written = accepted 0 0 0 0
-reply_told Readable = accepted 0 0 0 0
-reply_told (Ticket x) = accepted x 0 0 0
-reply_told (Bumped x) = accepted x 0 0 0
-reply_told (Taken x) = accepted x 0 0 0
-reply_told (Answer x) = accepted x 0 0 0
-reply_told (Raised x) = accepted x 0 0 0
-reply_told (Shifted x) = accepted x 0 0 0
-reply_told (At x) = accepted x 0 0 0
-reply_told (Value x) = accepted x 0 0 0
-reply_told (Page x) = accepted x 0 0 0
-reply_told (Flushed x) = accepted x 0 0 0
-reply_told (Freed x) = accepted x 0 0 0
+abbrev pub reply_outcome : Reply → Outcome
+reply_outcome (Entered epoch view) = accepted epoch view.read_only view.head view.tail
+reply_outcome (Looked view) = accepted 0 view.read_only view.head view.tail
+reply_outcome (Ran tag) = accepted tag 1 0 0
+reply_outcome (Settled x) = accepted x 2 0 0
+reply_outcome (Closed x) = accepted x 3 0 0
+reply_outcome Left = accepted 0 0 0 0
+reply_outcome Written = accepted 0 0 0 0
+reply_outcome Readable = accepted 0 0 0 0
+reply_outcome (Ticket x) = accepted x 0 0 0
+reply_outcome (Bumped x) = accepted x 0 0 0
+reply_outcome (Taken x) = accepted x 0 0 0
+reply_outcome (Answer x) = accepted x 0 0 0
+reply_outcome (Raised x) = accepted x 0 0 0
+reply_outcome (Shifted x) = accepted x 0 0 0
+reply_outcome (At x) = accepted x 0 0 0
+reply_outcome (Value x) = accepted x 0 0 0
+reply_outcome (Page x) = accepted x 0 0 0
+reply_outcome (Flushed x) = accepted x 0 0 0
+reply_outcome (Freed x) = accepted x 0 0 0
 
 -- a reply
-abbrev pub told_of : Result Reply Fault → Outcome
-told_of (Ok reply) = reply_told reply
-told_of (Err fault) = fault_told fault
+abbrev pub outcome_of : Result Reply Fault → Outcome
+outcome_of (Ok reply) = reply_outcome reply
+outcome_of (Err fault) = fault_outcome fault
 
 -- an action's kind as a number (1 a job, 2 a settle, 3 a close), and its tag or the offset that it stores
 abbrev pub kind_number : Kind → ℕ
@@ -103,20 +103,20 @@ job_tag (User tag) = tag
 job_tag _ = 0
 
 -- a take: the ticket of the oldest of the pending actions with its job, or the fault
-abbrev pub take_told : Result Reply Fault → List Waiting → Outcome
-take_told (Err fault) ws = fault_told fault
-take_told (Ok reply) [] = reply_told reply
-take_told (Ok reply) (w ∷ ws) = accepted w.ticket (job_number w.kind) (job_tag w.kind) 0
+abbrev pub take_outcome : Result Reply Fault → List Waiting → Outcome
+take_outcome (Err fault) ws = fault_outcome fault
+take_outcome (Ok reply) [] = reply_outcome reply
+take_outcome (Ok reply) (w ∷ ws) = accepted w.ticket (job_number w.kind) (job_tag w.kind) 0
 
 -- what a core's take answers: its ticket, with the tag where it is a job's
-abbrev pub taken_told : Result (FiringRecord × Option Tag) Fault → Outcome
-taken_told (Err fault) = fault_told fault
-taken_told (Ok (firing, None)) = accepted firing.ticket 0 0 0
-taken_told (Ok (firing, Some tag)) = accepted firing.ticket 1 tag.0 0
+abbrev pub taken_outcome : Result (FiringRecord × Option Tag) Fault → Outcome
+taken_outcome (Err fault) = fault_outcome fault
+taken_outcome (Ok (firing, None)) = accepted firing.ticket 0 0 0
+taken_outcome (Ok (firing, Some tag)) = accepted firing.ticket 1 tag.0 0
 
 -- the offsets in their order
-abbrev pub six_told : Six → SixOutcome
-six_told s = record {
+abbrev pub six_outcome : Six → SixOutcome
+six_outcome s = record {
   number = 0;
   closed = s.closed;
   head = s.head;
@@ -139,15 +139,15 @@ no_six = record {
 }
 
 -- all quantities
-abbrev pub snapshot_told : Snapshot → SnapshotOutcome
-snapshot_told s = record {
+abbrev pub snapshot_outcome : Snapshot → SnapshotOutcome
+snapshot_outcome s = record {
   number = 0;
   epoch = s.epoch;
   safe = s.safe;
   protected = s.protected;
   pending = s.pending;
   taken = s.taken;
-  six = six_told s.six;
+  six = six_outcome s.six;
   frames = s.frames;
 }
 
@@ -164,11 +164,11 @@ no_snapshot = record {
 }
 
 -- the pending action at a place, oldest first, and how many there are
-abbrev pub action_told : ℕ → Waiting → Outcome
-action_told count w = accepted w.ticket (kind_number w.kind) (kind_value w.kind) count
+abbrev pub action_outcome : ℕ → Waiting → Outcome
+action_outcome count w = accepted w.ticket (kind_number w.kind) (kind_value w.kind) count
 
 unfoldable pub pending_told : ℕ → List Waiting → Outcome
-pending_told place ws = unwrap_or (option_map (action_told (length ws)) (slice_get ws place)) out_of_range
+pending_told place ws = unwrap_or (option_map (action_outcome (length ws)) (slice_get ws place)) out_of_range
 
 -- a frame's state, 0 open to 4 free, and its page, if it has one
 abbrev pub state_number : FrameState → ℕ
@@ -178,14 +178,14 @@ state_number FlushedFrame = 2
 state_number ClosedFrame = 3
 state_number Free = 4
 
-abbrev pub frame_told : FrameState × Option ℕ → Outcome
-frame_told (state, None) = accepted (state_number state) 0 0 0
-frame_told (state, Some page) = accepted (state_number state) 1 page 0
+abbrev pub frame_outcome : FrameState × Option ℕ → Outcome
+frame_outcome (state, None) = accepted (state_number state) 0 0 0
+frame_outcome (state, Some page) = accepted (state_number state) 1 page 0
 
 -- a protected slot's view
-abbrev pub view_told : Option View → Outcome
-view_told None = accepted 0 0 0 0
-view_told (Some view) = accepted 1 view.read_only view.head view.tail
+abbrev pub view_outcome : Option View → Outcome
+view_outcome None = accepted 0 0 0 0
+view_outcome (Some view) = accepted 1 view.read_only view.head view.tail
 
 -- an outcome's number, and the first of those that it carries
 abbrev pub brief_of : Outcome → Brief

@@ -1,12 +1,12 @@
 ghost use Rattle.std.specs.Prelude.{◌≡◌};
-ghost use Rattle.hl_answers.specs.Lags.{no_step, step_told, step_at, lag_told, no_lag, lag_answer};
+ghost use Rattle.hl_answers.specs.Lags.{no_step, lag_step, step_at, lag_outcome, no_lag, lag_answer};
 
 use crate::outcome::{NO_CORE, OUT_OF_RANGE};
 use hl_lag::lag_steps;
 use hl_model::{Six, Sizes, Step};
 
-/// A step of a lag: 1 a raise, 2 a settle, 3 a shift, 4 a close; and the address to which a raise or a shift moves its
-/// offset. Both are 0 where there is none.
+/// A step of a lag: 1 a raise, 2 a settle, 3 a shift, 4 a close; and the address to which a raise or a shift
+/// moves its offset. Both are 0 if there is none.
 #[repr(C)]
 #[derive(Clone, Copy, Drop)]
 pub struct LagStep {
@@ -34,7 +34,7 @@ impl LagStep {
     }
 
     fn of(step: Step) -> LagStep
-        ensures { result ≡ step_told step }
+        ensures { result ≡ lag_step step }
     {
         let (kind, address) = match step {
             Step::Raise { x } => (1, x),
@@ -72,7 +72,7 @@ impl LagOutcome {
 
     // Of these steps, of which it has places for four.
     fn of_steps(steps: &[Step]) -> LagOutcome
-        ensures { result ≡ lag_told steps.now }
+        ensures { result ≡ lag_outcome steps.now }
     {
         LagOutcome {
             number: 0,

@@ -1,5 +1,5 @@
 ghost use Rattle.std.specs.Prelude.{◌≡◌, Ok, option_map, unwrap_or};
-ghost use Rattle.hl_answers.specs.Outcomes.{told_of, fault_told, taken_told, frame_told, view_told, action_told, accepted, brief_of, no_core, out_of_range};
+ghost use Rattle.hl_answers.specs.Outcomes.{outcome_of, fault_outcome, taken_outcome, frame_outcome, view_outcome, action_outcome, accepted, brief_of, no_core, out_of_range};
 
 use hl_action::Firing;
 use hl_model::{Fault, FrameState, Kind, Reply, Tag, View, Waiting};
@@ -9,7 +9,8 @@ pub const NO_CORE: u64 = 255;
 /// The number of a call with sizes, a place, a frame or the pages of a lag out of range.
 pub const OUT_OF_RANGE: u64 = 254;
 
-/// A reply as numbers: 0 and up to four numbers for an answer, the fault's number and up to two for a fault.
+/// A reply as numbers: 0 and up to four numbers of an accepted step, the fault's number and up to two for a
+/// fault.
 #[repr(C)]
 #[derive(Clone, Copy, Drop)]
 pub struct Outcome {
@@ -65,7 +66,7 @@ impl Outcome {
         }
     }
 
-    /// An answer of these numbers.
+    /// A reply of these numbers.
     #[inline(always)]
     pub fn accepted(a: u64, b: u64, c: u64, d: u64) -> Outcome
         ensures { result ≡ accepted a b c d }
@@ -82,7 +83,7 @@ impl Outcome {
     /// A step's reply.
     #[inline(always)]
     pub fn of(reply: Result<Reply, Fault>) -> Outcome
-        ensures { result ≡ told_of reply }
+        ensures { result ≡ outcome_of reply }
     {
         match reply {
             Ok(reply) => Outcome::of_reply(reply),
@@ -92,7 +93,7 @@ impl Outcome {
 
     #[inline(always)]
     fn of_reply(reply: Reply) -> Outcome
-        ensures { result ≡ told_of (Ok reply) }
+        ensures { result ≡ outcome_of (Ok reply) }
     {
         match reply {
             Reply::Entered { epoch, view } => {
@@ -119,7 +120,7 @@ impl Outcome {
 
     #[inline(always)]
     pub fn of_fault(fault: Fault) -> Outcome
-        ensures { result ≡ fault_told fault }
+        ensures { result ≡ fault_outcome fault }
     {
         let number = fault.number() as u64;
         let (a, b) = match fault {
@@ -141,10 +142,10 @@ impl Outcome {
         }
     }
 
-    /// What a take answers.
+    /// What a take returns.
     #[inline(always)]
     pub fn of_taken(taken: Result<(Firing, Option<Tag>), Fault>) -> Outcome
-        ensures { result ≡ taken_told taken }
+        ensures { result ≡ taken_outcome taken }
     {
         match taken {
             Ok((firing, job)) => {
@@ -160,7 +161,7 @@ impl Outcome {
 
     /// A frame's state, and its page.
     pub fn of_frame(state: FrameState, page: Option<u64>) -> Outcome
-        ensures { result ≡ frame_told (state, page) }
+        ensures { result ≡ frame_outcome (state, page) }
     {
         let number = match state {
             FrameState::Opened => 0,
@@ -177,7 +178,7 @@ impl Outcome {
 
     /// A slot's view.
     pub fn of_view(view: Option<View>) -> Outcome
-        ensures { result ≡ view_told view }
+        ensures { result ≡ view_outcome view }
     {
         match view {
             Some(view) => Outcome::accepted(1, view.read_only, view.head, view.tail),
@@ -187,7 +188,7 @@ impl Outcome {
 
     /// A pending action, if there is one, of so many.
     pub fn of_pending(found: Option<Waiting>, count: u64) -> Outcome
-        ensures { result ≡ unwrap_or (option_map (action_told count) found) out_of_range }
+        ensures { result ≡ unwrap_or (option_map (action_outcome count) found) out_of_range }
     {
         match found {
             Some(action) => Outcome::of_action(&action, count),
@@ -197,7 +198,7 @@ impl Outcome {
 
     /// A pending action, of so many.
     fn of_action(action: &Waiting, count: u64) -> Outcome
-        ensures { result ≡ action_told count action.now }
+        ensures { result ≡ action_outcome count action.now }
     {
         match action.kind {
             Kind::User(tag) => Outcome::accepted(action.ticket, 1, tag, count),

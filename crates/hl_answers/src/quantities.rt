@@ -1,9 +1,9 @@
 ghost use Rattle.std.specs.Prelude.{◌≡◌};
-ghost use Rattle.hl_answers.specs.Outcomes.{six_told, no_six, snapshot_told, no_snapshot};
+ghost use Rattle.hl_answers.specs.Outcomes.{six_outcome, no_six, snapshot_outcome, no_snapshot};
 
 use hl_model::{Six, Snapshot};
 
-/// The six offsets; the number is 0, or 255 where no core is open.
+/// The six offsets; the number is 0, or 255 if no core is open.
 #[repr(C)]
 #[derive(Clone, Copy, Drop)]
 pub struct SixOutcome {
@@ -16,7 +16,7 @@ pub struct SixOutcome {
     pub tail: u64,
 }
 
-/// All quantities; the number is 0, or 255 where no core is open. The frames are those open, sealed, flushed,
+/// All quantities; the number is 0, or 255 if no core is open. The frames are those open, sealed, flushed,
 /// closed and free.
 #[repr(C)]
 #[derive(Clone, Copy, Drop)]
@@ -34,7 +34,7 @@ pub struct SnapshotOutcome {
 impl SixOutcome {
     #[inline(always)]
     pub fn of(six: Six) -> SixOutcome
-        ensures { result ≡ six_told six }
+        ensures { result ≡ six_outcome six }
     {
         SixOutcome {
             number: 0,
@@ -64,7 +64,7 @@ impl SixOutcome {
 
 impl SnapshotOutcome {
     pub fn of(snapshot: Snapshot) -> SnapshotOutcome
-        ensures { result ≡ snapshot_told snapshot }
+        ensures { result ≡ snapshot_outcome snapshot }
     {
         let six = SixOutcome::of(snapshot.six);
         let frames = snapshot.frames;

@@ -11,7 +11,7 @@ use Rattle.hl_core.specs.Standing.{Stands}
 use Rattle.hl_core.specs.Steps.{Made}
 use Rattle.hl_answers.specs.declared.outcome.Brief.{Brief}
 use Rattle.hl_answers.specs.declared.outcome.Outcome.{Outcome}
-use Rattle.hl_answers.specs.Outcomes.{told_of, take_told, brief_of, no_core}
+use Rattle.hl_answers.specs.Outcomes.{outcome_of, take_outcome, brief_of, no_core}
 use Rattle.hl_c.specs.Slots.{DoorRow}
 
 -- a core stands at these steps
@@ -31,7 +31,7 @@ pub record Moved (old : DoorRow.Denot) (A : List Step) (step : Step) (new : Door
 abbrev pub Answers : Option DoorRow.Denot → Step → Option DoorRow.Denot → Outcome → Type 0
 Answers None step new outcome = (outcome ≡ no_core) × (new ≡ None)
 Answers (Some old) step new outcome = (core : DoorRow.Denot) × (new ≡ Some core)
-    × ((A : List Step) → StandsAt old A → Moved old A step core (told_of (reply_of old.sizes A step)) outcome)
+    × ((A : List Step) → StandsAt old A → Moved old A step core (outcome_of (reply_of old.sizes A step)) outcome)
 
 -- a call, as what it answers and leaves of a core, makes this step
 abbrev pub MakesStep : (DoorRow.Denot → Result Reply Fault → DoorRow.Denot → Type 0) → Step → Type 0
@@ -77,4 +77,4 @@ abbrev pub Takes : Option DoorRow.Denot → Option DoorRow.Denot → Outcome →
 Takes None new outcome = (outcome ≡ no_core) × (new ≡ None)
 Takes (Some old) new outcome = (core : DoorRow.Denot) × (new ≡ Some core)
     × ((A : List Step) → StandsAt old A
-    → Moved old A Take core (take_told (reply_of old.sizes A Take) (pending A)) outcome)
+    → Moved old A Take core (take_outcome (reply_of old.sizes A Take) (pending A)) outcome)

@@ -52,7 +52,7 @@ pub extern "C" fn hl_done(handle: &mut Handle, ticket: u64) -> Outcome
     handle.step(Step::Done { ticket }, |core| core.done(ticket))
 }
 
-/// Takes the oldest pending action: its ticket, and 1 with its tag where it is a job's.
+/// Takes the oldest pending action; returns its ticket, and 1 with its tag if it is a job's.
 #[unsafe(no_mangle)]
 pub extern "C" fn hl_take(handle: &mut Handle) -> Outcome
     ensures { Takes handle.old.slot.value handle.new.slot.value result }

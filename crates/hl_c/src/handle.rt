@@ -8,7 +8,7 @@ use core::mem::{replace, replace_with};
 use hl_answers::Loose;
 use std::alloc::Global;
 
-/// What C keeps: a slot, and 1 where a core is open there. All bytes zero is a handle with none.
+/// What C keeps: a slot, and 1 if a core is open there. All bytes zero is a handle with none.
 #[repr(C)]
 pub struct Handle {
     pub(crate) slot: Slot,
@@ -50,7 +50,7 @@ impl Handle {
         Some(replace_with(self, (), emptied))
     }
 
-    /// Puts a core in where it has none.
+    /// Puts a core in if it has none.
     #[inline(always)]
     pub(crate) fn put_core(&mut self, core: Box<Door>)
         requires { self.old.slot.value ≡ None }

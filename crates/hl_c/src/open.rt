@@ -7,8 +7,9 @@ use crate::handle::Handle;
 use hl_model::{Params, Sizes};
 use std::alloc::Global;
 
-/// Opens a core: so many words a page, frames, slots, places in the drain list, narrow sizes. 0 where it did; 29 where
-/// memory was refused, 254 where a size is out of range, 255 where a core is open already, which stays as it was.
+/// Opens a core: so many words a page, frames, slots, places in the drain list, narrow sizes. Returns 0 if it
+/// did; 29 if memory was refused, 254 if a size is out of range, 255 if a core is open already, which stays
+/// as it was.
 #[unsafe(no_mangle)]
 pub extern "C" fn hl_open(
     alloc: Global,
@@ -25,8 +26,8 @@ pub extern "C" fn hl_open(
     open_with(alloc, handle, narrow(page_size, frames, slots, drain))
 }
 
-/// Opens a core of wide sizes: a page of up to 2^20 words, up to 2^16 frames, 1,024 slots and 4,096 places in the drain
-/// list. It answers as `hl_open` does.
+/// Opens a core of wide sizes: a page of up to 2^20 words, up to 2^16 frames, 1,024 slots and 4,096 places in
+/// the drain list. Returns what `hl_open` does.
 #[unsafe(no_mangle)]
 pub extern "C" fn hl_open_wide(
     alloc: Global,
@@ -81,7 +82,7 @@ fn open_with(alloc: Global, handle: &mut Handle, params: Option<Sizes>) -> u64
     }
 }
 
-/// Gives the core back with its memory; the handle then has none. 0, or 255 where none was open.
+/// Gives the core back with its memory; the handle then has none. Returns 0, or 255 if none was open.
 #[unsafe(no_mangle)]
 pub extern "C" fn hl_free(handle: &mut Handle) -> u64
     ensures number { result ≡ free_number handle.old.slot.value }
@@ -96,7 +97,7 @@ pub extern "C" fn hl_free(handle: &mut Handle) -> u64
     }
 }
 
-/// A core at the empty list, on the heap. None where memory was refused.
+/// Returns a core at the empty list, on the heap, or None if memory is refused.
 fn boxed(alloc: Global, params: Sizes) -> Option<Box<Door>>
     ensures { IfSome result (λ core. StandsAt core.value [] × (core.value.sizes ≡ params)) }
 {

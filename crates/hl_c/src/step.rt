@@ -7,8 +7,9 @@ use hl_answers::{Brief, Outcome};
 use hl_model::{Fault, Reply, Step};
 
 impl Handle {
-    /// Makes a step of its core, if it has one, by the core's own call of that step, and tells the reply. The step
-    /// itself is read by the clauses alone: with a call of its own, each export is compiled with no match over steps.
+    /// Makes a step of its core, if it has one, by the core's own call of that step, and tells the reply. The
+    /// step itself is read by the clauses alone: with a call of its own, each export is compiled with no
+    /// match over steps.
     #[inline(always)]
     pub(crate) fn step<F: FnOnce(&mut Door) -> Result<Reply, Fault>>(
         &mut self,

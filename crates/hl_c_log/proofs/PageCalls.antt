@@ -5,7 +5,7 @@ use Rattle.hl_model.specs.declared.fault.Fault.{Fault}
 use Rattle.hl_model.specs.declared.step.Reply.{Reply}
 use Rattle.hl_model.specs.declared.step.Step.{Step}
 use Rattle.hl_answers.specs.declared.outcome.Brief.{Brief}
-use Rattle.hl_answers.specs.Outcomes.{told_of, brief_of}
+use Rattle.hl_answers.specs.Outcomes.{outcome_of, brief_of}
 use Rattle.hl_log.specs.Taken.{Ends as Ended}
 use Rattle.hl_c_log.specs.Pages.{Ends, Gives, GivesOf}
 use Rattle.hl_c_log.specs.Rows.{LogRow, PageRow}
@@ -14,13 +14,13 @@ use Rattle.hl_c_log.specs.Rows.{LogRow, PageRow}
 pub ends_by : (fault : LogRow.Denot → PageRow.Denot → Option Fault) (step : ℕ → Step) (v w : Option LogRow.Denot) (q r : Option PageRow.Denot)
     (old lent new : LogRow.Denot) (p lent_page : PageRow.Denot) (brief : Brief) (result : Result Reply Fault)
     → v ≡ Some old → q ≡ Some p → w ≡ Some new → r ≡ cond (nat_eq brief.number 0) None (Some p) → lent ≡ old → lent_page ≡ p
-    → Ended lent (fault lent lent_page) (step lent_page.page) new result → brief ≡ brief_of (told_of result) → Ends fault step v q w r brief
+    → Ended lent (fault lent lent_page) (step lent_page.page) new result → brief ≡ brief_of (outcome_of result) → Ends fault step v q w r brief
 ends_by fault step v w q r old lent new p lent_page brief result was had is left same same_page ends told =
     let here : Ended old (fault old p) (step p.page) new result =
     subst (λ (l : LogRow.Denot). Ended l (fault l p) (step p.page) new result) same (subst (λ (o : PageRow.Denot). Ended lent (fault lent o) (step o.page) new result) same_page ends) in
     subst (λ (u : Option LogRow.Denot). Ends fault step u q w r brief) (sym was)
     (subst (λ (u : Option PageRow.Denot). Ends fault step (Some old) u w r brief) (sym had)
-    (new, is, left, here.beside, λ A stands. let e = here.ended A stands in record { told = told ∙ ap (λ (o : Result Reply Fault). brief_of (told_of o)) e.reply; sizes = e.sizes; standing = e.standing }))
+    (new, is, left, here.beside, λ A stands. let e = here.ended A stands in record { told = told ∙ ap (λ (o : Result Reply Fault). brief_of (outcome_of o)) e.reply; sizes = e.sizes; standing = e.standing }))
 
 -- a log that was taken out, gave a page or refused it, and was put back
 pub gives_by : (cleans : Bool) (v w : Option LogRow.Denot) (q r : Option PageRow.Denot) (old lent new : LogRow.Denot) (brief : Brief)

@@ -6,7 +6,7 @@ use Rattle.hl_model.specs.declared.fault.Fault.{Fault}
 use Rattle.hl_model.specs.declared.step.Reply.{Reply}
 use Rattle.hl_model.specs.declared.step.Step.{Step}
 use Rattle.hl_answers.specs.declared.outcome.Outcome.{Outcome}
-use Rattle.hl_answers.specs.Outcomes.{told_of, no_core, reply_told}
+use Rattle.hl_answers.specs.Outcomes.{outcome_of, no_core, reply_outcome}
 use Rattle.hl_model.specs.declared.step.Reply.TheVariants.{Looked}
 use Rattle.hl_log.specs.Calls.{by_slot, Calls}
 use Rattle.hl_pass.specs.declared.news.News.{News}
@@ -20,7 +20,7 @@ use Rattle.hl_c_log.specs.Words.{Looks, KeepsUp}
 pub calls_by : (kept : Outcome → PassRow.Denot → Option PassRow.Denot) (step : Step) (v w : Option LogRow.Denot) (q r : Option PassRow.Denot)
     (old lent new : LogRow.Denot) (p lent_pass left : PassRow.Denot) (outcome : Outcome) (result : Result Reply Fault)
     → v ≡ Some old → q ≡ Some p → w ≡ Some new → r ≡ kept outcome left → lent ≡ old → lent_pass ≡ p
-    → IsRisen lent_pass → Calls lent lent_pass (by_slot lent_pass.own.slot step) new left result → outcome ≡ told_of result → CallsBy kept step v q w r outcome
+    → IsRisen lent_pass → Calls lent lent_pass (by_slot lent_pass.own.slot step) new left result → outcome ≡ outcome_of result → CallsBy kept step v q w r outcome
 calls_by kept step v w q r old lent new p lent_pass left outcome result was had is stays_ same same_pass risen made told =
     let here : Calls old p (by_slot p.own.slot step) new left result =
     subst (λ (l : LogRow.Denot). Calls l p (by_slot p.own.slot step) new left result) same (subst (λ (o : PassRow.Denot). Calls lent o (by_slot o.own.slot step) new left result) same_pass made) in
@@ -32,7 +32,7 @@ calls_by kept step v w q r old lent new p lent_pass left outcome result was had 
       stays_,
       here.beside,
       λ A stands. let c = here.called A stands in record {
-        told = told ∙ ap told_of c.reply;
+        told = told ∙ ap outcome_of c.reply;
         sizes = c.sizes;
         standing = c.standing;
         pass = c.pass;
@@ -69,9 +69,9 @@ acquires_by slot v w q r old lent new outcome was none is same acquires = subst 
 
 -- a pass that was taken out, looked and was put back
 pub looks : (v w : Option PassRow.Denot) (p q : PassRow.Denot) (loaded : ℕ × ℕ) (outcome : Outcome)
-    → v ≡ Some p → w ≡ Some q → q ≡ with_look loaded.0 loaded.1 p → outcome ≡ reply_told (Looked q.own.view) → Looks v w outcome
+    → v ≡ Some p → w ≡ Some q → q ≡ with_look loaded.0 loaded.1 p → outcome ≡ reply_outcome (Looked q.own.view) → Looks v w outcome
 looks v w p q loaded outcome was is saw told = subst (λ (u : Option PassRow.Denot). Looks u w outcome) (sym was)
-    (loaded, is ∙ ap Some saw, told ∙ ap (λ (o : PassRow.Denot). reply_told (Looked o.own.view)) saw)
+    (loaded, is ∙ ap Some saw, told ∙ ap (λ (o : PassRow.Denot). reply_outcome (Looked o.own.view)) saw)
 
 -- a pass that was taken out, loaded the words and was put back
 pub keeps_up : (v w : Option PassRow.Denot) (p lent : PassRow.Denot) (current : Bool) (news : News) (number : ℕ)

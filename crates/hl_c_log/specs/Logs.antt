@@ -7,7 +7,7 @@ use Rattle.hl_model.specs.Sizes.{Sizes}
 use Rattle.hl_model.specs.Replies.{reply_of, extended}
 use Rattle.hl_answers.specs.declared.outcome.Brief.{Brief}
 use Rattle.hl_answers.specs.declared.outcome.Outcome.{Outcome}
-use Rattle.hl_answers.specs.Outcomes.{told_of, take_told, brief_of, no_core}
+use Rattle.hl_answers.specs.Outcomes.{outcome_of, take_outcome, brief_of, no_core}
 use Rattle.hl_log.specs.Logs.{StandsAt, IsBeside}
 use Rattle.hl_c_log.specs.Rows.{LogRow}
 
@@ -25,7 +25,7 @@ abbrev pub Answers : Option LogRow.Denot → Step → Option LogRow.Denot → Ou
 Answers None step new outcome = (outcome ≡ no_core) × (new ≡ None)
 Answers (Some old) step new outcome = (log : LogRow.Denot) × (new ≡ Some log) × IsBeside old log
     × ((A : List Step) → StandsAt old A
-    → Moved old A step log (told_of (reply_of old.core.sizes A step)) outcome)
+    → Moved old A step log (outcome_of (reply_of old.core.sizes A step)) outcome)
 
 -- so for a step of which one number is told
 abbrev pub AnswersBriefly : Option LogRow.Denot → Step → Option LogRow.Denot → Brief → Type 0
@@ -37,7 +37,7 @@ abbrev pub Takes : Option LogRow.Denot → Option LogRow.Denot → Outcome → T
 Takes None new outcome = (outcome ≡ no_core) × (new ≡ None)
 Takes (Some old) new outcome = (log : LogRow.Denot) × (new ≡ Some log) × IsBeside old log
     × ((A : List Step) → StandsAt old A
-    → Moved old A Take log (take_told (reply_of old.core.sizes A Take) (pending A)) outcome)
+    → Moved old A Take log (take_outcome (reply_of old.core.sizes A Take) (pending A)) outcome)
 
 -- a query: its answer is of whatever list the log stood at, which stays; where none is open, it answers what it
 -- does then

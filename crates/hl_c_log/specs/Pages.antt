@@ -6,7 +6,7 @@ use Rattle.hl_model.specs.declared.step.Reply.TheVariants.{Page}
 use Rattle.hl_model.specs.declared.step.Step.{Step}
 use Rattle.hl_model.specs.Replies.{reply_of, fault_of, extended, unless_fault, unless_refused}
 use Rattle.hl_answers.specs.declared.outcome.Brief.{Brief}
-use Rattle.hl_answers.specs.Outcomes.{told_of, fault_told, brief_of, no_core}
+use Rattle.hl_answers.specs.Outcomes.{outcome_of, fault_outcome, brief_of, no_core}
 use Rattle.hl_log.specs.Logs.{StandsAt, IsBeside}
 use Rattle.hl_log.specs.Taken.{taking, unless_met, copy_fault, sweep_fault, swept, IsFresh}
 use Rattle.hl_c_log.specs.Rows.{LogRow, PageRow}
@@ -15,7 +15,7 @@ use Rattle.hl_c_log.specs.Rows.{LogRow, PageRow}
 pub record Given (old : LogRow.Denot) (A : List Step) (cleans : Bool) (new : LogRow.Denot)
     (q : PageRow.Denot) (brief : Brief)
     : Type 0 where
-  pub told : brief ≡ brief_of (told_of (reply_of old.core.sizes A (taking cleans)))
+  pub told : brief ≡ brief_of (outcome_of (reply_of old.core.sizes A (taking cleans)))
   pub accepted : brief.number ≡ 0
   pub sizes : new.core.sizes ≡ old.core.sizes
   pub standing : StandsAt new (extended old.core.sizes A (taking cleans))
@@ -23,9 +23,9 @@ pub record Given (old : LogRow.Denot) (A : List Step) (cleans : Bool) (new : Log
 
 -- a log refused a page: memory was refused, or the definitions refuse it at whatever list it stood
 abbrev pub Refused : LogRow.Denot → Step → Brief → Type 0
-Refused old step brief = (brief ≡ brief_of (fault_told OutOfMemory)) ⊎ ((A : List Step)
+Refused old step brief = (brief ≡ brief_of (fault_outcome OutOfMemory)) ⊎ ((A : List Step)
     → StandsAt old A
-    → (fault : Fault) × (fault_of old.core.sizes A step ≡ Some fault) × (brief ≡ brief_of (fault_told fault)))
+    → (fault : Fault) × (fault_of old.core.sizes A step ≡ Some fault) × (brief ≡ brief_of (fault_outcome fault)))
 
 -- a log gave a page for this work, or refused one and stays
 abbrev pub GivesOf : Bool → LogRow.Denot → LogRow.Denot → Option PageRow.Denot → Brief → Type 0
@@ -47,7 +47,7 @@ Gives cleans (Some old) None new left brief =
 pub record Ended (old : LogRow.Denot) (A : List Step) (fault : Option Fault) (step : Step)
     (new : LogRow.Denot) (brief : Brief)
     : Type 0 where
-  pub told : brief ≡ brief_of (told_of (unless_met fault (reply_of old.core.sizes A step)))
+  pub told : brief ≡ brief_of (outcome_of (unless_met fault (reply_of old.core.sizes A step)))
   pub sizes : new.core.sizes ≡ old.core.sizes
   pub standing : StandsAt new (if is_none fault then extended old.core.sizes A step else A)
 
@@ -70,10 +70,10 @@ Ends fault step (Some log) (Some p) new left brief = (after : LogRow.Denot) × (
 abbrev pub Copies : Option PageRow.Denot → ℕ → Option PageRow.Denot → Brief → Type 0
 Copies None count new brief = (brief ≡ brief_of no_core) × (new ≡ None)
 Copies (Some p) count new brief = (new ≡ Some p)
-    × (brief ≡ brief_of (told_of (unless_fault (copy_fault p count) (Page p.page))))
+    × (brief ≡ brief_of (outcome_of (unless_fault (copy_fault p count) (Page p.page))))
 
 -- a sweep of a page
 abbrev pub Sweeps : Option PageRow.Denot → Option PageRow.Denot → Brief → Type 0
 Sweeps None new brief = (brief ≡ brief_of no_core) × (new ≡ None)
 Sweeps (Some p) new brief = (new ≡ Some (unless_refused (sweep_fault p) p (swept p)))
-    × (brief ≡ brief_of (told_of (unless_fault (sweep_fault p) (Page p.page))))
+    × (brief ≡ brief_of (outcome_of (unless_fault (sweep_fault p) (Page p.page))))

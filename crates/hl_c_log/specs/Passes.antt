@@ -9,7 +9,7 @@ use Rattle.hl_model.specs.Replies.{reply_of, fault_of, extended}
 use Rattle.hl_model.specs.Views.{slot_view}
 use Rattle.hl_answers.specs.declared.outcome.Brief.{Brief}
 use Rattle.hl_answers.specs.declared.outcome.Outcome.{Outcome}
-use Rattle.hl_answers.specs.Outcomes.{told_of, fault_told, brief_of, no_core}
+use Rattle.hl_answers.specs.Outcomes.{outcome_of, fault_outcome, brief_of, no_core}
 use Rattle.hl_log.specs.Calls.{by_slot, is_known, call_reply, call_list, call_pass, KnownAt}
 use Rattle.hl_pass.specs.Stamps.{next_stamp}
 use Rattle.hl_log.specs.Logs.{StandsAt, IsBeside, IsStamped}
@@ -22,7 +22,7 @@ use Rattle.hl_c_log.specs.Rows.{LogRow, PassRow}
 pub record Called (old : LogRow.Denot) (A : List Step) (p : PassRow.Denot) (step : Step) (new : LogRow.Denot)
     (q : PassRow.Denot) (outcome : Outcome)
     : Type 0 where
-  pub told : outcome ≡ told_of (call_reply old A p step)
+  pub told : outcome ≡ outcome_of (call_reply old A p step)
   pub sizes : new.core.sizes ≡ old.core.sizes
   pub standing : StandsAt new (call_list old A p step)
   pub pass : q ≡ call_pass old A p step
@@ -73,7 +73,7 @@ no_view = record { read_only = 0; head = 0; tail = 0 }
 pub record Acquired (old : LogRow.Denot) (A : List Step) (slot : ℕ) (new : LogRow.Denot) (q : PassRow.Denot)
     (outcome : Outcome)
     : Type 0 where
-  pub told : outcome ≡ told_of (reply_of old.core.sizes A (Acquire slot))
+  pub told : outcome ≡ outcome_of (reply_of old.core.sizes A (Acquire slot))
   pub accepted : fault_of old.core.sizes A (Acquire slot) ≡ None
   pub sizes : new.core.sizes ≡ old.core.sizes
   pub standing : StandsAt new (extended old.core.sizes A (Acquire slot))
@@ -89,9 +89,9 @@ pub record Acquired (old : LogRow.Denot) (A : List Step) (slot : ℕ) (new : Log
 
 -- a log refused a slot: memory was refused, or the definitions refuse it at whatever list it stood
 abbrev pub Refused : LogRow.Denot → Step → Outcome → Type 0
-Refused old step outcome = (outcome ≡ fault_told OutOfMemory) ⊎ ((A : List Step)
+Refused old step outcome = (outcome ≡ fault_outcome OutOfMemory) ⊎ ((A : List Step)
     → StandsAt old A
-    → (fault : Fault) × (fault_of old.core.sizes A step ≡ Some fault) × (outcome ≡ fault_told fault))
+    → (fault : Fault) × (fault_of old.core.sizes A step ≡ Some fault) × (outcome ≡ fault_outcome fault))
 
 -- a log protected a slot, and its pass is there, or refused it and stays
 abbrev pub AcquiresOf : ℕ → LogRow.Denot → LogRow.Denot → Option PassRow.Denot → Outcome → Type 0

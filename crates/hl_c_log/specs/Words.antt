@@ -5,18 +5,18 @@ use Rattle.hl_model.specs.Replies.{unless_fault}
 use Rattle.hl_model.specs.declared.fault.Fault.{Fault}
 use Rattle.hl_answers.specs.declared.outcome.Brief.{Brief}
 use Rattle.hl_answers.specs.declared.outcome.Outcome.{Outcome}
-use Rattle.hl_answers.specs.Outcomes.{accepted, brief_of, fault_told, no_core, reply_told, told_of}
+use Rattle.hl_answers.specs.Outcomes.{accepted, brief_of, fault_outcome, no_core, reply_outcome, outcome_of}
 use Rattle.hl_pass.specs.declared.news.News.{News}
 use Rattle.hl_log.specs.Passes.{with_look}
 use Rattle.hl_log.specs.Addresses.{region_fault, region_of, row_fault}
-use Rattle.hl_log.specs.declared.region.Region.{Region}
-use Rattle.hl_log.specs.declared.region.Region.TheVariants.{Mutable, Fuzzy, ReadOnly, Evicted}
+use Rattle.hl_pass.specs.declared.region.Region.{Region}
+use Rattle.hl_pass.specs.declared.region.Region.TheVariants.{Mutable, Fuzzy, ReadOnly, Evicted}
 use Rattle.hl_pass.specs.Views.{store_fault, load_fault, raised, is_current}
 use Rattle.hl_c_log.specs.Rows.{PassRow}
 
 -- what is told of a fault, or of this word where there is none
 abbrev pub word_told : Option Fault → ℕ → Brief
-word_told fault found = brief_of (told_of (unless_fault fault (Value found)))
+word_told fault found = brief_of (outcome_of (unless_fault fault (Value found)))
 
 -- a pass judged a store, or a change of a word that found this, by what it sees, and stays; where there is none,
 -- none is, and the brief says so
@@ -34,14 +34,14 @@ Loads (Some p) a found new brief = (new ≡ Some p) × (brief ≡ word_told (loa
 abbrev pub LoadsRow : Option PassRow.Denot → ℕ → List ℕ → Option PassRow.Denot → List ℕ → Brief → Type 0
 LoadsRow None a places new words brief = (brief ≡ brief_of no_core) × (new ≡ None) × (words ≡ places)
 LoadsRow (Some p) a places new words brief = let met = row_fault p.own.view a (length places) in
-    (new ≡ Some p) × (brief ≡ brief_of (told_of (unless_fault met Readable)))
+    (new ≡ Some p) × (brief ≡ brief_of (outcome_of (unless_fault met Readable)))
     × (length words ≡ length places) × IfSome met (λ _. words ≡ places)
 
 -- a pass saw the two offsets that it loaded, where they are above its own, and tells what it sees
 abbrev pub Looks : Option PassRow.Denot → Option PassRow.Denot → Outcome → Type 0
 Looks None new outcome = (outcome ≡ no_core) × (new ≡ None)
 Looks (Some p) new outcome = (loaded : ℕ × ℕ) × (new ≡ Some (with_look loaded.0 loaded.1 p))
-    × (outcome ≡ reply_told (Looked (raised p.own.view loaded.0 loaded.1)))
+    × (outcome ≡ reply_outcome (Looked (raised p.own.view loaded.0 loaded.1)))
 
 -- a pass tells whether nothing that it loaded is new to it, and stays
 abbrev pub KeepsUp : Option PassRow.Denot → Option PassRow.Denot → ℕ → Type 0
@@ -58,7 +58,7 @@ region_number Evicted = 4
 
 -- what is told of a fault, or of this region with the safe read-only offset that was loaded
 abbrev pub region_told : Option Fault → Region → ℕ → Outcome
-region_told (Some fault) region safe_read_only = fault_told fault
+region_told (Some fault) region safe_read_only = fault_outcome fault
 region_told None region safe_read_only = accepted (region_number region) safe_read_only 0 0
 
 -- a pass told the region of an address, by what it sees and the safe read-only offset that the outcome has, and stays

@@ -11,7 +11,8 @@ use hl_log::{Log, Pass};
 use hl_model::Fault;
 use std::alloc::Global;
 
-/// A slot becomes protected, and the pass acts for it: its epoch, and its view. 255 where there is a pass already.
+/// A slot becomes protected, and the pass acts for it; returns its epoch, and its view, or 255 if there is a
+/// pass already.
 #[unsafe(no_mangle)]
 pub extern "C" fn hl_log_acquire(
     alloc: Global,
@@ -52,7 +53,7 @@ fn acquired(alloc: Global, log: &mut Log, pass: &mut PassHandle, slot: u64) -> O
     }
 }
 
-/// A pass on the heap that acts for no slot yet. None where memory was refused.
+/// Returns a pass on the heap that acts for no slot yet, or None if memory is refused.
 fn vacant(alloc: Global, log: &Log, slot: u64) -> Option<Box<Pass>>
     ensures { IfSome result (λ pass. IsVacant log.now slot pass.value) }
 {
@@ -60,7 +61,7 @@ fn vacant(alloc: Global, log: &Log, slot: u64) -> Option<Box<Pass>>
     Box::new(alloc, pass).ok()
 }
 
-/// Gives a pass back, whose slot stays protected if it wasn't released. 0, or 255 where there is none.
+/// Gives a pass back, whose slot stays protected if it wasn't released. Returns 0, or 255 if there is none.
 #[unsafe(no_mangle)]
 pub extern "C" fn hl_pass_abandon(pass: &mut PassHandle) -> u64
     ensures number { result ≡ free_number pass.old.slot.value }

@@ -1,32 +1,33 @@
 //! The door for threads, for C and C++: a log behind one handle, and a pass behind a handle for each thread.
 //!
-//! `include/hl_log.h` declares the calls, with what each answers. A handle is two words that C keeps and never reads.
-//! All bytes zero means that nothing is there.
+//! `include/hl_log.h` declares the calls, with what each returns. A handle is two words that C keeps and
+//! never reads. All bytes zero means that nothing is there.
 //!
 //! # What is promised
 //!
-//! Under the caller's lock: at whatever list of accepted steps the log stood, a step's answer is the definitions' reply
-//! after that list, as numbers, and the log then stands at the list with the step, where it was accepted (`Answers`, in
-//! `specs/Logs.antt`). A pass's step is answered 26 with the slot's stamp, where the slot isn't the pass's, and changes
-//! nothing; else as the definitions do behind the list and the pass's look, and the pass has what its slot has then
-//! (`CallsBy`, in `specs/Passes.antt`).
+//! Under the caller's lock: at whatever list of accepted steps the log stood, a step returns the definitions'
+//! reply after that list, as numbers, and the log then stands at the list with the step, if it was accepted
+//! (`Answers`, in `specs/Logs.antt`). A pass's step returns 26 with the slot's stamp, if the slot isn't the
+//! pass's, and changes nothing; else what the definitions reply behind the list and the pass's look, and the
+//! pass has what its slot has then (`CallsBy`, in `specs/Passes.antt`).
 //!
-//! Without it: a store and a load are judged by what the pass sees (`Stores` and `Loads`, in `specs/Words.antt`), and
-//! are one access of one word; a row of words is loaded one after another (`LoadsRow`). The region of an address is told
-//! by what the pass sees and by the safe read-only offset that it loaded, which it tells too (`TellsRegion`). That a word
-//! is stored is in the code alone: no clause tells what a word has.
+//! Without it: a store and a load are judged by what the pass sees (`Stores` and `Loads`, in
+//! `specs/Words.antt`), and are one access of one word; a row of words is loaded one after another
+//! (`LoadsRow`). The region of an address is told by what the pass sees and by the safe read-only offset that
+//! it loaded, which it tells too (`TellsRegion`). That a word is stored is in the code alone: no clause tells
+//! what a word has.
 //!
 //! # Threads
 //!
-//! Each handle may go to another thread (`Send` is proved of what lies behind it), and one call at a time may use it.
-//! Calls on the log's handle are made under a lock of the caller's; a pass's handle is its thread's, as a page's is.
-//! The calls on these alone run at the same time as all others. No call waits.
+//! Each handle may go to another thread (`Send` is proved of what lies behind it), and one call at a time may
+//! use it. Calls on the log's handle are made under a lock of the caller's; a pass's handle is its thread's,
+//! as a page's is. The calls on these alone run at the same time as all others. No call waits.
 //!
 //! # How a call goes
 //!
 //! As in the door of a core: it takes the boxes out of their handles, makes the call, and puts them back.
-//! `LogHandle::step` is the one way of a step of the log, `by_pass` that of a pass's but for its refresh, whose answer is
-//! made of the slot itself.
+//! `LogHandle::step` is the one way of a step of the log, `by_pass` that of a pass's but for its refresh,
+//! which returns what the slot itself has.
 #![tactic(auto)]
 
 mod acquire;

@@ -8,7 +8,7 @@ use hl_answers::Loose;
 use hl_log::Log;
 use std::alloc::Global;
 
-/// What C keeps of a log: a slot, and 1 where there is one. All bytes zero is a handle with none.
+/// What C keeps of a log: a slot, and 1 if there is one. All bytes zero is a handle with none.
 #[repr(C)]
 pub struct LogHandle {
     pub(crate) slot: LogSlot,
@@ -50,7 +50,7 @@ impl LogHandle {
         Some(replace_with(self, (), emptied))
     }
 
-    /// Puts one in where it has none.
+    /// Puts one in if it has none.
     #[inline(always)]
     pub(crate) fn put(&mut self, value: Box<Log>)
         requires { self.old.slot.value ≡ None }

@@ -7,9 +7,9 @@ use hl_log::Log;
 use hl_model::{Params, Sizes};
 use std::alloc::Global;
 
-/// Opens a log: so many words a page, frames, slots, places in the drain list, narrow sizes; and a stamp, by which its
-/// passes and pages are told from those of other logs. 0 where it did; 29 where memory was refused, 254 where a size is
-/// out of range, 255 where a log is open already, which stays as it was.
+/// Opens a log: so many words a page, frames, slots, places in the drain list, narrow sizes; and a stamp, by
+/// which its passes and pages are told from those of other logs. Returns 0 if it did; 29 if memory was
+/// refused, 254 if a size is out of range, 255 if a log is open already, which stays as it was.
 #[unsafe(no_mangle)]
 pub extern "C" fn hl_log_open(
     alloc: Global,
@@ -27,8 +27,8 @@ pub extern "C" fn hl_log_open(
     open_with(alloc, log, narrow(page_size, frames, slots, drain), stamp)
 }
 
-/// The same for wide sizes: a page of up to 2^20 words, up to 2^16 frames, 1,024 slots and 4,096 places in the drain
-/// list.
+/// The same for wide sizes: a page of up to 2^20 words, up to 2^16 frames, 1,024 slots and 4,096 places in
+/// the drain list.
 #[unsafe(no_mangle)]
 pub extern "C" fn hl_log_open_wide(
     alloc: Global,
@@ -81,7 +81,7 @@ fn open_with(alloc: Global, log: &mut LogHandle, sizes: Option<Sizes>, stamp: u6
     }
 }
 
-/// A log at the empty list, on the heap. None where memory was refused.
+/// Returns a log at the empty list, on the heap, or None if memory is refused.
 fn boxed(alloc: Global, sizes: Sizes, stamp: u64) -> Option<Box<Log>>
     ensures { IfSome result (λ log. IsOpened sizes stamp log.value) }
 {
@@ -89,7 +89,7 @@ fn boxed(alloc: Global, sizes: Sizes, stamp: u64) -> Option<Box<Log>>
     Box::new(alloc, log).ok()
 }
 
-/// Gives the log back. Its passes and pages stay, with the words. 0, or 255 where none was open.
+/// Gives the log back. Its passes and pages stay, with the words. Returns 0, or 255 if none was open.
 #[unsafe(no_mangle)]
 pub extern "C" fn hl_log_free(log: &mut LogHandle) -> u64
     ensures number { result ≡ free_number log.old.slot.value }

@@ -8,7 +8,7 @@ use hl_answers::Loose;
 use hl_log::Taken;
 use std::alloc::Global;
 
-/// What C keeps of a page: a slot, and 1 where there is one. All bytes zero is a handle with none.
+/// What C keeps of a page: a slot, and 1 if there is one. All bytes zero is a handle with none.
 #[repr(C)]
 pub struct PageHandle {
     pub(crate) slot: PageSlot,
@@ -50,7 +50,7 @@ impl PageHandle {
         Some(replace_with(self, (), emptied))
     }
 
-    /// Puts one in where it has none.
+    /// Puts one in if it has none.
     #[inline(always)]
     pub(crate) fn put(&mut self, value: Box<Taken>)
         requires { self.old.slot.value ≡ None }

@@ -40,7 +40,7 @@ pub extern "C" fn hl_log_sweep(page: &mut PageHandle) -> Brief
     }
 }
 
-/// Gives a page back whose work didn't end: it stays taken. 0, or 255 where there is none.
+/// Gives a page back whose work didn't end: it stays taken. Returns 0, or 255 if there is none.
 #[unsafe(no_mangle)]
 pub extern "C" fn hl_page_abandon(page: &mut PageHandle) -> u64
     ensures number { result ≡ free_number page.old.slot.value }

@@ -13,7 +13,8 @@ use hl_log::{Log, Taken};
 use hl_model::{Fault, Reply};
 use std::alloc::Global;
 
-/// Takes the least sealed page that is neither flushed nor in flight: its number. 255 where there is a page already.
+/// Takes the least sealed page that is neither flushed nor in flight; returns its number, or 255 if there is
+/// a page already.
 #[unsafe(no_mangle)]
 pub extern "C" fn hl_log_flush_take(
     alloc: Global,
@@ -26,7 +27,8 @@ pub extern "C" fn hl_log_flush_take(
     take_page(alloc, log, page, false)
 }
 
-/// Takes the least closed page that is neither freed nor being cleaned: its number. 255 where there is a page already.
+/// Takes the least closed page that is neither freed nor being cleaned; returns its number, or 255 if there
+/// is a page already.
 #[unsafe(no_mangle)]
 pub extern "C" fn hl_log_clean_take(
     alloc: Global,
@@ -75,7 +77,7 @@ fn taken(alloc: Global, log: &mut Log, page: &mut PageHandle, cleans: bool) -> B
     }
 }
 
-/// A page on the heap that is to be taken. None where memory was refused.
+/// Returns a page on the heap that is to be taken, or None if memory is refused.
 fn vacant(alloc: Global, log: &Log, cleans: bool) -> Option<Box<Taken>>
     ensures { IfSome result (λ page. IsFresh log.now cleans page.value) }
 {
@@ -83,7 +85,8 @@ fn vacant(alloc: Global, log: &Log, cleans: bool) -> Option<Box<Taken>>
     Box::new(alloc, page).ok()
 }
 
-/// The flush of a page ended, well or not: the flushed offset. The page is given back where this was accepted.
+/// The flush of a page ended, well or not; returns the flushed offset. The page is given back if this was
+/// accepted.
 #[unsafe(no_mangle)]
 pub extern "C" fn hl_log_flush_done(log: &mut LogHandle, page: &mut PageHandle, ok: bool) -> Brief
     ensures { Ends origin_fault (λ number. FLUSH_DONE number ok) log.old.slot.value page.old.slot.value
@@ -102,7 +105,7 @@ pub extern "C" fn hl_log_flush_done(log: &mut LogHandle, page: &mut PageHandle, 
     brief
 }
 
-/// The words of a page are zeroed: its frame is free. The page is given back where this was accepted.
+/// The words of a page are zeroed: its frame is free. The page is given back if this was accepted.
 #[unsafe(no_mangle)]
 pub extern "C" fn hl_log_clean_done(log: &mut LogHandle, page: &mut PageHandle) -> Brief
     ensures { Ends unswept_fault CLEAN_DONE log.old.slot.value page.old.slot.value
@@ -121,7 +124,7 @@ pub extern "C" fn hl_log_clean_done(log: &mut LogHandle, page: &mut PageHandle) 
     brief
 }
 
-/// Puts a page back, but where its work ended.
+/// Puts a page back, unless its work ended.
 #[inline(always)]
 fn give_back(handle: &mut PageHandle, page: Box<Taken>, number: u64)
     requires { handle.old.slot.value ≡ None }

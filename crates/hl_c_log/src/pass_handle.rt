@@ -10,8 +10,8 @@ use hl_answers::Loose;
 use hl_log::Pass;
 use std::alloc::Global;
 
-/// What C keeps of a pass: a slot, and 1 where there is one. All bytes zero is a handle with none. The pass saw nothing
-/// below what its slot did: that is in the type.
+/// What C keeps of a pass: a slot, and 1 if there is one. All bytes zero is a handle with none. The pass saw
+/// nothing below what its slot did: that is in the type.
 #[repr(C)]
 pub struct PassHandle {
     pub(crate) slot: PassSlot,
@@ -56,7 +56,7 @@ impl PassHandle {
         Some(replace_with(self, (), emptied))
     }
 
-    /// Puts one in where it has none.
+    /// Puts one in if it has none.
     #[inline(always)]
     pub(crate) fn put(&mut self, value: Box<Pass>)
         requires none { self.old.slot.value ≡ None }

@@ -1,7 +1,7 @@
 ghost use Rattle.std.specs.Prelude.{◌≡◌, Result};
 ghost use Rattle.hl_model.specs.declared.step.Step.TheVariants.{Refresh as REFRESH};
-ghost use Rattle.hl_core.specs.Steps.{told, entered_reply};
-ghost use Rattle.hl_answers.specs.Outcomes.{told_of};
+ghost use Rattle.hl_core.specs.Steps.{as_reply, entered_reply};
+ghost use Rattle.hl_answers.specs.Outcomes.{outcome_of};
 ghost use Rattle.hl_c_log.specs.Passes.{CallsBy, stays};
 
 use crate::log_handle::LogHandle;
@@ -31,7 +31,7 @@ pub extern "C" fn hl_log_refresh(log: &mut LogHandle, pass: &mut PassHandle) -> 
 /// What is told of a slot that entered, or of the fault in its place.
 #[inline(always)]
 fn told(entered: Result<Slot, Fault>) -> Outcome
-    ensures { result ≡ told_of (told entered_reply entered) }
+    ensures { result ≡ outcome_of (as_reply entered_reply entered) }
 {
     match entered {
         Ok(Slot { epoch, view }) => {

@@ -62,7 +62,7 @@ pub extern "C" fn hl_log_done(log: &mut LogHandle, ticket: u64) -> Outcome
     log.step(Step::Done { ticket })
 }
 
-/// Takes the oldest pending action: its ticket, and 1 with its tag where it is a job's.
+/// Takes the oldest pending action; returns its ticket, and 1 with its tag if it is a job's.
 #[unsafe(no_mangle)]
 pub extern "C" fn hl_log_take(log: &mut LogHandle) -> Outcome
     ensures { Takes log.old.slot.value log.new.slot.value result }

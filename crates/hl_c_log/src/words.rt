@@ -1,8 +1,8 @@
 //! The calls of a pass without the lock.
 ghost use Rattle.std.specs.Prelude.{◌≡◌, Result, MatchResult};
 ghost use Rattle.hl_model.specs.declared.step.Reply.TheVariants.{Value as VALUE};
-ghost use Rattle.hl_core.specs.Steps.{told};
-ghost use Rattle.hl_answers.specs.Outcomes.{accepted, brief_of, fault_told, told_of, no_core};
+ghost use Rattle.hl_core.specs.Steps.{as_reply};
+ghost use Rattle.hl_answers.specs.Outcomes.{accepted, brief_of, fault_outcome, outcome_of, no_core};
 ghost use Rattle.hl_c_log.specs.Words.{region_number, Stores, Loads, LoadsRow, Looks, KeepsUp, TellsRegion};
 
 use crate::pass_handle::PassHandle;
@@ -40,7 +40,7 @@ pub extern "C" fn hl_pass_fetch_add(pass: &mut PassHandle, address: u64, more: u
     }
 }
 
-/// Stores a word where another stands, in one step: what it found.
+/// Stores a word where another stands, in one step; returns what it found.
 #[unsafe(no_mangle)]
 pub extern "C" fn hl_pass_compare_exchange(
     pass: &mut PassHandle,
@@ -141,7 +141,7 @@ pub extern "C" fn hl_pass_region(pass: &mut PassHandle, address: u64) -> Outcome
 fn region_told(found: Result<(Region, u64), Fault>) -> Outcome
     ensures { MatchResult found
         (λ told. result ≡ accepted (region_number told.0) told.1 0 0)
-        (λ fault. result ≡ fault_told fault) }
+        (λ fault. result ≡ fault_outcome fault) }
 {
     match found {
         Ok((region, safe_read_only)) => {
@@ -160,12 +160,12 @@ fn region_told(found: Result<(Region, u64), Fault>) -> Outcome
 /// What is told of a word, or of the fault in its place.
 #[inline(always)]
 fn word_told(found: Result<u64, Fault>) -> Brief
-    ensures { result ≡ brief_of (told_of (told VALUE found)) }
+    ensures { result ≡ brief_of (outcome_of (as_reply VALUE found)) }
 {
     Outcome::of(found.map(Reply::Value)).brief()
 }
 
-/// What a call without a pass answers.
+/// What a call without a pass returns.
 fn no_pass() -> Brief
     ensures { result ≡ brief_of no_core }
 {

@@ -33,7 +33,7 @@ use Rattle.hl_model.specs.declared.frame.Held.{Held}
 use Rattle.hl_frames.specs.Pages.{Pages}
 use Rattle.hl_model.specs.Bases.{marked, held_of}
 use Rattle.hl_core.specs.Standing.{State, Stands}
-use Rattle.hl_core.specs.Steps.{Stepped, Made, told, CameOut, job_in}
+use Rattle.hl_core.specs.Steps.{Stepped, Made, as_reply, CameOut, job_in}
 use Rattle.hl_core.proofs.LookStands.{read_ok}
 use Rattle.hl_core.proofs.StandLaws.{refused_step}
 use Rattle.hl_cells.specs.CellWords.{shown_page, cell_word, cell_words, cell_at}
@@ -79,9 +79,9 @@ answer_or (Some n) reply = Ok (Answer n)
 answer_or None reply = Ok reply
 
 -- a write that answers as the definitions do, as a reply
-written_told : (o : Option Fault) (result : Result (Unit {0}) Fault) → result ≡ unless_fault o tt → told (λ _. Written) result ≡ unless_fault o Written
-written_told None result h = ap (told (λ _. Written)) h
-written_told (Some f) result h = ap (told (λ _. Written)) h
+written_told : (o : Option Fault) (result : Result (Unit {0}) Fault) → result ≡ unless_fault o tt → as_reply (λ _. Written) result ≡ unless_fault o Written
+written_told None result h = ap (as_reply (λ _. Written)) h
+written_told (Some f) result h = ap (as_reply (λ _. Written)) h
 
 module _ {F : Type 0} where
   -- an engine stands where its parts do
@@ -299,7 +299,7 @@ module _ {F : Type 0} where
       ∙ page_shown engine A p st (shown_alike engine A shows.0 (p % engine.core.sizes.frames) st shows.1 (mod_below p engine.core.sizes.frames (frames_some engine A st)) ∙ shows.2)
 
   -- a read as a step
-  pub moved_by_read : (keeps : ℕ → FiringRecord → ℕ → Type 0) (engine : Whole F) (A : List Step) (t a : ℕ) (result : Result ℕ Fault) → EngineStands engine A → result ≡ unless_fault (fault_of engine.core.sizes A (Read t a)) (word a A) → Moved keeps engine A (Read t a) engine (told Value result)
+  pub moved_by_read : (keeps : ℕ → FiringRecord → ℕ → Type 0) (engine : Whole F) (A : List Step) (t a : ℕ) (result : Result ℕ Fault) → EngineStands engine A → result ≡ unless_fault (fault_of engine.core.sizes A (Read t a)) (word a A) → Moved keeps engine A (Read t a) engine (as_reply Value result)
   moved_by_read keeps engine A t a (Ok v) st h =
       let p = unless_ok (fault_of engine.core.sizes A (Read t a)) v (word a A) h in
       moved_read keeps engine A t a v engine.core Readable st (read_ok job_tag engine.core A t a st.core_stands p.0) p.1
@@ -327,9 +327,9 @@ module _ {F : Type 0} where
   found_fault engine A t a f refused = sym (ap (λ (o : Option Fault). unless_fault o (word a A)) (unless_err (fault_of engine.core.sizes A (Read t a)) f (tt {0}) refused))
 
   -- a write as a step
-  pub moved_by_write : (keeps : ℕ → FiringRecord → ℕ → Type 0) (engine new : Whole F) (A : List Step) (t a v : ℕ) (result : Result (Unit {0}) Fault) → result ≡ unless_fault (fault_of engine.core.sizes A (Write t a v)) tt → new.core.sizes ≡ engine.core.sizes → EngineStands new (extended engine.core.sizes A (Write t a v)) → Moved keeps engine A (Write t a v) new (told (λ _. Written) result)
+  pub moved_by_write : (keeps : ℕ → FiringRecord → ℕ → Type 0) (engine new : Whole F) (A : List Step) (t a v : ℕ) (result : Result (Unit {0}) Fault) → result ≡ unless_fault (fault_of engine.core.sizes A (Write t a v)) tt → new.core.sizes ≡ engine.core.sizes → EngineStands new (extended engine.core.sizes A (Write t a v)) → Moved keeps engine A (Write t a v) new (as_reply (λ _. Written) result)
   moved_by_write keeps engine new A t a v result h same st = record {
-    told = told_same keeps engine.core.sizes A (Write t a v) (told (λ _. Written) result) refl (written_told (fault_of engine.core.sizes A (Write t a v)) result h);
+    told = told_same keeps engine.core.sizes A (Write t a v) (as_reply (λ _. Written) result) refl (written_told (fault_of engine.core.sizes A (Write t a v)) result h);
     sizes = same;
     standing = st;
   }

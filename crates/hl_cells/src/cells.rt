@@ -21,9 +21,9 @@ impl Model for Cells {
 }
 
 impl Cells {
-    /// So many words, all 0.
+    /// Returns so many words, all 0.
     ///
-    /// `OutOfMemory` where memory for them was refused.
+    /// `OutOfMemory` if memory for them was refused.
     pub(crate) fn zeros(alloc: Global, count: u64) -> Result<Cells, Fault>
         ensures ok { IfOk result (λ cells. cells ≡ replicate count 0) }
         ensures err { IfErr result (λ fault. fault ≡ Fault.OutOfMemory) }

@@ -10,8 +10,8 @@ use hl_model::{Fault, HasSizes, Sizes};
 use std::alloc::Global;
 use std::marker::Model;
 
-/// A core over the table of epochs E with jobs F, the F * P words of its frames, and the taken actions that aren't
-/// done. The answers of its jobs keep the promise P.
+/// A core over the table of epochs E with jobs F, the F * P words of its frames, and the taken actions that
+/// aren't done. What its jobs return keeps the promise P.
 pub struct Engine<E: Epochs, F: Task, P: Promise> {
     pub(crate) core: Core<E, Kept<F, P>>,
     pub(crate) words: Cells,
@@ -42,10 +42,10 @@ impl<E: Epochs + Drop, F: Task, P: Promise> Engine<E, F, P> {
     ghost use Rattle.hl_cells.specs.Engines.{EngineStands};
     ghost use Rattle.hl_cells.specs.Jobs.{job_under};
 
-    /// An engine at the empty list: its core is one that was just opened, all words are 0, and no job lies under any
-    /// ticket. No other call has an answer for want of memory.
+    /// Returns an engine at the empty list: its core is one that was just opened, all words are 0, and no job
+    /// lies under any ticket. No other call is refused memory.
     ///
-    /// `OutOfMemory` where memory for its rows was refused.
+    /// `OutOfMemory` if memory for its rows was refused.
     pub fn open<S: HasSizes>(alloc: Global, params: S) -> Result<Engine<E, F, P>, Fault>
         ensures ok { IfOk result
             (λ engine. EngineStands engine [] × (engine.core.sizes ≡ S.sizes_of params)) }
@@ -67,8 +67,8 @@ impl<E: Epochs + Drop, F: Task, P: Promise> Engine<E, F, P> {
         Ok(Engine { core, words, held })
     }
 
-    /// Its drain list: the actions that were never taken are in it with their jobs, and the tickets of those taken and
-    /// not done. The jobs of the latter are given up.
+    /// Its drain list: the actions that were never taken are in it with their jobs, and the tickets of those
+    /// taken and not done. The jobs of the latter are given up.
     pub fn into_drain(self) -> Drain<Kept<F, P>>
         ensures { result ≡ self.core.drain }
     {

@@ -1,7 +1,7 @@
 ghost use Rattle.std.specs.Prelude.{◌≡◌, OnErr};
 ghost use Rattle.hl_model.specs.declared.step.Reply.TheVariants.{Page as PAGE, Flushed as FLUSHED, Freed as FREED};
 ghost use Rattle.hl_model.specs.declared.step.Step.TheVariants.{FlushTake as FLUSH_TAKE, FlushDone as FLUSH_DONE, CleanTake as CLEAN_TAKE, CleanDone as CLEAN_DONE};
-ghost use Rattle.hl_core.specs.Steps.{told};
+ghost use Rattle.hl_core.specs.Steps.{as_reply};
 ghost use Rattle.hl_cells.specs.Engines.{IsEngine};
 ghost use Rattle.hl_cells.specs.EngineSteps.{Moves};
 ghost use Rattle.hl_cells.specs.Jobs.{JobsStay};
@@ -12,12 +12,12 @@ use hl_epoch::Epochs;
 use hl_model::Fault;
 
 impl<E: Epochs + Drop, F: Task, P: Promise> Engine<E, F, P> {
-    /// Takes the least sealed page that is neither flushed nor in flight; the answer is the page, which is in flight
-    /// then, and which its frame shows.
+    /// Takes the least sealed page that is neither flushed nor in flight; returns the page, which is in
+    /// flight then, and which its frame shows.
     ///
-    /// Fault: `NoneSealed` where there is no such page.
+    /// Fault: `NoneSealed` if there is no such page.
     pub fn flush_take(&mut self) -> Result<u64, Fault>
-        ensures moved { Moves P.keeps self.old FLUSH_TAKE self.new (told PAGE result) }
+        ensures moved { Moves P.keeps self.old FLUSH_TAKE self.new (as_reply PAGE result) }
         ensures jobs { JobsStay self.old self.new }
         ensures refused { OnErr result (self.new ≡ self.old) }
         ensures valid { IsEngine self.old }
@@ -25,12 +25,12 @@ impl<E: Epochs + Drop, F: Task, P: Promise> Engine<E, F, P> {
         self.core.flush_take()
     }
 
-    /// The flush of a page ended: well, and the page is flushed, or not, and it may be taken again. The answer is the
-    /// flushed offset after it, an address.
+    /// The flush of a page ended: well, and the page is flushed, or not, and it may be taken again. Returns
+    /// the flushed offset after it, an address.
     ///
-    /// Fault: `NotInFlight` where the page isn't in flight.
+    /// Fault: `NotInFlight` if the page isn't in flight.
     pub fn flush_done(&mut self, page: u64, ok: bool) -> Result<u64, Fault>
-        ensures moved { Moves P.keeps self.old (FLUSH_DONE page ok) self.new (told FLUSHED result) }
+        ensures moved { Moves P.keeps self.old (FLUSH_DONE page ok) self.new (as_reply FLUSHED result) }
         ensures jobs { JobsStay self.old self.new }
         ensures refused { OnErr result (self.new ≡ self.old) }
         ensures valid { IsEngine self.old }
@@ -38,12 +38,12 @@ impl<E: Epochs + Drop, F: Task, P: Promise> Engine<E, F, P> {
         self.core.flush_done(page, ok)
     }
 
-    /// Takes the least closed page that is neither freed nor being cleaned; the answer is the page, which is being
+    /// Takes the least closed page that is neither freed nor being cleaned; returns the page, which is being
     /// cleaned then.
     ///
-    /// Fault: `NoneClosed` where there is no such page.
+    /// Fault: `NoneClosed` if there is no such page.
     pub fn clean_take(&mut self) -> Result<u64, Fault>
-        ensures moved { Moves P.keeps self.old CLEAN_TAKE self.new (told PAGE result) }
+        ensures moved { Moves P.keeps self.old CLEAN_TAKE self.new (as_reply PAGE result) }
         ensures jobs { JobsStay self.old self.new }
         ensures refused { OnErr result (self.new ≡ self.old) }
         ensures valid { IsEngine self.old }
@@ -51,11 +51,11 @@ impl<E: Epochs + Drop, F: Task, P: Promise> Engine<E, F, P> {
         self.core.clean_take()
     }
 
-    /// The words of a page become 0, and its frame is free; the answer is the page.
+    /// The words of a page become 0, and its frame is free; returns the page.
     ///
-    /// Fault: `NotCleaning` where the page isn't being cleaned.
+    /// Fault: `NotCleaning` if the page isn't being cleaned.
     pub fn clean_done(&mut self, page: u64) -> Result<u64, Fault>
-        ensures moved { Moves P.keeps self.old (CLEAN_DONE page) self.new (told FREED result) }
+        ensures moved { Moves P.keeps self.old (CLEAN_DONE page) self.new (as_reply FREED result) }
         ensures jobs { JobsStay self.old self.new }
         ensures refused { OnErr result (self.new ≡ self.old) }
         ensures valid { IsEngine self.old }

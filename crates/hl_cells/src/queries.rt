@@ -21,7 +21,7 @@ impl<E: Epochs, F: Task, P: Promise> Engine<E, F, P> {
         self.core.params()
     }
 
-    /// The view of slot t. None where the slot isn't protected, or t is S or more.
+    /// Returns the view of slot t, or None if the slot isn't protected, or t is S or more.
     pub fn view(&self, t: u64) -> Option<View>
         ensures value { (A : List Step) → EngineStands self.now A
             → result ≡ slot_view self.now.core.sizes t A }
@@ -53,7 +53,7 @@ impl<E: Epochs, F: Task, P: Promise> Engine<E, F, P> {
         self.core.pending_at(n)
     }
 
-    /// The oldest 64 of the pending actions, oldest first: all, where at most 64 may be stored.
+    /// Returns the oldest 64 of the pending actions, oldest first: all, if at most 64 may be stored.
     pub fn pending(&self) -> ArrayVec<Waiting, 64>
         ensures value { (A : List Step) → EngineStands self.now A → result.items ≡ take 64 (pending A) }
         ensures all { (A : List Step)
@@ -62,7 +62,7 @@ impl<E: Epochs, F: Task, P: Promise> Engine<E, F, P> {
         self.core.pending()
     }
 
-    /// The state of frame f, which is below F, and its last entered page; None where it is free.
+    /// Returns the state of frame f, which is below F, and its last entered page; None if it is free.
     pub fn frame(&self, f: u64) -> (FrameState, Option<u64>)
         requires { f < self.now.core.sizes.frames }
         ensures value { (A : List Step) → EngineStands self.now A

@@ -10,15 +10,16 @@ use hl_epoch::Epochs;
 use hl_model::{Fault, Reply, Step};
 
 impl<E: Epochs + Drop, F: Task, P: Promise> Engine<E, F, P> {
-    /// Makes a step, of any kind but a bump, of which a job goes in. The faults are tried in their order, and a
-    /// refused step changes nothing.
+    /// Makes a step, of any kind but a bump, of which a job goes in. The faults are tried in their order, and
+    /// a refused step changes nothing.
     ///
-    /// From an engine that stands at an accepted list, whatever the step is: the answer is the definitions' reply
-    /// after that list, a read's with the word; the reply to the done of a job is the job's answer, which keeps the
-    /// promise for its tag under its firing. The engine then stands at the list with the step, where it was accepted.
+    /// From an engine that stands at an accepted list, whatever the step is: the reply is the definitions'
+    /// after that list, a read's with the word; the reply to the done of a job is what the job returned,
+    /// which keeps the promise for its tag under its firing. The engine then stands at the list with the
+    /// step, if it was accepted.
     ///
-    /// An accepted done runs the job that lies under its ticket, under the firing of its take, and nothing lies there
-    /// then. All other jobs stay under their tickets.
+    /// An accepted done runs the job that lies under its ticket, under the firing of its take, and nothing
+    /// lies there then. All other jobs stay under their tickets.
     pub fn step(&mut self, step: &Step) -> Result<Reply, Fault>
         requires { is_job_bump step.now ≡ false }
         ensures moved { Moves P.keeps self.old step.now self.new result }

@@ -10,7 +10,8 @@ use std::alloc::Global;
 use std::collections::VecDeque;
 use std::marker::Model;
 
-/// The taken actions that aren't done, in the order of their takes. What leaves them is closed up from the shorter side.
+/// The taken actions that aren't done, in the order of their takes. What leaves them is closed up from the
+/// shorter side.
 pub(crate) struct TakenActions<F: Task, P: Promise> {
     row: VecDeque<Undone<F, P>>,
 }
@@ -31,9 +32,9 @@ impl<F: Task, P: Promise> Drop for TakenActions<F, P> {
 }
 
 impl<F: Task, P: Promise> TakenActions<F, P> {
-    /// A row with this many places, all free. No other call takes memory.
+    /// Returns a row with this many places, all free. No other call takes memory.
     ///
-    /// `OutOfMemory` where the places were refused.
+    /// `OutOfMemory` if the places were refused.
     pub(crate) fn open(alloc: Global, places: u64) -> Result<TakenActions<F, P>, Fault>
         ensures ok { IfOk result (λ held. held ≡ record { room = places; actions = [] }) }
         ensures err { IfErr result (λ fault. fault ≡ Fault.OutOfMemory) }
@@ -50,8 +51,9 @@ impl<F: Task, P: Promise> TakenActions<F, P> {
         self.row.push_back_reserved(Undone::of(ready));
     }
 
-    /// Runs the action of this ticket, an epoch, and holds it no longer. Tickets rise. The answer is its job's under its
-    /// firing, and keeps the promise for its tag. None where it has no job, or there is no such action.
+    /// Runs the action of this ticket, an epoch, and holds it no longer. Tickets rise. Returns what its job
+    /// returned under its firing, which keeps the promise for its tag. None if it has no job, or there is no
+    /// such action.
     pub(crate) fn run(&mut self, ticket: u64) -> Option<u64>
         requires rising { Rises (tickets_held self.old.actions) }
         ensures answered { is_some result

@@ -3,7 +3,7 @@ ghost use Rattle.std.specs.Prelude.{◌≡◌, is_some, IfSome, IsSomeAnd};
 use hl_action::{Promise, Ready, Task};
 use std::marker::Model;
 
-/// A taken action that isn't done, with its firing. Where its engine ends first nobody runs it.
+/// A taken action that isn't done, with its firing. If its engine ends first nobody runs it.
 pub(crate) struct Undone<F: Task, P: Promise> {
     ready: Ready<F, P>,
 }
@@ -38,7 +38,7 @@ impl<F: Task, P: Promise> Undone<F, P> {
         self.ready.ticket()
     }
 
-    /// Runs its job under its firing, and gives the answer. None where it has no job.
+    /// Runs its job under its firing; returns what the job returned, or None if it has no job.
     pub(crate) fn run(self) -> Option<u64>
         ensures answered { is_some result ≡ is_some self.kept }
         ensures gives { IfSome self.kept (λ kept. IsSomeAnd result (F.gives kept.job self.firing)) }

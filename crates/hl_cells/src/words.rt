@@ -13,10 +13,10 @@ use hl_epoch::Epochs;
 use hl_model::{Fault, cell_of};
 
 impl<E: Epochs + Drop, F: Task, P: Promise> Engine<E, F, P> {
-    /// The word at address a, read by slot t. A word that was never written is 0.
+    /// Returns the word at address a, read by slot t. A word that was never written is 0.
     ///
-    /// Faults, in their order: `NoSlot`, `NotProtected`, `Evicted` where the address is below the head that the slot
-    /// saw, `Beyond` where it is at or above the tail that the slot saw.
+    /// Faults, in their order: `NoSlot`, `NotProtected`, `Evicted` if the address is below the head that the
+    /// slot saw, `Beyond` if it is at or above the tail that the slot saw.
     pub fn read(&self, t: u64, a: u64) -> Result<u64, Fault>
         ensures value { (A : List STEP) → EngineStands self.now A
             → result ≡ unless_fault (fault_of self.now.core.sizes A (READ t a)) (word a A) }
@@ -29,8 +29,9 @@ impl<E: Epochs + Drop, F: Task, P: Promise> Engine<E, F, P> {
 
     /// Slot t writes v to the word at address a.
     ///
-    /// Faults, in their order: `NoSlot`, `NotProtected`, `Below` where the address is below the read-only offset that
-    /// the slot saw, `Beyond` where it is at or above the tail that the slot saw. A refused write changes nothing.
+    /// Faults, in their order: `NoSlot`, `NotProtected`, `Below` if the address is below the read-only offset
+    /// that the slot saw, `Beyond` if it is at or above the tail that the slot saw. A refused write changes
+    /// nothing.
     pub fn write(&mut self, t: u64, a: u64, v: u64) -> Result<(), Fault>
         ensures result { (A : List STEP) → EngineStands self.old A
             → result ≡ unless_fault (fault_of self.old.core.sizes A (WRITE t a v)) tt }
@@ -47,8 +48,8 @@ impl<E: Epochs + Drop, F: Task, P: Promise> Engine<E, F, P> {
         Ok(())
     }
 
-    /// The words of a page, which is its frame's last entered one, where that frame isn't free: the page that
-    /// `frame` gives.
+    /// The words of a page, which is its frame's last entered one, if that frame isn't free: the page that
+    /// `frame` returns.
     pub fn page_words(&self, page: u64) -> &[u64]
         requires { Shows self.now page }
         ensures { (A : List STEP) → EngineStands self.now A

@@ -15,8 +15,8 @@ use hl_script::{Finished, Sum, run_text, slow_text};
 use std::alloc::Global;
 use std::io::{Read, Write};
 
-/// Answers the script that the reader gives; then, where that is wanted, writes the image of each page that can be
-/// flushed, one a line. Gives the exit status.
+/// Answers the script that the reader gives; then, if that is wanted, writes the image of each page that can
+/// be flushed, one a line. Returns the exit status.
 pub fn run<R: Read, W: Write, E: Write>(
     alloc: Global,
     flush: bool,
@@ -44,7 +44,7 @@ pub fn scan<R: Read, W: Write, E: Write>(
     status_of(ended, writer, errors)
 }
 
-/// Answers the script that the reader gives in the slow form. Gives the exit status.
+/// Answers the script that the reader gives in the slow form. Returns the exit status.
 pub fn slow<R: Read, W: Write, E: Write>(
     alloc: Global,
     reader: &mut R,
@@ -57,8 +57,9 @@ pub fn slow<R: Read, W: Write, E: Write>(
     status_of(ended, writer, errors)
 }
 
-/// Runs the script that the reader gives, without its answers, and then writes the report of what it left and of its
-/// accepted steps: nothing where there is no line, and the text of a bad line alone. Gives the exit status.
+/// Runs the script that the reader gives, without its answers, and then writes the report of what it left and
+/// of its accepted steps: nothing if there is no line, and the text of a bad line alone. Returns the exit
+/// status.
 pub fn report<R: Read, W: Write, E: Write>(
     alloc: Global,
     reader: &mut R,
@@ -71,7 +72,7 @@ pub fn report<R: Read, W: Write, E: Write>(
     status_of(ended, writer, errors)
 }
 
-/// The status of a script that ended so. What was written goes out first.
+/// Returns the status of a script that ended so. What was written goes out first.
 fn status_of<W: Write, E: Write>(ended: Result<(), Fault>, writer: &mut W, errors: &mut E) -> u8
     ensures status { result ≤ 2 }
     ensures done { result ≡ 0 → ended ≡ Ok tt }
@@ -86,7 +87,7 @@ fn status_of<W: Write, E: Write>(ended: Result<(), Fault>, writer: &mut W, error
     }
 }
 
-/// Runs the script over a table of epochs, and flushes the pages that it left sealed where that is wanted.
+/// Runs the script over a table of epochs, and flushes the pages that it left sealed if that is wanted.
 fn serve<E: Epochs + Drop, R: Read, W: Write>(
     alloc: Global,
     flush: bool,
@@ -133,7 +134,7 @@ fn flush_pages<E: Epochs + Drop, F: Task, W: Write>(
     Ok(())
 }
 
-/// So many bytes, all 0.
+/// Returns so many bytes, all 0.
 fn zeros(alloc: Global, size: usize) -> Result<Vec<u8>, Fault>
     ensures made { IfOk result (λ made. length made.items ≡ size) }
     ensures refused { IfErr result (λ fault. fault ≡ OutOfMemory) }

@@ -24,9 +24,9 @@ impl Task for AddTicket {
     }
 }
 
-/// A shelf with a job for each tag.
+/// Returns a shelf with a job for each tag.
 ///
-/// Fault: `OutOfMemory` where memory is refused.
+/// Fault: `OutOfMemory` if memory is refused.
 pub(crate) fn all_jobs(alloc: Global) -> Result<Shelf<AddTicket, Sum>, Fault> {
     let mut shelf = Shelf::open(alloc, TAGS)?;
     for tag in 0..TAGS {

@@ -5,8 +5,8 @@ ghost use Rattle.hl_commands.specs.Judged.{verdict_text, verdict_status};
 use crate::jobs::{AddTicket, all_jobs};
 use crate::status::{DONE, FAILED, REFUSED, failed};
 use hl_counts::CountTable;
-use hl_image::put;
 use hl_judge::{Verdict, judge as judge_trace};
+use hl_line::put;
 use hl_model::Fault;
 use itoa::Buffer;
 use std::alloc::Global;
@@ -15,8 +15,8 @@ use std::io::{BufReader, Read, Write};
 /// How many bytes of a trace are read at once.
 const CHUNK: usize = 1 << 16;
 
-/// Judges the trace that the reader gives, and writes what it shows. Gives the exit status: `DONE` where all lines
-/// agree, `FAILED` where one deviates, `REFUSED` where one is no line of a trace.
+/// Judges the trace that the reader gives, and writes what it shows. Returns the exit status: `DONE` if all
+/// lines agree, `FAILED` if one deviates, `REFUSED` if one is no line of a trace.
 pub fn judge<R: Read, W: Write, E: Write>(
     alloc: Global,
     reader: &mut R,
@@ -50,9 +50,9 @@ fn judge_and_tell<R: Read, W: Write>(
     }
 }
 
-/// Writes what a trace shows, and gives its status.
+/// Writes what a trace shows, and returns its status.
 ///
-/// Fault: `Stream` where a write failed.
+/// Fault: `Stream` if a write failed.
 fn tell<W: Write>(verdict: &Verdict, writer: &mut W) -> Result<u8, Fault>
     ensures text { OnOk result
         (Appends (W.contents writer.old) (W.contents writer.new) (verdict_text verdict.now)) }

@@ -1,4 +1,5 @@
-//! The commands on scripts, as programs run them: from a reader, a writer and a writer of errors to an exit status.
+//! The commands on scripts, as programs run them: from a reader, a writer and a writer of errors to an exit
+//! status.
 //!
 //! | Command | What it does |
 //! |---|---|
@@ -8,10 +9,11 @@
 //! | [`report`] | runs it without its answers, and reports what it left |
 //! | [`judge`] | judges a trace: a script's lines, each with the reply that some engine gave |
 //!
-//! The jobs of each have the tags 0 to 999, and each answers its tag + its ticket. The statuses are 0 where the
-//! command was [`DONE`], 1 where it [`FAILED`], with the fault's line on the errors ([`failed`] writes it), and 2
-//! where a line of the script is no step, which is the last line of the output ([`REFUSED`]). A trace of which a line
-//! deviates has status 1, and one with a line that is none of a trace 2: the output tells which.
+//! The jobs of each have the tags 0 to 999, and each answers its tag + its ticket. The statuses are 0 where
+//! the command was [`DONE`], 1 where it [`FAILED`], with the fault's line on the errors ([`failed`] writes
+//! it), and 2 where a line of the script is no step, which is the last line of the output ([`REFUSED`]). A
+//! trace of which a line deviates has status 1, and one with a line that is none of a trace 2: the output
+//! tells which.
 //!
 //! | Module | What it does |
 //! |---|---|

@@ -14,11 +14,11 @@ use std::alloc::Global;
 use std::io;
 use std::io::{Read, Write};
 
-/// Runs the script that the reader gives, with the jobs on the shelf, and then writes its report: nothing where
+/// Runs the script that the reader gives, with the jobs on the shelf, and then writes its report: nothing if
 /// there is no line.
 ///
-/// Faults: `BadLine` at the first line that is no step, whose text alone was written; `OutOfMemory` where memory was
-/// refused at line 1; `Stream` where a read or a write failed.
+/// Faults: `BadLine` at the first line that is no step, whose text alone was written; `OutOfMemory` if memory
+/// was refused at line 1; `Stream` if a read or a write failed.
 pub(crate) fn report_script<E: Epochs + Drop, F: Task, R: Read, W: Write>(
     alloc: Global,
     reader: &mut R,

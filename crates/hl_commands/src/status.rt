@@ -13,7 +13,7 @@ pub const FAILED: u8 = 1;
 /// A line that is no step, or words that are no command.
 pub const REFUSED: u8 = 2;
 
-/// Writes the fault's line. Where that fails too there is nobody left to tell.
+/// Writes the fault's line, and returns `FAILED`. If that fails too there is nobody left to tell.
 pub fn failed<E: Write>(fault: Fault, errors: &mut E) -> u8
     ensures { result ≡ FAILED }
 {

@@ -29,7 +29,7 @@ use Rattle.hl_drain.specs.Actions.{waiting_of}
 use Rattle.hl_drain.specs.Lists.{Lists, IsDrain, count_of, tickets, after_put}
 use Rattle.hl_core.specs.Standing.{State, Stands, IsStanding, log_of}
 use Rattle.hl_core.specs.Rise.{rise_fault}
-use Rattle.hl_core.specs.Steps.{Made, asking, stored, told}
+use Rattle.hl_core.specs.Steps.{Made, asking, stored, as_reply}
 use Rattle.hl_core.proofs.TableLaws.{make}
 use Rattle.hl_core.proofs.QuietLaws.{OffsetsStay, PagesStay, log-stays, pages-stay}
 use Rattle.hl_core.proofs.Refusals.{call_accepts}
@@ -208,7 +208,7 @@ module _ {J : Type 0} (tag : J → ℕ) where
       reply = ap (λ n. Bumped n) (omega (arith, bumps-push A Bare, is, current_epoch-bumps A))
 
   -- a bare bump
-  pub bare_made : (core : State J) (result : Result ℕ Fault) (table : Table) → result ≡ unless_fault (rise_fault core.table) core.table.current → table ≡ unless_refused (rise_fault core.table) core.table (bumped core.table) → Made tag core Bare (record { sizes = core.sizes; table = table; views = core.views; drain = core.drain; offsets = core.offsets; pages = core.pages }) (told Bumped result)
+  pub bare_made : (core : State J) (result : Result ℕ Fault) (table : Table) → result ≡ unless_fault (rise_fault core.table) core.table.current → table ≡ unless_refused (rise_fault core.table) core.table (bumped core.table) → Made tag core Bare (record { sizes = core.sizes; table = table; views = core.views; drain = core.drain; offsets = core.offsets; pages = core.pages }) (as_reply Bumped result)
   bare_made core (Ok ended) table a e = bare_ok core ended table a e
   bare_made core (Err f) table a e = bare_err core f table a e
 

@@ -1,20 +1,24 @@
 -- Who holds an action up, told by a core that stands at a list.
-use Rattle.std.proofs.Common.{◌≡◌, ℕ, ◌+◌, ◌<◌, ◌≤◌, cond, is_none, List, [], ◌∷◌, ◌++◌, take, map, refl, sym, ap, ◌∙◌, zero-add}
-use Rattle.std.specs.Prelude.{Option, Some, None, option_map, slice_get, unwrap_or}
+use Rattle.std.proofs.Common.{◌≡◌, ℕ, ◌+◌, ◌<◌, ◌≤◌, Bool, true, false, ◌&&◌, not, cond, is_none, List, [], ◌∷◌, ◌++◌, take, map, refl, sym, ap, ◌∙◌, zero-add}
+use Rattle.std.specs.Prelude.{Option, Some, None, Result, is_err, option_map, slice_get, unwrap_or}
 use Rattle.std.specs.List.{filter_map, position, range_with_len}
 use Rattle.std.proofs.lemmas.Bool.{le-leb, lt-leb}
 use Rattle.std.proofs.lemmas.List.{append-nil}
 use Rattle.std.proofs.lemmas.List.Elements.{filter_map-append}
 use Rattle.std.proofs.lemmas.List.FromFn.{map-range_with_len_more}
 use Rattle.hl_model.specs.declared.action.Waiting.{Waiting}
+use Rattle.hl_model.specs.declared.fault.Fault.{Fault}
+use Rattle.hl_model.specs.declared.fault.Fault.TheVariants.{NotTaken}
 use Rattle.hl_model.specs.declared.step.Step.{Step}
+use Rattle.hl_model.specs.declared.step.Step.TheVariants.{Done}
 use Rattle.hl_model.specs.declared.view.View.{View}
 use Rattle.hl_model.specs.Epochs.{slot_epoch}
-use Rattle.hl_model.specs.Actions.{pending}
+use Rattle.hl_model.specs.Actions.{pending, is_taken}
+use Rattle.hl_model.specs.Replies.{fault_of, unless_fault}
 use Rattle.hl_epoch.specs.Table.{epoch_at}
 use Rattle.hl_core.specs.declared.holders.Holder.{Holder}
 use Rattle.hl_core.specs.Standing.{State, Stands}
-use Rattle.hl_core.specs.Holding.{holding, holders_of, oldest, holders, least_free}
+use Rattle.hl_core.specs.Holding.{holding, holders_of, oldest, holders, is_before, is_over, least_free}
 use Rattle.hl_drain.specs.Actions.{waiting_of}
 use Rattle.hl_core.proofs.BaseStands.{epoch_is}
 use Rattle.hl_core.proofs.TakeStands.{first_front}
@@ -82,6 +86,25 @@ module _ {J : Type 0} (tag : J → ℕ) (core : State J) where
       let first = first_front tag core.drain.pending n h in
       let told = first_pending core.sizes.slots A first.0 (map (waiting_of tag) core.drain.pending) first.1 st.pending_is first.2 in
       (ap (λ m. Some m) first.3 ∙ told.0, ap (λ m. holders_of core.sizes.slots m A) first.3 ∙ told.1)
+
+  -- the oldest action, told either way
+  pub oldest_is : (o : Option ℕ) → o ≡ option_map (λ entry. entry.0) (slice_get core.drain.pending 0) → (A : List Step) → Stands tag core A → o ≡ oldest A
+  oldest_is None h A st = (oldest_none h A st).0
+  oldest_is (Some n) h A st = (oldest_some n h A st).0
+
+  -- an action is over, told what a done of it would be answered; it isn't while one up to it is pending
+  pub over_ended : (c : ℕ) (o : Option ℕ) (ended : Result Unit Fault) → o ≡ option_map (λ entry. entry.0) (slice_get core.drain.pending 0) → is_before c o ≡ true → ((A : List Step) → Stands tag core A → ended ≡ unless_fault (fault_of core.sizes A (Done c)) (tt {0})) → (A : List Step) → Stands tag core A → is_err ended ≡ is_over c A
+  unfolding is_over
+  over_ended c o ended h before e A st =
+      ap is_err (e A st) ∙ refused (is_taken c A) ∙ sym (ap (λ b. b && not (is_taken c A)) (ap (is_before c) (sym (oldest_is o h A st)) ∙ before))
+    where
+      refused : (b : Bool) → is_err (unless_fault (cond b None (Some NotTaken)) (tt {0})) ≡ not b
+      refused true = refl
+      refused false = refl
+
+  pub over_early : (c : ℕ) (o : Option ℕ) → o ≡ option_map (λ entry. entry.0) (slice_get core.drain.pending 0) → is_before c o ≡ false → (A : List Step) → Stands tag core A → false ≡ is_over c A
+  unfolding is_over
+  over_early c o h early A st = sym (ap (λ b. b && not (is_taken c A)) (ap (is_before c) (sym (oldest_is o h A st)) ∙ early))
 
   -- the least free slot
   pub free_told : (views : List (Option View)) (o : Option ℕ) → views ≡ core.views → o ≡ position is_none views → (A : List Step) → Stands tag core A → unwrap_or o core.sizes.slots ≡ least_free core.sizes A

@@ -24,3 +24,4 @@ pub mod StandLaws
 pub mod StartStands
 pub mod TableLaws
 pub mod TakeStands
+pub mod ViewRows

@@ -14,7 +14,7 @@ use Rattle.hl_model.specs.Replies.{fault_of, answer_of, unless_fault}
 use Rattle.hl_laws.proofs.NoFaultLaws.{look-none, protected-none, unless_err, unless_ok}
 use Rattle.hl_laws.proofs.ViewLaws.{slot_views-look, slot_views-stay, length-slot_views, seen_read_only-push, seen_head-push, seen_tail-stay}
 use Rattle.hl_core.specs.Standing.{State, Stands, IsStanding}
-use Rattle.hl_core.specs.Steps.{Stepped, Made, told}
+use Rattle.hl_core.specs.Steps.{Stepped, Made, as_reply}
 use Rattle.hl_core.proofs.TableLaws.{table_stays}
 use Rattle.hl_core.proofs.QuietLaws.{OffsetsStay, PagesStay, log-stays, pages-stay}
 use Rattle.hl_core.proofs.StandLaws.{DrainStays, refused_step, accepted_step, quiet_drain}
@@ -75,10 +75,10 @@ module _ {J : Type 0} (tag : J → ℕ) where
       (record { flush_taken = refl; flush_ended = refl; flushed = λ x. refl; clean_taken = refl; clean_ended = refl; freed = λ x. refl }) refl (λ x. refl) (λ x. refl) (λ x. refl) (λ x. refl) (λ x. refl) refl
 
   -- a write and a read, accepted or not
-  pub write_made : (core : State J) (t a v : ℕ) (result : Result (Unit {0}) Fault) → ((A : List Step) → Stands tag core A → result ≡ unless_fault (fault_of core.sizes A (Write t a v)) (tt {0})) → Made tag core (Write t a v) core (told (λ _. Written) result)
+  pub write_made : (core : State J) (t a v : ℕ) (result : Result (Unit {0}) Fault) → ((A : List Step) → Stands tag core A → result ≡ unless_fault (fault_of core.sizes A (Write t a v)) (tt {0})) → Made tag core (Write t a v) core (as_reply (λ _. Written) result)
   write_made core t a v (Ok u) h A st = write_ok core A t a v st (unless_ok (fault_of core.sizes A (Write t a v)) (tt {0}) (tt {0}) (h A st)).0
   write_made core t a v (Err f) h A st = refused_by core (Write t a v) f (λ B. tt {0}) h A st
 
-  pub read_made : (core : State J) (t a : ℕ) (result : Result (Unit {0}) Fault) → ((A : List Step) → Stands tag core A → result ≡ unless_fault (fault_of core.sizes A (Read t a)) (tt {0})) → Made tag core (Read t a) core (told (λ _. Readable) result)
+  pub read_made : (core : State J) (t a : ℕ) (result : Result (Unit {0}) Fault) → ((A : List Step) → Stands tag core A → result ≡ unless_fault (fault_of core.sizes A (Read t a)) (tt {0})) → Made tag core (Read t a) core (as_reply (λ _. Readable) result)
   read_made core t a (Ok u) h A st = read_ok core A t a st (unless_ok (fault_of core.sizes A (Read t a)) (tt {0}) (tt {0}) (h A st)).0
   read_made core t a (Err f) h A st = refused_by core (Read t a) f (λ B. tt {0}) h A st

@@ -16,7 +16,7 @@ use Rattle.hl_laws.proofs.ViewLaws.{slot_views-stay}
 use Rattle.hl_frames.specs.Pages.{Pages, flushed_offset, is_in_flight as IN_FLIGHT, is_cleaning as CLEANING, next_to_flush as NEXT_TO_FLUSH, next_to_clean as NEXT_TO_CLEAN}
 use Rattle.hl_frames.specs.Answers.{page_or, after_take, flush_begun, flush_ended, flush_done_answer, after_flush_done, clean_begun, clean_ended, clean_done_answer, after_clean_done}
 use Rattle.hl_core.specs.Standing.{State, Stands, pages_of}
-use Rattle.hl_core.specs.Steps.{Stepped, Made, told}
+use Rattle.hl_core.specs.Steps.{Stepped, Made, as_reply}
 use Rattle.hl_core.proofs.PageFound.{flush_found, clean_found, flight_found, cleaning_found}
 use Rattle.hl_core.proofs.PageOffsets.{pages_of-flushed}
 use Rattle.hl_core.proofs.PageMoves.{flush_begun-is, flush_ended-is, clean_begun-is, clean_ended-is}
@@ -97,7 +97,7 @@ module _ {J : Type 0} (tag : J → ℕ) where
       (pages_moved core A FlushTake pages st none flush_take_quiet is)
 
   -- a flush take
-  pub flush_take_made : (core : State J) (sro : ℕ) (result : Result ℕ Fault) (pages : Pages) → sro ≡ core.offsets.safe_read_only → result ≡ page_or NoneSealed (NEXT_TO_FLUSH sro core.pages) → pages ≡ after_take flush_begun (NEXT_TO_FLUSH sro core.pages) core.pages → Made tag core FlushTake (record { sizes = core.sizes; table = core.table; views = core.views; drain = core.drain; offsets = core.offsets; pages = pages }) (told Page result)
+  pub flush_take_made : (core : State J) (sro : ℕ) (result : Result ℕ Fault) (pages : Pages) → sro ≡ core.offsets.safe_read_only → result ≡ page_or NoneSealed (NEXT_TO_FLUSH sro core.pages) → pages ≡ after_take flush_begun (NEXT_TO_FLUSH sro core.pages) core.pages → Made tag core FlushTake (record { sizes = core.sizes; table = core.table; views = core.views; drain = core.drain; offsets = core.offsets; pages = pages }) (as_reply Page result)
   flush_take_made core sro (Ok q) pages at h e = flush_take_ok core sro q pages at h e
   flush_take_made core sro (Err f) pages at h e = flush_take_err core sro f pages at h e
 
@@ -121,7 +121,7 @@ module _ {J : Type 0} (tag : J → ℕ) where
       (pages_moved core A (FlushDone q ok) pages st none (flush_done_quiet q ok) (e ∙ ap (λ b. cond b (flush_ended q ok core.pages) core.pages) told.0 ∙ moved))
 
   -- an end of a flush
-  pub flush_done_made : (core : State J) (q : ℕ) (ok : Bool) (result : Result ℕ Fault) (pages : Pages) → result ≡ flush_done_answer q ok core.pages → pages ≡ after_flush_done q ok core.pages → Made tag core (FlushDone q ok) (record { sizes = core.sizes; table = core.table; views = core.views; drain = core.drain; offsets = core.offsets; pages = pages }) (told Flushed result)
+  pub flush_done_made : (core : State J) (q : ℕ) (ok : Bool) (result : Result ℕ Fault) (pages : Pages) → result ≡ flush_done_answer q ok core.pages → pages ≡ after_flush_done q ok core.pages → Made tag core (FlushDone q ok) (record { sizes = core.sizes; table = core.table; views = core.views; drain = core.drain; offsets = core.offsets; pages = pages }) (as_reply Flushed result)
   flush_done_made core q ok (Ok offset) pages h e = flush_done_ok core q ok offset pages h e
   flush_done_made core q ok (Err f) pages h e = flush_done_err core q ok f pages h e
 
@@ -143,7 +143,7 @@ module _ {J : Type 0} (tag : J → ℕ) where
       (pages_moved core A CleanTake pages st none clean_take_quiet is)
 
   -- a clean take
-  pub clean_take_made : (core : State J) (end : ℕ) (result : Result ℕ Fault) (pages : Pages) → end ≡ core.offsets.closed → result ≡ page_or NoneClosed (NEXT_TO_CLEAN end core.pages) → pages ≡ after_take clean_begun (NEXT_TO_CLEAN end core.pages) core.pages → Made tag core CleanTake (record { sizes = core.sizes; table = core.table; views = core.views; drain = core.drain; offsets = core.offsets; pages = pages }) (told Page result)
+  pub clean_take_made : (core : State J) (end : ℕ) (result : Result ℕ Fault) (pages : Pages) → end ≡ core.offsets.closed → result ≡ page_or NoneClosed (NEXT_TO_CLEAN end core.pages) → pages ≡ after_take clean_begun (NEXT_TO_CLEAN end core.pages) core.pages → Made tag core CleanTake (record { sizes = core.sizes; table = core.table; views = core.views; drain = core.drain; offsets = core.offsets; pages = pages }) (as_reply Page result)
   clean_take_made core end (Ok q) pages at h e = clean_take_ok core end q pages at h e
   clean_take_made core end (Err f) pages at h e = clean_take_err core end f pages at h e
 

@@ -142,8 +142,8 @@ module _ {J : Type 0} (tag : J → ℕ) where
       ap₂ (λ n m. Err (NotReady n m)) named same
       ∙ sym (ap (λ o. unless_fault o (tt {0})) (fault_early (length (pending A)) (front A) (safe_epoch core.sizes.slots A) (omega (arith, ap length first)) (omega (arith, early, named, same))))
 
-  pub ready_told : (core : State J) (ws rest : List Waiting) (w : Waiting) (safe : ℕ) → ws ≡ map (waiting_of tag) core.drain.pending → ws ≡ w ∷ rest → safe ≡ safe_of core.table → w.ticket ≤ safe → (A : List Step) → Stands tag core A → Ok (tt {0}) ≡ unless_fault (take_fault core.sizes A) (tt {0})
-  ready_told core ws rest w safe e some s ready A st =
+  pub ready_reply : (core : State J) (ws rest : List Waiting) (w : Waiting) (safe : ℕ) → ws ≡ map (waiting_of tag) core.drain.pending → ws ≡ w ∷ rest → safe ≡ safe_of core.table → w.ticket ≤ safe → (A : List Step) → Stands tag core A → Ok (tt {0}) ≡ unless_fault (take_fault core.sizes A) (tt {0})
+  ready_reply core ws rest w safe e some s ready A st =
       let first : pending A ≡ w ∷ rest = sym st.pending_is ∙ sym e ∙ some in
       let named : w.ticket ≡ front A = ticket-front A w rest first in
       let same : safe ≡ safe_epoch core.sizes.slots A = s ∙ safe_is core A st in
@@ -163,4 +163,4 @@ module _ {J : Type 0} (tag : J → ℕ) where
   pub ready_front : (core : State J) (n safe : ℕ) → Some n ≡ option_map (λ entry. entry.0) (slice_get core.drain.pending 0) → safe ≡ safe_of core.table → n ≤ safe → (A : List Step) → Stands tag core A → Ok (tt {0}) ≡ unless_fault (take_fault core.sizes A) (tt {0})
   ready_front core n safe h s ready A st =
       let first = first_front core.drain.pending n h in
-      ready_told core (map (waiting_of tag) core.drain.pending) first.1 first.0 safe refl first.2 s (omega (arith, ready, first.3)) A st
+      ready_reply core (map (waiting_of tag) core.drain.pending) first.1 first.0 safe refl first.2 s (omega (arith, ready, first.3)) A st

@@ -1,11 +1,11 @@
 -- Who holds the oldest action up, and the least free slot.
-use Rattle.std.specs.Prelude.{ℕ, nat_le, if◌then◌else◌, is_none, unwrap_or, Option, Some, None, List, [], ◌∷◌, map}
+use Rattle.std.specs.Prelude.{ℕ, nat_le, nat_lt, Bool, true, ◌&&◌, not, if◌then◌else◌, is_none, unwrap_or, Option, Some, None, List, [], ◌∷◌, map}
 use Rattle.std.specs.List.{filter_map, position, range_with_len}
 use Rattle.hl_model.specs.declared.action.Waiting.{Waiting}
 use Rattle.hl_model.specs.declared.step.Step.{Step}
 use Rattle.hl_model.specs.Sizes.{Sizes}
 use Rattle.hl_model.specs.Epochs.{slot_epoch}
-use Rattle.hl_model.specs.Actions.{pending}
+use Rattle.hl_model.specs.Actions.{pending, is_taken}
 use Rattle.hl_model.specs.Views.{slot_views}
 use Rattle.hl_core.specs.declared.holders.Holder.{Holder}
 
@@ -36,6 +36,15 @@ oldest A = oldest_of (pending A)
 -- those of n slots that hold it up
 unfoldable pub holders : ℕ → List Step → List Holder
 holders n A = first_holders n A (pending A)
+
+-- ticket c is below this one, if there is one
+abbrev pub is_before : ℕ → Option ℕ → Bool
+is_before c None = true
+is_before c (Some front) = nat_lt c front
+
+-- the action of ticket c is over: no action up to c is pending, and c is that of none that is taken and not done
+unfoldable pub is_over : ℕ → List Step → Bool
+is_over c A = is_before c (oldest A) && not (is_taken c A)
 
 -- the least slot that isn't protected; S where all are
 unfoldable pub least_free : Sizes → List Step → ℕ

@@ -65,8 +65,3 @@ pub record Stands {J : Type 0} (tag : J → ℕ) (core : State J) (A : List Step
 -- a core stands at some list
 abbrev pub IsStanding : {J : Type 0} → (J → ℕ) → State J → Type 0
 IsStanding tag core = (A : List Step) × Stands tag core A
-
--- so does each core that is kept, and its row of views has room for its slots and no more: it never grew
-pub record IsKept {J : Type 0} (tag : J → ℕ) (core : State J) (room : ℕ) : Type 0 where
-  pub standing : IsStanding tag core
-  pub exact : room ≡ core.sizes.slots

@@ -29,9 +29,9 @@ abbrev pub Made : {J : Type 0} → (J → ℕ) → State J → Step → State J 
 Made tag old step new result = (A : List Step) → Stands tag old A → Stepped tag old A step new result
 
 -- a call's answer as a reply: this one where it was accepted, else its fault
-abbrev pub told : {X : Type 0} → (X → Reply) → Result X Fault → Result Reply Fault
-told reply (Ok answer) = Ok (reply answer)
-told reply (Err fault) = Err fault
+abbrev pub as_reply : {X : Type 0} → (X → Reply) → Result X Fault → Result Reply Fault
+as_reply reply (Ok answer) = Ok (reply answer)
+as_reply reply (Err fault) = Err fault
 
 -- the reply to whoever entered: the slot's epoch and view
 abbrev pub entered_reply : Slot → Reply
@@ -65,14 +65,14 @@ module _ {J : Type 0} where
   job_in (User job) = Some job
 
   -- a bump's answer as a reply
-  abbrev pub bump_told : Result ℕ (Fault × Ask J) → Result Reply Fault
-  bump_told (Ok ticket) = Ok (Ticket ticket)
-  bump_told (Err refused) = Err refused.0
+  abbrev pub bump_reply : Result ℕ (Fault × Ask J) → Result Reply Fault
+  bump_reply (Ok ticket) = Ok (Ticket ticket)
+  bump_reply (Err refused) = Err refused.0
 
   -- a take's answer as a reply
-  abbrev pub take_told : Result (FiringRecord × Option J) Fault → Result Reply Fault
-  take_told (Ok taken) = Ok (Taken taken.0.ticket)
-  take_told (Err fault) = Err fault
+  abbrev pub take_reply : Result (FiringRecord × Option J) Fault → Result Reply Fault
+  take_reply (Ok taken) = Ok (Taken taken.0.ticket)
+  take_reply (Err fault) = Err fault
 
   -- the oldest pending action came out with its ticket and its job, and is the last taken one
   pub record CameOut (tag : J → ℕ) (old new : State J) (ticket : ℕ) (job : Option J) : Type 0 where

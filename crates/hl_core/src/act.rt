@@ -6,9 +6,9 @@ use hl_epoch::Epochs;
 use hl_model::{Fault, Reply, Slot, Step, Tagged};
 
 impl<E: Epochs, J: Tagged + Drop> Core<E, J> {
-    /// Makes a step of which no job goes in or comes out: any but a take and a bump that stores an action. It is the
-    /// step's own call, with its answer told as a reply. The faults are tried in their order, and a refused step
-    /// changes nothing.
+    /// Makes a step of which no job goes in or comes out: any but a take and a bump that stores an action. It
+    /// is the step's own call, with what it returns as a reply. The faults are tried in their order, and
+    /// a refused step changes nothing.
     #[inline(always)]
     pub fn act(&mut self, step: &Step) -> Result<Reply, Fault>
         requires { is_acted step.now ≡ true }

@@ -4,7 +4,7 @@ ghost use Rattle.hl_model.specs.declared.step.Step.TheVariants.{Settle as SETTLE
 ghost use Rattle.hl_epoch.specs.Table.{safe_of};
 ghost use Rattle.hl_action.specs.Firings.{IsSafe};
 ghost use Rattle.hl_drain.specs.declared.action.Action.TheVariants.{Settle as SETTLING, Close as CLOSING};
-ghost use Rattle.hl_core.specs.Steps.{Made, asking, stored, job_in, told, bump_told, take_told, CameOut};
+ghost use Rattle.hl_core.specs.Steps.{Made, asking, stored, job_in, as_reply, bump_reply, take_reply, CameOut};
 
 use crate::rise::end_epoch;
 use crate::state::Core;
@@ -15,14 +15,14 @@ use hl_model::{Fault, Kind, Reply, Tagged};
 use hl_offsets::Offsets;
 
 impl<E: Epochs, J: Tagged + Drop> Core<E, J> {
-    /// Ends the current epoch, and stores what is asked for under it; the answer is the ticket, the epoch that ended.
-    /// A settle and a close store the read-only offset and the head as they stand now.
+    /// Ends the current epoch, and stores what is asked for under it; returns the ticket, the epoch that
+    /// ended. A settle and a close store the read-only offset and the head as they stand now.
     ///
-    /// Faults, with what was asked for handed back: `DrainFull` where the drain list has no room, `EpochsSpent` where
-    /// the current epoch is the last, `WindowFull` where 4,096 epochs have ended and aren't safe.
+    /// Faults, with what was asked for handed back: `DrainFull` if the drain list has no room, `EpochsSpent`
+    /// if the current epoch is the last, `WindowFull` if 4,096 epochs have ended and aren't safe.
     #[inline(always)]
     pub fn bump(&mut self, ask: Ask<J>) -> Result<u64, (Fault, Ask<J>)>
-        ensures made { Made J.tag self.old (asking J.tag ask) self.new (bump_told result) }
+        ensures made { Made J.tag self.old (asking J.tag ask) self.new (bump_reply result) }
         ensures refused { IfErr result (λ back. (back.1 ≡ ask) × (self.new ≡ self.old)) }
         ensures jobs { let old = self.old
             in IfOk result
@@ -44,13 +44,14 @@ impl<E: Epochs, J: Tagged + Drop> Core<E, J> {
         }
     }
 
-    /// Ends the current epoch, and stores under it an action that settles the read-only offset as it stands; the
-    /// answer is the ticket, the epoch that ended. The done of the action raises the safe read-only offset to it.
+    /// Ends the current epoch, and stores under it an action that settles the read-only offset as it stands;
+    /// returns the ticket, the epoch that ended. The done of the action raises the safe read-only offset to
+    /// it.
     ///
     /// Faults: as [`bump`](Core::bump).
     #[inline(always)]
     pub fn settle(&mut self) -> Result<u64, Fault>
-        ensures made { Made J.tag self.old SETTLE self.new (told TICKET result) }
+        ensures made { Made J.tag self.old SETTLE self.new (as_reply TICKET result) }
         ensures refused { OnErr result (self.new ≡ self.old) }
         ensures jobs { let old = self.old
             in IfOk result (λ ticket. self.new.drain.pending
@@ -60,13 +61,14 @@ impl<E: Epochs, J: Tagged + Drop> Core<E, J> {
         self.bump(Ask::Settle).map_err(|(fault, _)| fault)
     }
 
-    /// Ends the current epoch, and stores under it an action that closes the pages below the head as it stands; the
-    /// answer is the ticket, the epoch that ended. The done of the action raises the closed offset to that head.
+    /// Ends the current epoch, and stores under it an action that closes the pages below the head as it
+    /// stands; returns the ticket, the epoch that ended. The done of the action raises the closed offset to
+    /// that head.
     ///
     /// Faults: as [`bump`](Core::bump).
     #[inline(always)]
     pub fn close(&mut self) -> Result<u64, Fault>
-        ensures made { Made J.tag self.old CLOSE self.new (told TICKET result) }
+        ensures made { Made J.tag self.old CLOSE self.new (as_reply TICKET result) }
         ensures refused { OnErr result (self.new ≡ self.old) }
         ensures jobs { let old = self.old
             in IfOk result (λ ticket. self.new.drain.pending
@@ -76,14 +78,14 @@ impl<E: Epochs, J: Tagged + Drop> Core<E, J> {
         self.bump(Ask::Close).map_err(|(fault, _)| fault)
     }
 
-    /// Ends the current epoch, and stores nothing; the answer is the epoch that ended. It needs no place in the drain
-    /// list.
+    /// Ends the current epoch, and stores nothing; returns the epoch that ended. It needs no place in the
+    /// drain list.
     ///
-    /// Faults, in their order: `EpochsSpent` where the current epoch is the last, `WindowFull` where 4,096 epochs have
-    /// ended and aren't safe.
+    /// Faults, in their order: `EpochsSpent` if the current epoch is the last, `WindowFull` if 4,096 epochs
+    /// have ended and aren't safe.
     #[inline(always)]
     pub fn bare(&mut self) -> Result<u64, Fault>
-        ensures made { Made J.tag self.old BARE self.new (told BUMPED result) }
+        ensures made { Made J.tag self.old BARE self.new (as_reply BUMPED result) }
         ensures refused { OnErr result (self.new ≡ self.old) }
         ensures jobs { self.new.drain.pending ≡ self.old.drain.pending }
         ensures sizes { self.new.sizes ≡ self.old.sizes }
@@ -91,13 +93,13 @@ impl<E: Epochs, J: Tagged + Drop> Core<E, J> {
         end_epoch(&mut self.table)
     }
 
-    /// Takes the oldest pending action: the answer is its firing, its ticket and the safe epoch of now, and its job.
-    /// A settle and a close have no job.
+    /// Takes the oldest pending action; returns its firing, which is its ticket and the safe epoch of now,
+    /// and its job. A settle and a close have no job.
     ///
-    /// Faults: `Empty` where none is pending, `NotReady` where its ticket is above the safe epoch.
+    /// Faults: `Empty` if none is pending, `NotReady` if its ticket is above the safe epoch.
     #[inline(always)]
     pub fn take(&mut self) -> Result<(Firing, Option<J>), Fault>
-        ensures made { Made J.tag self.old TAKE self.new (take_told result) }
+        ensures made { Made J.tag self.old TAKE self.new (take_reply result) }
         ensures refused { OnErr result (self.new ≡ self.old) }
         ensures safe { IfOk result (λ taken. taken.0.safe ≡ safe_of self.old.table) }
         ensures out { IfOk result (λ taken. CameOut J.tag self.old self.new taken.0.ticket taken.1) }
@@ -108,11 +110,11 @@ impl<E: Epochs, J: Tagged + Drop> Core<E, J> {
         Ok((Firing::new(ticket, safe), job_of(action)))
     }
 
-    /// A taken action was carried out, and leaves the drain list. The answer is `Ran` with its tag for a job; a settle
-    /// and a close raise their offset to what they stored, where it is below, and are answered `Settled` with the safe
-    /// read-only offset after it, `Closed` with the closed one.
+    /// A taken action was carried out, and leaves the drain list. Returns `Ran` with its tag for a job. A
+    /// settle and a close raise their offset to what they stored, if it is below; returns `Settled` with the
+    /// safe read-only offset after it, `Closed` with the closed one.
     ///
-    /// Fault: `NotTaken` where the ticket isn't that of an action that was taken and isn't done.
+    /// Fault: `NotTaken` if the ticket isn't that of an action that was taken and isn't done.
     #[inline(always)]
     pub fn done(&mut self, ticket: u64) -> Result<Reply, Fault>
         ensures made { Made J.tag self.old (DONE ticket) self.new result }

@@ -15,7 +15,7 @@ impl<E: Epochs, J: Tagged> Core<E, J> {
         requires same_sizes { base.old.sizes ≡ self.now.sizes }
         ensures { (A : List Step) → Stands J.tag self.now A → base.new ≡ base_of self.now.sizes A }
     {
-        // That it stands at some list is in its type, and known where a field is named.
+        // That it stands at some list is in its type, and known once a field is named.
         let _ = &self.params;
         base.renew(self);
     }
@@ -30,7 +30,7 @@ impl<E: Epochs, J: Tagged> Quantities for Core<E, J> {
 
     fn slot(&self, t: u64) -> Option<Slot> {
         let epoch = self.table.epoch_of(t)?;
-        let view = self.views[t as usize]?;
+        let view = self.views.get(t)??;
         Some(Slot { epoch, view })
     }
 

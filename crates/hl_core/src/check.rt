@@ -11,7 +11,7 @@ use hl_epoch::Epochs;
 use hl_model::{Fault, Step, Tagged, Waiting};
 
 impl<E: Epochs, J: Tagged> Core<E, J> {
-    /// The fault that the step would meet, or `Ok` where it would be accepted. Changes nothing.
+    /// Returns the fault that the step would meet, or `Ok` if it would be accepted. Changes nothing.
     #[inline(always)]
     pub fn check(&self, step: &Step) -> Result<(), Fault>
         ensures { (A : List STEP) → Stands J.tag self.now A
@@ -41,7 +41,7 @@ impl<E: Epochs, J: Tagged> Core<E, J> {
         ensures { (A : List STEP) → Stands J.tag self.now A
             → result ≡ unless_fault (acquire_fault self.now.sizes A t) tt }
     {
-        match self.views.get(t as usize) {
+        match self.views.get(t) {
             None => Err(Fault::NoSlot),
             Some(None) => Ok(()),
             Some(Some(_)) => Err(Fault::Occupied),
@@ -79,7 +79,7 @@ impl<E: Epochs, J: Tagged> Core<E, J> {
         Ok(())
     }
 
-    fn may_end(&self, ticket: u64) -> Result<(), Fault>
+    pub(crate) fn may_end(&self, ticket: u64) -> Result<(), Fault>
         ensures { (A : List STEP) → Stands J.tag self.now A
             → result ≡ unless_fault (fault_of self.now.sizes A (DONE ticket)) tt }
     {

@@ -1,16 +1,15 @@
 //! Who holds the oldest action up, and the least free slot.
-ghost use Rattle.std.specs.Prelude.{◌≡◌, ◌<◌, is_none, take, List, [], ◌∷◌, ◌++◌};
-ghost use Rattle.std.specs.List.{position};
+ghost use Rattle.std.specs.Prelude.{◌≡◌, ◌<◌, take, List, [], ◌∷◌, ◌++◌};
 ghost use Rattle.hl_model.specs.declared.step.Step.{Step};
 ghost use Rattle.hl_model.specs.Epochs.{slot_epoch};
 ghost use Rattle.hl_core.specs.declared.holders.Holder.{Holder};
 ghost use Rattle.hl_core.specs.Standing.{Stands};
-ghost use Rattle.hl_core.specs.Holding.{holding, holders_of, oldest, holders, least_free};
+ghost use Rattle.hl_core.specs.Holding.{holding, holders_of, oldest, holders, is_before, is_over, least_free};
 
 use crate::state::Core;
 use arrayvec::ArrayVec;
 use hl_epoch::Epochs;
-use hl_model::{Tagged, View};
+use hl_model::Tagged;
 
 /// A slot that holds an action up: it is protected, at an epoch that isn't above the action's ticket.
 #[derive(Clone, Copy, Debug, Default, PartialEq, Eq)]
@@ -22,11 +21,11 @@ pub struct Holder {
 }
 
 impl<E: Epochs, J: Tagged> Core<E, J> {
-    /// The ticket of the oldest pending action, and into the row the slots that hold it up, least first: the first N of
-    /// them, where there are more. Each of them has to refresh or to leave before a take gives that action; where the
-    /// row is empty, the next take does.
+    /// Returns the ticket of the oldest pending action, and puts into the row the slots that hold it up,
+    /// least first: the first N of them, if there are more. Each of them has to refresh or to leave before a
+    /// take returns that action; if the row is empty, the next take does.
     ///
-    /// None, and no slot, where no action is pending.
+    /// None, and no slot, if no action is pending.
     pub fn holders<const N: usize>(&self, row: &mut ArrayVec<Holder, N>) -> Option<u64>
         ensures ticket { (A : List Step) → Stands J.tag self.now A → result ≡ oldest A }
         ensures row { (A : List Step) → Stands J.tag self.now A
@@ -38,17 +37,26 @@ impl<E: Epochs, J: Tagged> Core<E, J> {
         Some(ticket)
     }
 
-    /// The least slot that isn't protected; S where all are.
+    /// Whether the action of this ticket is over: it was taken, and is done. So it is of a ticket under which no action was
+    /// stored, once all before it were taken.
+    pub fn is_over(&self, ticket: u64) -> bool
+        ensures { (A : List Step) → Stands J.tag self.now A → result ≡ is_over ticket A }
+    {
+        is_before(ticket, self.drain.front()) && self.may_end(ticket).is_err()
+    }
+
+    /// Returns the least slot that isn't protected, or S if all are.
     pub fn least_free(&self) -> u64
         ensures { (A : List Step) → Stands J.tag self.now A → result ≡ least_free self.now.sizes A }
     {
-        match first_free(&self.views) {
+        match self.views.first_free() {
             Some(t) => t as u64,
             None => self.params.slots(),
         }
     }
 
-    /// Puts the slots that hold up the action of this ticket into a row that has none, as far as there is room.
+    /// Puts the slots that hold up the action of this ticket into a row that has none, as far as there is
+    /// room.
     fn hold<const N: usize>(&self, ticket: u64, row: &mut ArrayVec<Holder, N>)
         requires { row.old.items ≡ [] }
         ensures { (A : List Step) → Stands J.tag self.now A
@@ -75,6 +83,16 @@ impl<E: Epochs, J: Tagged> Core<E, J> {
     }
 }
 
+// Whether a ticket is below that of the oldest pending action, if there is one.
+fn is_before(ticket: u64, front: Option<u64>) -> bool
+    ensures { result ≡ is_before ticket front }
+{
+    match front {
+        None => true,
+        Some(front) => ticket < front,
+    }
+}
+
 // Puts a holder behind a row, if there is room: so a row of the first N holders stays one.
 fn push_within<const N: usize>(row: &mut ArrayVec<Holder, N>, holder: Holder)
     ensures { (all : List Holder) → row.old.items ≡ take N all
@@ -83,11 +101,4 @@ fn push_within<const N: usize>(row: &mut ArrayVec<Holder, N>, holder: Holder)
     if !row.is_full() {
         row.push(holder);
     }
-}
-
-// The place of the first slot that has no view.
-fn first_free(views: &[Option<View>]) -> Option<usize>
-    ensures { result ≡ position is_none views.now }
-{
-    views.iter().position(|view| view.is_none())
 }

@@ -6,20 +6,20 @@ ghost use Rattle.hl_model.specs.Offsets.{tail, place_of, is_entered};
 ghost use Rattle.hl_model.specs.Views.{view_of};
 ghost use Rattle.hl_model.specs.Replies.{fault_of, unless_fault};
 ghost use Rattle.hl_core.specs.Standing.{Stands};
-ghost use Rattle.hl_core.specs.Steps.{Made, told};
+ghost use Rattle.hl_core.specs.Steps.{Made, as_reply};
 
 use crate::state::Core;
 use hl_epoch::Epochs;
 use hl_model::{Fault, Tagged, View};
 
 impl<E: Epochs, J: Tagged> Core<E, J> {
-    /// Moves the read-only offset up to address x; the answer is x, the read-only offset after it.
+    /// Moves the read-only offset up to address x; returns x, the read-only offset after it.
     ///
-    /// Faults, in their order: `NotAbove` where x isn't above the read-only offset, `AboveTail` where it is above the
-    /// tail.
+    /// Faults, in their order: `NotAbove` if x isn't above the read-only offset, `AboveTail` if it is above
+    /// the tail.
     #[inline(always)]
     pub fn raise(&mut self, x: u64) -> Result<u64, Fault>
-        ensures made { Made J.tag self.old (RAISE x) self.new (told RAISED result) }
+        ensures made { Made J.tag self.old (RAISE x) self.new (as_reply RAISED result) }
         ensures refused { OnErr result (self.new ≡ self.old) }
         ensures jobs { self.new.drain.pending ≡ self.old.drain.pending }
         ensures sizes { self.new.sizes ≡ self.old.sizes }
@@ -28,14 +28,14 @@ impl<E: Epochs, J: Tagged> Core<E, J> {
         Ok(x)
     }
 
-    /// Moves the head up to address x, where a page begins, at most to the flushed offset; the answer is x, the head
-    /// after it.
+    /// Moves the head up to address x, where a page begins, at most to the flushed offset; returns x, the
+    /// head after it.
     ///
-    /// Faults, in their order: `NotAbove` where x isn't above the head, `NotPage` where no page begins at x,
-    /// `AboveFlushed` where it is above the flushed offset.
+    /// Faults, in their order: `NotAbove` if x isn't above the head, `NotPage` if no page begins at x,
+    /// `AboveFlushed` if it is above the flushed offset.
     #[inline(always)]
     pub fn shift(&mut self, x: u64) -> Result<u64, Fault>
-        ensures made { Made J.tag self.old (SHIFT x) self.new (told SHIFTED result) }
+        ensures made { Made J.tag self.old (SHIFT x) self.new (as_reply SHIFTED result) }
         ensures refused { OnErr result (self.new ≡ self.old) }
         ensures jobs { self.new.drain.pending ≡ self.old.drain.pending }
         ensures sizes { self.new.sizes ≡ self.old.sizes }
@@ -45,15 +45,15 @@ impl<E: Epochs, J: Tagged> Core<E, J> {
         Ok(x)
     }
 
-    /// Places a record of n words, 1 to P, for slot t: at the tail where it ends on the tail's page, else at the start
-    /// of the next page. The answer is the address of its first word. The first record of a page enters the page, and
-    /// the slot's view has the new tail.
+    /// Places a record of n words, 1 to P, for slot t: at the tail if it ends on the tail's page, else at the
+    /// start of the next page. Returns the address of its first word. The first record of a page enters the
+    /// page, and the slot's view has the new tail.
     ///
-    /// Faults, in their order: `NoSlot`, `NotProtected`, `Size` where n is 0 or above P, `SpaceSpent` where the record
-    /// would end above 2^48, `Busy` where its page is new and its frame isn't free.
+    /// Faults, in their order: `NoSlot`, `NotProtected`, `Size` if n is 0 or above P, `SpaceSpent` if the
+    /// record would end above 2^48, `Busy` if its page is new and its frame isn't free.
     #[inline(always)]
     pub fn allocate(&mut self, t: u64, n: u64) -> Result<u64, Fault>
-        ensures made { Made J.tag self.old (ALLOCATE t n) self.new (told AT result) }
+        ensures made { Made J.tag self.old (ALLOCATE t n) self.new (as_reply AT result) }
         ensures within { IfOk result (λ address. address + n ≤ 2 ^ 48) }
         ensures refused { OnErr result (self.new ≡ self.old) }
         ensures jobs { self.new.drain.pending ≡ self.old.drain.pending }
@@ -67,16 +67,17 @@ impl<E: Epochs, J: Tagged> Core<E, J> {
         }
         self.offsets.allocate_at(address, n);
         let tail = self.offsets.tail();
-        self.views[t as usize] = Some(View { tail, ..seen });
+        self.views.set(t, Some(View { tail, ..seen }));
         Ok(address)
     }
 
-    /// Slot t sees this read-only offset and this head; the answer is its view from now on.
+    /// Slot t sees this read-only offset and this head; returns its view from now on.
     ///
-    /// Faults, in their order: `NoSlot`, `NotProtected`, `Stale` where one of the two is below what the slot saw.
+    /// Faults, in their order: `NoSlot`, `NotProtected`, `Stale` if one of the two is below what the slot
+    /// saw.
     #[inline(always)]
     pub fn look(&mut self, t: u64, read_only: u64, head: u64) -> Result<View, Fault>
-        ensures made { Made J.tag self.old (LOOK t read_only head) self.new (told LOOKED result) }
+        ensures made { Made J.tag self.old (LOOK t read_only head) self.new (as_reply LOOKED result) }
         ensures refused { OnErr result (self.new ≡ self.old) }
         ensures jobs { self.new.drain.pending ≡ self.old.drain.pending }
         ensures sizes { self.new.sizes ≡ self.old.sizes }
@@ -87,11 +88,11 @@ impl<E: Epochs, J: Tagged> Core<E, J> {
             head,
             tail: seen.tail,
         };
-        self.views[t as usize] = Some(view);
+        self.views.set(t, Some(view));
         Ok(view)
     }
 
-    /// The view of slot t, where it may see these offsets.
+    /// The view of slot t, if it may see these offsets.
     #[inline(always)]
     pub(crate) fn may_look(&self, t: u64, read_only: u64, head: u64) -> Result<View, Fault>
         ensures { (A : List Step) → Stands J.tag self.now A
@@ -105,16 +106,16 @@ impl<E: Epochs, J: Tagged> Core<E, J> {
         Ok(seen)
     }
 
-    /// Whether slot t may write the word at address a, by its view alone: whatever is written there, a write changes
-    /// nothing of a core.
+    /// Tells whether slot t may write the word at address a, by its view alone: whatever is written there, a
+    /// write changes nothing of a core.
     ///
-    /// Faults, in their order: `NoSlot`, `NotProtected`, `Below` where the address is below the read-only offset that
-    /// the slot saw, `Beyond` where it is at or above the tail that the slot saw.
+    /// Faults, in their order: `NoSlot`, `NotProtected`, `Below` if the address is below the read-only offset
+    /// that the slot saw, `Beyond` if it is at or above the tail that the slot saw.
     #[inline(always)]
     pub fn may_write(&self, t: u64, a: u64) -> Result<(), Fault>
         ensures fault { (A : List Step) (v : ℕ) → Stands J.tag self.now A
             → result ≡ unless_fault (fault_of self.now.sizes A (WRITE t a v)) tt }
-        ensures made { (v : ℕ) → Made J.tag self.now (WRITE t a v) self.now (told (λ _. WRITTEN) result) }
+        ensures made { (v : ℕ) → Made J.tag self.now (WRITE t a v) self.now (as_reply (λ _. WRITTEN) result) }
     {
         let seen = self.seen(t)?;
         if a < seen.read_only {
@@ -128,15 +129,16 @@ impl<E: Epochs, J: Tagged> Core<E, J> {
         Ok(())
     }
 
-    /// Whether slot t may read the word at address a, by its view alone: a read changes nothing of a core.
+    /// Tells whether slot t may read the word at address a, by its view alone: a read changes nothing of a
+    /// core.
     ///
-    /// Faults, in their order: `NoSlot`, `NotProtected`, `Evicted` where the address is below the head that the slot
-    /// saw, `Beyond` where it is at or above the tail that the slot saw.
+    /// Faults, in their order: `NoSlot`, `NotProtected`, `Evicted` if the address is below the head that the
+    /// slot saw, `Beyond` if it is at or above the tail that the slot saw.
     #[inline(always)]
     pub fn may_read(&self, t: u64, a: u64) -> Result<(), Fault>
         ensures fault { (A : List Step) → Stands J.tag self.now A
             → result ≡ unless_fault (fault_of self.now.sizes A (READ t a)) tt }
-        ensures made { Made J.tag self.now (READ t a) self.now (told (λ _. READABLE) result) }
+        ensures made { Made J.tag self.now (READ t a) self.now (as_reply (λ _. READABLE) result) }
     {
         let seen = self.seen(t)?;
         if a < seen.head {
@@ -148,7 +150,7 @@ impl<E: Epochs, J: Tagged> Core<E, J> {
         Ok(())
     }
 
-    /// Where a record of n words for slot t would be placed, where it may be.
+    /// Returns where a record of n words for slot t would be placed, if it may be.
     #[inline(always)]
     pub(crate) fn may_allocate(&self, t: u64, n: u64) -> Result<u64, Fault>
         ensures { (A : List Step) → Stands J.tag self.now A

@@ -1,20 +1,20 @@
 ghost use Rattle.std.specs.Prelude.{◌≡◌, OnErr};
 ghost use Rattle.hl_model.specs.declared.step.Reply.TheVariants.{Page as PAGE, Flushed as FLUSHED, Freed as FREED};
 ghost use Rattle.hl_model.specs.declared.step.Step.TheVariants.{FlushTake as FLUSH_TAKE, FlushDone as FLUSH_DONE, CleanTake as CLEAN_TAKE, CleanDone as CLEAN_DONE};
-ghost use Rattle.hl_core.specs.Steps.{Made, told};
+ghost use Rattle.hl_core.specs.Steps.{Made, as_reply};
 
 use crate::state::Core;
 use hl_epoch::Epochs;
 use hl_model::{Fault, Tagged};
 
 impl<E: Epochs, J: Tagged> Core<E, J> {
-    /// Takes the least sealed page that is neither flushed nor in flight; the answer is the page, which is in flight
-    /// then.
+    /// Takes the least sealed page that is neither flushed nor in flight; returns the page, which is in
+    /// flight then.
     ///
-    /// Fault: `NoneSealed` where there is no such page.
+    /// Fault: `NoneSealed` if there is no such page.
     #[inline(always)]
     pub fn flush_take(&mut self) -> Result<u64, Fault>
-        ensures made { Made J.tag self.old FLUSH_TAKE self.new (told PAGE result) }
+        ensures made { Made J.tag self.old FLUSH_TAKE self.new (as_reply PAGE result) }
         ensures refused { OnErr result (self.new ≡ self.old) }
         ensures jobs { self.new.drain.pending ≡ self.old.drain.pending }
         ensures sizes { self.new.sizes ≡ self.old.sizes }
@@ -23,13 +23,13 @@ impl<E: Epochs, J: Tagged> Core<E, J> {
         self.frames.flush_take(safe_read_only)
     }
 
-    /// The flush of a page ended: well, and the page is flushed, or not, and it may be taken again. The answer is the
-    /// flushed offset after it, an address.
+    /// The flush of a page ended: well, and the page is flushed, or not, and it may be taken again. Returns
+    /// the flushed offset after it, an address.
     ///
-    /// Fault: `NotInFlight` where the page isn't in flight.
+    /// Fault: `NotInFlight` if the page isn't in flight.
     #[inline(always)]
     pub fn flush_done(&mut self, page: u64, ok: bool) -> Result<u64, Fault>
-        ensures made { Made J.tag self.old (FLUSH_DONE page ok) self.new (told FLUSHED result) }
+        ensures made { Made J.tag self.old (FLUSH_DONE page ok) self.new (as_reply FLUSHED result) }
         ensures refused { OnErr result (self.new ≡ self.old) }
         ensures jobs { self.new.drain.pending ≡ self.old.drain.pending }
         ensures sizes { self.new.sizes ≡ self.old.sizes }
@@ -37,13 +37,13 @@ impl<E: Epochs, J: Tagged> Core<E, J> {
         self.frames.flush_done(page, ok)
     }
 
-    /// Takes the least closed page that is neither freed nor being cleaned; the answer is the page, which is being
+    /// Takes the least closed page that is neither freed nor being cleaned; returns the page, which is being
     /// cleaned then.
     ///
-    /// Fault: `NoneClosed` where there is no such page.
+    /// Fault: `NoneClosed` if there is no such page.
     #[inline(always)]
     pub fn clean_take(&mut self) -> Result<u64, Fault>
-        ensures made { Made J.tag self.old CLEAN_TAKE self.new (told PAGE result) }
+        ensures made { Made J.tag self.old CLEAN_TAKE self.new (as_reply PAGE result) }
         ensures refused { OnErr result (self.new ≡ self.old) }
         ensures jobs { self.new.drain.pending ≡ self.old.drain.pending }
         ensures sizes { self.new.sizes ≡ self.old.sizes }
@@ -52,12 +52,12 @@ impl<E: Epochs, J: Tagged> Core<E, J> {
         self.frames.clean_take(closed)
     }
 
-    /// The words of a page are zeroed, and its frame is free; the answer is the page.
+    /// The words of a page are zeroed, and its frame is free; returns the page.
     ///
-    /// Fault: `NotCleaning` where the page isn't being cleaned.
+    /// Fault: `NotCleaning` if the page isn't being cleaned.
     #[inline(always)]
     pub fn clean_done(&mut self, page: u64) -> Result<u64, Fault>
-        ensures made { Made J.tag self.old (CLEAN_DONE page) self.new (told FREED result) }
+        ensures made { Made J.tag self.old (CLEAN_DONE page) self.new (as_reply FREED result) }
         ensures refused { OnErr result (self.new ≡ self.old) }
         ensures jobs { self.new.drain.pending ≡ self.old.drain.pending }
         ensures sizes { self.new.sizes ≡ self.old.sizes }

@@ -1,4 +1,4 @@
-ghost use Rattle.std.specs.Prelude.{◌≡◌, ◌<◌, ◌≤◌, List, IfSome, count_by, is_some, length, slice_get, take};
+ghost use Rattle.std.specs.Prelude.{◌≡◌, ◌<◌, ◌≤◌, List, IfSome, length, slice_get, take};
 ghost use Rattle.hl_model.specs.declared.step.Step.{Step};
 ghost use Rattle.hl_model.specs.Actions.{pending};
 ghost use Rattle.hl_model.specs.Views.{slot_view};
@@ -19,13 +19,13 @@ impl<E: Epochs, J: Tagged> Core<E, J> {
         self.params
     }
 
-    /// The view of slot t. None where the slot isn't protected, or t is S or more.
+    /// Returns the view of slot t, or None if the slot isn't protected, or t is S or more.
     pub fn view(&self, t: u64) -> Option<View>
         ensures value { (A : List Step) → Stands J.tag self.now A → result ≡ slot_view self.now.sizes t A }
         ensures bounded { let log = self.now.offsets
             in IfSome result (λ view. (log.safe_read_only ≤ view.read_only) × (log.closed ≤ view.head)) }
     {
-        *self.views.get(t as usize)?
+        self.views.get(t)?
     }
 
     /// The six offsets.
@@ -43,7 +43,7 @@ impl<E: Epochs, J: Tagged> Core<E, J> {
         Snapshot {
             epoch: self.table.current(),
             safe: self.table.safe(),
-            protected: self.protected(),
+            protected: self.views.protected(),
             pending: self.drain.pending_count(),
             taken: self.drain.taken_row().len() as u64,
             six: self.six(),
@@ -65,7 +65,7 @@ impl<E: Epochs, J: Tagged> Core<E, J> {
         self.drain.pending_at(n)
     }
 
-    /// The oldest 64 of the pending actions, oldest first: all, where at most 64 may be stored.
+    /// Returns the oldest 64 of the pending actions, oldest first: all, if at most 64 may be stored.
     pub fn pending(&self) -> ArrayVec<Waiting, 64>
         ensures value { (A : List Step) → Stands J.tag self.now A → result.items ≡ take 64 (pending A) }
         ensures all { (A : List Step)
@@ -74,20 +74,13 @@ impl<E: Epochs, J: Tagged> Core<E, J> {
         self.drain.pending()
     }
 
-    /// The state of frame f, which is below F, and its last entered page; None where it is free.
+    /// Returns the state of frame f, which is below F, and its last entered page; None if it is free.
     pub fn frame(&self, f: u64) -> (FrameState, Option<u64>)
         requires { f < self.now.sizes.frames }
         ensures { (A : List Step) → Stands J.tag self.now A → result ≡ frame_of self.now.sizes f A }
     {
         self.frames
             .state(f, self.offsets.safe_read_only(), self.offsets.closed())
-    }
-
-    /// How many slots are protected.
-    fn protected(&self) -> u64
-        ensures { result ≡ count_by is_some self.now.views }
-    {
-        self.views.iter().filter(|view| view.is_some()).count() as u64
     }
 
     /// How many frames are open, sealed, flushed, closed and free.

@@ -7,7 +7,7 @@ ghost use Rattle.hl_core.specs.Rise.{rise_fault};
 use hl_epoch::Epochs;
 use hl_model::{EPOCH_LAST, EPOCH_WINDOW, Fault};
 
-/// Ends the current epoch of a table; the answer is its number.
+/// Ends the current epoch of a table; returns its number.
 #[inline(always)]
 pub(crate) fn end_epoch<E: Epochs>(table: &mut E) -> Result<u64, Fault>
     requires { (E.table table.old).window ≡ epoch_window }

@@ -33,12 +33,12 @@ impl<E: Epochs + Drop> Core<E, Tag> {
         }
     }
 
-    /// Makes these steps, one after another, and writes the result of each to its place. The two rows are equally
-    /// long.
+    /// Makes these steps, one after another, and writes the result of each to its place. The two rows are
+    /// equally long.
     ///
-    /// From a core that stands at an accepted list A, whatever the steps L are, lawful or not, of whatever threads in
-    /// whatever order: each result is the definitions' reply after the accepted steps before it, and the core then
-    /// stands at the accepted steps of A and L, which keep the headline.
+    /// From a core that stands at an accepted list A, whatever the steps L are, lawful or not, of whatever
+    /// threads in whatever order: each result is the definitions' reply after the accepted steps before it,
+    /// and the core then stands at the accepted steps of A and L, which keep the headline.
     pub fn run(&mut self, steps: &[Step], results: &mut [Result<Reply, Fault>])
         requires { length results.old ≡ length steps.now }
         ensures replies { (A : List STEP) → Stands (λ t. t.0) self.old A

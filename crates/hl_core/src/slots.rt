@@ -5,61 +5,61 @@ ghost use Rattle.hl_model.specs.declared.step.Step.TheVariants.{Acquire as ACQUI
 ghost use Rattle.hl_model.specs.Views.{view_of};
 ghost use Rattle.hl_model.specs.Replies.{protected_fault, unless_fault};
 ghost use Rattle.hl_core.specs.Standing.{Stands};
-ghost use Rattle.hl_core.specs.Steps.{Made, told, entered_reply};
+ghost use Rattle.hl_core.specs.Steps.{Made, as_reply, entered_reply};
 
 use crate::state::Core;
 use hl_epoch::Epochs;
 use hl_model::{Fault, Slot, Tagged, View};
 
 impl<E: Epochs, J: Tagged> Core<E, J> {
-    /// Slot t becomes protected; the answer is what it has from now on: the current epoch, and the offsets as they
+    /// Slot t becomes protected; returns what it has from now on: the current epoch, and the offsets as they
     /// are for its view.
     ///
-    /// Faults, in their order: `NoSlot` where t is S or more, `Occupied` where the slot is protected.
+    /// Faults, in their order: `NoSlot` if t is S or more, `Occupied` if the slot is protected.
     #[inline(always)]
     pub fn acquire(&mut self, t: u64) -> Result<Slot, Fault>
-        ensures made { Made J.tag self.old (ACQUIRE t) self.new (told entered_reply result) }
+        ensures made { Made J.tag self.old (ACQUIRE t) self.new (as_reply entered_reply result) }
         ensures refused { OnErr result (self.new ≡ self.old) }
         ensures jobs { self.new.drain.pending ≡ self.old.drain.pending }
         ensures sizes { self.new.sizes ≡ self.old.sizes }
     {
         let view = self.present();
         self.table.acquire(t)?;
-        self.views[t as usize] = Some(view);
+        self.views.set(t, Some(view));
         let epoch = self.table.current();
         Ok(Slot { epoch, view })
     }
 
-    /// Slot t moves on; the answer is what it has from now on: the current epoch, and the offsets as they are for its
-    /// view.
+    /// Slot t moves on; returns what it has from now on: the current epoch, and the offsets as they are for
+    /// its view.
     ///
-    /// Faults, in their order: `NoSlot` where t is S or more, `NotProtected` where the slot isn't protected.
+    /// Faults, in their order: `NoSlot` if t is S or more, `NotProtected` if the slot isn't protected.
     #[inline(always)]
     pub fn refresh(&mut self, t: u64) -> Result<Slot, Fault>
-        ensures made { Made J.tag self.old (REFRESH t) self.new (told entered_reply result) }
+        ensures made { Made J.tag self.old (REFRESH t) self.new (as_reply entered_reply result) }
         ensures refused { OnErr result (self.new ≡ self.old) }
         ensures jobs { self.new.drain.pending ≡ self.old.drain.pending }
         ensures sizes { self.new.sizes ≡ self.old.sizes }
     {
         let view = self.present();
         self.table.refresh(t)?;
-        self.views[t as usize] = Some(view);
+        self.views.set(t, Some(view));
         let epoch = self.table.current();
         Ok(Slot { epoch, view })
     }
 
     /// Slot t is protected no longer.
     ///
-    /// Faults, in their order: `NoSlot` where t is S or more, `NotProtected` where the slot isn't protected.
+    /// Faults, in their order: `NoSlot` if t is S or more, `NotProtected` if the slot isn't protected.
     #[inline(always)]
     pub fn release(&mut self, t: u64) -> Result<(), Fault>
-        ensures made { Made J.tag self.old (RELEASE t) self.new (told (λ _. LEFT) result) }
+        ensures made { Made J.tag self.old (RELEASE t) self.new (as_reply (λ _. LEFT) result) }
         ensures refused { OnErr result (self.new ≡ self.old) }
         ensures jobs { self.new.drain.pending ≡ self.old.drain.pending }
         ensures sizes { self.new.sizes ≡ self.old.sizes }
     {
         self.table.release(t)?;
-        self.views[t as usize] = None;
+        self.views.set(t, None);
         Ok(())
     }
 
@@ -69,10 +69,10 @@ impl<E: Epochs, J: Tagged> Core<E, J> {
         ensures { (A : List Step) → Stands J.tag self.now A
             → result ≡ unless_fault (protected_fault self.now.sizes A t) (view_of self.now.sizes t A) }
     {
-        match self.views.get(t as usize) {
+        match self.views.get(t) {
             None => Err(Fault::NoSlot),
             Some(None) => Err(Fault::NotProtected),
-            Some(Some(view)) => Ok(*view),
+            Some(Some(view)) => Ok(view),
         }
     }
 

@@ -37,10 +37,10 @@ impl Model for CountTable {
 }
 
 impl CountTable {
-    /// A table that goes on at this current epoch, 1 to 2^62, with this many slots, 1 to 1,024, none
-    /// protected, and this window, 1 to 4,096, with no turns yet. At epoch 1 it is what `make` gives.
+    /// Returns a table that goes on at this current epoch, 1 to 2^62, with this many slots, 1 to 1,024, none
+    /// protected, and this window, 1 to 4,096, with no turns yet. At epoch 1 it is what `make` returns.
     ///
-    /// Fault: `OutOfMemory` where memory is refused.
+    /// Fault: `OutOfMemory` if memory is refused.
     pub fn resume(alloc: Global, slots: u64, window: u64, current: u64) -> Result<CountTable, Fault>
         requires slots_least { 1 ≤ slots }
         requires slots_most { slots ≤ 1024 }
@@ -63,7 +63,8 @@ impl CountTable {
         })
     }
 
-    /// How many ring places were visited by the last accepted call of `acquire`, `refresh`, `release` or `bump`.
+    /// How many ring places were visited by the last accepted call of `acquire`, `refresh`, `release` or
+    /// `bump`.
     pub fn turns(&self) -> u64
         ensures { result ≡ self.now.turns }
     {
@@ -125,8 +126,8 @@ impl Epochs for CountTable {
         }
     }
 
-    /// No turn where the slot's epoch is the current one. Else a turn at the old epoch, one at the current epoch, and
-    /// those of the climb: at most W + 2, whatever S is.
+    /// No turn if the slot's epoch is the current one. Else a turn at the old epoch, one at the current
+    /// epoch, and those of the climb: at most W + 2, whatever S is.
     #[inline(always)]
     fn refresh(&mut self, t: u64) -> Result<(), Fault>
         ensures answer { result ≡ unless_fault (protected_fault t self.old.table) tt }

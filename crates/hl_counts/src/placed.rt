@@ -1,7 +1,7 @@
 ghost use Rattle.std.specs.Prelude.{◌≡◌, ℕ, ◌+◌, ◌-◌, ◌%◌, ◌^◌, ◌<◌, ◌≤◌};
 
-/// An epoch with its place in a ring: the epoch modulo the ring's length. It is kept, so that a step to another epoch's
-/// place is a sum or a difference, and no division.
+/// An epoch with its place in a ring: the epoch modulo the ring's length. It is kept, so that a step to
+/// another epoch's place is a sum or a difference, and no division.
 #[derive(Clone, Copy)]
 pub struct Placed {
     pub epoch: u64,

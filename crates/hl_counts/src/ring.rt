@@ -27,9 +27,9 @@ impl Model for Ring {
 }
 
 impl Ring {
-    /// A ring of this many places, which count nothing.
+    /// Returns a ring of this many places, which count nothing.
     ///
-    /// Fault: `OutOfMemory` where memory is refused.
+    /// Fault: `OutOfMemory` if memory is refused.
     pub fn make(alloc: Global, places: u64) -> Result<Ring, Fault>
         requires { 0 < places }
         ensures counts { IfOk result (λ made. made.counts ≡ replicate places 0) }
@@ -61,7 +61,10 @@ impl Ring {
         ensures counts { self.new.counts ≡ self.old.counts }
         ensures turns { self.new.turns ≡ 0 }
     {
-        self.turns = 0;
+        // A number that is 0 isn't written: a refresh that finds the epoch as it was leaves its line of a cache shared.
+        if self.turns != 0 {
+            self.turns = 0;
+        }
     }
 
     // The place of an epoch. Here a turn ticks.
@@ -113,8 +116,8 @@ impl Ring {
         self.counts[place] == 0
     }
 
-    /// The first epoch from this one on at which a slot is counted, or the current one where none is below it. One turn
-    /// for each epoch that it passes, and one for the epoch that stops it.
+    /// Returns the first epoch from this one on at which a slot is counted, or the current one if none is
+    /// below it. One turn for each epoch that it passes, and one for the epoch that stops it.
     pub fn climb(&mut self, from: Placed, current: u64) -> Placed
         requires placed { HasPlace from self.old.counts }
         requires most { from.epoch ≤ current }

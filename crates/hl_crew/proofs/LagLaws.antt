@@ -21,8 +21,5 @@ lag_kinds page_size six mutable resident =
     let settle = step_if (nat_lt six.safe_read_only r) Settle in
     let shift = step_if (nat_lt six.head h) (Shift h) in
     let close = step_if (nat_lt six.closed h) Close in
-    let raises = one_step (nat_lt six.read_only r) (Raise r) refl in
-    let settles = one_step (nat_lt six.safe_read_only r) Settle refl in
-    let shifts = one_step (nat_lt six.head h) (Shift h) refl in
-    let closes = one_step (nat_lt six.closed h) Close refl in
-    All-append P (raise ++ settle ++ shift) close (All-append P (raise ++ settle) shift (All-append P raise settle raises settles) shifts) closes
+    All-append P (raise ++ settle ++ shift) close
+    (All-append P (raise ++ settle) shift (All-append P raise settle (one_step _ (Raise r) refl) (one_step _ Settle refl)) (one_step _ (Shift h) refl)) (one_step _ Close refl)

@@ -4,11 +4,7 @@ pub mod Steps
 pub mod LagLaws
 pub mod GoesLaws
 pub mod TryLaws
-pub mod FlushLaws
-pub mod RunLaws
 pub mod RepeatLaws
 pub mod RiderLaws
 pub mod WriterLaws
-pub mod HandLaws
-pub mod OverLaws
-pub mod WaitLaws
+pub mod StateLaws

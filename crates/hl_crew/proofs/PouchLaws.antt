@@ -1,11 +1,13 @@
 -- The places of a pouch.
-use Rattle.std.proofs.Common.{◌≡◌, ℕ, zero, suc, ◌+◌, ◌<◌, ◌≤◌, Bool, true, false, cond, List, [], ◌∷◌, length, get_or, set, refl, sym, ap, ◌∙◌, subst, arith}
-use Rattle.std.specs.Prelude.{Option, Some, None, Result, MatchResult, position, is_none, is_some, nat_lt, slice_get}
+use Rattle.std.proofs.Common.{◌≡◌, ℕ, ◌+◌, ◌<◌, ◌≤◌, Bool, true, false, cond, List, [], ◌∷◌, length, get_or, set, refl, sym, ap, ◌∙◌, subst, arith}
+use Rattle.std.specs.Prelude.{Option, Some, None, Result, MatchResult, position, is_none, is_some, slice_get, count_by}
 use Rattle.std.specs.List.{position_or_len}
-use Rattle.std.proofs.lemmas.Bool.{ltb-false}
-use Rattle.std.proofs.lemmas.List.Quantifiers.{position-Some}
 use Rattle.std.proofs.lemmas.Bool.{eqb-true}
+use Rattle.std.proofs.lemmas.Bool.Decides.{nat_tests}
+use Rattle.std.proofs.lemmas.Grind.{common_steps}
 use Rattle.std.proofs.lemmas.List.{set-set, set-get_or}
+use Rattle.std.proofs.lemmas.List.Quantifiers.{position-Some}
+use Rattle.std.proofs.lemmas.List.Sums.{sum_by-set, get_or-le-sum_by}
 use Rattle.std.proofs.lemmas.Option.{get_or_from_slice_get}
 use Rattle.hl_model.specs.declared.fault.Fault.{Fault}
 use Rattle.hl_keeper.specs.declared.load.PageJob.{PageJob}
@@ -14,29 +16,43 @@ use Rattle.hl_domain.specs.Domains.{DomainState}
 use Rattle.hl_crew.specs.Pouches.{is_of, load_count, Answers}
 use Rattle.hl_crew.specs.Tries.{EndsFlush}
 
--- where no place is free, as many loads are held as there are places
-all_taken : (places : List (Option PageJob)) → length places ≤ position_or_len is_none places → load_count places ≡ length places
-all_taken [] none = refl
-all_taken (None ∷ places) none = absurd (omega arith)
-all_taken (Some job ∷ places) none = let others = all_taken places (omega arith) in omega arith
+-- where no place passes a test, none of them does
+none_pass : {X : Type 0} (f : X → Bool) (places : List X) → length places ≤ position_or_len f places → count_by f places ≡ 0
+none_pass f [] none = refl
+none_pass f (x ∷ places) none = by (f x) refl (none_pass f places)
+  where
+    by : (t : Bool) → f x ≡ t → (length places ≤ position_or_len f places → count_by f places ≡ 0) → count_by f (x ∷ places) ≡ 0
+    by t is others = grind (arith, common_steps)
+
+none_at : {X : Type 0} (f : X → Bool) (places : List X) → position f places ≡ None → count_by f places ≡ 0
+none_at f places none = none_pass f places (grind (arith, nat_tests))
+
+pub none_held : (places : List (Option PageJob)) → position is_some places ≡ None → load_count places ≡ 0
+none_held = none_at is_some
+
+-- each place is free or holds a load
+all_places : (places : List (Option PageJob)) → load_count places + count_by is_none places ≡ length places
+all_places [] = refl
+all_places (None ∷ places) = let others = all_places places in grind (arith, common_steps)
+all_places (Some job ∷ places) = let others = all_places places in grind (arith, common_steps)
 
 pub none_free : (places : List (Option PageJob)) → position is_none places ≡ None → load_count places ≡ length places
-none_free places none = all_taken places (ltb-false (position_or_len is_none places) (length places) (by (nat_lt (position_or_len is_none places) (length places)) none))
-  where
-    by : (t : Bool) → cond t (Some (position_or_len is_none places)) None ≡ None → t ≡ false
-    by true e = cc
-    by false e = refl
+none_free places none = omega (arith, none_at is_none places none, all_places places)
 
 -- a load was put into a place that held none
-pub one_more : (places : List (Option PageJob)) (at : ℕ) (job : PageJob) → at < length places → is_none (get_or places at None) ≡ true → load_count (set places at (Some job)) ≡ load_count places + 1
-one_more [] at job within free = absurd (omega arith)
-one_more (None ∷ places) zero job within free = omega arith
-one_more (Some other ∷ places) zero job within free = cc
-one_more (None ∷ places) (suc at) job within free = one_more places at job (omega arith) free
-one_more (Some other ∷ places) (suc at) job within free = let others = one_more places at job (omega arith) free in omega arith
-
 pub filled : (places : List (Option PageJob)) (at : ℕ) (job : PageJob) → position is_none places ≡ Some at → load_count (set places at (Some job)) ≡ load_count places + 1
-filled places at job is = let free = position-Some is_none places at None is in one_more places at job free.0 free.1
+filled places at job is =
+    let free = position-Some is_none places at None is in
+    by (get_or places at None) free.1 (sum_by-set (λ (x : Option PageJob). cond (is_some x) 1 0) places at (Some job) None free.0)
+  where
+    by : (was : Option PageJob) → is_none was ≡ true → load_count (set places at (Some job)) + cond (is_some was) 1 0 ≡ load_count places + 1 → load_count (set places at (Some job)) ≡ load_count places + 1
+    by None is sums = omega arith
+    by (Some other) is sums = absurd cc
+
+-- or it was taken out
+pub taken_out : (places : List (Option PageJob)) (at : ℕ) (job : PageJob) → at < length places → slice_get places at ≡ Some (Some job) → load_count (set places at None) + 1 ≡ load_count places
+taken_out places at job within held =
+    let sums = rw (get_or_from_slice_get places at (Some job) None held) at (sum_by-set (λ (x : Option PageJob). cond (is_some x) 1 0) places at None None within) in omega arith
 
 -- an answer took the load from its place, or put it back
 pub held_job : (page at : ℕ) (places : List (Option PageJob)) (job : PageJob) → position (is_of page) places ≡ Some at → slice_get places at ≡ Some (Some job) → job.page ≡ page
@@ -45,9 +61,11 @@ held_job page at places job is held =
     let same = get_or_from_slice_get places at (Some job) None held in
     eqb-true job.page page (ap (is_of page) (sym same) ∙ found.1)
 
-pub put_back : (places : List (Option PageJob)) (at : ℕ) (job : PageJob) → slice_get places at ≡ Some (Some job) → set (set places at None) at (Some job) ≡ places
-put_back places at job held =
-    set-set places at None (Some job) ∙ ap (λ held. set places at held) (sym (get_or_from_slice_get places at (Some job) None held)) ∙ set-get_or places at None
+-- what was taken from a place was put back
+pub put_back : (at : ℕ) (job back : PageJob) (old mid new : List (Option PageJob)) → slice_get old at ≡ Some (Some job) → mid ≡ set old at None → back ≡ job → new ≡ set mid at (Some back) → new ≡ old
+put_back at job back old mid new held taken same put =
+    put ∙ ap (λ (job : PageJob). set mid at (Some job)) same ∙ ap (λ (places : List (Option PageJob)). set places at (Some job)) taken ∙ set-set old at None (Some job)
+    ∙ ap (λ (held : Option PageJob). set old at held) (sym (get_or_from_slice_get old at (Some job) None held)) ∙ set-get_or old at None
 
 -- what an answer says of the place that was found
 pub told_at : (F : Type 0) (domain : DomainState) (page : ℕ) (ok : Bool) (from to : RiderState) (at other : ℕ) (job : PageJob) (old new : List (Option PageJob)) (result : Result ℕ Fault)
@@ -75,38 +93,6 @@ not_free page at places is free =
     let contrary : false ≡ true = ap (is_of page) (sym none) ∙ found.1 in
     cc
 
--- where no place holds a load, none is held
-none_there : (places : List (Option PageJob)) → length places ≤ position_or_len is_some places → load_count places ≡ 0
-none_there [] none = refl
-none_there (None ∷ places) none = none_there places (omega arith)
-none_there (Some job ∷ places) none = absurd (omega arith)
-
-pub none_held : (places : List (Option PageJob)) → position is_some places ≡ None → load_count places ≡ 0
-none_held places none = none_there places (ltb-false (position_or_len is_some places) (length places) (by (nat_lt (position_or_len is_some places) (length places)) none))
-  where
-    by : (t : Bool) → cond t (Some (position_or_len is_some places)) None ≡ None → t ≡ false
-    by true e = cc
-    by false e = refl
-
--- a load was taken out
-one_less : (places : List (Option PageJob)) (at : ℕ) (job : PageJob) → at < length places → get_or places at None ≡ Some job → load_count (set places at None) + 1 ≡ load_count places
-one_less [] at job within held = absurd (omega arith)
-one_less (None ∷ places) zero job within held = cc
-one_less (Some other ∷ places) zero job within held = omega arith
-one_less (None ∷ places) (suc at) job within held = one_less places at job (omega arith) held
-one_less (Some other ∷ places) (suc at) job within held = let others = one_less places at job (omega arith) held in omega arith
-
-pub taken_out : (places : List (Option PageJob)) (at : ℕ) (job : PageJob) → at < length places → slice_get places at ≡ Some (Some job) → load_count (set places at None) + 1 ≡ load_count places
-taken_out places at job within held = one_less places at job within (get_or_from_slice_get places at (Some job) None held)
-
--- no test both passes and fails
-pub not_none : true ≡ false → ⊥
-not_none e = cc
-
--- a place holds one load
-pub one_load : (places : List (Option PageJob)) (at : ℕ) (one other : PageJob) → slice_get places at ≡ Some (Some one) → slice_get places at ≡ Some (Some other) → one ≡ other
-one_load places at one other is also = cc
-
 -- a place that was found
 pub place_found : (found : Option ℕ) → true ≡ is_some found → (at : ℕ) × (found ≡ Some at)
 place_found (Some at) is = (at, refl)
@@ -118,14 +104,11 @@ place_missing None is = refl
 place_missing (Some at) is = absurd cc
 
 -- where a place holds a load of a page, some load is held
-some_there : (page at : ℕ) (places : List (Option PageJob)) → at < length places → is_of page (get_or places at None) ≡ true → 1 ≤ load_count places
-some_there page at [] within is = absurd (omega arith)
-some_there page zero (None ∷ places) within is = absurd cc
-some_there page zero (Some job ∷ places) within is = omega arith
-some_there page (suc at) (None ∷ places) within is = some_there page at places (omega arith) is
-some_there page (suc at) (Some job ∷ places) within is = omega arith
-
 pub some_held : (page at : ℕ) (places : List (Option PageJob)) → position (is_of page) places ≡ Some at → 1 ≤ load_count places
 some_held page at places found =
     let there = position-Some (is_of page) places at None found in
-    some_there page at places there.0 there.1
+    by (get_or places at None) there.1 (get_or-le-sum_by (λ (x : Option PageJob). cond (is_some x) 1 0) places at None there.0)
+  where
+    by : (was : Option PageJob) → is_of page was ≡ true → cond (is_some was) 1 0 ≤ load_count places → 1 ≤ load_count places
+    by None is some = absurd cc
+    by (Some job) is some = some

@@ -1,8 +1,8 @@
 -- What holds of each of some things that are done one after another, holds of all together.
 use Rattle.std.proofs.Common.{◌≡◌, ℕ, zero, suc, Bool, true, false, inl, inr, not}
-use Rattle.std.specs.Prelude.{Result, Ok, Err}
+use Rattle.std.specs.Prelude.{Result, Ok, Err, MatchResult}
 use Rattle.hl_crew.specs.declared.messages.Over.{Over}
-use Rattle.hl_crew.specs.Goes.{Followed, Ended, UpTo}
+use Rattle.hl_crew.specs.Goes.{Each, Followed, Ended, Then, UpTo}
 use Rattle.hl_crew.specs.Looks.{Looks, LooksNext}
 
 module _ {S : Type 0} (Holds : S → S → Type 0) (same : (old new : S) → new ≡ old → Holds old new)
@@ -20,6 +20,25 @@ module _ {S : Type 0} (Holds : S → S → Type 0) (same : (old new : S) → new
 
     pub up_to_holds : (most : ℕ) (result : Result (Unit {0}) X) (old new : S) → UpTo One most result old new → Holds old new
     up_to_holds most result old new goes = then old goes.last new (followed_holds goes.count old goes.last goes.followed) (ended_holds most goes.count result goes.last new goes.ended)
+
+  -- what is done again and again, up to the first that fails
+  pub each_hold : {X : Type 0} (One : ℕ → Result (Unit {0}) X → S → S → Type 0) → ((i : ℕ) (result : Result (Unit {0}) X) (old new : S) → One i result old new → Holds old new)
+      → (most : ℕ) (result : Result (Unit {0}) X) (old new : S) → UpTo (Each One) most result old new → Holds old new
+  each_hold {X} One each = up_to_holds (Each One) by
+    where
+      by : (i : ℕ) (result : Result Bool X) (old new : S) → Each One i result old new → Holds old new
+      by i (Ok true) old new one = each i (Ok tt) old new one
+      by i (Ok false) old new none = absurd none
+      by i (Err error) old new one = each i (Err error) old new one
+
+  -- one thing and then another
+  pub then_holds : {X : Type 0} (First Second : Result (Unit {0}) X → S → S → Type 0) → ((result : Result (Unit {0}) X) (old new : S) → First result old new → Holds old new)
+      → ((result : Result (Unit {0}) X) (old new : S) → Second result old new → Holds old new) → (result : Result (Unit {0}) X) (old new : S) → Then First Second result old new → Holds old new
+  then_holds {X} First Second first second result old new t = then old t.mid new (first t.first old t.mid t.one) (by t.first t.two)
+    where
+      by : (done : Result (Unit {0}) X) → MatchResult done (λ _. Second result t.mid new) (λ error. (result ≡ Err error) × (new ≡ t.mid)) → Holds t.mid new
+      by (Ok done) two = second result t.mid new two
+      by (Err error) (is, still) = same t.mid new still
 
   -- looks
   module _ (Finds : Result Bool Over → S → S → Type 0) (each : (result : Result Bool Over) (old new : S) → Finds result old new → Holds old new) where

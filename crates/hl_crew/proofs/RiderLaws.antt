@@ -1,6 +1,6 @@
 -- What a crew's calls do leaves it so that its riders store only to sweep, and flush only what they imaged.
 use Rattle.std.proofs.Common.{◌≡◌, ℕ, zero, suc, ◌+◌, ◌≤◌, Bool, true, false, List, [], ◌∷◌, Some, None, slice_get, refl, sym, ap, ◌∙◌, subst, inl, inr, arith}
-use Rattle.std.specs.Prelude.{Result, Ok, Err, MatchResult, Option, unwrap_or, ◌&&◌, ◌||◌, ◌==◌, All}
+use Rattle.std.specs.Prelude.{Result, Ok, Err, Option, unwrap_or, ◌⊎◌, ◌&&◌, ◌||◌, ◌==◌, All}
 use Rattle.std.specs.List.{list_any}
 use Rattle.std.proofs.lemmas.Option.{get_or_from_slice_get, slice_get_within}
 use Rattle.hl_model.specs.declared.step.Step.{Step}
@@ -27,21 +27,23 @@ use Rattle.hl_images.specs.Later.{IsLater}
 use Rattle.hl_images.specs.Sweeps.{AreSweeps}
 use Rattle.hl_images.proofs.LaterLaws.{same as is_same, still, touch as later_touch, loads as later_loads, call as later_call}
 use Rattle.hl_crew.specs.declared.messages.Over.{Over}
-use Rattle.hl_crew.specs.declared.orders.Cuts.{Cuts}
-use Rattle.hl_crew.specs.declared.orders.Cuts.TheVariants.{Never, EachTurn, Above}
+use Rattle.hl_crew.specs.declared.messages.Over.TheVariants.{Lost}
+use Rattle.hl_crew.specs.declared.limits.Cuts.{Cuts}
+use Rattle.hl_crew.specs.declared.limits.Cuts.TheVariants.{Never, EachTurn, Above}
 use Rattle.hl_crew.specs.declared.flusher.FlusherState.{FlusherState}
-use Rattle.hl_crew.specs.declared.orders.Orders.{Orders}
-use Rattle.hl_crew.specs.Cutting.{MakesRoom, EndsTurn, OrCuts}
-use Rattle.hl_crew.specs.Flushes.{HoldState, AnswersPage, Tells, TellsNext, FailsNext}
+use Rattle.hl_crew.specs.declared.limits.Limits.{Limits}
+use Rattle.hl_crew.specs.Cutting.{EndsTurn, OrCuts}
+use Rattle.hl_crew.specs.Flushes.{HoldState, AnswersPage, Tells}
 use Rattle.hl_crew.specs.Goes.{Followed, UpTo}
 use Rattle.hl_crew.specs.Lags.{is_lag_step, MakesIf, MakesNext, KeepsLag}
 use Rattle.hl_crew.specs.Looks.{LooksNext}
+use Rattle.hl_crew.specs.Overs.{makes_room}
 use Rattle.hl_crew.specs.Riders.{has_flushed, WorksOn}
-use Rattle.hl_crew.specs.Runs.{FlushesIf, Flushes, Acts, Fails, MakesTurn, TurnsNext, Serves, ServesNext}
+use Rattle.hl_crew.specs.Runs.{FlushesIf, Acts, Ends, MakesTurn, TurnsNext, Serves, ServesNext}
 use Rattle.hl_crew.specs.Tries.{TriesAgain, Tries}
 use Rattle.hl_crew.specs.Turns.{SendState, swept, swept_by, Brooms, SendsPage, RunsAction, Cleans, Frees, Finds}
 use Rattle.hl_crew.proofs.LagLaws.{lag_kinds}
-use Rattle.hl_crew.proofs.RepeatLaws.{followed_holds, up_to_holds, looks_hold}
+use Rattle.hl_crew.proofs.RepeatLaws.{each_hold, followed_holds, looks_hold, then_holds, up_to_holds}
 
 -- the page that an accepted take names
 pub named : {J : Type 0} (none : Fault) (told : ℕ → J) (page : J → ℕ) → ((p : ℕ) → page (told p) ≡ p) → (room : Option Fault) (next : Option ℕ) (job : J)
@@ -116,25 +118,22 @@ module _ (serves : Bool) (sizes : Sizes) where
     flushes = λ serving p. refl;
   })
 
-  -- what a crew's calls on one domain do
-  module _ (F : Type 0) (domain : DomainState) (cuts : Cuts) where
+  module _ (F : Type 0) (domain : DomainState) (may_cut : Bool) where
     -- tries that others follow, all but the last
     pub again_work : {X : Type 0} (Answered : Result X Fault → RiderState → RiderState → Type 0) → ((old new : RiderState) → Answered (Err JournalFull) old new → WorksOn serves sizes old new)
-        → (n : ℕ) (old new : RiderState) → Followed (TriesAgain F domain cuts Answered) n old new → WorksOn serves sizes old new
-    again_work Answered each = followed_holds (WorksOn serves sizes) no_more then (TriesAgain F domain cuts Answered) again
+        → (n : ℕ) (old new : RiderState) → Followed (TriesAgain F domain may_cut Answered) n old new → WorksOn serves sizes old new
+    again_work Answered each = followed_holds (WorksOn serves sizes) no_more then (TriesAgain F domain may_cut Answered) again
       where
-        again : (i : ℕ) (next : Result Bool Fault) (old new : RiderState) → TriesAgain F domain cuts Answered i next old new → WorksOn serves sizes old new
+        again : (i : ℕ) (next : Result Bool Fault) (old new : RiderState) → TriesAgain F domain may_cut Answered i next old new → WorksOn serves sizes old new
         again i next old new (refused, answered, room, cut) = then old refused new (each old refused answered) (none_works refused new cut)
 
     pub tries_work : {X : Type 0} (Answered : Result X Fault → RiderState → RiderState → Type 0) → ((answer : Result X Fault) (old new : RiderState) → Answered answer old new → WorksOn serves sizes old new)
-        → (result : Result X Fault) (old new : RiderState) → Tries F domain cuts Answered result old new → WorksOn serves sizes old new
+        → (result : Result X Fault) (old new : RiderState) → Tries F domain may_cut Answered result old new → WorksOn serves sizes old new
     tries_work Answered each result old new tries =
         then old tries.last new (again_work Answered (each (Err JournalFull)) tries.before old tries.last tries.again) (each result tries.last new tries.answered)
 
-    room_works : (made : Bool) (old new : RiderState) → MakesRoom F domain made old new → WorksOn serves sizes old new
-    room_works true old new cut = none_works old new cut
-    room_works false old new same = no_more old new same
-
+  -- what a crew's calls on one domain do
+  module _ (F : Type 0) (domain : DomainState) (cuts : Cuts) where
     pub or_cuts_work : (done result : Result Bool Over) (old new : RiderState) → OrCuts F domain cuts done result old new → WorksOn serves sizes old new
     or_cuts_work done result old new (inl (is, same, room)) = no_more old new same
     or_cuts_work done result old new (inr (full, room, is, cut)) = none_works old new cut
@@ -142,15 +141,16 @@ module _ (serves : Bool) (sizes : Sizes) where
     turn_end_works : (cuts : Cuts) (old new : RiderState) → EndsTurn F domain cuts old new → WorksOn serves sizes old new
     turn_end_works Never old new same = no_more old new same
     turn_end_works EachTurn old new cut = none_works old new cut
-    turn_end_works (Above steps) old new (is_cut, mid, looked, room) = then old mid new (none_works old mid looked) (room_works is_cut mid new room)
+    turn_end_works (Above steps) old new (true, mid, looked, cut) = then old mid new (none_works old mid looked) (none_works mid new cut)
+    turn_end_works (Above steps) old new (false, mid, looked, same) = then old mid new (none_works old mid looked) (no_more mid new same)
 
     action_works : (i : ℕ) (result : Result Bool Over) (old new : RiderState) → RunsAction F domain cuts i result old new → WorksOn serves sizes old new
     action_works i (Ok true) old new one =
-        then old one.mid new (step_works Take (Ok one.ready) old one.mid one.taken (λ serving p. refl)) (tries_work _ (λ answer a b done. step_works (Done one.ready.firing.ticket) answer a b done (λ serving p. refl)) _ one.mid new one.done.2)
+        then old one.mid new (step_works Take (Ok one.ready) old one.mid one.taken (λ serving p. refl)) (tries_work F domain (makes_room cuts) _ (λ answer a b done. step_works (Done one.ready.firing.ticket) answer a b done (λ serving p. refl)) _ one.mid new one.done.2)
     action_works i (Ok false) old new (fault, none, taken) = step_works {F = F} {X = ReadyRecord F} Take (Err fault) old new taken (λ serving p. refl)
     action_works i (Err over) old new (inl (fault, other, is, taken)) = step_works {F = F} {X = ReadyRecord F} Take (Err fault) old new taken (λ serving p. refl)
     action_works i (Err over) old new (inr (ready, mid, taken, done)) =
-        then old mid new (step_works Take (Ok ready) old mid taken (λ serving p. refl)) (tries_work _ (λ answer a b done. step_works (Done ready.firing.ticket) answer a b done (λ serving p. refl)) _ mid new done.2)
+        then old mid new (step_works Take (Ok ready) old mid taken (λ serving p. refl)) (tries_work F domain (makes_room cuts) _ (λ answer a b done. step_works (Done ready.firing.ticket) answer a b done (λ serving p. refl)) _ mid new done.2)
 
     load_works : (answer : Result PageJob Fault) (old new : RiderState) {H : KeeperState F → KeeperState F → Type 0} → LeavesUnderLock F domain (answered answer (call_of FlushTake old new)) H → WorksOn serves sizes old new
     load_works answer old new taken = step_works FlushTake answer old new taken (λ serving p. refl)
@@ -206,20 +206,10 @@ module _ {L : Type 0} (sizes : Sizes) (F : Type 0) (domain : DomainState) where
   answer_works : (page : ℕ) (ok : Bool) (result : Result (Unit {0}) Over) (old new : HoldState L) → AnswersPage F domain page ok result old new → HoldWorks old new
   answer_works page ok result old new one = step_works false sizes (FlushDone page ok) one.answer old.own.rider new.own.rider one.answers.met (λ serving. absurd cc)
 
-  told_works : (page : ℕ) (ok : Bool) (result : Result (Unit {0}) Over) (old new : HoldState L) → Tells F domain page ok result old new → HoldWorks old new
-  told_works page ok result old new (inl (none, is, same)) = no_more false sizes old.own.rider new.own.rider (ap (λ (h : HoldState L). h.own.rider) same)
-  told_works page ok result old new (inr one) = answer_works page ok result old new one
-
-  tell_works : (i : ℕ) (result : Result Bool Over) (old new : HoldState L) → TellsNext F domain i result old new → HoldWorks old new
-  tell_works i (Ok true) old new (page, ok, told) = told_works page ok _ old new told
-  tell_works i (Ok false) old new none = absurd none
-  tell_works i (Err over) old new (inl (lost, same)) = hold_same old new same
-  tell_works i (Err over) old new (inr (page, ok, told)) = told_works page ok _ old new told
-
-  fail_works : (i : ℕ) (result : Result Bool Over) (old new : HoldState L) → FailsNext F domain i result old new → HoldWorks old new
-  fail_works i (Ok true) old new (page, one) = answer_works page false _ old new one
-  fail_works i (Ok false) old new none = absurd none
-  fail_works i (Err over) old new (page, one) = answer_works page false _ old new one
+  tell_works : (i : ℕ) (result : Result (Unit {0}) Over) (old new : HoldState L) → ((result ≡ Err Lost) × (new ≡ old)) ⊎ ((page : ℕ) × (ok : Bool) × Tells F domain page ok result old new) → HoldWorks old new
+  tell_works i result old new (inl (lost, same)) = hold_same old new same
+  tell_works i result old new (inr (page, ok, inl (none, is, same))) = no_more false sizes old.own.rider new.own.rider (ap (λ (h : HoldState L). h.own.rider) same)
+  tell_works i result old new (inr (page, ok, inr one)) = answer_works page ok result old new one
 
   flush_works : (serves : Bool) (result : Result (Unit {0}) Over) (old new : FlusherState L) → FlushesIf F domain serves result old new → FlusherWorks serves old new
   flush_works true result old new (is, same) = flusher_same true old new same
@@ -227,56 +217,38 @@ module _ {L : Type 0} (sizes : Sizes) (F : Type 0) (domain : DomainState) where
       then false sizes old.rider flushed.sender.rider new.rider
       (up_to_holds (λ (a b : SendState). WorksOn false sizes a.rider b.rider) (λ (a b : SendState) (is : b ≡ a). no_more false sizes a.rider b.rider (ap (λ (s : SendState). s.rider) is)) (λ (a b c : SendState). then false sizes a.rider b.rider c.rider)
       (SendsPage F domain) (send_works false sizes F domain Never) 4 flushed.sent _ flushed.sender flushed.sends)
-      (then false sizes flushed.sender.rider flushed.mid.own.rider new.rider (up_to_holds HoldWorks hold_same hold_then (TellsNext F domain) tell_works _ flushed.told _ flushed.mid flushed.tells)
-      (up_to_holds HoldWorks hold_same hold_then (FailsNext F domain) fail_works _ flushed.failed flushed.mid _ flushed.fails))
+      (then false sizes flushed.sender.rider flushed.mid.own.rider new.rider (each_hold HoldWorks hold_same hold_then _ tell_works _ flushed.told _ flushed.mid flushed.tells)
+      (each_hold HoldWorks hold_same hold_then _ (λ i result (a b : HoldState L) (one : (page : ℕ) × AnswersPage F domain page false result a b). answer_works one.0 false result a b one.1) _ flushed.failed flushed.mid _ flushed.fails))
 
-  fails_work : (serves : Bool) (result : Result (Unit {0}) Over) (over : Over) (last new : FlusherState L) → Fails F domain result over last new → FlusherWorks serves last new
-  fails_work serves result over last new (is, same) = flusher_same serves last new same
+  -- its turns within these limits
+  module _ (limits : Limits) (serves : Bool) where
+    acts_work : (result : Result (Unit {0}) Over) (old new : FlusherState L) → Acts F domain limits serves result old new → FlusherWorks serves old new
+    acts_work result old new (acts, is) =
+        up_to_holds (WorksOn serves sizes) (no_more serves sizes) (then serves sizes) (RunsAction F domain limits.cuts) (action_works serves sizes F domain limits.cuts) 4 result old.rider new.rider acts
 
-  -- its turns by these orders
-  module _ (orders : Orders) (serves : Bool) where
-    flushes_work : (result : Result (Unit {0}) Over) (acted new : FlusherState L) → Flushes F domain orders serves result acted new → FlusherWorks serves acted new
-    flushes_work result acted new part = flusher_then serves acted part.last new (flush_works serves part.flushed acted part.last part.flushes) (by part.flushed part.ends)
-      where
-        by : (flushed : Result (Unit {0}) Over) → MatchResult flushed (λ _. (result ≡ Ok tt) × EndsTurn F domain orders.cuts part.last.rider new.rider × (new ≡ record part.last { rider = new.rider })) (λ over. Fails F domain result over part.last new) → FlusherWorks serves part.last new
-        by (Ok done) (is, ends, same) = turn_end_works serves sizes F domain orders.cuts orders.cuts part.last.rider new.rider ends
-        by (Err over) fails = fails_work serves result over part.last new fails
+    ends_work : (result : Result (Unit {0}) Over) (old new : FlusherState L) → Ends F domain limits serves result old new → FlusherWorks serves old new
+    ends_work result old new (is, ends, still) = turn_end_works serves sizes F domain limits.cuts limits.cuts old.rider new.rider ends
 
-    acts_work : (result : Result (Unit {0}) Over) (lagged new : FlusherState L) → Acts F domain orders serves result lagged new → FlusherWorks serves lagged new
-    acts_work result lagged new (ran, acted, runs, part) =
-        then serves sizes lagged.rider acted new.rider
-        (up_to_holds (WorksOn serves sizes) (no_more serves sizes) (then serves sizes) (RunsAction F domain orders.cuts) (action_works serves sizes F domain orders.cuts) 4 ran lagged.rider acted runs) (by ran part)
-      where
-        by : (ran : Result (Unit {0}) Over) → MatchResult ran (λ _. Flushes F domain orders serves result (record lagged { rider = acted }) new) (λ over. Fails F domain result over (record lagged { rider = acted }) new) → WorksOn serves sizes acted new.rider
-        by (Ok done) part = flushes_work result _ new part
-        by (Err over) fails = fails_work serves result over _ new fails
+    turn_works : (result : Result (Unit {0}) Over) (old new : FlusherState L) → MakesTurn F domain limits serves result old new → FlusherWorks serves old new
+    turn_works =
+        then_holds (FlusherWorks serves) (flusher_same serves) (flusher_then serves) (KeepsLag F domain serves limits.mutable limits.resident) _ (lag_works serves limits.mutable limits.resident)
+        (then_holds (FlusherWorks serves) (flusher_same serves) (flusher_then serves) (Acts F domain limits serves) _ acts_work
+        (then_holds (FlusherWorks serves) (flusher_same serves) (flusher_then serves) (FlushesIf F domain serves) (Ends F domain limits serves) (flush_works serves) ends_work))
 
-    turn_works : (result : Result (Unit {0}) Over) (old new : FlusherState L) → MakesTurn F domain orders serves result old new → FlusherWorks serves old new
-    turn_works result old new turn = flusher_then serves old turn.lagged new (lag_works serves orders.mutable orders.resident turn.lag old turn.lagged turn.keeps) (by turn.lag turn.acts)
-      where
-        by : (lag : Result (Unit {0}) Over) → MatchResult lag (λ _. Acts F domain orders serves result turn.lagged new) (λ over. Fails F domain result over turn.lagged new) → FlusherWorks serves turn.lagged new
-        by (Ok done) part = acts_work result turn.lagged new part
-        by (Err over) fails = fails_work serves result over turn.lagged new fails
+    pub turned_works : (result : Result Bool Over) (old new : FlusherState L) → Serves F domain limits serves result old new → FlusherWorks serves old new
+    turned_works result old new one = flusher_then serves old one.mid new (turn_works one.made old one.mid one.turn) (or_cuts_work serves sizes F domain limits.cuts _ result one.mid.rider new.rider one.cuts)
 
-    pub turned_works : (result : Result Bool Over) (old new : FlusherState L) → Serves F domain orders serves result old new → FlusherWorks serves old new
-    turned_works result old new one = flusher_then serves old one.mid new (turn_works one.made old one.mid one.turn) (or_cuts_work serves sizes F domain orders.cuts _ result one.mid.rider new.rider one.cuts)
-
-    run_works : (i : ℕ) (result : Result Bool Over) (old new : FlusherState L) → TurnsNext F domain orders serves i result old new → FlusherWorks serves old new
-    run_works i (Ok true) old new turn = turn_works (Ok tt) old new turn
-    run_works i (Ok false) old new none = absurd none
-    run_works i (Err over) old new turn = turn_works (Err over) old new turn
-
-    serve_works : (i : ℕ) (result : Result Bool Over) (old new : FlusherState L) → ServesNext F domain orders serves i result old new → FlusherWorks serves old new
+    serve_works : (i : ℕ) (result : Result Bool Over) (old new : FlusherState L) → ServesNext F domain limits serves i result old new → FlusherWorks serves old new
     serve_works i (Ok true) old new (moved, one) = turned_works (Ok moved) old new one
     serve_works i (Ok false) old new same = flusher_same serves old new same
     serve_works i (Err over) old new one = turned_works (Err over) old new one
 
     -- all turns of a flusher: so many, or until its stop
-    pub turns_work : (most : ℕ) (result : Result (Unit {0}) Over) (old new : FlusherState L) → UpTo (TurnsNext F domain orders serves) most result old new → FlusherWorks serves old new
-    turns_work = up_to_holds (FlusherWorks serves) (flusher_same serves) (flusher_then serves) (TurnsNext F domain orders serves) run_works
+    pub turns_work : (most : ℕ) (result : Result (Unit {0}) Over) (old new : FlusherState L) → UpTo (TurnsNext F domain limits serves) most result old new → FlusherWorks serves old new
+    turns_work = each_hold (FlusherWorks serves) (flusher_same serves) (flusher_then serves) _ (λ i. turn_works)
 
-    pub served_work : (most : ℕ) (result : Result (Unit {0}) Over) (old new : FlusherState L) → UpTo (ServesNext F domain orders serves) most result old new → FlusherWorks serves old new
-    served_work = up_to_holds (FlusherWorks serves) (flusher_same serves) (flusher_then serves) (ServesNext F domain orders serves) serve_works
+    pub served_work : (most : ℕ) (result : Result (Unit {0}) Over) (old new : FlusherState L) → UpTo (ServesNext F domain limits serves) most result old new → FlusherWorks serves old new
+    served_work = up_to_holds (FlusherWorks serves) (flusher_same serves) (flusher_then serves) (ServesNext F domain limits serves) serve_works
 
 -- the zeros of a sweep behind the call that took its page
 zeros_sweep : (sizes : Sizes) (p n : ℕ) (list : List Step) (older : List Entry) (view : RiderView) → next_to_clean sizes list ≡ Some p → n ≤ sizes.page_size → AreSweeps sizes view.touches (entry list (CleanTake ∷ []) ∷ older)
@@ -314,7 +286,7 @@ module _ (serves : Bool) (F : Type 0) (domain : DomainState) (cuts : Cuts) where
       subst (λ (r : RiderState). WorksOn serves domain.sizes old (swept_by domain broom r)) (sym entered) swept
 
   free_works : (broom : BroomRecord) (result : Result (Unit {0}) Over) (old new : RiderState) → Frees F domain cuts broom result old new → WorksOn serves domain.sizes old new
-  free_works broom result old new frees = tries_work serves domain.sizes F domain cuts _ (λ answer a b done. step_works serves domain.sizes (CleanDone broom.page) answer a b done (λ serving p. refl)) _ old new frees.2
+  free_works broom result old new frees = tries_work serves domain.sizes F domain (makes_room cuts) _ (λ answer a b done. step_works serves domain.sizes (CleanDone broom.page) answer a b done (λ serving p. refl)) _ old new frees.2
 
   clean_works : (result : Result Bool Over) (old new : RiderState) → Cleans F domain cuts result old new → WorksOn serves domain.sizes old new
   clean_works (Ok true) old new one = then serves domain.sizes old (swept_by domain one.broom one.taker) new (sweep_works one.broom old one.taker one.taken) (free_works (swept domain one.broom) _ _ new one.done)

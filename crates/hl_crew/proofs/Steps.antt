@@ -1,11 +1,10 @@
 -- What a call left under the lock, said by less.
-use Rattle.std.proofs.Common.{◌≡◌, ℕ, Result, subst}
-use Rattle.hl_words.specs.States.{RiderState}
-use Rattle.hl_domain.specs.Domains.{DomainState, Call, LeavesUnderLock}
+use Rattle.std.proofs.Common.{◌≡◌, ℕ, ◌+◌, [], ◌∷◌, refl, ap, ◌∙◌, arith}
+use Rattle.hl_history.specs.Lists.{entry}
+use Rattle.hl_words.specs.States.{RiderState, with_call}
 use Rattle.hl_keeper.specs.Keepers.{KeeperState}
-use Rattle.hl_crew.specs.declared.messages.Over.{Over}
-use Rattle.hl_crew.specs.declared.orders.Cuts.{Cuts}
-use Rattle.hl_crew.specs.Turns.{Finishes}
+use Rattle.hl_domain.specs.Domains.{DomainState, Call, LeavesUnderLock, no_step}
+use Rattle.hl_crew.specs.Waits.{Waits}
 
 -- a call left what is said by less
 pub leaves : {F : Type 0} {domain : DomainState} {call : Call} {H K : KeeperState F → KeeperState F → Type 0} → ((before after : KeeperState F) → H before after → K before after) → LeavesUnderLock F domain call H → LeavesUnderLock F domain call K
@@ -20,8 +19,16 @@ leaves f left = record {
   holds = f left.before left.after left.holds;
 }
 
--- how an action that was run was answered, under other names
-pub finishes_of : (F : Type 0) (domain : DomainState) (cuts : Cuts) (origin origin' ticket ticket' : ℕ) (result : Result (Unit {0}) Over) (old new : RiderState) → origin ≡ origin' → ticket ≡ ticket' → Finishes F domain cuts origin ticket result old new → Finishes F domain cuts origin' ticket' result old new
-finishes_of F domain cuts origin origin' ticket ticket' result old new same_origin same_ticket done =
-    subst (λ origin. Finishes F domain cuts origin ticket' result old new) same_origin
-    (subst (λ ticket. Finishes F domain cuts origin ticket result old new) same_ticket done)
+-- a rider that made no call
+pub waits_same : {old new : RiderState} → new ≡ old → Waits old new
+waits_same same = record { more = []; empty = tt; is = same }
+
+-- a rider that made one
+pub waits_one : {F : Type 0} {domain : DomainState} {H : KeeperState F → KeeperState F → Type 0} {old new : RiderState} → LeavesUnderLock F domain (no_step old new) H → Waits old new
+waits_one {old} left =
+    let same : old.share + 0 ≡ old.share = omega arith in
+    record {
+      more = record { was = left.before.cut; now = left.after.cut; call = entry left.list [] } ∷ [];
+      empty = (refl, tt);
+      is = left.entered ∙ ap (λ (n : ℕ). with_call left.before.cut left.after.cut (entry left.list []) (record { view = old.view; share = n; calls = old.calls })) same;
+    }

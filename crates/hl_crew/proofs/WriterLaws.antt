@@ -24,11 +24,12 @@ use Rattle.hl_images.proofs.CopyLaws.{copied, answered_is_flushed}
 use Rattle.hl_images.proofs.ImageLaws.{copied_stays, flushed_stays}
 use Rattle.hl_images.proofs.LaterLaws.{same as is_same, still, call as later_call}
 use Rattle.hl_crew.specs.declared.messages.Over.{Over}
-use Rattle.hl_crew.specs.declared.orders.Cuts.{Cuts}
+use Rattle.hl_crew.specs.declared.limits.Cuts.{Cuts}
 use Rattle.hl_crew.specs.declared.writer.WriterState.{WriterState}
 use Rattle.hl_crew.specs.Goes.{UpTo}
 use Rattle.hl_crew.specs.Looks.{LooksNext}
-use Rattle.hl_crew.specs.Pages.{FlushesPage, FlushesOne, Passes, FindsPage}
+use Rattle.hl_crew.specs.Overs.{makes_room}
+use Rattle.hl_crew.specs.Pages.{Copies, FlushesPage, FlushesOne, Passes, FindsPage}
 use Rattle.hl_crew.specs.Riders.{has_flushed, HasImages, KeepsOthers, WritesPage, FailsPage, WorksOn, WritesOn}
 use Rattle.hl_crew.specs.Tries.{EndsFlush, TriesFor}
 use Rattle.hl_crew.specs.Turns.{Loads}
@@ -122,17 +123,17 @@ module _ {W : Type 0} (has : W → ℕ → List ℕ → Type 0) (serves : Bool) 
   unwritten_works failed failures job old new before after (inl (same, pages)) = (no_more serves sizes old new same, λ other bytes apart there. subst (λ (w : W). has w other bytes) (sym pages) there)
   unwritten_works failed failures job old new before after (inr (more, is)) = (written_works (FailsPage has failed) job old new before after is, is.written.1)
 
--- a page that was sent
-pub told_page_writes : {L W : Type 0} (has : W → ℕ → List ℕ → Type 0) (wrote failed : W → ℕ → List ℕ → W → Type 0) (failures : W → ℕ) (sizes : Sizes) (job : PageJob) (old new : WriterState L W) (ok : Bool)
-    → (ok ≡ true → IsWritten (WritesPage has wrote) sizes job old.rider new.rider old.pages new.pages) → (ok ≡ false → IsNotWritten (FailsPage has failed) failures sizes job old.rider new.rider old.pages new.pages) → WritesOn has false sizes old new
-told_page_writes {L} {W} has wrote failed failures sizes job old new ok written unwritten = of_rider (by ok written unwritten)
-  where
-    of_rider : WorksOn false sizes old.rider new.rider → WritesOn has false sizes old new
-    of_rider works = record { later = works.later; sweeps = works.sweeps; images = λ serving. absurd cc }
+  copies_work : (wrote failed : W → ℕ → List ℕ → W → Type 0) (failures : W → ℕ) (lets : ℕ → Type 0) (ok : Bool) (job : PageJob) (old new : RiderState) (before after : W) → Copies lets (WritesPage has wrote) (FailsPage has failed) failures sizes ok job old new before after
+      → WorksOn serves sizes old new × KeepsOthers has job.page before after
+  copies_work wrote failed failures lets true job old new before after (let_in, is) = (written_works (WritesPage has wrote) job old new before after is, is.written.2)
+  copies_work wrote failed failures lets false job old new before after is = unwritten_works failed failures job old new before after is
 
-    by : (ok : Bool) → (ok ≡ true → IsWritten (WritesPage has wrote) sizes job old.rider new.rider old.pages new.pages) → (ok ≡ false → IsNotWritten (FailsPage has failed) failures sizes job old.rider new.rider old.pages new.pages) → WorksOn false sizes old.rider new.rider
-    by true written unwritten = written_works has false sizes (WritesPage has wrote) job old.rider new.rider old.pages new.pages (written refl)
-    by false written unwritten = (unwritten_works has false sizes failed failures job old.rider new.rider old.pages new.pages (unwritten refl)).0
+-- and then a page that was sent
+pub told_page_writes : {L W : Type 0} (has : W → ℕ → List ℕ → Type 0) (wrote failed : W → ℕ → List ℕ → W → Type 0) (failures : W → ℕ) (lets : ℕ → Type 0) (sizes : Sizes) (job : PageJob) (ok : Bool) (old mid new : WriterState L W)
+    → WritesOn has false sizes old mid → Copies lets (WritesPage has wrote) (FailsPage has failed) failures sizes ok job mid.rider new.rider mid.pages new.pages → WritesOn has false sizes old new
+told_page_writes has wrote failed failures lets sizes job ok old mid new before copies =
+    let works = (copies_work has false sizes wrote failed failures lets ok job mid.rider new.rider mid.pages new.pages copies).0 in
+    writer_then has false sizes old mid new before (record { later = works.later; sweeps = works.sweeps; images = λ serving. absurd cc })
 
 -- a writer that takes its pages itself
 module _ {L W : Type 0} (has : W → ℕ → List ℕ → Type 0) (serves : Bool) (F : Type 0) (domain : DomainState) (cuts : Cuts) (lets : ℕ → Type 0)
@@ -142,7 +143,7 @@ module _ {L W : Type 0} (has : W → ℕ → List ℕ → Type 0) (serves : Bool
 
   -- a page that was answered as flushed
   done_works : (page stamp : ℕ) (words : List ℕ) (list : List Step) (result : Result (Unit {0}) Over) (old new : WriterState L W) → HasCopied domain.sizes page words list old.rider → has old.pages page (image page words) → new.pages ≡ old.pages
-      → TriesFor F domain cuts (EndsFlush F domain page true stamp) result old.rider new.rider → Works old new
+      → TriesFor F domain (makes_room cuts) (EndsFlush F domain page true stamp) result old.rider new.rider → Works old new
   done_works page stamp words list result old new copy there pages (answer, told, tries) =
       writer_then has serves domain.sizes old mid new (rider_writes has serves domain.sizes old mid again refl) (by answer tries.answered)
     where
@@ -150,7 +151,7 @@ module _ {L W : Type 0} (has : W → ℕ → List ℕ → Type 0) (serves : Bool
       mid = record old { rider = tries.last }
 
       again : WorksOn serves domain.sizes old.rider tries.last
-      again = again_work serves domain.sizes F domain cuts (EndsFlush F domain page true stamp) (λ (a b : RiderState) refused. none_works serves domain.sizes a b refused) tries.before old.rider tries.last tries.again
+      again = again_work serves domain.sizes F domain (makes_room cuts) (EndsFlush F domain page true stamp) (λ (a b : RiderState) refused. none_works serves domain.sizes a b refused) tries.before old.rider tries.last tries.again
 
       ends : (answer : Result ℕ Fault) → EndsFlush F domain page true stamp answer tries.last new.rider → WorksOn false domain.sizes tries.last new.rider
       ends answer done = step_works false domain.sizes (FlushDone page true) answer tries.last new.rider done (λ serving. absurd cc)
@@ -164,26 +165,28 @@ module _ {L W : Type 0} (has : W → ℕ → List ℕ → Type 0) (serves : Bool
             (more_images has domain.sizes page done.before.cut done.after.cut words list done.list tries.last new.rider old.pages is (copied_stays domain.sizes page words list old.rider tries.last copy again.later) there done.entered);
       }
 
+  -- a page that was taken and copied
+  copy_works : (load : PageJob) (taker : RiderState) (ok : Bool) (old copier : WriterState L W) → Loads F domain (Ok load) old.rider taker → Copies lets (WritesPage has wrote) (FailsPage has failed) failures domain.sizes ok load taker copier.rider old.pages copier.pages → Works old copier
+  copy_works load taker ok old copier taken copies =
+      let takes = step_works serves domain.sizes FlushTake (Ok load) old.rider taker taken (λ serving p. refl) in
+      let did = copies_work has serves domain.sizes wrote failed failures lets ok load taker copier.rider old.pages copier.pages copies in
+      others_write has serves domain.sizes load.page old copier (fresh_page load old.rider taker taken) (then serves domain.sizes old.rider taker copier.rider takes did.0) did.1
+
   flushes_page : (Behind : Result Bool Over → WriterState L W → WriterState L W → Type 0) → ((passed : Result Bool Over) (old new : WriterState L W) → Behind passed old new → Works old new)
       → (ok : Bool) (passed : Result Bool Over) (result : Result (Unit {0}) Over) (old new : WriterState L W) → FlushesPage F domain cuts lets (WritesPage has wrote) (FailsPage has failed) failures Behind ok passed result old new → Works old new
   flushes_page Behind behind true passed result old new one =
       let is = one.copies.1 in
       let page = one.load.page in
-      let takes = step_works serves domain.sizes FlushTake (Ok one.load) old.rider one.taker one.taken (λ serving p. refl) in
-      let loads = loads_work serves domain.sizes _ is.words one.taker one.copier.rider is.loaded in
-      let wrote_one : Works old one.copier = others_write has serves domain.sizes page old one.copier (fresh_page one.load old.rider one.taker one.taken) (then serves domain.sizes old.rider one.taker one.copier.rider takes loads) is.written.2 in
       let copy = copied old.rider one.taker one.load is.words one.copier.rider one.taken is.places is.loaded in
       let same : one.last ≡ one.copier = one.passes.1 in
-      writer_then has serves domain.sizes old one.copier new wrote_one
+      writer_then has serves domain.sizes old one.copier new (copy_works one.load one.taker true old one.copier one.taken one.copies)
       (done_works page one.load.stamp is.words copy.0 result one.copier new copy.1 is.written.1 (one.pages ∙ ap (λ (s : WriterState L W). s.pages) same)
-      (subst (λ (s : WriterState L W). TriesFor F domain cuts (EndsFlush F domain page true one.load.stamp) result s.rider new.rider) same one.done))
+      (subst (λ (s : WriterState L W). TriesFor F domain (makes_room cuts) (EndsFlush F domain page true one.load.stamp) result s.rider new.rider) same one.done))
   flushes_page Behind behind false passed result old new one =
       let page = one.load.page in
-      let takes = step_works serves domain.sizes FlushTake (Ok one.load) old.rider one.taker one.taken (λ serving p. refl) in
-      let left = unwritten_works has serves domain.sizes failed failures one.load one.taker one.copier.rider old.pages one.copier.pages one.copies in
-      let failed_one : Works old one.copier = others_write has serves domain.sizes page old one.copier (fresh_page one.load old.rider one.taker one.taken) (then serves domain.sizes old.rider one.taker one.copier.rider takes left.0) left.1 in
-      let done = tries_work serves domain.sizes F domain cuts (EndsFlush F domain page false one.load.stamp) (λ answer a b done. step_works serves domain.sizes (FlushDone page false) answer a b done (λ serving p. failed_quiet page p)) _ one.last.rider new.rider one.done.2 in
-      writer_then has serves domain.sizes old one.copier new failed_one (writer_then has serves domain.sizes one.copier one.last new (behind passed one.copier one.last one.passes) (rider_writes has serves domain.sizes one.last new done one.pages))
+      let done = tries_work serves domain.sizes F domain (makes_room cuts) (EndsFlush F domain page false one.load.stamp) (λ answer a b done. step_works serves domain.sizes (FlushDone page false) answer a b done (λ serving p. failed_quiet page p)) _ one.last.rider new.rider one.done.2 in
+      writer_then has serves domain.sizes old one.copier new (copy_works one.load one.taker false old one.copier one.taken one.copies)
+      (writer_then has serves domain.sizes one.copier one.last new (behind passed one.copier one.last one.passes) (rider_writes has serves domain.sizes one.last new done one.pages))
 
   refuses_works : (fault : Fault) (old new : WriterState L W) → Loads F domain (Err fault) old.rider new.rider → new ≡ record old { rider = new.rider } → Works old new
   refuses_works fault old new taken same = rider_writes has serves domain.sizes old new (step_works serves domain.sizes {F = F} {X = PageJob} FlushTake (Err fault) old.rider new.rider taken (λ serving p. refl)) (ap (λ (s : WriterState L W). s.pages) same)

@@ -4,8 +4,8 @@ use Rattle.hl_words.specs.States.{RiderState}
 use Rattle.hl_domain.specs.Domains.{DomainState, LeavesUnderLock, no_step}
 use Rattle.hl_crew.specs.declared.messages.Over.{Over}
 use Rattle.hl_crew.specs.declared.messages.Over.TheVariants.{Full}
-use Rattle.hl_crew.specs.declared.orders.Cuts.{Cuts}
-use Rattle.hl_crew.specs.declared.orders.Cuts.TheVariants.{Never, EachTurn, Above}
+use Rattle.hl_crew.specs.declared.limits.Cuts.{Cuts}
+use Rattle.hl_crew.specs.declared.limits.Cuts.TheVariants.{Never, EachTurn, Above}
 use Rattle.hl_crew.specs.Overs.{makes_room}
 
 module _ (F : Type 0) (domain : DomainState) where
@@ -20,7 +20,7 @@ module _ (F : Type 0) (domain : DomainState) where
   MakesRoom true old new = CutsJournal old new
   MakesRoom false old new = new ≡ old
 
-  -- the journal was cut at a turn's end as was ordered: where the orders name a number of steps, if it had more when
+  -- the journal was cut at a turn's end as was ordered: where the limits name a number of steps, if it had more when
   -- the rider looked
   abbrev pub EndsTurn : Cuts → RiderState → RiderState → Type 0
   EndsTurn Never old new = new ≡ old
@@ -31,7 +31,7 @@ module _ (F : Type 0) (domain : DomainState) where
       (λ before after. (after ≡ before) × (is_cut ≡ nat_lt steps (length before.journal)))
       × MakesRoom is_cut mid new
 
-  -- something ended so; or it failed since the journal was full, the orders make room, and the journal was cut,
+  -- something ended so; or it failed since the journal was full, the limits make room, and the journal was cut,
   -- which counts as something done
   abbrev pub OrCuts : Cuts → Result Bool Over → Result Bool Over → RiderState → RiderState → Type 0
   OrCuts cuts done result old new =

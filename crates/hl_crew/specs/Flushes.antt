@@ -1,5 +1,5 @@
 -- What a turn's flush did, where the flusher sends the pages.
-use Rattle.std.specs.Prelude.{◌≡◌, ◌⊎◌, ℕ, Bool, true, false, Option, Some, None, Result, Ok, Err, OnOk, MatchResult, List, position, replicate}
+use Rattle.std.specs.Prelude.{◌≡◌, ◌⊎◌, ℕ, Bool, false, Option, Some, None, Result, Ok, Err, OnOk, MatchResult, List, position, replicate}
 use Rattle.std.specs.Result.{result_and}
 use Rattle.hl_model.specs.declared.fault.Fault.{Fault}
 use Rattle.hl_keeper.specs.declared.load.PageJob.{PageJob}
@@ -8,7 +8,7 @@ use Rattle.hl_crew.specs.declared.flusher.FlusherState.{FlusherState}
 use Rattle.hl_crew.specs.declared.messages.Over.{Over}
 use Rattle.hl_crew.specs.declared.messages.Over.TheVariants.{Lost}
 use Rattle.hl_crew.specs.Counting.{counted, one_stranger}
-use Rattle.hl_crew.specs.Goes.{UpTo}
+use Rattle.hl_crew.specs.Goes.{Each, UpTo}
 use Rattle.hl_crew.specs.Overs.{over_of}
 use Rattle.hl_crew.specs.Pouches.{is_of, load_count, Answers}
 use Rattle.hl_crew.specs.Tries.{EndsFlush}
@@ -48,16 +48,12 @@ module _ {L : Type 0} (F : Type 0) (domain : DomainState) where
 
   -- an acknowledgement was received and answered; or the channel failed, or an answer was refused
   abbrev pub TellsNext : ℕ → Result Bool Over → HoldState L → HoldState L → Type 0
-  TellsNext i (Ok true) old new = (page : ℕ) × (ok : Bool) × Tells page ok (Ok tt) old new
-  TellsNext i (Ok false) old new = ⊥
-  TellsNext i (Err over) old new =
-      ((over ≡ Lost) × (new ≡ old)) ⊎ ((page : ℕ) × (ok : Bool) × Tells page ok (Err over) old new)
+  TellsNext = Each (λ i result old new.
+      ((result ≡ Err Lost) × (new ≡ old)) ⊎ ((page : ℕ) × (ok : Bool) × Tells page ok result old new))
 
   -- a page that was left was answered as failed; or that was refused
   abbrev pub FailsNext : ℕ → Result Bool Over → HoldState L → HoldState L → Type 0
-  FailsNext i (Ok true) old new = (page : ℕ) × AnswersPage page false (Ok tt) old new
-  FailsNext i (Ok false) old new = ⊥
-  FailsNext i (Err over) old new = (page : ℕ) × AnswersPage page false (Err over) old new
+  FailsNext = Each (λ i result old new. (page : ℕ) × AnswersPage page false result old new)
 
   -- pages were sent, from an empty pouch on; then as many acknowledgements as were sent were answered, one
   -- after another; then each page that was left was answered as failed. The first of these parts that failed

@@ -4,7 +4,7 @@ pub mod Flushes
 pub mod Goes
 pub mod Lags
 pub mod Looks
-pub mod Ordered
+pub mod Limited
 pub mod Overs
 pub mod Pages
 pub mod Pouches

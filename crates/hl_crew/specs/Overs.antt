@@ -4,8 +4,8 @@ use Rattle.hl_model.specs.declared.fault.Fault.{Fault}
 use Rattle.hl_model.specs.declared.fault.Fault.TheVariants.{Empty, JournalFull, NotReady}
 use Rattle.hl_crew.specs.declared.messages.Over.{Over}
 use Rattle.hl_crew.specs.declared.messages.Over.TheVariants.{Full, Lost}
-use Rattle.hl_crew.specs.declared.orders.Cuts.{Cuts}
-use Rattle.hl_crew.specs.declared.orders.Cuts.TheVariants.{Above}
+use Rattle.hl_crew.specs.declared.limits.Cuts.{Cuts}
+use Rattle.hl_crew.specs.declared.limits.Cuts.TheVariants.{Above}
 
 -- what a refused call of the domain means for the turns
 abbrev pub over_of : Fault → Over

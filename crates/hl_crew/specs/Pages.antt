@@ -8,11 +8,11 @@ use Rattle.hl_words.specs.States.{RiderState}
 use Rattle.hl_keeper.specs.declared.load.PageJob.{PageJob}
 use Rattle.hl_domain.specs.Domains.{DomainState}
 use Rattle.hl_crew.specs.declared.messages.Over.{Over}
-use Rattle.hl_crew.specs.declared.orders.Cuts.{Cuts}
+use Rattle.hl_crew.specs.declared.limits.Cuts.{Cuts}
 use Rattle.hl_crew.specs.declared.writer.WriterState.{WriterState}
 use Rattle.hl_crew.specs.Counting.{counted}
 use Rattle.hl_crew.specs.Cutting.{OrCuts}
-use Rattle.hl_crew.specs.Overs.{over_of}
+use Rattle.hl_crew.specs.Overs.{over_of, makes_room}
 use Rattle.hl_crew.specs.Tries.{EndsFlush, TriesFor}
 use Rattle.hl_crew.specs.Turns.{Loads}
 use Rattle.hl_crew.specs.Writes.{IsWritten, IsNotWritten}
@@ -53,8 +53,8 @@ module _ {L W : Type 0} (F : Type 0) (domain : DomainState) (cuts : Cuts) (lets 
       pub uncounted : copier.counts ≡ old.counts
       pub last : WriterState L W
       pub passes : PassesIf ok passed copier last
-      pub done : TriesFor F domain cuts (EndsFlush F domain load.page ok load.stamp) result
-          last.rider new.rider
+      pub done : TriesFor F domain (makes_room cuts)
+          (EndsFlush F domain load.page ok load.stamp) result last.rider new.rider
       pub pages : new.pages ≡ last.pages
       pub counts : MatchResult result
           (λ _. new.counts ≡ counted ok last.counts) (λ _. new.counts ≡ last.counts)

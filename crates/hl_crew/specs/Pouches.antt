@@ -1,5 +1,5 @@
 -- A pouch, and what an answer through it did.
-use Rattle.std.specs.Prelude.{◌≡◌, ℕ, ◌+◌, ◌==◌, Bool, false, Option, Some, None, Result, MatchResult, List, [], ◌∷◌, position, is_none, slice_get, slice_set}
+use Rattle.std.specs.Prelude.{◌≡◌, ℕ, ◌==◌, Bool, false, Option, Some, None, Result, MatchResult, List, position, count_by, is_none, is_some, slice_get, slice_set}
 use Rattle.hl_model.specs.declared.fault.Fault.{Fault}
 use Rattle.hl_keeper.specs.declared.load.PageJob.{PageJob}
 
@@ -10,9 +10,7 @@ is_of page (Some job) = job.page == page
 
 -- how many loads some places hold
 abbrev pub load_count : List (Option PageJob) → ℕ
-load_count [] = 0
-load_count (None ∷ places) = load_count places
-load_count (Some job ∷ places) = 1 + load_count places
+load_count places = count_by is_some places
 
 -- a load was put into the first place that holds none
 abbrev pub Puts : PageJob → List (Option PageJob) → List (Option PageJob) → Type 0

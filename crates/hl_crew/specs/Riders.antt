@@ -1,15 +1,19 @@
 -- What the riders of a crew store and flush.
-use Rattle.std.specs.Prelude.{ℕ, ◌≡◌, ◌≢◌, Bool, true, false, List, [], ◌∷◌}
+use Rattle.std.specs.Prelude.{ℕ, ◌≡◌, ◌≢◌, Bool, true, false, Option, is_none, List, [], ◌∷◌}
 use Rattle.std.specs.List.{AllByRecursion, list_any}
 use Rattle.hl_model.specs.Pages.{flushes}
 use Rattle.hl_model.specs.Sizes.{Sizes}
 use Rattle.hl_history.specs.declared.view.Entry.{Entry}
 use Rattle.hl_words.specs.States.{RiderState}
 use Rattle.hl_image.specs.Image.{image}
+use Rattle.hl_domain.specs.Domains.{DomainState}
 use Rattle.hl_images.specs.Flushes.{HasFlushed}
 use Rattle.hl_images.specs.Later.{IsLater}
 use Rattle.hl_images.specs.Sweeps.{StoresSweep}
-use Rattle.hl_crew.specs.declared.hands.Hands.{Hands}
+use Rattle.hl_crew.specs.declared.crew.Crew.{Crew}
+use Rattle.hl_crew.specs.declared.crew.CrewRiders.{CrewRiders}
+use Rattle.hl_crew.specs.declared.messages.Channels.{Channels}
+use Rattle.hl_crew.specs.declared.state.CrewState.{CrewState}
 use Rattle.hl_crew.specs.declared.writer.WriterState.{WriterState}
 
 -- each of these riders stores only to sweep pages
@@ -29,12 +33,12 @@ abbrev pub HasImages : {W : Type 0} → (W → ℕ → List ℕ → Type 0) → 
 HasImages has sizes r pages = (p : ℕ) → has_flushed p r.calls ≡ true
     → (words : List ℕ) × has pages p (image p words) × HasFlushed sizes p words r
 
--- so it is with a crew's riders and its page writers: each of the writers' riders flushed only such pages, the others none
-abbrev pub AreImaged : {W : Type 0} → (W → ℕ → List ℕ → Type 0) → Sizes → List RiderState → List W → Type 0
-AreImaged has sizes (flusher ∷ writing ∷ also_writing ∷ cleaner ∷ []) (first ∷ second ∷ []) =
-    FlushesNone flusher × HasImages has sizes writing first × HasImages has sizes also_writing second
-    × FlushesNone cleaner
-AreImaged has sizes _ _ = ⊥
+-- so it is with a crew: each of the writers' riders flushed only such pages, the others none
+pub record AreImaged {L W : Type 0} (has : W → ℕ → List ℕ → Type 0) (sizes : Sizes) (crew : Crew L W) : Type 0 where
+  pub flusher : FlushesNone crew.riders.flusher
+  pub first : HasImages has sizes crew.riders.first_writer crew.first
+  pub second : HasImages has sizes crew.riders.second_writer crew.second
+  pub cleaner : FlushesNone crew.riders.cleaner
 
 -- a writer keeps what it has of all pages but one
 abbrev pub KeepsOthers : {W : Type 0} → (W → ℕ → List ℕ → Type 0) → ℕ → W → W → Type 0
@@ -66,22 +70,30 @@ pub record WritesOn {L W : Type 0} (has : W → ℕ → List ℕ → Type 0) (se
   pub sweeps : StoresSweep sizes old.rider → StoresSweep sizes new.rider
   pub images : serves ≡ true → HasImages has sizes old.rider old.pages → HasImages has sizes new.rider new.pages
 
--- the same of all hands of a crew
+-- the same of all threads of a crew
 pub record AllWorkOn {L W : Type 0} (has : W → ℕ → List ℕ → Type 0) (serves : Bool) (sizes : Sizes)
-    (old new : Hands L W) : Type 0 where
+    (old new : CrewState L W) : Type 0 where
   pub flusher : WorksOn serves sizes old.flusher.rider new.flusher.rider
   pub first : WritesOn has serves sizes old.first new.first
   pub second : WritesOn has serves sizes old.second new.second
   pub cleaner : WorksOn serves sizes old.cleaner new.cleaner
 
--- the riders of a crew, in the order in which it is given them
-abbrev pub riders_in : {L W : Type 0} → Hands L W → List RiderState
-riders_in hands =
-    hands.flusher.rider ∷ hands.first.rider ∷ hands.second.rider ∷ hands.cleaner ∷ []
+-- the riders of a crew, in the order in which `run_crew` takes them
+abbrev pub riders_of : {L : Type 0} → CrewRiders L → List RiderState
+riders_of crew = crew.flusher ∷ crew.first_writer ∷ crew.second_writer ∷ crew.cleaner ∷ []
 
--- its page writers, in their order
-abbrev pub writers_in : {L W : Type 0} → Hands L W → List W
-writers_in hands = hands.first.pages ∷ hands.second.pages ∷ []
+-- the crew of some threads
+abbrev pub crew_of : {L W : Type 0} → CrewState L W → Crew L W
+crew_of state = record {
+  riders = record {
+    flusher = state.flusher.rider;
+    first_writer = state.first.rider;
+    second_writer = state.second.rider;
+    cleaner = state.cleaner;
+  };
+  first = state.first.pages;
+  second = state.second.pages;
+}
 
 -- the rider of a crew stores only to sweep, if all riders did that it was given; and if the crew serves, this holds of what
 -- it flushed, if those had flushed nothing
@@ -90,10 +102,12 @@ pub record IsAsGiven (given : List RiderState) (serves : Bool) (sizes : Sizes) (
   pub sweeps : StoreSweeps sizes given → StoresSweep sizes r
   pub images : serves ≡ true → AllByRecursion FlushesNone given → Flushed
 
--- so it is with all hands
-abbrev pub AreAsGiven : {L W : Type 0} → (W → ℕ → List ℕ → Type 0) → List RiderState → Bool → Sizes
-    → Hands L W → Type 0
-AreAsGiven has given serves sizes hands =
-    (StoreSweeps sizes given → StoreSweeps sizes (riders_in hands))
-    × (serves ≡ true → AllByRecursion FlushesNone given
-    → AreImaged has sizes (riders_in hands) (writers_in hands))
+-- so it is with all riders of a crew, by the page writers that it has
+pub record AreAsGiven {L W : Type 0} (has : W → ℕ → List ℕ → Type 0) (serves : Bool) (sizes : Sizes)
+    (given : List RiderState) (crew : Crew L W) : Type 0 where
+  pub sweeps : StoreSweeps sizes given → StoreSweeps sizes (riders_of crew.riders)
+  pub images : serves ≡ true → AllByRecursion FlushesNone given → AreImaged has sizes crew
+
+-- a crew works on a domain of these sizes, and serves or not, as it was given
+abbrev pub IsGiven : Sizes → Bool → DomainState → Option Channels → Type 0
+IsGiven sizes serves domain channels = (sizes ≡ domain.sizes) × (serves ≡ is_none channels)

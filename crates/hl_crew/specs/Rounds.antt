@@ -2,9 +2,9 @@
 use Rattle.std.specs.Prelude.{◌≡◌, ℕ, ◌-◌, ◌^◌, Bool, true, false, Result, Ok, Err, List}
 use Rattle.hl_domain.specs.Domains.{DomainState}
 use Rattle.hl_crew.specs.declared.flusher.FlusherState.{FlusherState}
-use Rattle.hl_crew.specs.declared.hands.Hands.{Hands}
+use Rattle.hl_crew.specs.declared.state.CrewState.{CrewState}
 use Rattle.hl_crew.specs.declared.messages.Over.{Over}
-use Rattle.hl_crew.specs.declared.orders.Orders.{Orders}
+use Rattle.hl_crew.specs.declared.limits.Limits.{Limits}
 use Rattle.hl_crew.specs.Goes.{UpTo}
 use Rattle.hl_crew.specs.Looks.{LooksNext}
 use Rattle.hl_crew.specs.Pages.{FindsPage}
@@ -16,24 +16,24 @@ abbrev pub LooksOn : {S : Type 0} → (Result Bool Over → S → S → Type 0) 
 LooksOn Finds old new =
     (result : Result (Unit {0}) Over) × UpTo (LooksNext Finds) (2 ^ 64 - 1) result old new
 
-module _ {L W : Type 0} (F : Type 0) (domain : DomainState) (orders : Orders) (lets : ℕ → Type 0)
+module _ {L W : Type 0} (F : Type 0) (domain : DomainState) (limits : Limits) (lets : ℕ → Type 0)
     (wrote failed : W → ℕ → List ℕ → W → Type 0) (failures : W → ℕ) where
   -- the writers looked for sealed pages, and then the cleaner for closed ones
-  pub record AllLook (old new : Hands L W) : Type 0 where
-    pub first : LooksOn (FindsPage F domain orders.cuts lets wrote failed failures) old.first new.first
-    pub second : LooksOn (FindsPage F domain orders.cuts lets wrote failed failures) old.second new.second
-    pub cleaner : LooksOn (Finds F domain orders.cuts) old.cleaner new.cleaner
+  pub record AllLook (old new : CrewState L W) : Type 0 where
+    pub first : LooksOn (FindsPage F domain limits.cuts lets wrote failed failures) old.first new.first
+    pub second : LooksOn (FindsPage F domain limits.cuts lets wrote failed failures) old.second new.second
+    pub cleaner : LooksOn (Finds F domain limits.cuts) old.cleaner new.cleaner
     pub flusher : new.flusher ≡ old.flusher
 
   -- the flusher made a turn; where that entered a step, the others looked for pages, and another round may
   -- follow
-  abbrev pub MakesRound : ℕ → Result Bool Over → Hands L W → Hands L W → Type 0
+  abbrev pub MakesRound : ℕ → Result Bool Over → CrewState L W → CrewState L W → Type 0
   MakesRound i (Ok true) old new =
-      (turned : FlusherState L) × Serves F domain orders true (Ok true) old.flusher turned
+      (turned : FlusherState L) × Serves F domain limits true (Ok true) old.flusher turned
       × AllLook (record old { flusher = turned }) new
   MakesRound i (Ok false) old new =
-      Serves F domain orders true (Ok false) old.flusher new.flusher
+      Serves F domain limits true (Ok false) old.flusher new.flusher
       × (new ≡ record old { flusher = new.flusher })
   MakesRound i (Err over) old new =
-      Serves F domain orders true (Err over) old.flusher new.flusher
+      Serves F domain limits true (Err over) old.flusher new.flusher
       × (new ≡ record old { flusher = new.flusher })

@@ -13,10 +13,9 @@ use Rattle.hl_keeper.specs.Keepers.{KeeperState}
 use Rattle.hl_keeper.specs.Pages.{BroomRecord}
 use Rattle.hl_domain.specs.Domains.{DomainState, call_of, MakesUnderLock}
 use Rattle.hl_crew.specs.declared.messages.Over.{Over}
-use Rattle.hl_crew.specs.declared.orders.Cuts.{Cuts}
 use Rattle.hl_crew.specs.Cutting.{CutsJournal}
 use Rattle.hl_crew.specs.Goes.{Followed}
-use Rattle.hl_crew.specs.Overs.{over_if_refused, makes_room}
+use Rattle.hl_crew.specs.Overs.{over_if_refused}
 
 module _ (F : Type 0) (domain : DomainState) where
   -- a step that ends something of this origin was answered so
@@ -43,24 +42,23 @@ module _ (F : Type 0) (domain : DomainState) where
   EndsClean broom result old new =
       EndsOnce (CleanDone broom.page) broom.stamp (λ before A. broom.page) result old new
 
-module _ {X : Type 0} (F : Type 0) (domain : DomainState) (cuts : Cuts)
+module _ {X : Type 0} (F : Type 0) (domain : DomainState) (may_cut : Bool)
     (Answered : Result X Fault → RiderState → RiderState → Type 0) where
-  -- a try that another follows: it was refused since the journal was full, and then the journal was cut,
-  -- since the orders make room
+  -- a try that another follows: it was refused since the journal was full, which may be cut, and then was
   abbrev pub TriesAgain : ℕ → Result Bool Fault → RiderState → RiderState → Type 0
   TriesAgain i next old new =
       (refused : RiderState) × Answered (Err JournalFull) old refused
-      × (makes_room cuts ≡ true) × CutsJournal F domain refused new
+      × (may_cut ≡ true) × CutsJournal F domain refused new
 
   -- the last of some tries was answered so. At most a thousand came before it; and as many did, where even
-  -- the last was refused since the journal was full, and the orders make room
+  -- the last was refused since the journal was full, and it may be cut
   pub record Tries (result : Result X Fault) (old new : RiderState) : Type 0 where
     pub before : ℕ
     pub last : RiderState
     pub most : before ≤ 1000
     pub again : Followed TriesAgain before old last
     pub answered : Answered result last new
-    pub given_up : result ≡ Err JournalFull → makes_room cuts ≡ true → before ≡ 1000
+    pub given_up : result ≡ Err JournalFull → may_cut ≡ true → before ≡ 1000
 
   -- and this is what its answer means for the turns
   abbrev pub TriesFor : Result (Unit {0}) Over → RiderState → RiderState → Type 0

@@ -9,12 +9,12 @@ use Rattle.hl_keeper.specs.declared.load.PageJob.{PageJob}
 use Rattle.hl_keeper.specs.Calls.{Makes}
 use Rattle.hl_domain.specs.Domains.{DomainState, call_of, answered, LeavesUnderLock, MakesUnderLock}
 use Rattle.hl_keeper.specs.Pages.{BroomRecord, to_flush, to_clean, first_cell, zeroed}
-use Rattle.hl_keeper.specs.Taking.{taken_from, ready_told}
+use Rattle.hl_keeper.specs.Taking.{taken_from, ready_reply}
 use Rattle.hl_crew.specs.declared.messages.Over.{Over}
 use Rattle.hl_crew.specs.declared.messages.Over.TheVariants.{Lost}
-use Rattle.hl_crew.specs.declared.orders.Cuts.{Cuts}
+use Rattle.hl_crew.specs.declared.limits.Cuts.{Cuts}
 use Rattle.hl_crew.specs.Cutting.{OrCuts}
-use Rattle.hl_crew.specs.Overs.{over_of, is_none_ready}
+use Rattle.hl_crew.specs.Overs.{over_of, is_none_ready, makes_room}
 use Rattle.hl_crew.specs.Pouches.{Puts}
 use Rattle.hl_crew.specs.Tries.{EndsAction, EndsClean, TriesFor}
 
@@ -42,7 +42,7 @@ module _ (F : Type 0) (domain : DomainState) where
   abbrev pub Takes : Result (ReadyRecord F) Fault → RiderState → RiderState → Type 0
   Takes answer old new =
       LeavesUnderLock F domain (answered answer (call_of Take old new))
-      (λ before after. Makes before Take (taken_from before) after (ready_told answer))
+      (λ before after. Makes before Take (taken_from before) after (ready_reply answer))
 
   -- a take of a page to be flushed was answered so
   abbrev pub Loads : Result PageJob Fault → RiderState → RiderState → Type 0
@@ -80,7 +80,7 @@ module _ (F : Type 0) (domain : DomainState) (cuts : Cuts) where
   -- the done of an action was answered so, by as many tries as that takes
   abbrev pub Finishes : ℕ → ℕ → Result (Unit {0}) Over → RiderState → RiderState → Type 0
   Finishes origin ticket result old new =
-      TriesFor F domain cuts (EndsAction F domain origin ticket) result old new
+      TriesFor F domain (makes_room cuts) (EndsAction F domain origin ticket) result old new
 
   -- an action was taken, and once it was run it was answered done
   pub record RunsOne (old new : RiderState) : Type 0 where
@@ -107,7 +107,7 @@ module _ (F : Type 0) (domain : DomainState) (cuts : Cuts) where
 
   -- that of a page that was swept was answered so, by as many tries as that takes
   abbrev pub Frees : BroomRecord → Result (Unit {0}) Over → RiderState → RiderState → Type 0
-  Frees broom result old new = TriesFor F domain cuts (EndsClean F domain broom) result old new
+  Frees broom result old new = TriesFor F domain (makes_room cuts) (EndsClean F domain broom) result old new
 
   -- a page was taken, all its cells swept, and it was accepted as clean
   pub record CleansOne (old new : RiderState) : Type 0 where

@@ -11,7 +11,7 @@ pub(crate) struct Counts {
 }
 
 impl Counts {
-    /// Nothing was counted.
+    /// Returns counts of nothing.
     pub(crate) fn none() -> Counts
         ensures { result ≡ nothing }
     {
@@ -40,7 +40,7 @@ impl Counts {
         self.strangers = self.strangers.saturating_add(1);
     }
 
-    /// What both counted.
+    /// Returns what both counted.
     pub(crate) fn with(self, other: Counts) -> Counts
         ensures { result ≡ counted_with self other }
     {

@@ -2,7 +2,7 @@ ghost use Rattle.std.specs.Prelude.{◌≡◌, ◌<◌, ◌≤◌, ◌↔◌, So
 
 use hl_model::HasSizes;
 
-/// What a crew that serves is told: how many pages at the tail may be written, how many may be read, and when the
+/// The limits of a crew that serves: how many pages at the tail may be written, how many may be read, and when the
 /// journal is cut. Each number is in range: that is in its type.
 ///
 /// Fewer pages stay resident than there are frames. The head goes up to where the page N - resident
@@ -21,7 +21,7 @@ pub struct Duty {
 }
 
 impl Duty {
-    /// About `mutable` pages at the tail may be written and about `resident` may be read, in a
+    /// Returns a duty by which about `mutable` pages at the tail may be written and about `resident` may be read, in a
     /// domain of these sizes: `1 <= mutable <= resident < F`, else `None`. The journal is never
     /// cut.
     pub fn checked<S: HasSizes>(params: S, mutable: u64, resident: u64) -> Option<Duty>
@@ -42,7 +42,7 @@ impl Duty {
         })
     }
 
-    /// The same, but the journal is cut at the end of each turn that leaves more than this many
+    /// Returns the same duty, but the journal is cut at the end of each turn that leaves more than this many
     /// steps in it, and when a call of the crew's own finds it full.
     pub fn cutting_above(self, steps: u64) -> Duty
         ensures { result ≡ record self { cut_above = Some steps } }
@@ -55,28 +55,28 @@ impl Duty {
         }
     }
 
-    /// How many frames the domains have for which it was checked.
+    /// Returns how many frames the domains have for which it was checked.
     pub fn frames(self) -> u64
         ensures { result ≡ self.frames }
     {
         self.frames
     }
 
-    /// How many pages at the tail may be written.
+    /// Returns how many pages at the tail may be written.
     pub fn mutable(self) -> u64
         ensures { result ≡ self.mutable }
     {
         self.mutable
     }
 
-    /// How many pages at the tail may be read.
+    /// Returns how many pages at the tail may be read.
     pub fn resident(self) -> u64
         ensures { result ≡ self.resident }
     {
         self.resident
     }
 
-    /// How many steps the journal may have at the end of a turn; `None` if it is never cut.
+    /// Returns how many steps the journal may have at the end of a turn; `None` if it is never cut.
     pub fn cut_above(self) -> Option<u64>
         ensures { result ≡ self.cut_above }
     {

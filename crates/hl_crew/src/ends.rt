@@ -1,11 +1,12 @@
 //! What a crew ends by a call of the domain.
-ghost use Rattle.std.specs.Prelude.{◌≡◌, IfErr};
+ghost use Rattle.std.specs.Prelude.{◌≡◌, ◌&&◌, IfErr};
 ghost use Rattle.hl_keeper.specs.Calls.{without_back};
+ghost use Rattle.hl_crew.specs.Cutting.{MakesRoom};
+ghost use Rattle.hl_crew.specs.Overs.{is_full, makes_room};
 ghost use Rattle.hl_crew.specs.Tries.{EndsAction, EndsClean, EndsFlush, Tries, TriesFor};
 
 use crate::messages::Over;
-use crate::orders::make_room;
-use crate::shared::Shared;
+use crate::run::Run;
 use hl_action::{Promise, Ran, Task};
 use hl_domain::{Broom, Domain, Load};
 use hl_epoch::Epochs;
@@ -16,8 +17,8 @@ use std::sync::Wait;
 /// How often what ends something is tried again, while the journal is full and is cut.
 const ATTEMPTS: u64 = 1_000;
 
-/// What a call of the domain ends: one that refuses hands it back.
-pub(crate) trait Ends<E: Epochs + Drop, F: Task, P: Promise, L: Realm>: Sized {
+/// What a call of the domain ends: one that refuses returns it.
+pub trait Ends<E: Epochs + Drop, F: Task, P: Promise, L: Realm>: Sized {
     ghost use Rattle.std.specs.Prelude.{Result, ⊤};
     ghost use Rattle.hl_model.specs.declared.fault.Fault.{Fault};
     ghost use Rattle.hl_words.specs.States.{RiderState};
@@ -117,59 +118,26 @@ impl<E: Epochs + Drop, F: Task, P: Promise, L: Realm> Ends<E, F, P, L> for Flush
     }
 }
 
-/// Ends it, by as many tries as that takes. What is refused is given up.
-pub(crate) fn end<R, E, F, P, L, X>(
+/// Ends it; and again, up to 1,000 times, while the journal is full and may be cut, after a cut. Nothing else is cut.
+///
+/// Faults, with what was to be ended: those of its call.
+pub fn end_by_tries<R: Wait, E: Epochs + Drop, F: Task, P: Promise, L: Realm, X: Ends<E, F, P, L>>(
     rt: &R,
     domain: &Domain<E, F, P, L>,
-    shared: &Shared,
     rider: &mut Rider<L>,
-    what: X,
-) -> Result<(), Over>
-where
-    R: Wait,
-    E: Epochs + Drop,
-    F: Task,
-    P: Promise,
-    L: Realm,
-    X: Ends<E, F, P, L>,
-    requires { X.can_end what domain.now }
-    ensures { TriesFor F domain.now shared.now.orders.cuts (X.ends what domain.now) result
-        rider.old rider.new }
-{
-    match end_by_tries(rt, domain, shared, rider, what) {
-        Ok(_) => Ok(()),
-        Err((fault, what)) => {
-            what.forsake();
-            Err(Over::of(&fault))
-        }
-    }
-}
-
-// Ends it; and again, up to a thousand times, while the journal is full and may be cut.
-fn end_by_tries<R, E, F, P, L, X>(
-    rt: &R,
-    domain: &Domain<E, F, P, L>,
-    shared: &Shared,
-    rider: &mut Rider<L>,
+    may_cut: bool,
     what: X,
 ) -> Result<X::Answer, (Fault, X)>
-where
-    R: Wait,
-    E: Epochs + Drop,
-    F: Task,
-    P: Promise,
-    L: Realm,
-    X: Ends<E, F, P, L>,
     requires { X.can_end what domain.now }
-    ensures { Tries F domain.now shared.now.orders.cuts (X.ends what domain.now)
-        (without_back result) rider.old rider.new }
+    ensures met { Tries F domain.now may_cut (X.ends what domain.now) (without_back result) rider.old rider.new }
+    ensures refused { IfErr result (λ back. back.1 ≡ what) }
 {
     let mut what = what;
     for _ in 0..ATTEMPTS {
         match what.end(rt, domain, rider) {
             Ok(answer) => return Ok(answer),
             Err((fault, back)) => {
-                if !make_room(rt, domain, shared, rider, &fault) {
+                if !make_room(rt, domain, rider, may_cut, &fault) {
                     return Err((fault, back));
                 }
                 what = back;
@@ -177,4 +145,43 @@ where
         }
     }
     what.end(rt, domain, rider)
+}
+
+// Whether what met this fault is to be tried again: the journal was full, and was cut, as it may be.
+fn make_room<R: Wait, E: Epochs + Drop, F: Task, P: Promise, L: Realm>(
+    rt: &R,
+    domain: &Domain<E, F, P, L>,
+    rider: &mut Rider<L>,
+    may_cut: bool,
+    fault: &Fault,
+) -> bool
+    ensures room { MakesRoom F domain.now result rider.old rider.new }
+    ensures answer { result ≡ (may_cut && is_full fault.now) }
+{
+    let is_cut = may_cut && matches!(fault, Fault::JournalFull);
+    if is_cut {
+        domain.cut(rt, rider);
+    }
+    is_cut
+}
+
+impl<R: Wait, E: Epochs + Drop, F: Task, P: Promise, L: Realm, G> Run<'_, R, E, F, P, L, G> {
+    /// Ends it, by as many tries as that takes; a full journal is cut, if the limits say so. What is refused is given up.
+    pub(crate) fn end_by<X: Ends<E, F, P, L>>(
+        &self,
+        rider: &mut Rider<L>,
+        what: X,
+    ) -> Result<(), Over>
+        requires { X.can_end what self.now.domain.now }
+        ensures { TriesFor F self.now.domain.now (makes_room self.now.limits.cuts)
+            (X.ends what self.now.domain.now) result rider.old rider.new }
+    {
+        match end_by_tries(self.rt, self.domain, rider, self.limits.makes_room(), what) {
+            Ok(_) => Ok(()),
+            Err((fault, what)) => {
+                what.forsake();
+                Err(Over::of(&fault))
+            }
+        }
+    }
 }

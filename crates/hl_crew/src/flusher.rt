@@ -2,22 +2,20 @@ ghost use Rattle.std.specs.Prelude.{◌≡◌, ◌-◌, ◌^◌, None, OnOk, is_
 ghost use Rattle.hl_crew.specs.Cutting.{EndsTurn};
 ghost use Rattle.hl_crew.specs.Flushes.{AreFlushed};
 ghost use Rattle.hl_crew.specs.Goes.{UpTo};
-ghost use Rattle.hl_crew.specs.Lags.{IsLag};
 ghost use Rattle.hl_crew.specs.Pouches.{load_count};
 ghost use Rattle.hl_crew.specs.Runs.{FlushesIf, MakesTurn, TurnsNext, Serves, ServesNext};
-ghost use Rattle.hl_crew.specs.Riders.{WorksOn};
+ghost use Rattle.hl_crew.specs.Riders.{IsGiven, WorksOn};
 
 use crate::counts::Counts;
 use crate::given::Given;
+use crate::limits::Cuts;
 use crate::messages::{Channels, Over};
-use crate::orders::{Cuts, cut_if_full};
+use crate::mode::Mode;
 use crate::pouch::Pouch;
+use crate::run::Run;
 use crate::seats::{HasRider, Seat};
-use crate::shared::Shared;
 use crate::stop::Stop;
-use crate::term::Term;
 use hl_action::{Promise, Task};
-use hl_domain::Domain;
 use hl_epoch::Epochs;
 use hl_words::{Realm, Rider};
 use std::sync::atomic::Ordering;
@@ -31,15 +29,8 @@ mod pages;
 
 pub(crate) use asked::Asked;
 
-/// What the flusher works on.
-#[derive(Drop)]
-pub(crate) struct Flusher<'x, R, E: Epochs, F: Task, P: Promise, L: Realm> {
-    pub(crate) rt: &'x R,
-    pub(crate) domain: &'x Domain<E, F, P, L>,
-    pub(crate) shared: &'x Shared,
-}
-
 /// What the flusher has of its own.
+#[derive(Drop)]
 pub(crate) struct FlusherState<L: Realm> {
     pub(crate) rider: Rider<L>,
     /// The flushes of the pages that it sent.
@@ -56,67 +47,56 @@ impl<L: Realm> HasRider for FlusherState<L> {
     ghost flushed = { λ sizes own. FlushesNone own.rider };
 }
 
-impl<R: Wait, E: Epochs + Drop, F: Task, P: Promise, L: Realm> Flusher<'_, R, E, F, P, L> {
-    /// Makes its turns until they are over.
-    pub(crate) fn run<K: Given>(&self, own: &Mutex<Seat<FlusherState<L>, K>>, term: &Term<'_>)
-        requires lag { let orders = self.now.shared.now.orders
-            in IsLag self.now.domain.now.sizes.frames orders.mutable orders.resident }
-        requires given { (K.sizes ≡ self.now.domain.now.sizes)
-            × (K.serves ≡ is_none self.now.shared.now.channels) }
+impl<R: Wait, E: Epochs + Drop, F: Task, P: Promise, L: Realm, G> Run<'_, R, E, F, P, L, G> {
+    /// The flusher's thread: makes its turns until they are over, and then ends the others.
+    #[tactic(auto, using(crate::proofs::StateLaws::rider_as_given))]
+    pub(crate) fn run_flusher<K: Given>(&self, own: &Mutex<Seat<FlusherState<L>, K>>)
+        requires { IsGiven K.sizes K.serves self.now.domain.now self.now.channels }
     {
         let mut seat = own.lock(self.rt);
-        self.work(&mut seat.own, term);
+        self.make_all_turns(&mut seat.own);
+        self.end();
     }
 
-    // The same with what it has at hand.
-    fn work(&self, own: &mut FlusherState<L>, term: &Term<'_>)
-        requires { let orders = self.now.shared.now.orders
-            in IsLag self.now.domain.now.sizes.frames orders.mutable orders.resident }
-        ensures { WorksOn (is_none self.now.shared.now.channels) self.now.domain.now.sizes
+    // Makes its turns, as many as the mode says.
+    fn make_all_turns(&self, own: &mut FlusherState<L>)
+        ensures { WorksOn (is_none self.now.channels) self.now.domain.now.sizes
             own.old.rider own.new.rider }
     {
-        let _ = match term {
-            Term::Turns(most) => self.make_turns(own, *most),
-            Term::Until(stop) => self.serve(own, stop),
+        let _ = match &self.mode {
+            Mode::Turns(most) => self.make_turns(own, *most),
+            Mode::Until(stop) => self.serve(own, stop),
         };
     }
 
     // Makes this many turns, up to the first that failed. After each it wakes the cleaner.
+    #[tactic(auto, using(crate::proofs::GoesLaws::going))]
     fn make_turns(&self, own: &mut FlusherState<L>, most: u64) -> Result<(), Over>
-        requires { let orders = self.now.shared.now.orders
-            in IsLag self.now.domain.now.sizes.frames orders.mutable orders.resident }
-        ensures { UpTo (TurnsNext F self.now.domain.now self.now.shared.now.orders
-            (is_none self.now.shared.now.channels)) most result own.old own.new }
+        ensures { UpTo (TurnsNext F self.now.domain.now self.now.limits
+            (is_none self.now.channels)) most result own.old own.new }
     {
         for _ in 0..most {
             let made = self.turn(own);
-            self.shared.cleaner.unpark();
-            match made {
-                Ok(()) => {}
-                Err(over) => return Err(over),
-            }
+            self.cleaner.unpark();
+            made?;
         }
         Ok(())
     }
 
     // Makes turns until the stop is given, or the first after which it can't go on. If a turn got nowhere,
     // and no page was written meanwhile, it rests.
+    #[tactic(auto, using(crate::proofs::GoesLaws::going))]
     fn serve(&self, own: &mut FlusherState<L>, stop: &Stop) -> Result<(), Over>
-        requires { let orders = self.now.shared.now.orders
-            in IsLag self.now.domain.now.sizes.frames orders.mutable orders.resident }
-        ensures { UpTo (ServesNext F self.now.domain.now self.now.shared.now.orders
-            (is_none self.now.shared.now.channels)) (2 ^ 64 - 1) result own.old own.new }
+        ensures { UpTo (ServesNext F self.now.domain.now self.now.limits
+            (is_none self.now.channels)) (2 ^ 64 - 1) result own.old own.new }
     {
         let mut vain = 0u64;
         for _ in 0..u64::MAX {
             if stop.is_given() {
                 return Ok(());
             }
-            let moved = match self.serve_turn(own) {
-                Ok(moved) => moved,
-                Err(over) => return Err(over),
-            };
-            if self.shared.has_written.swap(false, Ordering::SeqCst) | moved {
+            let moved = self.serve_turn(own)?;
+            if self.has_written.swap(false, Ordering::SeqCst) | moved {
                 vain = 0;
             } else {
                 stop.rest(self.rt, vain);
@@ -129,38 +109,34 @@ impl<R: Wait, E: Epochs + Drop, F: Task, P: Promise, L: Realm> Flusher<'_, R, E,
     /// Makes a turn. True if that entered a step. A full journal that may be cut
     /// doesn't end the turns.
     pub(crate) fn serve_turn(&self, own: &mut FlusherState<L>) -> Result<bool, Over>
-        requires { let orders = self.now.shared.now.orders
-            in IsLag self.now.domain.now.sizes.frames orders.mutable orders.resident }
-        ensures { Serves F self.now.domain.now self.now.shared.now.orders
-            (is_none self.now.shared.now.channels) result own.old own.new }
+        ensures { Serves F self.now.domain.now self.now.limits
+            (is_none self.now.channels) result own.old own.new }
     {
         let share = own.rider.share();
         let made = self.turn(own);
         let has_moved = own.rider.share() != share;
         let made = made.and(Ok(has_moved));
-        cut_if_full(self.rt, self.domain, self.shared, &mut own.rider, made)
+        self.cut_if_full(&mut own.rider, made)
     }
 
     // One turn: the lag, the actions, the pages, and the cut.
     fn turn(&self, own: &mut FlusherState<L>) -> Result<(), Over>
-        requires { let orders = self.now.shared.now.orders
-            in IsLag self.now.domain.now.sizes.frames orders.mutable orders.resident }
-        ensures { MakesTurn F self.now.domain.now self.now.shared.now.orders
-            (is_none self.now.shared.now.channels) result own.old own.new }
+        ensures { MakesTurn F self.now.domain.now self.now.limits
+            (is_none self.now.channels) result own.old own.new }
     {
         self.keep_lag(own)?;
         self.run_actions(&mut own.rider)?;
-        self.flush(own)?;
+        self.flush_sent(own)?;
         self.end_turn(&mut own.rider);
         Ok(())
     }
 
     // Flushes pages, unless the writers take these themselves.
-    fn flush(&self, own: &mut FlusherState<L>) -> Result<(), Over>
-        ensures { FlushesIf F self.now.domain.now (is_none self.now.shared.now.channels) result
+    fn flush_sent(&self, own: &mut FlusherState<L>) -> Result<(), Over>
+        ensures { FlushesIf F self.now.domain.now (is_none self.now.channels) result
             own.old own.new }
     {
-        let Some(channels) = &self.shared.channels else {
+        let Some(channels) = &self.channels else {
             return Ok(());
         };
         let mut pouch = Pouch::new();
@@ -188,17 +164,20 @@ impl<R: Wait, E: Epochs + Drop, F: Task, P: Promise, L: Realm> Flusher<'_, R, E,
         all_sent.and(received).and(answered)
     }
 
-    // Cuts the journal, if the orders say so for this turn's end.
+    // Cuts the journal, if the limits say so for this turn's end.
     fn end_turn(&self, rider: &mut Rider<L>)
-        ensures { EndsTurn F self.now.domain.now self.now.shared.now.orders.cuts rider.old rider.new }
+        ensures { EndsTurn F self.now.domain.now self.now.limits.cuts rider.old rider.new }
     {
-        let is_wanted = match self.shared.orders().cuts() {
-            Cuts::Never => false,
-            Cuts::EachTurn => true,
-            Cuts::Above(steps) => self.domain.snapshot_by(self.rt, rider).1 > steps,
-        };
-        if is_wanted {
-            self.domain.cut(self.rt, rider);
+        match self.limits.cuts() {
+            Cuts::Never => {}
+            Cuts::EachTurn => {
+                self.domain.cut(self.rt, rider);
+            }
+            Cuts::Above(steps) => {
+                if self.domain.snapshot_by(self.rt, rider).1 > steps {
+                    self.domain.cut(self.rt, rider);
+                }
+            }
         }
     }
 }

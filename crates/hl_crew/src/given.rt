@@ -1,7 +1,7 @@
 use std::marker::Brand;
 
 /// Names what a crew was given: its riders, whether it serves, and the sizes of its domain. What lies under a lock is known
-/// by its type alone: by this name the type can tell of what held before the crew began.
+/// by its type alone: by this name the type can say what held before the crew began.
 pub(crate) trait Given {
     ghost use Rattle.std.specs.Prelude.{List, Bool};
     ghost use Rattle.hl_model.specs.Sizes.{Sizes};

@@ -1,14 +1,14 @@
 //! The crew: threads that bring the pages of a domain to a device, and free their frames.
 //!
 //! After the HybridLog of FASTER (Chandramouli, Prasaad, Kossmann, Levandoski, Hunter, Barnett, SIGMOD 2018), where a
-//! page that every thread sees as read-only is written to the log's device, and its frame is used again. [`serve`] and
-//! [`run_crew`] run four threads on a `Domain` that others may use at the same time, the one until a [`Stop`] is given,
-//! as a [`Duty`] says, the other for a number of turns:
+//! page that every thread sees as read-only is written to the log's device, and its frame is used again.
+//! [`Crew::serve`] and [`run_crew`] run four threads on a `Domain` that others may use at the same time, the one until a
+//! [`Stop`] is given, as a [`Duty`] says, the other for a number of turns:
 //!
 //! | Thread | What it does |
 //! |---|---|
-//! | the flusher | in a turn: makes the lag's steps that it wants, runs safe actions, and cuts the journal as it is ordered |
-//! | two writers | under [`serve`]: take a sealed page, copy it without the lock, write its image, and answer it |
+//! | the flusher | in a turn: makes the lag's steps that it wants, runs safe actions, and cuts the journal where its limits say so |
+//! | two writers | under [`Crew::serve`]: take a sealed page, copy it without the lock, write its image, and answer it |
 //! | the cleaner | takes a closed page, sweeps it without the lock, and frees its frame |
 //!
 //! Under [`run_crew`] the flusher takes the pages, sends them to the writers, which copy and write them, and answers
@@ -19,11 +19,12 @@
 //! Under [`run_crew`] the flusher and the writers talk by two channels. No clause says what a channel delivers, so
 //! nothing rests on it: the flusher keeps the load of each page that it sent in a [`Pouch`], and
 //! answers a flush only through it. A page whose load isn't there is refused, and neither pouch nor
-//! share changes: a clause of [`Pouch::answer`]. Under [`serve`] a page has one hand, and no page goes by a channel.
+//! share changes: a clause of [`Pouch::answer`]. Under [`Crew::serve`] one rider takes and answers a page, and none goes by a
+//! channel.
 //!
 //! # When a page may be written
 //!
-//! A [`Gate`] is told which page a writer has begun with, and is asked whether it may be written; [`OpenGate`]
+//! A writer tells a [`Gate`] which page it has begun with, and asks whether it may write it; [`OpenGate`]
 //! always says yes. A writer asks at most 1,000,000 times, and then the page is answered as failed: it may be taken
 //! again.
 //!
@@ -49,9 +50,9 @@
 //! # What is proved of it
 //!
 //! Of a crew as a whole: that riders and page writers come back is in its types. That no refusal is other than
-//! `OutOfMemory` is a clause, and so is what all its threads ran by, which [`CrewEnd::orders`] tells. So is that a
+//! `OutOfMemory` is a clause, and so is that all its threads kept to the limits that [`CrewReport::limits`] has. So is that a
 //! rider that comes back stored only 0s of pages that a call of its own had just taken to clean, if that held of all
-//! riders before: a crew that took no page to clean changed no word. And under [`serve`] each page that a rider
+//! riders before: a crew that took no page to clean changed no word. And under [`Crew::serve`] each page that a rider
 //! flushed is with that rider's page writer, as the image of the words that it copied between its take and its
 //! answer; by `hl_images` they are the page's at the end.
 //!
@@ -63,18 +64,19 @@
 //! failed, nothing was written, or the write failed and was counted so. Of pages that are sent: the flusher takes
 //! them up to four a turn, or to the first take that finds none; as many acknowledgements as it sent pages are
 //! answered and counted once each, as each says, and each page that none of them named once as failed. A turn that
-//! ended well ended by the cut that was ordered; where a part failed, the turn failed for the same reason. A full
-//! journal is cut only if that was ordered, and what ends something is then tried again, up to a thousand times. A
+//! ended well ended by the cut that its limits say; where a part failed, the turn failed for the same reason. A full
+//! journal is cut only if the limits say so, and what ends something is then tried again, up to a thousand times. A
 //! page reported as clean was swept. Whoever looks for pages looks until a look fails, or one is in vain that was
 //! begun once the flusher had ended. No clause says that a thread gets on, what a channel delivers, or what
 //! [`CrewEnd`] counts in all: what lies under a lock or comes from a channel is known by its type alone.
 //!
 //! | Module | What it has |
 //! |---|---|
-//! | `crew`, `threads`, `rounds`, `whole`, `shared` | the calls; the threads; the end; that all were made; what they share |
-//! | `hands`, `seats`, `given` | what each thread has of its own; its lock; what comes back, and what of it is known |
-//! | `duty`, `stop` | what a crew that serves is told; what ends it |
-//! | `orders`, `term` | what all its threads run by; for how long |
+//! | `crew`, `calls` | a crew by names; the calls |
+//! | `run`, `threads`, `rounds`, `whole` | what the threads share; the threads; the end; that all were made |
+//! | `state`, `seats`, `given` | what each thread has of its own; its lock; what comes back, and what of it is known |
+//! | `duty`, `stop` | what a crew that serves is given; what ends it |
+//! | `limits`, `mode` | what all its threads keep to; for how long they work |
 //! | `flusher`, and in it `lag`, `asked`, `actions`, `pages`, `acknowledgements` | the flusher's turn, a part each |
 //! | `looks`, `ends` | how a thread looks for pages; how what was taken is ended |
 //! | `writer`, and in it `buffers`, `write` and `flush`; `cleaner` | the other threads |
@@ -82,6 +84,7 @@
 //! | `gate`, `messages`, `counts` | when a page may be written; what the channels carry; what is counted |
 #![tactic(auto)]
 
+mod calls;
 mod cleaner;
 mod counts;
 mod crew;
@@ -90,24 +93,25 @@ mod ends;
 mod flusher;
 mod gate;
 mod given;
-mod hands;
+mod limits;
 mod looks;
 mod messages;
-mod orders;
+mod mode;
 mod pouch;
 mod rounds;
+mod run;
 mod seats;
-mod shared;
+mod state;
 mod stop;
-mod term;
 mod threads;
 mod whole;
 mod writer;
 
-pub use crew::{run_crew, serve};
+pub use calls::{CrewEnd, run_crew};
+pub use crew::{Crew, CrewReport, CrewRiders};
 pub use duty::Duty;
+pub use ends::{Ends, end_by_tries};
 pub use gate::{Gate, OpenGate};
-pub use hands::CrewEnd;
-pub use orders::{Cuts, Orders};
+pub use limits::{Cuts, Limits};
 pub use pouch::Pouch;
 pub use stop::Stop;

@@ -1,12 +1,11 @@
 //! How the cleaner, and a writer that takes its pages itself, look for pages, and sleep.
 ghost use Rattle.std.specs.Prelude.{◌≡◌, true, false, Ok, IfOk};
 ghost use Rattle.hl_crew.specs.Goes.{UpTo};
-ghost use Rattle.hl_crew.specs.Looks.{Looks, LooksNext};
+ghost use Rattle.hl_crew.specs.Looks.{LooksNext};
 
 use crate::messages::Over;
-use crate::shared::Shared;
 use std::sync::Wait;
-use std::sync::atomic::Ordering;
+use std::sync::atomic::{AtomicBool, Ordering};
 use std::thread::Parker;
 
 /// What looks for a page, with what a thread has of its own.
@@ -25,7 +24,8 @@ pub(crate) trait Look<S> {
 #[derive(Drop)]
 pub(crate) struct Looker<'x, R> {
     pub(crate) rt: &'x R,
-    pub(crate) shared: &'x Shared,
+    /// Whether the flusher has made its turns.
+    pub(crate) has_ended: &'x AtomicBool,
     /// Where it sleeps.
     pub(crate) sleeper: &'x Parker,
 }
@@ -33,20 +33,19 @@ pub(crate) struct Looker<'x, R> {
 impl<R: Wait> Looker<'_, R> {
     /// Looks again and again, at most this many times, until a look fails, or one is in vain that was begun once the
     /// flusher had ended.
+    #[tactic(auto, using(crate::proofs::GoesLaws::going))]
     pub(crate) fn look_on<S, H: Look<S>>(
         &self,
-        hand: &H,
+        with: &H,
         own: &mut S,
         most: u64,
     ) -> Result<(), Over>
-        ensures { UpTo (LooksNext (H.finds hand.now)) most result own.old own.new }
+        ensures { UpTo (LooksNext (H.finds with.now)) most result own.old own.new }
     {
         for _ in 0..most {
-            let has_ended = self.shared.has_ended.load(Ordering::SeqCst);
-            match self.look_once(hand, own, has_ended) {
-                Ok(false) => {}
-                Ok(true) => return Ok(()),
-                Err(over) => return Err(over),
+            let has_ended = self.has_ended.load(Ordering::SeqCst);
+            if !self.look_once(with, own, has_ended)? {
+                return Ok(());
             }
         }
         Ok(())
@@ -54,20 +53,17 @@ impl<R: Wait> Looker<'_, R> {
 
     // Looks for a page, once it is known whether the flusher has ended: what it did before such a look is found by
     // the next. If there is none, it sleeps until the flusher has made another turn, unless the flusher had ended.
-    // True if the look was in vain, and the flusher had ended before it.
-    fn look_once<S, H: Look<S>>(&self, hand: &H, own: &mut S, has_ended: bool) -> Result<bool, Over>
-        ensures looks { Looks (H.finds hand.now) result own.old own.new }
-        ensures last { IfOk result (λ is_last. is_last ≡ true → has_ended ≡ true) }
-        ensures found { IfOk result (λ is_last. has_ended ≡ true → is_last ≡ false
-            → H.finds hand.now (Ok true) own.old own.new) }
+    // False if the look was in vain, and the flusher had ended before it.
+    fn look_once<S, H: Look<S>>(&self, with: &H, own: &mut S, has_ended: bool) -> Result<bool, Over>
+        ensures looks { LooksNext (H.finds with.now) 0 result own.old own.new }
+        ensures last { IfOk result (λ next. next ≡ false → has_ended ≡ true) }
+        ensures found { IfOk result (λ next. has_ended ≡ true → next ≡ true
+            → H.finds with.now (Ok true) own.old own.new) }
     {
-        let found = match hand.find(own) {
-            Ok(found) => found,
-            Err(over) => return Err(over),
-        };
+        let found = with.find(own)?;
         if !found && !has_ended {
             self.sleeper.park(self.rt);
         }
-        Ok(has_ended && !found)
+        Ok(found || !has_ended)
     }
 }

@@ -1,7 +1,7 @@
-ghost use Rattle.std.specs.Prelude.{◌≡◌, true, false};
+ghost use Rattle.std.specs.Prelude.{◌≡◌};
 ghost use Rattle.hl_crew.specs.Overs.{over_of};
 
-use crate::writer::Written;
+use crate::writer::Acknowledgement;
 use crossbeam_channel::{Receiver, Sender, bounded};
 use hl_domain::PageJob;
 use hl_model::Fault;
@@ -10,54 +10,13 @@ use std::alloc::{AllocError, Global};
 /// How many messages a channel holds: as many as a turn sends pages.
 const CAPACITY: usize = 4;
 
-/// What the flusher tells a writer.
+/// What the flusher sends a writer.
 #[derive(Clone, Copy)]
 pub(crate) enum Message {
     /// To write a page.
     Write(PageJob),
     /// To end.
     Stop,
-}
-
-/// What a writer tells the flusher: the write of a page ended, well or not. Only whoever has
-/// written the page can tell that it ended well.
-#[derive(Clone, Copy)]
-pub(crate) struct Acknowledgement {
-    page: u64,
-    ok: bool,
-}
-
-impl Acknowledgement {
-    /// The page was written.
-    pub(crate) fn written(written: Written) -> Acknowledgement
-        ensures { result ≡ record { page = written.page; ok = true } }
-    {
-        Acknowledgement {
-            page: written.page(),
-            ok: true,
-        }
-    }
-
-    /// The page wasn't written.
-    pub(crate) fn failed(page: u64) -> Acknowledgement
-        ensures { result ≡ record { page = page; ok = false } }
-    {
-        Acknowledgement { page, ok: false }
-    }
-
-    /// The page.
-    pub(crate) fn page(&self) -> u64
-        ensures { result ≡ self.now.page }
-    {
-        self.page
-    }
-
-    /// Whether it was written.
-    pub(crate) fn ok(&self) -> bool
-        ensures { result ≡ self.now.ok }
-    {
-        self.ok
-    }
 }
 
 /// The ends of both channels, which all threads share.

@@ -30,7 +30,7 @@ impl Model for Pouch {
 }
 
 impl Pouch {
-    /// A pouch that holds none.
+    /// Returns a pouch that holds none.
     pub fn new() -> Pouch
         ensures { result ≡ replicate 4 None }
     {
@@ -40,6 +40,7 @@ impl Pouch {
     }
 
     /// Puts a page into the first place that is free. It holds fewer than four.
+    #[tactic(auto, using(crate::proofs::PouchLaws::none_free, crate::proofs::PouchLaws::filled))]
     pub fn put(&mut self, load: Load)
         requires { load_count self.old < 4 }
         ensures held { Puts load self.old self.new }
@@ -51,11 +52,12 @@ impl Pouch {
         }
     }
 
-    /// Tells that the flush of a page ended, well or not; returns the flushed offset. The page is
+    /// Answers the flush of a page as ended, well or not; returns the flushed offset. The page is
     /// held no longer.
     ///
     /// Faults, of which none changes what it holds: `NotInFlight` if it holds no load of that page,
     /// and then nothing enters the journal; else those of `Domain::flush_done`.
+    #[tactic(auto, using(crate::proofs::Steps::waits_same))]
     pub fn answer<R: Wait, E: Epochs + Drop, F: Task, P: Promise, L: Realm>(
         &mut self,
         rt: &R,
@@ -88,7 +90,8 @@ impl Pouch {
         }
     }
 
-    /// The page of the first that it holds.
+    /// Returns the page of the first that it holds, `None` if it holds none.
+    #[tactic(auto, using(crate::proofs::PouchLaws::none_held))]
     pub(crate) fn first(&self) -> Option<u64>
         ensures none { IfNone result (load_count self.now ≡ 0) }
         ensures held { IfSome result (λ page. (at : ℕ) × (position (is_of page) self.now ≡ Some at)) }
@@ -100,7 +103,7 @@ impl Pouch {
         }
     }
 
-    /// Whether it holds a load of this page.
+    /// Returns whether it holds a load of this page.
     pub(crate) fn holds(&self, page: u64) -> bool
         ensures { result ≡ is_some (position (is_of page) self.now) }
     {
@@ -113,7 +116,7 @@ impl Pouch {
         forsake_all(loads);
     }
 
-    // The first place that holds a load.
+    // Returns the first place that holds a load.
     fn held_place(&self) -> Option<usize>
         ensures place { result ≡ position is_some self.now }
         ensures within { IfSome result (λ at. at < 4) }
@@ -122,7 +125,7 @@ impl Pouch {
         self.loads.iter().position(|held| held.is_some())
     }
 
-    // The first place that is free.
+    // Returns the first place that is free.
     fn free_place(&self) -> Option<usize>
         ensures place { result ≡ position is_none self.now }
         ensures within { IfSome result (λ at. at < 4) }
@@ -131,7 +134,7 @@ impl Pouch {
         self.loads.iter().position(|held| held.is_none())
     }
 
-    // The first place that holds a load of this page.
+    // Returns the first place that holds a load of this page.
     fn place_of(&self, page: u64) -> Option<usize>
         ensures place { result ≡ position (is_of page) self.now }
         ensures within { IfSome result (λ at. at < 4) }

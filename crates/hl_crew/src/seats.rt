@@ -1,9 +1,9 @@
 ghost use Rattle.std.specs.Prelude.{◌≡◌};
-ghost use Rattle.hl_crew.specs.Riders.{AreAsGiven, IsAsGiven, riders_in};
+ghost use Rattle.hl_crew.specs.Riders.{AreAsGiven, IsAsGiven, crew_of, riders_of};
 
 use crate::flusher::FlusherState;
 use crate::given::Given;
-use crate::hands::Hands;
+use crate::state::CrewState;
 use crate::writer::WriterState;
 use hl_image::PageWriter;
 use hl_words::{Realm, Rider};
@@ -77,15 +77,15 @@ pub(crate) struct Seats<L: Realm, W: PageWriter, K: Given> {
 
 impl<L: Realm, W: PageWriter, K: Given> Seats<L, W, K> {
     /// A seat for each thread.
-    pub(crate) fn of(hands: Hands<L, W>) -> Seats<L, W, K>
-        requires { K.riders ≡ riders_in hands }
+    pub(crate) fn of(state: CrewState<L, W>) -> Seats<L, W, K>
+        requires { K.riders ≡ riders_of (crew_of state).riders }
     {
-        let Hands {
+        let CrewState {
             flusher,
             first,
             second,
             cleaner,
-        } = hands;
+        } = state;
         Seats {
             flusher: Mutex::new(Seat::new(flusher)),
             first: Mutex::new(Seat::new(first)),
@@ -95,8 +95,8 @@ impl<L: Realm, W: PageWriter, K: Given> Seats<L, W, K> {
     }
 
     /// What each thread has left.
-    pub(crate) fn end(self) -> Hands<L, W>
-        ensures { AreAsGiven W.has K.riders K.serves K.sizes result }
+    pub(crate) fn end(self) -> CrewState<L, W>
+        ensures { AreAsGiven W.has K.serves K.sizes K.riders (crew_of result) }
     {
         let Seats {
             flusher,
@@ -104,7 +104,7 @@ impl<L: Realm, W: PageWriter, K: Given> Seats<L, W, K> {
             second,
             cleaner,
         } = self;
-        Hands {
+        CrewState {
             flusher: flusher.into_inner().into_own(),
             first: first.into_inner().into_own(),
             second: second.into_inner().into_own(),

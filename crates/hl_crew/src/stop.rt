@@ -23,7 +23,7 @@ pub struct Stop {
 }
 
 impl Stop {
-    /// A stop that wasn't given yet, for one crew.
+    /// Returns a stop that wasn't given yet, for one crew.
     pub const fn new() -> Stop {
         Stop {
             is_given: AtomicBool::new(false),
@@ -44,7 +44,7 @@ impl Stop {
         self.sleeper.unpark();
     }
 
-    /// Whether the stop was given.
+    /// Returns whether the stop was given.
     pub fn is_given(&self) -> bool {
         self.is_given.load(Ordering::SeqCst)
     }

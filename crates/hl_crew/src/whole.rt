@@ -2,14 +2,14 @@ ghost use Rattle.std.specs.Prelude.{◌≡◌, false, ◌&&◌, IsSome, IfNone, 
 
 use std::thread::JoinHandle;
 
-/// That each thread of a crew was made. Only what came of making them can tell.
+/// That each thread of a crew was made. Only what came of making them shows it.
 #[derive(Drop)]
 pub(crate) struct Whole {
     _made: (),
 }
 
 impl Whole {
-    /// Whether the writers, the cleaner and the flusher were made, by the handle of each: only a thread that
+    /// Returns whether the writers, the cleaner and the flusher were made, by the handle of each: only a thread that
     /// was made has one.
     pub(crate) fn of(
         first: Option<JoinHandle<()>>,

@@ -17,7 +17,7 @@ use Rattle.hl_history.specs.Lists.{entry, IsOf, IsOneList}
 use Rattle.hl_words.specs.declared.view.Extent.{Extent}
 use Rattle.hl_words.specs.Rule.{IsRuledAt}
 use Rattle.hl_words.specs.States.{RiderState, AreTied, with_call}
-use Rattle.hl_keeper.specs.Keepers.{job_tag, KeeperState, KeeperStands, all_noted}
+use Rattle.hl_keeper.specs.Keepers.{job_tag, KeeperState, KeeperStands}
 use Rattle.hl_keeper.specs.Passes.{PassRecord, seen, with_share, with_rider, with_news, is_current, last_read_only, last_head, last_ended}
 use Rattle.hl_keeper.specs.Calls.{refresh_fault, touched_list, MakesTouched, Refreshes, Keeps, IsUpTo}
 use Rattle.hl_keeper.specs.Endings.{EndingState}
@@ -119,20 +119,6 @@ pub record LeavesUnderLock
   pub entered : call.new ≡ with_entry before.cut after.cut list (call.steps list) call.old
   pub rises : IsOf list call.old.calls
   pub holds : Holds before after
-
--- what such a call makes of what lies under the lock: the list gets its steps, and the keeper notes it; of the keepers
--- before and after it this holds
-pub record LeavesHeld
-    {F : Type 0} (setup : Setup) (call : Call) (Holds : KeeperState F → KeeperState F → Type 0)
-    (old new : HeldState F) : Type 0 where
-  pub after : KeeperState F
-  pub met : IsHeld setup old
-  pub left : IsAt setup new.list after
-  pub noted : new.keeper ≡ all_noted after
-  pub list_is : new.list ≡ old.list ++ call.steps old.list
-  pub entered : call.new ≡ with_entry old.keeper.cut after.cut old.list (call.steps old.list) call.old
-  pub rises : IsOf old.list call.old.calls
-  pub holds : Holds old.keeper after
 
 -- likewise of a call that keeps what such a call of a keeper does
 abbrev pub MakesUnderLock : {X : Type 0} (F : Type 0) → DomainState → Call → Result X Fault

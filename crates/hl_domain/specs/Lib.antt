@@ -1,5 +1,7 @@
 pub mod Domains
+pub mod Riders
 pub mod Told
+pub mod Words
 pub use Rattle.hl_model.specs.Actions
 pub use Rattle.hl_model.specs.Bases
 pub use Rattle.hl_model.specs.Offsets

@@ -33,7 +33,7 @@ calls_in (Looked which x ∷ before) = calls_in before
 calls_in (Met name count ∷ before) = calls_in before
 
 -- A call of a rider that was told another's past met a list that begins with what each call in that past left: the
--- call of the j-th rider stands in its diary behind as many as there are calls among its newer touches, and so does
+-- call of the j-th rider stands among its calls behind as many as there are calls among its newer touches, and so does
 -- that of the i-th
 abbrev pub ToldCallsBegin : Type 0 → Type 0
 ToldCallsBegin F = (sizes : Sizes) (riders : List RiderState) (ending : EndingState F)

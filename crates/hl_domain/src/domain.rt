@@ -9,6 +9,52 @@ ghost use Rattle.hl_words.specs.States.{IsSeedOf, new_riders};
 ghost use Rattle.hl_keeper.specs.Keepers.{steps_most};
 ghost use Rattle.hl_domain.specs.Domains.{setup_of, IsEnding, IsHeld};
 
+// The one way of a locked call: waits for the lock, makes the keeper's call of that name, and notes it for its rider, with
+// the steps that it put behind the journal. It is no function: a closure's bound can't name a keeper's type.
+macro_rules! locked {
+    ($domain:ident, $rt:ident, $call:ident($who:ident $(, $arg:expr)*)) => {
+        locked!($domain, $rt, $call($who $(, $arg)*), $who)
+    };
+    ($domain:ident, $rt:ident, $call:ident($who:ident $(, $arg:expr)*), $rider:expr) => {{
+        let mut guard = $domain.lock($rt);
+        let Held { keeper, recorder, .. } = &mut *guard;
+        let before = keeper.journal().len();
+        let answer = keeper.$call(&$domain.words, $who $(, $arg)*);
+        keeper.note(&$domain.words, recorder, $rider, before);
+        answer
+    }};
+}
+
+// The same of a call that hands its rider on, as a pass has one: of whichever of the two comes back it is noted.
+macro_rules! handed {
+    ($domain:ident, $rt:ident, $call:ident($($arg:expr),*), Ok($ok:ident) => $rider:expr, Err($back:ident) => $its:expr) => {{
+        let mut guard = $domain.lock($rt);
+        let Held { keeper, recorder, .. } = &mut *guard;
+        let before = keeper.journal().len();
+        match keeper.$call(&$domain.words $(, $arg)*) {
+            Ok(mut $ok) => {
+                keeper.note(&$domain.words, recorder, $rider, before);
+                Ok($ok)
+            }
+            Err((fault, mut $back)) => {
+                keeper.note(&$domain.words, recorder, $its, before);
+                Err((fault, $back))
+            }
+        }
+    }};
+}
+
+// The same of a call that makes no step.
+macro_rules! asked {
+    ($domain:ident, $rt:ident, $rider:ident, $ask:ident($($arg:expr),*)) => {{
+        let mut guard = $domain.lock($rt);
+        let Held { keeper, recorder, .. } = &mut *guard;
+        let answer = keeper.$ask($($arg),*);
+        keeper.note_quiet(&$domain.words, recorder, $rider);
+        answer
+    }};
+}
+
 mod held;
 mod keep_up;
 mod pages;
@@ -72,7 +118,7 @@ impl<E: Epochs + Drop, F: Task, P: Promise, L: Realm> Domain<E, F, P, L> {
     /// steps between two cuts. Two domains of a program are to have different stamps: by its stamp a domain
     /// knows its own pages and actions. Both numbers are at most 2^62.
     ///
-    /// `OutOfMemory` where memory was refused; then the seed is given up. No other call has an answer for want of it.
+    /// `OutOfMemory` if memory was refused; then the seed is given up. No other call may return it.
     pub fn open(
         alloc: Global,
         seed: Seed,
@@ -90,11 +136,11 @@ impl<E: Epochs + Drop, F: Task, P: Promise, L: Realm> Domain<E, F, P, L> {
         ensures memory { IfErr result (λ fault. fault ≡ OutOfMemory) }
     {
         let params = seed.params();
-        let (keeper, words, scribe, riders) = Keeper::open_with_scribe(
+        let (keeper, words, recorder, riders) = Keeper::open_with_recorder(
             alloc, seed, journal, stamp,
         )?;
         let domain = Domain {
-            held: CachePadded::new(Mutex::new(Held::new(keeper, scribe))),
+            held: CachePadded::new(Mutex::new(Held::new(keeper, recorder))),
             words,
             params,
             stamp,
@@ -176,12 +222,12 @@ impl<E: Epochs + Drop, F: Task, P: Promise, L: Realm> Domain<E, F, P, L> {
             params,
             stamp,
         } = self;
-        let (keeper, scribe) = held.into_inner().into_inner().into_parts();
-        match keeper.close_with_scribe(words, scribe, riders, pasts) {
+        let (keeper, recorder) = held.into_inner().into_inner().into_parts();
+        match keeper.close_with_recorder(words, recorder, riders, pasts) {
             Ok(ending) => Ok(ending),
-            Err((keeper, words, scribe, riders, pasts)) => {
+            Err((keeper, words, recorder, riders, pasts)) => {
                 let domain = Domain {
-                    held: CachePadded::new(Mutex::new(Held::new(keeper, scribe))),
+                    held: CachePadded::new(Mutex::new(Held::new(keeper, recorder))),
                     words,
                     params,
                     stamp,
@@ -215,7 +261,7 @@ impl<E: Epochs + Drop, F: Task, P: Promise, L: Realm> Domain<E, F, P, L> {
         let _ = &self.words;
     }
 
-    // Waits for the lock. What lies under it is a keeper that stands at the scribe's list.
+    // Waits for the lock. What lies under it is a keeper that stands at the recorder's list.
     #[inline(always)]
     fn lock<'a>(&'a self, rt: &impl Wait) -> MutexGuard<'a, Held<E, F, P, L>>
         ensures { IsHeld (setup_of self.now) (mutex_guard_value result) }

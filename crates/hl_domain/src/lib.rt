@@ -10,7 +10,7 @@
 //! |---|---|
 //! | a [`Domain`] | a keeper under its lock, and the words: shared by a `&` |
 //! | a [`Keeper`] | the core, the journal with the base of the steps cut, the right to store the master's four words |
-//! | a `Rider` | the right to act; its share, how many steps it entered; its diary, in proofs. `close` needs all |
+//! | a `Rider` | the right to act; its share, how many steps it entered; its calls, in proofs. `close` needs all |
 //! | a [`Pass`] | the right to act for a slot, with its touches: what it did since its last locked call |
 //! | a [`Load`], a [`Broom`] | a page that was taken, to be flushed or to be cleaned; each must be ended |
 //! | an [`Ending`] | what is left: base, journal, actions that were never taken, all quantities, the words |
@@ -18,8 +18,8 @@
 //! # Under the lock: one list for all threads
 //!
 //! A locked call of a domain is its keeper's, and hl_keeper tells what these are. Beside the keeper lies the one list
-//! of all steps, in the proofs alone. Each call, accepted or refused, notes in its rider's diary the list that it met
-//! and the steps that it put behind it: `LeavesUnderLock` in `specs/Domains.antt` says so, and that between the
+//! of all steps, in the proofs alone. Each call, accepted or refused, notes in its rider's record of calls the list
+//! that it met and the steps that it put behind it: `LeavesUnderLock` in `specs/Domains.antt` says so, and that between the
 //! keepers before and after the call the keeper's own clause holds, at that list. The rider also notes how many steps
 //! each of the two has cut, and the next call meets what this one left. After a refusal the keeper is equal to the
 //! one before. `close` ties all together: one accepted list begins with what each call of each rider met and left,

@@ -34,9 +34,9 @@ impl<J> Model for Drain<J> {
 impl<J> Drain<J> {
     ghost use Rattle.hl_drain.specs.Lists.{IsDrain, count_of, tickets, put_answer, after_put, after_give_up, has_ticket, done_answer, after_done};
 
-    /// An empty list for at most `d` actions, 1 to 4,096.
+    /// Returns an empty list for at most `d` actions, 1 to 4,096.
     ///
-    /// `OutOfMemory` where memory for them was refused.
+    /// `OutOfMemory` if memory for them was refused.
     pub fn open(alloc: Global, d: u64) -> Result<Drain<J>, Fault>
         requires least { 1 ≤ d }
         requires most { d ≤ 4096 }
@@ -45,7 +45,8 @@ impl<J> Drain<J> {
         ensures err { IfErr result (λ fault. fault ≡ Fault.OutOfMemory) }
     {
         let limit = d as usize;
-        // The row of actions comes last: where it is refused, none is left to be dropped, and `J` may forbid that.
+        // The row of actions comes last: if it is refused, none is left to be dropped, and `J` may forbid
+        // that.
         let taken = Taken::open(alloc, limit)?;
         let pending = Pending::open(alloc, limit).map_err(|_| Fault::OutOfMemory)?;
         Ok(Drain {
@@ -58,7 +59,8 @@ impl<J> Drain<J> {
 
     /// Stores an action as the last pending one. Its ticket, an epoch, is above all tickets in the list.
     ///
-    /// `DrainFull`, with the action handed back, where pending and taken actions together are as many as the limit.
+    /// `DrainFull`, with the action handed back, if pending and taken actions together are as many as the
+    /// limit.
     pub fn put(&mut self, ticket: u64, action: Action<J>) -> Result<(), (Fault, Action<J>)>
         requires { All (λ earlier. earlier < ticket) (tickets self.old) }
         ensures answer { result ≡ put_answer self.old action }
@@ -74,9 +76,9 @@ impl<J> Drain<J> {
             .map_err(|action| (Fault::DrainFull, action))
     }
 
-    /// The taken action of this ticket, an epoch, was carried out: it leaves the list. The answer is its kind.
+    /// The taken action of this ticket, an epoch, was carried out: it leaves the list. Returns its kind.
     ///
-    /// `NotTaken` where no taken action has the ticket: it is pending, or done, or was never stored.
+    /// `NotTaken` if no taken action has the ticket: it is pending, or done, or was never stored.
     pub fn done(&mut self, ticket: u64) -> Result<Kind, Fault>
         ensures answer { result ≡ done_answer self.old ticket }
         ensures lists { self.new ≡ after_done self.old ticket }
@@ -89,8 +91,8 @@ impl<J> Drain<J> {
         Ok(self.taken.remove(place).kind)
     }
 
-    /// Gives up the oldest pending action, with its ticket, whatever is safe: it leaves the list, and nobody took
-    /// it. `None` where none is pending.
+    /// Gives up the oldest pending action, whatever is safe: it leaves the list, and nobody took it. Returns
+    /// it with its ticket, or `None` if none is pending.
     pub fn give_up(&mut self) -> Option<(u64, Action<J>)>
         ensures answer { result ≡ slice_get self.old.pending 0 }
         ensures lists { self.new ≡ after_give_up self.old }
@@ -133,7 +135,8 @@ impl<J> Drain<J> {
         self.taken.as_slice()
     }
 
-    /// The oldest 64 of the taken actions that aren't done, oldest first: all, where the limit is at most 64.
+    /// Returns the oldest 64 of the taken actions that aren't done, oldest first: all, if the limit is at
+    /// most 64.
     pub fn taken(&self) -> ArrayVec<Waiting, 64>
         ensures list { result.items ≡ take 64 self.now.taken }
         ensures all { self.now.limit ≤ 64 → result.items ≡ self.now.taken }
@@ -168,10 +171,10 @@ impl<J: Tagged> Drain<J> {
     ghost use Rattle.hl_drain.specs.Actions.{waiting_of};
     ghost use Rattle.hl_drain.specs.Lists.{IsDrain, take_answer, after_take};
 
-    /// Takes the oldest pending action, with its ticket, where that is at most the safe epoch. The list goes on
-    /// to know it as taken.
+    /// Takes the oldest pending action, if its ticket is at most the safe epoch, and returns both. The list
+    /// goes on to know it as taken.
     ///
-    /// `Empty` where none is pending. `NotReady`, with the oldest ticket and the safe epoch, where it is above.
+    /// `Empty` if none is pending. `NotReady`, with the oldest ticket and the safe epoch, if it is above.
     pub fn take(&mut self, safe: u64) -> Result<(u64, Action<J>), Fault>
         ensures answer { result ≡ take_answer self.old safe }
         ensures lists { self.new ≡ after_take J.tag result self.old }
@@ -198,7 +201,7 @@ impl<J: Tagged> Drain<J> {
         Some(action.waiting(*ticket))
     }
 
-    /// The oldest 64 of the pending actions, oldest first: all, where the limit is at most 64.
+    /// Returns the oldest 64 of the pending actions, oldest first: all, if the limit is at most 64.
     pub fn pending(&self) -> ArrayVec<Waiting, 64>
         ensures list { result.items ≡ take 64 (map (waiting_of J.tag) self.now.pending) }
         ensures all { self.now.limit ≤ 64 → result.items ≡ map (waiting_of J.tag) self.now.pending }

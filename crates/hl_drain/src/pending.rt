@@ -6,9 +6,9 @@ use crate::visits::Visits;
 use circular_buffer::HeapCircularBuffer;
 use std::alloc::{AllocError, Global};
 
-/// Pending actions with their tickets, oldest first, in a ring of places: behind its last place comes its first
-/// again. Its places are laid out once, and no call makes more or fewer. Each call that moves an action visits the
-/// one place that it counts, and leaves all other actions where they lie.
+/// Pending actions with their tickets, oldest first, in a ring of places: behind its last place comes its
+/// first again. Its places are laid out once, and no call makes more or fewer. Each call that moves an action
+/// visits the one place that it counts, and leaves all other actions where they lie.
 #[derive(Drop)]
 pub(crate) struct Pending<J> {
     ring: HeapCircularBuffer<(u64, Action<J>)>,
@@ -44,7 +44,7 @@ impl<J> Pending<J> {
         self.ring.get(n)
     }
 
-    /// Moves an action into the place behind the last one, or hands it back where no place is free.
+    /// Moves an action into the place behind the last one, or hands it back if no place is free.
     pub(crate) fn push(
         &mut self,
         ticket: u64,

@@ -6,8 +6,9 @@ use hl_model::{Fault, Waiting, with_room};
 use std::alloc::Global;
 use std::marker::Model;
 
-/// The taken actions, oldest first, in one row. What leaves it is closed up from the shorter side: so the row begins behind
-/// a gap, which is as wide as the actions may be many at most, and has twice the places that these may take.
+/// The taken actions, oldest first, in one row. What leaves it is closed up from the shorter side: so the row
+/// begins behind a gap, which is as wide as the actions may be many at most, and has twice the places that
+/// these may take.
 #[derive(Drop)]
 pub(crate) struct Taken {
     places: usize,
@@ -31,7 +32,7 @@ impl Model for Taken {
 impl Taken {
     /// None, with room for so many.
     ///
-    /// `OutOfMemory` where memory for them was refused.
+    /// `OutOfMemory` if memory for them was refused.
     pub(crate) fn open(alloc: Global, places: usize) -> Result<Taken, Fault>
         requires { places ≤ 4096 }
         ensures ok { IfOk result (λ taken. (taken.items ≡ []) × (taken.places ≡ places)) }
@@ -110,8 +111,9 @@ impl Taken {
         waiting
     }
 
-    // Moves all but the action at a place to the front of the row, each once. The gap is as wide then as there is room
-    // for actions: each removal widens it by one, so no more are moved than were removed since the last time.
+    // Moves all but the action at a place to the front of the row, each once. The gap is as wide then as
+    // there is room for actions: each removal widens it by one, so no more are moved than were removed since
+    // the last time.
     fn close_gap(&mut self, place: usize)
         requires { place < length self.old.items }
         ensures others { self.new.items ≡ remove self.old.items place }

@@ -16,16 +16,16 @@
 //!
 //! # The safe epoch
 //!
-//! An epoch c is safe where every protected slot's epoch is above c: each of these threads has entered since
-//! the bump that ended c, and a thread without a protected slot uses nothing. The safe epoch is the greatest
-//! of the safe ones: the least E_t less 1, or E - 1 where nobody is protected. It witnesses that what was put
-//! out of reach before the bump that ended it is used by nobody any more. It is exact after every call, it
-//! never falls, and always `safe < E_t <= E`, as in FASTER (Chandramouli, Prasaad, Kossmann, Levandoski,
-//! Hunter, Barnett, SIGMOD 2018, the section on its epoch protection framework).
+//! An epoch c is safe if every protected slot's epoch is above c: each of these threads has entered since the
+//! bump that ended c, and a thread without a protected slot uses nothing. The safe epoch is the greatest of
+//! the safe ones: the least E_t less 1, or E - 1 if nobody is protected. It witnesses that what was put out
+//! of reach before the bump that ended it is used by nobody any more. It is exact after every call, it never
+//! falls, and always `safe < E_t <= E`, as in FASTER (Chandramouli, Prasaad, Kossmann, Levandoski, Hunter,
+//! Barnett, SIGMOD 2018, the section on its epoch protection framework).
 //!
 //! # Bumps and the window
 //!
-//! A bump ends an epoch c, and gives that number. Its caller may store an action under it, the action's
+//! A bump ends an epoch c, and returns that number. Its caller may store an action under it, the action's
 //! ticket, to be taken once c is safe. A bare bump stores none: it only raises the epoch. The actions and the
 //! list that keeps them are the caller's.
 //!

@@ -29,10 +29,10 @@ impl Model for ScanTable {
 }
 
 impl ScanTable {
-    /// A table that goes on at this current epoch, 1 to 2^62, with this many slots, 1 to 1,024, none
-    /// protected, and this window, 1 to 4,096. At epoch 1 it is what `make` gives.
+    /// Returns a table that goes on at this current epoch, 1 to 2^62, with this many slots, 1 to 1,024, none
+    /// protected, and this window, 1 to 4,096. At epoch 1 it is what `make` returns.
     ///
-    /// Fault: `OutOfMemory` where memory is refused.
+    /// Fault: `OutOfMemory` if memory is refused.
     pub fn resume(alloc: Global, slots: u64, window: u64, current: u64) -> Result<ScanTable, Fault>
         requires slots_least { 1 ≤ slots }
         requires slots_most { slots ≤ 1024 }
@@ -62,7 +62,7 @@ impl ScanTable {
         }
     }
 
-    // The least epoch of a protected slot, or the current one where nobody is protected.
+    // The least epoch of a protected slot, or the current one if nobody is protected.
     fn least(&self) -> u64
         ensures value { result ≡ safe_of self.now + 1 }
         ensures valid { IsTable self.now }

@@ -11,14 +11,15 @@ use hl_epoch::Epochs;
 use hl_image::{PageWriter, image_of};
 use hl_model::Fault;
 
-/// Flushes one page, the least that is sealed and neither flushed nor in flight: takes it, makes its image in `image`,
-/// which has 8 + 8P bytes, hands that to the writer, and ends the flush. The answer is the page.
+/// Flushes one page, the least that is sealed and neither flushed nor in flight: takes it, makes its image in
+/// `image`, which has 8 + 8P bytes, hands that to the writer, and ends the flush. Returns the page.
 ///
-/// From an engine that stands at a list, whatever the list: the image is that of the words which the definitions give
-/// for the page. The engine then stands at the list with the take and the done. Each job stays under its ticket.
+/// From an engine that stands at a list, whatever the list: the image is that of the words which the
+/// definitions give for the page. The engine then stands at the list with the take and the done. Each job
+/// stays under its ticket.
 ///
-/// Faults: `NoneSealed` where no page waits; nothing was changed. `Device` where the write failed: the writer counted
-/// it, and the page is in flight no longer, so that the next flush takes it again.
+/// Faults: `NoneSealed` if no page waits; nothing was changed. `Device` if the write failed: the writer
+/// counted it, and the page is in flight no longer, so that the next flush takes it again.
 pub fn flush_one<E, F, P, W>(
     engine: &mut Engine<E, F, P>,
     writer: &mut W,

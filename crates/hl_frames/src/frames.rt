@@ -24,8 +24,8 @@ pub struct Frames {
     to_flush: Placed,
     // The least page that is neither freed nor being cleaned; nor is any above it.
     to_clean: Placed,
-    // How many pages are flushed, and how many are freed, with those that left their frames. By these `counts` tells
-    // how many frames are at each state, and visits none.
+    // How many pages are flushed, and how many are freed, with those that left their frames. By these
+    // `counts` tells how many frames are at each state, and visits none.
     flushed: u64,
     freed: u64,
     turns: Turns,
@@ -44,9 +44,9 @@ impl Model for Frames {
 }
 
 impl Frames {
-    /// Frames that hold nothing, for pages of the sizes that `params` gives.
+    /// Returns frames that hold nothing, for pages of these sizes.
     ///
-    /// `OutOfMemory` where memory for the row was refused.
+    /// `OutOfMemory` if memory for the row was refused.
     pub fn open<S: HasSizes>(alloc: Global, params: S) -> Result<Frames, Fault>
         ensures ok { let sizes = S.sizes_of params
             in IfOk result (λ made. made.pages ≡ opened sizes.page_size sizes.frames) }
@@ -73,10 +73,10 @@ impl Frames {
         })
     }
 
-    /// Enters a page: its frame then holds it, with no mark. It is the page after the last entered one, or page 0,
-    /// and lies below address 2^48.
+    /// Enters a page: its frame then holds it, with no mark. It is the page after the last entered one, or
+    /// page 0, and lies below address 2^48.
     ///
-    /// `Busy`, with the page, where its frame isn't free: the page F before it isn't freed.
+    /// `Busy`, with the page, if its frame isn't free: the page F before it isn't freed.
     pub fn enter(&mut self, page: u64) -> Result<(), Fault>
         requires next { page ≡ self.old.pages.entered }
         requires within_space { page < 2 ^ 48 / self.old.pages.page_size }
@@ -105,10 +105,10 @@ impl Frames {
         self.is_free(self.frame_of(page), page)
     }
 
-    /// Takes the least sealed page that is neither flushed nor in flight: it then is in flight. `sro` is the safe
-    /// read-only offset, a word's address, and the pages below it are entered.
+    /// Takes the least sealed page that is neither flushed nor in flight: it then is in flight. `sro` is the
+    /// safe read-only offset, a word's address, and the pages below it are entered.
     ///
-    /// `NoneSealed` where there is no such page.
+    /// `NoneSealed` if there is no such page.
     #[inline(always)]
     pub fn flush_take(&mut self, sro: u64) -> Result<u64, Fault>
         requires { pages_below sro self.old.pages ≤ self.old.pages.entered }
@@ -129,10 +129,10 @@ impl Frames {
         Ok(page)
     }
 
-    /// The flush of a page in flight has ended. Where it is ok the page is flushed; where it isn't, the page may be
-    /// taken again. The answer is the flushed offset after it, a word's address.
+    /// The flush of a page in flight has ended. If it is ok the page is flushed; else the page may be taken
+    /// again. Returns the flushed offset after it, a word's address.
     ///
-    /// `NotInFlight` where the page isn't in flight.
+    /// `NotInFlight` if the page isn't in flight.
     #[inline(always)]
     pub fn flush_done(&mut self, page: u64, ok: bool) -> Result<u64, Fault>
         ensures answer { result ≡ flush_done_answer page ok self.old.pages }
@@ -158,10 +158,10 @@ impl Frames {
         Ok(self.run.page * self.page_size)
     }
 
-    /// Takes the least closed page that is neither freed nor being cleaned: it then is being cleaned. `closed` is
-    /// the closed offset, a word's address, at most the flushed offset.
+    /// Takes the least closed page that is neither freed nor being cleaned: it then is being cleaned.
+    /// `closed` is the closed offset, a word's address, at most the flushed offset.
     ///
-    /// `NoneClosed` where there is no such page.
+    /// `NoneClosed` if there is no such page.
     #[inline(always)]
     pub fn clean_take(&mut self, closed: u64) -> Result<u64, Fault>
         requires { closed ≤ flushed_offset self.old.pages }
@@ -183,7 +183,7 @@ impl Frames {
 
     /// The words of a page that was being cleaned are zeroed: the page is freed.
     ///
-    /// `NotCleaning` where the page isn't being cleaned.
+    /// `NotCleaning` if the page isn't being cleaned.
     #[inline(always)]
     pub fn clean_done(&mut self, page: u64) -> Result<(), Fault>
         ensures answer { result ≡ clean_done_answer page self.old.pages }
@@ -203,7 +203,8 @@ impl Frames {
         Ok(())
     }
 
-    /// What a frame holds, below F: its last entered page, with that page's marks. None where nothing was entered.
+    /// Returns what a frame holds, below F: its last entered page, with that page's marks. None if nothing
+    /// was entered.
     pub fn marks(&self, frame: u64) -> Option<Held>
         requires { frame < length self.now.pages.frames }
         ensures held { result ≡ slice_index_or self.now.pages.frames frame None }
@@ -212,7 +213,8 @@ impl Frames {
         self.held[frame as usize]
     }
 
-    /// What each of the F frames holds, from frame 0 on: as `marks` tells it, in a row that can be copied at once.
+    /// What each of the F frames holds, from frame 0 on: as `marks` tells it, in a row that can be copied at
+    /// once.
     pub fn row(&self) -> &[Option<Held>]
         ensures held { result.now ≡ self.now.pages.frames }
         ensures valid { IsFrames self.now.pages }
@@ -220,9 +222,9 @@ impl Frames {
         &self.held
     }
 
-    /// The state of a frame, below F, and its last entered page; None where it is free. `sro` is the safe read-only
-    /// offset and `closed` the closed offset, words' addresses: the pages below the first are entered, and the
-    /// second is at most the flushed offset.
+    /// Returns the state of a frame, below F, and its last entered page; None if it is free. `sro` is the
+    /// safe read-only offset and `closed` the closed offset, words' addresses: the pages below the first are
+    /// entered, and the second is at most the flushed offset.
     pub fn state(&self, frame: u64, sro: u64, closed: u64) -> (FrameState, Option<u64>)
         requires frame { frame < length self.now.pages.frames }
         requires sealed_entered { pages_below sro self.now.pages ≤ self.now.pages.entered }
@@ -247,9 +249,9 @@ impl Frames {
         }
     }
 
-    /// How many frames are open, sealed, flushed, closed and free, as `state` tells of each; none is visited. `sro` and
-    /// `closed` are words' addresses, as there, and besides the flushed pages are below the first offset, and the
-    /// freed ones below the second: so it is where no take was given a greater one.
+    /// Returns how many frames are open, sealed, flushed, closed and free, as `state` tells of each; none is
+    /// visited. `sro` and `closed` are words' addresses, as there, and besides the flushed pages are below
+    /// the first offset, and the freed ones below the second: so it is if no take was handed a greater one.
     pub fn counts(&self, sro: u64, closed: u64) -> [u64; 5]
         requires sealed_entered { pages_below sro self.now.pages ≤ self.now.pages.entered }
         requires closed_flushed { closed ≤ flushed_offset self.now.pages }
@@ -262,8 +264,8 @@ impl Frames {
     {
         let sealed = sro / self.page_size;
         let closed = closed / self.page_size;
-        // Freed pages are closed, closed ones flushed, flushed ones sealed and sealed ones entered, and each that isn't
-        // freed has a frame of its own.
+        // Freed pages are closed, closed ones flushed, flushed ones sealed and sealed ones entered, and each
+        // that isn't freed has a frame of its own.
         [
             self.entered - sealed,
             sealed - self.flushed,
@@ -282,8 +284,8 @@ impl Frames {
         self.run.page * self.page_size
     }
 
-    /// The page that `flush_take` would take: the least one below the safe read-only offset, a word's address, that is
-    /// neither flushed nor in flight.
+    /// The page that `flush_take` would take: the least one below the safe read-only offset, a word's
+    /// address, that is neither flushed nor in flight.
     #[inline(always)]
     pub fn next_to_flush(&self, sro: u64) -> Option<u64>
         ensures page { result ≡ next_to_flush sro self.now.pages }
@@ -294,8 +296,8 @@ impl Frames {
         (end <= sro).then_some(page)
     }
 
-    /// The page that `clean_take` would take: the least one below the closed offset, a word's address, that is neither
-    /// freed nor being cleaned.
+    /// The page that `clean_take` would take: the least one below the closed offset, a word's address, that
+    /// is neither freed nor being cleaned.
     #[inline(always)]
     pub fn next_to_clean(&self, closed: u64) -> Option<u64>
         ensures page { result ≡ next_to_clean closed self.now.pages }
@@ -320,8 +322,8 @@ impl Frames {
         is_cleaning(self.held[self.frame_of(page)], page)
     }
 
-    /// Whether the page of an address, in words, was entered. The end of the entered pages is a product, where the page
-    /// of the address would be a quotient.
+    /// Returns whether the page of an address, in words, was entered. The end of the entered pages is a
+    /// product, while the page of the address would be a quotient.
     #[inline(always)]
     pub fn is_entered_at(&self, address: u64) -> bool
         ensures { result ≡ nat_lt (address / self.now.pages.page_size) self.now.pages.entered }

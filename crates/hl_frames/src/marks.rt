@@ -5,8 +5,8 @@ ghost use Rattle.hl_model.specs.declared.frame.Held.{Held as HELD};
 
 use hl_model::Held;
 
-// Each changes what a frame holds, or the marks of the page in it, where it holds one: then the marks alone are written.
-// Where a call's turns are told, the visit of its frame ticks here.
+// Each changes what a frame holds, or the marks of the page in it, if it holds one: then the marks alone are
+// written. If a call's turns are told, the visit of its frame is counted here.
 
 /// The frame holds another page from now on, with no mark. One turn.
 #[inline(always)]

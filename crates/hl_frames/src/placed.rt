@@ -1,6 +1,7 @@
 ghost use Rattle.std.specs.Prelude.{◌≡◌, ℕ, ◌+◌, ◌%◌, ◌^◌, ◌<◌, ◌≤◌, min};
 
-/// A page with its frame: the page modulo F. It is kept, so that the next page's frame is had without a division.
+/// A page with its frame: the page modulo F. It is kept, so that the next page's frame is had without a
+/// division.
 #[derive(Clone, Copy)]
 pub struct Placed {
     pub page: u64,
@@ -8,7 +9,7 @@ pub struct Placed {
 }
 
 impl Placed {
-    /// The next page, where there are so many frames.
+    /// The next page, if there are so many frames.
     #[inline(always)]
     pub fn next(self, frames: usize) -> Placed
         requires placed { self.frame ≡ self.page % frames }

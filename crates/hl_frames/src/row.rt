@@ -12,7 +12,7 @@ pub(crate) struct Walk {
     pub(crate) turns: u64,
 }
 
-/// The first page from `from` on that isn't flushed, or `end` where there is none below it.
+/// Returns the first page from `from` on that isn't flushed, or `end` if there is none below it.
 #[inline(always)]
 pub(crate) fn skip_flushed(row: &[Option<Held>], from: Placed, end: u64) -> Walk
     requires placed { HasFrame from row.now }
@@ -42,7 +42,8 @@ pub(crate) fn skip_flushed(row: &[Option<Held>], from: Placed, end: u64) -> Walk
     Walk { at, turns }
 }
 
-/// The first page from `from` on that is neither flushed nor in flight, or `end` where there is none below it.
+/// Returns the first page from `from` on that is neither flushed nor in flight, or `end` if there is none
+/// below it.
 #[inline(always)]
 pub(crate) fn skip_taken(row: &[Option<Held>], from: Placed, end: u64) -> Placed
     requires placed { HasFrame from row.now }

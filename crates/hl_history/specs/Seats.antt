@@ -10,58 +10,58 @@ use Rattle.hl_history.specs.declared.view.SeatView.{SeatView}
 use Rattle.hl_history.specs.declared.view.Room.{Room}
 use Rattle.hl_history.specs.Lists.{entry, IsOf, IsOneList}
 
--- a seat that knows this list, and stands for these diaries
+-- a seat that knows this list, and stands for these records
 abbrev pub seat_of : List Step → List (List Entry) → SeatView
-seat_of list diaries = record { list = list; diaries = diaries }
+seat_of list records = record { list = list; records = records }
 
--- a diary's seat
-abbrev pub diary_seat : List Entry → SeatView
-diary_seat d = seat_of [] (d ∷ [])
+-- a record's seat
+abbrev pub record_seat : List Entry → SeatView
+record_seat d = seat_of [] (d ∷ [])
 
 -- a seat that was joined into another
 abbrev pub spent_seat : SeatView
 spent_seat = seat_of [] []
 
--- the scribe's seat at the start, which stands for all diaries
+-- the recorder's seat at the start, which stands for all records
 abbrev pub first_seat : Room → SeatView
-first_seat room = seat_of [] (replicate room.diaries [])
+first_seat room = seat_of [] (replicate room.records [])
 
--- the diaries of all seats
-abbrev pub diaries_in : List SeatView → List (List Entry)
-diaries_in [] = []
-diaries_in (v ∷ vs) = v.diaries ++ diaries_in vs
+-- the records of all seats
+abbrev pub records_in : List SeatView → List (List Entry)
+records_in [] = []
+records_in (v ∷ vs) = v.records ++ records_in vs
 
--- The seats stand for all diaries, and the scribe's list, that of seat 0, is the one list of them all
+-- The seats stand for all records, and the recorder's list, that of seat 0, is the one list of them all
 pub record IsKept (room : Room) (views : List SeatView) : Type 0 where
-  pub scribe : SeatView
-  pub seat : get_elem? views 0 ≡ some scribe
-  pub count : length (diaries_in views) ≡ room.diaries
-  pub one : IsOneList scribe.list (diaries_in views)
+  pub recorder : SeatView
+  pub seat : get_elem? views 0 ≡ some recorder
+  pub count : length (records_in views) ≡ room.records
+  pub one : IsOneList recorder.list (records_in views)
 
 -- the rule of the table
 abbrev pub Holds : Room → State (Unit {0}) SeatView → Type 0
 Holds room s = IsKept room s.views
 
--- of a look of the scribe's seat: it changed nothing, and its list begins with what its diaries' calls left
+-- of a look of the recorder's seat: it changed nothing, and its list begins with what its records' calls left
 abbrev pub Looks : TableStep (Unit {0}) → Me (Unit {0}) SeatView → ℕ → Me (Unit {0}) SeatView → Type 0
-Looks s before found after = (after ≡ before) × AllByRecursion (IsOf before.0.list) before.0.diaries
+Looks s before found after = (after ≡ before) × AllByRecursion (IsOf before.0.list) before.0.records
 
--- the seat without its first diary
+-- the seat without its first record
 abbrev pub left_seat : SeatView → SeatView
-left_seat v = seat_of v.list (drop 1 v.diaries)
+left_seat v = seat_of v.list (drop 1 v.records)
 
--- a seat with that diary alone
+-- a seat with that record alone
 abbrev pub right_seat : SeatView → SeatView
-right_seat v = seat_of [] (take 1 v.diaries)
+right_seat v = seat_of [] (take 1 v.records)
 
--- the seat without its first diary, and with these steps behind its list
+-- the seat without its first record, and with these steps behind its list
 abbrev pub left_with : List Step → SeatView → SeatView
-left_with steps v = seat_of (v.list ++ steps) (drop 1 v.diaries)
+left_with steps v = seat_of (v.list ++ steps) (drop 1 v.records)
 
--- a seat with that diary alone, and the call that put the steps there as its newest
+-- a seat with that record alone, and the call that put the steps there as its newest
 abbrev pub right_with : List Step → SeatView → SeatView
-right_with steps v = seat_of [] (map (λ d. entry v.list steps ∷ d) (take 1 v.diaries))
+right_with steps v = seat_of [] (map (λ d. entry v.list steps ∷ d) (take 1 v.records))
 
--- the seat with another's diaries before its own
+-- the seat with another's records before its own
 abbrev pub joined_seat : SeatView → SeatView → SeatView
-joined_seat v w = seat_of v.list (w.diaries ++ v.diaries)
+joined_seat v w = seat_of v.list (w.records ++ v.records)

@@ -14,7 +14,7 @@ impl TableRule<(), SeatView, Room> for ListRule {
     ghost first = { first_seat };
 }
 
-/// A look of the scribe's seat at what it knows.
+/// A look of the recorder's seat at what it knows.
 pub struct Look;
 
 impl Play<(), SeatView> for Look {
@@ -23,7 +23,7 @@ impl Play<(), SeatView> for Look {
     ghost then = { Looks };
 }
 
-/// How the scribe's seat deals a diary out, and takes one back in.
+/// How the recorder's seat deals a record out, and takes one back in.
 pub struct Deal;
 
 impl Split<SeatView> for Deal {
@@ -56,7 +56,7 @@ impl Steps for Brand {
     ghost steps = { [] };
 }
 
-/// How the scribe's seat deals a diary out, with a call of these steps as its newest.
+/// How the recorder's seat deals a record out, with a call of these steps as its newest.
 pub struct Enter<S: Steps>(PhantomData<S>);
 
 impl<S: Steps> Split<SeatView> for Enter<S> {

@@ -34,8 +34,8 @@ impl Named for Brand {
     } };
 }
 
-/// A history that nobody has opened yet: the empty list, and its diaries. It is the one witness that its table is
-/// new: it is used up by `History::open`.
+/// A history that nobody has opened yet: the empty list, and its records. It is the one witness that its
+/// table is new: it is used up by `History::open`.
 #[derive(Drop)]
 pub struct Seed {
     pub(crate) table: HistoryTable,
@@ -46,23 +46,23 @@ pub struct Seed {
 impl Model for Seed {
     ghost use Rattle.std.specs.Prelude.{◌≡◌, []};
     ghost use Rattle.hl_history.specs.Seats.{first_seat};
-    ghost use Rattle.hl_history.specs.States.{SeedState, IsTableOf, IsScribeSeat};
+    ghost use Rattle.hl_history.specs.States.{SeedState, IsTableOf, IsRecorderSeat};
 
     ghost Value = { SeedState };
 
-    ghost view = { λ s. record { diaries = s.room.diaries; table = s.table.shared.table_id } };
+    ghost view = { λ s. record { records = s.room.records; table = s.table.shared.table_id } };
 
     ghost invariant = { λ s. IsTableOf s.room s.table.shared.key s.table.shared.table_id
-        × IsScribeSeat [] (first_seat s.room).diaries s.seat.id s.seat.me
+        × IsRecorderSeat [] (first_seat s.room).records s.seat.id s.seat.me
         × (s.seat.table_id ≡ s.table.shared.table_id) };
 }
 
 impl Seed {
-    /// Makes a history with so many diaries. An error where memory was refused; then nothing is made.
-    pub fn make(alloc: Global, diaries: usize) -> Result<Seed, AllocError>
-        ensures { IfOk result (λ seed. seed.diaries ≡ diaries) }
+    /// Makes a history with so many records, or returns an error if memory is refused; then nothing is made.
+    pub fn make(alloc: Global, records: usize) -> Result<Seed, AllocError>
+        ensures { IfOk result (λ seed. seed.records ≡ records) }
     {
-        let room = Room { diaries };
+        let room = Room { records };
         let (table, seat) = laid(alloc, room)?;
         Ok(Seed { table, seat, room })
     }

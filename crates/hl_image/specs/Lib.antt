@@ -5,4 +5,3 @@ pub mod Lines
 pub mod Pages
 pub mod Places
 pub mod Rows
-pub mod Streams

@@ -1,11 +1,11 @@
 ghost use Rattle.std.specs.Prelude.{◌≡◌, ◌≤◌, length, OnOk, OnErr, IfErr};
 ghost use Rattle.std.specs.Io.KnownBytes.{Appends};
+ghost use Rattle.hl_line.specs.Streams.{BreaksOff};
 ghost use Rattle.hl_image.specs.Lines.{digits, hex, line_of};
-ghost use Rattle.hl_image.specs.Streams.{BreaksOff};
 
-use crate::stream::put;
 use crate::writer::{PageWriter, with_one_more};
 use arrayvec::ArrayVec;
+use hl_line::put;
 use hl_model::Fault;
 use std::io::Write;
 use std::marker::Model;
@@ -16,11 +16,12 @@ const DIGITS: [u8; 16] = *b"0123456789abcdef";
 /// How many bytes are written at once, each as two digits.
 const PART: usize = 32;
 
-/// A writer that writes a line of text for each page: the word `image`, a space, the page's bytes in lower-case
-/// hexadecimal, two digits a byte, and a line feed.
+/// A writer that writes a line of text for each page: the word `image`, a space, the page's bytes in
+/// lower-case hexadecimal, two digits a byte, and a line feed.
 ///
-/// The line is written in parts, so where the writer below fails, a beginning of the line may have been written. A
-/// page whose write failed is answered `Device`, and nothing is written again. No call takes memory of its own.
+/// The line is written in parts, so if the writer below fails, a beginning of the line may have been written.
+/// If a write failed, the call returns `Device`, and nothing is written again. No call takes memory of its
+/// own.
 #[derive(Drop)]
 pub struct HexWriter<W> {
     writer: W,
@@ -58,7 +59,7 @@ impl<W> HexWriter<W> {
 }
 
 impl<W: Write> PageWriter for HexWriter<W> {
-    // The page's line was appended, where the writer below tells its bytes.
+    // The page's line was appended, if the writer below tells its bytes.
     ghost wrote = { λ before page bytes after.
         Appends (W.contents before.writer) (W.contents after.writer) (line_of bytes) };
 
@@ -83,7 +84,7 @@ impl<W: Write> PageWriter for HexWriter<W> {
 
 // Writes the line of these bytes.
 //
-// Fault: `Stream` where a write failed or took no byte.
+// Fault: `Stream` if a write failed or took no byte.
 fn put_line<W: Write>(writer: &mut W, bytes: &[u8]) -> Result<(), Fault>
     ensures ok { OnOk result (Appends (W.contents writer.old) (W.contents writer.new) (line_of bytes.now)) }
     ensures err { IfErr result (λ fault. fault ≡ Fault.Stream) }

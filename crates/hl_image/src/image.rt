@@ -3,8 +3,8 @@ ghost use Rattle.hl_image.specs.Image.{image};
 
 use byteorder::{BigEndian, ByteOrder};
 
-/// Fills `out` with the image of a page: its number, then its words, each as 8 bytes, most significant byte first.
-/// `out` has 8 bytes, and 8 more for each word.
+/// Fills `out` with the image of a page: its number, then its words, each as 8 bytes, most significant byte
+/// first. `out` has 8 bytes, and 8 more for each word.
 pub fn image_of(page: u64, words: &[u64], out: &mut [u8])
     requires { length out.old ≡ 8 + 8 * length words.now }
     ensures { out.new ≡ image page words.now }

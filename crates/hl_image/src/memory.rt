@@ -10,8 +10,8 @@ use row::Row;
 use std::alloc::Global;
 use std::marker::Model;
 
-/// A writer that keeps the images of its pages in memory: a row of bytes for each page from 0 on. After opening no
-/// call takes memory.
+/// A writer that keeps the images of its pages in memory: a row of bytes for each page from 0 on. After
+/// opening no call takes memory.
 #[derive(Drop)]
 pub struct MemoryWriter {
     rows: Vec<Row>,
@@ -36,9 +36,10 @@ impl Model for MemoryWriter {
 }
 
 impl MemoryWriter {
-    /// A writer of the pages 0 to `pages` - 1, each of `bytes` bytes. None is written, and no write is to fail.
+    /// Returns a writer of the pages 0 to `pages` - 1, each of `bytes` bytes. None is written, and no write
+    /// is to fail.
     ///
-    /// Fault: `OutOfMemory` where memory is refused.
+    /// Fault: `OutOfMemory` if memory is refused.
     pub fn open(alloc: Global, pages: u64, bytes: u64) -> Result<MemoryWriter, Fault>
         ensures ok { IfOk result (λ writer. writer ≡ opened pages bytes) }
         ensures err { IfErr result (λ fault. fault ≡ Fault.OutOfMemory) }
@@ -57,23 +58,23 @@ impl MemoryWriter {
         })
     }
 
-    /// From now on the k-th write fails, counted from 1 at the opening, and no other but for its page or its length.
-    /// With 0 none does.
+    /// From now on the k-th write fails, counted from 1 at the opening, and no other but for its page or its
+    /// length. With 0 none does.
     pub fn fail_at(&mut self, k: u64)
         ensures { self.new ≡ record self.old { fails_at = k } }
     {
         self.fails_at = k;
     }
 
-    /// The bytes of a page. None until a write of that page was answered Ok, and beyond the last page.
+    /// Returns the bytes of a page, or None until a write of that page returned Ok, and beyond the last page.
     pub fn image(&self, page: u64) -> Option<&[u8]>
         ensures { option_copied result ≡ image_at page self.now }
     {
         self.rows.get(page as usize)?.image()
     }
 
-    // Whether a write of so many bytes fails: it is the one that is to fail, there is no such page, or an image
-    // hasn't that many.
+    // Whether a write of so many bytes fails: it is the one that is to fail, there is no such page, or an
+    // image hasn't that many.
     fn refuses(&self, page: u64, len: usize) -> bool
         ensures { result ≡ is_refused self.now page len }
     {

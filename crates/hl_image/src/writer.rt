@@ -8,7 +8,7 @@ const FAILURES_LAST: u64 = 1 << 62;
 
 /// What takes the images of pages: a device, or what stands for one.
 pub trait PageWriter {
-    /// What a write that was answered Ok did: the writer before, the page, its bytes, the writer after.
+    /// What a write that returned Ok did: the writer before, the page, its bytes, the writer after.
     ghost wrote: { Self → ℕ → List ℕ → Self → Type 0 };
 
     /// What a write that failed did, told the same.
@@ -22,7 +22,7 @@ pub trait PageWriter {
 
     /// Writes the bytes of a page.
     ///
-    /// Fault: `Device` where they could not be written; the failure is counted.
+    /// Fault: `Device` if they could not be written; the failure is counted.
     fn write_page(&mut self, page: u64, bytes: &[u8]) -> Result<(), Fault>
         ensures ok { OnOk result (wrote self.old page bytes.now self.new) }
         ensures none_counted { OnOk result (failures self.new ≡ failures self.old) }
@@ -39,8 +39,8 @@ pub trait PageWriter {
         ensures most { result ≤ 2 ^ 62 };
 }
 
-/// A count of failures with one more.
-pub(crate) fn with_one_more(failures: u64) -> u64
+/// Returns a writer's count of failures with one more; it stays at 2^62.
+pub fn with_one_more(failures: u64) -> u64
     requires { failures ≤ 2 ^ 62 }
     ensures value { result ≡ one_more failures }
     ensures most { result ≤ 2 ^ 62 }

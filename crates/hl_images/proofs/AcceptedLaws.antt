@@ -34,7 +34,7 @@ use Rattle.hl_images.proofs.WriterLaws.{writes_both, writes_front, walk_to, find
 parts_of_touches : (all late quiet old before recent oldest : List Touch) (t s : Touch) → all ≡ late ++ (quiet ++ old) → old ≡ t ∷ before → before ≡ recent ++ s ∷ oldest → all ≡ late ++ (quiet ++ t ∷ (recent ++ s ∷ oldest))
 parts_of_touches all late quiet old before recent oldest t s a b c = a ∙ ap (λ (l : List Touch). late ++ (quiet ++ l)) (b ∙ ap (λ (l : List Touch). t ∷ l) c)
 
--- the calls before one of a diary, and those behind it
+-- the calls before one of a rider's, and those behind it
 rises_back : (newer : List Entry) (call : Entry) (earlier : List Entry) → Rises (newer ++ call ∷ earlier) → Rises (call ∷ earlier)
 rises_back [] call earlier h = h
 rises_back (e ∷ newer) call earlier h = rises_back newer call earlier h.1

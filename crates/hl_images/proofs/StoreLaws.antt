@@ -16,7 +16,7 @@ use Rattle.hl_images.specs.Entered.{newest_writes, swept_by, IsSweepOf, AreEnter
 use Rattle.hl_images.proofs.PlaceLaws.{every_place}
 use Rattle.hl_images.proofs.WalkLaws.{newest_every}
 
--- A call of a diary among the touches, with what stands before it
+-- A call of a rider among the touches, with what stands before it
 pub record CallAt (sizes : Sizes) (Q : Entry → Type 0) (ts : List Touch) (e : Entry) : Type 0 where
   pub late : List Touch
   pub met : Extent

@@ -62,10 +62,10 @@ enters_range p e h = by (nat_le (length e.before) p) refl (nat_lt p (length e.be
     by false x false y k = absurd (omega (arith, k))
 
 -- the call that entered the step at a place of the one list
-pub record EnteredAt (diaries : List (List Entry)) (p : ℕ) (x : Step) : Type 0 where
-  pub diary : ℕ
+pub record EnteredAt (records : List (List Entry)) (p : ℕ) (x : Step) : Type 0 where
+  pub whose : ℕ
   pub calls : List Entry
-  pub diary_at : slice_get diaries diary ≡ Some calls
+  pub record_at : slice_get records whose ≡ Some calls
   pub number : ℕ
   pub call : Entry
   pub call_at : slice_get calls number ≡ Some call
@@ -74,15 +74,15 @@ pub record EnteredAt (diaries : List (List Entry)) (p : ℕ) (x : Step) : Type 0
   pub step : ℕ
   pub step_at : slice_get call.steps step ≡ Some x
 
-pub entered_call : (list : List Step) (diaries : List (List Entry)) → IsOneList list diaries → (p : ℕ) (x : Step) → slice_get list p ≡ Some x → EnteredAt diaries p x
-entered_call list diaries one p x here =
-    let l = some_positive (entered_at p) diaries (omega (arith, one.once p (within list p x here))) in
+pub entered_call : (list : List Step) (records : List (List Entry)) → IsOneList list records → (p : ℕ) (x : Step) → slice_get list p ≡ Some x → EnteredAt records p x
+entered_call list records one p x here =
+    let l = some_positive (entered_at p) records (omega (arith, one.once p (within list p x here))) in
     let e = some_positive (enters_at p) l.1 l.3 in
     let range = enters_range p e.1 e.3 in
-    let of_l : IsOf list l.1 = every_at (IsOf list) diaries one.each l.0 l.1 l.2 in
+    let of_l : IsOf list l.1 = every_at (IsOf list) records one.each l.0 l.1 l.2 in
     let starts : Begins (left_by e.1) list = every_at (λ (x : Entry). Begins (left_by x) list) l.1 of_l.begins e.0 e.1 e.2 in
     let inside = in_middle e.1.before e.1.steps starts.0 p x (subst (λ (z : List Step). slice_get z p ≡ Some x) starts.1 here) range.0 range.1 in
-    record { diary = l.0; calls = l.1; diary_at = l.2; number = e.0; call = e.1; call_at = e.2; low = range.0; high = range.1; step = inside.0; step_at = inside.1 }
+    record { whose = l.0; calls = l.1; record_at = l.2; number = e.0; call = e.1; call_at = e.2; low = range.0; high = range.1; step = inside.0; step_at = inside.1 }
 
 -- steps that write nothing at the address keep its word
 none_given : (a d : ℕ) (xs : List Step) → WritesNothing a xs → last_given (written_at a) d xs ≡ d
@@ -95,20 +95,20 @@ unfolding last_given
 written a t w d xs h =
     ap (λ (b : Bool). last_given (written_at a) (unwrap_or (if b then Some w else None) d) xs) (eq-eqb a a refl) ∙ none_given a w xs h
 
--- an earlier call of a diary left a list that a later one's begins with
+-- an earlier call of a rider left a list that a later one's begins with
 earlier_low : (newer : List Entry) (call : Entry) (earlier : List Entry) → Rises (newer ++ call ∷ earlier) → Every (λ (e : Entry). Begins (left_by e) call.before) earlier
 earlier_low [] call earlier h = h.0
 earlier_low (x ∷ newer) call earlier h = earlier_low newer call earlier h.1
 
--- which part of a diary a call is in
+-- which part of a rider's calls a call is in
 in_part : (newer : List Entry) (call : Entry) (earlier : List Entry) (i : ℕ) (e : Entry) → slice_get (newer ++ call ∷ earlier) i ≡ Some e → (P : Entry → Type 0) → Every P newer → P call → Every P earlier → P e
 in_part newer call earlier i e at P a b c = every_at P (newer ++ call ∷ earlier) (every_append P newer (call ∷ earlier) a (b, c)) i e at
 
-module _ (a w t j : ℕ) (list : List Step) (diaries : List (List Entry)) (d newer : List Entry) (call : Entry) (earlier : List Entry) (first rest : List Step)
-    (one : IsOneList list diaries) (at : slice_get diaries j ≡ Some d) (is : d ≡ newer ++ call ∷ earlier) (none : CallsWriteNothing a newer) (steps : call.steps ≡ first ++ Write t a w ∷ rest) (newest : WritesNothing a rest)
-    (others : (l : ℕ) (q : List Entry) → slice_get diaries l ≡ Some q → l ≢ j → CallsWriteNothing a q) where
+module _ (a w t j : ℕ) (list : List Step) (records : List (List Entry)) (d newer : List Entry) (call : Entry) (earlier : List Entry) (first rest : List Step)
+    (one : IsOneList list records) (at : slice_get records j ≡ Some d) (is : d ≡ newer ++ call ∷ earlier) (none : CallsWriteNothing a newer) (steps : call.steps ≡ first ++ Write t a w ∷ rest) (newest : WritesNothing a rest)
+    (others : (l : ℕ) (q : List Entry) → slice_get records l ≡ Some q → l ≢ j → CallsWriteNothing a q) where
   mine : IsOf list (newer ++ call ∷ earlier)
-  mine = subst (IsOf list) is (every_at (IsOf list) diaries one.each j d at)
+  mine = subst (IsOf list) is (every_at (IsOf list) records one.each j d at)
 
   begins : Begins (left_by call) list
   begins = (every_back (λ (e : Entry). Begins (left_by e) list) newer (call ∷ earlier) mine.begins).0
@@ -119,10 +119,10 @@ module _ (a w t j : ℕ) (list : List Step) (diaries : List (List Entry)) (d new
   -- no step behind the call writes there
   behind : (p : ℕ) (x : Step) → length (left_by call) ≤ p → slice_get list p ≡ Some x → written_at a x ≡ None
   behind p x le here =
-      let e = entered_call list diaries one p x here in
+      let e = entered_call list records one p x here in
       ⊎_elim
-      (λ (same : e.diary ≡ j).
-      let both : Some e.calls ≡ Some d = sym e.diary_at ∙ ap (slice_get diaries) same ∙ at in
+      (λ (same : e.whose ≡ j).
+      let both : Some e.calls ≡ Some d = sym e.record_at ∙ ap (slice_get records) same ∙ at in
       let own : e.calls ≡ d = cc both in
       in_part newer call earlier e.number e.call (subst (λ (q : List Entry). slice_get q e.number ≡ Some e.call) (own ∙ is) e.call_at)
       (λ y. (i : ℕ) → slice_get y.steps i ≡ Some x → p < length y.before + length y.steps → written_at a x ≡ None)
@@ -130,8 +130,8 @@ module _ (a w t j : ℕ) (list : List Step) (diaries : List (List Entry)) (d new
       (λ i k less. absurd (omega (arith, less, le, length-append call.before call.steps)))
       (from_earlier earlier low)
       e.step e.step_at e.high)
-      (λ (apart : e.diary ≢ j). every_at (λ (s : Step). written_at a s ≡ None) e.call.steps (every_at (λ (y : Entry). WritesNothing a y.steps) e.calls (others e.diary e.calls e.diary_at apart) e.number e.call e.call_at) e.step x e.step_at)
-      (cases_eq e.diary j)
+      (λ (apart : e.whose ≢ j). every_at (λ (s : Step). written_at a s ≡ None) e.call.steps (every_at (λ (y : Entry). WritesNothing a y.steps) e.calls (others e.whose e.calls e.record_at apart) e.number e.call e.call_at) e.step x e.step_at)
+      (cases_eq e.whose j)
     where
       from_newer : (es : List Entry) → CallsWriteNothing a es → Every (λ (y : Entry). (i : ℕ) → slice_get y.steps i ≡ Some x → p < length y.before + length y.steps → written_at a x ≡ None) es
       from_newer [] h = tt
@@ -195,6 +195,6 @@ none_wrote a list riders one none =
     (every_from (λ (s : Step). written_at a s ≡ None) list
     (λ p x here.
     let e = entered_call list (map (λ (z : RiderState). z.calls) riders) one p x here in
-    let q = whose_calls riders e.diary e.calls e.diary_at in
-    let nothing : CallsWriteNothing a e.calls = subst (CallsWriteNothing a) q.2 (none e.diary q.0 q.1) in
+    let q = whose_calls riders e.whose e.calls e.record_at in
+    let nothing : CallsWriteNothing a e.calls = subst (CallsWriteNothing a) q.2 (none e.whose q.0 q.1) in
     every_at (λ (s : Step). written_at a s ≡ None) e.call.steps (every_at (λ (y : Entry). WritesNothing a y.steps) e.calls nothing e.number e.call e.call_at) e.step x e.step_at))

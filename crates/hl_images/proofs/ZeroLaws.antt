@@ -145,14 +145,14 @@ module _ (sizes : Sizes) (whole : List Step) (page_some : 0 < sizes.page_size) (
       let all : whole ≡ X ++ CleanDone q ∷ (f.1 ++ bA.0) = bA.1 ∙ ap (λ (l : List Step). l ++ bA.0) f.2 ∙ append_assoc X (CleanDone q ∷ f.1) bA.0 in
       let here : slice_get whole (length X) ≡ Some (CleanDone q) = ap (λ (l : List Step). slice_get l (length X)) all ∙ at_place X (CleanDone q) (f.1 ++ bA.0) in
       let e = entered_call whole (map (λ (z : RiderState). z.calls) riders) one (length X) (CleanDone q) here in
-      let r = whose_calls riders e.diary e.calls e.diary_at in
+      let r = whose_calls riders e.whose e.calls e.record_at in
       let own : slice_get r.0.calls e.number ≡ Some e.call = subst (λ (l : List Entry). slice_get l e.number ≡ Some e.call) (sym r.2) e.call_at in
-      let one_call : IsOneCall e.call.steps = every_at (λ (x : Entry). IsOneCall x.steps) r.0.calls (every_at (StoresEnter sizes whole) riders enter e.diary r.0 r.1).calls e.number e.call own in
-      let begins : Begins (left_by e.call) whole = every_at (λ (x : Entry). Begins (left_by x) whole) r.0.calls (of e.diary r.0 r.1).begins e.number e.call own in
+      let one_call : IsOneCall e.call.steps = every_at (λ (x : Entry). IsOneCall x.steps) r.0.calls (every_at (StoresEnter sizes whole) riders enter e.whose r.0 r.1).calls e.number e.call own in
+      let begins : Begins (left_by e.call) whole = every_at (λ (x : Entry). Begins (left_by x) whole) r.0.calls (of e.whose r.0 r.1).begins e.number e.call own in
       let next : Begins (X ++ CleanDone q ∷ []) whole = (f.1 ++ bA.0, all ∙ sym (append_assoc X (CleanDone q ∷ []) (f.1 ++ bA.0))) in
       let alone = own_call sizes whole page_some frames_some accepted X (CleanDone q) refl refl next e.call begins one_call e.low (omega (arith, e.high, length-append e.call.before e.call.steps)) in
       record {
-        s = e.diary;
+        s = e.whose;
         r = r.0;
         at = r.1;
         call = e.call;

@@ -14,10 +14,11 @@ use hl_action::{Promise, Task};
 use hl_domain::{Domain, Epochs, Fault, Load, Realm, Rider};
 use std::sync::Wait;
 
-/// Takes the least sealed page that is neither flushed nor in flight, and copies its words into P places, by one rider.
-/// That the copy is an image of the page follows once this rider has answered the page as flushed: see [`answer_copy`].
+/// Takes the least sealed page that is neither flushed nor in flight, and copies its words into P places, by
+/// one rider. That the copy is an image of the page follows once this rider has answered the page as flushed:
+/// see [`answer_copy`].
 ///
-/// Faults, those of a flush take: `JournalFull`, `NoneSealed`; then nothing is copied.
+/// Faults: those of a flush take, `JournalFull` and `NoneSealed`; then nothing is copied.
 pub fn copy_next<E: Epochs + Drop, F: Task, P: Promise, L: Realm>(
     rt: &impl Wait,
     domain: &Domain<E, F, P, L>,
@@ -47,9 +48,9 @@ pub fn copy_next<E: Epochs + Drop, F: Task, P: Promise, L: Realm>(
     }
 }
 
-/// Answers a page that this rider took and copied: flushed, if its image was written, else it may be taken again. If it was
-/// written and the call is accepted, the rider has flushed the words that it copied, which are an image of the page once
-/// the domain is ended: [`flushed_is_imaged`](crate::laws::flushed_is_imaged).
+/// Answers a page that this rider took and copied: flushed, if its image was written, else it may be taken
+/// again. If it was written and the call is accepted, the rider has flushed the words that it copied, which
+/// are an image of the page once the domain is ended: [`flushed_is_imaged`](crate::laws::flushed_is_imaged).
 ///
 /// Faults, with the load handed back: those of [`Domain::flush_done`].
 pub fn answer_copy<E: Epochs + Drop, F: Task, P: Promise, L: Realm>(
@@ -70,11 +71,11 @@ pub fn answer_copy<E: Epochs + Drop, F: Task, P: Promise, L: Realm>(
     domain.flush_done(rt, rider, load, written)
 }
 
-/// Takes the least sealed page that is neither flushed nor in flight, copies its words into P places, and answers it as
-/// flushed, by one rider: for a log whose device is this memory. Returns the page and the flushed offset. The words are an
-/// image of the page once the domain is ended.
+/// Takes the least sealed page that is neither flushed nor in flight, copies its words into P places, and
+/// tells that it is flushed, by one rider: for a log whose device is this memory. Returns the page and the
+/// flushed offset. The words are an image of the page once the domain is ended.
 ///
-/// Faults, those of a flush take and of [`answer_copy`]; where the answer was refused, with the page's load.
+/// Faults: those of a flush take and of [`answer_copy`]; the latter with the page's load.
 pub fn flush_next<E: Epochs + Drop, F: Task, P: Promise, L: Realm>(
     rt: &impl Wait,
     domain: &Domain<E, F, P, L>,

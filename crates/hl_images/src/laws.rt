@@ -1,4 +1,5 @@
-//! What follows from a page's flush and from a domain's ending: each law the contract of a function that does nothing.
+//! What follows from a page's flush and from a domain's ending: each law the contract of a function that does
+//! nothing.
 ghost use Rattle.hl_model.specs.Sizes.{Sizes as SIZES};
 ghost use Rattle.hl_images.specs.Accepted.{ImagesAreWords, ImagesAreWrites, ImagesAreZero};
 ghost use Rattle.hl_images.specs.Flushes.{LaterStates, TakenIsCopied, AnsweredIsFlushed, CopiedStays, FlushedStays, FlushedIsImaged};
@@ -50,8 +51,8 @@ pub fn flushed_by_two_is_imaged<F: Task>()
     ensures { FlushedByTwoIsImaged F }
 {}
 
-/// A word of an image is that of the one list, where one rider alone writes at its address and stores into its cell, as the
-/// lists of all riders tell.
+/// A word of an image is that of the one list, if one rider alone writes at its address and stores into its
+/// cell, as the lists of all riders tell.
 pub fn images_hold_words()
     ensures { ImagesHoldWords }
 {}
@@ -66,41 +67,42 @@ pub fn later_stays_above()
     ensures { LaterStaysAbove }
 {}
 
-/// A word of an image is that of the one list, where no rider but one wrote at its address, and each store of any rider is a
-/// write that its calls entered, or a 0 of its sweeps.
+/// A word of an image is that of the one list, if no rider but one wrote at its address, and each store of
+/// any rider is a write that its calls entered, or a 0 of its sweeps.
 pub fn images_are_words<F: Task>()
     ensures { ImagesAreWords F }
 {}
 
-/// Where more than one rider wrote at its address, a word of an image is what one of them wrote there last.
+/// If more than one rider wrote at its address, a word of an image is what one of them wrote there last.
 pub fn images_are_writes<F: Task>()
     ensures { ImagesAreWrites F }
 {}
 
-/// Where nobody wrote at its address, a word of an image is 0.
+/// If nobody wrote at its address, a word of an image is 0.
 pub fn images_are_zero<F: Task>()
     ensures { ImagesAreZero F }
 {}
 
-/// Where each rider only added at its address, or only sweeps pages, a word of an image of the first page of a frame is the
-/// sum of all that was added, modulo 2^64.
+/// If each rider only added at its address, or only sweeps pages, a word of an image of the first page of a
+/// frame is the sum of all that was added, modulo 2^64.
 pub fn images_are_sums<F: Task>()
     ensures { ImagesAreSums F }
 {}
 
-/// So it is on each page, where the stores of the other riders are writes that their calls entered elsewhere, or 0s of their
-/// sweeps.
+/// So it is on each page, if the stores of the other riders are writes that their calls entered elsewhere, or
+/// 0s of their sweeps.
 pub fn images_are_sums_anywhere<F: Task>()
     ensures { ImagesAreSumsAnywhere F }
 {}
 
-/// Each store of a rider without a pass stays a write that its calls entered, or a 0 of its sweeps, by all that such a rider
-/// does.
+/// Each store of a rider without a pass stays a write that its calls entered, or a 0 of its sweeps, by all
+/// that such a rider does.
 pub fn riders_stay_entered()
     ensures { (sizes : SIZES) → RidersStayEntered sizes }
 {}
 
-/// Each store of a pass's rider stays a write that its calls entered, or one that waits, by all that a pass does.
+/// Each store of a pass's rider stays a write that its calls entered, or one that waits, by all that a pass
+/// does.
 pub fn passes_stay_entered()
     ensures { (sizes : SIZES) → PassesStayEntered sizes }
 {}

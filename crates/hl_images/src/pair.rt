@@ -16,8 +16,8 @@ use hl_action::{Promise, Task};
 use hl_domain::{Domain, Epochs, Fault, Load, PageJob, Past, Realm, Rider};
 use std::sync::Wait;
 
-/// Takes the least sealed page that is neither flushed nor in flight, for another rider to copy. Returns the page's load,
-/// and the past of this rider, to be told to the other.
+/// Takes the least sealed page that is neither flushed nor in flight, for another rider to copy. Returns the
+/// page's load, and the past of this rider, to be told to the other.
 ///
 /// Faults, those of a flush take: `JournalFull`, `NoneSealed`.
 pub fn take_for_copier<E: Epochs + Drop, F: Task, P: Promise, L: Realm>(
@@ -41,10 +41,10 @@ pub fn take_for_copier<E: Epochs + Drop, F: Task, P: Promise, L: Realm>(
     }
 }
 
-/// Copies the words of a page that another rider took, into P places, after this rider is told the other's past. Returns
-/// the past of this rider, to be told to the other.
+/// Copies the words of a page that another rider took, into P places, after this rider is told the other's
+/// past. Returns the past of this rider, to be told to the other.
 ///
-/// `Stranger` where the page is of another domain; then nothing is copied.
+/// `Stranger` if the page is of another domain; then nothing is copied.
 pub fn copy_for_flusher<E: Epochs + Drop, F: Task, P: Promise, L: Realm>(
     domain: &Domain<E, F, P, L>,
     copier: &mut Rider<L>,
@@ -69,10 +69,10 @@ pub fn copy_for_flusher<E: Epochs + Drop, F: Task, P: Promise, L: Realm>(
     }
 }
 
-/// Answers a page that this rider took and another copied: flushed, if its image was written, else it may be taken again.
-/// This rider is told the copier's past before. If the page was written and the call is accepted, the two have flushed the
-/// words that the other copied, which are an image of the page once the domain is ended:
-/// [`flushed_by_two_is_imaged`](crate::laws::flushed_by_two_is_imaged).
+/// Answers a page that this rider took and another copied: flushed, if its image was written, else it may be
+/// taken again. This rider is told the copier's past before. If the page was written and the call is
+/// accepted, the two have flushed the words that the other copied, which are an image of the page once the
+/// domain is ended: [`flushed_by_two_is_imaged`](crate::laws::flushed_by_two_is_imaged).
 ///
 /// Faults, with the load handed back: those of [`Domain::flush_done`].
 pub fn answer_for_copier<E: Epochs + Drop, F: Task, P: Promise, L: Realm>(

@@ -1,16 +1,20 @@
 -- What is found in a trace, line after line.
-use Rattle.std.proofs.Common.{◌≡◌, ◌<◌, ℕ, ◌+◌, Bool, true, false, cond, List, [], ◌∷◌, ◌++◌, length, refl, sym, ap, ◌∙◌, subst, append_assoc, append-nil, arith, length-append}
-use Rattle.std.specs.Prelude.{Option, Some, None, IfSome, OnSome, Err, bytes_eq}
+use Rattle.std.proofs.Common.{◌≡◌, ◌<◌, ℕ, ◌+◌, ◌-◌, take, Bool, true, false, cond, List, [], ◌∷◌, ◌++◌, length, refl, sym, ap, ◌∙◌, subst, append_assoc, append-nil, arith, length-append}
+use Rattle.std.specs.Prelude.{Option, Some, None, IfSome, OnSome, Ok, Err, bytes_eq, codes}
 use Rattle.std.specs.Option.{option_map_or}
 use Rattle.std.specs.List.{list_any}
 use Rattle.std.specs.Io.KnownBytes.{Consumes, IsAtEnd}
 use Rattle.std.proofs.lemmas.List.{length_push}
+use Rattle.std.proofs.Math.Seq.{take-append_seam}
 use Rattle.hl_model.specs.declared.fault.Fault.{Fault}
 use Rattle.hl_model.specs.declared.fault.Fault.TheVariants.{OutOfMemory, Stream}
 use Rattle.hl_line.specs.declared.line.Line.{Line}
 use Rattle.hl_model.specs.Lists.{until_last}
 use Rattle.hl_script.specs.Cut.{cut, whole_lines}
-use Rattle.hl_script.specs.Interpreter.{is_end}
+use Rattle.hl_script.specs.Interpreter.{is_end, Answered, Answers}
+use Rattle.hl_line.specs.declared.line.Line.TheVariants.{Config, Step as Makes, Status, Pending, Frames}
+use Rattle.std.proofs.lemmas.Bool.{false≢true}
+use Rattle.hl_script.specs.Lines.{is_config, may_stand}
 use Rattle.hl_script.specs.Answers.{reply_line}
 use Rattle.hl_script.proofs.CutLaws.{cut-nil, cut-line, cut-begun, cut-last}
 use Rattle.hl_script.proofs.ReachLaws.{whole-end}
@@ -159,6 +163,56 @@ deviates has before bytes answer line is e = λ others.
 pub no_entry : (has : ℕ → Bool) (before : List Line) (bytes : List ℕ) (line : ℕ) → line ≡ length before + 1 → entry_of before bytes ≡ None
     → (others : List (List ℕ)) → judged_after has before (bytes ∷ others) ≡ NoEntry line
 no_entry has before bytes line is none = λ others. after_no_entry has before bytes others none ∙ ap NoEntry (sym is)
+
+-- an entry of which both parts are there, at a line that may stand where it does
+pub is_entry : (before : List Line) (bytes reply : List ℕ) (line : Line) → entry_of before bytes ≡ cond (may_stand before line) (Some (record { line = line; reply = reply })) None → may_stand before line ≡ true → entry_of before bytes ≡ Some (record { line = line; reply = reply })
+is_entry before bytes reply line exact may = exact ∙ ap (λ b. cond b (Some (record { line = line; reply = reply })) None) may
+
+pub entry_agrees : (stands : (ℕ → Bool) → List Line → Type 0) (has : ℕ → Bool) (before : List Line) (bytes reply answer : List ℕ) (line : Line) → entry_of before bytes ≡ cond (may_stand before line) (Some (record { line = line; reply = reply })) None → may_stand before line ≡ true
+    → answer ≡ reply_line has before line → bytes_eq reply answer ≡ true → stands has (before ++ line ∷ []) → EntryAgrees stands has before bytes
+entry_agrees stands has before bytes reply answer line exact may is same standing = record {
+  entry = record { line = line; reply = reply };
+  is_entry = is_entry before bytes reply line exact may;
+  same = ap (bytes_eq reply) (sym is) ∙ same;
+  standing = standing;
+}
+
+pub entry_deviates : (has : ℕ → Bool) (before : List Line) (bytes reply answer : List ℕ) (line : Line) → entry_of before bytes ≡ cond (may_stand before line) (Some (record { line = line; reply = reply })) None → may_stand before line ≡ true
+    → answer ≡ reply_line has before line → bytes_eq reply answer ≡ false → EntryDeviates has before bytes answer
+entry_deviates has before bytes reply answer line exact may is other = record {
+  entry = record { line = line; reply = reply };
+  is_entry = is_entry before bytes reply line exact may;
+  other = ap (bytes_eq reply) (sym is) ∙ other;
+  is_answer = is;
+}
+
+-- a line was answered, or it is a config
+pub answered_none : (stands : (ℕ → Bool) → List Line → Type 0) (lacks : Line → Bool) (has : ℕ → Bool) (before : List Line) (line : Line) (old new : Option (List ℕ)) (r : Option Bool) → r ≡ None → Answers stands lacks has before line old new (Ok r) → is_config line ≡ true
+answered_none stands lacks has before line old new r is a = (subst (λ r. Answers stands lacks has before line old new (Ok r)) is a).0
+
+pub answered_some : (stands : (ℕ → Bool) → List Line → Type 0) (lacks : Line → Bool) (has : ℕ → Bool) (before : List Line) (line : Line) (old new : Option (List ℕ)) (r : Option Bool) (counted : Bool) → r ≡ Some counted → Answers stands lacks has before line old new (Ok r) → Answered stands has before line old new counted
+answered_some stands lacks has before line old new r counted is a = subst (λ r. Answers stands lacks has before line old new (Ok r)) is a
+
+-- an answer without its LF
+pub popped : (text old new : List ℕ) (n : ℕ) → old ≡ text ++ 10 ∷ [] → new ≡ take (n - 1) old → n ≡ length old → new ≡ text
+popped text old new n is rest all =
+    let whole : n - 1 ≡ length text = omega (arith, all, ap length is, length-append text (10 ∷ [])) in
+    rest ∙ ap (take (n - 1)) is ∙ ap (λ k. take k (text ++ 10 ∷ [])) whole ∙ take-append_seam text (10 ∷ [])
+
+-- what a config is answered
+pub opened_text : (has : ℕ → Bool) (line : Line) → is_config line ≡ true → codes "opened" ≡ reply_line has [] line
+opened_text has (Config sizes) is = refl
+opened_text has (Makes step) is = absurd (false≢true is)
+opened_text has Status is = absurd (false≢true is)
+opened_text has Pending is = absurd (false≢true is)
+opened_text has Frames is = absurd (false≢true is)
+
+-- the config agrees
+pub come_first : (stands : (ℕ → Bool) → List Line → Type 0) (has : ℕ → Bool) (bytes reply : List ℕ) (line : Line) → entry_of [] bytes ≡ cond (may_stand [] line) (Some (record { line = line; reply = reply })) None → is_config line ≡ true → bytes_eq reply (codes "opened") ≡ true
+    → stands has (line ∷ []) → list_any is_end bytes ≡ false → Come has (bytes ++ 10 ∷ []) (line ∷ [])
+unfolding entry_agrees
+come_first stands has bytes reply line exact is same standing h =
+    come_more stands has [] [] bytes (come_start has) h (entry_agrees stands has [] bytes reply (codes "opened") line exact is (opened_text has line is) same standing)
 
 -- a judge stopped behind these lines
 pub stopped : (has : ℕ → Bool) (given mid left : Option (List ℕ)) (done : List ℕ) (before : List Line) (rest : List ℕ) → Consumes given mid done → Come has done before → Consumes mid left rest → StoppedBehind has given left done rest

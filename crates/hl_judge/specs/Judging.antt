@@ -43,20 +43,13 @@ LineRead given left bytes (Some AtInput) =
     ReadInLine given left bytes × OnSome given (IsAtEnd left) × (0 < length bytes)
 LineRead given left bytes (Some AtCut) = ReadInLine given left bytes × (longest < length bytes)
 
--- a machine answered a line after those before it, and its answer was compared with a reply
-pub record Compared (stands : (ℕ → Bool) → List Line → Type 0) (has : ℕ → Bool) (before : List Line)
-    (line : Line) (reply answer : List ℕ) (agrees : Bool) : Type 0 where
-  pub is_answer : answer ≡ reply_line has before line
-  pub compares : agrees ≡ bytes_eq reply answer
-  pub standing : stands has (before ++ line ∷ [])
-
 -- the faults of a read into memory
 abbrev pub IsReadFault : Fault → Type 0
 IsReadFault OutOfMemory = Unit {0}
 IsReadFault Stream = Unit {0}
 IsReadFault _ = ⊥
 
--- the entry's reply is the one that the definitions give, and a machine stands behind its line
+-- the entry's reply is the one that the definitions give, and what answers stands behind its line
 pub record EntryAgrees (stands : (ℕ → Bool) → List Line → Type 0) (has : ℕ → Bool) (before : List Line)
     (bytes : List ℕ) : Type 0 where
   pub entry : Entry

@@ -1,7 +1,8 @@
-//! A judge of traces: whether the replies that some engine gave to a script's lines are those of the definitions.
+//! A judge of traces: whether the replies that some engine gave to a script's lines are those of the
+//! definitions.
 //!
-//! A trace is a list of bytes, cut into lines at each LF. Each of its lines is a script's line, ` -> ` and a reply.
-//! What a judge says of it is a function of its bytes and of the tags that have a job: `judged` of
+//! A trace is a list of bytes, cut into lines at each LF. Each of its lines is a script's line, ` -> ` and a
+//! reply. What a judge says of it is a function of its bytes and of the tags that have a job: `judged` of
 //! `specs/Traces.antt`, by the replies of hl_script's definitions.
 //!
 //! [`judge`] says so by an engine of its own, line by line, and keeps no more of a trace than one line.

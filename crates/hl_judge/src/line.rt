@@ -5,7 +5,7 @@ ghost use Rattle.hl_line.specs.Reading.{line_of};
 use arrayvec::ArrayVec;
 use hl_line::{Line, read_front};
 
-/// The line of a script that these bytes spell, if there is one.
+/// Returns the line of a script that these bytes spell, if there is one.
 pub(crate) fn read(bytes: &[u8]) -> Option<Line>
     ensures exact { result ≡ line_of bytes.now }
     ensures fits { IfSome result Fits }
@@ -16,7 +16,7 @@ pub(crate) fn read(bytes: &[u8]) -> Option<Line>
     }
 }
 
-/// A line of which scripts have most is read in one pass, with an LF behind it. None of any other.
+/// The same for a line of which scripts have most, read in one pass with an LF behind it. None of any other.
 fn usual(bytes: &[u8]) -> Option<Line>
     ensures { IfSome result (λ line. Fits line × (spelling line ≡ bytes.now)) }
 {

@@ -30,9 +30,10 @@ enum Part {
     Input,
 }
 
-/// Reads a line without its LF, and no more of it than a line has and one byte. None where the input has ended.
+/// Reads a line without its LF, and no more of it than a line has and one byte. Returns how the read ended,
+/// None if the input has ended.
 ///
-/// Faults: `Stream` where a read failed; `OutOfMemory`.
+/// Faults: `Stream` if a read failed; `OutOfMemory`.
 pub(crate) fn read_line_of<R: BufRead>(
     reader: &mut R,
     bytes: &mut Vec<u8>,
@@ -60,9 +61,9 @@ pub(crate) fn read_line_of<R: BufRead>(
     Ok(Some(Ending::Cut))
 }
 
-/// Appends what the reader has at hand of a line.
+/// Appends what the reader has at hand of a line, and returns what that was.
 ///
-/// Faults: `Stream` where a read failed; `OutOfMemory`. Nothing was taken from the reader.
+/// Faults: `Stream` if a read failed; `OutOfMemory`. Nothing was taken from the reader.
 fn read_part<R: BufRead>(reader: &mut R, bytes: &mut Vec<u8>) -> Result<Part, Fault>
     requires { vec_len bytes.old ≤ LONGEST }
     ensures ok { IfOk result (λ read. (part : List ℕ) × (bytes.new.items ≡ bytes.old.items ++ part)
@@ -91,7 +92,7 @@ fn read_part<R: BufRead>(reader: &mut R, bytes: &mut Vec<u8>) -> Result<Part, Fa
     }
 }
 
-/// How many bytes stand before the first LF: all where there is none.
+/// Returns how many bytes stand before the first LF: all if there is none.
 fn line_length(bytes: &[u8]) -> usize
     ensures within { result ≤ length bytes.now }
     ensures no_end { list_any is_end (take result bytes.now) ≡ false }

@@ -1,18 +1,20 @@
-ghost use Rattle.std.specs.Prelude.{◌≡◌, ℕ, Bool, true, List, [], ◌∷◌, ◌++◌, length, IfOk, IfErr, bytes_eq};
+ghost use Rattle.std.specs.Prelude.{◌≡◌, ℕ, Bool, Option, List, [], ◌∷◌, length, IfOk, IfErr};
+ghost use Rattle.std.specs.Io.KnownBytes.{Consumes};
 ghost use Rattle.hl_model.specs.declared.fault.Fault.TheVariants.{OutOfMemory};
 ghost use Rattle.hl_line.specs.declared.line.Line.{Line as LINE};
-ghost use Rattle.hl_line.specs.Lines.{Fits};
-ghost use Rattle.hl_script.specs.Lines.{may_stand};
-ghost use Rattle.hl_script.specs.Answers.{reply_line};
+ghost use Rattle.hl_script.specs.Fast.{FastStands};
 ghost use Rattle.hl_script.specs.Text.{tags_on};
-ghost use Rattle.hl_judge.specs.Judging.{FoundIn, Judges, Compared};
+ghost use Rattle.hl_judge.specs.Judging.{Come, FoundIn, Judges};
 
 use crate::parts::{LONGEST, entry};
 use crate::reading::{Ending, read_line_of};
 use crate::verdict::{Deviation, Verdict};
-use hl_script::{Answering, Epochs, Fault, Line, Machine, Shelf, Sum, Task};
+use hl_script::{Answering, Epochs, Fault, Line, Shelf, Sum, Task};
 use std::alloc::Global;
 use std::io::BufRead;
+
+/// The reply to a config.
+const OPENED: &[u8] = b"opened";
 
 /// What was found in a line of a trace.
 #[derive(Clone, Copy)]
@@ -25,11 +27,12 @@ pub(crate) enum Found {
     NoEntry,
 }
 
-/// Judges the trace that the reader gives, with the jobs on the shelf, by an engine whose table of epochs is an E. It
-/// reads no line behind the first that doesn't agree, and keeps one line at a time. A line is a script's line, ` -> `
-/// and a reply; it is parted at its first ` -> `. A line of more than 8276 bytes is none.
+/// Judges the trace that the reader gives, with the jobs on the shelf, by an engine whose table of epochs is
+/// an E. It reads no line behind the first that doesn't agree, and keeps one line at a time. A line is a
+/// script's line, ` -> ` and a reply; it is parted at its first ` -> `. A line of more than 8276 bytes is
+/// none.
 ///
-/// Faults: `OutOfMemory`; `Stream` where a read failed, or 2^64 - 1 lines gave no end. All lines before agree.
+/// Faults: `OutOfMemory`; `Stream` if a read failed, or 2^64 - 1 lines gave no end. All lines before agree.
 pub fn judge<E: Epochs + Drop, F: Task, R: BufRead>(
     alloc: Global,
     reader: &mut R,
@@ -37,34 +40,61 @@ pub fn judge<E: Epochs + Drop, F: Task, R: BufRead>(
 ) -> Result<Verdict, Fault>
     ensures { Judges (tags_on shelf) (R.remaining reader.old) (R.remaining reader.new) result }
 {
-    let answering: Answering<E, F> = Answering::new(alloc, shelf);
-    judge_lines(alloc, answering, reader)
+    let (mut bytes, mut answer) = (room(alloc)?, room(alloc)?);
+    let Some(ending) = read_line_of(reader, &mut bytes)? else {
+        return Ok(Verdict::Agrees { lines: 0 });
+    };
+    let Some((first, reply)) = entry(bytes.as_slice()) else {
+        return Ok(Verdict::NoEntry { line: 1 });
+    };
+    let Some(answering) = Answering::<E, F>::open(alloc, shelf, &first)? else {
+        return Ok(Verdict::NoEntry { line: 1 });
+    };
+    if reply != OPENED {
+        if answer.extend_from_slice(OPENED).is_err() {
+            return Err(Fault::OutOfMemory);
+        }
+        return Ok(Verdict::Deviates(Deviation {
+            line: 1,
+            given: bytes,
+            answer,
+        }));
+    }
+    match ending {
+        Ending::Line => judge_lines(answering, reader, bytes, answer),
+        Ending::Input => Ok(Verdict::Agrees { lines: 1 }),
+        // Of a line that is too long, only the beginning was read.
+        Ending::Cut => Ok(Verdict::NoEntry { line: 1 }),
+    }
 }
 
-/// The same by a machine that has answered no line yet.
-fn judge_lines<M: Machine + Drop, R: BufRead>(
-    alloc: Global,
-    machine: M,
+/// Judges the lines of a trace behind its first, in these two rows for a line and an answer.
+fn judge_lines<E: Epochs + Drop, F: Task, R: BufRead>(
+    answering: Answering<E, F>,
     reader: &mut R,
+    bytes: Vec<u8>,
+    answer: Vec<u8>,
 ) -> Result<Verdict, Fault>
-    requires { (has : ℕ → Bool) × M.stands machine has [] }
-    ensures { (has : ℕ → Bool) → M.stands machine has []
-        → Judges has (R.remaining reader.old) (R.remaining reader.new) result }
+    requires { (has : ℕ → Bool) × (given : Option (List ℕ)) × (done : List ℕ) × (first : LINE)
+        × Consumes given (R.remaining reader.old) done × Come has done (first ∷ [])
+        × FastStands answering.fast.shelf answering.fast.engine has (first ∷ []) }
+    ensures { (has : ℕ → Bool) (given : Option (List ℕ)) (done : List ℕ) (first : LINE)
+        → Consumes given (R.remaining reader.old) done → Come has done (first ∷ [])
+        → FastStands answering.fast.shelf answering.fast.engine has (first ∷ [])
+        → Judges has given (R.remaining reader.new) result }
 {
-    let mut machine = machine;
-    let (mut bytes, mut answer) = (room(alloc)?, room(alloc)?);
-    for lines in 0..u64::MAX {
+    let (mut answering, mut bytes, mut answer) = (answering, bytes, answer);
+    for lines in 1..u64::MAX {
         bytes.clear();
         let Some(ending) = read_line_of(reader, &mut bytes)? else {
             return Ok(Verdict::Agrees { lines });
         };
         let line = lines + 1;
-        match judge_line(&mut machine, lines, bytes.as_slice(), &mut answer)? {
+        match judge_line(&mut answering, bytes.as_slice(), &mut answer)? {
             Found::Agrees => match ending {
                 Ending::Line => {}
                 Ending::Input => return Ok(Verdict::Agrees { lines: line }),
-                // A line that is too long is none.
-                Ending::Cut => unreachable!(),
+                Ending::Cut => return Ok(Verdict::NoEntry { line }),
             },
             Found::Deviates => {
                 return Ok(Verdict::Deviates(Deviation {
@@ -79,7 +109,7 @@ fn judge_lines<M: Machine + Drop, R: BufRead>(
     Err(Fault::Stream)
 }
 
-/// Room for a line of a trace, and one byte more.
+/// Returns room for a line of a trace, and one byte more.
 fn room(alloc: Global) -> Result<Vec<u8>, Fault>
     ensures made { IfOk result (λ made. made.items ≡ []) }
     ensures refused { IfErr result (λ fault. fault ≡ OutOfMemory) }
@@ -87,56 +117,38 @@ fn room(alloc: Global) -> Result<Vec<u8>, Fault>
     Vec::with_capacity(alloc, LONGEST + 1).map_err(|_| Fault::OutOfMemory)
 }
 
-/// Judges a line of a trace that stands behind so many others. Where its reply deviates, the answer is the one that the
-/// definitions give.
+/// Judges a line of a trace behind the first, and returns what was found. If its reply deviates, the answer
+/// is the one that the definitions give.
 ///
 /// Fault: `OutOfMemory`.
-fn judge_line<M: Machine>(
-    machine: &mut M,
-    lines: u64,
+fn judge_line<E: Epochs + Drop, F: Task>(
+    answering: &mut Answering<E, F>,
     bytes: &[u8],
     answer: &mut Vec<u8>,
 ) -> Result<Found, Fault>
     requires { (has : ℕ → Bool) × (before : List LINE)
-        × M.stands machine.old has before × (lines ≡ length before) }
+        × FastStands answering.old.fast.shelf answering.old.fast.engine has before }
     ensures found { IfOk result (λ found. (has : ℕ → Bool) (before : List LINE)
-        → M.stands machine.old has before → lines ≡ length before
-        → FoundIn (M.stands machine.new) has before bytes.now answer.new.items found) }
+        → FastStands answering.old.fast.shelf answering.old.fast.engine has before
+        → FoundIn (FastStands answering.new.fast.shelf answering.new.fast.engine) has before bytes.now
+        answer.new.items found) }
     ensures refused { IfErr result (λ fault. fault ≡ OutOfMemory) }
 {
-    let Some((line, reply)) = entry(lines, bytes) else {
+    let Some((line, reply)) = entry(bytes) else {
         return Ok(Found::NoEntry);
     };
-    if agrees(machine, &line, reply, answer)? {
+    answer.clear();
+    match answering.answer(&line, answer) {
+        Ok(Some(_)) => {}
+        Ok(None) => return Ok(Found::NoEntry),
+        // A write into memory fails only if memory is refused.
+        Err(_) => return Err(Fault::OutOfMemory),
+    }
+    // The LF.
+    answer.pop();
+    if reply == answer.as_slice() {
         Ok(Found::Agrees)
     } else {
         Ok(Found::Deviates)
     }
-}
-
-/// Has a machine answer a line that may stand where it does, and compares the answer with a reply.
-///
-/// Fault: `OutOfMemory`.
-fn agrees<M: Machine>(
-    machine: &mut M,
-    line: &Line,
-    reply: &[u8],
-    answer: &mut Vec<u8>,
-) -> Result<bool, Fault>
-    requires standing { (has : ℕ → Bool) × (before : List LINE)
-        × M.stands machine.old has before × (may_stand before line.now ≡ true) }
-    requires fits { Fits line.now }
-    ensures compared { IfOk result (λ agrees. (has : ℕ → Bool) (before : List LINE)
-        → M.stands machine.old has before → may_stand before line.now ≡ true
-        → Compared (M.stands machine.new) has before line.now reply.now answer.new.items agrees) }
-    ensures refused { IfErr result (λ fault. fault ≡ OutOfMemory) }
-{
-    answer.clear();
-    // A write into memory fails only where memory is refused.
-    if machine.answer(line, answer).is_err() {
-        return Err(Fault::OutOfMemory);
-    }
-    // The LF.
-    answer.pop();
-    Ok(reply == answer.as_slice())
 }

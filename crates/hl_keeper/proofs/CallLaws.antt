@@ -1,6 +1,6 @@
 -- What the tests before the core's answer.
 use Rattle.std.proofs.Common.{◌≡◌, ℕ, ◌<◌, ◌≤◌, Bool, true, false, leb, List, sym, ap, ap₂, ◌∙◌, arith}
-use Rattle.std.specs.Prelude.{◌&&◌, Result, Ok, Err}
+use Rattle.std.specs.Prelude.{◌&&◌, Ok, Err}
 use Rattle.std.proofs.lemmas.Bool.{le-leb, lt-leb}
 use Rattle.hl_model.specs.declared.fault.Fault.{Fault}
 use Rattle.hl_model.specs.declared.fault.Fault.TheVariants.{Stranger}
@@ -11,15 +11,11 @@ use Rattle.hl_model.specs.Sizes.{Sizes}
 use Rattle.hl_model.specs.Offsets.{read_only, head}
 use Rattle.hl_model.specs.Snapshots.{six}
 use Rattle.hl_model.specs.Replies.{unless_fault}
-use Rattle.hl_words.specs.States.{RiderState}
-use Rattle.hl_pass.specs.declared.pass_view.PassView.{PassView}
-use Rattle.hl_pass.specs.Calls.{unless_stranger, stranger_fault as stranger_by, origin_fault as of_log}
-use Rattle.hl_pass.specs.Stamps.{stamp_at as stamp_by}
+use Rattle.hl_pass.specs.Calls.{unless_stranger}
 use Rattle.hl_pass.proofs.KnownLaws.{test_passed}
 use Rattle.hl_keeper.specs.Passes.{PassRecord, seen}
 use Rattle.hl_keeper.specs.Keepers.{KeeperState}
-use Rattle.hl_keeper.specs.Calls.{stamp_at, is_known, is_behind, stranger_fault, ahead_fault, origin_fault}
-use Rattle.hl_keeper.specs.Parts.{pass_of}
+use Rattle.hl_keeper.specs.Calls.{stamp_at, is_known, is_behind, stranger_fault, ahead_fault}
 
 -- a test that passed, and one that didn't
 passes : (b : Bool) (s : ℕ) → b ≡ true → Ok (tt {0}) ≡ unless_fault (unless_stranger b s) (tt {0})
@@ -54,24 +50,6 @@ still_refused true c s f h = cc
 still_refused false c s f h = h
 
 module _ {F : Type 0} where
-  -- whether a pass is a stranger, told of what it keeps of its slot
-  pub stranger_is : (keeper : KeeperState F) (A : List Step) (own : PassView) (touches : List Step) (rider : RiderState) (r : Result (Unit {0}) Fault)
-      → r ≡ unless_fault (stranger_by keeper.core.sizes keeper.stamps A own) (tt {0}) → r ≡ unless_fault (stranger_fault keeper A (pass_of own touches rider)) (tt {0})
-  unfolding stranger_fault is_known stamp_at
-  stranger_is keeper A own touches rider r is = is
-
-  -- so is the stamp of its slot
-  pub stamp_is : (keeper : KeeperState F) (A : List Step) (own : PassView) (touches : List Step) (rider : RiderState) (s : ℕ)
-      → s ≡ stamp_by keeper.core.sizes keeper.stamps A own.slot → s ≡ stamp_at keeper A (pass_of own touches rider).slot
-  unfolding stamp_at
-  stamp_is keeper A own touches rider s is = is
-
-  -- whether something is of this domain
-  pub origin_is : (keeper : KeeperState F) (origin : ℕ) (r : Result (Unit {0}) Fault)
-      → r ≡ unless_fault (of_log keeper.stamp origin) (tt {0}) → r ≡ unless_fault (origin_fault keeper origin) (tt {0})
-  unfolding origin_fault
-  origin_is keeper origin r is = is
-
   -- a pass that is ahead, or not, where it is known
   pub behind_ok : (keeper : KeeperState F) (A : List Step) (p : PassRecord) (u : Unit {0}) (c : Bool) → Ok u ≡ unless_fault (stranger_fault keeper A p) (tt {0}) → c ≡ is_behind A p → c ≡ true → Ok (tt {0}) ≡ unless_fault (ahead_fault keeper A p) (tt {0})
   unfolding ahead_fault stranger_fault

@@ -1,6 +1,6 @@
 -- When a journal has room.
-use Rattle.std.proofs.Common.{◌≡◌, ℕ, ◌+◌, ◌≤◌, Bool, true, false, cond, ltb, List, ◌++◌, length, refl, sym, ap, ◌∙◌, arith, append_assoc, length-append}
-use Rattle.std.specs.Prelude.{◌||◌, Some, None, Ok, Err}
+use Rattle.std.proofs.Common.{◌≡◌, ℕ, ◌+◌, ◌≤◌, Bool, cond, ltb, List, ◌++◌, length, refl, sym, ap, ◌∙◌, arith, append_assoc, length-append}
+use Rattle.std.specs.Prelude.{◌||◌, Some, None}
 use Rattle.std.proofs.lemmas.Bool.{ltb-false, le-ltb, or_parts}
 use Rattle.hl_model.specs.declared.fault.Fault.TheVariants.{JournalFull}
 use Rattle.hl_model.specs.declared.step.Step.{Step}
@@ -40,11 +40,7 @@ room_behind j xs m n h le =
 pub steps_assoc : (j : JournalState) (xs ys : List Step) → with_steps ys (with_steps xs j) ≡ with_steps (xs ++ ys) j
 steps_assoc j xs ys = ap (with_all j) (append_assoc j.steps xs ys)
 
--- whether there is room
-pub no_room : (j : JournalState) (n : ℕ) → (b : Bool) → b ≡ (ltb j.limit (length j.steps + n) || ltb steps_most (j.cut + length j.steps + n)) → b ≡ true → Err JournalFull ≡ unless_fault (full_fault j n) (tt {0})
+-- whether there is room, told by the test of it
+pub room_told : (j : JournalState) (n : ℕ) (b c : Bool) → b ≡ (ltb j.limit (length j.steps + n) || ltb steps_most (j.cut + length j.steps + n)) → b ≡ c → unless_fault (cond c (Some JournalFull) None) (tt {0}) ≡ unless_fault (full_fault j n) (tt {0})
 unfolding full_fault
-no_room j n b e t = sym (ap (λ c. unless_fault (cond c (Some JournalFull) None) (tt {0})) (sym e ∙ t))
-
-pub some_room : (j : JournalState) (n : ℕ) → (b : Bool) → b ≡ (ltb j.limit (length j.steps + n) || ltb steps_most (j.cut + length j.steps + n)) → b ≡ false → Ok (tt {0}) ≡ unless_fault (full_fault j n) (tt {0})
-unfolding full_fault
-some_room j n b e t = sym (ap (λ c. unless_fault (cond c (Some JournalFull) None) (tt {0})) (sym e ∙ t))
+room_told j n b c e t = ap (λ d. unless_fault (cond d (Some JournalFull) None) (tt {0})) (sym t ∙ e)

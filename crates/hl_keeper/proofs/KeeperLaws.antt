@@ -1,16 +1,14 @@
 -- Where a keeper stands: when it was opened, and after steps that its core accepted.
-use Rattle.std.proofs.Common.{◌≡◌, ℕ, ◌+◌, ◌≤◌, false, List, [], ◌∷◌, ◌++◌, length, replicate, sym, ap, ◌∙◌, subst, arith, append_assoc, length-append}
+use Rattle.std.proofs.Common.{◌≡◌, ℕ, ◌+◌, ◌≤◌, List, [], ◌++◌, length, replicate, sym, ap, ◌∙◌, arith, append_assoc, length-append}
 use Rattle.std.specs.Prelude.{None}
 use Rattle.std.proofs.lemmas.List.{append-nil}
 use Rattle.hl_model.specs.declared.step.Step.{Step}
 use Rattle.hl_model.specs.Bases.{Base, base_of}
 use Rattle.hl_model.specs.Sizes.{Sizes}
-use Rattle.hl_model.specs.Offsets.{read_only, head}
 use Rattle.hl_model.specs.Settled.{settles}
 use Rattle.hl_laws.proofs.OffsetLaws.{read_only-nil, head-nil}
 use Rattle.hl_laws.proofs.SettledLaws.{done_greatest-nil}
 use Rattle.hl_action.specs.Jobs.{KeptRecord}
-use Rattle.hl_words.specs.declared.view.Extent.{Extent}
 use Rattle.hl_words.specs.declared.view.OffsetWords.{OffsetWords}
 use Rattle.hl_words.specs.States.{MasterState, new_master}
 use Rattle.hl_words.specs.Views.{newest}
@@ -18,13 +16,13 @@ use Rattle.hl_core.specs.Standing.{State, Stands}
 use Rattle.hl_pass.specs.declared.stamps.Stamps.{Stamps}
 use Rattle.hl_keeper.specs.Parts.{keeper_of}
 use Rattle.hl_keeper.specs.Journals.{JournalState, journal_of, with_steps}
-use Rattle.hl_keeper.specs.Keepers.{job_tag, KeeperState, KeeperStands, steps_most}
-use Rattle.hl_keeper.specs.Stamps.{is_acquire, acquires_in, slot_stamps}
+use Rattle.hl_keeper.specs.Keepers.{job_tag, KeeperState, KeeperStands, IsKept, steps_most}
+use Rattle.hl_keeper.specs.Stamps.{acquires_in, slot_stamps}
 use Rattle.hl_keeper.specs.Stores.{stores_of}
 use Rattle.hl_keeper.specs.Calls.{room_fault}
 use Rattle.hl_keeper.proofs.JournalLaws.{full-none}
-use Rattle.hl_keeper.proofs.StoreLaws.{stores-nil, newest-settled}
-use Rattle.hl_keeper.proofs.StampLaws.{acquires_in-nil, acquires_in-stay, slot_stamps-nil, slot_stamps-stay}
+use Rattle.hl_keeper.proofs.StoreLaws.{stores-nil, newest-read_only, newest-head, newest-settled}
+use Rattle.hl_keeper.proofs.StampLaws.{acquires_in-nil, slot_stamps-nil}
 
 module _ {F : Type 0} where
   -- a keeper that was just opened
@@ -77,47 +75,51 @@ module _ {F : Type 0} where
   pub room-none : (keeper : KeeperState F) (n : ℕ) → room_fault keeper n ≡ None → (length keeper.journal + n ≤ keeper.limit) × (keeper.cut + length keeper.journal + n ≤ steps_most)
   room-none keeper n h = full-none (journal_of keeper) n h
 
-  -- a keeper whose core has gone on, with other stamps, offset words and counts
-  abbrev pub moved : KeeperState F → State (KeptRecord F) → JournalState → List ℕ → ℕ → OffsetWords → ℕ → Extent → KeeperState F
-  moved old core journal stamps acquired offsets total called = record { core = core; base = journal.base; cut = journal.cut; journal = journal.steps; limit = journal.limit; stamps = stamps; stamp = old.stamp; acquired = acquired; offsets = offsets; total = total; called = called }
-
   -- the count of acquires and the stamps are those of a list
-  pub record Stamped (keeper : KeeperState F) (list : List Step) (stamps : List ℕ) (acquired : ℕ) : Type 0 where
-    pub count : acquired ≡ acquires_in list
-    pub row : stamps ≡ slot_stamps keeper.core.sizes.slots keeper.stamp list
+  pub record Stamped (keeper : KeeperState F) (list : List Step) : Type 0 where
+    pub count : keeper.acquired ≡ acquires_in list
+    pub row : keeper.stamps ≡ slot_stamps keeper.core.sizes.slots keeper.stamp list
 
-  -- a step that is no acquire leaves them
-  pub unstamped : (keeper : KeeperState F) (A : List Step) (s : Step) → KeeperStands keeper A → is_acquire s ≡ false → Stamped keeper (A ++ s ∷ []) keeper.stamps keeper.acquired
-  unstamped keeper A s st h = record {
-    count = st.acquired_is ∙ sym (acquires_in-stay A s h);
-    row = st.stamps_are ∙ sym (slot_stamps-stay keeper.core.sizes.slots keeper.stamp A s h);
-  }
+  -- what a keeper kept whose core has gone on by these steps, from the list A
+  pub record HasGrown (old new : KeeperState F) (A xs : List Step) : Type 0 where
+    pub room : room_fault old (length xs) ≡ None
+    pub core : Stands job_tag new.core (A ++ xs)
+    pub sizes : new.core.sizes ≡ old.core.sizes
+    pub noted : journal_of new ≡ with_steps xs (journal_of old)
+    pub own : new.stamp ≡ old.stamp
+    pub stamped : Stamped new (A ++ xs)
+    pub stores : new.offsets ≡ stores_of (A ++ xs)
+    pub total : new.total ≡ old.total + length xs
 
   -- it stands where its core does
-  pub grown : (old : KeeperState F) (A xs : List Step) (core : State (KeptRecord F)) (journal : JournalState) (stamps : List ℕ) (acquired : ℕ) (offsets : OffsetWords) (total : ℕ) (called : Extent) → KeeperStands old A → room_fault old (length xs) ≡ None
-      → Stands job_tag core (A ++ xs) → core.sizes ≡ old.core.sizes → journal ≡ with_steps xs (journal_of old) → Stamped old (A ++ xs) stamps acquired
-      → offsets ≡ stores_of (A ++ xs) → newest offsets.read_only ≡ read_only (A ++ xs) → newest offsets.head ≡ head (A ++ xs) → total ≡ old.total + length xs
-      → KeeperStands (moved old core journal stamps acquired offsets total called) (A ++ xs)
-  grown old A xs core journal stamps acquired offsets total called st room core_st same j stamped s r h t =
-      let most = room-none old (length xs) room in
+  pub grown : (old new : KeeperState F) (A xs : List Step) → KeeperStands old A → HasGrown old new A xs → KeeperStands new (A ++ xs)
+  grown old new A xs st h =
+      let most = room-none old (length xs) h.room in
       let len : length (old.journal ++ xs) ≡ length old.journal + length xs = length-append old.journal xs in
-      subst (λ (z : JournalState). KeeperStands (moved old core z stamps acquired offsets total called) (A ++ xs)) (sym j) (record {
-        core_stands = core_st;
+      let kept : new.journal ≡ old.journal ++ xs = ap (λ (z : JournalState). z.steps) h.noted in record {
+        core_stands = h.core;
         steps_cut = st.steps_cut;
-        history = ap (λ z. z ++ xs) st.history ∙ append_assoc st.steps_cut old.journal xs;
-        base_is = st.base_is ∙ ap (λ z. base_of z st.steps_cut) (sym same);
-        cut_is = st.cut_is;
-        stores_are = s;
-        read_only_is = r;
-        head_is = h;
-        safe_read_only_is = ap (λ (z : OffsetWords). newest z.safe_read_only) s ∙ newest-settled core.sizes (A ++ xs) core_st.accepted;
-        total_is = omega (arith, t, st.total_is, length-append A xs);
-        total_most = omega (arith, t, most.1, counted old A st);
-        journal_most = omega (arith, len, most.0);
-        acquired_is = stamped.count;
-        stamps_are = stamped.row ∙ ap (λ (z : Sizes). slot_stamps z.slots old.stamp (A ++ xs)) (sym same);
-        stamp_most = st.stamp_most;
-      })
+        history = ap (λ z. z ++ xs) st.history ∙ append_assoc st.steps_cut old.journal xs ∙ ap (λ z. st.steps_cut ++ z) (sym kept);
+        base_is = ap (λ (z : JournalState). z.base) h.noted ∙ st.base_is ∙ ap (λ z. base_of z st.steps_cut) (sym h.sizes);
+        cut_is = ap (λ (z : JournalState). z.cut) h.noted ∙ st.cut_is;
+        stores_are = h.stores;
+        read_only_is = ap (λ (z : OffsetWords). newest z.read_only) h.stores ∙ newest-read_only new.core.sizes (A ++ xs) h.core.accepted;
+        head_is = ap (λ (z : OffsetWords). newest z.head) h.stores ∙ newest-head new.core.sizes (A ++ xs) h.core.accepted;
+        safe_read_only_is = ap (λ (z : OffsetWords). newest z.safe_read_only) h.stores ∙ newest-settled new.core.sizes (A ++ xs) h.core.accepted;
+        total_is = omega (arith, h.total, st.total_is, length-append A xs);
+        total_most = omega (arith, h.total, most.1, counted old A st);
+        journal_most = omega (arith, len, most.0, ap length kept, ap (λ (z : JournalState). z.limit) h.noted);
+        acquired_is = h.stamped.count;
+        stamps_are = h.stamped.row;
+        stamp_most = omega (arith, st.stamp_most, h.own);
+      }
+
+  -- and is kept, where it is of the same sizes and stamp
+  pub kept_on : (sizes : Sizes) (stamp : ℕ) (old new : KeeperState F) (A : List Step) (before after : ℕ) → IsKept sizes stamp old before → KeeperStands new A → new.core.sizes ≡ old.core.sizes → new.stamp ≡ old.stamp → after ≡ before → IsKept sizes stamp new after
+  kept_on sizes stamp old new A before after kept st same own room = record {
+    of = record { standing = (A, st); sizes_are = same ∙ kept.of.sizes_are; stamp_is = own ∙ kept.of.stamp_is };
+    exact = room ∙ kept.exact ∙ sym (ap (λ (z : Sizes). z.slots) same);
+  }
 
   -- the base has the keeper's sizes
   pub base_sizes : (keeper : KeeperState F) (A : List Step) → KeeperStands keeper A → keeper.base.sizes ≡ keeper.core.sizes

@@ -1,6 +1,6 @@
 -- What a pass's calls without the lock answer, and what they make of it.
 use Rattle.std.proofs.Common.{◌≡◌, ℕ, ◌≤◌, Bool, true, false, cond, leb, ltb, max, List, [], ◌∷◌, ◌++◌, length, refl, sym, ap, ap₂, ◌∙◌, subst, arith, append-nil}
-use Rattle.std.specs.Prelude.{◌==◌, Some, None, Ok, Err}
+use Rattle.std.specs.Prelude.{◌==◌, Option, Some, None, Ok, Err}
 use Rattle.std.proofs.lemmas.Bool.{leb-false, ltb-false, eq-eqb, ne_eqb}
 use Rattle.hl_model.specs.declared.fault.Fault.{Fault}
 use Rattle.hl_model.specs.declared.fault.Fault.TheVariants.{Below, Beyond, TouchesFull}
@@ -19,7 +19,7 @@ use Rattle.hl_keeper.specs.Passes.{PassRecord, seen, touches_most, touch_fault, 
 use Rattle.hl_keeper.proofs.TouchLaws.{touches_more}
 
 -- a pass with other touches, and another rider
-abbrev pass_with : PassRecord → List Step → RiderState → PassRecord
+abbrev pub pass_with : PassRecord → List Step → RiderState → PassRecord
 pass_with p xs rider = record { slot = p.slot; stamp = p.stamp; epoch = p.epoch; held = p.held; touches = xs; rider = rider }
 
 -- a pass with all its touches
@@ -56,32 +56,34 @@ store_lawful p a x h =
     let inner = later_fault (leb (seen p).tail a) (Beyond (seen p).tail) None outer.1 in
     (refl, ltb-false a (seen p).read_only outer.0, leb-false (seen p).tail a inner.0)
 
+-- a pass that meets no fault, told of it as it is now
+none_met : (fault : PassRecord → Option Fault) (p now : PassRecord) (u : Unit {0}) → p ≡ now → Ok u ≡ unless_fault (fault now) (tt {0}) → fault p ≡ None
+none_met fault p now u e h = ap fault e ∙ (unless_ok (fault now) u (tt {0}) h).0
+
 -- the touches of a pass that stored
-pub store_touches : (p : PassRecord) (v : View) (a x : ℕ) (xs : List Step) → store_fault p a ≡ None → v ≡ seen p → AreTouches p.slot p.held p.touches → xs ≡ p.touches ++ Write p.slot a x ∷ [] → (v ≡ view_after p.held xs) × AreTouches p.slot p.held xs
-store_touches p v a x xs h is are e =
-    let more = touches_more p.slot p.held p.touches (Write p.slot a x) are (store_lawful p a x h) in
+pub store_touches : (p now : PassRecord) (v : View) (a x : ℕ) (xs : List Step) (u : Unit {0}) → p ≡ now → Ok u ≡ unless_fault (store_fault now a) (tt {0}) → v ≡ seen p → AreTouches p.slot p.held p.touches → xs ≡ p.touches ++ Write p.slot a x ∷ [] → (v ≡ view_after p.held xs) × AreTouches p.slot p.held xs
+store_touches p now v a x xs u n h is are e =
+    let more = touches_more p.slot p.held p.touches (Write p.slot a x) are (store_lawful p a x (none_met (λ q. store_fault q a) p now u n h)) in
     subst (λ (z : List Step). (v ≡ view_after p.held z) × AreTouches p.slot p.held z) (sym e) (is ∙ sym more.1, more.0)
 
 -- the pass after a store
-pub store_is : (sizes : Sizes) (a x : ℕ) (p : PassRecord) (cell : ℕ) (rider : RiderState) (xs : List Step) → store_fault p a ≡ None → cell ≡ cell_at sizes a → rider ≡ with_view (stored cell x p.rider.view) p.rider → xs ≡ p.touches ++ Write p.slot a x ∷ []
-    → ◌≡◌ {A = PassRecord} (record { slot = p.slot; stamp = p.stamp; epoch = p.epoch; held = p.held; touches = xs; rider = rider }) (unless_refused (store_fault p a) p (with_store sizes a x p))
+pub store_is : (sizes : Sizes) (a x : ℕ) (p now : PassRecord) (cell : ℕ) (rider : RiderState) (xs : List Step) (u : Unit {0}) → p ≡ now → Ok u ≡ unless_fault (store_fault now a) (tt {0}) → cell ≡ cell_at sizes a → rider ≡ with_view (stored cell x p.rider.view) p.rider → xs ≡ p.touches ++ Write p.slot a x ∷ []
+    → pass_with p xs rider ≡ unless_refused (store_fault now a) now (with_store sizes a x now)
 unfolding with_store
-store_is sizes a x p cell rider xs h c r e =
-    ap₂ (λ (z : List Step) (q : RiderState). pass_with p z q) e (r ∙ ap (λ d. with_view (stored d x p.rider.view) p.rider) c)
-    ∙ sym (ap (λ o. unless_refused o p (with_store sizes a x p)) h)
+store_is sizes a x p now cell rider xs u n h c r e =
+    ap₂ (λ (z : List Step) (q : RiderState). pass_with p z q) e (r ∙ ap (λ d. with_view (stored d x p.rider.view) p.rider) c) ∙ ap (with_store sizes a x) n
+    ∙ sym (ap (λ o. unless_refused o now (with_store sizes a x now)) (unless_ok (store_fault now a) u (tt {0}) h).0)
 
 -- the pass after a load
-pub load_is : (sizes : Sizes) (a x : ℕ) (p : PassRecord) (cell : ℕ) (rider : RiderState) → cell ≡ cell_at sizes a → rider ≡ with_view (loaded cell x p.rider.view) p.rider
-    → ◌≡◌ {A = PassRecord} (record { slot = p.slot; stamp = p.stamp; epoch = p.epoch; held = p.held; touches = p.touches; rider = rider }) (with_load sizes a x p)
+pub load_is : (sizes : Sizes) (a x : ℕ) (p now : PassRecord) (cell : ℕ) (rider : RiderState) → p ≡ now → cell ≡ cell_at sizes a → rider ≡ with_view (loaded cell x p.rider.view) p.rider → pass_with p p.touches rider ≡ with_load sizes a x now
 unfolding with_load
-load_is sizes a x p cell rider c r = ap (λ (q : RiderState). pass_with p p.touches q) (r ∙ ap (λ d. with_view (loaded d x p.rider.view) p.rider) c)
+load_is sizes a x p now cell rider n c r = ap (λ (q : RiderState). pass_with p p.touches q) (r ∙ ap (λ d. with_view (loaded d x p.rider.view) p.rider) c) ∙ ap (with_load sizes a x) n
 
 -- the pass after a change at an address
-pub change_is : (sizes : Sizes) (a found x : ℕ) (p : PassRecord) (cell : ℕ) (rider : RiderState) (xs : List Step) → cell ≡ cell_at sizes a → rider ≡ with_view (changed cell found x p.rider.view) p.rider → xs ≡ p.touches ++ Write p.slot a x ∷ []
-    → ◌≡◌ {A = PassRecord} (record { slot = p.slot; stamp = p.stamp; epoch = p.epoch; held = p.held; touches = xs; rider = rider }) (with_change sizes a found x p)
+pub change_is : (sizes : Sizes) (a found x : ℕ) (p now : PassRecord) (cell : ℕ) (rider : RiderState) (xs : List Step) → p ≡ now → cell ≡ cell_at sizes a → rider ≡ with_view (changed cell found x p.rider.view) p.rider → xs ≡ p.touches ++ Write p.slot a x ∷ [] → pass_with p xs rider ≡ with_change sizes a found x now
 unfolding with_change
-change_is sizes a found x p cell rider xs c r e =
-    ap₂ (λ (z : List Step) (q : RiderState). pass_with p z q) e (r ∙ ap (λ d. with_view (changed d found x p.rider.view) p.rider) c)
+change_is sizes a found x p now cell rider xs n c r e =
+    ap₂ (λ (z : List Step) (q : RiderState). pass_with p z q) e (r ∙ ap (λ d. with_view (changed d found x p.rider.view) p.rider) c) ∙ ap (with_change sizes a found x) n
 
 -- the touches of a pass that looked
 pub look_touches : (p : PassRecord) (v w : View) (r h : ℕ) (xs : List Step) → v ≡ seen p → AreTouches p.slot p.held p.touches → w ≡ raised v r h → xs ≡ p.touches ++ Look p.slot w.read_only w.head ∷ []
@@ -121,10 +123,12 @@ looks_on r h old new first second a b c low high =
     }
 
 -- the pass after a look
-pub look_is : (p : PassRecord) (r h : ℕ) (rider : RiderState) (xs : List Step) → touch_fault p ≡ None → rider ≡ with_view (with_loaded Head h (with_loaded ReadOnly r p.rider.view)) p.rider → xs ≡ p.touches ++ look_made p.slot (seen p) r h
-    → ◌≡◌ {A = PassRecord} (record { slot = p.slot; stamp = p.stamp; epoch = p.epoch; held = p.held; touches = xs; rider = rider }) (unless_refused (touch_fault p) p (with_look (newest (looked rider.view.touches).read_only) (newest (looked rider.view.touches).head) p))
+pub look_is : (p now : PassRecord) (r h : ℕ) (first second : RiderState) (xs : List Step) (u : Unit {0}) → p ≡ now → Ok u ≡ unless_fault (touch_fault now) (tt {0}) → first ≡ with_view (with_loaded ReadOnly r p.rider.view) p.rider → second ≡ with_view (with_loaded Head h first.view) first → xs ≡ p.touches ++ look_made p.slot (seen p) r h
+    → pass_with p xs second ≡ unless_refused (touch_fault now) now (with_look (newest (looked second.view.touches).read_only) (newest (looked second.view.touches).head) now)
 unfolding with_look
-look_is p r h rider xs none e t =
-    let last : with_look (newest (looked rider.view.touches).read_only) (newest (looked rider.view.touches).head) p ≡ with_look r h p =
-    ap (λ (q : RiderState). with_look (newest (looked q.view.touches).read_only) (newest (looked q.view.touches).head) p) e in
-    ap₂ (λ (z : List Step) (q : RiderState). pass_with p z q) t e ∙ sym (ap (λ o. unless_refused o p (with_look (newest (looked rider.view.touches).read_only) (newest (looked rider.view.touches).head) p)) none ∙ last)
+look_is p now r h first second xs u n f a b t =
+    let both = loaded_both r h p.rider first second a b in
+    let last : with_look (newest (looked second.view.touches).read_only) (newest (looked second.view.touches).head) p ≡ with_look r h p =
+    ap (λ (q : RiderState). with_look (newest (looked q.view.touches).read_only) (newest (looked q.view.touches).head) p) both in
+    ap₂ (λ (z : List Step) (q : RiderState). pass_with p z q) t both ∙ sym last ∙ ap (with_look (newest (looked second.view.touches).read_only) (newest (looked second.view.touches).head)) n
+    ∙ sym (ap (λ o. unless_refused o now (with_look (newest (looked second.view.touches).read_only) (newest (looked second.view.touches).head) now)) (unless_ok (touch_fault now) u (tt {0}) f).0)

@@ -1,16 +1,14 @@
 -- What steps make of the count of acquires and of the stamps.
-use Rattle.std.proofs.Common.{◌≡◌, ℕ, zero, suc, ◌+◌, ◌≤◌, Bool, true, false, cond, ◌||◌, List, [], ◌∷◌, ◌++◌, length, take, set, map, replicate, refl, sym, ap, ◌∙◌, arith, append_assoc, append-nil, take_all, eq-eqb, ne_eqb}
+use Rattle.std.proofs.Common.{◌≡◌, ℕ, zero, suc, ◌+◌, ◌≤◌, Bool, true, false, cond, ◌||◌, List, [], ◌∷◌, ◌++◌, length, take, set, map, replicate, refl, sym, ap, ◌∙◌, arith, take_all, eq-eqb, ne_eqb}
 use Rattle.std.specs.List.{list_any, range_with_len}
 use Rattle.std.proofs.lemmas.Bool.{cond-true, cond-false}
 use Rattle.std.proofs.lemmas.List.{length_push, take-append-le}
 use Rattle.std.proofs.lemmas.List.Sums.{count_by-le-length}
 use Rattle.hl_model.specs.declared.step.Step.{Step}
-use Rattle.hl_model.specs.declared.step.Step.TheVariants.{Acquire, Refresh, Release, Allocate, Look, Write}
-use Rattle.hl_model.specs.declared.view.View.{View}
+use Rattle.hl_model.specs.declared.step.Step.TheVariants.{Acquire}
 use Rattle.hl_model.specs.Lists.{until_last}
 use Rattle.hl_model.proofs.ListLaws.{until_last-push, until_last-le, count_by-push, list_any-push}
 use Rattle.hl_laws.proofs.RowLaws.{rows_same, rows_set}
-use Rattle.hl_keeper.specs.Touches.{IsTouch, AreTouches, view_past, is_call}
 use Rattle.hl_keeper.specs.Stamps.{is_acquire, acquires, acquires_in, acquires_until, slot_stamp, slot_stamps}
 
 -- a step that is no acquire is none of slot t
@@ -82,28 +80,3 @@ slot_stamps-nil n stamp = zeros 0 n
     zeros : (a m : ℕ) → map {B = ℕ} (λ (t : ℕ). 0) (range_with_len a m) ≡ replicate m 0
     zeros a zero = refl
     zeros a (suc m) = ap (λ l. 0 ∷ l) (zeros (a + 1) m)
-
--- a pass's own step is no acquire
-pub call_acquires : (s : Step) → is_call s ≡ true → is_acquire s ≡ false
-call_acquires (Refresh t) h = refl
-call_acquires (Release t) h = refl
-call_acquires (Allocate t n) h = refl
-call_acquires _ h = cc
-
--- nor is a touch
-touch_acquires : (t : ℕ) (v : View) (s : Step) → IsTouch t v s → is_acquire s ≡ false
-touch_acquires t v (Look u r h) is = refl
-touch_acquires t v (Write u a x) is = refl
-touch_acquires t v _ is = absurd is
-
--- touches stamp no slot
-pub touches_leave_stamps : (n stamp t : ℕ) (A : List Step) (v : View) (xs : List Step) → AreTouches t v xs → (acquires_in (A ++ xs) ≡ acquires_in A) × (slot_stamps n stamp (A ++ xs) ≡ slot_stamps n stamp A)
-unfolding AreTouches
-touches_leave_stamps n stamp t A v [] are = (ap acquires_in (append-nil A), ap (slot_stamps n stamp) (append-nil A))
-touches_leave_stamps n stamp t A v (s ∷ xs) are =
-    let none : is_acquire s ≡ false = touch_acquires t v s are.0 in
-    let rest = touches_leave_stamps n stamp t (A ++ s ∷ []) (view_past v s) xs are.1 in
-    let whole : A ++ s ∷ xs ≡ (A ++ s ∷ []) ++ xs = sym (append_assoc A (s ∷ []) xs) in (
-      ap acquires_in whole ∙ rest.0 ∙ acquires_in-stay A s none,
-      ap (slot_stamps n stamp) whole ∙ rest.1 ∙ slot_stamps-stay n stamp A s none,
-    )

@@ -1,199 +1,168 @@
 -- What a keeper makes of one step of a rider's.
-use Rattle.std.proofs.Common.{◌≡◌, ℕ, ◌+◌, ◌≤◌, true, false, cond, is_none, List, [], ◌∷◌, ◌++◌, refl, sym, ap, ◌∙◌, subst, arith}
-use Rattle.std.specs.Prelude.{Option, Some, None, Ok, Err}
+use Rattle.std.proofs.Common.{◌≡◌, ℕ, ◌+◌, ◌≤◌, false, cond, is_none, List, [], ◌∷◌, ◌++◌, refl, sym, ap, ap₂, ◌∙◌, subst, arith}
+use Rattle.std.specs.Prelude.{Option, Some, None, Result, Ok, Err}
 use Rattle.hl_model.specs.declared.fault.Fault.{Fault}
 use Rattle.hl_model.specs.declared.step.Reply.{Reply}
-use Rattle.hl_model.specs.declared.step.Reply.TheVariants.{Settled}
 use Rattle.hl_model.specs.declared.step.Step.{Step}
-use Rattle.hl_model.specs.declared.action.Kind.{Kind}
-use Rattle.hl_model.specs.declared.step.Step.TheVariants.{Raise, Shift, Done}
-use Rattle.hl_model.specs.Actions.{is_done, bumps, action_at}
-use Rattle.hl_model.specs.Epochs.{is_bump}
-use Rattle.hl_model.specs.Offsets.{raised_to, shifted_to, read_only, head}
-use Rattle.hl_model.specs.Replies.{kind_or_job_0, done_answer, or_fault, fault_of, answer_of, unless_fault}
-use Rattle.hl_model.specs.Settled.{settles}
-use Rattle.hl_laws.proofs.AcceptedLaws.{IsAccepted-push}
-use Rattle.hl_laws.proofs.ActionLaws.{bumps-push}
-use Rattle.hl_laws.proofs.NoFaultLaws.{unless_err, unless_ok, raise-none, shift-none}
-use Rattle.hl_laws.proofs.OffsetLaws.{read_only-stay, head-stay, read_only-raise, head-shift}
-use Rattle.hl_laws.proofs.SettledLaws.{done_greatest-grows, action_at-done}
+use Rattle.hl_model.specs.declared.step.Step.TheVariants.{Raise, Shift}
+use Rattle.hl_model.specs.Offsets.{read_only, head}
+use Rattle.hl_model.specs.Sizes.{Sizes}
+use Rattle.hl_model.specs.Replies.{or_fault, fault_of, answer_of, unless_fault}
+use Rattle.hl_laws.proofs.NoFaultLaws.{unless_err, unless_ok, or_fault-none}
+use Rattle.hl_laws.proofs.OffsetLaws.{read_only-raise, head-shift}
 use Rattle.hl_action.specs.Jobs.{KeptRecord}
-use Rattle.hl_words.specs.declared.view.Extent.{Extent}
 use Rattle.hl_words.specs.declared.view.OffsetWords.{OffsetWords}
-use Rattle.hl_words.specs.declared.which.Which.TheVariants.{ReadOnly, Head, Ended}
-use Rattle.hl_words.specs.Views.{newest, with_offset}
-use Rattle.hl_core.specs.Standing.{State, Stands}
-use Rattle.hl_core.specs.Steps.{Stepped}
-use Rattle.hl_keeper.specs.Journals.{JournalState, journal_of, full_fault, with_steps}
-use Rattle.hl_keeper.specs.Keepers.{job_tag, KeeperState, KeeperStands, IsKeeper, steps_most}
-use Rattle.hl_keeper.specs.Stores.{stores_of, with_settled}
-use Rattle.hl_keeper.specs.Calls.{room_fault, origin_fault, step_fault, end_fault, made, Replied}
+use Rattle.hl_words.specs.States.{MasterState}
+use Rattle.hl_core.specs.Standing.{State}
+use Rattle.hl_core.specs.Steps.{Made}
+use Rattle.hl_keeper.specs.Journals.{journal_of, full_fault, with_steps}
+use Rattle.hl_keeper.specs.Keepers.{job_tag, KeeperState, KeeperStands, IsKeeper, IsKept, steps_most}
+use Rattle.hl_keeper.specs.Stamps.{is_acquire, slot_stamps}
+use Rattle.hl_keeper.specs.Stores.{stores_of, with_told, IsAbove}
+use Rattle.hl_keeper.specs.Calls.{room_fault, step_fault, made, Replied, Makes, SameStamps}
 use Rattle.hl_keeper.proofs.EnterLaws.{stepped_on}
-use Rattle.hl_keeper.proofs.StoreLaws.{stores-stay, stores-raise, stores-shift, stores-bump, stores-done, newest-ended, newest-settled}
-use Rattle.hl_keeper.proofs.KeeperLaws.{moved, Stamped, grown, room-none, counted}
+use Rattle.hl_keeper.proofs.StampLaws.{acquires_in-stay, slot_stamps-stay}
+use Rattle.hl_keeper.proofs.StoreLaws.{stores-told, stores-rise}
+use Rattle.hl_keeper.proofs.KeeperLaws.{Stamped, grown, kept_on, room-none, counted}
 
--- the other offset words stay at a done
-same_read_only : (r : Reply) (o : OffsetWords) → newest (with_settled r o).read_only ≡ newest o.read_only
-same_read_only (Settled x) o = refl
-same_read_only _ o = refl
+-- of two faults the first that there is
+pub fault_first : (o p : Option Fault) (f : Fault) → Err f ≡ unless_fault o (tt {0}) → or_fault o p ≡ Some f
+fault_first o p f h = ap (λ z. or_fault z p) (unless_err o f (tt {0}) h)
 
-same_head : (r : Reply) (o : OffsetWords) → newest (with_settled r o).head ≡ newest o.head
-same_head (Settled x) o = refl
-same_head _ o = refl
+pub fault_second : (o p : Option Fault) (u : Unit {0}) → Ok u ≡ unless_fault o (tt {0}) → or_fault o p ≡ p
+fault_second o p u h = ap (λ z. or_fault z p) (unless_ok o u (tt {0}) h).0
 
--- the master's stores are those of the list with the step
-pub record Follow (A : List Step) (s : Step) (offsets : OffsetWords) : Type 0 where
-  pub stores_are : offsets ≡ stores_of (A ++ s ∷ [])
-  pub read_only_is : newest offsets.read_only ≡ read_only (A ++ s ∷ [])
-  pub head_is : newest offsets.head ≡ head (A ++ s ∷ [])
+-- a master that counted one step more
+abbrev pub one_more : MasterState → MasterState
+one_more m = record { offsets = m.offsets; total = m.total + 1; called = m.called }
+
+-- a keeper's master
+abbrev pub master_of : {F : Type 0} → KeeperState F → MasterState
+master_of keeper = record { offsets = keeper.offsets; total = keeper.total; called = keeper.called }
 
 module _ {F : Type 0} where
-  -- the fault of the room comes first
-  pub step_full : (keeper : KeeperState F) (A : List Step) (s : Step) (f : Fault) → Err f ≡ unless_fault (room_fault keeper 1) (tt {0}) → step_fault keeper A s ≡ Some f
-  unfolding step_fault
-  step_full keeper A s f h = ap (λ o. or_fault o (fault_of keeper.core.sizes A s)) (unless_err (room_fault keeper 1) f (tt {0}) h)
+  -- a keeper that refused stands where it stood
+  pub refused_at : {X : Type 0} (keeper : KeeperState F) (A B : List Step) (o : Option Fault) (f : Fault) (x : X) → KeeperStands keeper A → o ≡ Some f → Replied o x (cond (is_none o) B A) keeper (Err f)
+  refused_at keeper A B o f x st h = subst (λ (z : Option Fault). Replied z x (cond (is_none z) B A) keeper (Err f)) (sym h) (record { reply = refl; standing = st })
 
-  pub step_fits : (keeper : KeeperState F) (A : List Step) (s : Step) (u : Unit {0}) → Ok u ≡ unless_fault (room_fault keeper 1) (tt {0}) → step_fault keeper A s ≡ fault_of keeper.core.sizes A s
-  unfolding step_fault
-  step_fits keeper A s u h = ap (λ o. or_fault o (fault_of keeper.core.sizes A s)) (unless_ok (room_fault keeper 1) u (tt {0}) h).0
+  -- one that accepted
+  pub accepted_at : {X : Type 0} (keeper : KeeperState F) (A B : List Step) (o : Option Fault) (v x : X) → KeeperStands keeper B → o ≡ None → v ≡ x → Replied o x (cond (is_none o) B A) keeper (Ok v)
+  accepted_at keeper A B o v x st h e = subst (λ (z : Option Fault). Replied z x (cond (is_none z) B A) keeper (Ok v)) (sym h) (record { reply = ap (λ z. Ok z) e; standing = st })
 
-  -- and before it that of the origin
-  pub end_stranger : (keeper : KeeperState F) (A : List Step) (origin : ℕ) (s : Step) (f : Fault) → Err f ≡ unless_fault (origin_fault keeper origin) (tt {0}) → end_fault keeper A origin s ≡ Some f
-  unfolding end_fault
-  end_stranger keeper A origin s f h = ap (λ o. or_fault o (step_fault keeper A s)) (unless_err (origin_fault keeper origin) f (tt {0}) h)
+  -- what one call answered another did, with the same faults
+  pub same_faults : {X : Type 0} (o p : Option Fault) (x : X) (A B : List Step) (new : KeeperState F) (result : Result X Fault) → p ≡ o → Replied o x (cond (is_none o) B A) new result → Replied p x (cond (is_none p) B A) new result
+  same_faults o p x A B new result e h = subst (λ (z : Option Fault). Replied z x (cond (is_none z) B A) new result) (sym e) h
 
-  pub end_own : (keeper : KeeperState F) (A : List Step) (origin : ℕ) (s : Step) (u : Unit {0}) → Ok u ≡ unless_fault (origin_fault keeper origin) (tt {0}) → end_fault keeper A origin s ≡ step_fault keeper A s
-  unfolding end_fault
-  end_own keeper A origin s u h = ap (λ o. or_fault o (step_fault keeper A s)) (unless_ok (origin_fault keeper origin) u (tt {0}) h).0
+  -- so did one that refused
+  pub refused_as : {X Y : Type 0} (o : Option Fault) (x : X) (y : Y) (list : List Step) (new : KeeperState F) (f : Fault) → Replied o y list new (Err f) → Replied o x list new (Err f)
+  refused_as o x y list new f h = record { reply = sym (ap (λ z. unless_fault z x) (unless_err o f y h.reply)); standing = h.standing }
 
-  -- room for one step more
-  pub one_fits : (keeper : KeeperState F) (u : Unit {0}) → Ok u ≡ unless_fault (room_fault keeper 1) (tt {0}) → full_fault (journal_of keeper) 1 ≡ None
-  one_fits keeper u h = (unless_ok (room_fault keeper 1) u (tt {0}) h).0
-
-  pub one_counts : (keeper : KeeperState F) (u : Unit {0}) → IsKeeper keeper → Ok u ≡ unless_fault (room_fault keeper 1) (tt {0}) → keeper.total + 1 ≤ steps_most
-  one_counts keeper u at h = omega (arith, (room-none keeper 1 (unless_ok (room_fault keeper 1) u (tt {0}) h).0).1, counted keeper at.0 at.1)
-
-  -- a keeper that refused
-  pub made_refused : {X : Type 0} (keeper : KeeperState F) (A : List Step) (s : Step) (o : Option Fault) (f : Fault) (x : X) → KeeperStands keeper A → o ≡ Some f → Replied o x (made o A s) keeper (Err f)
-  made_refused keeper A s o f x st h = record {
-    reply = sym (ap (λ z. unless_fault z x) h);
-    standing = subst (λ (z : List Step). KeeperStands keeper z) (sym (ap (λ z. cond (is_none z) (A ++ s ∷ []) A) h)) st;
-  }
-
-  -- where its core did
-  pub core_refused : {X : Type 0} (keeper : KeeperState F) (A : List Step) (s : Step) (u : Unit {0}) (core : State (KeptRecord F)) (f : Fault) (x : X) → KeeperStands keeper A → Ok u ≡ unless_fault (room_fault keeper 1) (tt {0}) → Stepped job_tag keeper.core A s core (Err f) → Replied (step_fault keeper A s) x (made (step_fault keeper A s) A s) keeper (Err f)
-  core_refused keeper A s u core f x st room stepped =
-      made_refused keeper A s (step_fault keeper A s) f x st
-      (step_fits keeper A s u room ∙ unless_err (fault_of keeper.core.sizes A s) f (answer_of keeper.core.sizes A (A ++ s ∷ []) s) stepped.reply)
-
-  -- a keeper that accepted one step
-  pub core_made : {X : Type 0} (keeper : KeeperState F) (A : List Step) (s : Step) (u : Unit {0}) (core : State (KeptRecord F)) (r : Reply) (v x : X) (journal : JournalState) (stamps : List ℕ) (acquired : ℕ) (offsets : OffsetWords) (total : ℕ) (called : Extent)
-      → KeeperStands keeper A → Ok u ≡ unless_fault (room_fault keeper 1) (tt {0}) → Stepped job_tag keeper.core A s core (Ok r) → v ≡ x → journal ≡ with_steps (s ∷ []) (journal_of keeper) → Stamped keeper (A ++ s ∷ []) stamps acquired → Follow A s offsets → total ≡ keeper.total + 1
-      → Replied (step_fault keeper A s) x (made (step_fault keeper A s) A s) (moved keeper core journal stamps acquired offsets total called) (Ok v)
-  core_made keeper A s u core r v x journal stamps acquired offsets total called st room stepped e j stamped follow t = record {
-    reply = ap (λ z. Ok z) e ∙ sym (ap (λ z. unless_fault z x) none);
-    standing = subst (λ (z : List Step). KeeperStands (moved keeper core journal stamps acquired offsets total called) z) (sym (ap (λ z. cond (is_none z) (A ++ s ∷ []) A) none)) stands;
-  }
-    where
-      on : (fault_of keeper.core.sizes A s ≡ None) × (r ≡ answer_of keeper.core.sizes A (A ++ s ∷ []) s) × Stands job_tag core (A ++ s ∷ [])
-      on = stepped_on job_tag keeper.core A s core r stepped
-
-      none : step_fault keeper A s ≡ None
-      none = step_fits keeper A s u room ∙ on.0
-
-      stands : KeeperStands (moved keeper core journal stamps acquired offsets total called) (A ++ s ∷ [])
-      stands = grown keeper A (s ∷ []) core journal stamps acquired offsets total called st (unless_ok (room_fault keeper 1) u (tt {0}) room).0 on.2 stepped.sizes j stamped follow.stores_are follow.read_only_is follow.head_is t
-
-  -- what was answered
-  pub core_told : (keeper : KeeperState F) (A : List Step) (s : Step) (core : State (KeptRecord F)) (r : Reply) → Stepped job_tag keeper.core A s core (Ok r) → (fault_of keeper.core.sizes A s ≡ None) × (r ≡ answer_of keeper.core.sizes A (A ++ s ∷ []) s)
-  core_told keeper A s core r stepped = let on = stepped_on job_tag keeper.core A s core r stepped in (on.0, on.1)
-
-  -- a step that moves neither offset, and ends no epoch and no action
-  pub quiet : (keeper : KeeperState F) (A : List Step) (s : Step) (offsets : OffsetWords) → KeeperStands keeper A → raised_to s ≡ 0 → shifted_to s ≡ 0 → is_bump s ≡ false → is_done s ≡ false → offsets ≡ keeper.offsets → Follow A s offsets
-  quiet keeper A s offsets st r h b d e = record {
-    stores_are = e ∙ st.stores_are ∙ sym (stores-stay A s r h b d);
-    read_only_is = ap (λ (z : OffsetWords). newest z.read_only) e ∙ st.read_only_is ∙ sym (read_only-stay A s r);
-    head_is = ap (λ (z : OffsetWords). newest z.head) e ∙ st.head_is ∙ sym (head-stay A s h);
-  }
-
-  -- an answer that is a reply's value
-  pub replied_as : {X : Type 0} (o : Option Fault) (y r : Reply) (list : List Step) (new : KeeperState F) (v x : X) → Replied o y list new (Ok r) → (r ≡ y → v ≡ x) → Replied o x list new (Ok v)
+  -- and one that accepted, where the answers are the same
+  pub replied_as : {X Y : Type 0} (o : Option Fault) (y r : Y) (list : List Step) (new : KeeperState F) (v x : X) → Replied o y list new (Ok r) → (o ≡ None → r ≡ y → v ≡ x) → Replied o x list new (Ok v)
   replied_as o y r list new v x h same =
-      let both = unless_ok o r y h.reply in record {
-        reply = ap (λ z. Ok z) (same both.1) ∙ sym (ap (λ z. unless_fault z x) both.0);
-        standing = h.standing;
-      }
+      let both = unless_ok o r y h.reply in
+      record { reply = ap (λ z. Ok z) (same both.0 both.1) ∙ sym (ap (λ z. unless_fault z x) both.0); standing = h.standing }
 
   -- the reply itself
-  pub reply_is : (o : Option Fault) (y r : Reply) (list : List Step) (new : KeeperState F) → Replied o y list new (Ok r) → r ≡ y
+  pub reply_is : {X : Type 0} (o : Option Fault) (y r : X) (list : List Step) (new : KeeperState F) → Replied o y list new (Ok r) → r ≡ y
   reply_is o y r list new h = (unless_ok o r y h.reply).1
 
-  -- a refusal of one call is that of another with the same faults
-  pub replied_refusal : {X Y : Type 0} (o p : Option Fault) (x : X) (y : Y) (A : List Step) (s : Step) (new : KeeperState F) (f : Fault) → p ≡ o → Replied o y (made o A s) new (Err f) → Replied p x (made p A s) new (Err f)
-  replied_refusal o p x y A s new f e h = record {
-    reply = sym (ap (λ z. unless_fault z x) (e ∙ unless_err o f y h.reply));
-    standing = subst (λ (z : List Step). KeeperStands new z) (sym (ap (λ z. made z A s) e)) h.standing;
+  -- a keeper that refused one step for its journal's sake
+  pub full_refused : {X : Type 0} (keeper : KeeperState F) (s : Step) (f : Fault) (x : List Step → X) → Err f ≡ unless_fault (room_fault keeper 1) (tt {0}) → Makes keeper s x keeper (Err f)
+  unfolding step_fault
+  full_refused keeper s f x h A st = refused_at keeper A (A ++ s ∷ []) (step_fault keeper A s) f (x A) st (fault_first (room_fault keeper 1) (fault_of keeper.core.sizes A s) f h)
+
+  -- what it is that one step more has room
+  pub has_room : (now keeper : KeeperState F) (u : Unit {0}) → keeper ≡ now → Ok u ≡ unless_fault (room_fault now 1) (tt {0}) → room_fault keeper 1 ≡ None
+  has_room now keeper u e h = ap (λ (k : KeeperState F). room_fault k 1) e ∙ (unless_ok (room_fault now 1) u (tt {0}) h).0
+
+  pub one_enters : (keeper : KeeperState F) (master : MasterState) → IsKeeper keeper → room_fault keeper 1 ≡ None → master.total ≡ keeper.total → (full_fault (journal_of keeper) 1 ≡ None) × (master.total + 1 ≤ steps_most)
+  one_enters keeper master at none t = (none, omega (arith, t, (room-none keeper 1 none).1, counted keeper at.0 at.1))
+
+  step_fits : (keeper : KeeperState F) (A : List Step) (s : Step) → room_fault keeper 1 ≡ None → step_fault keeper A s ≡ fault_of keeper.core.sizes A s
+  unfolding step_fault
+  step_fits keeper A s none = ap (λ o. or_fault o (fault_of keeper.core.sizes A s)) none
+
+  -- one that refused it for its core's sake
+  pub core_refused : {X : Type 0} (keeper : KeeperState F) (s : Step) (core : State (KeptRecord F)) (f : Fault) (x : List Step → X) → room_fault keeper 1 ≡ None → Made job_tag keeper.core s core (Err f) → Makes keeper s x keeper (Err f)
+  core_refused keeper s core f x none answered A st =
+      refused_at keeper A (A ++ s ∷ []) (step_fault keeper A s) f (x A) st
+      (step_fits keeper A s none ∙ unless_err (fault_of keeper.core.sizes A s) f (answer_of keeper.core.sizes A (A ++ s ∷ []) s) (answered A st.core_stands).reply)
+
+  -- what an accepted step stores lowers no word
+  pub told_rises : (keeper : KeeperState F) (s : Step) (core : State (KeptRecord F)) (r : Reply) → IsKeeper keeper → Made job_tag keeper.core s core (Ok r) → IsAbove keeper.offsets (with_told r keeper.offsets)
+  told_rises keeper s core r at answered =
+      let A : List Step = at.0 in
+      let st : KeeperStands keeper A = at.1 in
+      let on = stepped_on job_tag keeper.core A s core r (answered A st.core_stands) in
+      subst (λ (o : OffsetWords). IsAbove o (with_told r o)) (sym st.stores_are)
+      (subst (λ (o : OffsetWords). IsAbove (stores_of A) o) (stores-told keeper.core.sizes A s on.0 ∙ ap (λ z. with_told z (stores_of A)) (sym on.1)) (stores-rise keeper.core.sizes A s st.core_stands.accepted on.0))
+
+  -- a step that is no acquire leaves the stamps
+  pub unstamped : (old new : KeeperState F) (s : Step) → is_acquire s ≡ false → SameStamps old new → new.stamp ≡ old.stamp → new.core.sizes ≡ old.core.sizes → (A : List Step) → KeeperStands old A → Stamped new (A ++ s ∷ [])
+  unstamped old new s h same own sizes A st = record {
+    count = same.1 ∙ st.acquired_is ∙ sym (acquires_in-stay A s h);
+    row = same.0 ∙ st.stamps_are ∙ sym (slot_stamps-stay old.core.sizes.slots old.stamp A s h) ∙ ap₂ (λ (z : Sizes) (n : ℕ). slot_stamps z.slots n (A ++ s ∷ [])) (sym sizes) (sym own);
   }
 
-  -- an acceptance likewise
-  pub replied_end : {X : Type 0} (o p : Option Fault) (y r : Reply) (A : List Step) (s : Step) (new : KeeperState F) (v x : X) → p ≡ o → Replied o y (made o A s) new (Ok r) → (r ≡ y → v ≡ x) → Replied p x (made p A s) new (Ok v)
-  replied_end o p y r A s new v x e h same =
-      let both = unless_ok o r y h.reply in record {
-        reply = ap (λ z. Ok z) (same both.1) ∙ sym (ap (λ z. unless_fault z x) (e ∙ both.0));
-        standing = subst (λ (z : List Step). KeeperStands new z) (sym (ap (λ z. made z A s) e)) h.standing;
-      }
+  -- what a keeper did that made one step, as its core did, and was answered so
+  pub record HasMade (old : KeeperState F) (s : Step) (r : Reply) (new : KeeperState F) : Type 0 where
+    pub room : room_fault old 1 ≡ None
+    pub core : Made job_tag old.core s new.core (Ok r)
+    pub sizes : new.core.sizes ≡ old.core.sizes
+    pub noted : journal_of new ≡ with_steps (s ∷ []) (journal_of old)
+    pub own : new.stamp ≡ old.stamp
+    pub stamped : (A : List Step) → KeeperStands old A → Stamped new (A ++ s ∷ [])
+    pub stores : new.offsets ≡ with_told r old.offsets
+    pub total : new.total ≡ old.total + 1
 
-  -- an offset word of a keeper that has gone on is stored anew
-  pub raise_follows : (keeper : KeeperState F) (A : List Step) (x : ℕ) (offsets : OffsetWords) → KeeperStands keeper A → fault_of keeper.core.sizes A (Raise x) ≡ None → offsets ≡ with_offset ReadOnly x keeper.offsets → Follow A (Raise x) offsets
-  raise_follows keeper A x offsets st none e = record {
-    stores_are = e ∙ ap (with_offset ReadOnly x) st.stores_are ∙ sym (stores-raise A x (omega (arith, (raise-none keeper.core.sizes A x none).0)));
-    read_only_is = ap (λ (z : OffsetWords). newest z.read_only) e ∙ sym (read_only-raise keeper.core.sizes A x none);
-    head_is = ap (λ (z : OffsetWords). newest z.head) e ∙ st.head_is ∙ sym (head-stay A (Raise x) refl);
+  -- so it did by any step but an acquire, which stamps a slot
+  pub was_made : (old : KeeperState F) (s : Step) (r : Reply) (new : KeeperState F) → room_fault old 1 ≡ None → Made job_tag old.core s new.core (Ok r) → new.core.sizes ≡ old.core.sizes → journal_of new ≡ with_steps (s ∷ []) (journal_of old) → is_acquire s ≡ false → SameStamps old new → new.stamp ≡ old.stamp
+      → master_of new ≡ one_more (record { offsets = with_told r old.offsets; total = old.total; called = old.called }) → HasMade old s r new
+  was_made old s r new room made sizes noted none same own master = record {
+    room = room;
+    core = made;
+    sizes = sizes;
+    noted = noted;
+    own = own;
+    stamped = unstamped old new s none same own sizes;
+    stores = ap (λ (m : MasterState). m.offsets) master;
+    total = ap (λ (m : MasterState). m.total) master;
   }
 
-  pub shift_follows : (keeper : KeeperState F) (A : List Step) (x : ℕ) (offsets : OffsetWords) → KeeperStands keeper A → fault_of keeper.core.sizes A (Shift x) ≡ None → offsets ≡ with_offset Head x keeper.offsets → Follow A (Shift x) offsets
-  shift_follows keeper A x offsets st none e = record {
-    stores_are = e ∙ ap (with_offset Head x) st.stores_are ∙ sym (stores-shift A x (omega (arith, (shift-none keeper.core.sizes A x none).0)));
-    read_only_is = ap (λ (z : OffsetWords). newest z.read_only) e ∙ st.read_only_is ∙ sym (read_only-stay A (Shift x) refl);
-    head_is = ap (λ (z : OffsetWords). newest z.head) e ∙ sym (head-shift keeper.core.sizes A x none);
-  }
+  module _ (old : KeeperState F) (s : Step) (r : Reply) (new : KeeperState F) (h : HasMade old s r new) where
+    -- it stands at the list with the step
+    pub stands_on : (A : List Step) → KeeperStands old A → KeeperStands new (A ++ s ∷ [])
+    stands_on A st =
+        let on = stepped_on job_tag old.core A s new.core r (h.core A st.core_stands) in
+        grown old new A (s ∷ []) st (record {
+          room = h.room;
+          core = on.2;
+          sizes = h.sizes;
+          noted = h.noted;
+          own = h.own;
+          stamped = h.stamped A st;
+          stores = h.stores ∙ ap (with_told r) st.stores_are ∙ ap (λ z. with_told z (stores_of A)) on.1 ∙ sym (stores-told old.core.sizes A s on.0);
+          total = h.total;
+        })
 
-  pub bump_follows : (keeper : KeeperState F) (A : List Step) (s : Step) (n : ℕ) (offsets : OffsetWords) → KeeperStands keeper A → raised_to s ≡ 0 → shifted_to s ≡ 0 → is_bump s ≡ true → n ≡ bumps (A ++ s ∷ []) → offsets ≡ with_offset Ended n keeper.offsets → Follow A s offsets
-  bump_follows keeper A s n offsets st r h b is e = record {
-    stores_are = e ∙ ap (with_offset Ended n) st.stores_are ∙ sym (stores-bump A s n r h b is);
-    read_only_is = ap (λ (z : OffsetWords). newest z.read_only) e ∙ st.read_only_is ∙ sym (read_only-stay A s r);
-    head_is = ap (λ (z : OffsetWords). newest z.head) e ∙ st.head_is ∙ sym (head-stay A s h);
-  }
+    -- and so it is kept
+    pub kept_made : (sizes : Sizes) (stamp before after : ℕ) → IsKept sizes stamp old before → after ≡ before → IsKept sizes stamp new after
+    kept_made sizes stamp before after kept room =
+        let at : IsKeeper old = kept.of.standing in
+        kept_on sizes stamp old new (at.0 ++ s ∷ []) before after kept (stands_on at.0 at.1) h.sizes h.own room
 
-  -- the epoch that it ends is above those that were stored
-  pub bump_rises : (keeper : KeeperState F) (A : List Step) (s : Step) (n : ℕ) → KeeperStands keeper A → n ≡ bumps (A ++ s ∷ []) → newest keeper.offsets.ended ≤ n
-  bump_rises keeper A s n st is =
-      omega (arith, is, bumps-push A s, newest-ended A, ap (λ (z : OffsetWords). newest z.ended) st.stores_are)
+    -- it answered with what the reply tells
+    pub has_made : {X : Type 0} (v : X) (x : List Step → X) → ((A : List Step) → KeeperStands old A → r ≡ answer_of old.core.sizes A (A ++ s ∷ []) s → v ≡ x A) → Makes old s x new (Ok v)
+    has_made v x same A st =
+        let on = stepped_on job_tag old.core A s new.core r (h.core A st.core_stands) in
+        accepted_at new A (A ++ s ∷ []) (step_fault old A s) v (x A) (stands_on A st) (step_fits old A s h.room ∙ on.0) (same A st on.1)
 
-  -- so is the safe read-only word by the done of a settle
-  pub done_follows : (keeper : KeeperState F) (A : List Step) (c : ℕ) (r : Reply) (offsets : OffsetWords) → KeeperStands keeper A → (fault_of keeper.core.sizes A (Done c) ≡ None) × (r ≡ answer_of keeper.core.sizes A (A ++ Done c ∷ []) (Done c)) → offsets ≡ with_settled r keeper.offsets → Follow A (Done c) offsets
-  done_follows keeper A c r offsets st told e = record {
-    stores_are = e ∙ ap (with_settled r) st.stores_are ∙ ap (λ z. with_settled z (stores_of A)) answer ∙ sym (stores-done A c kind refl);
-    read_only_is = ap (λ (z : OffsetWords). newest z.read_only) e ∙ same_read_only r keeper.offsets ∙ st.read_only_is ∙ sym (read_only-stay A (Done c) refl);
-    head_is = ap (λ (z : OffsetWords). newest z.head) e ∙ same_head r keeper.offsets ∙ st.head_is ∙ sym (head-stay A (Done c) refl);
-  }
-    where
-      kind : Kind
-      kind = kind_or_job_0 (action_at c A)
+  -- an accepted raise leaves the read-only offset where it raises it to, and a shift the head
+  pub raised_is : (keeper : KeeperState F) (A : List Step) (x : ℕ) → step_fault keeper A (Raise x) ≡ None → x ≡ read_only (A ++ Raise x ∷ [])
+  unfolding step_fault
+  raised_is keeper A x none = sym (read_only-raise keeper.core.sizes A x (or_fault-none (room_fault keeper 1) (fault_of keeper.core.sizes A (Raise x)) none).1)
 
-      answer : r ≡ done_answer (A ++ Done c ∷ []) kind
-      answer = told.1 ∙ ap (λ o. done_answer (A ++ Done c ∷ []) (kind_or_job_0 o)) (action_at-done c A)
-
-  -- and doesn't fall
-  pub done_rises : (keeper : KeeperState F) (A : List Step) (c : ℕ) (r : Reply) → KeeperStands keeper A → (fault_of keeper.core.sizes A (Done c) ≡ None) × (r ≡ answer_of keeper.core.sizes A (A ++ Done c ∷ []) (Done c)) → newest keeper.offsets.safe_read_only ≤ newest (with_settled r keeper.offsets).safe_read_only
-  done_rises keeper A c r st told =
-      let B : List Step = A ++ Done c ∷ [] in
-      let f : Follow A (Done c) (with_settled r keeper.offsets) = done_follows keeper A c r (with_settled r keeper.offsets) st told refl in
-      omega (arith, st.safe_read_only_is, done_greatest-grows settles A (Done c), newest-settled keeper.core.sizes B (IsAccepted-push keeper.core.sizes A (Done c) st.core_stands.accepted told.0), ap (λ (z : OffsetWords). newest z.safe_read_only) f.stores_are)
-
-  -- the replies are the offsets
-  pub raise_told : (keeper : KeeperState F) (A : List Step) (x : ℕ) → fault_of keeper.core.sizes A (Raise x) ≡ None → x ≡ read_only (A ++ Raise x ∷ [])
-  raise_told keeper A x none = sym (read_only-raise keeper.core.sizes A x none)
-
-  pub shift_told : (keeper : KeeperState F) (A : List Step) (x : ℕ) → fault_of keeper.core.sizes A (Shift x) ≡ None → x ≡ head (A ++ Shift x ∷ [])
-  shift_told keeper A x none = sym (head-shift keeper.core.sizes A x none)
+  pub shifted_is : (keeper : KeeperState F) (A : List Step) (x : ℕ) → step_fault keeper A (Shift x) ≡ None → x ≡ head (A ++ Shift x ∷ [])
+  unfolding step_fault
+  shifted_is keeper A x none = sym (head-shift keeper.core.sizes A x (or_fault-none (room_fault keeper 1) (fault_of keeper.core.sizes A (Shift x)) none).1)

@@ -21,11 +21,13 @@ use Rattle.hl_laws.proofs.OffsetLaws.{read_only-stay, head-stay, tail-push}
 use Rattle.hl_laws.proofs.ViewLaws.{is_protected-push, seen_read_only-push, seen_head-push, seen_tail-stay, slot_view-moves, slot_view-stay}
 use Rattle.hl_laws.proofs.WorkLaws.{is_freed-stay}
 use Rattle.hl_pass.proofs.LookLaws.{viewed, viewed_fault, look_free}
+use Rattle.hl_keeper.specs.Stamps.{is_acquire, acquires_in, slot_stamps}
 use Rattle.hl_keeper.specs.Stores.{stores_of}
+use Rattle.hl_keeper.proofs.StampLaws.{acquires_in-stay, slot_stamps-stay}
 use Rattle.hl_keeper.proofs.StoreLaws.{stores-stay}
 use Rattle.hl_keeper.specs.Touches.{view_past, view_after, IsTouch, AreTouches, is_call}
 
--- a step that moves no slot, no offset and no page that is freed, and ends no action
+-- a step that moves no slot, no offset and no page that is freed, ends no action and stamps no slot
 pub record IsStill (s : Step) : Type 0 where
   pub enters_none : (t : ℕ) → enters t s ≡ false
   pub leaves_none : (t : ℕ) → leaves t s ≡ false
@@ -35,11 +37,12 @@ pub record IsStill (s : Step) : Type 0 where
   pub frees_none : (p : ℕ) → frees p s ≡ false
   pub bumps_none : is_bump s ≡ false
   pub dones_none : is_done s ≡ false
+  pub stamps_none : is_acquire s ≡ false
 
 -- a touch is such a step
 pub touch_still : (t : ℕ) (v : View) (s : Step) → IsTouch t v s → IsStill s
-touch_still t v (Look u r h) is = record { enters_none = λ t. refl; leaves_none = λ t. refl; raises_none = refl; shifts_none = refl; tail_stays = λ p q. refl; frees_none = λ p. refl; bumps_none = refl; dones_none = refl }
-touch_still t v (Write u a x) is = record { enters_none = λ t. refl; leaves_none = λ t. refl; raises_none = refl; shifts_none = refl; tail_stays = λ p q. refl; frees_none = λ p. refl; bumps_none = refl; dones_none = refl }
+touch_still t v (Look u r h) is = record { enters_none = λ t. refl; leaves_none = λ t. refl; raises_none = refl; shifts_none = refl; tail_stays = λ p q. refl; frees_none = λ p. refl; bumps_none = refl; dones_none = refl; stamps_none = refl }
+touch_still t v (Write u a x) is = record { enters_none = λ t. refl; leaves_none = λ t. refl; raises_none = refl; shifts_none = refl; tail_stays = λ p q. refl; frees_none = λ p. refl; bumps_none = refl; dones_none = refl; stamps_none = refl }
 touch_still t v _ is = absurd is
 
 -- a look of a slot that isn't below its view is accepted, and its view is then what the look brings
@@ -104,37 +107,40 @@ still_call sizes A s (Release t) h is = still_slot sizes A s t h
 still_call sizes A s (Allocate t n) h is = ap₂ or_fault (still_slot sizes A s t h) (still_allocation sizes A s n h)
 still_call sizes A s _ h is = cc
 
--- and so behind touches
+-- what each still step leaves, touches leave
+touches_leave : {X : Type 0} (of : List Step → X) → ((A : List Step) (s : Step) → IsStill s → of (A ++ s ∷ []) ≡ of A) → (t : ℕ) (A : List Step) (v : View) (xs : List Step) → AreTouches t v xs → of (A ++ xs) ≡ of A
+unfolding AreTouches
+touches_leave of stays t A v [] are = ap of (append-nil A)
+touches_leave of stays t A v (s ∷ xs) are =
+    ap of (sym (append_assoc A (s ∷ []) xs)) ∙ touches_leave of stays t (A ++ s ∷ []) (view_past v s) xs are.1 ∙ stays A s (touch_still t v s are.0)
+
+-- the fault of a call
 pub touches_leave_faults : (sizes : Sizes) (t : ℕ) (A : List Step) (v : View) (xs : List Step) (c : Step) → AreTouches t v xs → is_call c ≡ true → fault_of sizes (A ++ xs) c ≡ fault_of sizes A c
-unfolding AreTouches
-touches_leave_faults sizes t A v [] c are is = ap (λ B. fault_of sizes B c) (append-nil A)
-touches_leave_faults sizes t A v (s ∷ xs) c are is =
-    ap (λ B. fault_of sizes B c) (sym (append_assoc A (s ∷ []) xs))
-    ∙ touches_leave_faults sizes t (A ++ s ∷ []) (view_past v s) xs c are.1 is
-    ∙ still_call sizes A s c (touch_still t v s are.0) is
+touches_leave_faults sizes t A v xs c are is = touches_leave (λ B. fault_of sizes B c) (λ B s h. still_call sizes B s c h is) t A v xs are
 
--- touches move no offset
+-- the offsets
 pub touches_leave_offsets : (sizes : Sizes) (t : ℕ) (A : List Step) (v : View) (xs : List Step) → AreTouches t v xs → (read_only (A ++ xs) ≡ read_only A) × (head (A ++ xs) ≡ head A) × (tail sizes (A ++ xs) ≡ tail sizes A)
-unfolding AreTouches
-touches_leave_offsets sizes t A v [] are = (ap read_only (append-nil A), ap head (append-nil A), ap (tail sizes) (append-nil A))
-touches_leave_offsets sizes t A v (s ∷ xs) are =
-    let still = touch_still t v s are.0 in
-    let rest = touches_leave_offsets sizes t (A ++ s ∷ []) (view_past v s) xs are.1 in
-    let whole : A ++ s ∷ xs ≡ (A ++ s ∷ []) ++ xs = sym (append_assoc A (s ∷ []) xs) in (
-      ap read_only whole ∙ rest.0 ∙ read_only-stay A s still.raises_none,
-      ap head whole ∙ rest.1 ∙ head-stay A s still.shifts_none,
-      ap (tail sizes) whole ∙ rest.2 ∙ still_tail sizes A s still,
-    )
+touches_leave_offsets sizes t A v xs are = (
+  touches_leave read_only (λ B s h. read_only-stay B s h.raises_none) t A v xs are,
+  touches_leave head (λ B s h. head-stay B s h.shifts_none) t A v xs are,
+  touches_leave (tail sizes) (still_tail sizes) t A v xs are,
+)
 
--- nor is any of them told by the master's words
+-- the stores of the master's words
 pub touches_leave_stores : (t : ℕ) (A : List Step) (v : View) (xs : List Step) → AreTouches t v xs → stores_of (A ++ xs) ≡ stores_of A
-unfolding AreTouches
-touches_leave_stores t A v [] are = ap stores_of (append-nil A)
-touches_leave_stores t A v (s ∷ xs) are =
-    let still = touch_still t v s are.0 in
-    ap stores_of (sym (append_assoc A (s ∷ []) xs))
-    ∙ touches_leave_stores t (A ++ s ∷ []) (view_past v s) xs are.1
-    ∙ stores-stay A s still.raises_none still.shifts_none still.bumps_none still.dones_none
+touches_leave_stores = touches_leave stores_of (λ B s h. stores-stay B s h.raises_none h.shifts_none h.bumps_none h.dones_none)
+
+-- and the slots' stamps
+pub touches_leave_stamps : (n stamp t : ℕ) (A : List Step) (v : View) (xs : List Step) → AreTouches t v xs → (acquires_in (A ++ xs) ≡ acquires_in A) × (slot_stamps n stamp (A ++ xs) ≡ slot_stamps n stamp A)
+touches_leave_stamps n stamp t A v xs are = (
+  touches_leave acquires_in (λ B s h. acquires_in-stay B s h.stamps_none) t A v xs are,
+  touches_leave (slot_stamps n stamp) (λ B s h. slot_stamps-stay n stamp B s h.stamps_none) t A v xs are,
+)
+
+-- no touches leave a view as it was
+pub no_touch : (t : ℕ) (v : View) (xs : List Step) → xs ≡ [] → (v ≡ view_after v xs) × AreTouches t v xs
+unfolding view_after AreTouches
+no_touch t v xs e = subst (λ (z : List Step). (v ≡ view_after v z) × AreTouches t v z) (sym e) (refl, tt)
 
 -- touches, and one more
 pub touches_more : (t : ℕ) (v : View) (xs : List Step) (s : Step) → AreTouches t v xs → IsTouch t (view_after v xs) s → AreTouches t v (xs ++ s ∷ []) × (view_after v (xs ++ s ∷ []) ≡ view_past (view_after v xs) s)

@@ -92,17 +92,6 @@ module _ {F : Type 0} where
   Knows keeper p =
       (A : List Step) → KeeperStands keeper A → slot_view keeper.core.sizes p.slot A ≡ Some p.held
 
-  -- a keeper that stood at A answered a pass's step as the definitions do after A and the touches, and stands
-  -- at the list with both, where it was accepted
-  pub record Called
-      (old : KeeperState F) (A : List Step) (p : PassRecord) (s : Step)
-      (new : KeeperState F) (result : Result Reply Fault)
-      : Type 0 where
-    pub reply : result
-        ≡ unless_fault (touched_fault old A p s)
-        (answer_of old.core.sizes (A ++ p.touches) ((A ++ p.touches) ++ s ∷ []) s)
-    pub standing : KeeperStands new (entered (touched_fault old A p s) A p.touches s)
-
   -- what no call changes: the sizes, how many steps the keeper may keep, its stamp, what was cut, and what was noted
   pub record Stays (old new : KeeperState F) : Type 0 where
     pub sizes : new.core.sizes ≡ old.core.sizes
@@ -129,6 +118,13 @@ module _ {F : Type 0} where
       : Type 0 where
     pub reply : result ≡ unless_fault fault answer
     pub standing : KeeperStands new list
+
+  -- a keeper that stood at A answered a pass's step as the definitions do after A and the touches, and stands
+  -- at the list with both, where it was accepted
+  abbrev pub Called : KeeperState F → List Step → PassRecord → Step → KeeperState F → Result Reply Fault → Type 0
+  Called old A p s new result =
+      Replied (touched_fault old A p s) (answer_of old.core.sizes (A ++ p.touches) (touched_list A p s) s)
+      (entered (touched_fault old A p s) A p.touches s) new result
 
   -- at whatever list a keeper stood, it answered a rider's step with its fault there, or with this answer,
   -- and stands at the list with the step, where it was accepted

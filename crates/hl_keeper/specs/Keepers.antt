@@ -1,5 +1,5 @@
 -- What a keeper keeps, and when it stands at a list of steps.
-use Rattle.std.specs.Prelude.{◌≡◌, ℕ, ◌^◌, ◌≤◌, List, ◌++◌, length}
+use Rattle.std.specs.Prelude.{◌≡◌, ℕ, ◌*◌, ◌^◌, ◌≤◌, List, [], ◌++◌, length}
 use Rattle.hl_model.specs.declared.step.Step.{Step}
 use Rattle.hl_model.specs.Sizes.{Sizes}
 use Rattle.hl_model.specs.Offsets.{read_only, head}
@@ -8,7 +8,8 @@ use Rattle.hl_model.specs.Bases.{Base, base_of}
 use Rattle.hl_action.specs.Jobs.{KeptRecord}
 use Rattle.hl_words.specs.declared.view.Extent.{Extent}
 use Rattle.hl_words.specs.declared.view.OffsetWords.{OffsetWords}
-use Rattle.hl_words.specs.Views.{newest}
+use Rattle.hl_words.specs.States.{RiderState, SeedState, WordsState, new_riders}
+use Rattle.hl_words.specs.Views.{newest, no_extent}
 use Rattle.hl_core.specs.Standing.{State, Stands}
 use Rattle.hl_keeper.specs.Stamps.{acquires_in, slot_stamps}
 use Rattle.hl_keeper.specs.Stores.{stores_of}
@@ -94,3 +95,15 @@ pub record IsKept {F : Type 0} (sizes : Sizes) (stamp : ℕ) (keeper : KeeperSta
     (room : ℕ) : Type 0 where
   pub of : IsOf sizes stamp keeper
   pub exact : room ≡ keeper.core.sizes.slots
+
+-- a keeper at the empty list, with room for so many steps and with this stamp, its words and its riders, as a seed
+-- makes them
+pub record IsOpened {F : Type 0} (seed : SeedState) (room own : ℕ)
+    (k : KeeperState F) (w : WordsState) (rs : List RiderState) : Type 0 where
+  pub keeper : KeeperStands k []
+  pub sizes : k.core.sizes ≡ seed.sizes
+  pub limit : k.limit ≡ room
+  pub stamp : (k.stamp ≡ own) × (k.acquired ≡ 0)
+  pub called : k.called ≡ no_extent
+  pub words : w ≡ record { cells = seed.sizes.frames * seed.sizes.page_size; riders = seed.riders }
+  pub riders : rs ≡ new_riders seed.riders

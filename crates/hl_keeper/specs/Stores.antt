@@ -4,7 +4,7 @@ use Rattle.std.specs.List.{filter}
 use Rattle.hl_model.specs.declared.action.Kind.{Kind}
 use Rattle.hl_model.specs.declared.action.Kind.TheVariants.{Settle}
 use Rattle.hl_model.specs.declared.step.Reply.{Reply}
-use Rattle.hl_model.specs.declared.step.Reply.TheVariants.{Settled}
+use Rattle.hl_model.specs.declared.step.Reply.TheVariants.{Raised, Shifted, Ticket, Bumped, Settled}
 use Rattle.hl_model.specs.declared.step.Step.{Step}
 use Rattle.hl_model.specs.declared.step.Step.TheVariants.{Done, Write}
 use Rattle.hl_model.specs.Lists.{gather}
@@ -13,8 +13,8 @@ use Rattle.hl_model.specs.Offsets.{raised_to, shifted_to}
 use Rattle.hl_model.specs.Replies.{kind_or_job_0}
 use Rattle.hl_model.specs.Settled.{safe_read_only}
 use Rattle.hl_words.specs.declared.view.OffsetWords.{OffsetWords}
-use Rattle.hl_words.specs.declared.which.Which.TheVariants.{SafeReadOnly}
-use Rattle.hl_words.specs.Views.{with_offset}
+use Rattle.hl_words.specs.declared.which.Which.TheVariants.{ReadOnly, Head, Ended, SafeReadOnly}
+use Rattle.hl_words.specs.Views.{newest, with_offset}
 
 -- the addresses to which the steps move an offset, the newest first; a step that doesn't move it has 0
 unfoldable pub moves_in : (Step → ℕ) → List Step → List ℕ
@@ -50,10 +50,21 @@ stores_of A = record {
   safe_read_only = settled_in A;
 }
 
--- the stores after a done that was answered so: to that of a settle the answer is the safe read-only offset
-abbrev pub with_settled : Reply → OffsetWords → OffsetWords
-with_settled (Settled x) o = with_offset SafeReadOnly x o
-with_settled _ o = o
+-- the stores after a step that was answered so: a raise, a shift, a bump and the done of a settle store what they tell
+abbrev pub with_told : Reply → OffsetWords → OffsetWords
+with_told (Raised x) o = with_offset ReadOnly x o
+with_told (Shifted x) o = with_offset Head x o
+with_told (Ticket x) o = with_offset Ended x o
+with_told (Bumped x) o = with_offset Ended x o
+with_told (Settled x) o = with_offset SafeReadOnly x o
+with_told _ o = o
+
+-- no word's newest store is below that of the other stores
+pub record IsAbove (old new : OffsetWords) : Type 0 where
+  pub read_only : newest old.read_only ≤ newest new.read_only
+  pub head : newest old.head ≤ newest new.head
+  pub ended : newest old.ended ≤ newest new.ended
+  pub safe_read_only : newest old.safe_read_only ≤ newest new.safe_read_only
 
 -- x is settled in a list: it was the safe read-only offset once the list had so many steps, and behind these no step
 -- writes below it

@@ -14,9 +14,9 @@ pub record TakenFrom : Type 0 where
   pub firing : FiringRecord
 
 -- that of a ready action, without its job
-abbrev pub ready_told : {F : Type 0} → Result (ReadyRecord F) Fault → Result TakenFrom Fault
-ready_told (Ok ready) = Ok (record { origin = ready.origin; firing = ready.firing })
-ready_told (Err fault) = Err fault
+abbrev pub ready_reply : {F : Type 0} → Result (ReadyRecord F) Fault → Result TakenFrom Fault
+ready_reply (Ok ready) = Ok (record { origin = ready.origin; firing = ready.firing })
+ready_reply (Err fault) = Err fault
 
 -- that of a take after A: the front, at the safe epoch
 abbrev pub taken_from : {F : Type 0} → KeeperState F → List Step → TakenFrom

@@ -6,7 +6,7 @@ ghost use Rattle.hl_core.specs.Steps.{asking, stored, CameOut};
 ghost use Rattle.hl_keeper.specs.Passes.{Shares};
 ghost use Rattle.hl_keeper.specs.Keepers.{job_tag};
 ghost use Rattle.hl_keeper.specs.Calls.{without_back, Makes, Stays, SameStamps};
-ghost use Rattle.hl_keeper.specs.Taking.{taken_from, ready_told};
+ghost use Rattle.hl_keeper.specs.Taking.{taken_from, ready_reply};
 
 use crate::call::note;
 use crate::keeper::Keeper;
@@ -56,7 +56,7 @@ impl<E: Epochs + Drop, F: Task, P: Promise, L: Realm> Keeper<E, F, P, L> {
     ///
     /// Faults: `JournalFull`, `Empty`, `NotReady`.
     pub fn take(&mut self, _words: &Words<L>, rider: &mut Rider<L>) -> Result<Ready<F, P>, Fault>
-        ensures made { Makes self.old TAKE (taken_from self.old) self.new (ready_told result) }
+        ensures made { Makes self.old TAKE (taken_from self.old) self.new (ready_reply result) }
         ensures refused { OnErr result (self.new ≡ self.old) }
         ensures stays { Stays self.old self.new }
         ensures stamps { SameStamps self.old self.new }

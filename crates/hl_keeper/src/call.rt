@@ -15,7 +15,7 @@ use hl_action::{Promise, Task};
 use hl_epoch::Epochs;
 use hl_model::{Fault, Reply, Step};
 use hl_pass::catch_up;
-use hl_words::{Master, Realm, Rider};
+use hl_words::{Master, Realm, Rider, Words};
 
 impl<E: Epochs + Drop, F: Task, P: Promise, L: Realm> Keeper<E, F, P, L> {
     /// Whether the pass is the one to which its slot belongs.
@@ -51,7 +51,12 @@ impl<E: Epochs + Drop, F: Task, P: Promise, L: Realm> Keeper<E, F, P, L> {
     /// Makes the touches of a pass that is known, and the call's own step behind them. The pass
     /// keeps its touches: the caller rests it. If the call is refused, nothing is changed.
     #[inline(always)]
-    pub(crate) fn call(&mut self, pass: &mut Pass<L>, step: &Step) -> Result<Reply, Fault>
+    pub(crate) fn call(
+        &mut self,
+        words: &Words<L>,
+        pass: &mut Pass<L>,
+        step: &Step,
+    ) -> Result<Reply, Fault>
         requires kind { is_call step.now ≡ true }
         requires known { Knows self.old pass.old }
         ensures made { (A : List STEP) → KeeperStands self.old A
@@ -64,7 +69,7 @@ impl<E: Epochs + Drop, F: Task, P: Promise, L: Realm> Keeper<E, F, P, L> {
         let touches = pass.touches.len() as u64;
         if touches == 0 {
             // The core judges the step as it makes it: once is enough.
-            return self.one(&mut pass.rider, step);
+            return self.one(words, &mut pass.rider, step);
         }
         self.call_touched(pass, step)
     }
@@ -148,8 +153,7 @@ pub(crate) fn note<L: Realm>(
     rider: &mut Rider<L>,
     step: Step,
 )
-    requires room { full_fault journal.old 1 ≡ None }
-    requires count { master.old.total + 1 ≤ steps_most }
+    requires { (full_fault journal.old 1 ≡ None) × (master.old.total + 1 ≤ steps_most) }
     ensures journal { journal.new ≡ with_steps (step ∷ []) journal.old }
     ensures master { let old = master.old
         in master.new ≡ record { offsets = old.offsets; total = old.total + 1; called = old.called } }

@@ -25,9 +25,10 @@ pub(crate) struct Journal {
     pub(crate) base: Base,
     // How many steps were cut.
     pub(crate) cut: u64,
-    pub(crate) steps: Vec<Step>,
     // How many steps it may keep.
     pub(crate) limit: u64,
+    // Last, beside what else each call writes.
+    pub(crate) steps: Vec<Step>,
 }
 
 impl Model for Journal {

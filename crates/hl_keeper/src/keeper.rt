@@ -1,15 +1,12 @@
-ghost use Rattle.std.specs.Prelude.{◌≡◌, ◌≢◌, ◌*◌, ◌≤◌, List, [], length, map, IfOk, IfErr, OnOk};
+ghost use Rattle.std.specs.Prelude.{◌≡◌, ◌≢◌, ◌≤◌, [], length, map, IfOk, IfErr, OnOk};
 ghost use Rattle.std.specs.Option.{IfSome};
-ghost use Rattle.std.specs.List.{sum_by, AllByRecursion};
+ghost use Rattle.std.specs.List.{AllByRecursion};
 ghost use Rattle.hl_model.specs.declared.fault.Fault.TheVariants.{OutOfMemory};
-ghost use Rattle.hl_model.specs.declared.step.Step.{Step as STEP};
-ghost use Rattle.hl_model.specs.Snapshots.{snapshot_of};
 ghost use Rattle.hl_history.specs.Lists.{IsOneList};
-ghost use Rattle.hl_words.specs.Rule.{IsRuledAt};
 ghost use Rattle.hl_words.specs.Seats.{IsKnown};
-ghost use Rattle.hl_words.specs.States.{AreTied, IsSeedOf, new_riders};
-ghost use Rattle.hl_words.specs.Views.{no_extent};
-ghost use Rattle.hl_keeper.specs.Keepers.{KeeperStands, steps_most};
+ghost use Rattle.hl_words.specs.States.{AreTied, IsSeedOf};
+ghost use Rattle.hl_keeper.specs.Keepers.{IsOpened, steps_most};
+ghost use Rattle.hl_keeper.specs.Endings.{IsLeftOf};
 
 use crate::ending::Ending;
 use crate::journal::Journal;
@@ -18,7 +15,7 @@ use hl_core::Core;
 use hl_epoch::Epochs;
 use hl_model::Fault;
 use hl_pass::Stamps;
-use hl_words::{Master, Past, Realm, Rider, Scribe, Seed, Words};
+use hl_words::{Master, Past, Realm, Recorder, Rider, Seed, Words};
 use std::alloc::Global;
 use std::marker::Model;
 
@@ -26,11 +23,12 @@ use std::marker::Model;
 /// accepted steps with the base of those that were cut from it, each slot's stamp, and the right to store the
 /// master's words. The answers of its jobs keep the promise P.
 pub struct Keeper<E: Epochs, F: Task, P: Promise, L: Realm> {
-    pub(crate) core: Core<E, Kept<F, P>>,
-    pub(crate) journal: Journal,
     // It gives one at each accepted acquire.
     pub(crate) stamps: Stamps,
+    // The journal's end, the total and the core's tail, which calls write, lie side by side.
+    pub(crate) journal: Journal,
     pub(crate) master: Master<L>,
+    pub(crate) core: Core<E, Kept<F, P>>,
 }
 
 impl<E: Epochs, F: Task, P: Promise, L: Realm> Model for Keeper<E, F, P, L> {
@@ -73,50 +71,36 @@ impl<E: Epochs + Drop, F: Task, P: Promise, L: Realm> Keeper<E, F, P, L> {
         requires journal { journal ≤ steps_most }
         requires stamp { stamp ≤ steps_most }
         requires named { (seed.sizes ≡ L.sizes) × (stamp ≡ L.stamp) }
-        ensures keeper { IfOk result (λ opened. KeeperStands opened.0 []) }
-        ensures sizes { IfOk result (λ opened. opened.0.core.sizes ≡ seed.sizes) }
-        ensures limit { IfOk result (λ opened. opened.0.limit ≡ journal) }
-        ensures stamp { IfOk result (λ opened. (opened.0.stamp ≡ stamp) × (opened.0.acquired ≡ 0)) }
-        ensures called { IfOk result (λ opened. opened.0.called ≡ no_extent) }
-        ensures words { IfOk result (λ opened.
-            opened.1 ≡ record { cells = seed.sizes.frames * seed.sizes.page_size; riders = seed.riders }) }
-        ensures riders { IfOk result (λ opened. opened.2.items ≡ new_riders seed.riders) }
+        ensures opened { IfOk result (λ o. IsOpened seed journal stamp o.0 o.1 o.2.items) }
         ensures memory { IfErr result (λ fault. fault ≡ OutOfMemory) }
     {
-        let (keeper, words, _scribe, riders) = Keeper::open_with_scribe(
+        let (keeper, words, _recorder, riders) = Keeper::open_with_recorder(
             alloc, seed, journal, stamp,
         )?;
         Ok((keeper, words, riders))
     }
 
-    /// A keeper as `open` makes it, and the scribe of its words' list, whose list is empty too. If
-    /// both lie under one lock, and each call is noted by `note` or `note_quiet`, the scribe has
+    /// A keeper as `open` makes it, and the recorder of its words' list, whose list is empty too. If
+    /// both lie under one lock, and each call is noted by `note` or `note_quiet`, the recorder has
     /// each list at which the keeper stands.
     ///
     /// `OutOfMemory` if memory was refused; then the seed is given up.
-    pub fn open_with_scribe(
+    pub fn open_with_recorder(
         alloc: Global,
         seed: Seed,
         journal: u64,
         stamp: u64,
-    ) -> Result<(Keeper<E, F, P, L>, Words<L>, Scribe<L>, Vec<Rider<L>>), Fault>
+    ) -> Result<(Keeper<E, F, P, L>, Words<L>, Recorder<L>, Vec<Rider<L>>), Fault>
         requires seed { IsSeedOf L.name L.parts L.table seed }
         requires journal { journal ≤ steps_most }
         requires stamp { stamp ≤ steps_most }
         requires named { (seed.sizes ≡ L.sizes) × (stamp ≡ L.stamp) }
-        ensures keeper { IfOk result (λ opened. KeeperStands opened.0 []) }
-        ensures sizes { IfOk result (λ opened. opened.0.core.sizes ≡ seed.sizes) }
-        ensures limit { IfOk result (λ opened. opened.0.limit ≡ journal) }
-        ensures stamp { IfOk result (λ opened. (opened.0.stamp ≡ stamp) × (opened.0.acquired ≡ 0)) }
-        ensures called { IfOk result (λ opened. opened.0.called ≡ no_extent) }
-        ensures words { IfOk result (λ opened.
-            opened.1 ≡ record { cells = seed.sizes.frames * seed.sizes.page_size; riders = seed.riders }) }
-        ensures list { IfOk result (λ opened. opened.2 ≡ []) }
-        ensures riders { IfOk result (λ opened. opened.3.items ≡ new_riders seed.riders) }
+        ensures opened { IfOk result (λ o. IsOpened seed journal stamp o.0 o.1 o.3.items) }
+        ensures list { IfOk result (λ o. o.2 ≡ []) }
         ensures memory { IfErr result (λ fault. fault ≡ OutOfMemory) }
     {
         let params = seed.params();
-        let (words, master, scribe, riders) = Words::open_with_scribe(alloc, seed)?;
+        let (words, master, recorder, riders) = Words::open_with_recorder(alloc, seed)?;
         let core = Core::open(alloc, params)?;
         let journal = Journal::open(alloc, params, journal)?;
         let stamps = Stamps::open(alloc, params.slots(), stamp)?;
@@ -126,7 +110,7 @@ impl<E: Epochs + Drop, F: Task, P: Promise, L: Realm> Keeper<E, F, P, L> {
             stamps,
             master,
         };
-        Ok((keeper, words, scribe, riders))
+        Ok((keeper, words, recorder, riders))
     }
 
     /// Ends the keeper, and returns what is left of it. It needs all its riders: if one is missing,
@@ -136,15 +120,7 @@ impl<E: Epochs + Drop, F: Task, P: Promise, L: Realm> Keeper<E, F, P, L> {
         words: Words<L>,
         riders: Vec<Rider<L>>,
     ) -> Result<Ending<F, P>, (Keeper<E, F, P, L>, Words<L>, Vec<Rider<L>>)>
-        ensures kept { IfOk result (λ ending. (ending.base ≡ self.base) × (ending.cut ≡ self.cut)
-            × (ending.journal ≡ self.journal) × (ending.left ≡ self.core.drain)) }
-        ensures quantities { (A : List STEP) → KeeperStands self A
-            → IfOk result (λ ending. ending.snapshot ≡ snapshot_of self.core.sizes A) }
-        ensures sum { OnOk result (self.total ≡ sum_by (λ r. r.share) riders.items) }
-        ensures words { IfOk result (λ ending. IsRuledAt words.cells ending.words.words self.offsets
-            self.called (map (λ r. r.view) riders.items)) }
-        ensures cells { IfOk result (λ ending. ending.words.cells ≡ words.cells) }
-        ensures all { OnOk result (length riders.items ≡ words.riders) }
+        ensures ending { IfOk result (IsLeftOf self words riders.items) }
         ensures missing { IfErr result (λ _. length riders.items ≢ words.riders) }
         ensures back { IfErr result (λ back. (back.0 ≡ self) × (back.1 ≡ words) × (back.2 ≡ riders)) }
     {
@@ -175,13 +151,13 @@ impl<E: Epochs + Drop, F: Task, P: Promise, L: Realm> Keeper<E, F, P, L> {
         }
     }
 
-    /// Ends it as `close` does. If no rider is missing, the scribe's list is also the one list of exactly these riders'
+    /// Ends it as `close` does. If no rider is missing, the recorder's list is also the one list of exactly these riders'
     /// calls, which stand among their touches; and of each past that was kept some rider has its name, and made the
     /// touches that it tells.
-    pub fn close_with_scribe(
+    pub fn close_with_recorder(
         self,
         words: Words<L>,
-        scribe: Scribe<L>,
+        recorder: Recorder<L>,
         riders: Vec<Rider<L>>,
         pasts: Option<Vec<Past<L>>>,
     ) -> Result<
@@ -189,27 +165,19 @@ impl<E: Epochs + Drop, F: Task, P: Promise, L: Realm> Keeper<E, F, P, L> {
         (
             Keeper<E, F, P, L>,
             Words<L>,
-            Scribe<L>,
+            Recorder<L>,
             Vec<Rider<L>>,
             Option<Vec<Past<L>>>,
         ),
     >
-        ensures kept { IfOk result (λ ending. (ending.base ≡ self.base) × (ending.cut ≡ self.cut)
-            × (ending.journal ≡ self.journal) × (ending.left ≡ self.core.drain)) }
-        ensures quantities { (A : List STEP) → KeeperStands self A
-            → IfOk result (λ ending. ending.snapshot ≡ snapshot_of self.core.sizes A) }
-        ensures sum { OnOk result (self.total ≡ sum_by (λ r. r.share) riders.items) }
-        ensures words { IfOk result (λ ending. IsRuledAt words.cells ending.words.words self.offsets
-            self.called (map (λ r. r.view) riders.items)) }
-        ensures cells { IfOk result (λ ending. ending.words.cells ≡ words.cells) }
-        ensures list { OnOk result (IsOneList scribe (map (λ r. r.calls) riders.items)) }
+        ensures ending { IfOk result (IsLeftOf self words riders.items) }
+        ensures list { OnOk result (IsOneList recorder (map (λ r. r.calls) riders.items)) }
         ensures tied { OnOk result (AllByRecursion (λ r. AreTied r.view.touches r.calls) riders.items) }
         ensures known { OnOk result (IfSome pasts
             (λ all. AllByRecursion (IsKnown (map (λ r. r.view) riders.items)) all.items)) }
-        ensures all { OnOk result (length riders.items ≡ words.riders) }
         ensures missing { IfErr result (λ _. length riders.items ≢ words.riders) }
         ensures back { IfErr result (λ back. (back.0 ≡ self) × (back.1 ≡ words)
-            × (back.2 ≡ scribe) × (back.3 ≡ riders) × (back.4 ≡ pasts)) }
+            × (back.2 ≡ recorder) × (back.3 ≡ riders) × (back.4 ≡ pasts)) }
     {
         let Keeper {
             core,
@@ -217,7 +185,7 @@ impl<E: Epochs + Drop, F: Task, P: Promise, L: Realm> Keeper<E, F, P, L> {
             stamps,
             master,
         } = self;
-        match words.close_with_scribe(master, scribe, riders, pasts) {
+        match words.close_with_recorder(master, recorder, riders, pasts) {
             Ok(words) => Ok(Ending {
                 snapshot: core.snapshot(),
                 base: journal.base,
@@ -226,14 +194,14 @@ impl<E: Epochs + Drop, F: Task, P: Promise, L: Realm> Keeper<E, F, P, L> {
                 left: core.into_drain(),
                 words,
             }),
-            Err((words, master, scribe, riders, pasts)) => {
+            Err((words, master, recorder, riders, pasts)) => {
                 let keeper = Keeper {
                     core,
                     journal,
                     stamps,
                     master,
                 };
-                Err((keeper, words, scribe, riders, pasts))
+                Err((keeper, words, recorder, riders, pasts))
             }
         }
     }

@@ -62,7 +62,6 @@ mod offsets;
 mod pages;
 mod pass;
 mod queries;
-mod region;
 mod rider;
 mod slots;
 mod sweep;
@@ -81,9 +80,9 @@ pub use hl_laws::Base;
 pub use hl_model::{
     Fault, FrameState, HasSizes, Params, RawSizes, Reply, Six, Sizes, Snapshot, Step, View,
 };
+pub use hl_pass::Region;
 pub use hl_words::{Master, Past, Realm, Rider, Seed, Words};
 pub use keeper::Keeper;
 pub use lease::Lease;
 pub use load::{Broom, Load, PageJob};
 pub use pass::Pass;
-pub use region::Region;

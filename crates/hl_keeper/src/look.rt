@@ -4,13 +4,12 @@ ghost use Rattle.std.specs.Prelude.{◌≡◌, ◌*◌, ◌<◌, ◌≤◌, Some
 ghost use Rattle.hl_model.specs.declared.fault.Fault.TheVariants.{Beyond as BEYOND};
 ghost use Rattle.hl_model.specs.Replies.{unless_fault, unless_refused};
 ghost use Rattle.hl_keeper.specs.Passes.{PassRecord, seen, touches_most, touch_fault, store_fault, load_fault, with_look, with_store, with_load, last_read_only, last_head, LooksOn};
-ghost use Rattle.hl_keeper.specs.Regions.{IsToldRegion};
+ghost use Rattle.hl_keeper.specs.Regions.{IsRegion};
 
 use crate::pass::Pass;
-use crate::region::Region;
 use crate::touches::TOUCHES_MOST;
 use hl_model::{Fault, Sizes, Step, View, cell_of};
-use hl_pass::{may_load, may_store, raised, rises};
+use hl_pass::{Region, may_load, may_store, raised, rises};
 use hl_words::{Realm, Which, Words};
 
 /// Loads both offset words: each of the pass's two offsets becomes the greater of the loaded one
@@ -106,7 +105,7 @@ pub fn load<L: Realm>(
 /// `Beyond` if the address isn't below the tail that the pass saw, nor evicted.
 #[inline(always)]
 pub fn region<L: Realm>(words: &Words<L>, pass: &mut Pass<L>, a: u64) -> Result<Region, Fault>
-    ensures region { IfOk result (λ region. IsToldRegion pass.old pass.new a region) }
+    ensures region { IfOk result (λ region. IsRegion pass.old pass.new a region) }
     ensures beyond { let saw = seen pass.old
         in IfErr result (λ fault. (fault ≡ BEYOND saw.tail) × (saw.head ≤ a) × (saw.tail ≤ a)
         × (pass.new ≡ pass.old)) }

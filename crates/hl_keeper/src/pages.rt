@@ -1,9 +1,12 @@
 //! The locked calls about pages, and the done of an action.
-ghost use Rattle.std.specs.Prelude.{◌≡◌, List, [], ◌∷◌, ◌++◌, OnErr, IfErr, MatchResult, Bool};
+ghost use Rattle.std.specs.Prelude.{◌≡◌, true, false, List, [], ◌∷◌, ◌++◌, OnErr, OnOk, IfErr, MatchResult, Bool};
 ghost use Rattle.hl_model.specs.declared.step.Step.TheVariants.{Done as DONE, FlushTake as FLUSH_TAKE, FlushDone as FLUSH_DONE, CleanTake as CLEAN_TAKE, CleanDone as CLEAN_DONE};
 ghost use Rattle.hl_model.specs.Pages.{flushed};
 ghost use Rattle.hl_model.specs.Replies.{answer_of};
+ghost use Rattle.hl_core.specs.Steps.{is_acted};
 ghost use Rattle.hl_keeper.specs.Passes.{Shares};
+ghost use Rattle.hl_keeper.specs.Keepers.{IsKeeper};
+ghost use Rattle.hl_keeper.specs.Stamps.{is_acquire};
 ghost use Rattle.hl_keeper.specs.Calls.{without_back, Makes, Ends, Keeps, SameStamps};
 ghost use Rattle.hl_keeper.specs.Pages.{to_flush, to_clean};
 
@@ -18,14 +21,14 @@ impl<E: Epochs + Drop, F: Task, P: Promise, L: Realm> Keeper<E, F, P, L> {
     /// Takes the least sealed page that is neither flushed nor in flight.
     ///
     /// Faults: `JournalFull`, `NoneSealed`.
-    pub fn flush_take(&mut self, _words: &Words<L>, rider: &mut Rider<L>) -> Result<Load, Fault>
+    pub fn flush_take(&mut self, words: &Words<L>, rider: &mut Rider<L>) -> Result<Load, Fault>
         ensures made { Makes self.old FLUSH_TAKE
             (λ A. to_flush self.old.core.sizes self.old.stamp A) self.new result }
         ensures keeps { Keeps self.old self.new result }
         ensures stamps { SameStamps self.old self.new }
         ensures rider { Shares 1 result rider.old rider.new }
     {
-        match self.one(rider, &Step::FlushTake)? {
+        match self.one(words, rider, &Step::FlushTake)? {
             Reply::Page(page) => Ok(Load::of(PageJob {
                 stamp: self.stamps.own(),
                 page,
@@ -40,7 +43,7 @@ impl<E: Epochs + Drop, F: Task, P: Promise, L: Realm> Keeper<E, F, P, L> {
     /// `NotInFlight`.
     pub fn flush_done(
         &mut self,
-        _words: &Words<L>,
+        words: &Words<L>,
         rider: &mut Rider<L>,
         load: Load,
         ok: bool,
@@ -54,31 +57,29 @@ impl<E: Epochs + Drop, F: Task, P: Promise, L: Realm> Keeper<E, F, P, L> {
         ensures rider { Shares 1 result rider.old rider.new }
     {
         let PageJob { stamp, page } = load.job();
-        if let Err(fault) = self.own(stamp) {
-            return Err((fault, load));
-        }
-        let reply = match self.one(rider, &Step::FlushDone { page, ok }) {
-            Ok(reply) => reply,
-            Err(fault) => return Err((fault, load)),
-        };
-        load.forsake();
-        match reply {
-            Reply::Flushed(flushed) => Ok(flushed),
-            _ => unreachable!(),
+        match self.end(words, rider, stamp, &Step::FlushDone { page, ok }) {
+            Ok(reply) => {
+                load.forsake();
+                match reply {
+                    Reply::Flushed(flushed) => Ok(flushed),
+                    _ => unreachable!(),
+                }
+            }
+            Err(fault) => Err((fault, load)),
         }
     }
 
     /// Takes the least closed page that is neither freed nor being cleaned.
     ///
     /// Faults: `JournalFull`, `NoneClosed`.
-    pub fn clean_take(&mut self, _words: &Words<L>, rider: &mut Rider<L>) -> Result<Broom, Fault>
+    pub fn clean_take(&mut self, words: &Words<L>, rider: &mut Rider<L>) -> Result<Broom, Fault>
         ensures made { Makes self.old CLEAN_TAKE
             (λ A. to_clean self.old.core.sizes self.old.stamp A) self.new result }
         ensures keeps { Keeps self.old self.new result }
         ensures stamps { SameStamps self.old self.new }
         ensures rider { Shares 1 result rider.old rider.new }
     {
-        match self.one(rider, &Step::CleanTake)? {
+        match self.one(words, rider, &Step::CleanTake)? {
             Reply::Page(page) => Ok(Broom::of(PageJob {
                 stamp: self.stamps.own(),
                 page,
@@ -94,7 +95,7 @@ impl<E: Epochs + Drop, F: Task, P: Promise, L: Realm> Keeper<E, F, P, L> {
     /// `NotCleaning`.
     pub fn clean_done(
         &mut self,
-        _words: &Words<L>,
+        words: &Words<L>,
         rider: &mut Rider<L>,
         broom: Broom,
     ) -> Result<u64, (Fault, Broom)>
@@ -107,10 +108,7 @@ impl<E: Epochs + Drop, F: Task, P: Promise, L: Realm> Keeper<E, F, P, L> {
         ensures rider { Shares 1 result rider.old rider.new }
     {
         let page = broom.page();
-        if let Err(fault) = self.own(broom.stamp()) {
-            return Err((fault, broom));
-        }
-        match self.one(rider, &Step::CleanDone { page }) {
+        match self.end(words, rider, broom.stamp(), &Step::CleanDone { page }) {
             Ok(_) => {
                 broom.forsake();
                 Ok(page)
@@ -140,15 +138,34 @@ impl<E: Epochs + Drop, F: Task, P: Promise, L: Realm> Keeper<E, F, P, L> {
         ensures rider { Shares 1 result rider.old rider.new }
     {
         let ticket = ran.ticket();
-        if let Err(fault) = self.own(ran.origin()) {
-            return Err((fault, ran));
-        }
-        match self.finish(words, rider, ticket) {
+        match self.end(words, rider, ran.origin(), &Step::Done { ticket }) {
             Ok(reply) => {
                 ran.forsake();
                 Ok(reply)
             }
             Err(fault) => Err((fault, ran)),
         }
+    }
+
+    // One step that ends what has this origin.
+    #[inline(always)]
+    fn end(
+        &mut self,
+        words: &Words<L>,
+        rider: &mut Rider<L>,
+        origin: u64,
+        step: &Step,
+    ) -> Result<Reply, Fault>
+        requires acted { is_acted step.now ≡ true }
+        requires unstamped { is_acquire step.now ≡ false }
+        ensures made { Ends self.old origin step.now
+            (λ A. answer_of self.old.core.sizes A (A ++ step.now ∷ []) step.now) self.new result }
+        ensures keeps { Keeps self.old self.new result }
+        ensures stamps { SameStamps self.old self.new }
+        ensures rider { Shares 1 result rider.old rider.new }
+        ensures valid { OnOk result (IsKeeper self.old) }
+    {
+        self.own(origin)?;
+        self.one(words, rider, step)
     }
 }

@@ -2,7 +2,7 @@ ghost use Rattle.std.specs.Prelude.{◌≡◌, ◌%◌, List, length, take};
 ghost use Rattle.hl_model.specs.declared.step.Step.{Step as STEP};
 ghost use Rattle.hl_model.specs.Frames.{frame_of};
 ghost use Rattle.hl_model.specs.Snapshots.{snapshot_of};
-ghost use Rattle.hl_core.specs.Holding.{oldest, holders};
+ghost use Rattle.hl_core.specs.Holding.{is_over, oldest, holders};
 ghost use Rattle.hl_keeper.specs.Keepers.{IsOf, KeeperStands};
 
 use crate::keeper::Keeper;
@@ -34,6 +34,14 @@ impl<E: Epochs, F: Task, P: Promise, L: Realm> Keeper<E, F, P, L> {
         ensures { (A : List STEP) → KeeperStands self.now A → result ≡ length A }
     {
         self.master.total()
+    }
+
+    /// Whether the action of this ticket is over: it was taken, and is done. So it is of a ticket under which no action was
+    /// stored, once all before it were taken.
+    pub fn is_over(&self, ticket: u64) -> bool
+        ensures { (A : List STEP) → KeeperStands self.now A → result ≡ is_over ticket A }
+    {
+        self.core.is_over(ticket)
     }
 
     /// All quantities, the number of steps since the last cut, and the number of steps cut in all.

@@ -1,9 +1,7 @@
-//! One step of a rider, as the calls about pages make it, and the bare bump.
+//! One step of a rider, as the calls about offsets and pages make it, and the bare bump.
 ghost use Rattle.std.specs.Prelude.{◌≡◌, true, false, List, [], ◌∷◌, ◌++◌, OnErr, MatchResult};
 ghost use Rattle.hl_model.specs.declared.step.Step.TheVariants.{Bare as BARE};
-ghost use Rattle.hl_model.specs.Actions.{is_done, bumps};
-ghost use Rattle.hl_model.specs.Epochs.{is_bump};
-ghost use Rattle.hl_model.specs.Offsets.{raised_to, shifted_to};
+ghost use Rattle.hl_model.specs.Actions.{bumps};
 ghost use Rattle.hl_model.specs.Replies.{answer_of};
 ghost use Rattle.hl_core.specs.Steps.{is_acted};
 ghost use Rattle.hl_keeper.specs.Passes.{Shares};
@@ -13,18 +11,23 @@ ghost use Rattle.hl_keeper.specs.Calls.{Makes, Keeps, SameStamps};
 
 use crate::call::note;
 use crate::keeper::Keeper;
+use crate::offsets::store_told;
 use hl_action::{Promise, Task};
 use hl_epoch::Epochs;
 use hl_model::{Fault, Reply, Step};
-use hl_words::{Realm, Rider, Which, Words};
+use hl_words::{Realm, Rider, Words};
 
 impl<E: Epochs + Drop, F: Task, P: Promise, L: Realm> Keeper<E, F, P, L> {
-    /// Makes one step, which stores none of the master's words, stamps no slot, and takes no job in or out.
+    /// Makes one step, which stamps no slot, and takes no job in or out; if it moves an offset or ends an epoch, stores
+    /// its word.
     #[inline(always)]
-    pub(crate) fn one(&mut self, rider: &mut Rider<L>, step: &Step) -> Result<Reply, Fault>
+    pub(crate) fn one(
+        &mut self,
+        words: &Words<L>,
+        rider: &mut Rider<L>,
+        step: &Step,
+    ) -> Result<Reply, Fault>
         requires acted { is_acted step.now ≡ true }
-        requires quiet { (raised_to step.now ≡ 0) × (shifted_to step.now ≡ 0) × (is_bump step.now ≡ false)
-            × (is_done step.now ≡ false) }
         requires unstamped { is_acquire step.now ≡ false }
         ensures made { Makes self.old step.now
             (λ A. answer_of self.old.core.sizes A (A ++ step.now ∷ []) step.now) self.new result }
@@ -35,6 +38,7 @@ impl<E: Epochs + Drop, F: Task, P: Promise, L: Realm> Keeper<E, F, P, L> {
     {
         self.room(1)?;
         let reply = self.core.act(step)?;
+        store_told(words, &mut self.master, reply);
         note(&mut self.journal, &mut self.master, rider, *step);
         Ok(reply)
     }
@@ -49,10 +53,9 @@ impl<E: Epochs + Drop, F: Task, P: Promise, L: Realm> Keeper<E, F, P, L> {
         ensures stamps { SameStamps self.old self.new }
         ensures rider { Shares 1 result rider.old rider.new }
     {
-        self.room(1)?;
-        let ended = self.core.bare()?;
-        words.store_offset(&mut self.master, Which::Ended, ended);
-        note(&mut self.journal, &mut self.master, rider, Step::Bare);
-        Ok(ended)
+        match self.one(words, rider, &Step::Bare)? {
+            Reply::Bumped(ended) => Ok(ended),
+            _ => unreachable!(),
+        }
     }
 }

@@ -22,7 +22,7 @@ impl<E: Epochs + Drop, F: Task, P: Promise, L: Realm> Keeper<E, F, P, L> {
     /// Faults: `Stranger` if the slot isn't the pass's, or the pass saw an offset above the present
     /// one; `JournalFull`.
     #[inline(always)]
-    pub fn refresh(&mut self, _words: &Words<L>, pass: &mut Pass<L>) -> Result<View, Fault>
+    pub fn refresh(&mut self, words: &Words<L>, pass: &mut Pass<L>) -> Result<View, Fault>
         ensures made { let old = self.old
             in let p = pass.old
             in MakesTouched old p (REFRESH p.slot) (λ A. refresh_fault old A p)
@@ -36,7 +36,7 @@ impl<E: Epochs + Drop, F: Task, P: Promise, L: Realm> Keeper<E, F, P, L> {
     {
         self.known_behind(pass)?;
         let step = Step::Refresh { t: pass.own.slot };
-        match self.call(pass, &step)? {
+        match self.call(words, pass, &step)? {
             Reply::Entered { epoch, view } => {
                 pass.rest(epoch, view);
                 Ok(view)
@@ -48,11 +48,7 @@ impl<E: Epochs + Drop, F: Task, P: Promise, L: Realm> Keeper<E, F, P, L> {
     /// Releases the pass's slot; returns the rider.
     ///
     /// Faults, with the pass handed back: `Stranger` if the slot isn't the pass's, `JournalFull`.
-    pub fn release(
-        &mut self,
-        _words: &Words<L>,
-        pass: Pass<L>,
-    ) -> Result<Rider<L>, (Fault, Pass<L>)>
+    pub fn release(&mut self, words: &Words<L>, pass: Pass<L>) -> Result<Rider<L>, (Fault, Pass<L>)>
         ensures made { let step = RELEASE pass.slot
             in MakesTouched self.old pass step (λ A. call_fault self.old A pass step)
             (λ A. with_share (length pass.touches + 1) pass.rider) self.new (without_back result) }
@@ -65,7 +61,7 @@ impl<E: Epochs + Drop, F: Task, P: Promise, L: Realm> Keeper<E, F, P, L> {
             return Err((fault, pass));
         }
         let step = Step::Release { t: pass.own.slot };
-        match self.call(&mut pass, &step) {
+        match self.call(words, &mut pass, &step) {
             Ok(_) => Ok(pass.abandon()),
             Err(fault) => Err((fault, pass)),
         }
@@ -78,7 +74,7 @@ impl<E: Epochs + Drop, F: Task, P: Promise, L: Realm> Keeper<E, F, P, L> {
     /// Faults: `Stranger` if the slot isn't the pass's, `JournalFull`, `Size`, `SpaceSpent`,
     /// `Busy`.
     #[inline(always)]
-    pub fn allocate(&mut self, _words: &Words<L>, pass: &mut Pass<L>, n: u64) -> Result<u64, Fault>
+    pub fn allocate(&mut self, words: &Words<L>, pass: &mut Pass<L>, n: u64) -> Result<u64, Fault>
         ensures made { let sizes = self.old.core.sizes
             in let p = pass.old
             in MakesTouched self.old p (ALLOCATE p.slot n) (λ A. call_fault self.old A p (ALLOCATE p.slot n))
@@ -101,7 +97,7 @@ impl<E: Epochs + Drop, F: Task, P: Promise, L: Realm> Keeper<E, F, P, L> {
             t: pass.own.slot,
             n,
         };
-        match self.call(pass, &step)? {
+        match self.call(words, pass, &step)? {
             Reply::At(address) => {
                 let view = View {
                     tail: address + n,

@@ -17,13 +17,12 @@
 ghost use Rattle.std.specs.Prelude.{◌<◌, vec_len};
 
 use crate::device::{Device, PAGE_SIZE, PLACES, zeros};
-use hl::{Fault, Lease, Realm, Region, Session};
+use hl::{Curable, Cure, Fault, Helping, Lease, Realm, Region, Session, attempt};
 use std::alloc::Global;
 use std::sync::Wait;
 use std::sync::atomic::AtomicU64;
 use std::sync::atomic::Ordering::SeqCst;
-use std::thread;
-use std::time::{Clock, Duration};
+use std::time::Clock;
 
 /// How often an operation is attempted, and how many records of a chain are looked at.
 const TRIES: u32 = 100_000;
@@ -48,7 +47,7 @@ pub(crate) enum Operation {
     Move(u64),
 }
 
-/// Why an attempt came to nothing.
+/// Why a try came to nothing.
 #[derive(Clone, Copy, Debug)]
 pub(crate) enum Trouble {
     /// The log refused a call; or the clock or the output failed, as `Stream`.
@@ -76,6 +75,18 @@ pub(crate) type Outcome<T> = Result<T, Trouble>;
 impl From<Fault> for Trouble {
     fn from(fault: Fault) -> Trouble {
         Trouble::Log(fault)
+    }
+}
+
+impl Curable for Trouble {
+    fn cure(&self) -> Option<Cure> {
+        match self {
+            // The chain is looked up anew; or the record was placed too late.
+            Trouble::Raced | Trouble::Log(Fault::Below { .. }) => Some(Cure::Refresh),
+            Trouble::Fuzzy => Some(Cure::Others),
+            Trouble::Log(fault) => fault.cure(),
+            Trouble::Differs { .. } | Trouble::Image { .. } => None,
+        }
     }
 }
 
@@ -119,6 +130,16 @@ pub(crate) struct Seat<'a, 'b, R: Wait, L: Realm> {
     pub(crate) copies: u64,
 }
 
+impl<'a, 'b, R: Wait, L: Realm> Helping for Seat<'a, 'b, R, L> {
+    ghost use Rattle.std.specs.Prelude.{⊤};
+
+    ghost helps = { λ _ _ _. ⊤ };
+
+    fn help_by(&mut self, cure: Cure) -> Result<bool, Fault> {
+        self.session.help_by(cure)
+    }
+}
+
 impl<'a, 'b, R: Wait + Clock, L: Realm> Seat<'a, 'b, R, L> {
     /// A seat that has no piece yet.
     pub(crate) fn new(
@@ -135,15 +156,9 @@ impl<'a, 'b, R: Wait + Clock, L: Realm> Seat<'a, 'b, R, L> {
         }
     }
 
-    /// Does an operation: attempts it until it is done, or refused for good. Returns what a read found.
+    /// Does an operation: tries until it is done, or refused for good. Returns what a read found.
     pub(crate) fn apply(&mut self, key: u64, operation: Operation) -> Outcome<Option<u64>> {
-        for _ in 0..TRIES {
-            match self.attempt(key, operation) {
-                Err(trouble) => self.recover(trouble)?,
-                done => return done,
-            }
-        }
-        self.attempt(key, operation)
+        attempt(self, TRIES, |seat| seat.apply_once(key, operation))
     }
 
     /// Lets the device's first page go, if few places are left. Two threads may do so at once.
@@ -166,10 +181,10 @@ impl<'a, 'b, R: Wait + Clock, L: Realm> Seat<'a, 'b, R, L> {
         Ok(())
     }
 
-    // One attempt. It brings the session up to date first, and not again until the new record is placed, if there is one:
+    // One try. It brings the session up to date first, and not again until the new record is placed, if there is one:
     // so what it finds out of a record holds until then. If it fails, it leaves at most a record that nobody finds.
     #[inline(always)]
-    fn attempt(&mut self, key: u64, operation: Operation) -> Outcome<Option<u64>> {
+    fn apply_once(&mut self, key: u64, operation: Operation) -> Outcome<Option<u64>> {
         self.session.keep_up()?;
         // Loaded before the chain: what was moved from earlier pages is found there.
         let first = self.store.device.first.load(SeqCst);
@@ -231,24 +246,6 @@ impl<'a, 'b, R: Wait + Clock, L: Realm> Seat<'a, 'b, R, L> {
         }
     }
 
-    // Does what the trouble asks for before the next attempt, which keeps up. What nothing helps against is the error.
-    fn recover(&mut self, trouble: Trouble) -> Outcome<()> {
-        match trouble {
-            // The chain is looked up anew; or the record was placed too late.
-            Trouble::Raced | Trouble::Log(Fault::Below { .. }) => {}
-            // Others have to refresh, or the crew has to free a frame.
-            Trouble::Fuzzy | Trouble::Log(Fault::Busy { .. }) => self.wait()?,
-            // It lies above the tail that the session saw; or there is no room for the session's touches.
-            Trouble::Log(Fault::Beyond { .. } | Fault::TouchesFull | Fault::JournalFull) => {
-                if let Err(Fault::JournalFull) = self.session.refresh() {
-                    self.session.cut();
-                }
-            }
-            _ => return Err(trouble),
-        }
-        Ok(())
-    }
-
     // Places a record above the one before it; returns where its value is. Nobody finds it before it is published, so its
     // words may be stored one by one, with a refresh between two.
     fn place(&mut self, key: u64, value: u64, previous: u64) -> Result<u64, Fault> {
@@ -283,18 +280,5 @@ impl<'a, 'b, R: Wait + Clock, L: Realm> Seat<'a, 'b, R, L> {
             self.lease = Lease::of(0, 0);
         }
         stored
-    }
-
-    // Helps the log on; naps if nothing was ready. A full journal is cut.
-    fn wait(&mut self) -> Result<(), Fault> {
-        match self.session.help() {
-            Ok(true) => {}
-            Ok(false) => thread::sleep(self.rt, Duration::from_micros(50)),
-            Err(Fault::JournalFull) => {
-                self.session.cut();
-            }
-            Err(fault) => return Err(fault),
-        }
-        Ok(())
     }
 }

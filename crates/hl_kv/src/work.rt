@@ -3,8 +3,11 @@ use crate::device::{PAGE_SIZE, zeros};
 use crate::images;
 use crate::store::{Operation, Outcome, Seat, Store, Trouble};
 use hl::{ArrayVec, Config, Fault, Holder, NoJob, Realm, Session, Work, run_threads};
+use rand::distr::Distribution;
+use rand::distr::weighted::WeightedIndex;
+use rand::prelude::{IndexedRandom, RngExt, SeedableRng, SmallRng};
 use std::alloc::Global;
-use std::num::{nearest_u64_to_f64, saturating_f64_to_u64};
+use std::num::nearest_u64_to_f64;
 use std::sync::Wait;
 use std::sync::atomic::AtomicU64;
 use std::sync::atomic::Ordering::SeqCst;
@@ -145,7 +148,7 @@ impl<'a, 'b, R: Wait + Clock + Print, L: Realm> Seat<'a, 'b, R, L> {
         let sums = vec![in shared.alloc; 0; shared.sums.len()];
         let mut sums = sums.map_err(|_| Fault::OutOfMemory)?;
         let start = Instant::now(self.rt).map_err(|_| Fault::Stream)?;
-        let mut random = Random::of(number);
+        let mut random = SmallRng::seed_from_u64(number);
         let mark = shared.plan.keys.saturating_add(number);
         let mut told = 0;
         for batch in 1..u64::MAX {
@@ -174,15 +177,15 @@ impl<'a, 'b, R: Wait + Clock + Print, L: Realm> Seat<'a, 'b, R, L> {
     }
 
     // Reads counters, and adds to them. Only a thread that is alone may upsert one: the others sum up what they added.
-    fn batch(&mut self, shared: &Shared, random: &mut Random, sums: &mut [u64]) -> Outcome<()> {
+    fn batch(&mut self, shared: &Shared, random: &mut SmallRng, sums: &mut [u64]) -> Outcome<()> {
         let plan = &shared.plan;
         let copied = self.copies;
         for _ in 0..BATCH {
             self.make_room()?;
-            let key = random.key(&shared.drawn, plan.keys);
-            let value = random.below(1000);
+            let key = draw_key(random, &shared.drawn, plan.keys.saturating_sub(1));
+            let value = random.random_range(0..1000u64);
             let sum = sums.get_mut(key as usize).ok_or(Fault::Size)?;
-            if plan.reads <= random.below(100) {
+            if plan.reads <= random.random_range(0..100u64) {
                 let is_upsert = plan.compares && value < 500;
                 let operation = if is_upsert {
                     Operation::Upsert(value)
@@ -236,50 +239,29 @@ impl<'a, 'b, R: Wait + Clock + Print, L: Realm> Seat<'a, 'b, R, L> {
     }
 }
 
-// Keys below `count`, at most 2^20, by Zipf's law: key k has the weight 1 / (k + 1)^0.99. None if `count` is 0.
+// Keys below `count` by Zipf's law: key k has the weight 1 / (k + 1)^0.99. None if `count` is 0.
 fn zipf_row(alloc: Global, count: u64) -> Result<Vec<u64>, Fault> {
-    let (mut sums, mut drawn) = (Vec::new(alloc), Vec::new(alloc));
-    let mut sum = 0u64;
-    for key in 0..count {
-        // In units by which the sum of all stays below 2^32.
-        let weight = 134_217_728.0 / nearest_u64_to_f64(key + 1).powf(0.99);
-        sum = sum.saturating_add(saturating_f64_to_u64(weight));
-        sums.push(sum).map_err(|_| Fault::OutOfMemory)?;
+    let (mut weights, mut drawn) = (Vec::new(alloc), Vec::new(alloc));
+    if count == 0 {
+        return Ok(drawn);
     }
-    let mut random = Random::of(count);
-    for _ in 0..DRAWS.min(sum) {
-        let at = random.below(sum);
-        let key = sums.partition_point(|sum| *sum <= at) as u64;
+    for key in 0..count {
+        let weight = 1.0 / nearest_u64_to_f64(key + 1).powf(0.99);
+        weights.push(weight).map_err(|_| Fault::OutOfMemory)?;
+    }
+    let law = WeightedIndex::new(alloc, weights.as_slice()).map_err(|_| Fault::OutOfMemory)?;
+    let mut random = SmallRng::seed_from_u64(count);
+    for _ in 0..DRAWS {
+        let key = law.sample(&mut random) as u64;
         drawn.push(key).map_err(|_| Fault::OutOfMemory)?;
     }
     Ok(drawn)
 }
 
-// Numbers that look drawn at random: xorshift64* (Marsaglia; Vigna).
-#[derive(Clone, Copy)]
-struct Random(u64);
-
-impl Random {
-    // Begins with a state of its own for each number, which isn't 0.
-    fn of(number: u64) -> Random {
-        let odd = number.wrapping_mul(2).wrapping_add(1);
-        Random(odd.wrapping_mul(0x9E37_79B9_7F4A_7C15))
-    }
-
-    // A number below `end`, which is at most 2^32.
-    fn below(&mut self, end: u64) -> u64 {
-        self.0 ^= self.0 >> 12;
-        self.0 ^= self.0 << 25;
-        self.0 ^= self.0 >> 27;
-        let drawn = self.0.wrapping_mul(0x2545_F491_4F6C_DD1D) >> 32;
-        drawn.wrapping_mul(end) >> 32
-    }
-
-    // A key of the row; if that is empty, one below `count`.
-    fn key(&mut self, row: &[u64], count: u64) -> u64 {
-        match row.get(self.below(DRAWS) as usize) {
-            Some(key) => *key,
-            None => self.below(count),
-        }
+// A key of the row; if that is empty, one up to `last`.
+fn draw_key(random: &mut SmallRng, row: &[u64], last: u64) -> u64 {
+    match row.choose(random) {
+        Some(key) => *key,
+        None => random.random_range(0..=last),
     }
 }

@@ -6,24 +6,27 @@ ghost use Rattle.hl_lag.specs.Lag.{step_if, lag_of, fault_at};
 use arrayvec::ArrayVec;
 use hl_model::{Six, Sizes, Step};
 
-/// A flusher's next steps at these offsets, in order, for whoever wants about `mutable` pages at the tail to be written
-/// and about `resident` to be read. Both are numbers of pages, `1 <= mutable <= resident <= F`. It makes none of them.
+/// A flusher's next steps at these offsets, in order, for whoever wants about `mutable` pages at the tail to
+/// be written and about `resident` to be read. Both are numbers of pages, `1 <= mutable <= resident <= F`. It
+/// makes none of them.
 ///
-/// With N the pages up to the tail, the read-only offset is raised to where the page N - mutable begins, unless it is
-/// there or above, and a settle follows where the safe one is below it then. The head is shifted to where the page
-/// N - resident begins, at most to the flushed offset, unless it is there or above, and a close follows where the closed
-/// offset is below it then. (FASTER keeps its read-only and head offsets at constant lags behind the tail.)
+/// With N the pages up to the tail, the read-only offset is raised to where the page N - mutable begins,
+/// unless it is there or above, and a settle follows if the safe one is below it then. The head is shifted to
+/// where the page N - resident begins, at most to the flushed offset, unless it is there or above, and a
+/// close follows if the closed offset is below it then. (FASTER keeps its read-only and head offsets at
+/// constant lags behind the tail.)
 ///
-/// It is for a moment at which no action is pending and none is taken. A settle takes effect when its action is done, so
-/// a caller who asks while one waits is told a settle again, each time, as long as the safe read-only offset lags, and
-/// likewise a close: the drain list fills with them, until a bump meets `DrainFull`.
+/// It is for a moment at which no action is pending and none is taken. A settle takes effect when its action
+/// is done, so a caller who asks while one waits is told a settle again, each time, as long as the safe
+/// read-only offset lags, and likewise a close: the drain list fills with them, until a bump meets
+/// `DrainFull`.
 ///
-/// With `resident` = F the head goes no further than where the page N - F begins. The page N wants the frame of that page,
-/// which is so never closed: once the pages are full each allocation is `Busy`, and the lag can't move any more. Whoever
-/// wants frames to come free keeps `resident` below F.
+/// With `resident` = F the head goes no further than where the page N - F begins. The page N wants the frame
+/// of that page, which is so never closed: once the pages are full each allocation is `Busy`, and the lag
+/// can't move any more. Whoever wants frames to come free keeps `resident` below F.
 ///
-/// At these offsets neither the raise nor the shift meets a fault, where the six are in order. The settle and the close
-/// may meet `DrainFull`, `EpochsSpent` or `WindowFull`.
+/// At these offsets neither the raise nor the shift meets a fault, if the six are in order. The settle and
+/// the close may meet `DrainFull`, `EpochsSpent` or `WindowFull`.
 pub fn lag_steps(params: Sizes, six: Six, mutable: u64, resident: u64) -> ArrayVec<Step, 4>
     requires mutable_least { 1 ≤ mutable }
     requires mutable_most { mutable ≤ resident }
@@ -47,7 +50,7 @@ pub fn lag_steps(params: Sizes, six: Six, mutable: u64, resident: u64) -> ArrayV
     steps
 }
 
-// Adds a step at the end, where it is wanted.
+// Adds a step at the end, if it is wanted.
 fn push_if(steps: &mut ArrayVec<Step, 4>, is_wanted: bool, step: Step)
     requires { length steps.old.items < 4 }
     ensures items { steps.new.items ≡ steps.old.items ++ step_if is_wanted step }

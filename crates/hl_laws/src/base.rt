@@ -5,11 +5,11 @@ use hl_model::{Fault, HasSizes, Held, Six, Sizes, Slot, Waiting, filled, with_ro
 use std::alloc::Global;
 use std::marker::Model;
 
-/// The quantities of an allocator at one moment, without words and jobs: all that later steps are answered by. With it
-/// the steps that led there need not be kept.
+/// The quantities of an allocator at one moment, without words and jobs: all that later steps are answered
+/// by. With it the steps that led there need not be kept.
 ///
-/// That they are those of some accepted list of steps is in its type. It is made for that of no steps, and renewed by
-/// whoever has such quantities, without taking memory.
+/// That they are those of some accepted list of steps is in its type. It is made for that of no steps, and
+/// renewed by whoever has such quantities, without taking memory.
 #[derive(Drop)]
 pub struct Base {
     params: Sizes,
@@ -34,8 +34,8 @@ impl Model for Base {
     ghost invariant = { HasRows };
 }
 
-/// Where the quantities of a base come from. They are asked for one by one, so that no row of them has to be made; one
-/// that has the row of its frames may lend it.
+/// Where the quantities of a base come from. They are asked for one by one, so that no row of them has to be
+/// made; one that has the row of its frames may lend it.
 pub trait Quantities {
     /// All of them.
     ghost tells: { Self → BaseRecord };
@@ -70,7 +70,8 @@ pub trait Quantities {
         requires { f < (tells self.now).sizes.frames }
         ensures { result ≡ slice_index_or (tells self.now).frames f None };
 
-    /// What all frames hold, from frame 0 on, where this is kept in such a row: then a base copies the row at once.
+    /// What all frames hold, from frame 0 on, if this is kept in such a row: then a base copies the row at
+    /// once.
     fn held_row(&self) -> Option<&[Option<Held>]>
         ensures { IfSome result (λ row. row.now ≡ (tells self.now).frames) }
     {
@@ -81,7 +82,7 @@ pub trait Quantities {
 impl Base {
     /// The base of no steps: epoch 1, no slot protected, no action, all offsets 0, no page entered.
     ///
-    /// `OutOfMemory` where memory for its rows was refused.
+    /// `OutOfMemory` if memory for its rows was refused.
     pub fn opening<S: HasSizes>(alloc: Global, params: S) -> Result<Base, Fault>
         ensures ok { IfOk result (λ base. base ≡ base_of (S.sizes_of params) []) }
         ensures err { IfErr result (λ fault. fault ≡ Fault.OutOfMemory) }
@@ -125,7 +126,7 @@ impl Base {
 
     /// Another base of the same quantities, in rows of its own.
     ///
-    /// `OutOfMemory` where memory for its rows was refused.
+    /// `OutOfMemory` if memory for its rows was refused.
     pub fn copied(&self, alloc: Global) -> Result<Base, Fault>
         ensures ok { IfOk result (λ base. base ≡ self.now) }
         ensures valid { IsBase self.now }
@@ -150,7 +151,7 @@ impl Base {
         self.epoch
     }
 
-    /// What each of the S slots has: its epoch and its view, or None where it isn't protected.
+    /// What each of the S slots has: its epoch and its view, or None if it isn't protected.
     pub fn slots(&self) -> &[Option<Slot>]
         ensures { result.now ≡ self.now.slots }
     {
@@ -178,7 +179,7 @@ impl Base {
         self.six
     }
 
-    /// What each of the F frames holds: its last entered page with its marks, or None where none was entered.
+    /// What each of the F frames holds: its last entered page with its marks, or None if none was entered.
     pub fn frames(&self) -> &[Option<Held>]
         ensures { result.now ≡ self.now.frames }
     {
@@ -250,8 +251,8 @@ fn refill_waiting<Q: Quantities>(row: &mut Vec<Waiting>, quantities: &Q)
     }
 }
 
-// Puts what each of the frames holds in place of what is in a row of as many. A row that is lent is copied at once: a
-// base is renewed under its owner's lock, and there may be 65,536 frames.
+// Puts what each of the frames holds in place of what is in a row of as many. A row that is lent is copied at
+// once: a base is renewed under its owner's lock, and there may be 65,536 frames.
 fn refill_frames<Q: Quantities>(row: &mut Vec<Option<Held>>, quantities: &Q, frames: u64)
     requires sizes { frames ≡ (Q.tells quantities.now).sizes.frames }
     requires told { length (Q.tells quantities.now).frames ≡ frames }

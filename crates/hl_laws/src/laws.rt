@@ -1,5 +1,5 @@
-//! What holds of every accepted list of steps, or of any, each law the contract of a function that does nothing: the
-//! definitions alone carry them, so they hold of whatever meets the definitions.
+//! What holds of every accepted list of steps, or of any, each law the contract of a function that does
+//! nothing: the definitions alone carry them, so they hold of whatever meets the definitions.
 
 ghost use Rattle.hl_laws.specs.BaseLaws.{ListsMayBeCut, CutsAnywhere, TakenAfterAllMovedSince};
 ghost use Rattle.hl_laws.specs.Follows.{TablesFollow, ActionsFollow, OffsetsFollow, PagesFollow, OutSinceItsTake};
@@ -33,8 +33,8 @@ pub fn safe_is_greatest()
     ensures { SafeIsGreatest }
 {}
 
-/// A protected slot's epoch exceeds a bump's ticket exactly where its mark, its last acquire or refresh, lies after the
-/// bump.
+/// A protected slot's epoch exceeds a bump's ticket exactly if its mark, its last acquire or refresh, lies
+/// after the bump.
 #[tactic(auto, using(crate::proofs::LawProofs::mark_after_bump))]
 pub fn mark_after_bump()
     ensures { MarkAfterBump }
@@ -70,8 +70,8 @@ pub fn drain_list_holds_them()
     ensures { DrainListHoldsThem }
 {}
 
-/// The j-th bump of any kind has number j. A bump that stores an action gives its number to the action for a ticket, and
-/// no other number is a ticket.
+/// The j-th bump of any kind has number j. A bump that stores an action gives its number to the action for a
+/// ticket, and no other number is a ticket.
 #[tactic(auto, using(crate::proofs::LawProofs::tickets_are_numbers))]
 pub fn tickets_are_numbers()
     ensures { TicketsAreNumbers }
@@ -82,7 +82,7 @@ pub fn tickets_rise()
     ensures { TicketsRise }
 {}
 
-/// A ticket is taken and not done exactly where a taken action has it.
+/// A ticket is taken and not done exactly if a taken action has it.
 #[tactic(auto, using(crate::proofs::LawProofs::taken_are_those_listed))]
 pub fn taken_are_those_listed()
     ensures { TakenAreThoseListed }
@@ -94,8 +94,8 @@ pub fn taken_are_safe()
     ensures { TakenAreSafe }
 {}
 
-/// What each step makes of the table of a list, whatever list it comes after: a table of epochs that does so, call
-/// by call, is at its list.
+/// What each step makes of the table of a list, whatever list it comes after: a table of epochs that does so,
+/// call by call, is at its list.
 pub fn tables_follow()
     ensures { TablesFollow }
 {}
@@ -110,19 +110,20 @@ pub fn offsets_follow()
     ensures { OffsetsFollow }
 {}
 
-/// What each step makes of the pages that are flushed, in flight, freed and being cleaned, whatever list it comes
-/// after.
+/// What each step makes of the pages that are flushed, in flight, freed and being cleaned, whatever list it
+/// comes after.
 pub fn pages_follow()
     ensures { PagesFollow }
 {}
 
-/// A page is in flight exactly where a flush take named it and no flush of it ended since; likewise with cleaning.
+/// A page is in flight exactly if a flush take named it and no flush of it ended since; likewise with
+/// cleaning.
 pub fn out_since_its_take()
     ensures { OutSinceItsTake }
 {}
 
-/// The offsets of an accepted list are in order: closed, head, flushed, safe read-only, read-only, tail, at most 2^48.
-/// The first three are starts of pages.
+/// The offsets of an accepted list are in order: closed, head, flushed, safe read-only, read-only, tail, at
+/// most 2^48. The first three are starts of pages.
 pub fn offsets_are_in_order()
     ensures { OffsetsAreInOrder }
 {}
@@ -132,27 +133,29 @@ pub fn offsets_never_fall()
     ensures { OffsetsNeverFall }
 {}
 
-/// The headline of each accepted list: an action is taken at most once, after every thread protected at its bump
-/// refreshed or left; no write lies below the safe read-only offset; no frame is reused while a view reaches its page
-/// (FASTER, HybridLog: eviction). Besides: views are bounded below by what is settled and closed, each record lies on
-/// one page, behind all before it, and from a page's flush take on its words stay. A thread is its slot here.
+/// The headline of each accepted list: an action is taken at most once, after every thread protected at its
+/// bump refreshed or left; no write lies below the safe read-only offset; no frame is reused while a view
+/// reaches its page (FASTER, HybridLog: eviction). Besides: views are bounded below by what is settled and
+/// closed, each record lies on one page, behind all before it, and from a page's flush take on its words
+/// stay. A thread is its slot here.
 pub fn headline()
     ensures { HeadlineHolds }
 {}
 
-/// An accepted list may be cut to its base: from there all that follows is answered and accepted as behind the list,
-/// and leads to the base of the whole.
+/// An accepted list may be cut to its base: from there all that follows is answered and accepted as behind
+/// the list, and leads to the base of the whole.
 pub fn lists_may_be_cut()
     ensures { ListsMayBeCut }
 {}
 
-/// At each place of an accepted list, the quantities and the next reply are those of the base and the steps since.
+/// At each place of an accepted list, the quantities and the next reply are those of the base and the steps
+/// since.
 pub fn cuts_anywhere()
     ensures { CutsAnywhere }
 {}
 
-/// An action is taken only after every slot that was protected in a base, with an epoch at or below its ticket, has
-/// refreshed or left since: the steps before the base need not be kept for it.
+/// An action is taken only after every slot that was protected in a base, with an epoch at or below its
+/// ticket, has refreshed or left since: the steps before the base need not be kept for it.
 pub fn taken_after_all_moved_since()
     ensures { TakenAfterAllMovedSince }
 {}

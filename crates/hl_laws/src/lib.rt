@@ -4,12 +4,12 @@
 //!
 //! - [`laws`]: each law the contract of a function that does nothing, the headline among them;
 //! - [`worked`]: worked examples as theorems, which the definitions alone compute;
-//! - [`Base`]: the quantities of an accepted list in rows of numbers, so that its steps need not be kept. That it is one
-//!   of an accepted list is in its type, which is why it stands here;
+//! - [`Base`]: the quantities of an accepted list in rows of numbers, so that its steps need not be kept.
+//!   That it is one of an accepted list is in its type, which is why it stands here;
 //! - `proofs/`: lemmas on the definitions, which the crates above cite.
 //!
-//! The parts of an allocator (table, drain list, offsets, frames, words, lines) cite no law, and are not checked again
-//! where one changes.
+//! The parts of an allocator (table, drain list, offsets, frames, words, lines) cite no law, and are not
+//! checked again if one changes.
 #![tactic(auto)]
 
 mod base;

@@ -1,4 +1,5 @@
-//! Worked examples as theorems: the definitions alone, computed by the checker, give what was written by hand.
+//! Worked examples as theorems: the definitions alone, computed by the checker, give what was written by
+//! hand.
 #![tactic(auto, unfolding(crate::proofs::OnLiterals::on_literals))]
 
 ghost use Rattle.hl_laws.specs.Worked.{FirstAction, NobodyProtected, FullDrainList, TwoThreads, BothWait, BareBumps, TicketsRunAhead};
@@ -101,12 +102,12 @@ pub fn last_address()
     ensures { LastAddress }
 {}
 
-/// A list cut where one action is taken and one is pending, and what follows.
+/// A list cut when one action is taken and one is pending, and what follows.
 pub fn cut_drain_list()
     ensures { CutDrainList }
 {}
 
-/// A list cut where one page is in flight and another is being cleaned, and what follows.
+/// A list cut when one page is in flight and another is being cleaned, and what follows.
 pub fn cut_pages()
     ensures { CutPages }
 {}
@@ -121,7 +122,8 @@ pub fn cut_bare_bump()
     ensures { CutBareBump }
 {}
 
-/// The window is full at 4,096 epochs that aren't safe; the last epoch and the drain list are tried before it.
+/// The window is full at 4,096 epochs that aren't safe; the last epoch and the drain list are tried before
+/// it.
 pub fn full_window()
     ensures { FullWindow }
 {}

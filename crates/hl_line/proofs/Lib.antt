@@ -2,6 +2,7 @@ pub mod Arms
 pub mod Digits
 pub mod Fitting
 pub mod Fronts
+pub mod Growing
 pub mod Reading
 pub mod Sights
 pub mod Tables

@@ -1,9 +1,11 @@
 -- How long a word with numbers is, and that no LF stands in it.
-use Rattle.std.proofs.Common.{◌≡◌, ℕ, ◌+◌, ◌^◌, ◌<◌, ◌≤◌, ◌≢◌, ◌==◌, Bool, true, false, not, List, [], ◌∷◌, length, codes, decimal, ap, arith, lit<, length-append, refl}
+use Rattle.std.proofs.Common.{◌≡◌, ℕ, ◌+◌, ◌++◌, ◌∙◌, ◌^◌, ◌<◌, ◌≤◌, ◌≢◌, ◌==◌, Bool, true, false, not, List, [], ◌∷◌, length, codes, decimal, ap, arith, lit<, length-append, refl}
 use Rattle.std.specs.List.{All, flat_map, list_all}
 use Rattle.std.proofs.lemmas.Bool.{and_parts, not-true, eqb-false}
 use Rattle.std.proofs.lemmas.Fmt.{length-decimal-le, decimal_by_steps}
 use Rattle.std.proofs.lemmas.List.{append-nil}
+use Rattle.std.specs.Str.{IsUtf8, is_utf8}
+use Rattle.std.proofs.lemmas.Str.{IsUtf8-append, IsUtf8-from_is_utf8, is_utf8-from_IsUtf8}
 use Rattle.std.proofs.lemmas.List.Elements.{All-nil, All-cons, All-append, All-push, All-head, All-tail}
 use Rattle.hl_model.specs.Sizes.{Sizes, AreInRange}
 use Rattle.hl_model.specs.declared.step.Step.{Step}
@@ -200,3 +202,8 @@ spelling_free (Makes step) h = step_free step h
 spelling_free Status h = worded_free (codes "status") [] refl none_fit
 spelling_free Pending h = worded_free (codes "pending") [] refl none_fit
 spelling_free Frames h = worded_free (codes "frames") [] refl none_fit
+
+-- text before text is text
+pub text_before : (word rest all : List ℕ) → all ≡ word ++ rest → IsUtf8 word → is_utf8 rest ≡ true → is_utf8 all ≡ true
+text_before word rest all joined first others =
+    ap is_utf8 joined ∙ is_utf8-from_IsUtf8 (word ++ rest) (IsUtf8-append word rest first (IsUtf8-from_is_utf8 rest others))

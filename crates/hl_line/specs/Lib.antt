@@ -1,4 +1,5 @@
 pub mod Lines
 pub mod Reading
 pub mod Replies
+pub mod Streams
 pub mod Usual

@@ -1,9 +1,11 @@
 //! An answer's line, made from its end.
-ghost use Rattle.std.specs.Prelude.{◌≡◌, ◌+◌, ◌^◌, ◌<◌, ◌≤◌, [], ◌∷◌, ◌++◌, length};
+ghost use Rattle.std.specs.Prelude.{◌≡◌, ◌+◌, ◌^◌, ◌<◌, ◌≤◌, true, [], ◌∷◌, ◌++◌, length};
+ghost use Rattle.std.specs.Str.{is_utf8};
 ghost use Rattle.hl_line.specs.Lines.{spaced, worded};
 ghost use Rattle.hl_line.specs.Replies.{reply_text, fault_text, fields_of};
 
 use crate::fault::name;
+use arrayvec::ArrayString;
 use hl_model::{Fault, Reply};
 use itoa::write_digits;
 use std::marker::Model;
@@ -11,8 +13,8 @@ use std::marker::Model;
 /// The room for a line; every answer is shorter.
 const ROOM: usize = 160;
 
-/// The line that answers a step, with its LF. It is made from its end: the digits of a number, which come out last first,
-/// are written where they stay. Contracts see the bytes.
+/// The line that answers a step, with its LF. It is made from its end: the digits of a number, which come out
+/// last first, are written where they stay. Contracts see the bytes.
 #[derive(Drop)]
 pub struct AnswerLine {
     bytes: [u8; ROOM],
@@ -21,13 +23,15 @@ pub struct AnswerLine {
 }
 
 impl Model for AnswerLine {
-    ghost use Rattle.std.specs.Prelude.{◌≡◌, ◌≤◌, ℕ, List, length, drop};
+    ghost use Rattle.std.specs.Prelude.{◌≡◌, ◌≤◌, ℕ, List, length, drop, true};
+    ghost use Rattle.std.specs.Str.{is_utf8};
 
     ghost Value = { List ℕ };
 
     ghost view = { λ a. drop a.from a.bytes };
 
-    ghost invariant = { λ a. (a.from ≤ 160) × (length a.bytes ≡ 160) };
+    ghost invariant = { λ a. (a.from ≤ 160) × (length a.bytes ≡ 160)
+        × (is_utf8 (drop a.from a.bytes) ≡ true) };
 }
 
 impl AnswerLine {
@@ -44,7 +48,9 @@ impl AnswerLine {
     /// Its bytes.
     #[inline(always)]
     pub fn as_bytes(&self) -> &[u8]
-        ensures { result.now ≡ self.now }
+        ensures value { result.now ≡ self.now }
+        ensures text { is_utf8 result.now ≡ true }
+        ensures short { length result.now ≤ 160 }
     {
         &self.bytes[self.from..]
     }
@@ -63,6 +69,19 @@ impl AnswerLine {
     {
         self.clear();
         self.add_fault(*fault);
+    }
+
+    // The bytes as text.
+    fn text(&self) -> ArrayString<160>
+        ensures { result.bytes ≡ self.now }
+    {
+        let mut text = ArrayString::new();
+        match str::from_utf8(self.as_bytes()) {
+            Ok(whole) => text.push_str(whole),
+            // All that was added is text.
+            Err(_) => unreachable!(),
+        }
+        text
     }
 
     // Only the LF.
@@ -195,4 +214,22 @@ impl AnswerLine {
         self.from = write_digits(number, &mut self.bytes, self.from);
         self.add_word(" ");
     }
+}
+
+/// Returns the line that answers an accepted step, without an LF.
+pub fn print_reply(reply: &Reply) -> ArrayString<160>
+    ensures { result.bytes ≡ reply_text reply.now }
+{
+    let mut line = AnswerLine::new();
+    line.add_reply(*reply);
+    line.text()
+}
+
+/// Returns the line that answers a refused step, without an LF: the fault's number, its name and its fields.
+pub fn print_fault(fault: &Fault) -> ArrayString<160>
+    ensures { result.bytes ≡ fault_text fault.now }
+{
+    let mut line = AnswerLine::new();
+    line.add_fault(*fault);
+    line.text()
 }

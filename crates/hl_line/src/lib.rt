@@ -1,7 +1,7 @@
 //! The lines of a script and of its answers: how each is read, and how it is printed.
 //!
-//! A script is cut into lines at each LF. [`read_line`] tells which line some bytes spell, without their LF, and
-//! [`print_line`] spells a line. Each line has one spelling, of at most 80 bytes:
+//! A script is cut into lines at each LF. [`read_line`] tells which line some bytes spell, without their LF,
+//! and [`print_line`] spells a line. Each line has one spelling, of at most 80 bytes:
 //!
 //! | Line | Meaning |
 //! |---|---|
@@ -12,6 +12,7 @@
 //! | `bump tag` | ends the current epoch, and stores the job of this tag |
 //! | `settle` | ends the current epoch, and stores the action that raises the safe read-only offset |
 //! | `close` | ends the current epoch, and stores the action that raises the closed offset |
+//! | `bare` | ends the current epoch, and stores nothing |
 //! | `take` | takes the oldest pending action |
 //! | `done c` | the taken action of ticket c was carried out |
 //! | `raise x` | the read-only offset moves up to address x |
@@ -29,14 +30,14 @@
 //! | `pending` | asks for the pending actions |
 //! | `frames` | asks for the state of each frame |
 //!
-//! One space stands between two words, and none at either end. A number is decimal ASCII: `0`, or a digit 1 to 9
-//! and digits, at most 18446744073709551615. Anything else is no line.
+//! One space stands between two words, and none at either end. A number is decimal ASCII: `0`, or a digit 1
+//! to 9 and digits, at most 18446744073709551615. Anything else is no line.
 //!
 //! [`read_front`] reads the lines that scripts have most of faster, from the front of what follows.
 //!
-//! [`print_reply`] and [`print_fault`] give the line that answers an accepted step and a refused one;
-//! [`append_reply`] and [`append_fault`] put it on a row of the caller's, and an [`AnswerLine`] makes it with its LF from its
-//! end on, which is faster.
+//! [`print_reply`] and [`print_fault`] return the line that answers an accepted step and a refused one, and
+//! an [`AnswerLine`] is made anew for each, with its LF. [`put`] writes all of some bytes to a
+//! `std::io::Write`.
 #![tactic(auto)]
 
 mod answer;
@@ -45,16 +46,15 @@ pub mod laws;
 mod line;
 mod print;
 mod read;
-mod reply;
 mod steps;
+mod stream;
 mod text;
 mod usual;
 mod word;
 
-pub use answer::AnswerLine;
-pub use fault::{append_fault, print_fault};
+pub use answer::{AnswerLine, print_fault, print_reply};
 pub use line::Line;
 pub use print::print_line;
 pub use read::read_line;
-pub use reply::{append_reply, print_reply};
+pub use stream::put;
 pub use usual::read_front;

@@ -4,8 +4,8 @@ use Rattle.hl_model.specs.declared.fault.Fault.{Fault}
 use Rattle.hl_model.specs.declared.fault.Fault.TheVariants.{Beyond, Evicted as EVICTED}
 use Rattle.hl_model.specs.declared.view.View.{View}
 use Rattle.hl_pass.specs.Views.{beyond_fault}
-use Rattle.hl_log.specs.declared.region.Region.{Region}
-use Rattle.hl_log.specs.declared.region.Region.TheVariants.{Mutable, Fuzzy, ReadOnly, Evicted}
+use Rattle.hl_pass.specs.declared.region.Region.{Region}
+use Rattle.hl_pass.specs.declared.region.Region.TheVariants.{Mutable, Fuzzy, ReadOnly, Evicted}
 
 -- the fault of an address that no region has: it is not below the tail that is seen, nor evicted
 abbrev pub region_fault : View → ℕ → Option Fault

@@ -19,7 +19,8 @@ use hl_pass::PassView;
 use std::sync::Arc;
 
 impl Log {
-    /// A pass that acts for no slot yet. None where the owners of the shared words can't be counted further.
+    /// Returns a pass that acts for no slot yet, or None if the owners of the shared words can't be counted
+    /// further.
     pub fn vacant(&self, slot: u64) -> Option<Pass>
         ensures { IfSome result (λ pass. IsVacant self.now slot pass) }
     {

@@ -2,7 +2,7 @@
 ghost use Rattle.std.specs.Prelude.{◌≡◌, true, List, OnOk, OnErr};
 ghost use Rattle.hl_model.specs.declared.step.Step.{Step as STEP};
 ghost use Rattle.hl_model.specs.declared.step.Step.TheVariants.{Refresh as REFRESH};
-ghost use Rattle.hl_core.specs.Steps.{is_acted, told, entered_reply};
+ghost use Rattle.hl_core.specs.Steps.{is_acted, as_reply, entered_reply};
 ghost use Rattle.hl_model.specs.Replies.{unless_fault};
 ghost use Rattle.hl_pass.specs.Calls.{looked, stranger_fault};
 ghost use Rattle.hl_log.specs.Logs.{StandsAt, IsBeside};
@@ -15,13 +15,13 @@ use hl_model::{Fault, Reply, Slot, Step};
 use hl_pass::{PassView, catch_up};
 
 impl Log {
-    /// The pass's slot moves on, behind what the pass saw: its epoch and its view from now on.
+    /// The pass's slot moves on, behind what the pass saw; returns its epoch and its view from now on.
     ///
-    /// `Stranger`, with the slot's stamp, where the slot isn't the pass's: nothing is changed then.
+    /// `Stranger`, with the slot's stamp, if the slot isn't the pass's: nothing is changed then.
     #[inline(always)]
     pub fn refresh(&mut self, pass: &mut Pass) -> Result<Slot, Fault>
         ensures { Calls self.old pass.old (REFRESH pass.old.own.slot) self.new pass.new
-            (told entered_reply result) }
+            (as_reply entered_reply result) }
     {
         self.begin(&pass.own)?;
         let t = pass.own.slot;
@@ -39,11 +39,11 @@ impl Log {
         }
     }
 
-    /// Makes a release or an allocation of a pass, whose slot takes the place of the step's, behind what the pass saw.
-    /// The pass then has the view of its slot, so it is no stranger at its next call.
+    /// Makes a release or an allocation of a pass, whose slot takes the place of the step's, behind what the
+    /// pass saw. The pass then has the view of its slot, so it is no stranger at its next call.
     ///
-    /// `Stranger`, with the slot's stamp, where the slot isn't the pass's: nothing is changed then. Else the faults of
-    /// the step; what the pass saw is entered with these too.
+    /// `Stranger`, with the slot's stamp, if the slot isn't the pass's: nothing is changed then. Else the
+    /// faults of the step; what the pass saw is entered with these too.
     #[inline(always)]
     pub fn call(&mut self, pass: &mut Pass, step: &Step) -> Result<Reply, Fault>
         requires { IsCall step.now }

@@ -8,8 +8,8 @@ use hl_pass::Stamps;
 use std::alloc::Global;
 use std::sync::Arc;
 
-/// What lies under the caller's lock: the core, which counts its slots by epoch and has bare tags for jobs, and the
-/// stamp of each slot.
+/// What lies under the caller's lock: the core, which counts its slots by epoch and has bare tags for jobs,
+/// and the stamp of each slot.
 #[derive(Drop)]
 pub struct Log {
     pub(crate) core: Core<CountTable, Tag>,

@@ -11,8 +11,9 @@ use std::alloc::Global;
 use std::sync::Arc;
 
 impl Log {
-    /// A log at the empty list: epoch 1, no slot protected, no action, all offsets and words 0. The stamp tells its
-    /// passes from those of other logs, if none of these has one near it. None where memory was refused.
+    /// Returns a log at the empty list: epoch 1, no slot protected, no action, all offsets and words 0. The
+    /// stamp tells its passes from those of other logs, if none of these has one near it. None if memory was
+    /// refused.
     pub fn open(alloc: Global, sizes: Sizes, stamp: u64) -> Option<Log>
         ensures { IfSome result (λ log. StandsAt log [] × (log.core.sizes ≡ sizes)
             × (log.stamps.own ≡ stamp) × (log.stamps.given ≡ 0)) }

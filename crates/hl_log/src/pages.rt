@@ -2,7 +2,7 @@
 ghost use Rattle.std.specs.Prelude.{◌≡◌, IfSome, IfOk, OnErr};
 ghost use Rattle.hl_model.specs.declared.step.Step.TheVariants.{FlushDone as FLUSH_DONE, CleanDone as CLEAN_DONE};
 ghost use Rattle.hl_model.specs.declared.step.Reply.TheVariants.{Page as PAGE};
-ghost use Rattle.hl_core.specs.Steps.{Made, told};
+ghost use Rattle.hl_core.specs.Steps.{Made, as_reply};
 ghost use Rattle.hl_log.specs.Logs.{IsBeside};
 ghost use Rattle.hl_log.specs.Taken.{taking, numbered, origin_fault, unswept_fault, Ends, IsFresh};
 
@@ -12,8 +12,8 @@ use hl_model::{Fault, Reply, Step};
 use std::sync::Arc;
 
 impl Log {
-    /// A page that is to be taken, to be cleaned or else to be flushed. None where the owners of the shared words can't
-    /// be counted further.
+    /// Returns a page that is to be taken, to be cleaned or else to be flushed, or None if the owners of the
+    /// shared words can't be counted further.
     pub fn vacant_page(&self, cleans: bool) -> Option<Taken>
         ensures { IfSome result (λ page. IsFresh self.now cleans page) }
     {
@@ -26,13 +26,13 @@ impl Log {
         })
     }
 
-    /// Takes the least closed page that is neither freed nor being cleaned, or the least sealed one that is neither
-    /// flushed nor in flight: its number.
+    /// Takes the least closed page that is neither freed nor being cleaned, or the least sealed one that is
+    /// neither flushed nor in flight: its number.
     ///
     /// Faults: `NoneClosed`, `NoneSealed`; then nothing is changed.
     pub fn take_page(&mut self, page: &mut Taken) -> Result<u64, Fault>
         ensures made { Made (λ t. t.0) self.old.core (taking page.old.cleans) self.new.core
-            (told PAGE result) }
+            (as_reply PAGE result) }
         ensures beside { IsBeside self.old self.new }
         ensures page { IfOk result (λ number. page.new ≡ numbered number page.old) }
         ensures refused { OnErr result ((self.new ≡ self.old) × (page.new ≡ page.old)) }
@@ -46,9 +46,9 @@ impl Log {
         Ok(number)
     }
 
-    /// The flush of a page ended, well or not: the flushed offset.
+    /// The flush of a page ended, well or not; returns the flushed offset.
     ///
-    /// Faults: `Stranger`, with the log's stamp, where the page is of another log; `NotInFlight`.
+    /// Faults: `Stranger`, with the log's stamp, if the page is of another log; `NotInFlight`.
     pub fn flush_done(&mut self, page: &Taken, ok: bool) -> Result<Reply, Fault>
         ensures ended { Ends self.old (origin_fault self.old page.now) (FLUSH_DONE page.now.page ok)
             self.new result }
@@ -64,8 +64,8 @@ impl Log {
 
     /// The words of a page are zeroed: its frame is free.
     ///
-    /// Faults: `Stranger`, with the log's stamp, where the page is of another log; `NotCleaning`, where it wasn't swept
-    /// too.
+    /// Faults: `Stranger`, with the log's stamp, if the page is of another log; `NotCleaning`, also if it
+    /// wasn't swept.
     pub fn clean_done(&mut self, page: &Taken) -> Result<Reply, Fault>
         ensures ended { Ends self.old (unswept_fault self.old page.now) (CLEAN_DONE page.now.page)
             self.new result }

@@ -6,8 +6,8 @@ use hl_pass::PassView;
 use std::alloc::Global;
 use std::sync::Arc;
 
-/// The right of a thread to act for the slot that it acquired. Its looks, stores and loads take no lock; a call under
-/// the log's lock begins with what it saw.
+/// The right of a thread to act for the slot that it acquired. Its looks, stores and loads take no lock; a
+/// call under the log's lock begins with what it saw.
 #[derive(Drop)]
 pub struct Pass {
     pub(crate) shared: Arc<Shared, Global>,

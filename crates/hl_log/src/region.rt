@@ -5,25 +5,14 @@ ghost use Rattle.hl_log.specs.Addresses.{region_fault, region_of};
 use crate::pass::Pass;
 use crate::shared::Shared;
 use hl_model::{Fault, View};
+use hl_pass::Region;
 use std::sync::atomic::Ordering::SeqCst;
 
-/// What may be done to a word of the log (FASTER, HybridLog).
-#[derive(Clone, Copy, Debug, PartialEq, Eq)]
-pub enum Region {
-    /// The pass may store there.
-    Mutable,
-    /// The pass may store there no more, and another may still.
-    Fuzzy,
-    /// No pass may store there.
-    ReadOnly,
-    /// The pass may not load there: the word is on the device.
-    Evicted,
-}
-
 impl Pass {
-    /// The region of an address, by what the pass sees and the safe read-only offset, which it loads and tells too.
+    /// Returns the region of an address, by what the pass sees and the safe read-only offset, which it loads
+    /// and tells too.
     ///
-    /// `Beyond` where the address isn't below the tail that the pass sees, nor below the head that it sees.
+    /// `Beyond` if the address isn't below the tail that the pass sees, nor below the head that it sees.
     #[inline(always)]
     pub fn region(&self, address: u64) -> Result<(Region, u64), Fault>
         ensures { let view = self.now.own.view

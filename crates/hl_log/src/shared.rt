@@ -6,8 +6,8 @@ use std::alloc::Global;
 use std::sync::atomic::AtomicU64;
 use std::sync::atomic::Ordering::SeqCst;
 
-/// What a log and its passes share with no lock: the words of the frames, and four words that the log's calls store
-/// and passes load.
+/// What a log and its passes share with no lock: the words of the frames, and four words that the log's calls
+/// store and passes load.
 #[derive(Drop)]
 pub struct Shared {
     cells: Vec<AtomicU64>,
@@ -20,7 +20,7 @@ pub struct Shared {
 }
 
 impl Shared {
-    /// All words are 0. None where memory was refused.
+    /// Returns words that are all 0, or None if memory is refused.
     pub(crate) fn open(alloc: Global, sizes: Sizes) -> Option<Shared>
         ensures { IfSome result (λ shared. shared.sizes ≡ sizes) }
     {

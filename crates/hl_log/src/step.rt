@@ -1,7 +1,7 @@
 //! The steps that no pass makes.
 ghost use Rattle.std.specs.Prelude.{◌≡◌, OnErr, IfOk};
 ghost use Rattle.hl_model.specs.declared.step.Step.TheVariants.{Take as TAKE};
-ghost use Rattle.hl_core.specs.Steps.{Made, CameOut, take_told};
+ghost use Rattle.hl_core.specs.Steps.{Made, CameOut, take_reply};
 ghost use Rattle.hl_log.specs.Logs.{Moves, IsOwn, IsBeside};
 
 use crate::log::Log;
@@ -11,8 +11,8 @@ use hl_model::{Fault, Reply, Step, Tag};
 use std::sync::atomic::Ordering::SeqCst;
 
 impl Log {
-    /// Makes a step that is no slot's and not a page's. Where it moved an offset or ended an epoch, the words tell
-    /// passes of it.
+    /// Makes a step that is no slot's and not a page's. If it moved an offset or ended an epoch, the words
+    /// tell passes of it.
     ///
     /// The faults of the step; a refused one changes nothing.
     #[inline(always)]
@@ -26,12 +26,12 @@ impl Log {
         Ok(reply)
     }
 
-    /// Takes the oldest pending action: its firing, and its tag where it is a job's.
+    /// Takes the oldest pending action; returns its firing, and its tag if it is a job's.
     ///
     /// Faults: `Empty`, `NotReady`.
     #[inline(always)]
     pub fn take(&mut self) -> Result<(Firing, Option<Tag>), Fault>
-        ensures made { Made (λ t. t.0) self.old.core TAKE self.new.core (take_told result) }
+        ensures made { Made (λ t. t.0) self.old.core TAKE self.new.core (take_reply result) }
         ensures out { let old = self.old.core
             in let new = self.new.core
             in IfOk result (λ taken. CameOut (λ t. t.0) old new taken.0.ticket taken.1) }
@@ -42,7 +42,7 @@ impl Log {
     }
 }
 
-/// Stores what an answer told of an offset or of the epoch.
+/// Stores what a reply told of an offset or of the epoch.
 #[inline(always)]
 fn tell(shared: &Shared, reply: Reply) {
     match reply {

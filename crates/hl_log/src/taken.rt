@@ -30,8 +30,8 @@ impl Taken {
 
     /// Loads its words into so many places.
     ///
-    /// Faults: `NotInFlight` where it was taken to be cleaned, `Size` where there are not as many places as a page has
-    /// words; then nothing is loaded.
+    /// Faults: `NotInFlight` if it was taken to be cleaned, `Size` if there are not as many places as a page
+    /// has words; then nothing is loaded.
     pub fn copy(&self, words: &mut [u64]) -> Result<(), Fault>
         ensures answer { result ≡ unless_fault (copy_fault self.now (length words.old)) tt }
         ensures places { length words.new ≡ length words.old }
@@ -51,7 +51,7 @@ impl Taken {
 
     /// Stores 0 in each of its words.
     ///
-    /// `NotCleaning` where it was taken to be flushed; then nothing is stored.
+    /// `NotCleaning` if it was taken to be flushed; then nothing is stored.
     pub fn sweep(&mut self) -> Result<(), Fault>
         ensures answer { result ≡ unless_fault (sweep_fault self.old) tt }
         ensures swept { self.new ≡ unless_refused (sweep_fault self.old) self.old (swept self.old) }

@@ -14,7 +14,7 @@ use std::sync::atomic::Ordering::SeqCst;
 impl Pass {
     /// Stores a word of 64 bits at an address of the log; addresses count words.
     ///
-    /// Faults: `Below` where the address is below the read-only offset that the pass sees, `Beyond` where it isn't
+    /// Faults: `Below` if the address is below the read-only offset that the pass sees, `Beyond` if it isn't
     /// below the tail that it sees.
     #[inline(always)]
     pub fn store(&self, address: u64, word: u64) -> Result<(), Fault>
@@ -37,8 +37,8 @@ impl Pass {
         Ok(shared.cell(address).fetch_add(more, SeqCst))
     }
 
-    /// Stores a word where this one stands, in one step: what it found, which is the word looked for where it stored.
-    /// Faults as those of a store.
+    /// Stores a word where this one stands, in one step; returns what it found, which is the word looked for
+    /// if it stored. Faults as those of a store.
     #[inline(always)]
     pub fn compare_exchange(&self, address: u64, current: u64, word: u64) -> Result<u64, Fault>
         ensures { let met = store_fault self.now.own.view address
@@ -56,8 +56,8 @@ impl Pass {
 
     /// Loads the word of an address.
     ///
-    /// Faults: `Evicted` where the address is below the head that the pass sees, `Beyond` where it isn't below the tail
-    /// that it sees.
+    /// Faults: `Evicted` if the address is below the head that the pass sees, `Beyond` if it isn't below the
+    /// tail that it sees.
     #[inline(always)]
     pub fn load(&self, address: u64) -> Result<u64, Fault>
         ensures { let met = load_fault self.now.own.view address
@@ -70,8 +70,8 @@ impl Pass {
 
     /// Loads the words from an address on, as many as there are places.
     ///
-    /// Faults: `Evicted` where the address is below the head that the pass sees, `Beyond` where the last of them isn't
-    /// below the tail that it sees; then nothing is loaded.
+    /// Faults: `Evicted` if the address is below the head that the pass sees, `Beyond` if the last of them
+    /// isn't below the tail that it sees; then nothing is loaded.
     pub fn load_into(&self, address: u64, words: &mut [u64]) -> Result<(), Fault>
         ensures answer { result ≡ unless_fault (row_fault self.now.own.view address (length words.old)) tt }
         ensures kept { IfSome (row_fault self.now.own.view address (length words.old))
@@ -92,9 +92,9 @@ impl Pass {
         Ok(())
     }
 
-    /// Loads both offset words, the read-only offset's and the head's: each of the two offsets that the pass sees
-    /// becomes the greater of its own and the loaded one. Returns what it loaded. The next call under the lock enters
-    /// the look.
+    /// Loads both offset words, the read-only offset's and the head's: each of the two offsets that the pass
+    /// sees becomes the greater of its own and the loaded one. Returns what it loaded. The next call under
+    /// the lock enters the look.
     #[inline(always)]
     pub fn look(&mut self) -> (u64, u64)
         ensures pass { self.new ≡ with_look result.0 result.1 self.old }
@@ -110,8 +110,8 @@ impl Pass {
         (read_only, head)
     }
 
-    /// Loads all three words: whether none is new to the pass, and what it loaded. Where none is, neither offset is
-    /// above the one that the pass sees, and its epoch has not ended.
+    /// Loads all three words; returns whether none is new to the pass, and what it loaded. If none is,
+    /// neither offset is above the one that the pass sees, and its epoch has not ended.
     #[inline(always)]
     pub fn keeps_up(&self) -> (bool, News)
         ensures { result.0 ≡ is_current self.now.own.view self.now.own.epoch result.1 }

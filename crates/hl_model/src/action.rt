@@ -5,10 +5,11 @@ ghost use Rattle.std.specs.Prelude.{◌≡◌, ℕ};
 pub enum Kind {
     /// Runs the job of this tag.
     User(u64),
-    /// Raises the safe read-only offset to this address, where it is below. The address is the read-only offset at
-    /// the action's bump.
+    /// Raises the safe read-only offset to this address, if it is below. The address is the read-only offset
+    /// at the action's bump.
     Settle(u64),
-    /// Raises the closed offset to this address, where it is below. The address is the head at the action's bump.
+    /// Raises the closed offset to this address, if it is below. The address is the head at the action's
+    /// bump.
     Close(u64),
 }
 

@@ -16,7 +16,7 @@ pub fn cell_of(sizes: Sizes, address: u64) -> u64
         + address % sizes.page_size }
     ensures in_range { result < sizes.frames * sizes.page_size }
 {
-    // These are the remainder by F * P; where F is a power of two too, the low bits tell it.
+    // These are the remainder by F * P; if F is a power of two too, the low bits tell it.
     let cells = sizes.frames() * sizes.page_size();
     if cells.is_power_of_two() {
         address & (cells - 1)

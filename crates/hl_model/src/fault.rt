@@ -3,7 +3,8 @@ ghost use Rattle.hl_model.specs.Faults.{number_of};
 
 use thiserror::Error;
 
-/// Why a step, a line or a call was refused. What was refused changed nothing, unless the call says otherwise.
+/// Why a step, a line or a call was refused. What was refused changed nothing, unless the call says
+/// otherwise.
 #[derive(Clone, Copy, Debug, PartialEq, Eq, Error)]
 pub enum Fault {
     /// The slot's number is S or more.
@@ -39,7 +40,7 @@ pub enum Fault {
     /// The address is above the tail.
     #[error("fault 11 AboveTail")]
     AboveTail,
-    /// The address isn't where a page begins.
+    /// No page begins at the address.
     #[error("fault 12 NotPage")]
     NotPage,
     /// The address is above the flushed offset.

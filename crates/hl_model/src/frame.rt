@@ -3,7 +3,8 @@
 pub enum FrameState {
     /// The page may still be written.
     Opened,
-    /// The page lies below the safe read-only offset: no slot's view lets it be written, and it may be flushed.
+    /// The page lies below the safe read-only offset: no slot's view lets it be written, and it may be
+    /// flushed.
     Sealed,
     /// The page is flushed.
     Flushed,

@@ -1,5 +1,5 @@
-//! The words of the epoch framework and the page allocator: sizes, steps, replies and faults. Beside them,
-//! in `specs/`, what each reply and each quantity is for any list of steps. What holds of every accepted list is
+//! The words of the epoch framework and the page allocator: sizes, steps, replies and faults. Beside them, in
+//! `specs/`, what each reply and each quantity is for any list of steps. What holds of every accepted list is
 //! `hl_laws`'.
 //!
 //! After FASTER (Chandramouli, Prasaad, Kossmann, Levandoski, Hunter, Barnett, SIGMOD 2018): the current and
@@ -15,10 +15,10 @@
 //! | actions that wait or are taken | 1 to 64 | 1 to 4,096 |
 //! | words in all frames | 2^20: 8 MiB | 2^36: 512 GiB |
 //!
-//! Scripts and their slow form take narrow sizes, since a line of an answer has room for no more; all else takes both,
-//! as what [`HasSizes`].
-//! Two numbers end: epochs at [`EPOCH_LAST`], addresses at [`TAIL_MOST`]. At most [`EPOCH_WINDOW`] epochs have ended
-//! and are not safe. A step that would pass one of these is refused.
+//! Scripts and their slow form take narrow sizes, since a line of an answer has room for no more; all else
+//! takes both, as what [`HasSizes`]. Two numbers end: epochs at [`EPOCH_LAST`], addresses at [`TAIL_MOST`].
+//! At most [`EPOCH_WINDOW`] epochs have ended and are not safe. A step that would pass one of these is
+//! refused.
 #![tactic(auto)]
 
 mod action;

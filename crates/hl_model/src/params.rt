@@ -5,8 +5,8 @@ use crate::limits::{DRAIN_MOST, FRAMES_MOST, PAGE_SIZE_MOST, SLOTS_MOST};
 use crate::sizes::Sizes;
 use std::marker::Model;
 
-/// The sizes of an allocator, fixed when it opens. Each is in its narrow range: that is in its type. They are those that a
-/// script may ask for; whatever takes [`Sizes`] takes these too.
+/// The sizes of an allocator, fixed when it opens. Each is in its narrow range: that is in its type. They are
+/// those that a script may ask for; whatever takes [`Sizes`] takes these too.
 #[derive(Clone, Copy, Debug, PartialEq, Eq)]
 pub struct Params {
     p: u64,
@@ -29,8 +29,8 @@ impl Model for Params {
 }
 
 impl Params {
-    /// Sizes where each is in range: p words a page, a power of two from 4 to 4,096; f frames, 2 to 256; s thread slots,
-    /// 1 to 64; d places in the drain list, 1 to 64. `None` otherwise.
+    /// Returns these sizes, if each is in its range: p words a page, a power of two from 4 to 4,096; f
+    /// frames, 2 to 256; s thread slots, 1 to 64; d places in the drain list, 1 to 64. Else returns `None`.
     pub fn checked(p: u64, f: u64, s: u64, d: u64) -> Option<Params>
         ensures in_range { IsSome result ↔ AreNarrow
             (record { page_size = p; frames = f; slots = s; drain = d }) }

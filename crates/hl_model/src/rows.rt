@@ -3,9 +3,9 @@ ghost use Rattle.std.specs.Prelude.{◌≡◌, IfOk, IfErr, [], replicate, vec_l
 use crate::fault::Fault;
 use std::alloc::Global;
 
-/// An empty row with room for n elements, exactly.
+/// Returns an empty row with room for n elements, exactly.
 ///
-/// Fault: `OutOfMemory` where memory is refused.
+/// Fault: `OutOfMemory` if memory is refused.
 pub fn with_room<T>(alloc: Global, n: u64) -> Result<Vec<T>, Fault>
     ensures empty { IfOk result (λ row. row.items ≡ []) }
     ensures room { IfOk result (λ row. vec_capacity row ≡ n) }
@@ -14,9 +14,9 @@ pub fn with_room<T>(alloc: Global, n: u64) -> Result<Vec<T>, Fault>
     Vec::with_capacity(alloc, n as usize).map_err(|_| Fault::OutOfMemory)
 }
 
-/// A row of n copies of x, with no room beside them.
+/// Returns a row of n copies of x, with no room beside them.
 ///
-/// Fault: `OutOfMemory` where memory is refused.
+/// Fault: `OutOfMemory` if memory is refused.
 pub fn filled<T: Copy>(alloc: Global, n: u64, x: T) -> Result<Vec<T>, Fault>
     ensures items { IfOk result (λ row. row.items ≡ replicate n x) }
     ensures len { IfOk result (λ row. vec_len row ≡ n) }

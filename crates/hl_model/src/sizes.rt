@@ -8,7 +8,8 @@ use crate::limits::{
 use crate::params::Params;
 use std::marker::Model;
 
-/// The sizes of an allocator for an engine, fixed when it opens. Each is in its wide range: that is in its type.
+/// The sizes of an allocator for an engine, fixed when it opens. Each is in its wide range: that is in its
+/// type.
 #[derive(Clone, Copy, Debug, PartialEq, Eq)]
 pub struct Sizes {
     pub(crate) page_size: u64,
@@ -58,9 +59,9 @@ pub struct RawSizes {
 }
 
 impl Sizes {
-    /// Sizes where each is in range: a page of 4 to 2^20 words, a power of two; 2 to 2^16 frames; 1 to 1,024 thread
-    /// slots; 1 to 4,096 places in the drain list. `None` otherwise. All frames together have at most 2^36 words, which
-    /// are 512 GiB.
+    /// Returns these sizes, if each is in its range: a page of 4 to 2^20 words, a power of two; 2 to 2^16
+    /// frames; 1 to 1,024 thread slots; 1 to 4,096 places in the drain list. Else returns `None`. All frames
+    /// together have at most 2^36 words, which are 512 GiB.
     pub fn checked(page_size: u64, frames: u64, slots: u64, drain: u64) -> Option<Sizes>
         ensures in_range { IsSome result ↔ AreInRange
             (record { page_size = page_size; frames = frames; slots = slots; drain = drain }) }
@@ -87,7 +88,7 @@ impl Sizes {
         }
     }
 
-    /// The same by names: `None` where one is out of the range that [`Sizes::checked`] tells.
+    /// The same by names: returns `None` if one is out of its range, as [`Sizes::checked`] does.
     pub fn of(raw: RawSizes) -> Option<Sizes>
         ensures in_range { IsSome result ↔ AreInRange (record {
           page_size = raw.page_size;
@@ -105,7 +106,7 @@ impl Sizes {
         Sizes::checked(raw.page_size, raw.frames, raw.slots, raw.drain)
     }
 
-    /// The same sizes for a script or its slow form. `None` where they are not narrow.
+    /// Returns the same sizes for a script or its slow form, or `None` if they are not narrow.
     pub fn params(self) -> Option<Params>
         ensures narrow { IsSome result ↔ AreNarrow self }
         ensures value { IfSome result (λ params. params ≡ self) }

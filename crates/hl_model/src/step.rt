@@ -2,8 +2,8 @@ ghost use Rattle.std.specs.Prelude.{◌≡◌};
 
 use crate::view::View;
 
-/// One atomic step of one thread, of the flusher, or of whoever runs the actions or cleans frames. Threads are named
-/// by their slot, words by their address, pages by their number.
+/// One atomic step of one thread, of the flusher, or of whoever runs the actions or cleans frames. Threads
+/// are named by their slot, words by their address, pages by their number.
 #[derive(Clone, Copy, Debug, PartialEq, Eq)]
 pub enum Step {
     /// The thread of slot t becomes protected, at the current epoch, and sees the offsets as they are.
@@ -12,7 +12,8 @@ pub enum Step {
     Refresh { t: u64 },
     /// The thread of slot t is protected no longer.
     Release { t: u64 },
-    /// The current epoch rises by one, and a job of this tag is stored with the epoch that ended as its ticket.
+    /// The current epoch rises by one, and a job of this tag is stored with the epoch that ended as its
+    /// ticket.
     Bump { tag: u64 },
     /// As a bump; its action raises the safe read-only offset to what the read-only offset is now.
     Settle,
@@ -59,9 +60,9 @@ pub enum Reply {
     Bumped(u64),
     /// To a take: the ticket of the action taken.
     Taken(u64),
-    /// To a done of a job, where jobs are known by their tags alone: its tag.
+    /// To a done of a job, if jobs are known by their tags alone: its tag.
     Ran(u64),
-    /// To a done of a job that was run: what it answered.
+    /// To a done of a job that was run: what the job returned.
     Answer(u64),
     /// To a done of a settle: the safe read-only offset after it, an address.
     Settled(u64),
@@ -77,7 +78,7 @@ pub enum Reply {
     Looked(View),
     /// To a write.
     Written,
-    /// To a read, where words are known by their addresses alone.
+    /// To a read, if words are known by their addresses alone.
     Readable,
     /// To a read: the word.
     Value(u64),

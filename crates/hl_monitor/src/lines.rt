@@ -1,11 +1,11 @@
 ghost use Rattle.std.specs.Prelude.{◌≡◌, true, OnOk, OnErr, IfOk, IfErr};
 ghost use Rattle.std.specs.List.{list_all};
 ghost use Rattle.std.specs.Io.KnownBytes.{Appends};
-ghost use Rattle.hl_image.specs.Streams.{BreaksOff};
+ghost use Rattle.hl_line.specs.Streams.{BreaksOff};
 ghost use Rattle.hl_monitor.specs.Reports.{line_of, is_label, lines_of, report_text};
 
 use arrayvec::ArrayString;
-use hl_image::put;
+use hl_line::put;
 use hl_model::{Fault, Snapshot};
 use std::fmt;
 use std::fmt::Write as _;

@@ -11,12 +11,13 @@ use std::marker::Model;
 /// The offsets of one log, each an address, in words.
 #[derive(Clone, Copy, Debug, PartialEq, Eq)]
 pub struct Offsets {
-    page_size: u64,
-    closed: u64,
-    head: u64,
-    safe_read_only: u64,
-    read_only: u64,
+    // First, since each allocation writes it: it can lie beside what else each call writes.
     tail: u64,
+    read_only: u64,
+    safe_read_only: u64,
+    head: u64,
+    closed: u64,
+    page_size: u64,
 }
 
 impl Model for Offsets {
@@ -67,8 +68,8 @@ impl Offsets {
         }
     }
 
-    /// The offsets of a log that goes on from these six. They are in order, the closed, the head and the flushed
-    /// offset are multiples of P, and the tail is at most 2^48. The flushed offset is not kept.
+    /// The offsets of a log that goes on from these six. They are in order, the closed, the head and the
+    /// flushed offset are multiples of P, and the tail is at most 2^48. The flushed offset is not kept.
     pub fn resume<S: HasSizes>(params: S, six: Six) -> Offsets
         requires { AreInOrder (S.sizes_of params).page_size six }
         ensures value { result ≡ resumed (S.sizes_of params).page_size six }
@@ -84,10 +85,10 @@ impl Offsets {
         }
     }
 
-    /// Moves the read-only offset up to x, at most to the tail. From then on whoever has seen it does not write
-    /// below x.
+    /// Moves the read-only offset up to x, at most to the tail. From then on whoever has seen it does not
+    /// write below x.
     ///
-    /// Faults: `NotAbove` where x is at most the read-only offset, `AboveTail` where x is above the tail.
+    /// Faults: `NotAbove` if x is at most the read-only offset, `AboveTail` if x is above the tail.
     pub fn raise(&mut self, x: u64) -> Result<(), Fault>
         ensures answer { let old = self.old
             in result ≡ unless_fault (raise_fault old.read_only old.tail x) tt }
@@ -106,11 +107,11 @@ impl Offsets {
         Ok(())
     }
 
-    /// Moves the head up to x, where a page begins, at most to the flushed offset: what leaves memory has been
-    /// written. `flushed` is at most the safe read-only offset.
+    /// Moves the head up to x, where a page begins, at most to the flushed offset: what leaves memory has
+    /// been written. `flushed` is at most the safe read-only offset.
     ///
-    /// Faults: `NotAbove` where x is at most the head, `NotPage` where x is no multiple of P, `AboveFlushed`
-    /// where x is above `flushed`.
+    /// Faults: `NotAbove` if x is at most the head, `NotPage` if x is no multiple of P, `AboveFlushed` if x
+    /// is above `flushed`.
     pub fn shift(&mut self, x: u64, flushed: u64) -> Result<(), Fault>
         requires { flushed ≤ self.old.safe_read_only }
         ensures answer { let old = self.old
@@ -135,7 +136,7 @@ impl Offsets {
     }
 
     /// Tells that nobody writes below x any more, x having been the read-only offset at some time. The safe
-    /// read-only offset becomes the greater of itself and x, and is the answer.
+    /// read-only offset becomes the greater of itself and x; returns it.
     pub fn settle(&mut self, x: u64) -> u64
         requires { x ≤ self.old.read_only }
         ensures answer { result ≡ max self.old.safe_read_only x }
@@ -147,8 +148,8 @@ impl Offsets {
         self.safe_read_only
     }
 
-    /// Tells that nobody reads below x any more, x having been the head at some time. The closed offset becomes
-    /// the greater of itself and x, and is the answer.
+    /// Tells that nobody reads below x any more, x having been the head at some time. The closed offset
+    /// becomes the greater of itself and x; returns it.
     pub fn close(&mut self, x: u64) -> u64
         requires whole { x % self.old.page_size ≡ 0 }
         requires most { x ≤ self.old.head }
@@ -161,10 +162,10 @@ impl Offsets {
         self.closed
     }
 
-    /// Places a record of n words, 1 to P, at the tail, or at the start of the next page where the tail's page
-    /// has fewer than n words left. Gives the address of its first word; the tail comes after its last one.
+    /// Places a record of n words, 1 to P, at the tail, or at the start of the next page if the tail's page
+    /// has fewer than n words left. Returns the address of its first word; the tail comes after its last one.
     ///
-    /// Faults: `Size` where n is 0 or above P, `SpaceSpent` where the record would end above 2^48.
+    /// Faults: `Size` if n is 0 or above P, `SpaceSpent` if the record would end above 2^48.
     pub fn allocate(&mut self, n: u64) -> Result<u64, Fault>
         ensures answer { let old = self.old
             in result ≡ unless_fault (size_fault old.page_size old.tail n)
@@ -197,7 +198,8 @@ impl Offsets {
         self.tail = address + n;
     }
 
-    /// Where `allocate` would place a record of n words, or the fault that it would meet. Changes nothing.
+    /// Returns where `allocate` would place a record of n words, or the fault that it would meet. Changes
+    /// nothing.
     #[inline(always)]
     pub fn place(&self, n: u64) -> Result<u64, Fault>
         ensures answer { let now = self.now
@@ -219,8 +221,8 @@ impl Offsets {
         Ok(address)
     }
 
-    // Where n words, at most P, lie on one page at or above the tail. P is a power of two, so the low bits of the tail
-    // count the words before it on its page.
+    // Where n words, at most P, lie on one page at or above the tail. P is a power of two, so the low bits of
+    // the tail count the words before it on its page.
     #[inline(always)]
     fn place_for(&self, n: u64) -> u64
         requires { n ≤ self.now.page_size }
@@ -277,8 +279,8 @@ impl Offsets {
         self.tail
     }
 
-    /// The offsets, with the caller's flushed offset among them. They are in order where it is a multiple of P
-    /// between the head and the safe read-only offset.
+    /// Returns the offsets, with the caller's flushed offset among them. They are in order if it is a
+    /// multiple of P between the head and the safe read-only offset.
     pub fn six(&self, flushed: u64) -> Six
         ensures value { result ≡ six_of self.now flushed }
         ensures in_order { let now = self.now

@@ -6,9 +6,9 @@ ghost use Rattle.hl_pass.specs.Views.{beyond_fault, store_fault, load_fault, ris
 use crate::news::News;
 use hl_model::{Fault, View};
 
-/// Whether a word may be stored at an address.
+/// Tells whether a word may be stored at an address.
 ///
-/// Faults: `Below` where the address is below the view's read-only offset, `Beyond` where it isn't below its tail.
+/// Faults: `Below` if the address is below the view's read-only offset, `Beyond` if it isn't below its tail.
 #[inline(always)]
 pub fn may_store(view: View, address: u64) -> Result<(), Fault>
     ensures { result ≡ unless_fault (store_fault view address) tt }
@@ -21,9 +21,9 @@ pub fn may_store(view: View, address: u64) -> Result<(), Fault>
     may_touch(view, address)
 }
 
-/// Whether the word of an address may be loaded.
+/// Tells whether the word of an address may be loaded.
 ///
-/// Faults: `Evicted` where the address is below the view's head, `Beyond` where it isn't below its tail.
+/// Faults: `Evicted` if the address is below the view's head, `Beyond` if it isn't below its tail.
 #[inline(always)]
 pub fn may_load(view: View, address: u64) -> Result<(), Fault>
     ensures { result ≡ unless_fault (load_fault view address) tt }
@@ -53,7 +53,7 @@ pub fn rises(view: View, read_only: u64, head: u64) -> bool
     view.read_only < read_only || view.head < head
 }
 
-/// The view with these offsets, where they are above its own.
+/// Returns the view with these offsets, if they are above its own.
 #[inline(always)]
 pub fn raised(view: View, read_only: u64, head: u64) -> View
     ensures { result ≡ raised view read_only head }

@@ -8,7 +8,8 @@ use hl_core::Core;
 use hl_epoch::Epochs;
 use hl_model::Tagged;
 
-/// Brings a core what a pass saw without the lock: as a look of its slot, if it saw an offset that its slot didn't.
+/// Brings a core what a pass saw without the lock: as a look of its slot, if it saw an offset that its slot
+/// didn't.
 #[inline(always)]
 pub fn catch_up<E: Epochs, J: Tagged>(core: &mut Core<E, J>, pass: &PassView)
     ensures standing { (A : List Step) → Stands J.tag core.old A

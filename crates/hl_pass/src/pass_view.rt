@@ -36,7 +36,7 @@ impl PassView {
         self.view = view;
     }
 
-    /// The same, where its slot has this view if it is protected.
+    /// The same with this view, if its slot is protected.
     #[inline(always)]
     pub fn rest_in(&mut self, epoch: u64, view: Option<View>)
         ensures { self.new ≡ rested_in view epoch self.old }

@@ -13,8 +13,8 @@ use hl_epoch::Epochs;
 use hl_model::{Fault, Tagged, View, filled};
 use std::alloc::Global;
 
-/// The stamp of each slot, beside the core of a log. The k-th acquire gives its slot the log's own stamp and k more, so
-/// no two passes have the same. The row never grows.
+/// The stamp of each slot, beside the core of a log. The k-th acquire gives its slot the log's own stamp and
+/// k more, so no two passes have the same. The row never grows.
 #[derive(Drop)]
 pub struct Stamps {
     pub(crate) row: Vec<u64>,

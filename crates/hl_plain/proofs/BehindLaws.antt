@@ -8,7 +8,7 @@ use Rattle.hl_model.specs.Replies.{fault_of, answer_of, reply_of, unless_fault}
 use Rattle.hl_model.specs.Bases.{Base, base_of}
 use Rattle.hl_model.specs.AfterReplies.{base_after, fault_after, answer_at, reply_after}
 use Rattle.hl_laws.proofs.CutLaws.{cuts_anywhere}
-use Rattle.hl_plain.specs.Histories.{History, Follows, worded, answer_told, unless_met, answer_behind, Answers, AnswersBehind}
+use Rattle.hl_plain.specs.Histories.{History, Follows, worded, answer_in, unless_met, answer_behind, Answers, AnswersBehind}
 use Rattle.std.specs.Prelude.{option_map, is_some}
 use Rattle.std.specs.List.{count_by, range_with_len}
 use Rattle.std.proofs.lemmas.List.Sums.{sum_by-append}
@@ -25,7 +25,7 @@ use Rattle.hl_plain.specs.Shown.{state_at, frame_at, snapshot_at}
 use Rattle.hl_plain.proofs.HistoryLaws.{present_is, fault_is, Follows-push}
 
 -- the answers to an accepted step are the same, read or not
-pub answer_is : (h : History) (A : List Step) (s : Step) → Follows h A → fault_after h.base h.steps s ≡ None → answer_told h s ≡ answer_behind A h s
+pub answer_is : (h : History) (A : List Step) (s : Step) → Follows h A → fault_after h.base h.steps s ≡ None → answer_in h s ≡ answer_behind A h s
 answer_is h A s f none =
     ap (worded h.has_words h.steps s)
     (inside (answer_at (base_after h.base h.steps) (base_after h.base (h.steps ++ s ∷ [])) s) (answer_of h.base.sizes (A ++ h.steps) ((A ++ h.steps) ++ s ∷ []) s) same)
@@ -43,10 +43,10 @@ pub answers_are : (h : History) (A : List Step) (s : Step) (r : Result Reply Fau
 answers_are h A s r k f (inr e) = inr (e.0, (sym (fault_is h A s f) ∙ e.1.0, e.1.1))
 answers_are h A s r k f (inl e) = inl (e.0 ∙ replies (fault_after h.base h.steps s) refl, e.1 ∙ ap (λ o. unless_met o s h) (fault_is h A s f))
   where
-    replies : (o : Option Fault) → fault_after h.base h.steps s ≡ o → unless_fault (fault_after h.base h.steps s) (answer_told h s) ≡ unless_fault (fault_of h.base.sizes (A ++ h.steps) s) (answer_behind A h s)
+    replies : (o : Option Fault) → fault_after h.base h.steps s ≡ o → unless_fault (fault_after h.base h.steps s) (answer_in h s) ≡ unless_fault (fault_of h.base.sizes (A ++ h.steps) s) (answer_behind A h s)
     replies None is = ap₂ (λ o x. unless_fault o x) (fault_is h A s f) (answer_is h A s f is)
     replies (Some fault) is =
-        ap (λ o. unless_fault o (answer_told h s)) is ∙ sym (ap (λ o. unless_fault o (answer_behind A h s)) (sym (fault_is h A s f) ∙ is))
+        ap (λ o. unless_fault o (answer_in h s)) is ∙ sym (ap (λ o. unless_fault o (answer_behind A h s)) (sym (fault_is h A s f) ∙ is))
 
 -- it goes on from the same list
 pub follows_stay : (h : History) (A : List Step) (s : Step) (r : Result Reply Fault) (k : History) → Follows h A → Answers h s r k → Follows k A

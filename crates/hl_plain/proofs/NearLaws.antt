@@ -11,7 +11,7 @@ use Rattle.hl_model.specs.Bases.{Base, IsBase, base_of}
 use Rattle.hl_model.specs.AfterReplies.{base_after, fault_after, answer_at}
 use Rattle.hl_laws.proofs.LawProofs.{beginnings_are_accepted}
 use Rattle.hl_laws.proofs.CutLaws.{cuts_anywhere}
-use Rattle.hl_plain.specs.Histories.{History, begun, Follows, IsHistory, worded, answer_told, told, unless_met, Answers}
+use Rattle.hl_plain.specs.Histories.{History, begun, Follows, IsHistory, worded, answer_in, result_in, unless_met, Answers}
 use Rattle.hl_plain.specs.Kept.{behind, present_by, IsAt}
 use Rattle.hl_plain.proofs.HistoryLaws.{present_is, IsHistory-base, IsHistory-push}
 
@@ -81,16 +81,16 @@ present_by-push h near after s M k none within at base since grown =
 
 -- and what it is answered by them is the answer
 pub answer_by : (h : History) (near after : Near) (s : Step) (M : List Step) (reply : Reply) → IsHistory h → fault_after h.base h.steps s ≡ None → near.since ≤ length h.steps → IsAt h.base h.steps near → after.base ≡ near.base → after.since ≡ near.since → M ≡ h.steps ++ s ∷ []
-    → reply ≡ answer_at (present_by near h.steps) (present_by after M) s → worded h.has_words h.steps s reply ≡ answer_told h s
+    → reply ≡ answer_at (present_by near h.steps) (present_by after M) s → worded h.has_words h.steps s reply ≡ answer_in h s
 answer_by h near after s M reply k none within at base since grown is =
     ap (worded h.has_words h.steps s)
     (is ∙ ap₂ (λ x y. answer_at x y s) (present_by_is h near k at) (present_by-push h near after s M k none within at base since grown ∙ ap (base_after h.base) grown))
 
 -- an accepted step is answered so
-pub told_is : (h : History) (s : Step) (r : Reply) → fault_after h.base h.steps s ≡ None → r ≡ answer_told h s → Ok r ≡ told h s
-told_is h s r none is = ap Ok is ∙ sym (ap (λ o. unless_fault o (answer_told h s)) none)
+pub told_is : (h : History) (s : Step) (r : Reply) → fault_after h.base h.steps s ≡ None → r ≡ answer_in h s → Ok r ≡ result_in h s
+told_is h s r none is = ap Ok is ∙ sym (ap (λ o. unless_fault o (answer_in h s)) none)
 
-pub Answers-accepted : (h : History) (s : Step) (M : List Step) (r : Reply) → fault_after h.base h.steps s ≡ None → M ≡ h.steps ++ s ∷ [] → Ok r ≡ told h s → Answers h s (Ok r) (record h { steps = M })
+pub Answers-accepted : (h : History) (s : Step) (M : List Step) (r : Reply) → fault_after h.base h.steps s ≡ None → M ≡ h.steps ++ s ∷ [] → Ok r ≡ result_in h s → Answers h s (Ok r) (record h { steps = M })
 Answers-accepted h s M r none grown is = inl (is, ap (λ X. record h { steps = X }) grown ∙ sym (ap (λ o. unless_met o s h) none))
 
 -- the steps behind it, as a slice

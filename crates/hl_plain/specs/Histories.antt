@@ -37,14 +37,14 @@ worded true L s reply = with_word L s reply
 worded false L s reply = reply
 
 -- the answer to an accepted step
-abbrev pub answer_told : History → Step → Reply
-answer_told h s =
+abbrev pub answer_in : History → Step → Reply
+answer_in h s =
     worded h.has_words h.steps s
     (answer_at (base_after h.base h.steps) (base_after h.base (h.steps ++ s ∷ [])) s)
 
 -- the reply to a step
-abbrev pub told : History → Step → Result Reply Fault
-told h s = unless_fault (fault_after h.base h.steps s) (answer_told h s)
+abbrev pub result_in : History → Step → Result Reply Fault
+result_in h s = unless_fault (fault_after h.base h.steps s) (answer_in h s)
 
 -- the history with the step, where it meets no such fault
 abbrev pub unless_met : Option Fault → Step → History → History
@@ -59,7 +59,7 @@ AnswersBy fault reply before s result after =
 
 -- by the definitions from the base
 abbrev pub Answers : History → Step → Result Reply Fault → History → Type 0
-Answers before s = AnswersBy (fault_after before.base before.steps s) (answer_told before s) before s
+Answers before s = AnswersBy (fault_after before.base before.steps s) (answer_in before s) before s
 
 -- the answer to an accepted step after A and the steps
 abbrev pub answer_behind : List Step → History → Step → Reply

@@ -224,7 +224,7 @@ fn read_fault(a: u64, view: View) -> Option<Fault>
     }
 }
 
-// The fault of a take of a page: this one, where no page waits.
+// The fault of a take of a page: this one, if no page waits.
 fn turn_fault(work: Work, present: &Present, fault: Fault) -> Option<Fault>
     ensures { result ≡ unless_page fault (next_in present.now work) }
 {
@@ -234,7 +234,7 @@ fn turn_fault(work: Work, present: &Present, fault: Fault) -> Option<Fault>
     }
 }
 
-// The fault of an end of the work on page p: this one, where the page isn't out.
+// The fault of an end of the work on page p: this one, if the page isn't out.
 fn return_fault(work: Work, present: &Present, p: u64, fault: Fault) -> Option<Fault>
     ensures { result ≡ (if out_in present.now work p then None else Some fault) }
 {

@@ -10,9 +10,9 @@ use crate::pages::{Mark, Work};
 use hl_laws::Base;
 use hl_model::{Held, Step};
 
-/// The greatest entered page of frame f, if there is one, told the tail. The pages of a frame are as far apart
-/// as there are frames, so it is as far before the last entered page as that one is past f, but for whole
-/// rounds.
+/// The greatest entered page of frame f, if there is one, told the tail. The pages of a frame are as far
+/// apart as there are frames, so it is as far before the last entered page as that one is past f, but for
+/// whole rounds.
 pub fn last_entered(base: &Base, tail: u64, f: u64) -> Option<u64>
     requires page_size { 0 < base.now.sizes.page_size }
     requires frame { f < base.now.sizes.frames }

@@ -18,18 +18,18 @@
 //! A base holds no words, so an allocator that goes on from one answers a read with `Readable`. One that was
 //! opened answers it with the word.
 //!
-//! It takes narrow sizes only, those that a script may ask for: `Params`, or a base of such sizes. So its rows of
-//! actions lie on the stack.
+//! It takes narrow sizes only, those that a script may ask for: `Params`, or a base of such sizes. So its
+//! rows of actions lie on the stack.
 //!
 //! # How it answers
 //!
 //! The base after some steps, and then after more, is the base after all of them. So each answer is computed
-//! from the near base and the steps behind it, and is that from the first base and all steps: this is proved by
-//! the law of hl_laws that a list may be cut anywhere.
+//! from the near base and the steps behind it, and is that from the first base and all steps: this is proved
+//! by the law of hl_laws that a list may be cut anywhere.
 //!
 //! Each quantity is looked up in the steps by a function of its own, in a file for its subject: a count
 //! (`epochs`), the last step of a kind (`epochs`, `views`, `words`), the greatest address (`offsets`,
-//! `settled`), the first so many of what was stored (`actions`), the longest run (`flushed`). Where a step
+//! `settled`), the first so many of what was stored (`actions`), the longest run (`flushed`). If a step
 //! before the base would be looked for, the base tells it. No quantity is renewed from step to step: when too
 //! many steps lie behind the near base, the quantities after them are computed once (`gathered`), as the next
 //! one.
@@ -39,11 +39,11 @@
 //!
 //! # What it costs
 //!
-//! To find a quantity, a step looks at the steps behind the near base: at most 384, and at most 16 where as
-//! many were accepted before it as there are slots, frames and places for actions together. It may do so for
-//! each slot, where the safe epoch is wanted, and for each page below the tail, where the next page to take
-//! is looked for. The run of flushed pages is looked for from the near base's flushed offset on: the pages
-//! below are flushed there. Only the word of a read is looked for in all steps.
+//! To find a quantity, a step looks at the steps behind the near base: at most 384, and at most 16 if as many
+//! were accepted before it as there are slots, frames and places for actions together. It may do so for each
+//! slot, if the safe epoch is wanted, and for each page below the tail, if the next page to take is looked
+//! for. The run of flushed pages is looked for from the near base's flushed offset on: the pages below are
+//! flushed there. Only the word of a read is looked for in all steps.
 //!
 //! The next near base is computed by looking at these steps for each slot and each frame. Spread over these
 //! steps, that is a pass over the slots, frames and actions for each: in order of time a look through all
@@ -55,7 +55,7 @@
 //!
 //! [`Plain::open`] and [`Plain::from_base`] take room for three bases (the third is where the next near one
 //! is put), for the marks of 384 steps, and for as many steps as there are frames, F; a step behind the first
-//! F may take memory for itself, and is refused as `OutOfMemory` where there is none. No query takes memory.
+//! F may take memory for itself, and is refused as `OutOfMemory` if there is none. No query takes memory.
 #![tactic(auto)]
 
 mod actions;

@@ -39,9 +39,9 @@ pub struct Near {
 }
 
 impl Near {
-    /// A base itself, before any step.
+    /// Returns a base itself, before any step.
     ///
-    /// `OutOfMemory` where memory was refused.
+    /// `OutOfMemory` if memory was refused.
     pub fn at(alloc: Global, base: &Base) -> Result<Near, Fault>
         requires { AreNarrow base.now.sizes }
         ensures at { IfOk result (IsAt base.now []) }
@@ -74,8 +74,8 @@ impl Near {
         )
     }
 
-    /// Puts an accepted step behind the steps, which have room, and its marks behind theirs. The answer is the
-    /// step's.
+    /// Puts an accepted step behind the steps, which have room, and its marks behind theirs. Returns the
+    /// reply to the step.
     pub fn accept(&mut self, steps: &mut Vec<Step>, step: &Step) -> Reply
         requires near { IsNear steps.old.items self.old }
         requires few { vec_len steps.old < self.old.since + REACH }
@@ -107,12 +107,12 @@ impl Near {
         replies::answer_at(&before, &after, step)
     }
 
-    /// Goes on to the base after all steps, where 16 or more lie behind it and there are as many in all as
-    /// there are slots, frames and places for actions together.
+    /// Goes on to the base after all steps, if 16 or more lie behind it and there are as many in all as there
+    /// are slots, frames and places for actions together.
     ///
-    /// Spread over the steps behind it, that costs each a pass over the slots, frames and actions: in order of
-    /// time a look through all steps, once there are as many of them. With fewer it is cheaper to look through
-    /// all.
+    /// Spread over the steps behind it, that costs each a pass over the slots, frames and actions: in order
+    /// of time a look through all steps, once there are as many of them. With fewer it is cheaper to look
+    /// through all.
     pub fn keep_near(&mut self, steps: &[Step])
         requires { IsNear steps.now self.old }
         ensures near { IsNear steps.now self.new }

@@ -127,8 +127,8 @@ impl Work {
         }
     }
 
-    /// Whether the work on page p was completed, told what the page's frame holds: where that is a later
-    /// page, it had to be.
+    /// Whether the work on page p was completed, told what the page's frame holds: if that is a later page,
+    /// it had to be.
     pub fn completed_in(self, p: u64, held: Option<Held>) -> bool
         ensures { result ≡ completed_in (complete_mark self) p held }
     {
@@ -163,7 +163,7 @@ impl Work {
         self.completed_in(p, held_in(base, p)) || self.completed_since(p, steps)
     }
 
-    /// Whether page p is out, told the marks of the steps: by its marks where there are any, else as in the
+    /// Whether page p is out, told the marks of the steps: by its marks if there are any, else as in the
     /// base.
     #[tactic(auto, unfolding(hl_model::specs::AfterPages::is_out_after), using(crate::proofs::FoldLaws::list_any_map))]
     pub fn is_out(self, base: &Base, p: u64, marks: &[Mark]) -> bool

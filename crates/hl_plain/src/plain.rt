@@ -8,7 +8,7 @@ ghost use Rattle.hl_model.specs.Snapshots.{snapshot_of};
 ghost use Rattle.hl_model.specs.Views.{slot_view};
 ghost use Rattle.hl_model.specs.Bases.{base_of, slot_in};
 ghost use Rattle.hl_model.specs.AfterReplies.{base_after};
-ghost use Rattle.hl_plain.specs.Histories.{History, begun, Follows, IsHistory, worded, told, Answers, AnswersBehind};
+ghost use Rattle.hl_plain.specs.Histories.{History, begun, Follows, IsHistory, worded, result_in, Answers, AnswersBehind};
 ghost use Rattle.hl_plain.specs.Shown.{frame_at, snapshot_at};
 
 use crate::near::Near;
@@ -49,9 +49,9 @@ impl Model for Plain {
 }
 
 impl Plain {
-    /// An allocator of these sizes, before any step. It answers a read with the word.
+    /// Returns an allocator of these sizes, before any step. It answers a read with the word.
     ///
-    /// `OutOfMemory` where memory was refused.
+    /// `OutOfMemory` if memory was refused.
     pub fn open(alloc: Global, params: Params) -> Result<Plain, Fault>
         ensures ok { IfOk result (λ made. made ≡ begun (base_of params []) true) }
         ensures err { IfErr result (λ fault. fault ≡ Fault.OutOfMemory) }
@@ -62,10 +62,10 @@ impl Plain {
         Plain::begin(alloc, base, room, true)
     }
 
-    /// An allocator that goes on from a base, which it copies. It answers a read with `Readable`, since a
-    /// base holds no words. The base has narrow sizes: `base.params().params()` is `Some`.
+    /// Returns an allocator that goes on from a base, which it copies. It answers a read with `Readable`,
+    /// since a base holds no words. The base has narrow sizes: `base.params().params()` is `Some`.
     ///
-    /// `OutOfMemory` where memory was refused.
+    /// `OutOfMemory` if memory was refused.
     pub fn from_base(alloc: Global, base: &Base) -> Result<Plain, Fault>
         requires narrow { AreNarrow base.now.sizes }
         ensures ok { IfOk result (λ made. made ≡ begun base.now false) }
@@ -94,16 +94,17 @@ impl Plain {
         })
     }
 
-    /// Makes a step, where it meets no fault: it is put behind the steps.
+    /// Makes a step, if it meets no fault: it is put behind the steps.
     ///
-    /// Faults: the first that the step meets, else `OutOfMemory` where memory for it was refused. A refused
-    /// step changes nothing. None of the first F steps is refused memory.
+    /// Faults: the first that the step meets, else `OutOfMemory` if memory for it was refused. A refused step
+    /// changes nothing. None of the first F steps is refused memory.
     pub fn step(&mut self, step: &Step) -> Result<Reply, Fault>
         ensures answer { Answers self.old step.now result self.new }
         ensures behind { (A : List Step)
             → Follows self.old A → AnswersBehind A self.old step.now result self.new }
         ensures follows { (A : List Step) → Follows self.old A → Follows self.new A }
-        ensures room { length self.old.steps < self.old.base.sizes.frames → result ≡ told self.old step.now }
+        ensures room { length self.old.steps < self.old.base.sizes.frames
+            → result ≡ result_in self.old step.now }
         ensures valid { IsHistory self.new }
     {
         self.make(step)
@@ -112,7 +113,8 @@ impl Plain {
     // Makes a step by the definitions from the base, told by the near one.
     fn make(&mut self, step: &Step) -> Result<Reply, Fault>
         ensures answer { Answers self.old step.now result self.new }
-        ensures room { length self.old.steps < self.old.base.sizes.frames → result ≡ told self.old step.now }
+        ensures room { length self.old.steps < self.old.base.sizes.frames
+            → result ≡ result_in self.old step.now }
         ensures valid { IsHistory self.new }
     {
         if let Some(fault) = faults::fault_at(&self.present(), step) {
@@ -126,7 +128,7 @@ impl Plain {
         Ok(reply)
     }
 
-    /// The view of slot t: None where there is no such slot, or it isn't protected.
+    /// Returns the view of slot t, or None if there is no such slot, or it isn't protected.
     pub fn view(&self, t: u64) -> Option<View>
         ensures view { let b = base_after self.now.base self.now.steps
             in result ≡ option_map (λ slot. slot.view) (slot_in b t) }
@@ -154,7 +156,7 @@ impl Plain {
         self.present().waiting()
     }
 
-    /// What frame f, below F, is at, and its last entered page where it isn't free.
+    /// Returns what frame f, below F, is at, and its last entered page if it isn't free.
     pub fn frame(&self, f: u64) -> (FrameState, Option<u64>)
         requires { f < self.now.base.sizes.frames }
         ensures frame { result ≡ frame_at (base_after self.now.base self.now.steps) f }
@@ -201,7 +203,7 @@ fn reserve<T>(row: &mut Vec<T>) -> Result<(), Fault>
     row.try_reserve(1).map_err(|_| Fault::OutOfMemory)
 }
 
-// An answer, a read's with the word where there are words.
+// A reply, a read's with the word if there are words.
 fn worded(has_words: bool, steps: &[Step], step: &Step, reply: Reply) -> Reply
     ensures { result ≡ worded has_words steps.now step.now reply }
 {

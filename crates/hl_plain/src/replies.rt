@@ -1,4 +1,4 @@
-//! What each step is answered, told what was present before it and what is with it.
+//! What reply each step has, told what was present before it and what is with it.
 
 ghost use Rattle.std.specs.Prelude.{◌≡◌, ◌==◌, ◌^◌, ◌≤◌, None, find, unwrap_or};
 ghost use Rattle.hl_model.specs.Actions.{first_ticket};
@@ -13,7 +13,7 @@ use crate::present::Present;
 use crate::turns::next_page;
 use hl_model::{Kind, Reply, Step, Waiting};
 
-// The answer to an acquire and a refresh of slot t, after it.
+// The reply to an acquire and a refresh of slot t, after it.
 fn entered(present: &Present, t: u64) -> Reply
     ensures { result ≡ entered_at (slot_in present.now t) }
 {
@@ -26,7 +26,7 @@ fn entered(present: &Present, t: u64) -> Reply
     }
 }
 
-// The answer to a look of slot t, after it.
+// The reply to a look of slot t, after it.
 fn looked(present: &Present, t: u64) -> Reply
     ensures { result ≡ looked_at (slot_in present.now t) }
 {
@@ -36,7 +36,7 @@ fn looked(present: &Present, t: u64) -> Reply
     }
 }
 
-// The ticket of the oldest pending action, or 0 where none is pending, and no take is accepted.
+// The ticket of the oldest pending action, or 0 if none is pending, and no take is accepted.
 fn front(present: &Present) -> u64
     ensures { result ≡ first_ticket present.now.waiting }
 {
@@ -59,7 +59,7 @@ fn taken_at(present: &Present, ticket: u64) -> Option<Waiting>
     None
 }
 
-// The kind of the taken action of this ticket, or a job of tag 0 where there is none, which no accepted done
+// The kind of the taken action of this ticket, or a job of tag 0 if there is none, which no accepted done
 // names.
 fn kind_at(present: &Present, ticket: u64) -> Kind
     ensures { result ≡ kind_or_job_0 (find (λ w. w.ticket == ticket) present.now.taken) }
@@ -70,7 +70,7 @@ fn kind_at(present: &Present, ticket: u64) -> Kind
     }
 }
 
-// The answer to a done of this kind, after it.
+// The reply to a done of this kind, after it.
 fn done_answer(present: &Present, kind: Kind) -> Reply
     ensures { result ≡ done_answer_at present.now kind }
 {
@@ -81,7 +81,7 @@ fn done_answer(present: &Present, kind: Kind) -> Reply
     }
 }
 
-// The answer to a take of this page, or of page 0 where there is none, which no accepted take meets.
+// The reply to a take of this page, or of page 0 if there is none, which no accepted take meets.
 fn page_told(page: Option<u64>) -> Reply
     ensures { result ≡ Reply.Page (unwrap_or page 0) }
 {
@@ -96,7 +96,7 @@ fn placed(present: &Present, n: u64) -> Reply
     Reply::At(place_of(present.params(), present.tail(), n))
 }
 
-/// The answer to an accepted step.
+/// The reply to an accepted step.
 pub fn answer_at(before: &Present, after: &Present, step: &Step) -> Reply
     requires { fault_at before.now step.now ≡ None }
     ensures { result ≡ answer_at before.now after.now step.now }

@@ -20,7 +20,7 @@ fn least_epoch(present: &Present) -> Option<u64>
     least
 }
 
-/// The safe epoch: the greatest below those of all protected slots, or below the current one where there is
+/// The safe epoch: the greatest below those of all protected slots, or below the current one if there is
 /// none.
 pub fn safe(present: &Present) -> u64
     ensures { result ≡ safe_in present.now }

@@ -44,7 +44,7 @@ pub fn six(present: &Present) -> Six
     }
 }
 
-// What a frame is at that holds a page, and the page where it isn't free.
+// What a frame is at that holds a page, and the page if it isn't free.
 fn state_at(present: &Present, held: Held) -> (FrameState, Option<u64>)
     requires { held.page * present.now.sizes.page_size < 2 ^ 48 }
     ensures { result ≡ state_at present.now (Some held) }
@@ -64,7 +64,7 @@ fn state_at(present: &Present, held: Held) -> (FrameState, Option<u64>)
     }
 }
 
-/// What frame f is at, and its last entered page where it isn't free.
+/// What frame f is at, and its last entered page if it isn't free.
 pub fn frame_at(present: &Present, f: u64) -> (FrameState, Option<u64>)
     ensures { result ≡ frame_at present.now f }
 {

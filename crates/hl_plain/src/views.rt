@@ -83,8 +83,7 @@ fn has_allocated(t: u64, steps: &[Step]) -> bool
     since_mark(t, steps).iter().any(|step| allocates(t, step))
 }
 
-// The tail up to slot t's own last allocation after its mark, or the one that it saw then, where there is
-// none.
+// The tail up to slot t's own last allocation after its mark, or the one that it saw then, if there is none.
 fn own_tail(base: &Base, t: u64, seen: u64, steps: &[Step]) -> u64
     requires { TailFits base.now steps.now }
     ensures { result ≡ own_tail base.now t seen steps.now }
@@ -122,8 +121,8 @@ fn slot_in(base: &Base, t: u64) -> Option<Slot>
     *base.slots().get(t as usize)?
 }
 
-/// Slot t's epoch and view, if it is protected: by its mark where it moved since the base, else as in the
-/// base, but for its own looks and allocations.
+/// Slot t's epoch and view, if it is protected: by its mark if it moved since the base, else as in the base,
+/// but for its own looks and allocations.
 #[tactic(auto, unfolding(hl_model::specs::AfterViews::slot_after))]
 pub fn slot(base: &Base, t: u64, steps: &[Step]) -> Option<Slot>
     requires epoch { base.now.epoch ≤ 2 ^ 62 }

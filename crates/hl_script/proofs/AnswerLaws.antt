@@ -14,7 +14,7 @@ use Rattle.hl_model.specs.Frames.{frame_of}
 use Rattle.hl_model.specs.Snapshots.{snapshot_of}
 use Rattle.hl_model.specs.Replies.{fault_of, unless_fault}
 use Rattle.hl_model.proofs.ListLaws.{range-push}
-use Rattle.hl_image.specs.Streams.{BreaksOff}
+use Rattle.hl_line.specs.Streams.{BreaksOff}
 use Rattle.hl_script.specs.Answers.{lacks_job, line_fault, line_answer, quantities_text, status_text, frame_text, result_text}
 use Rattle.hl_script.specs.Stepping.{Stepped, StepAnswers, QueryAnswers}
 

@@ -1,13 +1,14 @@
 pub mod AnswerLaws
 pub mod CutLaws
 pub mod FastLaws
+pub mod InputLaws
 pub mod InterpreterLaws
 pub mod KnownLaws
 pub mod LineLaws
-pub mod MachineLaws
 pub mod ReachLaws
 pub mod RunLaws
 pub mod ShelfLaws
 pub mod SlowLaws
+pub mod StandsLaws
 pub mod StreamLaws
 pub mod TextLaws

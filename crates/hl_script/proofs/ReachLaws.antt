@@ -1,17 +1,17 @@
 -- How far a run has come in its input: one byte more, one line more, and the end.
-use Rattle.std.proofs.Common.{◌≡◌, ◌≢◌, ℕ, ◌+◌, false, cond, ◌||◌, List, [], ◌∷◌, ◌++◌, length, take, drop, refl, sym, ap, ◌∙◌, subst, append_assoc, append-nil, arith, length-append, ne_eqb, eq-eqb}
+use Rattle.std.proofs.Common.{◌≡◌, ◌≢◌, ◌<◌, ℕ, ◌+◌, false, cond, List, [], ◌∷◌, ◌++◌, length, take, drop, refl, sym, ap, ◌∙◌, subst, append_assoc, append-nil, arith, length-append, eq-eqb}
 use Rattle.std.specs.Prelude.{Some, None}
 use Rattle.std.specs.List.{list_any}
 use Rattle.std.proofs.lemmas.List.{length_push}
 use Rattle.std.proofs.Math.Seq.{take-append_seam, take-length, drop-append_seam}
 use Rattle.hl_model.specs.Lists.{until_last}
-use Rattle.hl_model.proofs.ListLaws.{until_last-push, list_any-push}
+use Rattle.hl_model.proofs.ListLaws.{until_last-push}
 use Rattle.hl_line.specs.declared.line.Line.{Line}
 use Rattle.hl_line.specs.Reading.{line_of}
 use Rattle.hl_line.proofs.Reading.{line_of-long}
 use Rattle.hl_script.specs.Cut.{cut, whole_lines, unfinished_line}
 use Rattle.hl_script.specs.Lines.{allowed, good_lines, script, bad_line}
-use Rattle.hl_script.specs.Interpreter.{is_end, Reached, Faces}
+use Rattle.hl_script.specs.Interpreter.{is_end, Reached, Faces, IsGood}
 use Rattle.hl_script.proofs.CutLaws.{cut-nil, cut-line, cut-begun, cut-last, until_last-none}
 use Rattle.hl_script.proofs.LineLaws.{good-nil, good-line, good-append}
 
@@ -24,18 +24,6 @@ whole-end bytes = ap (λ n. take n (bytes ++ 10 ∷ [])) (until_last-push is_end
 pub reached_start : Reached [] [] []
 unfolding script good_lines cut until_last
 reached_start = record { whole = []; parts = refl; closed = λ more. refl; good = refl; all = refl; ended = refl; no_end = refl }
-
--- a byte of a line
-pub reached_byte : (done : List ℕ) (before : List Line) (line : List ℕ) (b : ℕ) → Reached done before line → b ≢ 10 → Reached (done ++ b ∷ []) before (line ++ b ∷ [])
-reached_byte done before line b r ne = record {
-  whole = r.whole;
-  parts = ap (λ z. z ++ b ∷ []) r.parts ∙ append_assoc r.whole line (b ∷ []);
-  closed = r.closed;
-  good = r.good;
-  all = r.all;
-  ended = r.ended;
-  no_end = list_any-push is_end line b ∙ ap (λ z. z || is_end b) r.no_end ∙ ne_eqb b 10 ne;
-}
 
 -- some bytes of a line that none was begun of
 pub reached_bytes : (done : List ℕ) (before : List Line) (line bytes : List ℕ) → Reached done before line → line ≡ [] → list_any is_end bytes ≡ false → Reached (done ++ bytes) before bytes
@@ -68,16 +56,13 @@ faces_at done before line more next others r e = record {
 pub reached_end : (done : List ℕ) (before : List Line) (line more : List ℕ) → Reached done before line → Faces (done ++ 10 ∷ more) before line
 reached_end done before line more r = faces_at done before line (10 ∷ more) line (cut more) r (cut-line line more r.no_end)
 
--- a line of 80 bytes goes on, and so is none
-pub reached_long : (done : List ℕ) (before : List Line) (line more : List ℕ) (b : ℕ) → Reached done before line → length line ≡ 80 → b ≢ 10 → (next : List ℕ) × Faces (done ++ b ∷ more) before next × (line_of next ≡ None)
-reached_long done before [] more b r long ne = cc
-reached_long done before (c ∷ line) more b r long ne =
-    let no_end : list_any is_end ((c ∷ line) ++ b ∷ []) ≡ false = (reached_byte done before (c ∷ line) b r ne).no_end in
-    let begun = cut-begun c (line ++ b ∷ []) more no_end in
-    let next : List ℕ = (c ∷ (line ++ b ∷ [])) ++ begun.0 in
-    let same : cut ((c ∷ line) ++ b ∷ more) ≡ next ∷ begun.1 = ap (λ z. cut (c ∷ z)) (sym (append_assoc line (b ∷ []) more)) ∙ begun.2 in
-    let length_is : length next ≡ length (c ∷ (line ++ b ∷ [])) + length begun.0 = length-append (c ∷ (line ++ b ∷ [])) begun.0 in
-    (next, faces_at done before (c ∷ line) (b ∷ more) next begun.1 r same, line_of-long next (omega (arith, length_is, long, length-append line (b ∷ []))))
+-- a line of more than 80 bytes is none, however it goes on
+pub reached_long : (done : List ℕ) (before : List Line) (line more : List ℕ) → Reached done before line → 80 < length line → (next : List ℕ) × Faces (done ++ more) before next × (line_of next ≡ None)
+reached_long done before [] more r long = absurd (omega (arith, long))
+reached_long done before (c ∷ line) more r long =
+    let begun = cut-begun c line more r.no_end in
+    let next : List ℕ = (c ∷ line) ++ begun.0 in
+    (next, faces_at done before (c ∷ line) more next begun.1 r begun.2, line_of-long next (omega (arith, length-append (c ∷ line) begun.0, long)))
 
 -- the input ends in a line
 pub reached_last : (done : List ℕ) (before : List Line) (line : List ℕ) → Reached done before line → line ≢ [] → Faces done before line
@@ -109,11 +94,6 @@ reached_line done before line found r h = record {
   where
     cuts : cut (done ++ 10 ∷ []) ≡ cut r.whole ++ line ∷ []
     cuts = reached_cut done before line (10 ∷ []) r ∙ ap (λ z. cut r.whole ++ z) (cut-line line [] r.no_end ∙ ap (λ z. line ∷ z) cut-nil)
-
--- the script of bytes whose lines are all good
-pub record IsGood (bytes : List ℕ) (all : List Line) : Type 0 where
-  pub lines : script bytes ≡ all
-  pub number : bad_line bytes ≡ None
 
 all_good : (bytes : List ℕ) (lines : List Line) → script bytes ≡ lines → length (cut bytes) ≡ length lines → IsGood bytes lines
 unfolding bad_line

@@ -9,9 +9,7 @@ use Rattle.hl_action.specs.Firings.{FiringRecord}
 use Rattle.hl_action.specs.Jobs.{KeptRecord}
 use Rattle.hl_script.specs.Answers.{lacks_job}
 use Rattle.hl_script.specs.Text.{tags_on}
-use Rattle.hl_script.specs.Machine.{Stands}
-use Rattle.hl_script.specs.declared.fast.Jobs.{Jobs}
-use Rattle.hl_script.specs.declared.fast.Fast.{Fast}
+use Rattle.hl_script.specs.Runs.{StandsAt}
 
 -- a job answers its tag + its ticket
 abbrev pub adds : ℕ → FiringRecord → ℕ → Type 0
@@ -29,9 +27,6 @@ pub record IsFast {F : Type 0} (shelf : List (Option (KeptRecord F))) (engine : 
   pub standing : EngineStands engine A
   pub left : AreLeft has A shelf
 
--- what an engine and a shelf of jobs stand at before the config, and behind it, in a script's lines
-abbrev pub FastStands : {E F : Type 0} → Option (Jobs F) → Option (Fast E F) → (ℕ → Bool) → List Line
-    → Type 0
-FastStands opening opened has before =
-    Stands (λ jobs has. has ≡ tags_on jobs.shelf) (λ fast has sizes A. IsFast fast.shelf fast.engine has sizes A)
-    opening opened has before
+-- the same at the accepted steps of these lines, of which the first is the config
+abbrev pub FastStands : {F : Type 0} → List (Option (KeptRecord F)) → Whole F → (ℕ → Bool) → List Line → Type 0
+FastStands shelf engine has before = StandsAt (IsFast shelf engine) has before

@@ -1,10 +1,11 @@
 pub mod Answers
 pub mod Cut
 pub mod Fast
+pub mod Input
 pub mod Interpreter
 pub mod Lines
-pub mod Machine
 pub mod Outcomes
+pub mod Runs
 pub mod Slow
 pub mod Stepping
 pub mod Text

@@ -1,7 +1,7 @@
 -- What a run over a reader and a writer has done when it ends.
-use Rattle.std.specs.Prelude.{◌≡◌, ◌<◌, ◌≤◌, ◌⊎◌, ◌+◌, ◌*◌, length, ⊤, ℕ, Bool, true, Option, Some, None, List, [], ◌∷◌, ◌++◌}
+use Rattle.std.specs.Prelude.{◌≡◌, ◌<◌, ◌≤◌, ◌⊎◌, ◌+◌, ◌*◌, length, ℕ, Bool, true, Option, Some, None, Result, Ok, Err, List, [], ◌∷◌, ◌++◌}
 use Rattle.std.specs.Io.KnownBytes.{Appends, Consumes, IsAtEnd}
-use Rattle.hl_image.specs.Streams.{BreaksOff}
+use Rattle.hl_line.specs.Streams.{BreaksOff}
 use Rattle.hl_line.specs.declared.line.Line.{Line}
 use Rattle.hl_model.specs.declared.fault.Fault.{Fault}
 use Rattle.hl_model.specs.declared.fault.Fault.TheVariants.{BadLine as BadLineFault, OutOfMemory as OutOfMemoryFault, Stream as StreamFault}
@@ -100,9 +100,19 @@ StoppedByStream has reads given left before after =
     (input : List ℕ) × ReadWithin reads given left input
     × (WroteWholeLines has before after input ⊎ FailedWrite has reads given left before after input)
 
--- the faults that a run may answer
-abbrev pub IsRunFault : Fault → Type 0
-IsRunFault (BadLineFault n) = ⊤
-IsRunFault OutOfMemoryFault = ⊤
-IsRunFault StreamFault = ⊤
-IsRunFault _ = ⊥
+-- what a run stopped at: a bad line, no memory, or its streams; and what no memory leaves
+abbrev pub RunStopped : (ℕ → Bool) → ℕ → Option (List ℕ) → Option (List ℕ) → Option (List ℕ) → Option (List ℕ)
+    → (List ℕ → Type 0) → Fault → Type 0
+RunStopped has reads given left before after lacked (BadLineFault n) =
+    StoppedAtBadLine has reads given left before after n
+RunStopped has reads given left before after lacked OutOfMemoryFault = StoppedByMemory reads given left lacked
+RunStopped has reads given left before after lacked StreamFault = StoppedByStream has reads given left before after
+RunStopped has reads given left before after lacked _ = ⊥
+
+-- what a run came to: all was read and answered, and this is left at the end of the lines; or it stopped at a fault
+abbrev pub TextRan : {X : Type 0} → (ℕ → Bool) → ℕ → Option (List ℕ) → Option (List ℕ) → Option (List ℕ)
+    → Option (List ℕ) → (List ℕ → Type 0) → (List Line → X → Type 0) → Result X Fault → Type 0
+TextRan has reads given left before after lacked ends (Ok end) =
+    (input : List ℕ) × ReadToEnd reads given left input × WroteAll has before after input × ends (script input) end
+TextRan has reads given left before after lacked ends (Err fault) =
+    RunStopped has reads given left before after lacked fault

@@ -6,7 +6,7 @@ use Rattle.hl_model.specs.declared.fault.Fault.TheVariants.{OutOfMemory, Stream}
 use Rattle.hl_model.specs.declared.step.Reply.{Reply}
 use Rattle.hl_model.specs.declared.step.Step.{Step}
 use Rattle.hl_model.specs.Sizes.{Sizes}
-use Rattle.hl_image.specs.Streams.{BreaksOff}
+use Rattle.hl_line.specs.Streams.{BreaksOff}
 use Rattle.hl_line.specs.declared.line.Line.TheVariants.{Step as Makes}
 use Rattle.hl_script.specs.Answers.{line_fault, line_reply, result_text, with_line}
 

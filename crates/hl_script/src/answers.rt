@@ -1,20 +1,20 @@
 ghost use Rattle.std.specs.Prelude.{◌≡◌, ◌+◌, ◌≤◌, ◌++◌, ◌∷◌, [], length, Some, OnOk, OnErr, IfErr};
 ghost use Rattle.std.specs.Io.KnownBytes.{Appends};
 ghost use Rattle.arrayvec.specs.ArrayString.{array_string_len};
-ghost use Rattle.hl_image.specs.Streams.{BreaksOff};
+ghost use Rattle.hl_line.specs.Streams.{BreaksOff};
 ghost use Rattle.hl_script.specs.Answers.{named, quantities_text, waiting_text, pending_text, frame_text, result_text};
 ghost use Rattle.hl_script.specs.Text.{bad_text};
 
 use arrayvec::ArrayString;
-use hl_image::put;
-use hl_line::AnswerLine;
+use hl_line::{AnswerLine, put};
 use hl_model::{Fault, FrameState, Kind, Reply, Snapshot, Waiting};
 use itoa::Buffer;
 use std::io::Write;
 
 /// Writes a text and an LF.
 ///
-/// Fault: `Stream` where a write failed or took no byte. A beginning of the line was then written, and not all of it.
+/// Fault: `Stream` if a write failed or took no byte. A beginning of the line was then written, and not all
+/// of it.
 pub(crate) fn put_line<W: Write>(out: &mut W, text: &str) -> Result<(), Fault>
     ensures ok { OnOk result (Appends (W.contents out.old) (W.contents out.new) (text.now ++ 10 ∷ [])) }
     ensures err { IfErr result (λ fault. fault ≡ Fault.Stream) }
@@ -37,7 +37,7 @@ pub(crate) fn add_named(text: &mut ArrayString<320>, name: &str, number: u64)
     text.push_str(Buffer::new().format(number));
 }
 
-/// The quantities by their names.
+/// Returns the quantities by their names.
 #[tactic(auto, unfolding(crate::specs::Answers::quantities_text))]
 pub(crate) fn print_quantities(snapshot: &Snapshot) -> ArrayString<320>
     ensures { let now = snapshot.now
@@ -58,7 +58,8 @@ pub(crate) fn print_quantities(snapshot: &Snapshot) -> ArrayString<320>
     text
 }
 
-/// What a script's text ends with where its line n, counted from 1, is no step. The LF is among the bytes.
+/// Returns what a script's text ends with if its line n, counted from 1, is no step. The LF is among the
+/// bytes.
 pub fn print_bad_line(n: u64) -> ArrayString<64>
     ensures { result.bytes ≡ bad_text (Some n) }
 {
@@ -69,8 +70,8 @@ pub fn print_bad_line(n: u64) -> ArrayString<64>
     text
 }
 
-/// Writes an answer to a step, or the fault, with an LF. The line is made anew, whatever it was: one of its own for each
-/// answer would be cleared for each.
+/// Writes an answer to a step, or the fault, with an LF. The line is made anew, whatever it was: one of its
+/// own for each answer would be cleared for each.
 ///
 /// Fault: `Stream` as for a text.
 pub(crate) fn put_result<W: Write>(
@@ -109,7 +110,7 @@ fn add_waiting(text: &mut ArrayString<4096>, waiting: &Waiting)
     text.push_str(Buffer::new().format(number));
 }
 
-/// The word `pending` and these actions, at most 64.
+/// Returns the word `pending` and these actions, at most 64.
 pub(crate) fn print_pending(waiting: &[Waiting]) -> ArrayString<4096>
     requires { length waiting.now ≤ 64 }
     ensures { result.bytes ≡ pending_text waiting.now }

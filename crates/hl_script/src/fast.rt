@@ -25,7 +25,7 @@ pub(crate) struct Jobs<F: Task> {
 /// An engine, and the jobs that no accepted bump took. It takes no memory for a step.
 #[derive(Drop)]
 pub(crate) struct Fast<E: Epochs, F: Task> {
-    shelf: Shelf<F, Sum>,
+    pub(crate) shelf: Shelf<F, Sum>,
     pub(crate) engine: Engine<E, F, Sum>,
 }
 
@@ -73,7 +73,7 @@ impl<E: Epochs + Drop, F: Task> Stepping for Fast<E, F> {
 }
 
 impl<E: Epochs + Drop, F: Task> Fast<E, F> {
-    /// A bump with the job of this tag, which leaves the shelf where the bump is accepted.
+    /// Makes a bump with the job of this tag, which leaves the shelf if the bump is accepted.
     fn bump(&mut self, tag: u64) -> Result<Reply, Fault>
         ensures { (has : ℕ → Bool) (sizes : Sizes) (A : List STEP)
             → IsFast self.old.shelf self.old.engine has sizes A

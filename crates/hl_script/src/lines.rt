@@ -1,25 +1,53 @@
-ghost use Rattle.std.specs.Prelude.{◌≡◌, ℕ, Bool, List};
+ghost use Rattle.std.specs.Prelude.{◌≡◌, ℕ, Bool, true, None, Ok, List};
+ghost use Rattle.hl_line.specs.declared.line.Line.{Line as LINE};
 ghost use Rattle.hl_model.specs.declared.step.Step.{Step};
 ghost use Rattle.hl_model.specs.Sizes.{Sizes};
 ghost use Rattle.hl_model.specs.Actions.{pending};
 ghost use Rattle.hl_script.specs.Answers.{status_text, pending_text, frames_text};
+ghost use Rattle.hl_script.specs.Interpreter.{Answers};
+ghost use Rattle.hl_script.specs.Lines.{is_config, takes_memory};
+ghost use Rattle.hl_script.specs.Runs.{StandsAt};
 ghost use Rattle.hl_script.specs.Stepping.{IsStanding, StepAnswers, QueryAnswers};
 
 use crate::answers::{add_frame, print_pending, print_quantities, put_line, put_result};
 use crate::stepping::Stepping;
 use arrayvec::ArrayString;
-use hl_line::AnswerLine;
+use hl_line::{AnswerLine, Line};
 use hl_model::{Fault, Step};
 use std::io::Write;
 
-/// Makes a step and writes the line that answers it. The answer tells whether the step was accepted.
+/// Writes the answer to a line behind the config, with an LF, and returns whether the line was a step and
+/// accepted. None if it is a config, of which there is one: nothing was written.
 ///
-/// `OutOfMemory` where memory was refused; nothing was written. `Stream` where a write failed or took no byte; the
+/// `OutOfMemory` if memory was refused; nothing was written. `Stream` if a write failed or took no byte; the
 /// first bytes of the answer were written.
-pub(crate) fn answer_step<S: Stepping, W: Write>(
+pub(crate) fn answer<S: Stepping, W: Write>(
+    stepping: &mut S,
+    line: &Line,
+    row: &mut AnswerLine,
+    out: &mut W,
+) -> Result<Option<bool>, Fault>
+    requires { (has : ℕ → Bool) × (before : List LINE) × StandsAt (S.stands stepping.old) has before }
+    ensures config { is_config line.now ≡ true → result ≡ Ok None }
+    ensures answers { (has : ℕ → Bool) (before : List LINE) → StandsAt (S.stands stepping.old) has before
+        → Answers (StandsAt (S.stands stepping.new)) (takes_memory S.may_lack) has before line.now
+        (W.contents out.old) (W.contents out.new) result }
+{
+    match line {
+        Line::Config(_) => Ok(None),
+        Line::Step(step) => Ok(Some(answer_step(stepping, step, row, out)?)),
+        Line::Status => Ok(Some(answer_status(stepping, out)?)),
+        Line::Pending => Ok(Some(answer_pending(stepping, out)?)),
+        Line::Frames => Ok(Some(answer_frames(stepping, out)?)),
+    }
+}
+
+/// Makes a step and writes the line that answers it. Returns whether the step was accepted; faults as for a
+/// line.
+fn answer_step<S: Stepping, W: Write>(
     stepping: &mut S,
     step: &Step,
-    line: &mut AnswerLine,
+    row: &mut AnswerLine,
     out: &mut W,
 ) -> Result<bool, Fault>
     requires { IsStanding (S.stands stepping.old) }
@@ -30,15 +58,15 @@ pub(crate) fn answer_step<S: Stepping, W: Write>(
     let Some(result) = stepping.step(step) else {
         return Err(Fault::OutOfMemory);
     };
-    put_result(out, line, &result)?;
+    put_result(out, row, &result)?;
     Ok(result.is_ok())
 }
 
-/// Writes the answer to a query of the quantities, with an LF. It is no step: the answer is false.
+/// Writes the answer to a query of the quantities, with an LF. It is no step: returns false.
 ///
-/// `Stream` as for a step.
+/// `Stream` as for a line.
 #[inline(never)]
-pub(crate) fn answer_status<S: Stepping, W: Write>(stepping: &S, out: &mut W) -> Result<bool, Fault>
+fn answer_status<S: Stepping, W: Write>(stepping: &S, out: &mut W) -> Result<bool, Fault>
     requires { IsStanding (S.stands stepping.now) }
     ensures { (has : ℕ → Bool) (sizes : Sizes) (A : List Step) → S.stands stepping.now has sizes A
         → QueryAnswers (status_text sizes A) (W.contents out.old) (W.contents out.new) result }
@@ -49,10 +77,7 @@ pub(crate) fn answer_status<S: Stepping, W: Write>(stepping: &S, out: &mut W) ->
 
 /// The same for a query of the pending actions.
 #[inline(never)]
-pub(crate) fn answer_pending<S: Stepping, W: Write>(
-    stepping: &S,
-    out: &mut W,
-) -> Result<bool, Fault>
+fn answer_pending<S: Stepping, W: Write>(stepping: &S, out: &mut W) -> Result<bool, Fault>
     requires { IsStanding (S.stands stepping.now) }
     ensures { (has : ℕ → Bool) (sizes : Sizes) (A : List Step) → S.stands stepping.now has sizes A
         → QueryAnswers (pending_text (pending A)) (W.contents out.old) (W.contents out.new) result }
@@ -63,7 +88,7 @@ pub(crate) fn answer_pending<S: Stepping, W: Write>(
 
 /// The same for a query of the frames.
 #[inline(never)]
-pub(crate) fn answer_frames<S: Stepping, W: Write>(stepping: &S, out: &mut W) -> Result<bool, Fault>
+fn answer_frames<S: Stepping, W: Write>(stepping: &S, out: &mut W) -> Result<bool, Fault>
     requires { IsStanding (S.stands stepping.now) }
     ensures { (has : ℕ → Bool) (sizes : Sizes) (A : List Step) → S.stands stepping.now has sizes A
         → QueryAnswers (frames_text sizes A) (W.contents out.old) (W.contents out.new) result }
@@ -72,7 +97,7 @@ pub(crate) fn answer_frames<S: Stepping, W: Write>(stepping: &S, out: &mut W) ->
     Ok(false)
 }
 
-/// The word `frames` and what each frame is at.
+/// Returns the word `frames` and what each frame is at.
 fn print_frames<S: Stepping>(stepping: &S) -> ArrayString<8192>
     requires { IsStanding (S.stands stepping.now) }
     ensures { (has : ℕ → Bool) (sizes : Sizes) (A : List Step) → S.stands stepping.now has sizes A

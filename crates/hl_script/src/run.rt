@@ -1,10 +1,8 @@
-ghost use Rattle.std.specs.Prelude.{◌≡◌, ◌≤◌, ◌^◌, ℕ, Err, IfOk, IfErr, IfSome, option_map, true, List};
-ghost use Rattle.hl_model.specs.Headline.{Headline};
-ghost use Rattle.hl_cells.specs.Engines.{EngineStands};
-ghost use Rattle.hl_script.specs.Lines.{script, takes_memory};
-ghost use Rattle.hl_script.specs.Answers.{sizes_of, accepted};
+ghost use Rattle.std.specs.Prelude.{◌≡◌, ◌≤◌, ◌^◌, IfSome, option_map, true};
+ghost use Rattle.hl_script.specs.Lines.{takes_memory};
 ghost use Rattle.hl_script.specs.Text.{tags_on, below, count_of};
-ghost use Rattle.hl_script.specs.Outcomes.{ReadToEnd, WroteAll, WroteUpTo, LackedAtConfig, StoppedAtBadLine, StoppedByMemory, StoppedByStream, IsRunFault};
+ghost use Rattle.hl_script.specs.Outcomes.{WroteUpTo, LackedAtConfig, TextRan};
+ghost use Rattle.hl_script.specs.Runs.{IsLeft};
 
 use crate::fast::{Fast, Jobs};
 use crate::script::run_script;
@@ -29,47 +27,38 @@ pub struct Finished<E: Epochs, F: Task> {
     pub accepted: u64,
 }
 
-/// Runs the script that the reader gives, with the jobs on the shelf, over an engine whose table of epochs is an E,
-/// and writes its text. What was answered is flushed before each read. A job is run at its done, under the firing of
-/// its take. The answer is None where there was no line. The engine stands at the accepted steps, which keep the headline.
-/// Jobs whose actions aren't done at the end go with the engine.
+/// Runs the script that the reader gives, with the jobs on the shelf, over an engine whose table of epochs is
+/// an E, and writes its text. What was answered is flushed before each read. A job is run at its done, under
+/// the firing of its take. Returns what it has left, None if there was no line: the engine stands at the
+/// accepted steps, which keep the headline. Jobs whose actions aren't done at the end go with the engine.
 ///
-/// - `BadLine` with the number of the first line that is no step, when its LF or its 81st byte was read, or at the
-///   end of the input: the text was written, whose last line tells that number. Bytes behind it may have been read.
-/// - `OutOfMemory` where memory was refused at line 1; nothing was written.
-/// - `Stream` where a read or the flush before it failed, or 2^32 reads gave no end: the text of the whole lines was
-///   written. Or where a write failed or took no byte: a beginning of the text was written. It ends before the text of
-///   the whole lines does, or else in the answer to a line that has an 81st byte or that the end of the input ended, so
-///   that the two can mostly be told apart ([`laws`](crate::laws)). None is tried again.
+/// - `BadLine` with the number of the first line that is no step, when its LF or its 81st byte was read, or
+///   at the end of the input: the text was written, whose last line tells that number. Bytes behind it may
+///   have been read.
+/// - `OutOfMemory` if memory was refused at line 1; nothing was written.
+/// - `Stream` if a read or the flush before it failed, or 2^32 reads gave no end: the text of the whole lines
+///   was written. Or if a write failed or took no byte: a beginning of the text was written. It ends before
+///   the text of the whole lines does, or else in the answer to a line that has an 81st byte or that the end
+///   of the input ended, so that the two can mostly be told apart ([`laws`](crate::laws)). None is tried
+///   again.
 pub fn run_text<E: Epochs + Drop, F: Task, R: Read, W: Write>(
     alloc: Global,
     reader: &mut R,
     writer: &mut W,
     shelf: Shelf<F, Sum>,
 ) -> Result<Option<Finished<E, F>>, Fault>
-    ensures ok { IfOk result (λ finished. (input : List ℕ)
-        × ReadToEnd (2 ^ 32) (R.remaining reader.old) (R.remaining reader.new) input
-        × WroteAll (tags_on shelf) (W.contents writer.old) (W.contents writer.new) input
-        × (option_map (λ end. end.accepted) finished ≡ count_of (tags_on shelf) (script input))
-        × IfSome finished (λ end. EngineStands end.engine (accepted (tags_on shelf) (script input))
-        × (end.engine.core.sizes ≡ sizes_of (script input))
-        × Headline (sizes_of (script input)) (accepted (tags_on shelf) (script input)))) }
-    ensures bad_line { (n : ℕ) → result ≡ Err (Fault.BadLine n)
-        → StoppedAtBadLine (tags_on shelf) (2 ^ 32) (R.remaining reader.old) (R.remaining reader.new)
-        (W.contents writer.old) (W.contents writer.new) n }
-    ensures out_of_memory { result ≡ Err Fault.OutOfMemory
-        → StoppedByMemory (2 ^ 32) (R.remaining reader.old) (R.remaining reader.new)
-        (LackedAtConfig (W.contents writer.old) (W.contents writer.new)) }
-    ensures stream { result ≡ Err Fault.Stream
-        → StoppedByStream (tags_on shelf) (2 ^ 32) (R.remaining reader.old) (R.remaining reader.new)
-        (W.contents writer.old) (W.contents writer.new) }
-    ensures faults { IfErr result IsRunFault }
+    ensures { TextRan (tags_on shelf) (2 ^ 32) (R.remaining reader.old) (R.remaining reader.new)
+        (W.contents writer.old) (W.contents writer.new)
+        (LackedAtConfig (W.contents writer.old) (W.contents writer.new))
+        (λ lines finished. (option_map (λ end. end.accepted) finished ≡ count_of (tags_on shelf) lines)
+        × IfSome finished (λ end. IsLeft end.engine (tags_on shelf) lines)) result }
 {
     run_text_within(alloc, reader, writer, shelf, READS)
 }
 
-/// The same in at most `reads` reads, and no more than 2^48 of them, each of at most 16384 bytes. Where none of them
-/// told the end and no line was bad, it answers `Stream`, as after a failed read, and reads nothing more.
+/// The same in at most `reads` reads, and no more than 2^48 of them, each of at most 16384 bytes. If none of
+/// them told the end and no line was bad, it returns `Stream`, as after a failed read, and reads nothing
+/// more.
 pub fn run_text_within<E: Epochs + Drop, F: Task, R: Read, W: Write>(
     alloc: Global,
     reader: &mut R,
@@ -77,23 +66,11 @@ pub fn run_text_within<E: Epochs + Drop, F: Task, R: Read, W: Write>(
     shelf: Shelf<F, Sum>,
     reads: u64,
 ) -> Result<Option<Finished<E, F>>, Fault>
-    ensures ok { IfOk result (λ finished. (input : List ℕ)
-        × ReadToEnd reads (R.remaining reader.old) (R.remaining reader.new) input
-        × WroteAll (tags_on shelf) (W.contents writer.old) (W.contents writer.new) input
-        × (option_map (λ end. end.accepted) finished ≡ count_of (tags_on shelf) (script input))
-        × IfSome finished (λ end. EngineStands end.engine (accepted (tags_on shelf) (script input))
-        × (end.engine.core.sizes ≡ sizes_of (script input))
-        × Headline (sizes_of (script input)) (accepted (tags_on shelf) (script input)))) }
-    ensures bad_line { (n : ℕ) → result ≡ Err (Fault.BadLine n)
-        → StoppedAtBadLine (tags_on shelf) reads (R.remaining reader.old) (R.remaining reader.new)
-        (W.contents writer.old) (W.contents writer.new) n }
-    ensures out_of_memory { result ≡ Err Fault.OutOfMemory
-        → StoppedByMemory reads (R.remaining reader.old) (R.remaining reader.new)
-        (LackedAtConfig (W.contents writer.old) (W.contents writer.new)) }
-    ensures stream { result ≡ Err Fault.Stream
-        → StoppedByStream (tags_on shelf) reads (R.remaining reader.old) (R.remaining reader.new)
-        (W.contents writer.old) (W.contents writer.new) }
-    ensures faults { IfErr result IsRunFault }
+    ensures { TextRan (tags_on shelf) reads (R.remaining reader.old) (R.remaining reader.new)
+        (W.contents writer.old) (W.contents writer.new)
+        (LackedAtConfig (W.contents writer.old) (W.contents writer.new))
+        (λ lines finished. (option_map (λ end. end.accepted) finished ≡ count_of (tags_on shelf) lines)
+        × IfSome finished (λ end. IsLeft end.engine (tags_on shelf) lines)) result }
 {
     let jobs = Jobs { alloc, shelf };
     let ended: Option<(Fast<E, F>, u64)> = run_script(jobs, reader, writer, reads)?;
@@ -106,12 +83,12 @@ pub fn run_text_within<E: Epochs + Drop, F: Task, R: Read, W: Write>(
     }))
 }
 
-/// Writes the text of the script that the reader gives, in the slow form: each answer is computed from a base after
-/// all but the last accepted steps, and from those behind it. The tags below `tags`, which is at most 2^62, have a
-/// job. The answer is how many steps were accepted, None where there was no line.
+/// Writes the text of the script that the reader gives, in the slow form: each answer is computed from a base
+/// after all but the last accepted steps, and from those behind it. The tags below `tags`, which is at most
+/// 2^62, have a job. Returns how many steps were accepted, None if there was no line.
 ///
 /// - `BadLine` and `Stream` as for [`run_text`].
-/// - `OutOfMemory` where memory was refused, at line 1 or at a step: the text of the lines before was written.
+/// - `OutOfMemory` if memory was refused, at line 1 or at a step: the text of the lines before was written.
 pub fn slow_text<R: Read, W: Write>(
     alloc: Global,
     reader: &mut R,
@@ -119,20 +96,10 @@ pub fn slow_text<R: Read, W: Write>(
     tags: u64,
 ) -> Result<Option<u64>, Fault>
     requires { tags ≤ 2 ^ 62 }
-    ensures ok { IfOk result (λ count. (input : List ℕ)
-        × ReadToEnd (2 ^ 32) (R.remaining reader.old) (R.remaining reader.new) input
-        × WroteAll (below tags) (W.contents writer.old) (W.contents writer.new) input
-        × (count ≡ count_of (below tags) (script input))) }
-    ensures bad_line { (n : ℕ) → result ≡ Err (Fault.BadLine n)
-        → StoppedAtBadLine (below tags) (2 ^ 32) (R.remaining reader.old) (R.remaining reader.new)
-        (W.contents writer.old) (W.contents writer.new) n }
-    ensures out_of_memory { result ≡ Err Fault.OutOfMemory
-        → StoppedByMemory (2 ^ 32) (R.remaining reader.old) (R.remaining reader.new)
-        (WroteUpTo (below tags) (takes_memory true) (W.contents writer.old) (W.contents writer.new)) }
-    ensures stream { result ≡ Err Fault.Stream
-        → StoppedByStream (below tags) (2 ^ 32) (R.remaining reader.old) (R.remaining reader.new)
-        (W.contents writer.old) (W.contents writer.new) }
-    ensures faults { IfErr result IsRunFault }
+    ensures { TextRan (below tags) (2 ^ 32) (R.remaining reader.old) (R.remaining reader.new)
+        (W.contents writer.old) (W.contents writer.new)
+        (WroteUpTo (below tags) (takes_memory true) (W.contents writer.old) (W.contents writer.new))
+        (λ lines count. count ≡ count_of (below tags) lines) result }
 {
     slow_text_within(alloc, reader, writer, tags, READS)
 }
@@ -146,20 +113,10 @@ pub fn slow_text_within<R: Read, W: Write>(
     reads: u64,
 ) -> Result<Option<u64>, Fault>
     requires { tags ≤ 2 ^ 62 }
-    ensures ok { IfOk result (λ count. (input : List ℕ)
-        × ReadToEnd reads (R.remaining reader.old) (R.remaining reader.new) input
-        × WroteAll (below tags) (W.contents writer.old) (W.contents writer.new) input
-        × (count ≡ count_of (below tags) (script input))) }
-    ensures bad_line { (n : ℕ) → result ≡ Err (Fault.BadLine n)
-        → StoppedAtBadLine (below tags) reads (R.remaining reader.old) (R.remaining reader.new)
-        (W.contents writer.old) (W.contents writer.new) n }
-    ensures out_of_memory { result ≡ Err Fault.OutOfMemory
-        → StoppedByMemory reads (R.remaining reader.old) (R.remaining reader.new)
-        (WroteUpTo (below tags) (takes_memory true) (W.contents writer.old) (W.contents writer.new)) }
-    ensures stream { result ≡ Err Fault.Stream
-        → StoppedByStream (below tags) reads (R.remaining reader.old) (R.remaining reader.new)
-        (W.contents writer.old) (W.contents writer.new) }
-    ensures faults { IfErr result IsRunFault }
+    ensures { TextRan (below tags) reads (R.remaining reader.old) (R.remaining reader.new)
+        (W.contents writer.old) (W.contents writer.new)
+        (WroteUpTo (below tags) (takes_memory true) (W.contents writer.old) (W.contents writer.new))
+        (λ lines count. count ≡ count_of (below tags) lines) result }
 {
     let opening = Tags { alloc, count: tags };
     let ended: Option<(Slow, u64)> = run_script(opening, reader, writer, reads)?;

@@ -74,7 +74,7 @@ impl Stepping for Slow {
 }
 
 impl Slow {
-    /// Whether a step is a bump whose tag has no job, or none left: an accepted bump bore it.
+    /// Returns whether a step is a bump whose tag has no job, or none left: an accepted bump bore it.
     fn lacks_job(&self, step: &Step) -> bool
         ensures { result ≡ lacks_job (below self.now.tags) self.now.plain.steps step.now }
     {
@@ -84,7 +84,7 @@ impl Slow {
         }
     }
 
-    /// Whether an accepted bump bore this tag.
+    /// Returns whether an accepted bump bore this tag.
     fn is_borne(&self, tag: u64) -> bool
         ensures { result ≡ list_any (bears tag) self.now.plain.steps }
     {
@@ -92,7 +92,7 @@ impl Slow {
     }
 }
 
-/// Whether a step is a bump with the job of this tag.
+/// Returns whether a step is a bump with the job of this tag.
 fn bears(tag: u64, step: &Step) -> bool
     ensures { result ≡ bears tag step.now }
 {
@@ -102,7 +102,7 @@ fn bears(tag: u64, step: &Step) -> bool
     }
 }
 
-/// The reply to a script's step: a job answers its tag + its ticket.
+/// Returns the reply to a script's step: a job answers its tag + its ticket.
 fn shown(step: &Step, reply: Reply) -> Reply
     requires { SumFits step.now reply }
     ensures { result ≡ shown step.now reply }

@@ -11,40 +11,40 @@ use hl_model::{Fault, FrameState, Params, Reply, Snapshot, Step, Waiting};
 
 /// What makes the steps of a script, and answers its queries.
 pub(crate) trait Stepping {
-    // It stands at these accepted steps of a script, with these sizes, whose tags have jobs where the test says so.
+    // It stands at these accepted steps of a script, with these sizes, whose tags have jobs where the test
+    // says so.
     ghost stands: { Self → (ℕ → Bool) → Sizes → List Step → Type 0 };
 
     // Whether a step may be refused memory.
     ghost may_lack: { Bool };
 
-    /// Makes a step. A bump of a tag without a job is refused with `NoJob`, before all other faults.
-    ///
-    /// None where memory was refused; then it stands as before.
+    /// Makes a step, and returns its reply or its fault. A bump of a tag without a job is refused with
+    /// `NoJob`, before all other faults. None if memory was refused; then it stands as before.
     fn step(&mut self, step: &Step) -> Option<Result<Reply, Fault>>
         requires { IsStanding (stands self.old) }
         ensures { (has : ℕ → Bool) (sizes : Sizes) (A : List Step) → stands self.old has sizes A
             → Stepped (stands self.new) may_lack has sizes A step.now result };
 
-    /// The quantities.
+    /// Returns the quantities.
     fn snapshot(&self) -> Snapshot
         requires { IsStanding (stands self.now) }
         ensures { (has : ℕ → Bool) (sizes : Sizes) (A : List Step) → stands self.now has sizes A
             → result ≡ snapshot_of sizes A };
 
-    /// The pending actions, oldest first.
+    /// Returns the pending actions, oldest first.
     fn pending(&self) -> ArrayVec<Waiting, 64>
         requires { IsStanding (stands self.now) }
         ensures { (has : ℕ → Bool) (sizes : Sizes) (A : List Step) → stands self.now has sizes A
             → result.items ≡ pending A };
 
-    /// How many frames there are.
+    /// Returns how many frames there are.
     fn frames(&self) -> u64
         requires { IsStanding (stands self.now) }
         ensures frames { (has : ℕ → Bool) (sizes : Sizes) (A : List Step) → stands self.now has sizes A
             → result ≡ sizes.frames }
         ensures most { result ≤ 256 };
 
-    /// What frame f is at, and its last entered page where it isn't free.
+    /// Returns what frame f is at, and its last entered page if it isn't free.
     fn frame(&self, f: u64) -> (FrameState, Option<u64>)
         requires { (has : ℕ → Bool) × (sizes : Sizes) × (A : List Step)
             × stands self.now has sizes A × (f < sizes.frames) }
@@ -57,7 +57,7 @@ pub(crate) trait Opening<S: Stepping> {
     // The tags that have jobs.
     ghost begins: { Self → (ℕ → Bool) → Type 0 };
 
-    /// No step was made yet. None where memory was refused. The sizes are narrow.
+    /// Returns what has made no step yet, or None if memory was refused. The sizes are narrow.
     fn open(self, params: Params) -> Option<S>
         requires narrow { AreNarrow params }
         ensures { (has : ℕ → Bool) → begins self has

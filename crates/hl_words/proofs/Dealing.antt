@@ -30,16 +30,16 @@ first_same x zero = refl
 first_same x (suc m) = refl
 
 abbrev dealt_rider : SeatView → List Entry → RiderState
-dealt_rider v diary = record { view = first_rider v; share = 0; calls = diary }
+dealt_rider v calls = record { view = first_rider v; share = 0; calls = calls }
 
--- the diaries after one more
-pub next_diaries : (n k : ℕ) → k < n → (old new : GatheredState) (d : List Entry) → old ≡ record { list = []; diaries = replicate (n - k) [] } → old ≡ record { list = new.list; diaries = d ∷ new.diaries }
-    → (d ≡ []) × (new ≡ record { list = []; diaries = replicate (n - (k + 1)) [] })
-next_diaries n k less old new d is e =
+-- the records after one more
+pub next_records : (n k : ℕ) → k < n → (old new : GatheredState) (d : List Entry) → old ≡ record { list = []; records = replicate (n - k) [] } → old ≡ record { list = new.list; records = d ∷ new.records }
+    → (d ≡ []) × (new ≡ record { list = []; records = replicate (n - (k + 1)) [] })
+next_records n k less old new d is e =
     let both = sym e ∙ is in
     let list : new.list ≡ [] = ap (λ (g : GatheredState). g.list) both in
-    let rest : new.diaries ≡ replicate (n - (k + 1)) [] = ap (λ (g : GatheredState). drop 1 g.diaries) both ∙ shorter [] (n - k) (n - (k + 1)) (omega (arith, less)) in
-    (ap (λ (g : GatheredState). slice_index_or g.diaries 0 []) both ∙ first_same [] (n - k), ap (λ l. record { list = l; diaries = new.diaries }) list ∙ ap (λ ds. record { list = []; diaries = ds }) rest)
+    let rest : new.records ≡ replicate (n - (k + 1)) [] = ap (λ (g : GatheredState). drop 1 g.records) both ∙ shorter [] (n - k) (n - (k + 1)) (omega (arith, less)) in
+    (ap (λ (g : GatheredState). slice_index_or g.records 0 []) both ∙ first_same [] (n - k), ap (λ l. record { list = l; records = new.records }) list ∙ ap (λ ds. record { list = []; records = ds }) rest)
 
 pub new_long : (n : ℕ) → length (new_riders n) ≡ n
 new_long zero = refl
@@ -61,12 +61,12 @@ module _ (n k : ℕ) (less : k < n) (me : Me (Unit {0}) SeatView) (is : me ≡ (
       g ∙ ap (λ (m : Me (Unit {0}) SeatView). (rider_seat (first_rider m.0), [])) (sym g)
 
   -- who made no call yet
-  pub given_tied : (given : Me (Unit {0}) SeatView) → given ≡ (right_seat me.0, []) → (diary : List Entry) → diary ≡ [] → AreTied (first_rider given.0).touches diary
-  given_tied given e diary empty = subst (λ (m : Me (Unit {0}) SeatView). AreTied (first_rider m.0).touches diary) (sym (given_seat given e)) (subst (λ (d : List Entry). AreTied [] d) (sym empty) tt)
+  pub given_tied : (given : Me (Unit {0}) SeatView) → given ≡ (right_seat me.0, []) → (calls : List Entry) → calls ≡ [] → AreTied (first_rider given.0).touches calls
+  given_tied given e calls empty = subst (λ (m : Me (Unit {0}) SeatView). AreTied (first_rider m.0).touches calls) (sym (given_seat given e)) (subst (λ (d : List Entry). AreTied [] d) (sym empty) tt)
 
-  pub more_riders : (given : Me (Unit {0}) SeatView) → given ≡ (right_seat me.0, []) → (diary : List Entry) → diary ≡ [] → (riders after : List RiderState) → riders ≡ new_riders k
-      → after ≡ riders ++ dealt_rider given.0 diary ∷ [] → after ≡ new_riders (k + 1)
-  more_riders given e diary empty riders after old new =
+  pub more_riders : (given : Me (Unit {0}) SeatView) → given ≡ (right_seat me.0, []) → (calls : List Entry) → calls ≡ [] → (riders after : List RiderState) → riders ≡ new_riders k
+      → after ≡ riders ++ dealt_rider given.0 calls ∷ [] → after ≡ new_riders (k + 1)
+  more_riders given e calls empty riders after old new =
       let g = given_seat given e in
       let next : suc k ≡ k + 1 = omega arith in
-      new ∙ ap (λ l. l ++ dealt_rider given.0 diary ∷ []) old ∙ ap (λ d. new_riders k ++ dealt_rider given.0 d ∷ []) empty ∙ ap (λ (m : Me (Unit {0}) SeatView). new_riders k ++ dealt_rider m.0 [] ∷ []) g ∙ ap new_riders next
+      new ∙ ap (λ l. l ++ dealt_rider given.0 calls ∷ []) old ∙ ap (λ d. new_riders k ++ dealt_rider given.0 d ∷ []) empty ∙ ap (λ (m : Me (Unit {0}) SeatView). new_riders k ++ dealt_rider m.0 [] ∷ []) g ∙ ap new_riders next

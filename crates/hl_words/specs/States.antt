@@ -121,7 +121,7 @@ with_call was now call r = record {
   calls = call ∷ r.calls;
 }
 
--- Each call among the touches is the diary's call at its place: it met so many steps and left so many. Both lists stand
+-- Each call among the touches is the call of the rider's record at its place: it met so many steps and left so many. Both lists stand
 -- newest first
 abbrev pub AreTied : List Touch → List Entry → Type 0
 AreTied [] [] = Unit {0}
@@ -154,12 +154,12 @@ abbrev pub known_by : List SeatView → Known
 known_by views =
     slice_index_or (slice_index_or views 0 spent_seat).known 0 (record { name = 0; touches = [] })
 
--- the list at the end with no diary yet, where the scribe is there
-abbrev pub with_no_diaries : Option (List Step) → Option GatheredState
-with_no_diaries None = None
-with_no_diaries (Some list) = Some (record { list = list; diaries = [] })
+-- the list at the end with no record yet, where the recorder is there
+abbrev pub with_no_records : Option (List Step) → Option GatheredState
+with_no_records None = None
+with_no_records (Some list) = Some (record { list = list; records = [] })
 
--- the same with these diaries before its own
-abbrev pub with_diaries : List (List Entry) → Option GatheredState → Option GatheredState
-with_diaries diaries None = None
-with_diaries diaries (Some g) = Some (record { list = g.list; diaries = diaries ++ g.diaries })
+-- the same with these records before its own
+abbrev pub with_records : List (List Entry) → Option GatheredState → Option GatheredState
+with_records records None = None
+with_records records (Some g) = Some (record { list = g.list; records = records ++ g.records })

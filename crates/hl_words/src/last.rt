@@ -8,8 +8,8 @@ use atomic_table::Closed;
 use std::alloc::Global;
 use std::marker::Model;
 
-/// The words at their end, when nobody can store into them any more. Contracts see what each one holds, but not the
-/// unused ones before the cells.
+/// The words at their end, when nobody can store into them any more. Contracts see what each one holds, but
+/// not the unused ones before the cells.
 pub struct LastWords {
     closed: Closed<(), Global>,
     cells: usize,

@@ -8,7 +8,8 @@ pub fn adds_add_up()
     ensures { AddsAddUp }
 {}
 
-/// Where each rider touched a cell by loads and adds alone, the cell holds the sum of all numbers added, modulo 2^64.
+/// If each rider touched a cell by loads and adds alone, the cell holds the sum of all numbers added, modulo
+/// 2^64.
 pub fn no_add_is_lost()
     ensures { NoAddIsLost }
 {}
@@ -24,8 +25,9 @@ pub fn takes_are_apart()
     ensures { TakesAreApart }
 {}
 
-/// All riders together changed a cell from one value to others at most as often as they stored that value there, and
-/// once more for the 0 at first. So of exchanges from a value that nobody stores again one succeeds at most.
+/// All riders together changed a cell from one value to others at most as often as they stored that value
+/// there, and once more for the 0 at first. So of exchanges from a value that nobody stores again one
+/// succeeds at most.
 #[tactic(auto, using(crate::proofs::LawProofs::takes_are_given))]
 pub fn takes_are_given()
     ensures { TakesAreGiven }

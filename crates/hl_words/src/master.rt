@@ -5,8 +5,8 @@ use crate::seed::{Realm, WordSeat};
 use std::marker::Model;
 use std::sync::ledger::{Book, Share};
 
-/// The right to store its four words, and to count journal steps. Contracts see its stores, how many steps all riders
-/// entered, and how far the newest call that was noted left the one list.
+/// The right to store its four words, and to count journal steps. Contracts see its stores, how many steps
+/// all riders entered, and how far the newest call that was noted left the one list.
 #[derive(Drop)]
 pub struct Master<L: Realm> {
     pub(crate) seat: WordSeat,
@@ -42,8 +42,8 @@ impl<L: Realm> Master<L> {
         self.total
     }
 
-    /// Counts journal steps for a rider: its share and the total rise by them. The caller sees to it that the total
-    /// stays at most 2^62.
+    /// Counts journal steps for a rider: its share and the total rise by them. The caller sees to it that the
+    /// total stays at most 2^62.
     #[inline(always)]
     pub fn enter(&mut self, rider: &mut Rider<L>, steps: u64)
         requires { self.old.total + steps ≤ 2 ^ 62 }

@@ -3,8 +3,8 @@ use crate::view::SeatView;
 use atomic_table::Badge;
 use std::marker::{Model, PhantomData};
 
-/// A rider's past: all that it did to cells up to a moment, and its calls. It takes no bytes, and can go to another thread,
-/// whose rider is then told it. Contracts see it as the rider's name and these touches.
+/// A rider's past: all that it did to cells up to a moment, and its calls. It takes no bytes, and can go to
+/// another thread, whose rider is then told it. Contracts see it as the rider's name and these touches.
 #[derive(Drop)]
 pub struct Past<L: Realm> {
     pub(crate) badge: Badge<SeatView>,

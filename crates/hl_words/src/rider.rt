@@ -1,19 +1,19 @@
 ghost use Rattle.std.specs.Prelude.{◌≡◌};
 
 use crate::seed::{HistoryOf, Realm, WordSeat};
-use hl_history::Diary;
+use hl_history::CallRecord;
 use std::marker::Model;
 use std::sync::ledger::Share;
 
-/// The right to store into cells and to load any word, with a diary of its calls that met the one list. It can go to
-/// another thread. Contracts see what it stored and loaded, how many journal steps it entered, and these calls, the
-/// newest first.
+/// The right to store into cells and to load any word, with a record of its calls that met the one list. It
+/// can go to another thread. Contracts see what it stored and loaded, how many journal steps it entered, and
+/// these calls, the newest first.
 #[derive(Drop)]
 pub struct Rider<L: Realm> {
     pub(crate) seat: WordSeat,
     pub(crate) share: Share<L>,
     pub(crate) entered: u64,
-    pub(crate) diary: Diary<HistoryOf<L>>,
+    pub(crate) calls: CallRecord<HistoryOf<L>>,
 }
 
 impl<L: Realm> Model for Rider<L> {
@@ -23,11 +23,11 @@ impl<L: Realm> Model for Rider<L> {
 
     ghost Value = { RiderState };
 
-    ghost view = { λ r. record { view = first_rider r.seat.me.0; share = r.entered; calls = r.diary } };
+    ghost view = { λ r. record { view = first_rider r.seat.me.0; share = r.entered; calls = r.calls } };
 
     ghost invariant = { λ r. (r.seat.me ≡ (rider_seat (first_rider r.seat.me.0), []))
         × (r.seat.table_id ≡ L.table.words) × (r.share.parts ≡ 1) × (r.share.amount ≡ r.entered)
-        × AreTied (first_rider r.seat.me.0).touches r.diary };
+        × AreTied (first_rider r.seat.me.0).touches r.calls };
 }
 
 impl<L: Realm> Rider<L> {

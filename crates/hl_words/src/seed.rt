@@ -18,8 +18,8 @@ pub(crate) type WordTable = Table<(), SeatView, Room, WordRule, Global>;
 /// A seat at the table of the words.
 pub(crate) type WordSeat = Seat<(), SeatView>;
 
-/// Names the tables and the ledger of one seed, its sizes, and the stamp of the domain that is opened over it with the
-/// room of its journal. What carries one realm is all of one seed.
+/// Names the tables and the ledger of one seed, its sizes, and the stamp of the domain that is opened over it
+/// with the room of its journal. What carries one realm is all of one seed.
 pub trait Realm: Ledger {
     ghost use Rattle.std.specs.Prelude.{ℕ};
     ghost use Rattle.hl_model.specs.Sizes.{Sizes as SizesRecord};
@@ -54,10 +54,11 @@ impl<L: Realm> Named for HistoryOf<L> {
 }
 
 /// The right to put steps behind the one list of a realm. Contracts see it as the list.
-pub type Scribe<L> = hl_history::Scribe<HistoryOf<L>>;
+pub type Recorder<L> = hl_history::Recorder<HistoryOf<L>>;
 
-/// Words that nobody has opened yet: the cells, the master's four words, a ledger with a part for each rider, and the
-/// empty list with a diary for each. It is the one witness that its realm is new: it is used up by `Words::open`.
+/// Words that nobody has opened yet: the cells, the master's four words, a ledger with a part for each rider,
+/// and the empty list with a record for each. It is the one witness that its realm is new: it is used up by
+/// `Words::open`.
 #[derive(Drop)]
 pub struct Seed {
     pub(crate) params: Sizes,
@@ -87,13 +88,13 @@ impl Model for Seed {
     ghost invariant = { λ s. IsTableOf s.room s.table.shared.key s.table.shared.table_id
         × IsMasterSeat no_extent no_offsets (first_seat s.room).riders s.seat.id s.seat.me
         × (s.seat.table_id ≡ s.table.shared.table_id) × (s.blank.parts ≡ s.room.riders)
-        × (s.history.diaries ≡ s.room.riders)
+        × (s.history.records ≡ s.room.riders)
         × (s.room.cells ≡ s.params.frames * s.params.page_size) };
 }
 
 impl Seed {
-    /// Makes the words of an allocator of these sizes: F * P cells and the master's four words, all 0, for 1 to 2,048
-    /// riders.
+    /// Makes the words of an allocator of these sizes: F * P cells and the master's four words, all 0, for 1
+    /// to 2,048 riders.
     ///
     /// `OutOfMemory` if memory was refused; then nothing is made.
     pub fn make<S: HasSizes>(alloc: Global, params: S, riders: usize) -> Result<Seed, Fault>

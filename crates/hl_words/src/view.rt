@@ -1,4 +1,5 @@
-//! What the seats of the table know. It is told in proofs alone: a program makes no value of these types but a `Room`.
+//! What the seats of the table know. It is told in proofs alone: a program makes no value of these types but
+//! a `Room`.
 use crate::which::Which;
 use std::collections::LinkedList;
 
@@ -8,11 +9,11 @@ pub enum Touch {
     Stored { cell: u64, value: u64 },
     /// It loaded the value from the cell.
     Loaded { cell: u64, value: u64 },
-    /// It found the one value in the cell and stored the other there, in one step: no store of another rider came
-    /// between.
+    /// It found the one value in the cell and stored the other there, in one step: no store of another rider
+    /// came between.
     Changed { cell: u64, found: u64, value: u64 },
-    /// It made a call under the lock where the master lies: the one list was so far when the call met it, and so far
-    /// after it. It changed no cell.
+    /// It made a call under the lock where the master lies: the one list was so far when the call met it, and
+    /// so far after it. It changed no cell.
     Called { met: Extent, left: Extent },
     /// It loaded the value from this word of the master's.
     Looked { which: Which, value: u64 },
@@ -32,8 +33,8 @@ pub struct Known {
     pub touches: LinkedList<Touch>,
 }
 
-/// Values of each of the master's words, the newest first: those that a rider loaded, or those that the master
-/// stored. Offsets are in words of the log.
+/// Values of each of the master's words, the newest first: those that a rider loaded, or those that the
+/// master stored. Offsets are in words of the log.
 pub struct OffsetWords {
     pub read_only: LinkedList<u64>,
     pub head: LinkedList<u64>,
@@ -50,8 +51,8 @@ pub struct RiderView {
 }
 
 /// What one seat of the table knows: the master's knows its stores of its four words, and each seat the views
-/// of the riders that it stands for. A rider's seat stands for that rider alone. The master's stands for those that
-/// aren't dealt out yet, and at the end for all.
+/// of the riders that it stands for. A rider's seat stands for that rider alone. The master's stands for
+/// those that aren't dealt out yet, and at the end for all.
 pub struct SeatView {
     pub offsets: OffsetWords,
     pub riders: LinkedList<RiderView>,

@@ -11,12 +11,13 @@ pub enum Which {
     SafeReadOnly,
 }
 
-/// Where the cells begin. Calls under the lock and pasts load the row's first word, and any thread may store into a
-/// cell. So eight words (a line of a cache) lie unused before the first cell: else such a load would contend with stores.
+/// Where the cells begin. Calls under the lock and pasts load the row's first word, and any thread may store
+/// into a cell. So eight words (a line of a cache) lie unused before the first cell: else such a load would
+/// contend with stores.
 pub(crate) const FIRST: usize = 8;
 
-/// Where each of the four words lies, the number of cells not counted. All threads load them, and any thread may store
-/// into the last cell, so eight words lie between. The four are stored seldom, and loaded together.
+/// Where each of the four words lies, the number of cells not counted. All threads load them, and any thread
+/// may store into the last cell, so eight words lie between. The four are stored seldom, and loaded together.
 pub(crate) const READ_ONLY_AT: usize = FIRST + 8;
 
 pub(crate) const HEAD_AT: usize = FIRST + 9;

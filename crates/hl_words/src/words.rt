@@ -13,7 +13,7 @@ use crate::rule::{
     AddCell, Deal, ExchangeCell, LoadCell, LoadEnded, LoadHead, LoadReadOnly, LoadSafeReadOnly,
     StoreCell, StoreEnded, StoreHead, StoreReadOnly, StoreSafeReadOnly,
 };
-use crate::seed::{HistoryOf, Realm, Scribe, Seed, WordTable};
+use crate::seed::{HistoryOf, Realm, Recorder, Seed, WordTable};
 use crate::view::Room;
 use crate::which::{ENDED_AT, FIRST, HEAD_AT, READ_ONLY_AT, SAFE_READ_ONLY_AT, Which};
 use hl_history::History;
@@ -22,8 +22,8 @@ use std::alloc::Global;
 use std::marker::{Model, PhantomData};
 
 /// The cells and the master's four words, which any thread may load through a `&`, and the one list of steps,
-/// behind which the scribe puts more. No call here waits or takes memory but those that open. Contracts see how many
-/// cells and how many riders there are.
+/// behind which the recorder puts more. No call here waits or takes memory but those that open. Contracts see
+/// how many cells and how many riders there are.
 #[derive(Drop)]
 pub struct Words<L: Realm> {
     table: WordTable,
@@ -46,7 +46,7 @@ impl<L: Realm> Model for Words<L> {
 }
 
 impl<L: Realm> Words<L> {
-    /// Opens a seed: its words, the one master, and the riders. The scribe is dropped, so that nothing
+    /// Opens a seed: its words, the one master, and the riders. The recorder is dropped, so that nothing
     /// is entered in the one list.
     ///
     /// `OutOfMemory` if memory was refused; then the seed is given up.
@@ -58,17 +58,17 @@ impl<L: Realm> Words<L> {
         ensures riders { IfOk result (λ opened. opened.2.items ≡ new_riders seed.riders) }
         ensures memory { IfErr result (λ fault. fault ≡ OutOfMemory) }
     {
-        let (words, master, _scribe, riders) = Words::open_with_scribe(alloc, seed)?;
+        let (words, master, _recorder, riders) = Words::open_with_recorder(alloc, seed)?;
         Ok((words, master, riders))
     }
 
-    /// Opens a seed as `open` does, and also returns the one scribe, whose list is empty.
+    /// Opens a seed as `open` does, and also returns the one recorder, whose list is empty.
     ///
     /// `OutOfMemory` if memory was refused; then the seed is given up.
-    pub fn open_with_scribe(
+    pub fn open_with_recorder(
         alloc: Global,
         seed: Seed,
-    ) -> Result<(Words<L>, Master<L>, Scribe<L>, Vec<Rider<L>>), Fault>
+    ) -> Result<(Words<L>, Master<L>, Recorder<L>, Vec<Rider<L>>), Fault>
         requires { IsSeedOf L.name L.parts L.table seed }
         ensures words { IfOk result
             (λ opened. opened.0 ≡ record { cells = seed.cells; riders = seed.riders }) }
@@ -89,16 +89,16 @@ impl<L: Realm> Words<L> {
             return Err(Fault::OutOfMemory);
         };
         let (book, mut share) = blank.open::<L>();
-        let (history, mut diaries) = History::open(history);
+        let (history, mut records) = History::open(history);
         for _dealt in 0..room.riders {
             let seat = table.shared.split_seat::<Deal>(&mut seat);
             let share = share.split_off(1, 0);
-            let diary = history.deal(&mut diaries);
+            let calls = history.deal(&mut records);
             riders.push_reserved(Rider {
                 seat,
                 share,
                 entered: 0,
-                diary,
+                calls,
             });
         }
         let words = Words {
@@ -113,7 +113,7 @@ impl<L: Realm> Words<L> {
             share,
             total: 0,
         };
-        Ok((words, master, diaries.into_scribe(), riders))
+        Ok((words, master, records.into_recorder(), riders))
     }
 
     /// Stores a value into a cell. The rider's view has the store.
@@ -126,7 +126,8 @@ impl<L: Realm> Words<L> {
         shared.store::<StoreCell>(&mut rider.seat, FIRST + cell as usize, value);
     }
 
-    /// Loads a cell. The rider's view has the load; that its value is lawful is what `close` tells of all loads.
+    /// Loads a cell. The rider's view has the load; that its value is lawful is what `close` tells of all
+    /// loads.
     #[inline(always)]
     pub fn load_cell(&self, rider: &mut Rider<L>, cell: u64) -> u64
         requires { cell < self.now.cells }
@@ -157,8 +158,8 @@ impl<L: Realm> Words<L> {
         shared.compare_exchange::<ExchangeCell>(&mut rider.seat, FIRST + cell as usize, old, new)
     }
 
-    /// Stores one of the master's words: an offset in words of the log, or an epoch. The caller sees to it that it
-    /// isn't below the master's last store.
+    /// Stores one of the master's words: an offset in words of the log, or an epoch. The caller sees to it
+    /// that it isn't below the master's last store.
     pub fn store_offset(&self, master: &mut Master<L>, which: Which, offset: u64)
         requires { offset_of which master.old.offsets ≤ offset }
         ensures { let old = master.old
@@ -183,9 +184,9 @@ impl<L: Realm> Words<L> {
         }
     }
 
-    /// Loads one of the master's words: an offset in words of the log, or an epoch. It isn't below what this rider
-    /// loaded of it before. The rider's view has the load; that it is one of the master's stores, or 0, is what `close`
-    /// tells of all loads.
+    /// Loads one of the master's words: an offset in words of the log, or an epoch. It isn't below what this
+    /// rider loaded of it before. The rider's view has the load; that it is one of the master's stores, or 0,
+    /// is what `close` tells of all loads.
     #[inline(always)]
     pub fn load_offset(&self, rider: &mut Rider<L>, which: Which) -> u64
         ensures view { rider.new ≡ with_view (with_loaded which result rider.old.view) rider.old }

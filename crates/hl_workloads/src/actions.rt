@@ -29,7 +29,7 @@ impl Task for Checkpoint {
     }
 }
 
-/// Makes so many rounds; the answer is the digest of all answers.
+/// Makes so many rounds. Returns the digest of all answers.
 pub(crate) fn run(alloc: Global, seed: u64, rounds: u64) -> Result<u64, Fault> {
     let params = Sizes::checked(64, 64, 8, ACTIONS).ok_or(Fault::Size)?;
     let mut store = Store::open(alloc, params)?;

@@ -20,7 +20,7 @@ pub(crate) struct Plan {
     pub(crate) operations: u64,
 }
 
-/// Makes the turns; the answer is the digest of what was seen meanwhile, and of what they left.
+/// Makes the turns. Returns the digest of what was seen meanwhile, and of what they left.
 pub(crate) fn run<R: Wait>(rt: &R, alloc: Global, plan: Plan) -> Result<u64, Failure> {
     let opening = Opening {
         params: plan.params,

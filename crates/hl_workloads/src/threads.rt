@@ -29,7 +29,7 @@ struct Counting {
     written: AtomicU64,
 }
 
-/// Has each thread make so many operations; the answer is the digest of what they left.
+/// Has each thread make so many operations. Returns the digest of what they left.
 pub(crate) fn run<R: Threads + Wait + Clock + Sync>(
     rt: &R,
     alloc: Global,

@@ -92,8 +92,7 @@ impl Fault {
         match number {
             1 => Fault::NoSlot,
             2 => Fault::Occupied,
-            // A pass that has no slot any more has an empty handle.
-            3 | 255 => Fault::NotProtected,
+            3 => Fault::NotProtected,
             4 => Fault::Stale,
             5 => Fault::DrainFull,
             6 => Fault::EpochsSpent,
@@ -117,6 +116,8 @@ impl Fault {
             29 => Fault::OutOfMemory,
             32 => Fault::WindowFull,
             254 => Fault::OutOfRange,
+            // A pass that has no slot any more has an empty handle.
+            255 => Fault::NotProtected,
             _ => unreachable!("an open core tells no fault {number}"),
         }
     }

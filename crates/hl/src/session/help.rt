@@ -1,20 +1,18 @@
 //! What a session does for the log between two tries of its own work.
-ghost use Rattle.std.specs.Prelude.{◌≡◌, true, Result, Ok, Err, IfErr, IfOk, MatchResult};
+ghost use Rattle.std.specs.Prelude.{◌≡◌, true, Result, Ok, Err, IfOk, MatchResult};
 ghost use Rattle.hl_model.specs.declared.fault.Fault.{Fault as FAULT};
 ghost use Rattle.hl_model.specs.declared.step.Reply.{Reply as REPLY};
-ghost use Rattle.hl.specs.Helps.{Enters, Finishes, Helps, RunsOldest};
-ghost use Rattle.hl.specs.Sessions.{fault_alone, KeepsAllButRider};
+ghost use Rattle.hl_crew.specs.Tries.{EndsAction, Tries};
+ghost use Rattle.hl.specs.Helps.{Enters, Helps, RunsOldest};
+ghost use Rattle.hl.specs.Sessions.{KeepsAllButRider};
 
 use super::Session;
-use crate::refused::Refused;
 use hl_action::{Promise, Ran, Task};
+use hl_crew::end_by_tries;
 use hl_epoch::Epochs;
-use hl_model::{Fault, Reply};
+use hl_model::Fault;
 use hl_words::Realm;
 use std::sync::Wait;
-
-/// How often a done is tried again, while the journal is full and is cut.
-const DONES_AGAIN: u64 = 1_000;
 
 impl<'a, R: Wait, L: Realm, F: Task, P: Promise, E: Epochs + Drop> Session<'a, R, L, F, P, E> {
     /// Helps the log on, as a thread wants to between two tries: wakes the crew, if there is one beside the session;
@@ -33,14 +31,9 @@ impl<'a, R: Wait, L: Realm, F: Task, P: Promise, E: Epochs + Drop> Session<'a, R
         ensures log { self.new.log ≡ self.old.log }
     {
         self.ring();
-        let did = match self.run_oldest() {
-            Ok(did) => did,
-            Err(fault) => return Err(fault),
-        };
-        match self.refresh() {
-            Ok(_) => Ok(did),
-            Err(fault) => Err(fault),
-        }
+        let did = self.run_oldest()?;
+        self.refresh()?;
+        Ok(did)
     }
 
     // Takes the oldest action, runs it and answers it done. False if none is ready.
@@ -58,40 +51,20 @@ impl<'a, R: Wait, L: Realm, F: Task, P: Promise, E: Epochs + Drop> Session<'a, R
         }
     }
 
-    // Answers an action done that was run, which is forsaken if that is refused.
+    // Answers an action done that was run, by as many tries as that takes; it is forsaken if that is refused.
     fn end(&mut self, ran: Ran) -> Result<bool, Fault>
-        ensures ends { (answer : Result REPLY FAULT) × Finishes F self.old.log ran answer
+        ensures ends { (answer : Result REPLY FAULT)
+            × Tries F self.old.log true (EndsAction F self.old.log ran.origin ran.ticket) answer
             self.old.pass.rider self.new.pass.rider × MatchResult answer
             (λ _. result ≡ Ok true) (λ fault. result ≡ Err fault) }
         ensures kept { KeepsAllButRider self.old self.new }
     {
-        match self.finish(ran) {
+        match end_by_tries(self.rt, self.log, self.pass.rider_mut(), true, ran) {
             Ok(_) => Ok(true),
-            Err(Refused { fault, back }) => {
-                back.forsake();
+            Err((fault, ran)) => {
+                ran.forsake();
                 Err(fault)
             }
         }
-    }
-
-    // Answers an action done; and again, up to a thousand times, while the journal is full, after a cut.
-    fn finish(&mut self, ran: Ran) -> Result<Reply, Refused<Ran>>
-        ensures ends { Finishes F self.old.log ran (fault_alone result)
-            self.old.pass.rider self.new.pass.rider }
-        ensures back { IfErr result (λ refused. refused.back ≡ ran) }
-        ensures kept { KeepsAllButRider self.old self.new }
-    {
-        let mut ran = ran;
-        for _ in 0..DONES_AGAIN {
-            match self.done(ran) {
-                Ok(reply) => return Ok(reply),
-                Err(Refused { fault, back }) => match fault {
-                    Fault::JournalFull => ran = back,
-                    _ => return Err(Refused { fault, back }),
-                },
-            }
-            self.cut();
-        }
-        self.done(ran)
     }
 }

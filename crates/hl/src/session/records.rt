@@ -15,7 +15,7 @@ use std::sync::Wait;
 const PLACES_ANEW: u32 = 63;
 
 impl<'a, R: Wait, L: Realm, F: Task, P: Promise, E: Epochs + Drop> Session<'a, R, L, F, P, E> {
-    /// Places a record and stores its words; returns the address of its first word. The record is on one page.
+    /// Places a record and stores its words. Returns the address of its first word. The record is on one page.
     ///
     /// A session has room for 32 touches, so it refreshes before a word for which it has none. If the record has become
     /// read-only by then, it is placed anew, at most 63 times. What was stored of it before stays as it is, at a place of
@@ -105,6 +105,7 @@ impl<'a, R: Wait, L: Realm, F: Task, P: Promise, E: Epochs + Drop> Session<'a, R
     ///
     /// Faults: `Evicted` if the address is below the head that the session saw, `Beyond` if the last of them isn't below
     /// the tail that it saw; then nothing is loaded.
+    #[tactic(auto, unfolding(crate::specs::Records::row_fault))]
     pub fn load_into(&mut self, address: u64, words: &mut [u64]) -> Result<(), Fault>
         ensures answer { result ≡ unless_fault (row_fault self.old.pass address (length words.old)) tt }
         ensures loads { let old = self.old

@@ -2,7 +2,7 @@
 ghost use Rattle.std.specs.Prelude.{◌≡◌, ◌≤◌, IfOk, IfErr};
 ghost use Rattle.hl_model.specs.declared.fault.Fault.TheVariants.{Beyond as BEYOND};
 ghost use Rattle.hl_keeper.specs.Passes.{seen};
-ghost use Rattle.hl_keeper.specs.Regions.{IsToldRegion};
+ghost use Rattle.hl_keeper.specs.Regions.{IsRegion};
 
 use super::Session;
 use hl_action::{Promise, Task};
@@ -20,7 +20,7 @@ impl<'a, R: Wait, L: Realm, F: Task, P: Promise, E: Epochs + Drop> Session<'a, R
     /// `Beyond` if the address isn't below the tail that the session saw, nor evicted.
     #[inline(always)]
     pub fn region(&mut self, a: u64) -> Result<Region, Fault>
-        ensures region { IfOk result (λ region. IsToldRegion self.old.pass self.new.pass a region) }
+        ensures region { IfOk result (λ region. IsRegion self.old.pass self.new.pass a region) }
         ensures beyond { let saw = seen self.old.pass
             in IfErr result (λ fault. (fault ≡ BEYOND saw.tail) × (saw.head ≤ a) × (saw.tail ≤ a)
             × (self.new ≡ self.old)) }

@@ -61,24 +61,6 @@ impl<'a, R: Wait, L: Realm, F: Task, P: Promise, E: Epochs + Drop> Session<'a, R
             Err(refused) => Err(refused),
         }
     }
-
-    // The same session, which wakes this crew, if there is one.
-    fn with_bell(self, bell: Option<&'a Stop>) -> Session<'a, R, L, F, P, E>
-        ensures { result ≡ self.entry }
-    {
-        let Session {
-            rt,
-            log,
-            pass,
-            bell: _,
-        } = self;
-        Session {
-            rt,
-            log,
-            pass,
-            bell,
-        }
-    }
 }
 
 impl<'a, R: Wait, L: Realm, F: Task, P: Promise, E: Epochs + Drop> Resting<'a, R, L, F, P, E> {
@@ -111,7 +93,7 @@ impl<'a, R: Wait, L: Realm, F: Task, P: Promise, E: Epochs + Drop> Resting<'a, R
         }
     }
 
-    /// Ends the rest without a session; returns the rider.
+    /// Ends the rest without a session. Returns the rider.
     pub fn into_rider(self) -> Rider<L>
         ensures { result ≡ self.entry.rider }
     {

@@ -1,7 +1,7 @@
 //! Operations that are tried again.
 ghost use Rattle.std.specs.Prelude.{◌≡◌};
 ghost use Rattle.std.specs.Fn.{CalledAtMut};
-ghost use Rattle.hl.specs.Attempts.{is_curable, Attempts, SessionHelps};
+ghost use Rattle.hl.specs.Attempts.{cure_of, Attempts, SessionHelps};
 ghost use Rattle.hl.specs.Helps.{Helps};
 
 use super::Session;
@@ -13,11 +13,49 @@ use std::sync::Wait;
 use std::thread::Parker;
 use std::time::Duration;
 
-/// How long a session naps that could do nothing for the log, in microseconds.
+/// How long a thread naps that could do nothing for the log, in microseconds.
 const NAP: u64 = 50;
 
-/// What can be helped on between two tries: a [`Session`]. It is a trait since a closure's bound can name a parameter
-/// of its function, and not yet a session's type.
+/// What may cure the reason for which an operation was refused.
+#[derive(Clone, Copy, PartialEq, Eq, Debug)]
+pub enum Cure {
+    /// A refresh, which a round of help makes: there is nobody to wait for.
+    Refresh,
+    /// What others do: they refresh, free a frame or cut the journal.
+    Others,
+}
+
+/// Why an operation is refused that may be tried again: a [`Fault`], or an error of the engine's own.
+pub trait Curable {
+    ghost use Rattle.std.specs.Prelude.{Option, ⊤};
+    ghost use Rattle.hl.specs.declared.session.tries.Cure.{Cure as CURE};
+
+    /// What holds of an error and of its cure: nothing, unless a program says so.
+    ghost cures: { Self → Option CURE → Type 0 } = { λ _ _. ⊤ };
+
+    /// Returns what may cure it; `None` if nothing does.
+    fn cure(&self) -> Option<Cure>
+        ensures { cures self.now result };
+}
+
+/// `Beyond` and `TouchesFull` are cured by a refresh; `Busy`, `DrainFull`, `JournalFull` and `WindowFull` by others; no
+/// other fault is.
+impl Curable for Fault {
+    ghost cures = { λ fault cure. cure ≡ cure_of fault };
+
+    fn cure(&self) -> Option<Cure> {
+        match self {
+            Fault::Beyond { .. } | Fault::TouchesFull => Some(Cure::Refresh),
+            Fault::Busy { .. } | Fault::DrainFull | Fault::JournalFull | Fault::WindowFull => {
+                Some(Cure::Others)
+            }
+            _ => None,
+        }
+    }
+}
+
+/// What can be helped on between two tries: a [`Session`], or what an engine keeps beside one. It is a trait since a
+/// closure's bound can name a parameter of its function, and not yet a session's type.
 pub trait Helping {
     ghost use Rattle.std.specs.Prelude.{Bool, Result};
     ghost use Rattle.hl_model.specs.declared.fault.Fault.{Fault};
@@ -25,38 +63,39 @@ pub trait Helping {
     /// What a round of help makes.
     ghost helps: { Self → Result Bool Fault → Self → Type 0 };
 
-    /// A round of help after such a refusal, and a short nap if there was nothing to do.
-    fn help_against(&mut self, fault: &Fault) -> Result<bool, Fault>
+    /// A round of help, and a short nap if others have to act and it ran no action.
+    fn help_by(&mut self, cure: Cure) -> Result<bool, Fault>
         ensures { helps self.old result self.new };
 }
 
-/// Runs an operation of a session, and again, at most `again` times, while it is refused for a reason that a round of
-/// [`help`](Session::help) or another thread may cure: `Busy`, `Beyond`, `TouchesFull`, `JournalFull`, `DrainFull`,
-/// `WindowFull`. Between two tries comes a round of help, and a short nap if that ran no action; after a `Beyond` or a
-/// `TouchesFull` without a nap, since the refresh cures it.
+/// Runs an operation of a session, and again, at most `again` times, while it is refused for a reason that has a cure:
+/// a [`Fault`] if it is `Busy`, `Beyond`, `TouchesFull`, `JournalFull`, `DrainFull` or `WindowFull`; an engine's own
+/// error if its [`Curable::cure`] says so. Between two tries comes a round of [`help`](Session::help), and a short nap
+/// if that ran no action and others have to act.
 ///
 /// The operation begins anew each time: what an earlier try looked up isn't used again. A try that was refused holds no
 /// lock of the program's: a thread that waits for one can't refresh.
 ///
-/// Returns the last try's answer; another fault is returned at once. What a round of help was refused isn't told: the
-/// next try meets it.
-pub fn attempt<S: Helping, T, O: FnMut(&mut S) -> Result<T, Fault>>(
+/// Returns the last try's answer; an error without a cure is returned at once. What a round of help was refused isn't
+/// told: the next try meets it.
+pub fn attempt<S: Helping, T, X: Curable + Drop, O: FnMut(&mut S) -> Result<T, X>>(
     session: &mut S,
     again: u32,
     mut operation: O,
-) -> Result<T, Fault>
+) -> Result<T, X>
     requires callable { O.IsAlwaysCallable operation }
-    ensures attempted { Attempts (CalledAtMut O.FnMut) S.helps again result operation session.old session.new }
+    ensures attempted { Attempts (CalledAtMut O.FnMut) X.cures S.helps again
+        result operation session.old session.new }
 {
     for _ in 0..again {
         match operation(session) {
             Ok(out) => return Ok(out),
-            Err(fault) => {
-                if !is_cured_by_time(&fault) {
-                    return Err(fault);
+            Err(error) => match error.cure() {
+                None => return Err(error),
+                Some(cure) => {
+                    let _ = session.help_by(cure);
                 }
-                let _ = session.help_against(&fault);
-            }
+            },
         }
     }
     operation(session)
@@ -66,10 +105,10 @@ impl<'a, R: Wait, L: Realm, F: Task, P: Promise, E: Epochs + Drop> Helping
     for Session<'a, R, L, F, P, E> {
     ghost helps = { SessionHelps F.gives P.keeps };
 
-    fn help_against(&mut self, fault: &Fault) -> Result<bool, Fault> {
-        match fault {
-            Fault::Beyond { .. } | Fault::TouchesFull => self.help(),
-            _ => self.help_or_nap(),
+    fn help_by(&mut self, cure: Cure) -> Result<bool, Fault> {
+        match cure {
+            Cure::Refresh => self.help(),
+            Cure::Others => self.help_or_nap(),
         }
     }
 }
@@ -83,23 +122,13 @@ impl<'a, R: Wait, L: Realm, F: Task, P: Promise, E: Epochs + Drop> Session<'a, R
     {
         let helped = self.help();
         if !matches!(helped, Ok(true)) {
-            Parker::new().park_timeout(self.rt, Duration::from_micros(NAP));
+            nap(self.rt);
         }
         helped
     }
 }
 
-// Whether help, or what others do meanwhile, may cure it.
-fn is_cured_by_time(fault: &Fault) -> bool
-    ensures { result ≡ is_curable fault.now }
-{
-    matches!(
-        fault,
-        Fault::Busy { .. }
-            | Fault::Beyond { .. }
-            | Fault::DrainFull
-            | Fault::JournalFull
-            | Fault::TouchesFull
-            | Fault::WindowFull
-    )
+// A short nap, so that others go on.
+pub(super) fn nap(rt: &impl Wait) {
+    Parker::new().park_timeout(rt, Duration::from_micros(NAP));
 }

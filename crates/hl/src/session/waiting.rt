@@ -1,10 +1,6 @@
 //! Waiting for other threads to move on.
-ghost use Rattle.std.specs.Prelude.{◌≡◌, ◌+◌, List, [], ◌∷◌, ◌++◌, IfOk};
-ghost use Rattle.hl_model.specs.declared.step.Step.{Step as STEP};
-ghost use Rattle.hl_model.specs.declared.step.Step.TheVariants.{Bare as BARE};
-ghost use Rattle.hl_model.specs.Actions.{bumps};
-ghost use Rattle.hl_keeper.specs.Calls.{Makes};
-ghost use Rattle.hl_domain.specs.Domains.{call_of, MakesUnderLock};
+ghost use Rattle.std.specs.Prelude.{◌≡◌, IfOk};
+ghost use Rattle.hl_domain.specs.Riders.{Bares};
 ghost use Rattle.hl.specs.Sessions.{KeepsAllButRider};
 ghost use Rattle.hl.specs.Waits.{ForAll, LooksAtSafe, Waits, WaitsForAll};
 
@@ -67,10 +63,9 @@ impl<'a, R: Wait, L: Realm, F: Task, P: Promise, E: Epochs + Drop> Session<'a, R
         }
     }
 
-    // Ends the epoch, and stores nothing; returns the epoch that ended.
+    // Ends the epoch, and stores nothing. Returns the epoch that ended.
     fn bare(&mut self) -> Result<u64, Fault>
-        ensures met { MakesUnderLock F self.old.log (call_of BARE self.old.pass.rider self.new.pass.rider)
-            result (λ before. Makes before BARE (λ A. bumps (A ++ BARE ∷ []))) }
+        ensures met { Bares F self.old.log result self.old.pass.rider self.new.pass.rider }
         ensures kept { KeepsAllButRider self.old self.new }
     {
         self.log.bare(self.rt, self.pass.rider_mut())

@@ -1,20 +1,22 @@
 ghost use Rattle.std.specs.Prelude.{◌≡◌, ◌+◌, ℕ, Some, position, OnOk};
 ghost use Rattle.hl_crew.specs.Counting.{counted};
-ghost use Rattle.hl_crew.specs.Flushes.{hold_of, AnswersPage, Tells, TellsNext, FailsNext};
+ghost use Rattle.hl_crew.specs.Flushes.{hold_of, AnswersPage, TellsNext, FailsNext};
 ghost use Rattle.hl_crew.specs.Goes.{UpTo};
 ghost use Rattle.hl_crew.specs.Pouches.{is_of, load_count};
 
-use crate::flusher::{Flusher, FlusherState};
-use crate::messages::{Acknowledgement, Channels, Over};
+use crate::flusher::FlusherState;
+use crate::messages::{Channels, Over};
 use crate::pouch::Pouch;
+use crate::run::Run;
 use hl_action::{Promise, Task};
 use hl_epoch::Epochs;
 use hl_words::Realm;
 use std::sync::Wait;
 
-impl<R: Wait, E: Epochs + Drop, F: Task, P: Promise, L: Realm> Flusher<'_, R, E, F, P, L> {
-    /// Receives this many acknowledgements, and answers each through the pouch. One whose page
-    /// isn't there is a stranger.
+impl<R: Wait, E: Epochs + Drop, F: Task, P: Promise, L: Realm, G> Run<'_, R, E, F, P, L, G> {
+    /// Receives this many acknowledgements, answers the page of each as that says, and counts the answer. One whose
+    /// page isn't in the pouch is counted as a stranger.
+    #[tactic(auto, using(crate::proofs::GoesLaws::going))]
     pub(crate) fn answer_acknowledged(
         &self,
         channels: &Channels,
@@ -26,33 +28,20 @@ impl<R: Wait, E: Epochs + Drop, F: Task, P: Promise, L: Realm> Flusher<'_, R, E,
             (hold_of own.old pouch.old) (hold_of own.new pouch.new) }
     {
         for _ in 0..sent {
-            let Ok(told) = channels.acknowledged.recv(self.rt) else {
+            let Ok(acknowledgement) = channels.acknowledged.recv(self.rt) else {
                 return Err(Over::Lost);
             };
-            self.answer(own, pouch, told)?;
+            if !pouch.holds(acknowledgement.page()) {
+                own.counts.count_stranger();
+                continue;
+            }
+            self.answer_held(own, pouch, acknowledgement.page(), acknowledgement.ok())?;
         }
         Ok(())
     }
 
-    // Answers the page of an acknowledgement as that says, and counts the answer; if the page isn't
-    // held, it counts a stranger.
-    fn answer(
-        &self,
-        own: &mut FlusherState<L>,
-        pouch: &mut Pouch,
-        told: Acknowledgement,
-    ) -> Result<(), Over>
-        ensures { Tells F self.now.domain.now told.page told.ok result
-            (hold_of own.old pouch.old) (hold_of own.new pouch.new) }
-    {
-        if !pouch.holds(told.page()) {
-            own.counts.count_stranger();
-            return Ok(());
-        }
-        self.answer_held(own, pouch, told.page(), told.ok())
-    }
-
     /// Answers each page that is still in the pouch as failed, and counts it so.
+    #[tactic(auto, using(crate::proofs::GoesLaws::going))]
     pub(crate) fn answer_others(
         &self,
         own: &mut FlusherState<L>,

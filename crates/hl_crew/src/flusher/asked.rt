@@ -15,7 +15,7 @@ pub(crate) struct Asked {
 }
 
 impl Asked {
-    /// Nothing was asked for.
+    /// Returns that nothing was asked for.
     pub(crate) fn none() -> Asked
         ensures { result ≡ nothing_asked }
     {
@@ -27,7 +27,7 @@ impl Asked {
         }
     }
 
-    /// The same at the beginning of a turn, at these offsets.
+    /// Returns the same at the beginning of a turn, at these offsets.
     pub(crate) fn at(self, six: Six) -> Asked
         ensures { result ≡ asked_at six self }
     {
@@ -38,7 +38,7 @@ impl Asked {
         }
     }
 
-    /// The same once this step was made.
+    /// Returns the same once this step was made.
     pub(crate) fn after(self, step: Step) -> Asked
         ensures { result ≡ asked_after step self }
     {
@@ -60,7 +60,7 @@ impl Asked {
         }
     }
 
-    /// Whether a step of the lag waits, at these offsets: a raise and a settle for the flusher's last settle, a shift and a
+    /// Returns whether a step of the lag waits, at these offsets: a raise and a settle for the flusher's last settle, a shift and a
     /// close for its last close.
     pub(crate) fn waits_for(self, six: Six, step: Step) -> bool
         ensures { result ≡ is_waiting six self step }

@@ -1,10 +1,11 @@
 ghost use Rattle.std.specs.Prelude.{◌≡◌, true, is_none, length, All};
 ghost use Rattle.hl_keeper.specs.Calls.{without_back};
 ghost use Rattle.hl_crew.specs.Goes.{UpTo};
-ghost use Rattle.hl_crew.specs.Lags.{IsLag, is_wanted, is_lag_step, lag_end, MakesStep, MakesIf, MakesNext, KeepsLag};
+ghost use Rattle.hl_crew.specs.Lags.{is_wanted, is_lag_step, lag_end, MakesStep, MakesIf, MakesNext, KeepsLag};
 
-use crate::flusher::{Asked, Flusher, FlusherState};
+use crate::flusher::{Asked, FlusherState};
 use crate::messages::Over;
+use crate::run::Run;
 use hl_action::{Promise, Task};
 use hl_drain::Ask;
 use hl_epoch::Epochs;
@@ -13,35 +14,35 @@ use hl_model::{Fault, Snapshot, Step};
 use hl_words::{Realm, Rider};
 use std::sync::Wait;
 
-impl<R: Wait, E: Epochs + Drop, F: Task, P: Promise, L: Realm> Flusher<'_, R, E, F, P, L> {
+impl<R: Wait, E: Epochs + Drop, F: Task, P: Promise, L: Realm, G> Run<'_, R, E, F, P, L, G> {
     /// Wakes who looks for pages if there are some, and makes the lag's steps that it wants, up to the first that is
     /// refused. A crew that serves waits for its own settle and close alone; another wants none while any action waits or
     /// is taken.
     ///
     /// With as many resident pages as frames, the head never passes page N - F, N being the number
     /// of pages up to the tail, and page N needs that page's frame: then no frame comes free.
+    #[tactic(auto, using(crate::proofs::LagLaws::lag_kinds))]
     pub(crate) fn keep_lag(&self, own: &mut FlusherState<L>) -> Result<(), Over>
-        requires { let orders = self.now.shared.now.orders
-            in IsLag self.now.domain.now.sizes.frames orders.mutable orders.resident }
-        ensures { let orders = self.now.shared.now.orders
-            in KeepsLag F self.now.domain.now (is_none self.now.shared.now.channels)
-            orders.mutable orders.resident result own.old own.new }
+        ensures { let limits = self.now.limits
+            in KeepsLag F self.now.domain.now (is_none self.now.channels)
+            limits.mutable limits.resident result own.old own.new }
     {
         let (now, _, _) = self.domain.snapshot(self.rt);
         let [_, sealed, _, closed, _] = now.frames;
-        self.shared.wake(sealed, closed);
-        let orders = self.shared.orders();
+        self.wake(sealed, closed);
+        let limits = self.limits;
         let lag = lag_steps(
             self.domain.params(),
             now.six,
-            orders.mutable(),
-            orders.resident(),
+            limits.mutable(),
+            limits.resident(),
         );
         own.asked = own.asked.at(now.six);
         end_of(self.make_all(own, &now, lag.as_slice()))
     }
 
     // Makes those of these steps that it wants at these quantities, up to the first that is refused.
+    #[tactic(auto, using(crate::proofs::GoesLaws::going))]
     fn make_all(
         &self,
         own: &mut FlusherState<L>,
@@ -49,14 +50,11 @@ impl<R: Wait, E: Epochs + Drop, F: Task, P: Promise, L: Realm> Flusher<'_, R, E,
         steps: &[Step],
     ) -> Result<(), Fault>
         requires { All (λ step. is_lag_step step ≡ true) steps.now }
-        ensures { UpTo (MakesNext F self.now.domain.now (is_none self.now.shared.now.channels) now.now
+        ensures { UpTo (MakesNext F self.now.domain.now (is_none self.now.channels) now.now
             steps.now) (length steps.now) result own.old own.new }
     {
         for step in steps {
-            match self.make_if_wanted(own, now, *step) {
-                Ok(()) => {}
-                Err(fault) => return Err(fault),
-            }
+            self.make_if_wanted(own, now, *step)?;
         }
         Ok(())
     }
@@ -70,19 +68,15 @@ impl<R: Wait, E: Epochs + Drop, F: Task, P: Promise, L: Realm> Flusher<'_, R, E,
     ) -> Result<(), Fault>
         requires { is_lag_step step ≡ true }
         ensures { MakesIf F self.now.domain.now
-            (is_wanted (is_none self.now.shared.now.channels) now.now own.old.asked step) step
+            (is_wanted (is_none self.now.channels) now.now own.old.asked step) step
             result own.old own.new }
     {
-        if !is_wanted(self.shared.serves(), now, own.asked, step) {
+        if !is_wanted(self.serves(), now, own.asked, step) {
             return Ok(());
         }
-        match self.make(&mut own.rider, step) {
-            Ok(_) => {
-                own.asked = own.asked.after(step);
-                Ok(())
-            }
-            Err(fault) => Err(fault),
-        }
+        self.make(&mut own.rider, step)?;
+        own.asked = own.asked.after(step);
+        Ok(())
     }
 
     // Makes a step of the lag.
@@ -100,7 +94,7 @@ impl<R: Wait, E: Epochs + Drop, F: Task, P: Promise, L: Realm> Flusher<'_, R, E,
     }
 }
 
-// The answer of a bump, without what a refusal hands back.
+// Returns the answer of a bump, without what comes back with a refusal.
 fn ticket_of<J: Drop>(bumped: Result<u64, (Fault, Ask<J>)>) -> Result<u64, Fault>
     ensures { result ≡ without_back bumped }
 {
@@ -110,7 +104,7 @@ fn ticket_of<J: Drop>(bumped: Result<u64, (Fault, Ask<J>)>) -> Result<u64, Fault
     }
 }
 
-// How the lag's part of a turn ends: a full journal ends the turn, another refusal the lag alone.
+// Returns how the lag's part of a turn ends: a full journal ends the turn, another refusal the lag alone.
 fn end_of(made: Result<(), Fault>) -> Result<(), Over>
     ensures { result ≡ lag_end made }
 {

@@ -3,9 +3,9 @@ ghost use Rattle.hl_crew.specs.Goes.{UpTo};
 ghost use Rattle.hl_crew.specs.Pouches.{load_count};
 ghost use Rattle.hl_crew.specs.Turns.{send_of, SendsPage};
 
-use crate::flusher::Flusher;
 use crate::messages::{Channels, Message, Over};
 use crate::pouch::Pouch;
+use crate::run::Run;
 use hl_action::{Promise, Task};
 use hl_epoch::Epochs;
 use hl_model::Fault;
@@ -15,9 +15,10 @@ use std::sync::Wait;
 /// How many pages are sent in a turn, as many as a pouch holds.
 const PAGES: u64 = 4;
 
-impl<R: Wait, E: Epochs + Drop, F: Task, P: Promise, L: Realm> Flusher<'_, R, E, F, P, L> {
+impl<R: Wait, E: Epochs + Drop, F: Task, P: Promise, L: Realm, G> Run<'_, R, E, F, P, L, G> {
     /// Takes at most four pages to flush, puts each into the pouch, and sends it to the writers;
     /// counts those sent. If all is well, these are the pages of the pouch.
+    #[tactic(auto, using(crate::proofs::GoesLaws::going))]
     pub(crate) fn send_pages(
         &self,
         channels: &Channels,
@@ -57,10 +58,8 @@ impl<R: Wait, E: Epochs + Drop, F: Task, P: Promise, L: Realm> Flusher<'_, R, E,
     {
         let load = match self.domain.flush_take(self.rt, rider) {
             Ok(load) => load,
-            Err(fault) => match fault {
-                Fault::NoneSealed => return Ok(false),
-                _ => return Err(Over::of(&fault)),
-            },
+            Err(Fault::NoneSealed) => return Ok(false),
+            Err(fault) => return Err(Over::of(&fault)),
         };
         let job = load.job();
         pouch.put(load);

@@ -1,16 +1,17 @@
-//! A page that has one hand: a writer takes it, copies it, writes it and answers it, with its own rider.
-ghost use Rattle.std.specs.Prelude.{◌≡◌, ◌^◌, ◌-◌};
+//! A page of a crew that serves: one writer takes it, copies it, writes it and answers it, with its own rider.
+ghost use Rattle.std.specs.Prelude.{◌^◌, ◌-◌};
 ghost use Rattle.hl_crew.specs.Goes.{UpTo};
 ghost use Rattle.hl_crew.specs.Looks.{LooksNext};
 ghost use Rattle.hl_crew.specs.Pages.{FindsPage, Flushes, Passes, PassesIf};
 ghost use Rattle.hl_crew.specs.Riders.{WritesPage, FailsPage};
 
-use crate::ends::{Flush, end};
+use crate::ends::Flush;
 use crate::gate::Gate;
 use crate::looks::{Look, Looker};
 use crate::messages::Over;
-use crate::orders::cut_if_full;
-use crate::writer::{Writer, WriterState};
+use crate::mode::Mode;
+use crate::run::Run;
+use crate::writer::WriterState;
 use hl_action::{Promise, Task};
 use hl_epoch::Epochs;
 use hl_image::PageWriter;
@@ -23,48 +24,33 @@ use std::thread::Parker;
 /// How many pages behind one that wasn't written are tried at most before that one is answered.
 const BEHIND: u64 = 3;
 
-impl<R, E, F, P, L, G, W> Look<WriterState<L, W>> for Writer<'_, R, E, F, P, L, G>
-where
-    R: Wait,
-    E: Epochs + Drop,
-    F: Task,
-    P: Promise,
-    L: Realm,
-    G: Gate,
-    W: PageWriter,
-{
-    ghost finds = { λ writer. FindsPage F writer.domain.now writer.shared.now.orders.cuts
-        (G.lets writer.gate.now) (WritesPage W.has W.wrote) (FailsPage W.has W.failed) W.failures };
+impl<R: Wait, E: Epochs + Drop, F: Task, P: Promise, L: Realm, G: Gate, W: PageWriter> Look<
+    WriterState<L, W>,
+> for Run<'_, R, E, F, P, L, G> {
+    ghost finds = { λ run. FindsPage F run.domain.now run.limits.cuts (G.lets run.gate.now)
+        (WritesPage W.has W.wrote) (FailsPage W.has W.failed) W.failures };
 
     /// Flushes a page. If the journal is full and may be cut, it is cut, and that counts as a page.
     fn find(&self, own: &mut WriterState<L, W>) -> Result<bool, Over> {
         let flushed = self.flush(own, BEHIND);
-        cut_if_full(self.rt, self.domain, self.shared, &mut own.rider, flushed)
+        self.cut_if_full(&mut own.rider, flushed)
     }
 }
 
-impl<R, E, F, P, L, G> Writer<'_, R, E, F, P, L, G>
-where
-    R: Wait,
-    E: Epochs + Drop,
-    F: Task,
-    P: Promise,
-    L: Realm,
-    G: Gate,
-{
+impl<R: Wait, E: Epochs + Drop, F: Task, P: Promise, L: Realm, G: Gate> Run<'_, R, E, F, P, L, G> {
     /// Looks for sealed pages, and flushes each.
     pub(crate) fn flush_all<W: PageWriter>(
         &self,
         own: &mut WriterState<L, W>,
         sleeper: &Parker,
     ) -> Result<(), Over>
-        ensures { UpTo (LooksNext (FindsPage F self.now.domain.now self.now.shared.now.orders.cuts
+        ensures { UpTo (LooksNext (FindsPage F self.now.domain.now self.now.limits.cuts
             (G.lets self.now.gate.now) (WritesPage W.has W.wrote) (FailsPage W.has W.failed) W.failures))
             (2 ^ 64 - 1) result own.old own.new }
     {
         let looker = Looker {
             rt: self.rt,
-            shared: self.shared,
+            has_ended: &self.has_ended,
             sleeper,
         };
         looker.look_on(self, own, u64::MAX)
@@ -75,21 +61,19 @@ where
     // be taken again. False if none was written.
     #[cycle(flush)]
     fn flush<W: PageWriter>(&self, own: &mut WriterState<L, W>, behind: u64) -> Result<bool, Over>
-        ensures { Flushes F self.now.domain.now self.now.shared.now.orders.cuts
+        ensures { Flushes F self.now.domain.now self.now.limits.cuts
             (G.lets self.now.gate.now) (WritesPage W.has W.wrote) (FailsPage W.has W.failed) W.failures
             behind result own.old own.new }
     {
         let load = match self.domain.flush_take(self.rt, &mut own.rider) {
             Ok(load) => load,
-            Err(fault) => match fault {
-                Fault::NoneSealed => return Ok(false),
-                _ => return Err(Over::of(&fault)),
-            },
+            Err(Fault::NoneSealed) => return Ok(false),
+            Err(fault) => return Err(Over::of(&fault)),
         };
-        let ok = self.acknowledge(own, load.job()).ok();
+        let ok = self.write(own, load.job()).ok();
         let passed = self.flush_behind(own, ok, behind);
         let flush = Flush { load, ok };
-        end(self.rt, self.domain, self.shared, &mut own.rider, flush)?;
+        self.end_by(&mut own.rider, flush)?;
         own.counts.count(ok);
         self.tell(ok);
         passed
@@ -103,9 +87,9 @@ where
         ok: bool,
         behind: u64,
     ) -> Result<bool, Over>
-        ensures { PassesIf F self.now.domain.now self.now.shared.now.orders.cuts
+        ensures { PassesIf F self.now.domain.now self.now.limits.cuts
             (G.lets self.now.gate.now) (WritesPage W.has W.wrote) (FailsPage W.has W.failed) W.failures
-            (Passes F self.now.domain.now self.now.shared.now.orders.cuts
+            (Passes F self.now.domain.now self.now.limits.cuts
             (G.lets self.now.gate.now) (WritesPage W.has W.wrote) (FailsPage W.has W.failed) W.failures behind)
             ok result own.old own.new }
     {
@@ -120,10 +104,10 @@ where
 
     // Wakes the flusher if a page was written: the head may go on.
     fn tell(&self, ok: bool) {
-        match self.bell {
-            Some(bell) if ok => {
-                self.shared.has_written.store(true, Ordering::SeqCst);
-                bell.ring();
+        match self.mode {
+            Mode::Until(stop) if ok => {
+                self.has_written.store(true, Ordering::SeqCst);
+                stop.ring();
             }
             _ => {}
         }

@@ -16,7 +16,7 @@ use std::sync::Wait;
 impl<E: Epochs + Drop, F: Task, P: Promise, L: Realm> Domain<E, F, P, L> {
     /// Brings a pass up to date, as an engine's thread wants before each operation. It loads three words, without the
     /// lock: the read-only offset, the head, and the last epoch that ended. If neither offset is above the one that the
-    /// pass saw, its slot's epoch has not ended, and it has room for a touch, that is all, and the answer is what it
+    /// pass saw, its slot's epoch has not ended, and it has room for a touch, that is all, and it returns what it
     /// saw. Else this is a [`refresh`](Domain::refresh).
     ///
     /// Faults, those of a refresh: `Stranger`, `JournalFull`.

@@ -23,17 +23,12 @@ impl<E: Epochs + Drop, F: Task, P: Promise, L: Realm> Domain<E, F, P, L> {
         ensures met { MakesUnderLock F self.now (call_of FLUSH_TAKE rider.old rider.new) result (λ old.
             Makes old FLUSH_TAKE (λ A. to_flush old.core.sizes old.stamp A)) }
     {
-        let mut guard = self.lock(rt);
-        let Held { keeper, scribe, .. } = &mut *guard;
-        let before = keeper.journal().len();
-        let taken = keeper.flush_take(&self.words, rider);
-        keeper.note(&self.words, scribe, rider, before);
-        taken
+        locked!(self, rt, flush_take(rider))
     }
 
-    /// The flush of a page ended, well or not; the answer is the flushed offset.
+    /// Tells that the flush of a page ended, well or not; returns the flushed offset.
     ///
-    /// Faults, with the load handed back: `Stranger` where it is of another domain, `JournalFull`,
+    /// Faults, with the load handed back: `Stranger` if it is of another domain, `JournalFull`,
     /// `NotInFlight`.
     pub fn flush_done(
         &self,
@@ -47,12 +42,7 @@ impl<E: Epochs + Drop, F: Task, P: Promise, L: Realm> Domain<E, F, P, L> {
             Ends old load.stamp step (λ A. flushed old.core.sizes (A ++ step ∷ []))) }
         ensures refused { IfErr result (λ back. back.1 ≡ load) }
     {
-        let mut guard = self.lock(rt);
-        let Held { keeper, scribe, .. } = &mut *guard;
-        let before = keeper.journal().len();
-        let ended = keeper.flush_done(&self.words, rider, load, ok);
-        keeper.note(&self.words, scribe, rider, before);
-        ended
+        locked!(self, rt, flush_done(rider, load, ok))
     }
 
     /// Takes the least closed page that is neither freed nor being cleaned.
@@ -62,18 +52,13 @@ impl<E: Epochs + Drop, F: Task, P: Promise, L: Realm> Domain<E, F, P, L> {
         ensures met { MakesUnderLock F self.now (call_of CLEAN_TAKE rider.old rider.new) result (λ old.
             Makes old CLEAN_TAKE (λ A. to_clean old.core.sizes old.stamp A)) }
     {
-        let mut guard = self.lock(rt);
-        let Held { keeper, scribe, .. } = &mut *guard;
-        let before = keeper.journal().len();
-        let taken = keeper.clean_take(&self.words, rider);
-        keeper.note(&self.words, scribe, rider, before);
-        taken
+        locked!(self, rt, clean_take(rider))
     }
 
-    /// The cells of a page hold 0: its frame is free. The broom is swept: 0 was stored into all P cells. The
-    /// answer is the page.
+    /// Tells that the cells of a page hold 0: its frame is then free. The broom is swept: 0 was stored into all P
+    /// cells. Returns the page.
     ///
-    /// Faults, with the broom handed back: `Stranger` where it is of another domain, `JournalFull`,
+    /// Faults, with the broom handed back: `Stranger` if it is of another domain, `JournalFull`,
     /// `NotCleaning`.
     pub fn clean_done(
         &self,
@@ -87,11 +72,6 @@ impl<E: Epochs + Drop, F: Task, P: Promise, L: Realm> Domain<E, F, P, L> {
             Ends old broom.stamp step (λ A. broom.page)) }
         ensures refused { IfErr result (λ back. back.1 ≡ broom) }
     {
-        let mut guard = self.lock(rt);
-        let Held { keeper, scribe, .. } = &mut *guard;
-        let before = keeper.journal().len();
-        let freed = keeper.clean_done(&self.words, rider, broom);
-        keeper.note(&self.words, scribe, rider, before);
-        freed
+        locked!(self, rt, clean_done(rider, broom))
     }
 }

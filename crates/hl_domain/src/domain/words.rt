@@ -1,12 +1,13 @@
 //! What riders do without the lock.
-ghost use Rattle.std.specs.Prelude.{◌≡◌, ◌≢◌, ◌≤◌, ◌+◌, ◌%◌, ◌^◌, ◌==◌, Some, None, max, length, IfOk, OnOk, IfErr, OnErr, MatchResult};
+ghost use Rattle.std.specs.Prelude.{◌≡◌, ◌≤◌, ◌==◌, length, IfOk, OnOk, IfErr, OnErr};
 ghost use Rattle.hl_model.specs.declared.fault.Fault.TheVariants.{Beyond as BEYOND};
-ghost use Rattle.hl_model.specs.Replies.{unless_fault, unless_refused};
+ghost use Rattle.hl_model.specs.Replies.{unless_fault};
 ghost use Rattle.hl_words.specs.States.{with_view};
-ghost use Rattle.hl_keeper.specs.Passes.{seen, touch_fault, store_fault, load_fault, with_look, with_store, with_change, with_load, last_read_only, last_head, LooksOn};
-ghost use Rattle.hl_keeper.specs.Regions.{IsToldRegion};
+ghost use Rattle.hl_keeper.specs.Passes.{seen};
+ghost use Rattle.hl_keeper.specs.Regions.{IsRegion};
 ghost use Rattle.hl_keeper.specs.Calls.{unless_stranger};
 ghost use Rattle.hl_keeper.specs.Pages.{first_cell, zeroed, loaded_all};
+ghost use Rattle.hl_domain.specs.Words.{HasAdded, HasExchanged, HasLoaded, HasLooked, HasStored};
 
 use crate::domain::Domain;
 use hl_action::{Promise, Task};
@@ -17,54 +18,35 @@ use hl_words::{Realm, Rider};
 
 impl<E: Epochs + Drop, F: Task, P: Promise, L: Realm> Domain<E, F, P, L> {
     /// Looks at both offset words: each of the pass's two offsets becomes the greater of the loaded and its own.
-    /// A look that raises neither is no touch. The answer is what the pass sees then. Neither load is below any
+    /// A look that raises neither is no touch. Returns what the pass then sees. Neither load is below any
     /// that the rider loaded of that word before.
     ///
-    /// `TouchesFull` where the pass has 32 touches; then nothing is loaded.
+    /// `TouchesFull` if the pass has 32 touches; then nothing is loaded.
     #[inline(always)]
     pub fn look(&self, pass: &mut Pass<L>) -> Result<View, Fault>
-        ensures answer { result ≡ unless_fault (touch_fault pass.old) (seen pass.new) }
-        ensures pass { let new = pass.new
-            in let old = pass.old
-            in new ≡ unless_refused (touch_fault old) old
-            (with_look (last_read_only new) (last_head new) old) }
-        ensures rises { OnOk result (LooksOn pass.old pass.new) }
-        ensures raised { let old = seen pass.old
-            in let new = pass.new
-            in IfOk result (λ view. view ≡ record {
-              read_only = max old.read_only (last_read_only new);
-              head = max old.head (last_head new);
-              tail = old.tail;
-            }) }
+        ensures { HasLooked (λ p. p) pass.old pass.new pass.new result }
     {
         unlocked::look(&self.words, pass)
     }
 
     /// Stores a word at an address of the log.
     ///
-    /// Faults: `Below` where the address is below the read-only offset that the pass saw, `Beyond` where it
-    /// isn't below the tail that it saw, `TouchesFull` where it has 32 touches.
+    /// Faults: `Below` if the address is below the read-only offset that the pass saw, `Beyond` if it
+    /// isn't below the tail that it saw, `TouchesFull` if it has 32 touches.
     #[inline(always)]
     pub fn store(&self, pass: &mut Pass<L>, a: u64, v: u64) -> Result<(), Fault>
-        ensures answer { result ≡ unless_fault (store_fault pass.old a) tt }
-        ensures pass { let old = pass.old
-            in pass.new ≡ unless_refused (store_fault old a) old (with_store self.now.sizes a v old) }
+        ensures { HasStored (λ p. p) self.now.sizes a v pass.old pass.new result }
     {
         unlocked::store(&self.words, self.params, pass, a, v)
     }
 
     /// Loads the word at an address of the log. It is no touch: no step of the journal tells it.
     ///
-    /// Faults: `Evicted` where the address is below the head that the pass saw, `Beyond` where it isn't below
+    /// Faults: `Evicted` if the address is below the head that the pass saw, `Beyond` if it isn't below
     /// the tail that it saw.
     #[inline(always)]
     pub fn load(&self, pass: &mut Pass<L>, a: u64) -> Result<u64, Fault>
-        ensures answer { let met = load_fault pass.old a
-            in MatchResult result (λ _. met ≡ None) (λ fault. met ≡ Some fault) }
-        ensures pass { let old = pass.old
-            in MatchResult result
-            (λ v. pass.new ≡ with_load self.now.sizes a v old)
-            (λ _. pass.new ≡ old) }
+        ensures { HasLoaded (λ p. p) self.now.sizes a pass.old pass.new result }
     {
         unlocked::load(&self.words, self.params, pass, a)
     }
@@ -72,10 +54,10 @@ impl<E: Epochs + Drop, F: Task, P: Promise, L: Realm> Domain<E, F, P, L> {
     /// Tells in which region of the log an address is, as an engine asks before it changes a record. Below the read-only
     /// offset that the pass saw it loads the word of the safe read-only offset, and no more: that is no touch, and no step.
     ///
-    /// `Beyond` where the address isn't below the tail that the pass saw, nor evicted.
+    /// `Beyond` if the address isn't below the tail that the pass saw, nor evicted.
     #[inline(always)]
     pub fn region(&self, pass: &mut Pass<L>, a: u64) -> Result<Region, Fault>
-        ensures region { IfOk result (λ region. IsToldRegion pass.old pass.new a region) }
+        ensures region { IfOk result (λ region. IsRegion pass.old pass.new a region) }
         ensures beyond { let saw = seen pass.old
             in IfErr result (λ fault. (fault ≡ BEYOND saw.tail) × (saw.head ≤ a) × (saw.tail ≤ a)
             × (pass.new ≡ pass.old)) }
@@ -84,17 +66,11 @@ impl<E: Epochs + Drop, F: Task, P: Promise, L: Realm> Domain<E, F, P, L> {
     }
 
     /// Adds a number to the word at an address of the log, modulo 2^64, in one step: no store of another rider comes
-    /// between its load and its store. The answer is what it found. It is a touch, the write of the sum.
+    /// between its load and its store. Returns what it found. It is a touch, the write of the sum.
     ///
     /// Faults, those of a store: `Below`, `Beyond`, `TouchesFull`; then nothing is loaded.
     pub fn fetch_add(&self, pass: &mut Pass<L>, a: u64, more: u64) -> Result<u64, Fault>
-        ensures answer { let met = store_fault pass.old a
-            in MatchResult result (λ _. met ≡ None) (λ fault. met ≡ Some fault) }
-        ensures pass { let sizes = self.now.sizes
-            in let old = pass.old
-            in MatchResult result
-            (λ found. pass.new ≡ with_change sizes a found ((found + more) % 2 ^ 64) old)
-            (λ _. pass.new ≡ old) }
+        ensures { HasAdded (λ p. p) self.now.sizes a more pass.old pass.new result }
     {
         unlocked::fetch_add(&self.words, self.params, pass, a, more)
     }
@@ -110,17 +86,7 @@ impl<E: Epochs + Drop, F: Task, P: Promise, L: Realm> Domain<E, F, P, L> {
         old: u64,
         new: u64,
     ) -> Result<Result<u64, u64>, Fault>
-        ensures answer { let met = store_fault pass.old a
-            in MatchResult result (λ _. met ≡ None) (λ fault. met ≡ Some fault) }
-        ensures found { IfOk result (λ swap.
-            MatchResult swap (λ found. found ≡ old) (λ found. found ≢ old)) }
-        ensures pass { let sizes = self.now.sizes
-            in let was = pass.old
-            in MatchResult result
-            (λ swap. MatchResult swap
-            (λ found. pass.new ≡ with_change sizes a found new was)
-            (λ found. pass.new ≡ with_load sizes a found was))
-            (λ _. pass.new ≡ was) }
+        ensures { HasExchanged (λ p. p) self.now.sizes a old new pass.old pass.new result }
     {
         unlocked::compare_exchange(&self.words, self.params, pass, a, old, new)
     }
@@ -128,7 +94,7 @@ impl<E: Epochs + Drop, F: Task, P: Promise, L: Realm> Domain<E, F, P, L> {
     /// Loads the cells of a page into P places: a page in flight, for whoever has the job of its load. Their order
     /// among other riders' stores isn't known.
     ///
-    /// `Stranger` where the page is of another domain.
+    /// `Stranger` if the page is of another domain.
     pub fn copy_page(
         &self,
         job: PageJob,
@@ -148,7 +114,7 @@ impl<E: Epochs + Drop, F: Task, P: Promise, L: Realm> Domain<E, F, P, L> {
 
     /// Stores 0 into all cells of the page of a broom, which is swept then.
     ///
-    /// `Stranger` where the page is of another domain.
+    /// `Stranger` if the page is of another domain.
     pub fn sweep(&self, broom: &mut Broom, rider: &mut Rider<L>) -> Result<(), Fault>
         ensures answer { let stamp = self.now.stamp
             in result ≡ unless_fault (unless_stranger (broom.old.stamp == stamp) stamp) tt }

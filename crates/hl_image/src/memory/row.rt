@@ -27,9 +27,9 @@ impl Model for Row {
 }
 
 impl Row {
-    /// A row for `size` bytes, without an image.
+    /// Returns a row for `size` bytes, without an image.
     ///
-    /// Fault: `OutOfMemory` where memory is refused.
+    /// Fault: `OutOfMemory` if memory is refused.
     pub(crate) fn open(alloc: Global, size: usize) -> Result<Row, Fault>
         ensures ok { IfOk result (λ row. row ≡ record { size = size; image = None }) }
         ensures err { IfErr result (λ fault. fault ≡ Fault.OutOfMemory) }

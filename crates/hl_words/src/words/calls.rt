@@ -1,4 +1,4 @@
-//! A rider's calls under the lock where the master and the scribe lie.
+//! A rider's calls under the lock where the master and the recorder lie.
 ghost use Rattle.std.specs.Prelude.{◌≡◌, ◌+◌, ◌<◌, ◌≤◌, [], ◌∷◌, ◌++◌, length};
 ghost use Rattle.hl_history.specs.Lists.{entry, IsOf};
 ghost use Rattle.hl_words.specs.declared.view.OffsetWords.{OffsetWords as OFFSETS};
@@ -10,46 +10,49 @@ ghost use Rattle.hl_words.specs.States.{IsMasterSeat, with_call, all_called};
 use crate::master::Master;
 use crate::rider::Rider;
 use crate::rule::{CallAt, Deal, LoadBlank, Place};
-use crate::seed::{Realm, Scribe, WordSeat, WordTable};
+use crate::seed::{Realm, Recorder, WordSeat, WordTable};
 use crate::words::Words;
 use hl_model::Step;
 use std::marker::Brand;
 use std::mem;
 
 impl<L: Realm> Words<L> {
-    /// Notes a call of a rider, which puts these steps behind the scribe's list, of which so many are cut then: the rider's
-    /// newest call tells the list before them, and the steps. That list begins with what each of its earlier calls left.
-    /// Among what the riders do to cells, the call stands here, in the one order that `close` tells: it met the list where
-    /// the call before it left it, with as many steps and as many of them cut.
+    /// Notes a call of a rider, which puts these steps behind the recorder's list, of which so many are cut
+    /// then: the rider's newest call tells the list before them, and the steps. That list begins with what
+    /// each of its earlier calls left. Among what the riders do to cells, the call stands here, in the one
+    /// order that `close` tells: it met the list where the call before it left it, with as many steps and as
+    /// many of them cut.
     ///
-    /// To be made once the steps were counted by [`Master::enter`], and those of all calls before it were noted.
+    /// To be made once the steps were counted by [`Master::enter`], and those of all calls before it were
+    /// noted.
     #[inline(always)]
     pub fn enter(
         &self,
         master: &mut Master<L>,
-        scribe: &mut Scribe<L>,
+        recorder: &mut Recorder<L>,
         rider: &mut Rider<L>,
         steps: &[Step],
         cut: u64,
     )
-        requires noted { (master.old.called.steps ≡ length scribe.old) × (master.old.called.cut ≤ cut) }
-        requires counted { master.old.total ≡ length scribe.old + length steps.now }
-        ensures list { scribe.new ≡ scribe.old ++ steps.now }
-        ensures rider { rider.new ≡ with_call master.old.called.cut cut (entry scribe.old steps.now) rider.old }
+        requires noted { (master.old.called.steps ≡ length recorder.old) × (master.old.called.cut ≤ cut) }
+        requires counted { master.old.total ≡ length recorder.old + length steps.now }
+        ensures list { recorder.new ≡ recorder.old ++ steps.now }
+        ensures rider { rider.new ≡ with_call master.old.called.cut cut
+            (entry recorder.old steps.now) rider.old }
         ensures master { master.new ≡ all_called cut master.old }
-        ensures rises { IsOf scribe.old rider.old.calls }
+        ensures rises { IsOf recorder.old rider.old.calls }
     {
         let shared = &self.table.shared;
         let (_, blank) = shared.load_new_seat::<LoadBlank>(0);
         let seat = mem::replace(&mut rider.seat, blank);
         shared.join_seat::<Deal>(&mut master.seat, seat);
         rider.seat = call_at::<Brand>(&self.table, &mut master.seat, master.total, cut);
-        self.history.enter(scribe, &mut rider.diary, steps);
+        self.history.enter(recorder, &mut rider.calls, steps);
     }
 }
 
-// The master's seat, which stands for one rider, deals it out with a call that left so many steps, of which so many are
-// cut. S names both in a type, since what a seat deals out is fixed by the type of the split.
+// The master's seat, which stands for one rider, deals it out with a call that left so many steps, of which
+// so many are cut. S names both in a type, since what a seat deals out is fixed by the type of the split.
 #[inline(always)]
 fn call_at<S: Place>(table: &WordTable, seat: &mut WordSeat, steps: u64, cut: u64) -> WordSeat
     requires picked { record { steps = steps; cut = cut } ≡ S.left }

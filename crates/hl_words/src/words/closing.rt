@@ -1,20 +1,20 @@
-//! The end of the words, where all riders are back.
+//! The end of the words, once all riders are back.
 ghost use Rattle.std.specs.Prelude.{◌≡◌, ◌≢◌, ◌==◌, ◌+◌, [], ◌∷◌, map, length, IfOk, OnOk, IfErr};
 ghost use Rattle.std.specs.Option.{IfSome};
 ghost use Rattle.std.specs.List.{sum_by, AllByRecursion};
 ghost use Rattle.hl_history.specs.Lists.{IsOneList};
 ghost use Rattle.hl_words.specs.Rule.{IsRuledAt};
 ghost use Rattle.hl_words.specs.Seats.{IsKnown, knowing};
-ghost use Rattle.hl_words.specs.States.{AreTied, IsMasterSeat, with_diaries, with_no_diaries, known_to_all};
+ghost use Rattle.hl_words.specs.States.{AreTied, IsMasterSeat, with_records, with_no_records, known_to_all};
 
 use crate::last::LastWords;
 use crate::master::Master;
 use crate::past::Past;
 use crate::rider::Rider;
 use crate::rule::{Attest, Deal};
-use crate::seed::{HistoryOf, Realm, Scribe, WordSeat};
+use crate::seed::{HistoryOf, Realm, Recorder, WordSeat};
 use crate::words::Words;
-use hl_history::{Diary, Gathered};
+use hl_history::{CallRecord, Gathered};
 use std::sync::ledger::Share;
 
 impl<L: Realm> Words<L> {
@@ -41,13 +41,13 @@ impl<L: Realm> Words<L> {
         Ok(self.end(master, None, riders, None))
     }
 
-    /// Ends the words as `close` does. Besides, if no rider is missing, the scribe's list is the one list of exactly
-    /// these riders' calls, which also stand among their touches, and of each past that was kept some rider has its name
-    /// and made the touches that it tells.
-    pub fn close_with_scribe(
+    /// Ends the words as `close` does. Besides, if no rider is missing, the recorder's list is the one list of
+    /// exactly these riders' calls, which also stand among their touches, and of each past that was kept some
+    /// rider has its name and made the touches that it tells.
+    pub fn close_with_recorder(
         self,
         master: Master<L>,
-        scribe: Scribe<L>,
+        recorder: Recorder<L>,
         riders: Vec<Rider<L>>,
         pasts: Option<Vec<Past<L>>>,
     ) -> Result<
@@ -55,7 +55,7 @@ impl<L: Realm> Words<L> {
         (
             Words<L>,
             Master<L>,
-            Scribe<L>,
+            Recorder<L>,
             Vec<Rider<L>>,
             Option<Vec<Past<L>>>,
         ),
@@ -65,18 +65,18 @@ impl<L: Realm> Words<L> {
         ensures cells { IfOk result (λ last. last.cells ≡ self.cells) }
         ensures rule { IfOk result (λ last.
             IsRuledAt self.cells last.words master.offsets master.called (map (λ r. r.view) riders.items)) }
-        ensures list { OnOk result (IsOneList scribe (map (λ r. r.calls) riders.items)) }
+        ensures list { OnOk result (IsOneList recorder (map (λ r. r.calls) riders.items)) }
         ensures tied { OnOk result (AllByRecursion (λ r. AreTied r.view.touches r.calls) riders.items) }
         ensures known { OnOk result (IfSome pasts
             (λ all. AllByRecursion (IsKnown (map (λ r. r.view) riders.items)) all.items)) }
         ensures missing { IfErr result (λ _. length riders.items ≢ self.riders) }
         ensures back { IfErr result (λ back. (back.0 ≡ self) × (back.1 ≡ master)
-            × (back.2 ≡ scribe) × (back.3 ≡ riders) × (back.4 ≡ pasts)) }
+            × (back.2 ≡ recorder) × (back.3 ≡ riders) × (back.4 ≡ pasts)) }
     {
         if !self.has_all(riders.as_slice()) {
-            return Err((self, master, scribe, riders, pasts));
+            return Err((self, master, recorder, riders, pasts));
         }
-        Ok(self.end(master, Some(scribe), riders, pasts))
+        Ok(self.end(master, Some(recorder), riders, pasts))
     }
 
     // Whether these riders are as many as were dealt out.
@@ -86,19 +86,20 @@ impl<L: Realm> Words<L> {
         riders.len() == self.room.riders
     }
 
-    // Ends the words, whose riders are all there, and also the list if the scribe is there.
+    // Ends the words, whose riders are all there, and also the list if the recorder is there.
     fn end(
         self,
         master: Master<L>,
-        scribe: Option<Scribe<L>>,
+        recorder: Option<Recorder<L>>,
         riders: Vec<Rider<L>>,
         pasts: Option<Vec<Past<L>>>,
     ) -> LastWords
         requires { length riders.items ≡ self.riders }
         ensures total { master.total ≡ sum_by (λ r. r.share) riders.items }
         ensures cells { result.cells ≡ self.cells }
-        ensures rule { IsRuledAt self.cells result.words master.offsets master.called (map (λ r. r.view) riders.items) }
-        ensures list { IfSome scribe (λ list. IsOneList list (map (λ r. r.calls) riders.items)) }
+        ensures rule { IsRuledAt self.cells result.words master.offsets master.called
+            (map (λ r. r.view) riders.items) }
+        ensures list { IfSome recorder (λ list. IsOneList list (map (λ r. r.calls) riders.items)) }
         ensures known { IfSome pasts
             (λ all. AllByRecursion (IsKnown (map (λ r. r.view) riders.items)) all.items) }
         ensures tied { AllByRecursion (λ r. AreTied r.view.touches r.calls) riders.items }
@@ -112,7 +113,7 @@ impl<L: Realm> Words<L> {
         let mut ended = Ended {
             seat,
             share,
-            diaries: gathered(scribe),
+            records: gathered(recorder),
         };
         self.gather(&mut ended, riders);
         self.attest(&mut ended.seat, pasts);
@@ -126,10 +127,10 @@ impl<L: Realm> Words<L> {
         let Ended {
             seat,
             share: _,
-            diaries,
+            records,
         } = ended;
-        if let Some(diaries) = diaries {
-            history.close(diaries);
+        if let Some(records) = records {
+            history.close(records);
         }
         LastWords::of(table.close_with(seat), room.cells)
     }
@@ -146,20 +147,20 @@ impl<L: Realm> Words<L> {
         ensures parts { ended.new.share.parts ≡ ended.old.share.parts + length riders.items }
         ensures amount { ended.new.share.amount
             ≡ ended.old.share.amount + sum_by (λ r. r.share) riders.items }
-        ensures diaries { ended.new.diaries
-            ≡ with_diaries (map (λ r. r.calls) riders.items) ended.old.diaries }
+        ensures records { ended.new.records
+            ≡ with_records (map (λ r. r.calls) riders.items) ended.old.records }
         ensures tied { AllByRecursion (λ r. AreTied r.view.touches r.calls) riders.items }
     {
         while let Some(rider) = riders.pop() {
             let Rider {
                 seat,
                 share,
-                diary,
+                calls,
                 ..
             } = rider;
             self.table.shared.join_seat::<Deal>(&mut ended.seat, seat);
             ended.share.merge(share);
-            self.take_back(&mut ended.diaries, diary);
+            self.take_back(&mut ended.records, calls);
         }
     }
 
@@ -188,30 +189,34 @@ impl<L: Realm> Words<L> {
         }
     }
 
-    // Takes a rider's diary back, if the scribe is there.
-    fn take_back(&self, diaries: &mut Option<Gathered<HistoryOf<L>>>, diary: Diary<HistoryOf<L>>)
-        ensures { diaries.new ≡ with_diaries (diary ∷ []) diaries.old }
+    // Takes a rider's record of calls back, if the recorder is there.
+    fn take_back(
+        &self,
+        records: &mut Option<Gathered<HistoryOf<L>>>,
+        calls: CallRecord<HistoryOf<L>>,
+    )
+        ensures { records.new ≡ with_records (calls ∷ []) records.old }
     {
-        if let Some(gathered) = diaries {
-            self.history.take_back(gathered, diary);
+        if let Some(gathered) = records {
+            self.history.take_back(gathered, calls);
         }
     }
 }
 
-// What the riders are taken back into at the end: the master's seat and its share, and the scribe's list and diaries,
-// if the scribe is there.
+// What the riders are taken back into at the end: the master's seat and its share, and the recorder's list and
+// records, if the recorder is there.
 struct Ended<L: Realm> {
     seat: WordSeat,
     share: Share<L>,
-    diaries: Option<Gathered<HistoryOf<L>>>,
+    records: Option<Gathered<HistoryOf<L>>>,
 }
 
-// The scribe's list, with no diary yet.
-fn gathered<L: Realm>(scribe: Option<Scribe<L>>) -> Option<Gathered<HistoryOf<L>>>
-    ensures { result ≡ with_no_diaries scribe }
+// The recorder's list, with no record yet.
+fn gathered<L: Realm>(recorder: Option<Recorder<L>>) -> Option<Gathered<HistoryOf<L>>>
+    ensures { result ≡ with_no_records recorder }
 {
-    match scribe {
-        Some(scribe) => Some(scribe.gather()),
+    match recorder {
+        Some(recorder) => Some(recorder.gather()),
         None => None,
     }
 }

@@ -39,8 +39,8 @@ impl<L: Realm> Words<L> {
         }
     }
 
-    /// Tells a rider the past of another. The rider's view has it: all that the other did up to there stands before what
-    /// the rider does from now on, in the one order that `close` tells.
+    /// Tells a rider the past of another. The rider's view has it: all that the other did up to there stands
+    /// before what the rider does from now on, in the one order that `close` tells.
     pub fn tell_past(&self, rider: &mut Rider<L>, past: Past<L>)
         ensures { rider.new ≡ with_view (told past rider.old.view) rider.old }
     {

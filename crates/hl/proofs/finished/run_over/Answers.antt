@@ -1,9 +1,7 @@
-use Rattle.std.proofs.Common.{rules, arith, ◌≡◌, false, true, length, ap, sym, ◌∙◌, subst}
+use Rattle.std.proofs.Common.{rules, arith, ◌≡◌, false, true, ap, sym, ◌∙◌}
 use Rattle.hl_words.specs.States.{new_riders}
-use Rattle.hl.specs.Closings.{AreLeft}
-use Rattle.hl.specs.Openings.{opened_as}
 use Rattle.hl.proofs.OutLaws.{all_new}
-use Rattle.hl.proofs.FinishLaws.{last_new, all_there, refused_thread, finished_or}
+use Rattle.hl.proofs.FinishLaws.{last_new, threads_left, all_there, refused_thread, finished_or}
 use Rattle.hl.proofs.finished.run_over.Goals as goal
 
 -- a log with five riders has a last one
@@ -15,54 +13,26 @@ unreachable-requires g c =
 
 pub run_all-outs-requires-clause-new : goal.run_all-outs-requires-clause-new
 run_all-outs-requires-clause-new g c κs within =
-    let new : c.in-Ok.opened.1.items ≡ new_riders c.args.opening.riders = c.in-Ok.ensures.riders ∙ ap new_riders c.requires.sizes.1 in
-    (last_new c.args.opening.riders c.pop.new.self.items c.in-Some.last (sym new ∙ c.in-Some.ensures.items)).1
+    (last_new c.args.opening.riders c.pop.new.self.items c.in-Some.last (sym (c.in-Ok.ensures.riders ∙ ap new_riders c.requires.sizes.1) ∙ c.in-Some.ensures.items)).1
 
 pub run_all-outs-requires-clause-four : goal.run_all-outs-requires-clause-four
 run_all-outs-requires-clause-four g c κs within =
-    let new : c.in-Ok.opened.1.items ≡ new_riders c.args.opening.riders = c.in-Ok.ensures.riders ∙ ap new_riders c.requires.sizes.1 in
-    let count = (last_new c.args.opening.riders c.pop.new.self.items c.in-Some.last (sym new ∙ c.in-Some.ensures.items)).0 in
-    omega (arith, count, c.requires.five)
+    omega (arith, (last_new c.args.opening.riders c.pop.new.self.items c.in-Some.last (sym (c.in-Ok.ensures.riders ∙ ap new_riders c.requires.sizes.1) ∙ c.in-Some.ensures.items)).0, c.requires.five)
 
 pub returns-in-Err-all_of : goal.returns-in-Err-all_of
 returns-in-Err-all_of g c =
-    let Returns = g.P.Work.returns c.args.work.now in
-    let Took = g.P.Work.took c.args.work.now in
-    let log = c.in-Ok.opened.0 in
-    let rest = c.pop.new.self.items in
-    let device = c.run_all-outs.result.0.1 in
-    let riders = c.run_all-outs.result.1.items in
-    let new : c.in-Ok.opened.1.items ≡ new_riders c.args.opening.riders = c.in-Ok.ensures.riders ∙ ap new_riders c.requires.sizes.1 in
-    let same : log ≡ opened_as c.args.opening = search rules in
-    let left = subst (λ outs. AreLeft g.row.P-Job.Denot log Returns Took (length rest) (outs, device) riders) c.in-Ok-outs.is c.run_all-outs.ensures.left in
-    record {
-      finished = refused_thread g.row.P-Job.Denot c.args.opening log Returns Took (g.P.Work.finishes c.args.work.now) same rest c.in-Some.last (sym new ∙ c.in-Some.ensures.items) device c.run_all-outs.ensures.kind riders c.in-Ok-outs.outs c.in-Err-all_of.fault left c.in-Err-all_of.ensures;
-    }
+    let new = c.in-Ok.ensures.riders ∙ ap new_riders c.requires.sizes.1 in
+    let left = threads_left g.row.P-Job.Denot c.args.opening (g.P.Work.returns c.args.work.now) (g.P.Work.took c.args.work.now) c.run_all-outs.result.0.1 (search rules) (sym new ∙ c.in-Some.ensures.items) c.run_all-outs.ensures.kind c.run_all-outs.ensures.left in
+    record { finished = refused_thread left c.in-Ok-outs.is (g.P.Work.finishes c.args.work.now) c.in-Err-all_of.fault c.in-Err-all_of.ensures }
 
 pub finish_log-requires-clause-all : goal.finish_log-requires-clause-all
 finish_log-requires-clause-all g c κs within =
-    let Returns = g.P.Work.returns c.args.work.now in
-    let Took = g.P.Work.took c.args.work.now in
-    let log = c.in-Ok.opened.0 in
-    let rest = c.pop.new.self.items in
-    let device = c.run_all-outs.result.0.1 in
-    let riders = c.run_all-outs.result.1.items in
-    let new : c.in-Ok.opened.1.items ≡ new_riders c.args.opening.riders = c.in-Ok.ensures.riders ∙ ap new_riders c.requires.sizes.1 in
-    let same : log ≡ opened_as c.args.opening = search rules in
-    let left = subst (λ outs. AreLeft g.row.P-Job.Denot log Returns Took (length rest) (outs, device) riders) c.in-Ok-outs.is c.run_all-outs.ensures.left in
-    all_there g.row.P-Job.Denot c.args.opening log Returns Took (g.P.Work.finishes c.args.work.now) same rest c.in-Some.last (sym new ∙ c.in-Some.ensures.items) device c.run_all-outs.ensures.kind riders c.in-Ok-outs.outs left
+    let new = c.in-Ok.ensures.riders ∙ ap new_riders c.requires.sizes.1 in
+    let left = threads_left g.row.P-Job.Denot c.args.opening (g.P.Work.returns c.args.work.now) (g.P.Work.took c.args.work.now) c.run_all-outs.result.0.1 (search rules) (sym new ∙ c.in-Some.ensures.items) c.run_all-outs.ensures.kind c.run_all-outs.ensures.left in
+    all_there left c.in-Ok-outs.is
 
 pub returns : goal.returns
 returns g c =
-    let Returns = g.P.Work.returns c.args.work.now in
-    let Took = g.P.Work.took c.args.work.now in
-    let log = c.in-Ok.opened.0 in
-    let rest = c.pop.new.self.items in
-    let device = c.run_all-outs.result.0.1 in
-    let riders = c.run_all-outs.result.1.items in
-    let new : c.in-Ok.opened.1.items ≡ new_riders c.args.opening.riders = c.in-Ok.ensures.riders ∙ ap new_riders c.requires.sizes.1 in
-    let same : log ≡ opened_as c.args.opening = search rules in
-    let left = subst (λ outs. AreLeft g.row.P-Job.Denot log Returns Took (length rest) (outs, device) riders) c.in-Ok-outs.is c.run_all-outs.ensures.left in
-    record {
-      finished = finished_or g.row.P-Job.Denot c.args.opening log Returns Took (g.P.Work.finishes c.args.work.now) same rest c.in-Some.last (sym new ∙ c.in-Some.ensures.items) device c.run_all-outs.ensures.kind riders c.in-Ok-outs.outs c.in-Ok-all_of.outs c.finish_log.result left c.in-Ok-all_of.ensures c.finish_log.ensures.closed;
-    }
+    let new = c.in-Ok.ensures.riders ∙ ap new_riders c.requires.sizes.1 in
+    let left = threads_left g.row.P-Job.Denot c.args.opening (g.P.Work.returns c.args.work.now) (g.P.Work.took c.args.work.now) c.run_all-outs.result.0.1 (search rules) (sym new ∙ c.in-Some.ensures.items) c.run_all-outs.ensures.kind c.run_all-outs.ensures.left in
+    record { finished = finished_or left c.in-Ok-outs.is (g.P.Work.finishes c.args.work.now) c.in-Ok-all_of.outs c.finish_log.result c.in-Ok-all_of.ensures c.finish_log.ensures.closed }

@@ -1,4 +1,4 @@
-use Rattle.hl_image.proofs.Growing.{Grows-part, BreaksOff-part}
+use Rattle.hl_line.proofs.Growing.{Grows-part, BreaksOff-part}
 use Rattle.hl.proofs.ReportLaws.{holders-drop}
 use Rattle.hl.proofs.reports.put_holders.Goals as goal
 

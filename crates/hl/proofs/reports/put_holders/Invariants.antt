@@ -1,6 +1,6 @@
 use Rattle.std.proofs.Common.{drop}
 use Rattle.std.specs.List.{flat_map}
-use Rattle.hl_image.proofs.Growing.{Grows}
+use Rattle.hl_line.proofs.Growing.{Grows}
 use Rattle.hl.specs.Reports.{holder_text}
 use Rattle.hl.proofs.reports.put_holders.Given as goal
 

@@ -2,8 +2,7 @@ use Rattle.std.proofs.Common.{rules, arith, ◌≡◌, ◌<◌, ◌++◌, map, l
 use Rattle.std.specs.List.{AllByRecursion}
 use Rattle.std.proofs.lemmas.List.{length-map}
 use Rattle.hl_images.specs.Sweeps.{StoresSweep}
-use Rattle.hl_crew.specs.Riders.{FlushesNone, StoreSweeps}
-use Rattle.hl.specs.Crews.{riders_of}
+use Rattle.hl_crew.specs.Riders.{FlushesNone, StoreSweeps, riders_of}
 use Rattle.hl.specs.Devices.{device_has}
 use Rattle.hl.specs.Closings.{rider_at, AreReturned, CountReturned, FlushesTaken}
 use Rattle.hl.proofs.OutLaws.{crew_given, new_sweeps, new_flushes, with_crew, gathered}

@@ -3,37 +3,20 @@ use Rattle.hl_crew.proofs.TryLaws.{tries_again, tries_accepted, tries_refused, t
 use Rattle.hl_crew.proofs.ends.end_by_tries.Goals as goal
 
 pub loop-init : goal.loop-init
-loop-init g c = (refl, refl)
+loop-init g c = (refl, record { again = refl })
 
 pub loop-preserved : goal.loop-preserved
-loop-preserved g c =
-    let F = g.row.F.Denot in
-    let domain = c.args.domain.now in
-    let same = c.loop.invariant.0 in (
-      c.in-Err.ensures.refused ∙ same,
-      tries_again F domain c.args.shared.now.orders.cuts (g.X.Ends.ends c.args.what domain) _ c.in-Err.fault _ _ _ _
-          c.loop.invariant.1 (rw same at c.in-Err.ensures.met)
-          c.if-not-make_room.ensures.answer c.if-not-make_room.ensures.room,
-    )
+loop-preserved g c = (
+  c.in-Err.ensures.refused ∙ c.loop.invariant.0,
+  tries_again c.loop.invariant.1 (rw c.loop.invariant.0 at c.in-Err.ensures.met) c.if-not-make_room.ensures.answer c.if-not-make_room.ensures.room,
+)
 
-pub returns-in-Ok : goal.returns-in-Ok
-returns-in-Ok g c =
-    let F = g.row.F.Denot in
-    let domain = c.args.domain.now in
-    tries_accepted F domain c.args.shared.now.orders.cuts (g.X.Ends.ends c.args.what domain) _ _ _ _ _ (omega arith)
-    c.loop.invariant.1 (rw c.loop.invariant.0 at c.in-Ok.ensures.met)
+pub returns-in-Ok-clause-met : goal.returns-in-Ok-clause-met
+returns-in-Ok-clause-met g c = tries_accepted c.loop.invariant.1 (rw c.loop.invariant.0 at c.in-Ok.ensures.met) (omega arith)
 
-pub returns-then-not-make_room : goal.returns-then-not-make_room
-returns-then-not-make_room g c =
-    let F = g.row.F.Denot in
-    let domain = c.args.domain.now in
-    tries_refused F domain c.args.shared.now.orders.cuts (g.X.Ends.ends c.args.what domain) _ c.in-Err.fault _ _ _ _ (omega arith)
-    c.loop.invariant.1 (rw c.loop.invariant.0 at c.in-Err.ensures.met)
-    c.if-not-make_room.ensures.answer c.if-not-make_room.ensures.room
+pub returns-then-not-make_room-clause-met : goal.returns-then-not-make_room-clause-met
+returns-then-not-make_room-clause-met g c =
+    tries_refused c.loop.invariant.1 (rw c.loop.invariant.0 at c.in-Err.ensures.met) (omega arith) c.if-not-make_room.ensures.answer c.if-not-make_room.ensures.room
 
-pub returns : goal.returns
-returns g c =
-    let F = g.row.F.Denot in
-    let domain = c.args.domain.now in
-    tries_all F domain c.args.shared.now.orders.cuts (g.X.Ends.ends c.args.what domain) _ _ _ _ _ (omega arith)
-    c.loop.invariant.1 (rw c.loop.invariant.0 at c.end-2.ensures.met)
+pub returns-clause-met : goal.returns-clause-met
+returns-clause-met g c = tries_all c.loop.invariant.1 (rw c.loop.invariant.0 at c.end-2.ensures.met) (omega arith)

@@ -1,7 +1,8 @@
 use Rattle.std.proofs.Common.{arith, rules, ◌≡◌, [], ◌∷◌, ◌++◌, refl}
 use Rattle.std.proofs.lemmas.Grind.{common_steps}
 use Rattle.hl_image.specs.Lines.{hex, line_of}
-use Rattle.hl_image.proofs.Growing.{Grows-start, Grows-part, BreaksOff-part, hex-split}
+use Rattle.hl_line.proofs.Growing.{Grows-start, Grows-part, BreaksOff-part}
+use Rattle.hl_image.proofs.Digits.{hex-split}
 use Rattle.hl_image.proofs.hex.put_line.Goals as goal
 
 pub returns-in_err-put-clause-left : goal.returns-in_err-put-clause-left

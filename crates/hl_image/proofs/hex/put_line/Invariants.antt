@@ -1,6 +1,6 @@
 use Rattle.std.proofs.Common.{◌++◌, [], ◌∷◌, length}
 use Rattle.hl_image.specs.Lines.{hex, line_of}
-use Rattle.hl_image.proofs.Growing.{Grows}
+use Rattle.hl_line.proofs.Growing.{Grows}
 use Rattle.hl_image.proofs.hex.put_line.Given as goal
 
 abbrev pub invariant-loop-rest : goal.invariant-loop-rest

@@ -1,25 +1,12 @@
-use Rattle.std.proofs.Common.{◌≡◌, ◌+◌, ◌%◌, ◌^◌, ap, ◌∙◌}
-use Rattle.std.specs.Prelude.{None}
-use Rattle.hl_laws.proofs.NoFaultLaws.{unless_ok}
-use Rattle.hl_keeper.specs.Passes.{PassRecord, store_fault, with_change}
+use Rattle.std.proofs.Common.{◌+◌, ◌%◌, ◌^◌}
 use Rattle.hl_keeper.proofs.PassLaws.{change_is, store_touches}
-use Rattle.hl_keeper.specs.Parts.{pass_of}
-use Rattle.hl_keeper.proofs.exchange.fetch_add.Goals.{After-push}
 use Rattle.hl_keeper.proofs.exchange.fetch_add.Goals as goal
-
--- the store has no fault
-fine : (g : _) (c : After-push g) → store_fault (pass_of c.pass.inside.own c.pass.inside.touches c.pass.inside.rider) c.args.a ≡ None
-fine g c = ap (λ (p : PassRecord). store_fault p c.args.a) c.pass.view_is ∙ (unless_ok (store_fault c.args.pass.now c.args.a) c.in_ok-may_store.field-0 (tt {0}) c.in_ok-may_store.ensures.answer).0
 
 pub invariant_of-pass : goal.invariant_of-pass
 invariant_of-pass g c =
-    let i = c.pass.inside in
-    store_touches (pass_of i.own i.touches i.rider) i.own.view c.args.a ((c.fetch_add_cell-found.result + c.args.more) % 2 ^ 64) c.push.new.self (fine g c) c.pass.invariant.0 c.pass.invariant.1 c.push.ensures
+    store_touches _ c.args.pass.now c.pass.inside.own.view c.args.a ((c.fetch_add_cell-found.result + c.args.more) % 2 ^ 64) c.push.new.self c.in_ok-may_store.field-0 c.pass.view_is c.in_ok-may_store.ensures.answer c.pass.invariant.0 c.pass.invariant.1 c.push.ensures
 
 pub returns-clause-pass : goal.returns-clause-pass
 returns-clause-pass g c =
-    let i = c.pass.inside in
     let found = c.fetch_add_cell-found.result in
-    let sum = (found + c.args.more) % 2 ^ 64 in
-    change_is c.args.params c.args.a found sum (pass_of i.own i.touches i.rider) c.cell_of-cell.result c.fetch_add_cell-found.new.rider c.push.new.self c.cell_of-cell.ensures.value c.fetch_add_cell-found.ensures c.push.ensures
-    ∙ ap (with_change c.args.params c.args.a found sum) c.pass.view_is
+    change_is c.args.params c.args.a found ((found + c.args.more) % 2 ^ 64) _ c.args.pass.now c.cell_of-cell.result c.fetch_add_cell-found.new.rider c.push.new.self c.pass.view_is c.cell_of-cell.ensures.value c.fetch_add_cell-found.ensures c.push.ensures

@@ -1,5 +1,5 @@
 use Rattle.std.proofs.Common.{rules, ◌+◌, ◌++◌, drop, ap, ◌∙◌}
-use Rattle.hl_image.proofs.Growing.{Grows-part, BreaksOff-part}
+use Rattle.hl_line.proofs.Growing.{Grows-part, BreaksOff-part}
 use Rattle.hl_monitor.specs.Reports.{lines_of}
 use Rattle.hl_monitor.proofs.Labels.{lines_of-drop, lines_of-some, label_at}
 use Rattle.hl_monitor.proofs.lines.put_lines.Goals as goal

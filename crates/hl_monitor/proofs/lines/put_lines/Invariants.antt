@@ -1,5 +1,5 @@
 use Rattle.std.proofs.Common.{drop}
-use Rattle.hl_image.proofs.Growing.{Grows}
+use Rattle.hl_line.proofs.Growing.{Grows}
 use Rattle.hl_monitor.specs.Reports.{lines_of}
 use Rattle.hl_monitor.proofs.lines.put_lines.Given as goal
 

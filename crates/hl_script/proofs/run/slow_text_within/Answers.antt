@@ -1,31 +1,19 @@
-use Rattle.std.proofs.Common.{sym, refl}
-use Rattle.std.specs.Prelude.{true}
+use Rattle.std.proofs.Common.{refl, sym, ap}
 use Rattle.std.proofs.lemmas.Result.{err_from_is_err_and}
-use Rattle.hl_script.specs.Text.{below}
-use Rattle.hl_script.proofs.RunLaws.{stopped_bad, stopped_up_to, stopped_stream, stopped_fault}
+use Rattle.hl_script.specs.Text.{below, count_of}
 use Rattle.hl_script.proofs.run.slow_text_within.Goals as goal
 
-pub returns-in_err-ended-clause-bad_line : goal.returns-in_err-ended-clause-bad_line
-returns-in_err-ended-clause-bad_line g c =
+pub returns-in_err-ended : goal.returns-in_err-ended
+returns-in_err-ended g c =
     let p = err_from_is_err_and c.from_residual.result c.from_residual.ensures.1 in
-    rw (p.1, p.2) (λ n e. stopped_bad true (below c.args.tags) c.args.reads (g.R.Read.remaining c.args.reader.now) (g.R.Read.remaining c.run_script.new.reader) (g.W.Write.contents c.args.writer.now) (g.W.Write.contents c.run_script.new.out) c.in_err-ended.field-0.0 n (c.in_err-ended.ensures (below c.args.tags) (refl, c.requires)) cc)
+    rw (p.1, p.2) (c.in_err-ended.ensures (below c.args.tags) (refl, c.requires))
 
-pub returns-in_err-ended-clause-out_of_memory : goal.returns-in_err-ended-clause-out_of_memory
-returns-in_err-ended-clause-out_of_memory g c =
-    let p = err_from_is_err_and c.from_residual.result c.from_residual.ensures.1 in
-    rw (p.1, p.2) (λ e. stopped_up_to (below c.args.tags) c.args.reads (g.R.Read.remaining c.args.reader.now) (g.R.Read.remaining c.run_script.new.reader) (g.W.Write.contents c.args.writer.now) (g.W.Write.contents c.run_script.new.out) c.in_err-ended.field-0.0 (c.in_err-ended.ensures (below c.args.tags) (refl, c.requires)) cc)
+pub returns-in_default : goal.returns-in_default
+returns-in_default g c =
+    let r = rw c.in_default.is at (c.in_ok-ended.ensures (below c.args.tags) (refl, c.requires)) in
+    (r.0, r.1, r.2, sym (ap (count_of (below c.args.tags)) r.3))
 
-pub returns-in_err-ended-clause-stream : goal.returns-in_err-ended-clause-stream
-returns-in_err-ended-clause-stream g c =
-    let p = err_from_is_err_and c.from_residual.result c.from_residual.ensures.1 in
-    rw (p.1, p.2) (λ e. stopped_stream true (below c.args.tags) c.args.reads (g.R.Read.remaining c.args.reader.now) (g.R.Read.remaining c.run_script.new.reader) (g.W.Write.contents c.args.writer.now) (g.W.Write.contents c.run_script.new.out) c.in_err-ended.field-0.0 (c.in_err-ended.ensures (below c.args.tags) (refl, c.requires)) cc)
-
-pub returns-in_err-ended-clause-faults : goal.returns-in_err-ended-clause-faults
-returns-in_err-ended-clause-faults g c =
-    let p = err_from_is_err_and c.from_residual.result c.from_residual.ensures.1 in
-    rw (p.1, p.2) (stopped_fault true (below c.args.tags) c.args.reads (g.R.Read.remaining c.args.reader.now) (g.R.Read.remaining c.run_script.new.reader) (g.W.Write.contents c.args.writer.now) (g.W.Write.contents c.run_script.new.out) c.in_err-ended.field-0.0 (c.in_err-ended.ensures (below c.args.tags) (refl, c.requires)))
-
-pub returns-clause-ok : goal.returns-clause-ok
-returns-clause-ok g c =
+pub returns : goal.returns
+returns g c =
     let r = rw c.in-Some.is at (c.in_ok-ended.ensures (below c.args.tags) (refl, c.requires)) in
     (r.0, r.1, r.2, sym r.3.0)

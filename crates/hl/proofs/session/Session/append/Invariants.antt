@@ -1,9 +1,10 @@
 use Rattle.std.proofs.Common.{◌≡◌}
-use Rattle.hl.specs.Records.{AreInVain}
+use Rattle.hl_crew.specs.Goes.{Followed}
+use Rattle.hl.specs.Records.{PlacesNext}
 use Rattle.hl.proofs.session.Session.append.Given as goal
 
 -- as many places were in vain as there were turns
 abbrev pub invariant-loop : goal.invariant-loop
 invariant-loop g l =
     (l.self.log ≡ l.fn.self.log)
-    × AreInVain g.row.F.Denot l.fn.self.log l.words l.counter l.fn.self.pass l.self.pass
+    × Followed (PlacesNext g.row.F.Denot l.fn.self.log l.words) l.counter l.fn.self.pass l.self.pass

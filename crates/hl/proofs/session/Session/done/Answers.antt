@@ -1,15 +1,9 @@
-use Rattle.std.proofs.Common.{ap, ◌∙◌}
-use Rattle.hl.specs.Sessions.{SessionState}
+use Rattle.std.proofs.Common.{Err, ap, ◌∙◌}
+use Rattle.std.proofs.lemmas.Result.{err_from_is_err_and}
 use Rattle.hl.proofs.session.Session.done.Goals as goal
-use Rattle.hl.proofs.session.Session.done.Goals.{in-Ok, in-Err}
 
--- the log of the session is that of the call, and so is its rider
-pub returns-clause-met : goal.returns-clause-met
-returns-clause-met g c =
-    let log = ap (λ (s : SessionState). s.log) c.self.view_is in
-    let rider = c.rider_mut.ensures.value ∙ ap (λ (s : SessionState). s.pass.rider) c.self.view_is in
-    let met = rw (log, rider) at c.done.ensures.met in
-    elim c.match-done.branch [
-      | in-Ok w ↦ rw w.result-is (rw w.in-Ok.is at met)
-      | in-Err w ↦ rw w.result-is (rw w.in-Err.is at met)
-    ]
+-- a refusal has the fault, and what was run
+pub returns-in_err-done-clause-met : goal.returns-in_err-done-clause-met
+returns-in_err-done-clause-met g c =
+    let q = err_from_is_err_and c.from_residual.result c.from_residual.ensures.1 in
+    rw (q.1 ∙ ap (λ f. Err f) q.2, ← c.self.view_is, ← c.rider_mut.ensures.value) c.in_err-done.ensures.met

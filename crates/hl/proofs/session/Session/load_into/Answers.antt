@@ -1,28 +1,11 @@
-use Rattle.std.proofs.Common.{◌≡◌, ◌-◌, ◌<◌, ◌≤◌, length, take, Some, Err, sym, ap, subst, ◌∙◌}
+use Rattle.std.proofs.Common.{◌≡◌, ◌-◌, ◌<◌, ◌≤◌, length, take, Some, sym, ap, subst, ◌∙◌}
 use Rattle.std.specs.Prelude.{None}
 use Rattle.std.proofs.lemmas.List.{length-set}
-use Rattle.hl_model.specs.declared.fault.Fault.TheVariants.{Beyond, Evicted}
 use Rattle.hl_model.specs.declared.view.View.{View}
-use Rattle.hl_model.specs.Replies.{unless_fault}
 use Rattle.hl_keeper.specs.Passes.{seen}
 use Rattle.hl.specs.Sessions.{SessionState}
-use Rattle.hl.proofs.RecordLaws.{row_evicted, row_beyond, row_free, load_free, loads_see, session_next}
+use Rattle.hl.proofs.RecordLaws.{load_free, loads_see, session_next}
 use Rattle.hl.proofs.session.Session.load_into.Goals as goal
-
-pub returns-then-address-view-clause-answer : goal.returns-then-address-view-clause-answer
-returns-then-address-view-clause-answer g c =
-    let p = c.args.self.now.pass in
-    let low = subst (λ (v : View). c.args.address < v.head) c.view-view.ensures c.if-address-view.true in
-    ap (λ (v : View). Err (Evicted v.head)) c.view-view.ensures ∙ sym (ap (λ o. unless_fault o tt) (row_evicted p c.args.address (length c.args.words.now) low))
-
-pub returns-then-saturating_sub-words-clause-answer : goal.returns-then-saturating_sub-words-clause-answer
-returns-then-saturating_sub-words-clause-answer g c =
-    let p = c.args.self.now.pass in
-    let a = c.args.address in
-    let n = length c.args.words.now in
-    let head = subst (λ (v : View). v.head ≤ a) c.view-view.ensures c.if-address-view.false in
-    let few = subst (λ (v : View). v.tail - a < n) c.view-view.ensures (subst (λ x. x < n) c.saturating_sub.ensures c.if-saturating_sub-words.true) in
-    ap (λ (v : View). Err (Beyond v.tail)) c.view-view.ensures ∙ sym (ap (λ o. unless_fault o tt) (row_beyond p a n head few))
 
 pub unreachable-requires : goal.unreachable-requires
 unreachable-requires g c =
@@ -41,12 +24,3 @@ loop-k-preserved g c =
       session_next c.args.self.now c.loop-k.self c.load.new.self c.args.address c.loop-k.k c.in-Ok.word c.loop-k.words within c.loop-k.invariant.0 c.in-Ok.ensures.pass,
       length-set c.loop-k.words c.loop-k.k c.in-Ok.word ∙ c.loop-k.auto.words,
     )
-
-pub returns-clause-answer : goal.returns-clause-answer
-returns-clause-answer g c =
-    let p = c.args.self.now.pass in
-    let a = c.args.address in
-    let n = length c.args.words.now in
-    let head = subst (λ (v : View). v.head ≤ a) c.view-view.ensures c.if-address-view.false in
-    let many = subst (λ (v : View). n ≤ v.tail - a) c.view-view.ensures (subst (λ x. n ≤ x) c.saturating_sub.ensures c.if-saturating_sub-words.false) in
-    sym (ap (λ o. unless_fault o tt) (row_free p a n head many))

@@ -15,9 +15,8 @@ loop-preserved g c =
         suc before.4.0,
         (
           c.loop.self.pass,
-          c.in-Ok.field-0,
           before.4.1,
-          round_made g.row.F.Denot c.args.self.now.log g.F.Task.gives g.P.Promise.keeps c.args.ticket c.safe-safe.result c.loop.self c.safe-safe.new.self c.help_or_nap.new.self _ before.2 c.if-ticket-safe.false c.safe-safe.ensures.met kept c.in-Ok.ensures.helped,
+          (c.in-Ok.field-0, round_made g.row.F.Denot c.args.self.now.log g.F.Task.gives g.P.Promise.keeps c.args.ticket c.loop.self c.safe-safe.new.self c.help_or_nap.new.self _ before.2 c.safe-safe.ensures.kept c.in-Ok.ensures.helped c.safe-safe.result c.if-ticket-safe.false c.safe-safe.ensures.met),
         ),
       ),
     )
@@ -29,5 +28,5 @@ returns-in-Err-clause-waits g c =
       rounds = before.4.0;
       last = c.loop.self.pass;
       before = before.4.1;
-      ended = round_made g.row.F.Denot c.args.self.now.log g.F.Task.gives g.P.Promise.keeps c.args.ticket c.safe-safe.result c.loop.self c.safe-safe.new.self c.help_or_nap.new.self _ before.2 c.if-ticket-safe.false c.safe-safe.ensures.met c.safe-safe.ensures.kept c.in-Err.ensures.helped;
+      ended = round_made g.row.F.Denot c.args.self.now.log g.F.Task.gives g.P.Promise.keeps c.args.ticket c.loop.self c.safe-safe.new.self c.help_or_nap.new.self _ before.2 c.safe-safe.ensures.kept c.in-Err.ensures.helped c.safe-safe.result c.if-ticket-safe.false c.safe-safe.ensures.met;
     }

@@ -6,7 +6,7 @@ use Rattle.hl_model.specs.declared.step.Reply.TheVariants.{Written, Value}
 use Rattle.hl_model.specs.declared.step.Step.{Step}
 use Rattle.hl_model.specs.declared.step.Step.TheVariants.{Bump, Settle, Close, Take, Done, Write, Read, CleanDone}
 use Rattle.hl_action.specs.Firings.{FiringRecord}
-use Rattle.hl_core.specs.Steps.{told, is_acted}
+use Rattle.hl_core.specs.Steps.{as_reply, is_acted}
 use Rattle.hl_cells.specs.Engines.{Whole}
 use Rattle.hl_cells.specs.EngineSteps.{is_job_bump}
 use Rattle.hl_cells.specs.Jobs.{JobsStay, JobsKept, RunsItsJob}
@@ -58,10 +58,10 @@ returns-in_default-clause-ran g c A st = quiet_runs _ _ A _ _ (left g c).0
 
 pub returns-in-Write-clause-moved : goal.returns-in-Write-clause-moved
 returns-in-Write-clause-moved g c =
-    let reply : c.map-in-Write.result ≡ told (λ _. Written) c.write.result = search rules in
+    let reply : c.map-in-Write.result ≡ as_reply (λ _. Written) c.write.result = search rules in
     rw (reply, c.in-Write.is) (λ A st. moved_by_write g.P.Promise.keeps c.args.self.now c.write.new.self A c.in-Write.t c.in-Write.a c.in-Write.v c.write.result (c.write.ensures.result A st) c.write.ensures.sizes (c.write.ensures.standing A st))
 
 pub returns-in-Read-clause-moved : goal.returns-in-Read-clause-moved
 returns-in-Read-clause-moved g c =
-    let reply : c.map-in-Read.result ≡ told Value c.read.result = search rules in
+    let reply : c.map-in-Read.result ≡ as_reply Value c.read.result = search rules in
     rw (reply, c.in-Read.is) (λ A st. moved_by_read g.P.Promise.keeps c.args.self.now A c.in-Read.t c.in-Read.a c.read.result st (c.read.ensures.value A st))

@@ -4,11 +4,11 @@ use Rattle.hl_model.specs.declared.fault.Fault.{Fault}
 use Rattle.hl_model.specs.declared.step.Reply.{Reply}
 use Rattle.hl_model.specs.declared.step.Reply.TheVariants.{Bumped, Raised, Shifted, At, Looked, Written, Page, Flushed, Freed}
 use Rattle.hl_model.specs.declared.step.Step.TheVariants.{Write}
-use Rattle.hl_core.specs.Steps.{Made, told, entered_reply}
+use Rattle.hl_core.specs.Steps.{Made, as_reply, entered_reply}
 use Rattle.hl_core.proofs.state.Core.act.Goals as goal
 
 -- a call's answer as a reply
-told_as : {X : Type 0} (reply : X → Reply) (result : Result X Fault) (mapped : Result Reply Fault) → MatchResult result (λ x. IsOkAnd mapped (λ r. r ≡ reply x)) (λ f. mapped ≡ Err f) → mapped ≡ told reply result
+told_as : {X : Type 0} (reply : X → Reply) (result : Result X Fault) (mapped : Result Reply Fault) → MatchResult result (λ x. IsOkAnd mapped (λ r. r ≡ reply x)) (λ f. mapped ≡ Err f) → mapped ≡ as_reply reply result
 told_as reply (Ok x) (Ok r) h = cc
 told_as reply (Ok x) (Err f) h = absurd h
 told_as reply (Err f) mapped h = h
@@ -48,5 +48,5 @@ returns-in-CleanDone-clause-made g c = rw (told_as Freed c.clean_done.result c.m
 
 pub returns-in-Write-clause-made : goal.returns-in-Write-clause-made
 returns-in-Write-clause-made g c =
-    let made : Made g.J.Tagged.tag c.args.self.now (Write c.in-Write.t c.in-Write.a c.in-Write.v) c.args.self.now (told (λ _. Written) c.may_write.result) = c.may_write.ensures.made c.in-Write.v in
+    let made : Made g.J.Tagged.tag c.args.self.now (Write c.in-Write.t c.in-Write.a c.in-Write.v) c.args.self.now (as_reply (λ _. Written) c.may_write.result) = c.may_write.ensures.made c.in-Write.v in
     search rules

@@ -17,11 +17,11 @@ returns-in_err-address-clause-made g c =
 
 pub enter-requires-clause-next : goal.enter-requires-clause-next
 enter-requires-clause-next g c =
-    enter_next g.J.Tagged.tag _ c.args.n c.in_ok-address.address c.page_size.result c.self.invariant.standing c.in_ok-address.ensures.answer c.page_size.ensures.value (entered_as g.J.Tagged.tag _ _ _ _ c.if-not-is_entered_at.true (entered_at g.J.Tagged.tag _ c.in_ok-address.address c.page_size.result _ c.page_size.ensures.value (rw (sym c.self.view_is) at c.is_entered_at.ensures)))
+    enter_next g.J.Tagged.tag _ c.args.n c.in_ok-address.address c.page_size.result c.self.invariant c.in_ok-address.ensures.answer c.page_size.ensures.value (entered_as g.J.Tagged.tag _ _ _ _ c.if-not-is_entered_at.true (entered_at g.J.Tagged.tag _ c.in_ok-address.address c.page_size.result _ c.page_size.ensures.value (rw (sym c.self.view_is) at c.is_entered_at.ensures)))
 
 pub enter-requires-clause-within_space : goal.enter-requires-clause-within_space
 enter-requires-clause-within_space g c =
-    enter_fits g.J.Tagged.tag _ c.args.n c.in_ok-address.address c.page_size.result c.self.invariant.standing c.in_ok-address.ensures.answer c.page_size.ensures.value
+    enter_fits g.J.Tagged.tag _ c.args.n c.in_ok-address.address c.page_size.result c.self.invariant c.in_ok-address.ensures.answer c.page_size.ensures.value
 
 pub returns-in_err-enter-clause-made : goal.returns-in_err-enter-clause-made
 returns-in_err-enter-clause-made g c =
@@ -36,43 +36,37 @@ allocate_at-requires g c =
       | else-not-is_entered_at w ↦ rw w.self-inside-is c.in_ok-address.ensures.answer
     ]
 
-pub index_mut-requires : goal.index_mut-requires
-index_mut-requires g c =
+pub set-requires : goal.set-requires
+set-requires g c =
     elim c.if-not-is_entered_at.branch [
-      | then-not-is_entered_at+in_ok-enter w ↦ rw w.self-inside-is (omega (arith, seen_fits g.J.Tagged.tag _ c.args.t c.in_ok-seen.seen c.self.invariant.standing (rw (sym c.self.view_is) at c.in_ok-seen.ensures), c.self.inside.views.ok))
-      | else-not-is_entered_at w ↦ rw w.self-inside-is (omega (arith, seen_fits g.J.Tagged.tag _ c.args.t c.in_ok-seen.seen c.self.invariant.standing (rw (sym c.self.view_is) at c.in_ok-seen.ensures), c.self.inside.views.ok))
+      | then-not-is_entered_at+in_ok-enter w ↦ rw w.self-inside-is (seen_fits g.J.Tagged.tag _ c.args.t c.in_ok-seen.seen c.self.invariant (rw (sym c.self.view_is) at c.in_ok-seen.ensures))
+      | else-not-is_entered_at w ↦ rw w.self-inside-is (seen_fits g.J.Tagged.tag _ c.args.t c.in_ok-seen.seen c.self.invariant (rw (sym c.self.view_is) at c.in_ok-seen.ensures))
     ]
 
 pub invariant_of-self-2 : goal.invariant_of-self-2
 invariant_of-self-2 g c =
     elim c.if-not-is_entered_at.branch [
       | then-not-is_entered_at+in_ok-enter w ↦
-          rw w.self-inside-is
-          (record {
-            standing = still_stands g.J.Tagged.tag _ _ _ _ c.self.invariant.standing
-                (allocate_ok g.J.Tagged.tag _ c.args.t c.args.n c.in_ok-address.address c.tail-tail.result c.in_ok-seen.seen c.allocate_at.new.self w.enter.new.self.pages (rw (sym c.self.view_is) at c.in_ok-seen.ensures) c.in_ok-address.ensures.answer (rw w.self-inside-is at c.allocate_at.ensures.effect) c.tail-tail.ensures.value
-                (entered_now g.J.Tagged.tag _ c.args.t c.args.n c.in_ok-address.address c.page_size.result w.enter.new.self.pages c.in_ok-address.ensures.answer c.page_size.ensures.value (entered_as g.J.Tagged.tag _ _ _ _ w.if-not-is_entered_at.true (entered_at g.J.Tagged.tag _ c.in_ok-address.address c.page_size.result _ c.page_size.ensures.value (rw (sym c.self.view_is) at c.is_entered_at.ensures))) w.in_ok-enter.ensures.answer w.in_ok-enter.ensures.pages));
-            exact = search rules;
-          })
+          rw (c.set.ensures, w.self-inside-is)
+          (still_stands g.J.Tagged.tag _ _ _ _ c.self.invariant
+          (allocate_ok g.J.Tagged.tag _ c.args.t c.args.n c.in_ok-address.address c.tail-tail.result c.in_ok-seen.seen c.allocate_at.new.self w.enter.new.self.pages (rw (sym c.self.view_is) at c.in_ok-seen.ensures) c.in_ok-address.ensures.answer (rw w.self-inside-is at c.allocate_at.ensures.effect) c.tail-tail.ensures.value
+          (entered_now g.J.Tagged.tag _ c.args.t c.args.n c.in_ok-address.address c.page_size.result w.enter.new.self.pages c.in_ok-address.ensures.answer c.page_size.ensures.value (entered_as g.J.Tagged.tag _ _ _ _ w.if-not-is_entered_at.true (entered_at g.J.Tagged.tag _ c.in_ok-address.address c.page_size.result _ c.page_size.ensures.value (rw (sym c.self.view_is) at c.is_entered_at.ensures))) w.in_ok-enter.ensures.answer w.in_ok-enter.ensures.pages)))
       | else-not-is_entered_at w ↦
-          rw w.self-inside-is
-          (record {
-            standing = still_stands g.J.Tagged.tag _ _ _ _ c.self.invariant.standing
-                (allocate_ok g.J.Tagged.tag _ c.args.t c.args.n c.in_ok-address.address c.tail-tail.result c.in_ok-seen.seen c.allocate_at.new.self _ (rw (sym c.self.view_is) at c.in_ok-seen.ensures) c.in_ok-address.ensures.answer (rw w.self-inside-is at c.allocate_at.ensures.effect) c.tail-tail.ensures.value
-                (entered_before g.J.Tagged.tag _ c.args.t c.args.n c.in_ok-address.address c.page_size.result c.in_ok-address.ensures.answer c.page_size.ensures.value (entered_as g.J.Tagged.tag _ _ _ _ w.if-not-is_entered_at.false (entered_at g.J.Tagged.tag _ c.in_ok-address.address c.page_size.result _ c.page_size.ensures.value (rw (sym c.self.view_is) at c.is_entered_at.ensures)))));
-            exact = search rules;
-          })
+          rw (c.set.ensures, w.self-inside-is)
+          (still_stands g.J.Tagged.tag _ _ _ _ c.self.invariant
+          (allocate_ok g.J.Tagged.tag _ c.args.t c.args.n c.in_ok-address.address c.tail-tail.result c.in_ok-seen.seen c.allocate_at.new.self _ (rw (sym c.self.view_is) at c.in_ok-seen.ensures) c.in_ok-address.ensures.answer (rw w.self-inside-is at c.allocate_at.ensures.effect) c.tail-tail.ensures.value
+          (entered_before g.J.Tagged.tag _ c.args.t c.args.n c.in_ok-address.address c.page_size.result c.in_ok-address.ensures.answer c.page_size.ensures.value (entered_as g.J.Tagged.tag _ _ _ _ w.if-not-is_entered_at.false (entered_at g.J.Tagged.tag _ c.in_ok-address.address c.page_size.result _ c.page_size.ensures.value (rw (sym c.self.view_is) at c.is_entered_at.ensures))))))
     ]
 
 pub returns-clause-made : goal.returns-clause-made
 returns-clause-made g c =
     elim c.if-not-is_entered_at.branch [
       | then-not-is_entered_at+in_ok-enter w ↦
-          rw (w.self-inside-is, sym c.self.view_is)
+          rw (c.set.ensures, w.self-inside-is, sym c.self.view_is)
           (allocate_ok g.J.Tagged.tag _ c.args.t c.args.n c.in_ok-address.address c.tail-tail.result c.in_ok-seen.seen c.allocate_at.new.self w.enter.new.self.pages (rw (sym c.self.view_is) at c.in_ok-seen.ensures) c.in_ok-address.ensures.answer (rw w.self-inside-is at c.allocate_at.ensures.effect) c.tail-tail.ensures.value
           (entered_now g.J.Tagged.tag _ c.args.t c.args.n c.in_ok-address.address c.page_size.result w.enter.new.self.pages c.in_ok-address.ensures.answer c.page_size.ensures.value (entered_as g.J.Tagged.tag _ _ _ _ w.if-not-is_entered_at.true (entered_at g.J.Tagged.tag _ c.in_ok-address.address c.page_size.result _ c.page_size.ensures.value (rw (sym c.self.view_is) at c.is_entered_at.ensures))) w.in_ok-enter.ensures.answer w.in_ok-enter.ensures.pages))
       | else-not-is_entered_at w ↦
-          rw (w.self-inside-is, sym c.self.view_is)
+          rw (c.set.ensures, w.self-inside-is, sym c.self.view_is)
           (allocate_ok g.J.Tagged.tag _ c.args.t c.args.n c.in_ok-address.address c.tail-tail.result c.in_ok-seen.seen c.allocate_at.new.self _ (rw (sym c.self.view_is) at c.in_ok-seen.ensures) c.in_ok-address.ensures.answer (rw w.self-inside-is at c.allocate_at.ensures.effect) c.tail-tail.ensures.value
           (entered_before g.J.Tagged.tag _ c.args.t c.args.n c.in_ok-address.address c.page_size.result c.in_ok-address.ensures.answer c.page_size.ensures.value (entered_as g.J.Tagged.tag _ _ _ _ w.if-not-is_entered_at.false (entered_at g.J.Tagged.tag _ c.in_ok-address.address c.page_size.result _ c.page_size.ensures.value (rw (sym c.self.view_is) at c.is_entered_at.ensures)))))
     ]

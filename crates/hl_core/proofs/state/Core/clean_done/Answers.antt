@@ -10,10 +10,7 @@ returns-in_err-clean_done-clause-made g c =
     rw (p.1, p.2, sym c.self.view_is) (clean_done_err g.J.Tagged.tag _ c.args.page c.in_err-clean_done.field-0.0 c.clean_done.new.self.pages c.in_err-clean_done.ensures.answer c.in_err-clean_done.ensures.pages)
 
 pub invariant_of-self-2 : goal.invariant_of-self-2
-invariant_of-self-2 g c = record {
-  standing = still_stands g.J.Tagged.tag _ _ _ _ c.self.invariant.standing (clean_done_ok g.J.Tagged.tag _ c.args.page c.clean_done.new.self.pages c.in_ok-clean_done.ensures.answer c.in_ok-clean_done.ensures.pages);
-  exact = c.self.invariant.exact;
-}
+invariant_of-self-2 g c = still_stands g.J.Tagged.tag _ _ _ _ c.self.invariant (clean_done_ok g.J.Tagged.tag _ c.args.page c.clean_done.new.self.pages c.in_ok-clean_done.ensures.answer c.in_ok-clean_done.ensures.pages)
 
 pub returns-clause-made : goal.returns-clause-made
 returns-clause-made g c =

@@ -10,14 +10,11 @@ returns-in_err-seen-clause-made g c =
     let p = err_from_is_err_and c.from_residual.result c.from_residual.ensures.1 in
     rw (p.1, p.2) (refused_by g.J.Tagged.tag _ _ c.in_err-seen.field-0.0 (view_of c.args.self.now.sizes c.args.t) c.in_err-seen.ensures)
 
-pub index_mut-requires : goal.index_mut-requires
-index_mut-requires g c = omega (arith, look_fits g.J.Tagged.tag _ c.args.t c.args.read_only c.args.head c.in_ok-seen.seen c.self.invariant.standing (rw (sym c.self.view_is) at c.in_ok-seen.ensures), c.self.inside.views.ok)
+pub set-requires : goal.set-requires
+set-requires g c = look_fits g.J.Tagged.tag _ c.args.t c.args.read_only c.args.head c.in_ok-seen.seen c.self.invariant (rw (sym c.self.view_is) at c.in_ok-seen.ensures)
 
 pub invariant_of-self : goal.invariant_of-self
-invariant_of-self g c = record {
-  standing = still_stands g.J.Tagged.tag _ _ _ _ c.self.invariant.standing (look_ok g.J.Tagged.tag _ c.args.t c.args.read_only c.args.head c.in_ok-seen.seen (rw (sym c.self.view_is) at c.in_ok-seen.ensures));
-  exact = search rules;
-}
+invariant_of-self g c = rw c.set.ensures (still_stands g.J.Tagged.tag _ _ _ _ c.self.invariant (look_ok g.J.Tagged.tag _ c.args.t c.args.read_only c.args.head c.in_ok-seen.seen (rw (sym c.self.view_is) at c.in_ok-seen.ensures)))
 
 pub returns-clause-made : goal.returns-clause-made
-returns-clause-made g c = rw (sym c.self.view_is) (look_ok g.J.Tagged.tag _ c.args.t c.args.read_only c.args.head c.in_ok-seen.seen (rw (sym c.self.view_is) at c.in_ok-seen.ensures))
+returns-clause-made g c = rw (c.set.ensures, sym c.self.view_is) (look_ok g.J.Tagged.tag _ c.args.t c.args.read_only c.args.head c.in_ok-seen.seen (rw (sym c.self.view_is) at c.in_ok-seen.ensures))

@@ -11,10 +11,7 @@ returns-in_err-raise-clause-made g c =
     rw (p.1, p.2, sym c.self.view_is) (raise_err g.J.Tagged.tag _ c.args.x c.in_err-raise.field-0.0 c.raise.new.self c.in_err-raise.ensures.answer c.in_err-raise.ensures.effect)
 
 pub invariant_of-self-2 : goal.invariant_of-self-2
-invariant_of-self-2 g c = record {
-  standing = still_stands g.J.Tagged.tag _ _ _ _ c.self.invariant.standing (raise_ok g.J.Tagged.tag _ c.args.x c.raise.new.self c.in_ok-raise.ensures.answer c.in_ok-raise.ensures.effect);
-  exact = c.self.invariant.exact;
-}
+invariant_of-self-2 g c = still_stands g.J.Tagged.tag _ _ _ _ c.self.invariant (raise_ok g.J.Tagged.tag _ c.args.x c.raise.new.self c.in_ok-raise.ensures.answer c.in_ok-raise.ensures.effect)
 
 pub returns-clause-made : goal.returns-clause-made
 returns-clause-made g c = rw (sym c.self.view_is) (raise_ok g.J.Tagged.tag _ c.args.x c.raise.new.self c.in_ok-raise.ensures.answer c.in_ok-raise.ensures.effect)

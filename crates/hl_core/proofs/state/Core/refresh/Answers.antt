@@ -8,15 +8,12 @@ returns-in_err-refresh-clause-made g c =
     let p = err_from_is_err_and c.from_residual.result c.from_residual.ensures.1 in
     rw (p.1, p.2, sym c.self.view_is) (refresh_err g.J.Tagged.tag _ c.args.t c.in_err-refresh.field-0.0 (g.E.Epochs.table c.refresh.new.self) c.in_err-refresh.ensures.answer c.in_err-refresh.ensures.effect)
 
-pub index_mut-requires : goal.index_mut-requires
-index_mut-requires g c = omega (arith, protected_fits g.J.Tagged.tag _ c.args.t c.self.invariant.standing c.in_ok-refresh.ensures.answer, c.self.inside.views.ok)
+pub set-requires : goal.set-requires
+set-requires g c = protected_fits g.J.Tagged.tag _ c.args.t c.self.invariant c.in_ok-refresh.ensures.answer
 
 pub invariant_of-self-2 : goal.invariant_of-self-2
-invariant_of-self-2 g c = record {
-  standing = still_stands g.J.Tagged.tag _ _ _ _ c.self.invariant.standing (refresh_ok g.J.Tagged.tag _ c.args.t (g.E.Epochs.table c.refresh.new.self) c.current-epoch.result c.present-view.result c.in_ok-refresh.ensures.answer c.in_ok-refresh.ensures.effect c.current-epoch.ensures.value (rw (sym c.self.view_is) at c.present-view.ensures));
-  exact = search rules;
-}
+invariant_of-self-2 g c = rw c.set.ensures (still_stands g.J.Tagged.tag _ _ _ _ c.self.invariant (refresh_ok g.J.Tagged.tag _ c.args.t (g.E.Epochs.table c.refresh.new.self) c.current-epoch.result c.present-view.result c.in_ok-refresh.ensures.answer c.in_ok-refresh.ensures.effect c.current-epoch.ensures.value (rw (sym c.self.view_is) at c.present-view.ensures)))
 
 pub returns-clause-made : goal.returns-clause-made
 returns-clause-made g c =
-    rw (sym c.self.view_is) (refresh_ok g.J.Tagged.tag _ c.args.t (g.E.Epochs.table c.refresh.new.self) c.current-epoch.result c.present-view.result c.in_ok-refresh.ensures.answer c.in_ok-refresh.ensures.effect c.current-epoch.ensures.value (rw (sym c.self.view_is) at c.present-view.ensures))
+    rw (c.set.ensures, sym c.self.view_is) (refresh_ok g.J.Tagged.tag _ c.args.t (g.E.Epochs.table c.refresh.new.self) c.current-epoch.result c.present-view.result c.in_ok-refresh.ensures.answer c.in_ok-refresh.ensures.effect c.current-epoch.ensures.value (rw (sym c.self.view_is) at c.present-view.ensures))

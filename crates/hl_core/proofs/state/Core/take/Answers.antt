@@ -10,10 +10,7 @@ returns-in_err-ticket-clause-made g c =
     rw (p.1, p.2, sym c.self.view_is) (take_err g.J.Tagged.tag _ c.safe-safe.result c.in_err-ticket.field-0.0 c.take.new.self c.safe-safe.ensures.value c.in_err-ticket.ensures.answer c.in_err-ticket.ensures.refused)
 
 pub invariant_of-self-2 : goal.invariant_of-self-2
-invariant_of-self-2 g c = record {
-  standing = still_stands g.J.Tagged.tag _ _ _ _ c.self.invariant.standing (take_ok g.J.Tagged.tag _ c.safe-safe.result (c.in_ok-ticket.ticket, c.in_ok-ticket.action) c.take.new.self c.safe-safe.ensures.value c.in_ok-ticket.ensures.answer c.in_ok-ticket.ensures.lists c.take.ensures.valid);
-  exact = c.self.invariant.exact;
-}
+invariant_of-self-2 g c = still_stands g.J.Tagged.tag _ _ _ _ c.self.invariant (take_ok g.J.Tagged.tag _ c.safe-safe.result (c.in_ok-ticket.ticket, c.in_ok-ticket.action) c.take.new.self c.safe-safe.ensures.value c.in_ok-ticket.ensures.answer c.in_ok-ticket.ensures.lists c.take.ensures.valid)
 
 pub returns-clause-made : goal.returns-clause-made
 returns-clause-made g c =

@@ -1,9 +1,9 @@
-use Rattle.std.proofs.Common.{◌+◌, ◌∙◌, refl, sym, ap, Some}
-use Rattle.std.specs.Prelude.{None, slice_set}
+use Rattle.std.proofs.Common.{◌+◌, ◌∙◌, sym, ap}
+use Rattle.std.specs.Prelude.{None}
 use Rattle.std.proofs.lemmas.List.Quantifiers.{position-Some}
 use Rattle.hl_crew.specs.Pouches.{load_count, is_of}
 use Rattle.hl_crew.proofs.PouchLaws.{told_at, put_back, not_free, taken_out}
-use Rattle.hl_crew.proofs.WaitLaws.{waits_one, waits_same}
+use Rattle.hl_crew.proofs.Steps.{waits_one}
 use Rattle.hl_crew.proofs.pouch.Pouch.answer.Goals as goal
 
 pub unreachable-requires : goal.unreachable-requires
@@ -17,14 +17,9 @@ returns-in-Ok-clause-held g c = λ other.
 
 pub returns-in-Err-clause-held : goal.returns-in-Err-clause-held
 returns-in-Err-clause-held g c = λ other.
-    let old = c.args.self.now in
-    let at = c.in-Some.at in
-    let job = c.in-Some-take.load in
-    let put = ap (λ job. slice_set c.take.new.self at (Some job)) c.in-Err.ensures.refused in
-    let taken = ap (λ places. slice_set places at (Some job)) c.in-Some-take.ensures.after in
-    let back = put_back old at job c.in-Some-take.ensures.value in
-    told_at _ _ _ _ _ _ at other job old _ _ (sym c.in-Some.ensures.place) c.in-Some-take.ensures.value
-    c.in-Err.ensures.met (c.set.ensures ∙ put ∙ taken ∙ back)
+    told_at _ _ _ _ _ _ c.in-Some.at other c.in-Some-take.load c.args.self.now _ _ (sym c.in-Some.ensures.place)
+    c.in-Some-take.ensures.value c.in-Err.ensures.met
+    (put_back _ _ _ _ _ _ c.in-Some-take.ensures.value c.in-Some-take.ensures.after c.in-Err.ensures.refused c.set.ensures)
 
 pub returns-in-Ok-clause-fewer : goal.returns-in-Ok-clause-fewer
 returns-in-Ok-clause-fewer g c =
@@ -35,14 +30,7 @@ returns-in-Ok-clause-fewer g c =
 
 pub returns-in-Err-clause-refused : goal.returns-in-Err-clause-refused
 returns-in-Err-clause-refused g c =
-    let at = c.in-Some.at in
-    let job = c.in-Some-take.load in
-    let put = ap (λ job. slice_set c.take.new.self at (Some job)) c.in-Err.ensures.refused in
-    let taken = ap (λ places. slice_set places at (Some job)) c.in-Some-take.ensures.after in
-    c.set.ensures ∙ put ∙ taken ∙ put_back c.args.self.now at job c.in-Some-take.ensures.value
-
-pub returns-in_default-clause-waits : goal.returns-in_default-clause-waits
-returns-in_default-clause-waits g c = waits_same refl
+    put_back _ _ _ _ _ _ c.in-Some-take.ensures.value c.in-Some-take.ensures.after c.in-Err.ensures.refused c.set.ensures
 
 pub returns-in-Err-clause-waits : goal.returns-in-Err-clause-waits
 returns-in-Err-clause-waits g c = waits_one c.in-Err.ensures.met

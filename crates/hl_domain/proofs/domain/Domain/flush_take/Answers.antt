@@ -1,26 +1,14 @@
-use Rattle.std.proofs.Common.{[], ◌∷◌}
 use Rattle.hl_model.specs.declared.step.Step.TheVariants.{FlushTake}
-use Rattle.hl_domain.specs.Domains.{call_of}
-use Rattle.hl_domain.proofs.DomainLaws.{grew, met_held, by_one, may_note, stands_at, noted_at, call_left}
+use Rattle.hl_domain.proofs.DomainLaws.{may_note, met_held, noted_behind, one_step, rider_left}
 use Rattle.hl_domain.proofs.domain.Domain.flush_take.Goals as goal
 
 pub note-requires : goal.note-requires
-note-requires g c =
-    let held = c.deref_mut-2.invariant in
-    let at = held.at in
-    let e = c.flush_take-taken.ensures in
-    may_note (by_one FlushTake at e.keeps.0 c.journal-before.ensures (e.made _ at.stands)) held.noted
+note-requires g c = may_note (one_step (λ _. FlushTake) c.deref_mut-2.invariant c.journal-before.ensures c.flush_take-answer.ensures.keeps.0 c.flush_take-answer.ensures.made)
 
 pub invariant_of-deref_mut : goal.invariant_of-deref_mut
-invariant_of-deref_mut g c =
-    let held = c.deref_mut-2.invariant in
-    let at = held.at in
-    let e = c.flush_take-taken.ensures in
-    noted_at c.note.ensures.keeper (stands_at (by_one FlushTake at e.keeps.0 c.journal-before.ensures (e.made _ at.stands)) c.note.ensures.list)
+invariant_of-deref_mut g c = noted_behind (one_step (λ _. FlushTake) c.deref_mut-2.invariant c.journal-before.ensures c.flush_take-answer.ensures.keeps.0 c.flush_take-answer.ensures.made) c.note.ensures.keeper c.note.ensures.list
 
 pub returns : goal.returns
 returns g c =
-    let held = met_held c.lock-guard.ensures c.deref_mut.ensures.value c.deref_mut-2.view_is in
-    let at = held.at in
-    let e = c.flush_take-taken.ensures in
-    record { met = call_left held.noted (call_of FlushTake c.args.rider.now c.note.new.rider) c.flush_take-taken.result (by_one FlushTake at e.keeps.0 c.journal-before.ensures (e.made _ at.stands)) (grew c.flush_take-taken.result (FlushTake ∷ []) _ _ e.rider) c.note.ensures.rider c.note.ensures.rises (e.made, e.keeps) }
+    let e = c.flush_take-answer.ensures in
+    record { met = rider_left FlushTake c.args.rider.now c.flush_take-answer.result (one_step (λ _. FlushTake) (met_held c.lock-guard.ensures c.deref_mut.ensures.value c.deref_mut-2.view_is) c.journal-before.ensures e.keeps.0 e.made) e.rider c.note.ensures.rider c.note.ensures.rises (e.made, e.keeps) }

@@ -1,26 +1,14 @@
-use Rattle.std.proofs.Common.{[], ◌∷◌}
 use Rattle.hl_model.specs.declared.step.Step.TheVariants.{Raise}
-use Rattle.hl_domain.specs.Domains.{call_of}
-use Rattle.hl_domain.proofs.DomainLaws.{grew, met_held, by_one, may_note, stands_at, noted_at, call_left}
+use Rattle.hl_domain.proofs.DomainLaws.{may_note, met_held, noted_behind, one_step, rider_left}
 use Rattle.hl_domain.proofs.domain.Domain.raise.Goals as goal
 
 pub note-requires : goal.note-requires
-note-requires g c =
-    let held = c.deref_mut-2.invariant in
-    let at = held.at in
-    let e = c.raise-raised.ensures in
-    may_note (by_one (Raise c.args.x) at e.keeps.0 c.journal-before.ensures (e.made _ at.stands)) held.noted
+note-requires g c = may_note (one_step (λ _. Raise c.args.x) c.deref_mut-2.invariant c.journal-before.ensures c.raise-answer.ensures.keeps.0 c.raise-answer.ensures.made)
 
 pub invariant_of-deref_mut : goal.invariant_of-deref_mut
-invariant_of-deref_mut g c =
-    let held = c.deref_mut-2.invariant in
-    let at = held.at in
-    let e = c.raise-raised.ensures in
-    noted_at c.note.ensures.keeper (stands_at (by_one (Raise c.args.x) at e.keeps.0 c.journal-before.ensures (e.made _ at.stands)) c.note.ensures.list)
+invariant_of-deref_mut g c = noted_behind (one_step (λ _. Raise c.args.x) c.deref_mut-2.invariant c.journal-before.ensures c.raise-answer.ensures.keeps.0 c.raise-answer.ensures.made) c.note.ensures.keeper c.note.ensures.list
 
 pub returns-clause-met : goal.returns-clause-met
 returns-clause-met g c =
-    let held = met_held c.lock-guard.ensures c.deref_mut.ensures.value c.deref_mut-2.view_is in
-    let at = held.at in
-    let e = c.raise-raised.ensures in
-    call_left held.noted (call_of (Raise c.args.x) c.args.rider.now c.note.new.rider) c.raise-raised.result (by_one (Raise c.args.x) at e.keeps.0 c.journal-before.ensures (e.made _ at.stands)) (grew c.raise-raised.result (Raise c.args.x ∷ []) _ _ e.rider) c.note.ensures.rider c.note.ensures.rises (e.made, e.keeps)
+    let e = c.raise-answer.ensures in
+    rider_left (Raise c.args.x) c.args.rider.now c.raise-answer.result (one_step (λ _. Raise c.args.x) (met_held c.lock-guard.ensures c.deref_mut.ensures.value c.deref_mut-2.view_is) c.journal-before.ensures e.keeps.0 e.made) e.rider c.note.ensures.rider c.note.ensures.rises (e.made, e.keeps)

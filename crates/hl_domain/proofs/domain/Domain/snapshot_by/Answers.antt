@@ -1,18 +1,12 @@
-use Rattle.std.proofs.Common.{refl, ap, arith}
-use Rattle.hl_domain.proofs.DomainLaws.{met_held, still_at, noted_at, quiet_call}
+use Rattle.std.proofs.Common.{refl}
+use Rattle.hl_domain.proofs.DomainLaws.{may_ask, met_held, noted_with, only_asked, quiet_left}
 use Rattle.hl_domain.proofs.domain.Domain.snapshot_by.Goals as goal
 
-pub invariant_of-deref_mut : goal.invariant_of-deref_mut
-invariant_of-deref_mut g c = noted_at c.note_quiet.ensures.keeper (still_at c.note_quiet.ensures.list c.deref_mut-2.invariant.at)
-
 pub note_quiet-requires : goal.note_quiet-requires
-note_quiet-requires g c =
-    let held = c.deref_mut-2.invariant in
-    (ap (λ x. x.steps) held.noted, omega (arith, ap (λ x. x.cut) held.noted), held.at.stands.total_is)
+note_quiet-requires g c = may_ask (only_asked c.deref_mut-2.invariant)
+
+pub invariant_of-deref_mut : goal.invariant_of-deref_mut
+invariant_of-deref_mut g c = noted_with (only_asked c.deref_mut-2.invariant) c.note_quiet.ensures.keeper c.note_quiet.ensures.list
 
 pub returns : goal.returns
-returns g c =
-    let held = met_held c.lock-guard.ensures c.deref_mut.ensures.value c.deref_mut-2.view_is in
-    let at = held.at in
-    let e = c.snapshot-told.ensures in
-    record { met = quiet_call held.noted at at refl c.note_quiet.ensures.rider c.note_quiet.ensures.rises (refl, e.quantities, e.steps, e.cut) }
+returns g c = record { met = quiet_left (only_asked (met_held c.lock-guard.ensures c.deref_mut.ensures.value c.deref_mut-2.view_is)) refl c.note_quiet.ensures.rider c.note_quiet.ensures.rises (refl, c.snapshot-answer.ensures.quantities, c.snapshot-answer.ensures.steps, c.snapshot-answer.ensures.cut) }

@@ -2,36 +2,32 @@ use Rattle.std.proofs.Common.{sym, ap, ◌∙◌, arith, ◌+◌}
 use Rattle.std.proofs.lemmas.Result.{err_from_is_err_and}
 use Rattle.hl_keeper.specs.Passes.{PassRecord, seen, rested, with_tail}
 use Rattle.hl_keeper.specs.Calls.{call_fault}
-use Rattle.hl_model.specs.declared.step.Step.TheVariants.{Allocate as ALLOCATE}
-use Rattle.hl_keeper.proofs.SlotLaws.{Placed, knows, call_stranger, call_known, replied_refused, replied_err, replied_ok, accepted, allocate_place, allocate_placed, rested_is}
 use Rattle.hl_keeper.specs.Parts.{pass_of}
+use Rattle.hl_keeper.proofs.SlotLaws.{Placed, knows, placed_is, allocate_placed, rested_is}
+use Rattle.hl_keeper.proofs.StepLaws.{fault_first, fault_second, refused_at, same_faults, refused_as, replied_as, reply_is}
 use Rattle.hl_keeper.proofs.keeper.Keeper.allocate.Goals.{In-At}
 use Rattle.hl_keeper.proofs.keeper.Keeper.allocate.Goals as goal
 
 pub returns-in_err-known-clause-made : goal.returns-in_err-known-clause-made
+unfolding call_fault
 returns-in_err-known-clause-made g c =
     let q = err_from_is_err_and c.from_residual.result c.from_residual.ensures.1 in
-    let k = c.args.self.now in
-    let p = c.args.pass.now in
-    let s = ALLOCATE p.slot c.args.n in
-    rw (q.1, q.2) (λ A st. replied_refused k A p.touches s (call_fault k A p s) c.in_err-known.field-0.0 _ st (call_stranger k A p s c.in_err-known.field-0.0 (c.in_err-known.ensures A st)))
+    rw (q.1, q.2) (λ A st. refused_at _ A _ _ c.in_err-known.field-0.0 _ st (fault_first _ _ c.in_err-known.field-0.0 (c.in_err-known.ensures A st)))
 
 pub call-requires-clause-known : goal.call-requires-clause-known
 call-requires-clause-known g c = knows c.args.self.now c.args.pass.now c.in_ok-known.field-0 c.in_ok-known.ensures
 
 pub returns-in_err-address-clause-made : goal.returns-in_err-address-clause-made
+unfolding call_fault
 returns-in_err-address-clause-made g c =
     let q = err_from_is_err_and c.from_residual-in_err-address.result c.from_residual-in_err-address.ensures.1 in
-    let k = c.args.self.now in
-    let p = c.args.pass.now in
-    let s = ALLOCATE p.slot c.args.n in
     let made = rw (ap (λ (z : PassRecord). z.slot) c.pass.view_is) at c.in_err-address.ensures.made in
-    rw (q.1, q.2) (λ A st. replied_err k A p s c.call.new.self (call_fault k A p s) c.in_err-address.field-0.0 _ (call_known k A p s c.in_ok-known.field-0 (c.in_ok-known.ensures A st)) (made A st))
+    rw (q.1, q.2) (λ A st. refused_as _ _ _ _ c.call.new.self c.in_err-address.field-0.0 (same_faults _ _ _ _ _ c.call.new.self _ (fault_second _ _ c.in_ok-known.field-0 (c.in_ok-known.ensures A st)) (made A st)))
 
 pub unreachable-requires : goal.unreachable-requires
 unreachable-requires g c =
-    let A = c.in_ok-address.ensures.valid.0 in
-    c.in_default.not-At _ (accepted c.args.self.now A c.args.pass.now (ALLOCATE c.pass.inside.own.slot c.args.n) c.call.new.self c.in_ok-address.field-0 (c.in_ok-address.ensures.made A c.in_ok-address.ensures.valid.1)).1
+    let h = c.in_ok-address.ensures in
+    c.in_default.not-At _ (reply_is _ _ c.in_ok-address.field-0 _ c.call.new.self (h.made h.valid.0 h.valid.1))
 
 -- where the record is placed
 placed : (g : _) (c : In-At g) → Placed c.args.self.now.core.sizes.page_size c.in-At.address c.args.n (seen c.args.pass.now)
@@ -48,13 +44,11 @@ pub overflow_add-view : goal.overflow_add-view
 overflow_add-view g c = omega (arith, (placed g c).most)
 
 pub returns-clause-made : goal.returns-clause-made
+unfolding call_fault
 returns-clause-made g c =
-    let k = c.args.self.now in
-    let p = c.args.pass.now in
-    let s = ALLOCATE p.slot c.args.n in
     let made = rw (ap (λ (z : PassRecord). z.slot) c.pass.view_is) at c.in_ok-address.ensures.made in
-    λ A st. replied_ok k A p s c.call.new.self (call_fault k A p s) c.in_ok-address.field-0 c.in-At.address _ (call_known k A p s c.in_ok-known.field-0 (c.in_ok-known.ensures A st)) (made A st)
-    (allocate_place k A p p.slot c.args.n c.call.new.self c.in_ok-address.field-0 c.in-At.address (made A st) c.in-At.is)
+    λ A st. replied_as _ _ c.in_ok-address.field-0 _ c.call.new.self c.in-At.address _ (same_faults _ _ _ _ _ c.call.new.self _ (fault_second _ _ c.in_ok-known.field-0 (c.in_ok-known.ensures A st)) (made A st))
+    (λ none e. placed_is c.in_ok-address.field-0 c.in-At.address _ e c.in-At.is)
 
 pub returns-clause-pass : goal.returns-clause-pass
 returns-clause-pass g c =

@@ -1,73 +1,11 @@
-use Rattle.std.proofs.Common.{refl, sym, ap, ◌∙◌, arith, ◌+◌}
 use Rattle.std.proofs.lemmas.Result.{err_from_is_err_and}
-use Rattle.hl_words.specs.States.{MasterState}
-use Rattle.hl_keeper.specs.Keepers.{KeeperState}
-use Rattle.hl_keeper.specs.Calls.{step_fault}
-use Rattle.hl_model.specs.declared.step.Step.TheVariants.{Raise as RAISE}
-use Rattle.hl_keeper.proofs.KeeperLaws.{unstamped}
-use Rattle.hl_keeper.proofs.StepLaws.{step_full, one_fits, one_counts, made_refused, core_refused, core_made, core_told, raise_follows, raise_told}
-use Rattle.hl_keeper.specs.Parts.{keeper_of}
+use Rattle.hl_keeper.proofs.StepLaws.{refused_as, replied_as, raised_is}
 use Rattle.hl_keeper.proofs.keeper.Keeper.raise.Goals as goal
 
-pub returns-in_err-room-clause-made : goal.returns-in_err-room-clause-made
-returns-in_err-room-clause-made g c =
-    let q = err_from_is_err_and c.from_residual.result c.from_residual.ensures.1 in
-    let k = c.args.self.now in
-    let s = RAISE c.args.x in
-    rw (q.1, q.2) (λ A st. made_refused k A s (step_fault k A s) c.in_err-room.field-0.0 _ st (step_full k A s c.in_err-room.field-0.0 c.in_err-room.ensures))
-
-pub returns-in_err-act-clause-made : goal.returns-in_err-act-clause-made
-returns-in_err-act-clause-made g c =
-    let q = err_from_is_err_and c.from_residual-in_err-act.result c.from_residual-in_err-act.ensures.1 in
-    let k : KeeperState g.row.F.Denot = (keeper_of c.self.inside.core c.self.inside.journal c.self.inside.stamps c.self.inside.master) in
-    let s = RAISE c.args.x in
-    let room = rw (sym c.self.view_is) at c.in_ok-room.ensures in
-    rw (q.1, q.2, c.in_err-act.ensures.refused, sym c.self.view_is) (λ A st. core_refused k A s c.in_ok-room.field-0 c.act.new.self c.in_err-act.field-0.0 _ st room (c.in_err-act.ensures.made A st.core_stands))
-
-pub note-requires-clause-room : goal.note-requires-clause-room
-note-requires-clause-room g c =
-    let k : KeeperState g.row.F.Denot = (keeper_of c.self.inside.core c.self.inside.journal c.self.inside.stamps c.self.inside.master) in
-    let s = RAISE c.args.x in
-    let room = rw (sym c.self.view_is) at c.in_ok-room.ensures in
-    one_fits k c.in_ok-room.field-0 room
-
-pub note-requires-clause-count : goal.note-requires-clause-count
-note-requires-clause-count g c =
-    let k : KeeperState g.row.F.Denot = (keeper_of c.self.inside.core c.self.inside.journal c.self.inside.stamps c.self.inside.master) in
-    let s = RAISE c.args.x in
-    let room = rw (sym c.self.view_is) at c.in_ok-room.ensures in
-    omega (arith, ap (λ (m : MasterState). m.total) c.store_offset.ensures, one_counts k c.in_ok-room.field-0 c.self.invariant.of.standing room)
-
-pub invariant_of-self-2 : goal.invariant_of-self-2
-invariant_of-self-2 g c =
-    let k : KeeperState g.row.F.Denot = (keeper_of c.self.inside.core c.self.inside.journal c.self.inside.stamps c.self.inside.master) in
-    let s = RAISE c.args.x in
-    let room = rw (sym c.self.view_is) at c.in_ok-room.ensures in
-    let A = c.self.invariant.of.standing.0 in
-    let st = c.self.invariant.of.standing.1 in
-    record {
-      of = record {
-        standing = (
-          _,
-          (core_made k A s c.in_ok-room.field-0 c.act.new.self c.in_ok-act.field-0 c.args.x _ c.note.new.journal c.self.inside.stamps.row.items c.self.inside.stamps.given c.note.new.master.offsets c.note.new.master.total c.note.new.master.called st room (c.in_ok-act.ensures.made A st.core_stands)
-              (raise_told k A c.args.x (core_told k A s c.act.new.self c.in_ok-act.field-0 (c.in_ok-act.ensures.made A st.core_stands)).0)
-              c.note.ensures.journal (unstamped k A s st refl)
-              (raise_follows k A c.args.x c.note.new.master.offsets st (core_told k A s c.act.new.self c.in_ok-act.field-0 (c.in_ok-act.ensures.made A st.core_stands)).0 (ap (λ (m : MasterState). m.offsets) c.note.ensures.master ∙ ap (λ (m : MasterState). m.offsets) c.store_offset.ensures))
-              (ap (λ (m : MasterState). m.total) c.note.ensures.master ∙ ap (λ (m : MasterState). m.total + 1) c.store_offset.ensures)).standing,
-        );
-        sizes_are = c.in_ok-act.ensures.sizes ∙ c.self.invariant.of.sizes_are;
-        stamp_is = c.self.invariant.of.stamp_is;
-      };
-      exact = c.self.invariant.exact ∙ sym (ap (λ z. z.slots) c.in_ok-act.ensures.sizes);
-    }
+pub returns-in_err-one-clause-made : goal.returns-in_err-one-clause-made
+returns-in_err-one-clause-made g c A st =
+    let p = err_from_is_err_and c.from_residual.result c.from_residual.ensures.1 in
+    rw (p.1, p.2) (refused_as _ _ _ _ c.one.new.self c.in_err-one.field-0.0 (c.in_err-one.ensures.made A st))
 
 pub returns-clause-made : goal.returns-clause-made
-returns-clause-made g c =
-    let k : KeeperState g.row.F.Denot = (keeper_of c.self.inside.core c.self.inside.journal c.self.inside.stamps c.self.inside.master) in
-    let s = RAISE c.args.x in
-    let room = rw (sym c.self.view_is) at c.in_ok-room.ensures in
-    rw (sym c.self.view_is) (λ A st. core_made k A s c.in_ok-room.field-0 c.act.new.self c.in_ok-act.field-0 c.args.x _ c.note.new.journal c.self.inside.stamps.row.items c.self.inside.stamps.given c.note.new.master.offsets c.note.new.master.total c.note.new.master.called st room (c.in_ok-act.ensures.made A st.core_stands)
-    (raise_told k A c.args.x (core_told k A s c.act.new.self c.in_ok-act.field-0 (c.in_ok-act.ensures.made A st.core_stands)).0)
-    c.note.ensures.journal (unstamped k A s st refl)
-    (raise_follows k A c.args.x c.note.new.master.offsets st (core_told k A s c.act.new.self c.in_ok-act.field-0 (c.in_ok-act.ensures.made A st.core_stands)).0 (ap (λ (m : MasterState). m.offsets) c.note.ensures.master ∙ ap (λ (m : MasterState). m.offsets) c.store_offset.ensures))
-    (ap (λ (m : MasterState). m.total) c.note.ensures.master ∙ ap (λ (m : MasterState). m.total + 1) c.store_offset.ensures))
+returns-clause-made g c A st = replied_as _ _ c.in_ok-one.field-0 _ c.one.new.self c.args.x _ (c.in_ok-one.ensures.made A st) (λ none e. raised_is c.args.self.now A c.args.x none)

@@ -1,13 +1,13 @@
 use Rattle.std.proofs.Common.{rules, Err, refl, ap, ◌∙◌}
 use Rattle.std.proofs.lemmas.Result.{err_from_is_err_and}
-use Rattle.hl_core.specs.Steps.{told, entered_reply}
+use Rattle.hl_core.specs.Steps.{as_reply, entered_reply}
 use Rattle.hl_log.proofs.CallLaws.{stranger_calls, known_calls, refresh_calls}
 use Rattle.hl_log.proofs.log.Log.refresh.Goals as goal
 
 pub returns-in_err-begin : goal.returns-in_err-begin
 returns-in_err-begin c =
     let q = err_from_is_err_and c.from_residual.result c.from_residual.ensures.1 in
-    stranger_calls c.args.self.now _ c.args.pass.now _ c.in_err-begin.field-0.0 _ c.in_err-begin.ensures.test (search rules) c.begin.ensures.beside (ap (told entered_reply) (q.1 ∙ ap (λ f. Err f) q.2))
+    stranger_calls c.args.self.now _ c.args.pass.now _ c.in_err-begin.field-0.0 _ c.in_err-begin.ensures.test (search rules) c.begin.ensures.beside (ap (as_reply entered_reply) (q.1 ∙ ap (λ f. Err f) q.2))
 
 pub returns-in-Ok : goal.returns-in-Ok
 returns-in-Ok c =

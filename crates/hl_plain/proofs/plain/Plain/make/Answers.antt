@@ -3,7 +3,7 @@ use Rattle.std.specs.Prelude.{None, Ok}
 use Rattle.std.proofs.Math.Seq.{take-append_seam}
 use Rattle.hl_model.specs.declared.step.Step.{Step}
 use Rattle.hl_model.specs.AfterReplies.{base_after, fault_after, fault_at, answer_at}
-use Rattle.hl_plain.specs.Histories.{History, worded, answer_told, told, Answers}
+use Rattle.hl_plain.specs.Histories.{History, worded, answer_in, result_in, Answers}
 use Rattle.hl_plain.specs.Kept.{history_of, present_by, IsAt, IsNear}
 use Rattle.hl_plain.proofs.HistoryLaws.{IsHistory-push}
 use Rattle.hl_plain.proofs.NearLaws.{present_by_is, IsAt-push, present_by-push, answer_by, told_is, Answers-accepted}
@@ -54,9 +54,9 @@ returns-clause-answer c =
     let grown : M ≡ h.steps ++ s ∷ [] = c.accept-reply.ensures.steps ∙ ap (λ L. L ++ s ∷ []) c.reserve.ensures.items in
     let long : c.len-before.result ≡ length h.steps = omega (arith, c.len-before.ensures, ap length c.reserve.ensures.items, c.reserve.new.row.ok.0) in
     let listed : take c.len-before.result c.deref.result.now ≡ h.steps = ap₂ take long (c.deref.ensures.value ∙ grown) ∙ take-append_seam h.steps (s ∷ []) in
-    let is : worded h.has_words h.steps s c.accept-reply.result ≡ answer_told h s
+    let is : worded h.has_words h.steps s c.accept-reply.result ≡ answer_in h s
     = answer_by h near after s M c.accept-reply.result k.history met k.near.since_most k.at c.accept-reply.ensures.base c.accept-reply.ensures.since grown (c.accept-reply.ensures.reply ∙ ap (λ L. answer_at (present_by near L) (present_by after M) s) c.reserve.ensures.items) in
-    let replied : Ok c.worded-reply.result ≡ told h s = told_is h s c.worded-reply.result met (c.worded-reply.ensures ∙ ap (λ L. worded h.has_words L s c.accept-reply.result) listed ∙ is) in
+    let replied : Ok c.worded-reply.result ≡ result_in h s = told_is h s c.worded-reply.result met (c.worded-reply.ensures ∙ ap (λ L. worded h.has_words L s c.accept-reply.result) listed ∙ is) in
     subst (λ (v : History). Answers v s (Ok c.worded-reply.result) (record h { steps = M })) c.self.view_is (Answers-accepted h s M c.worded-reply.result met grown replied)
 
 pub returns-clause-room : goal.returns-clause-room
@@ -72,10 +72,10 @@ returns-clause-room c = λ few.
     let grown : M ≡ h.steps ++ s ∷ [] = c.accept-reply.ensures.steps ∙ ap (λ L. L ++ s ∷ []) c.reserve.ensures.items in
     let long : c.len-before.result ≡ length h.steps = omega (arith, c.len-before.ensures, ap length c.reserve.ensures.items, c.reserve.new.row.ok.0) in
     let listed : take c.len-before.result c.deref.result.now ≡ h.steps = ap₂ take long (c.deref.ensures.value ∙ grown) ∙ take-append_seam h.steps (s ∷ []) in
-    let is : worded h.has_words h.steps s c.accept-reply.result ≡ answer_told h s
+    let is : worded h.has_words h.steps s c.accept-reply.result ≡ answer_in h s
     = answer_by h near after s M c.accept-reply.result k.history met k.near.since_most k.at c.accept-reply.ensures.base c.accept-reply.ensures.since grown (c.accept-reply.ensures.reply ∙ ap (λ L. answer_at (present_by near L) (present_by after M) s) c.reserve.ensures.items) in
-    let replied : Ok c.worded-reply.result ≡ told h s = told_is h s c.worded-reply.result met (c.worded-reply.ensures ∙ ap (λ L. worded h.has_words L s c.accept-reply.result) listed ∙ is) in
-    replied ∙ ap (λ (v : History). told v s) c.self.view_is
+    let replied : Ok c.worded-reply.result ≡ result_in h s = told_is h s c.worded-reply.result met (c.worded-reply.ensures ∙ ap (λ L. worded h.has_words L s c.accept-reply.result) listed ∙ is) in
+    replied ∙ ap (λ (v : History). result_in v s) c.self.view_is
 
 pub returns-clause-valid : goal.returns-clause-valid
 returns-clause-valid c =

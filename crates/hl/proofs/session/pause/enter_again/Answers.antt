@@ -1,0 +1,12 @@
+use Rattle.std.proofs.Common.{suc}
+use Rattle.hl.proofs.session.pause.enter_again.Goals as goal
+
+pub returns-in-Ok : goal.returns-in-Ok
+returns-in-Ok g c =
+    let before = c.loop.invariant.2 in
+    record { refused = before.0; last = c.loop.rider; before = before.1; entered = c.in-Ok.ensures.met }
+
+pub loop-preserved : goal.loop-preserved
+loop-preserved g c =
+    let before = c.loop.invariant.2 in
+    (tt, tt, (suc before.0, (c.loop.rider, before.1, (c.in-Err.field-0-0, c.in-Err.ensures.met))))

@@ -1,0 +1,75 @@
+//! A session's rest: its slot is left for a time.
+ghost use Rattle.std.specs.Prelude.{◌≡◌};
+ghost use Rattle.hl.specs.Rests.{Reenters, Rests, RestsOf};
+
+use super::Session;
+use super::tries::nap;
+use crate::log::Log;
+use core::mem::replace_with;
+use hl_action::{Promise, Task};
+use hl_domain::Pass;
+use hl_epoch::Epochs;
+use hl_model::Fault;
+use hl_words::{Realm, Rider};
+use std::sync::Wait;
+
+impl<'a, R: Wait, L: Realm, F: Task, P: Promise, E: Epochs + Drop> Session<'a, R, L, F, P, E> {
+    /// Leaves the slot for the time of a closure, and then enters again, maybe at another slot (FASTER's `Suspend` and
+    /// `Resume`): for what takes long, as a read of the device. Meanwhile no action waits for the session, and it holds no
+    /// page. What it saw of the log is gone then: what it looked up before must be looked up anew.
+    ///
+    /// Returns what the closure returned. If an entry is refused, it is tried again after a short nap: so this waits for
+    /// good if the journal stays full, or each slot protected.
+    ///
+    /// `JournalFull` of the release: then the closure isn't called, and the session stays in its slot.
+    pub fn rest<X, C: FnOnce() -> X>(&mut self, idle: C) -> Result<X, Fault>
+        requires { C.IsAlwaysCallable idle }
+        ensures rests { Rests F (C.post idle) result self.old self.new }
+        ensures log { self.new.log ≡ self.old.log }
+    {
+        let (rt, log) = (self.rt, self.log);
+        replace_with(
+            &mut self.pass,
+            idle,
+            |pass: Pass<L>, idle: C| rest_of(rt, log, pass, idle),
+        )
+    }
+}
+
+// Leaves a pass's slot for the time of a closure, and enters again.
+fn rest_of<R: Wait, L: Realm, F: Task, P: Promise, E: Epochs + Drop, X, C: FnOnce() -> X>(
+    rt: &R,
+    log: &Log<L, F, P, E>,
+    pass: Pass<L>,
+    idle: C,
+) -> (Pass<L>, Result<X, Fault>)
+    requires { C.IsAlwaysCallable idle }
+    ensures { RestsOf F log.now (C.post idle) result.1 pass result.0 }
+{
+    match log.release(rt, pass) {
+        Ok(rider) => {
+            let answer = idle();
+            (enter_again(rt, log, rider), Ok(answer))
+        }
+        Err((fault, pass)) => (pass, Err(fault)),
+    }
+}
+
+// Enters the log, by as many tries as that takes.
+fn enter_again<R: Wait, L: Realm, F: Task, P: Promise, E: Epochs + Drop>(
+    rt: &R,
+    log: &Log<L, F, P, E>,
+    rider: Rider<L>,
+) -> Pass<L>
+    ensures { Reenters F log.now rider result }
+{
+    let mut rider = rider;
+    for _ in rt.forever() {
+        match log.enter(rt, rider) {
+            Ok(pass) => return pass,
+            Err((_, back)) => rider = back,
+        }
+        nap(rt);
+    }
+    unreachable!()
+}

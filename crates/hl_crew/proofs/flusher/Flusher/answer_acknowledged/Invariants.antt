@@ -1,9 +1,0 @@
-use Rattle.hl_crew.specs.Flushes.{hold_of, TellsNext}
-use Rattle.hl_crew.specs.Goes.{Followed}
-use Rattle.hl_crew.proofs.flusher.Flusher.answer_acknowledged.Given as goal
-
--- as many acknowledgements were answered as there were turns
-abbrev pub invariant-loop : goal.invariant-loop
-invariant-loop g l =
-    Followed (TellsNext g.row.F.Denot l.self.domain.now) l.counter
-    (hold_of l.initial.own l.initial.pouch) (hold_of l.own l.pouch)

@@ -1,6 +1,0 @@
-use Rattle.std.proofs.Common.{rules}
-use Rattle.hl_crew.proofs.threads.run_threads.Goals as goal
-
--- `search` finds this only where it is named
-pub scoped-requires : goal.scoped-requires
-scoped-requires g c = search (rules, c.requires)

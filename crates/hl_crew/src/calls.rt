@@ -1,0 +1,251 @@
+ghost use Rattle.std.specs.Prelude.{◌≡◌, ◌≢◌, ◌<◌, [], ◌∷◌, Err, false, true, is_none, IfOk, IfErr};
+ghost use Rattle.hl_crew.specs.Lags.{IsLag};
+ghost use Rattle.hl_crew.specs.Limited.{duty_limits, run_limits, is_until};
+ghost use Rattle.hl_crew.specs.Riders.{AreAsGiven, StoreSweeps, riders_of};
+ghost use Rattle.hl_model.specs.declared.fault.Fault.TheVariants.{OutOfMemory, Size};
+
+use crate::crew::{Crew, CrewReport, CrewRiders};
+use crate::duty::Duty;
+use crate::gate::Gate;
+use crate::given::Given;
+use crate::limits::Limits;
+use crate::messages::Channels;
+use crate::mode::Mode;
+use crate::run::Run;
+use crate::seats::Seats;
+use crate::state::CrewState;
+use crate::stop::Stop;
+use crate::writer::Buffers;
+use hl_action::{Promise, Task};
+use hl_domain::Domain;
+use hl_epoch::Epochs;
+use hl_image::PageWriter;
+use hl_model::Fault;
+use hl_words::{Realm, Rider};
+use std::alloc::Global;
+use std::marker::Brand;
+use std::sync::Wait;
+use std::sync::atomic::AtomicBool;
+use std::thread::{Parker, Threads};
+
+/// What [`run_crew`] returns.
+#[derive(Drop)]
+pub struct CrewEnd<L: Realm, W> {
+    /// The riders, in their order.
+    pub riders: [Rider<L>; 4],
+    /// The page writers, in their order.
+    pub writers: [W; 2],
+    /// How many flushes were answered as ended well.
+    pub written: u64,
+    /// How many flushes were answered as failed.
+    pub failed: u64,
+    /// How many acknowledgements named a page that the flusher didn't hold.
+    pub strangers: u64,
+    // Of the threads that were made.
+    limits: Limits,
+}
+
+impl<L: Realm, W> CrewEnd<L, W> {
+    /// Returns the limits that all its threads kept to.
+    pub fn limits(&self) -> Limits
+        ensures { result ≡ self.now.limits }
+    {
+        self.limits
+    }
+}
+
+/// Runs a crew on a domain for a given number of turns: a flusher, two writers and a cleaner, each
+/// in a thread of its own. Of the riders the first is the flusher's, the next two are the writers',
+/// the last is the cleaner's. About `mutable` pages at the tail may be written and about `resident`
+/// may be read: `1 <= mutable <= resident <= F`. If `cut` is true, the journal is cut at the end of
+/// each of the flusher's turns. The end has these three as the limits that all threads kept to.
+///
+/// With as many resident pages as frames, the head never passes the page whose frame the page above
+/// the tail needs, and no frame comes free: [`Duty`] excludes that.
+///
+/// If the riders had stored into cells only to sweep pages that they had taken to clean, so it is with those that
+/// come back: where the crew took no page to clean, they stored nothing.
+///
+/// `OutOfMemory` if memory or a thread was refused; then riders and page writers are handed back.
+/// Steps that were made until then stay in the journal.
+pub fn run_crew<R, E, F, P, L, W, G>(
+    rt: &R,
+    alloc: Global,
+    domain: &Domain<E, F, P, L>,
+    riders: [Rider<L>; 4],
+    first: W,
+    second: W,
+    gate: &G,
+    mutable: u64,
+    resident: u64,
+    turns: u64,
+    cut: bool,
+) -> Result<CrewEnd<L, W>, (Fault, [Rider<L>; 4], W, W)>
+where
+    R: Threads + Wait + Sync,
+    E: Epochs + Drop + Send,
+    F: Task + Send,
+    P: Promise + Send,
+    L: Realm + Send + Sync,
+    W: PageWriter + Send,
+    G: Gate + Sync,
+    requires { IsLag domain.now.sizes.frames mutable resident }
+    ensures limits { IfOk result (λ end. end.limits ≡ run_limits mutable resident cut) }
+    ensures sweeps { let sizes = domain.now.sizes
+        in StoreSweeps sizes riders → (IfOk result (λ end. StoreSweeps sizes end.riders)
+        × IfErr result (λ back. StoreSweeps sizes back.1)) }
+    ensures err { IfErr result (λ back. back.0 ≡ OutOfMemory) }
+{
+    let [flusher, first_writer, second_writer, cleaner] = riders;
+    let crew = Crew {
+        riders: CrewRiders {
+            flusher,
+            first_writer,
+            second_writer,
+            cleaner,
+        },
+        first,
+        second,
+    };
+    let limits = Limits::of_run(mutable, resident, cut);
+    let mode = Mode::Turns(turns);
+    let (crew, report) = crew.run::<R, E, F, P, G, Brand>(rt, alloc, domain, gate, limits, mode);
+    let Crew {
+        riders,
+        first,
+        second,
+    } = crew;
+    let riders = [
+        riders.flusher,
+        riders.first_writer,
+        riders.second_writer,
+        riders.cleaner,
+    ];
+    match report {
+        Ok(report) => Ok(CrewEnd {
+            riders,
+            writers: [first, second],
+            written: report.written,
+            failed: report.failed,
+            strangers: report.strangers,
+            limits: report.limits(),
+        }),
+        Err(fault) => Err((fault, riders, first, second)),
+    }
+}
+
+impl<L: Realm, W> Crew<L, W> {
+    /// Serves a domain until the stop is given, as [`run_crew`] does for a number of turns: but each writer takes its
+    /// pages itself, copies, writes and answers them, so no acknowledgement is a stranger. It sleeps while there is
+    /// nothing to do, and ends once nothing is in flight. If the journal is full, it cuts it where the duty lets it;
+    /// else a full journal ends it before its stop. The crew comes back, whatever it met, and its report has the duty's
+    /// limits. Of what the riders stored the same holds. If they had flushed nothing, then each page that those which
+    /// come back flushed is with the writer of that rider, as the image of the words that the rider copied between its
+    /// take and its answer: at the domain's end it is an image of the page, by `hl_images`. Of a page whose write
+    /// failed, or whose answer was refused, nothing is said.
+    ///
+    /// A thread that has entered a page may wake it by [`Stop::ring`]; a crew that nobody wakes looks at least
+    /// every 160 milliseconds, and sooner after it had something to do.
+    ///
+    /// Faults: `Size` if the duty was checked for another number of frames, and then nothing is done; `OutOfMemory` if
+    /// memory or a thread was refused. Steps that were made until then stay in the journal.
+    pub fn serve<R, E, F, P, G>(
+        self,
+        rt: &R,
+        alloc: Global,
+        domain: &Domain<E, F, P, L>,
+        gate: &G,
+        duty: Duty,
+        stop: &Stop,
+    ) -> (Crew<L, W>, Result<CrewReport, Fault>)
+    where
+        R: Threads + Wait + Sync,
+        E: Epochs + Drop + Send,
+        F: Task + Send,
+        P: Promise + Send,
+        L: Send + Sync,
+        W: PageWriter + Send,
+        G: Gate + Sync,
+        ensures size { duty.frames ≢ domain.now.sizes.frames → result ≡ (self, Err Size) }
+        ensures memory { duty.frames ≡ domain.now.sizes.frames
+            → IfErr result.1 (λ fault. fault ≡ OutOfMemory) }
+        ensures limits { IfOk result.1 (λ report. report.limits ≡ duty_limits duty) }
+        ensures kept { AreAsGiven W.has true domain.now.sizes (riders_of self.riders) result.0 }
+    {
+        if duty.frames() != domain.params().frames() {
+            return (self, Err(Fault::Size));
+        }
+        let limits = Limits::of(duty);
+        self.run::<R, E, F, P, G, Brand>(rt, alloc, domain, gate, limits, Mode::Until(stop))
+    }
+
+    // Runs a crew within these limits, in this mode. One that serves then makes its last turns.
+    fn run<R, E, F, P, G, K>(
+        self,
+        rt: &R,
+        alloc: Global,
+        domain: &Domain<E, F, P, L>,
+        gate: &G,
+        limits: Limits,
+        mode: Mode<'_>,
+    ) -> (Crew<L, W>, Result<CrewReport, Fault>)
+    where
+        R: Threads + Wait + Sync,
+        E: Epochs + Drop + Send,
+        F: Task + Send,
+        P: Promise + Send,
+        L: Send + Sync,
+        W: PageWriter + Send,
+        G: Gate + Sync,
+        K: Given + Send,
+        requires lag { IsLag domain.now.sizes.frames limits.mutable limits.resident }
+        requires given { (K.riders ≡ riders_of self.riders) × (K.sizes ≡ domain.now.sizes)
+            × (K.serves ≡ is_until mode) }
+        ensures memory { IfErr result.1 (λ fault. fault ≡ OutOfMemory) }
+        ensures limits { IfOk result.1 (λ report. report.limits ≡ limits) }
+        ensures kept { AreAsGiven W.has K.serves K.sizes K.riders result.0 }
+    {
+        let Ok((channels, buffers)) = open_rows(alloc, domain, &mode) else {
+            return (self, Err(Fault::OutOfMemory));
+        };
+        let run = Run {
+            rt,
+            domain,
+            gate,
+            mode,
+            limits,
+            channels,
+            cleaner: Parker::new(),
+            first: Parker::new(),
+            second: Parker::new(),
+            has_ended: AtomicBool::new(false),
+            has_written: AtomicBool::new(false),
+        };
+        let seats = Seats::<L, W, K>::of(CrewState::of(self, buffers));
+        let whole = run.run_threads(&seats);
+        let mut state = seats.end();
+        run.end_rounds(&mut state, whole.is_some());
+        let (crew, counts) = state.into_crew();
+        (crew, CrewReport::of(whole, counts, limits))
+    }
+}
+
+// Returns all memory that a crew takes itself: the channels, if the flusher sends the pages, and for each writer its buffers.
+//
+// `OutOfMemory` if memory was refused.
+fn open_rows<E: Epochs + Drop, F: Task, P: Promise, L: Realm>(
+    alloc: Global,
+    domain: &Domain<E, F, P, L>,
+    mode: &Mode<'_>,
+) -> Result<(Option<Channels>, (Buffers<L>, Buffers<L>)), Fault>
+    ensures channels { IfOk result (λ rows. is_none rows.0 ≡ is_until mode.entry.now) }
+    ensures memory { IfErr result (λ fault. fault ≡ OutOfMemory) }
+{
+    let channels = match mode {
+        Mode::Turns(_) => Some(Channels::open(alloc).map_err(|_| Fault::OutOfMemory)?),
+        Mode::Until(_) => None,
+    };
+    let first = Buffers::open(alloc, domain)?;
+    let second = Buffers::open(alloc, domain)?;
+    Ok((channels, (first, second)))
+}

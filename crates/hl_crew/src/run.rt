@@ -1,0 +1,86 @@
+ghost use Rattle.std.specs.Prelude.{◌≡◌, is_none};
+ghost use Rattle.hl_crew.specs.Cutting.{OrCuts};
+ghost use Rattle.hl_crew.specs.Lags.{IsLag};
+
+use crate::limits::Limits;
+use crate::messages::{Channels, Message, Over};
+use crate::mode::Mode;
+use hl_action::{Promise, Task};
+use hl_domain::Domain;
+use hl_epoch::Epochs;
+use hl_words::{Realm, Rider};
+use std::sync::Wait;
+use std::sync::atomic::{AtomicBool, Ordering};
+use std::thread::Parker;
+
+/// A crew's run: what its threads work on and share. The limits stand here alone: all threads keep to the same.
+#[derive(Drop)]
+pub(crate) struct Run<'x, R, E: Epochs, F: Task, P: Promise, L: Realm, G> {
+    pub(crate) rt: &'x R,
+    pub(crate) domain: &'x Domain<E, F, P, L>,
+    pub(crate) gate: &'x G,
+    pub(crate) mode: Mode<'x>,
+    pub(crate) limits: Limits,
+    /// Between the flusher and the writers, unless these take their pages themselves.
+    pub(crate) channels: Option<Channels>,
+    /// Where the cleaner sleeps, and where the writers do if they take their pages themselves.
+    pub(crate) cleaner: Parker,
+    pub(crate) first: Parker,
+    pub(crate) second: Parker,
+    /// Whether the flusher has made its turns.
+    pub(crate) has_ended: AtomicBool,
+    /// Whether a writer has written a page that it took itself since the flusher asked.
+    pub(crate) has_written: AtomicBool,
+    ghost lag: { IsLag domain.now.sizes.frames limits.mutable limits.resident },
+}
+
+impl<R: Wait, E: Epochs + Drop, F: Task, P: Promise, L: Realm, G> Run<'_, R, E, F, P, L, G> {
+    /// Returns whether the crew serves: its writers take their pages themselves.
+    pub(crate) fn serves(&self) -> bool
+        ensures { result ≡ is_none self.now.channels }
+    {
+        self.channels.is_none()
+    }
+
+    /// Returns how something ended. If it failed because the journal is full, and the limits make room, the journal is cut, and that
+    /// counts as something done: what is left is done the next time. If the cut finds nothing, another thread has cut before.
+    pub(crate) fn cut_if_full(
+        &self,
+        rider: &mut Rider<L>,
+        done: Result<bool, Over>,
+    ) -> Result<bool, Over>
+        ensures { OrCuts F self.now.domain.now self.now.limits.cuts done result rider.old rider.new }
+    {
+        match done {
+            Err(Over::Full) if self.limits.makes_room() => {
+                self.domain.cut(self.rt, rider);
+                Ok(true)
+            }
+            done => done,
+        }
+    }
+
+    /// Wakes who looks for pages if there may be some: the writers if so many frames are sealed, the cleaner if so many are
+    /// closed.
+    pub(crate) fn wake(&self, sealed: u64, closed: u64) {
+        if sealed > 0 {
+            self.first.unpark();
+            self.second.unpark();
+        }
+        if closed > 0 {
+            self.cleaner.unpark();
+        }
+    }
+
+    /// The flusher makes no more turns: each writer that waits gets the message to stop, and whoever looks for pages
+    /// is woken, and ends once it finds none.
+    pub(crate) fn end(&self) {
+        if let Some(channels) = &self.channels {
+            for _ in 0..2 {
+                let _ = channels.jobs.send(self.rt, Message::Stop);
+            }
+        }
+        self.has_ended.store(true, Ordering::SeqCst);
+        self.wake(1, 1);
+    }
+}

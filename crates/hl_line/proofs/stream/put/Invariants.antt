@@ -1,0 +1,10 @@
+use Rattle.std.proofs.Common.{length}
+use Rattle.hl_line.proofs.Growing.{Grows}
+use Rattle.hl_line.proofs.stream.put.Given as goal
+
+abbrev pub invariant-loop-rest : goal.invariant-loop-rest
+invariant-loop-rest g l =
+    Grows (g.W.Write.contents l.fn.writer) (g.W.Write.contents l.writer) l.fn.bytes l.rest
+
+abbrev pub decreases-loop-rest : goal.decreases-loop-rest
+decreases-loop-rest g l = length l.rest
