@@ -82,7 +82,7 @@ pub extern "C" fn hl_pending(handle: &mut Handle, place: u64) -> Outcome
 pub extern "C" fn hl_frame(handle: &mut Handle, frame: u64) -> Outcome
     ensures { Tells handle.old.slot.value
         (λ sizes A. if nat_lt frame sizes.frames
-            then frame_outcome (frame_of sizes frame A) else out_of_range)
+        then frame_outcome (frame_of sizes frame A) else out_of_range)
         no_core handle.new.slot.value result }
 {
     match handle.take_core() {
