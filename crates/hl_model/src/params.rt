@@ -1,5 +1,5 @@
 ghost use Rattle.std.specs.Prelude.{◌≡◌, ◌↔◌, IsSome, IfSome};
-ghost use Rattle.hl_model.specs.Sizes.{AreNarrow};
+ghost use Rattle.hl_model.specs.Sizes.{AreInRange, AreNarrow};
 
 use crate::limits::{DRAIN_MOST, FRAMES_MOST, PAGE_SIZE_MOST, SLOTS_MOST};
 use crate::sizes::Sizes;
@@ -43,6 +43,21 @@ impl Params {
         } else {
             None
         }
+    }
+
+    /// Returns sizes for an engine, as [`Sizes::checked`] does, of which this is the older name. The benchmark's
+    /// programs use it, since they are also built in trees that have no other.
+    pub fn wide(page_size: u64, frames: u64, slots: u64, drain: u64) -> Option<Sizes>
+        ensures in_range { IsSome result ↔ AreInRange
+            (record { page_size = page_size; frames = frames; slots = slots; drain = drain }) }
+        ensures value { IfSome result (λ sizes. sizes ≡ record {
+          page_size = page_size;
+          frames = frames;
+          slots = slots;
+          drain = drain;
+        }) }
+    {
+        Sizes::checked(page_size, frames, slots, drain)
     }
 
     /// The same as sizes for an engine: what is narrow is in the wide ranges.

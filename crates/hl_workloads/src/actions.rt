@@ -3,7 +3,7 @@ ghost use Rattle.std.specs.Prelude.{◌≡◌};
 
 use crate::digest::Digest;
 use crate::random::Random;
-use hl::{AnyAnswer, CountTable, Fault, Firing, Kept, Reply, Sizes, Task};
+use hl::{AnyAnswer, CountTable, Fault, Firing, Kept, Params, Reply, Task};
 use hl_cells::Engine;
 use std::alloc::Global;
 
@@ -31,7 +31,7 @@ impl Task for Checkpoint {
 
 /// Makes so many rounds. Returns the digest of all answers.
 pub(crate) fn run(alloc: Global, seed: u64, rounds: u64) -> Result<u64, Fault> {
-    let params = Sizes::checked(64, 64, 8, ACTIONS).ok_or(Fault::Size)?;
+    let params = Params::wide(64, 64, 8, ACTIONS).ok_or(Fault::Size)?;
     let mut store = Store::open(alloc, params)?;
     for slot in 0..8 {
         store.acquire(slot)?;

@@ -136,7 +136,7 @@ impl Counters {
         let address = match self.lease.take(RECORD_WORDS) {
             Some(address) => address,
             None => {
-                self.lease = session.lease(self.piece)?;
+                self.lease = Lease::of(session.allocate(self.piece)?, self.piece);
                 self.lease.take(RECORD_WORDS).ok_or(Fault::Size)?
             }
         };

@@ -2,7 +2,7 @@
 use crate::counters::{Counters, Pause};
 use crate::digest::Digest;
 use crate::failure::Failure;
-use hl::{Ask, Fault, Log, NoJob, Opening, Part, Realm, Rider, Session, Sizes, Step, with_log};
+use hl::{Ask, Fault, Log, NoJob, Opening, Params, Part, Realm, Rider, Session, Step, with_log};
 use hl_lag::lag_steps;
 use std::alloc::Global;
 use std::sync::Wait;
@@ -11,7 +11,8 @@ use std::sync::Wait;
 #[derive(Clone, Copy)]
 pub(crate) struct Plan {
     pub(crate) seed: u64,
-    pub(crate) params: Sizes,
+    pub(crate) page_size: u64,
+    pub(crate) frames: u64,
     pub(crate) counters: u64,
     /// How many words are leased at a time.
     pub(crate) piece: u64,
@@ -23,13 +24,12 @@ pub(crate) struct Plan {
 /// Makes the turns. Returns the digest of what was seen meanwhile, and of what they left.
 pub(crate) fn run<R: Wait>(rt: &R, alloc: Global, plan: Plan) -> Result<u64, Failure> {
     let opening = Opening {
-        params: plan.params,
+        params: Params::wide(plan.page_size, plan.frames, 4, 16).ok_or(Fault::Size)?,
         riders: 2,
         journal: 1 << 17,
         stamp: 1,
     };
-    let size = plan.params.page_size() as usize;
-    let image = vec![in alloc; 0; size].map_err(|_| Fault::OutOfMemory)?;
+    let image = vec![in alloc; 0; plan.page_size as usize].map_err(|_| Fault::OutOfMemory)?;
     let counters = Counters::new(alloc, plan.seed, 0, plan.counters, plan.piece)?;
     let hand = Hand {
         plan,
@@ -143,7 +143,7 @@ impl Hand {
         if now.pending > 0 || now.taken > 0 {
             return Ok(());
         }
-        let params = self.plan.params;
+        let params = log.params();
         let resident = params.frames() / 4 * 3;
         let mutable = resident / 4 * 3;
         if mutable == 0 || resident < mutable {
@@ -167,7 +167,7 @@ impl Hand {
         log: &Log<L>,
         flusher: &mut Rider<L>,
     ) -> Result<(), Fault> {
-        for _ in 0..self.plan.params.frames() {
+        for _ in 0..log.params().frames() {
             if self.image.len() as u64 != log.params().page_size() {
                 return Err(Fault::Size);
             }

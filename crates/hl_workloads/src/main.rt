@@ -10,10 +10,11 @@
 //! | `actions` | thousands of actions that are taken at once, and end out of order |
 //! | `all` | each of them, a small part |
 //!
-//! Each seed below 2^32 gives another input of the same kind and size. A job is made in whole, or its first SHARE parts of
-//! a thousand: one script at least, of `script` and `slow`, and one turn or round of the others. `small` is less than that,
-//! for who counts a job's instructions: a shorter script, and turns and rounds of each kind. What is printed is a digest of all results; or why there is none, and then the status is 1: a call was
-//! refused, a script's status wasn't 0, or a word wasn't what was due.
+//! Each seed below 2^32 gives another input of the same kind and size. A job is made in whole, or its first SHARE
+//! parts of a thousand: one script at least, of `script` and `slow`, and one turn or round of the others. `small`
+//! is less than that, for who counts a job's instructions: a shorter script, and turns and rounds of each kind.
+//! What is printed is a digest of all results; or why there is none, and then the status is 1: a call was refused,
+//! a script's status wasn't 0, or a word wasn't what was due.
 #![tactic(auto)]
 
 mod actions;
@@ -28,7 +29,7 @@ mod threads;
 use crate::digest::{Digest, DigestWriter};
 use crate::failure::Failure;
 use crate::hand::Plan;
-use hl::{Fault, Sizes};
+use hl::Fault;
 use std::alloc::Global;
 use std::io::{BufWriter, Write};
 use std::process::ExitCode;
@@ -130,35 +131,37 @@ fn run<R: Threads + Wait + Clock + Sync>(
     match job {
         "script" => answer_all(alloc, seed, fast),
         "slow" => answer_all(alloc, seed, slow),
-        "log" => hand::run(rt, alloc, log_plan(seed, amount.of(2500, 20))?),
-        "frames" => hand::run(rt, alloc, frames_plan(seed, amount.of(2000, 40))?),
+        "log" => hand::run(rt, alloc, log_plan(seed, amount.of(2500, 20))),
+        "frames" => hand::run(rt, alloc, frames_plan(seed, amount.of(2000, 40))),
         "threads" => threads::run(rt, alloc, seed, amount.of(48_000_000, 20_000)),
         _ => Ok(actions::run(alloc, seed, amount.of(120, 4))?),
     }
 }
 
 // An engine with some frames of large pages.
-fn log_plan(seed: u64, turns: u64) -> Result<Plan, Fault> {
-    Ok(Plan {
+fn log_plan(seed: u64, turns: u64) -> Plan {
+    Plan {
         seed,
-        params: Sizes::checked(4096, 64, 4, 16).ok_or(Fault::Size)?,
+        page_size: 4096,
+        frames: 64,
         counters: 1 << 16,
         piece: 512,
         turns,
         operations: 20_000,
-    })
+    }
 }
 
 // A cache with many frames of small pages.
-fn frames_plan(seed: u64, turns: u64) -> Result<Plan, Fault> {
-    Ok(Plan {
+fn frames_plan(seed: u64, turns: u64) -> Plan {
+    Plan {
         seed,
-        params: Sizes::checked(64, 1 << 16, 4, 16).ok_or(Fault::Size)?,
+        page_size: 64,
+        frames: 1 << 16,
         counters: 1 << 20,
         piece: 64,
         turns,
         operations: 1000,
-    })
+    }
 }
 
 /// In which form a script is answered.
