@@ -5,6 +5,7 @@ pub mod Goes
 pub mod Lags
 pub mod Looks
 pub mod Limited
+pub mod Naps
 pub mod Overs
 pub mod Pages
 pub mod Pouches
