@@ -15,4 +15,5 @@ pub mod Riders
 pub mod Tries
 pub mod Turns
 pub mod Waits
+pub mod Wakes
 pub mod Writes
