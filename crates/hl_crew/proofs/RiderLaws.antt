@@ -26,6 +26,7 @@ use Rattle.hl_lag.specs.Lag.{lag_of}
 use Rattle.hl_images.specs.Later.{IsLater}
 use Rattle.hl_images.specs.Sweeps.{AreSweeps}
 use Rattle.hl_images.proofs.LaterLaws.{same as is_same, still, touch as later_touch, loads as later_loads, call as later_call}
+use Rattle.hl_crew.specs.declared.ends.Accepted.{Accepted}
 use Rattle.hl_crew.specs.declared.messages.Over.{Over}
 use Rattle.hl_crew.specs.declared.messages.Over.TheVariants.{Lost}
 use Rattle.hl_crew.specs.declared.limits.Cuts.{Cuts}
@@ -293,7 +294,7 @@ module _ (serves : Bool) (F : Type 0) (domain : DomainState) (cuts : Cuts) where
       } in
       subst (λ (r : RiderState). WorksOn serves domain.sizes old (swept_by domain broom r)) (sym entered) swept
 
-  free_works : (broom : BroomRecord) (result : Result (Unit {0}) Over) (old new : RiderState) → Frees F domain cuts broom result old new → WorksOn serves domain.sizes old new
+  free_works : (broom : BroomRecord) (result : Result Accepted Over) (old new : RiderState) → Frees F domain cuts broom result old new → WorksOn serves domain.sizes old new
   free_works broom result old new frees = tries_work serves domain.sizes F domain (makes_room cuts) _ (λ answer a b done. step_works serves domain.sizes (CleanDone broom.page) answer a b done (λ serving p. refl)) _ old new frees.2
 
   clean_works : (result : Result Bool Over) (old new : RiderState) → Cleans F domain cuts result old new → WorksOn serves domain.sizes old new

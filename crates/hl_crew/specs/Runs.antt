@@ -34,17 +34,20 @@ module _ {L : Type 0} (F : Type 0) (domain : DomainState) where
     -- actions were run, up to four
     abbrev pub Acts : Result (Unit {0}) Over → FlusherState L → FlusherState L → Type 0
     Acts result old new =
-        UpTo (RunsAction F domain limits.cuts) 4 result old.rider new.rider × (new ≡ record old { rider = new.rider })
+        UpTo (RunsAction F domain limits.cuts) 4 result old.rider new.rider
+        × (new ≡ record old { rider = new.rider })
 
     -- the journal was cut as the limits say for a turn's end
     abbrev pub Ends : Result (Unit {0}) Over → FlusherState L → FlusherState L → Type 0
     Ends result old new =
-        (result ≡ Ok tt) × EndsTurn F domain limits.cuts old.rider new.rider × (new ≡ record old { rider = new.rider })
+        (result ≡ Ok tt) × EndsTurn F domain limits.cuts old.rider new.rider
+        × (new ≡ record old { rider = new.rider })
 
     -- a turn kept the lag, ran actions, flushed pages, and cut the journal, one after another
     abbrev pub MakesTurn : Result (Unit {0}) Over → FlusherState L → FlusherState L → Type 0
     MakesTurn =
-        Then (KeepsLag F domain serves limits.mutable limits.resident) (Then Acts (Then (FlushesIf serves) Ends))
+        Then (KeepsLag F domain serves limits.mutable limits.resident)
+        (Then Acts (Then (FlushesIf serves) Ends))
 
     -- a turn of a number of turns
     abbrev pub TurnsNext : ℕ → Result Bool Over → FlusherState L → FlusherState L → Type 0
@@ -63,7 +66,8 @@ module _ {L : Type 0} (F : Type 0) (domain : DomainState) where
     -- was written meanwhile
     abbrev pub ServesOnce : ℕ → Result ℕ Over → FlusherState L → FlusherState L → Type 0
     ServesOnce vain (Ok after) old new =
-        (moved : Bool) × (written : Bool) × Serves (Ok moved) old new × (after ≡ vain_after (written || moved) vain)
+        (moved : Bool) × (written : Bool) × Serves (Ok moved) old new
+        × (after ≡ vain_after (written || moved) vain)
     ServesOnce vain (Err over) old new = Serves (Err over) old new
 
     -- a turn before the stop

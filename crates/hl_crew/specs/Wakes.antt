@@ -5,7 +5,8 @@ use Rattle.hl_crew.specs.declared.woken.Woken.{Woken}
 -- by how many frames are open, sealed, flushed, closed and free: the writers if one is sealed, the cleaner if one is
 -- closed
 abbrev pub woken_by : List ℕ → Woken
-woken_by frames = record { writers = nat_lt 0 (slice_index frames 1); cleaner = nat_lt 0 (slice_index frames 3) }
+woken_by frames =
+    record { writers = nat_lt 0 (slice_index frames 1); cleaner = nat_lt 0 (slice_index frames 3) }
 
 -- all of them
 abbrev pub all_woken : Woken

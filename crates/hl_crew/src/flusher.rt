@@ -181,16 +181,13 @@ impl<R: Wait, E: Epochs + Drop, F: Task, P: Promise, L: Realm, G> Run<'_, R, E, 
     fn end_turn(&self, rider: &mut Rider<L>)
         ensures { EndsTurn F self.now.domain.now self.now.limits.cuts rider.old rider.new }
     {
-        match self.limits.cuts() {
-            Cuts::Never => {}
-            Cuts::EachTurn => {
-                self.domain.cut(self.rt, rider);
-            }
-            Cuts::Above(steps) => {
-                if self.domain.snapshot_by(self.rt, rider).1 > steps {
-                    self.domain.cut(self.rt, rider);
-                }
-            }
+        let is_due = match self.limits.cuts() {
+            Cuts::Never => false,
+            Cuts::EachTurn => true,
+            Cuts::Above(steps) => self.domain.snapshot_by(self.rt, rider).1 > steps,
+        };
+        if is_due {
+            self.domain.cut(self.rt, rider);
         }
     }
 }
