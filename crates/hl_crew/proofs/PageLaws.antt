@@ -5,6 +5,7 @@ use Rattle.std.specs.Result.{result_and}
 use Rattle.hl_words.specs.States.{RiderState}
 use Rattle.hl_keeper.specs.declared.load.PageJob.{PageJob}
 use Rattle.hl_domain.specs.Domains.{DomainState}
+use Rattle.hl_crew.specs.declared.ends.Accepted.{Accepted}
 use Rattle.hl_crew.specs.declared.messages.Over.{Over}
 use Rattle.hl_crew.specs.declared.limits.Cuts.{Cuts}
 use Rattle.hl_crew.specs.declared.writer.WriterState.{WriterState}
@@ -16,7 +17,7 @@ use Rattle.hl_crew.specs.Turns.{Loads}
 
 -- a page was taken, copied and answered
 pub flushed : {L W : Type 0} (F : Type 0) (domain : DomainState) (cuts : Cuts) (lets : ℕ → Type 0) (wrote failed : W → ℕ → List ℕ → W → Type 0) (failures : W → ℕ) (Behind : Result Bool Over → WriterState L W → WriterState L W → Type 0)
-    (ok : Bool) (passed : Result Bool Over) (ended : Result (Unit {0}) Over) (load : PageJob) (taker : RiderState) (old copier last new : WriterState L W)
+    (ok : Bool) (passed : Result Bool Over) (ended : Result Accepted Over) (load : PageJob) (taker : RiderState) (old copier last new : WriterState L W)
     → Loads F domain (Ok load) old.rider taker → Copies lets wrote failed failures domain.sizes ok load taker copier.rider old.pages copier.pages → copier.counts ≡ old.counts
     → PassesIf F domain cuts lets wrote failed failures Behind ok passed copier last → TriesFor F domain (makes_room cuts) (EndsFlush F domain load.page ok load.stamp) ended last.rider new.rider
     → new.pages ≡ last.pages → MatchResult ended (λ _. new.counts ≡ counted ok last.counts) (λ _. new.counts ≡ last.counts)

@@ -1,6 +1,6 @@
 -- What a crew's calls do leaves it so that its riders store only to sweep, and flush only what they imaged.
 use Rattle.std.proofs.Common.{◌≡◌, ℕ, zero, suc, ◌+◌, ◌≤◌, Bool, true, false, List, [], ◌∷◌, Some, None, slice_get, refl, sym, ap, ◌∙◌, subst, inl, inr, arith}
-use Rattle.std.specs.Prelude.{Result, Ok, Err, Option, unwrap_or, ◌⊎◌, ◌&&◌, ◌||◌, ◌==◌, All}
+use Rattle.std.specs.Prelude.{Result, Ok, Err, MatchResult, Option, unwrap_or, ◌⊎◌, ◌&&◌, ◌||◌, ◌==◌, All}
 use Rattle.std.specs.List.{list_any}
 use Rattle.std.proofs.lemmas.Option.{get_or_from_slice_get, slice_get_within}
 use Rattle.hl_model.specs.declared.step.Step.{Step}
@@ -26,12 +26,14 @@ use Rattle.hl_lag.specs.Lag.{lag_of}
 use Rattle.hl_images.specs.Later.{IsLater}
 use Rattle.hl_images.specs.Sweeps.{AreSweeps}
 use Rattle.hl_images.proofs.LaterLaws.{same as is_same, still, touch as later_touch, loads as later_loads, call as later_call}
+use Rattle.hl_crew.specs.declared.ends.Accepted.{Accepted}
 use Rattle.hl_crew.specs.declared.messages.Over.{Over}
 use Rattle.hl_crew.specs.declared.messages.Over.TheVariants.{Lost}
 use Rattle.hl_crew.specs.declared.limits.Cuts.{Cuts}
 use Rattle.hl_crew.specs.declared.limits.Cuts.TheVariants.{Never, EachTurn, Above}
 use Rattle.hl_crew.specs.declared.flusher.FlusherState.{FlusherState}
 use Rattle.hl_crew.specs.declared.limits.Limits.{Limits}
+use Rattle.hl_crew.specs.declared.stop.Stopped.{Stopped}
 use Rattle.hl_crew.specs.Cutting.{EndsTurn, OrCuts}
 use Rattle.hl_crew.specs.Flushes.{HoldState, AnswersPage, Tells}
 use Rattle.hl_crew.specs.Goes.{Followed, UpTo}
@@ -39,7 +41,7 @@ use Rattle.hl_crew.specs.Lags.{is_lag_step, MakesIf, MakesNext, KeepsLag}
 use Rattle.hl_crew.specs.Looks.{LooksNext}
 use Rattle.hl_crew.specs.Overs.{makes_room}
 use Rattle.hl_crew.specs.Riders.{has_flushed, WorksOn}
-use Rattle.hl_crew.specs.Runs.{FlushesIf, Acts, Ends, MakesTurn, TurnsNext, Serves, ServesNext}
+use Rattle.hl_crew.specs.Runs.{FlushesIf, Acts, Ends, MakesTurn, TurnsNext, Serves, ServeState, serve_of, ServesOnce, ServesNext, ServesUntil}
 use Rattle.hl_crew.specs.Tries.{TriesAgain, Tries}
 use Rattle.hl_crew.specs.Turns.{SendState, swept, swept_by, Brooms, SendsPage, RunsAction, Cleans, Frees, Finds}
 use Rattle.hl_crew.proofs.LagLaws.{lag_kinds}
@@ -238,17 +240,24 @@ module _ {L : Type 0} (sizes : Sizes) (F : Type 0) (domain : DomainState) where
     pub turned_works : (result : Result Bool Over) (old new : FlusherState L) → Serves F domain limits serves result old new → FlusherWorks serves old new
     turned_works result old new one = flusher_then serves old one.mid new (turn_works one.made old one.mid one.turn) (or_cuts_work serves sizes F domain limits.cuts _ result one.mid.rider new.rider one.cuts)
 
-    serve_works : (i : ℕ) (result : Result Bool Over) (old new : FlusherState L) → ServesNext F domain limits serves i result old new → FlusherWorks serves old new
-    serve_works i (Ok true) old new (moved, one) = turned_works (Ok moved) old new one
-    serve_works i (Ok false) old new same = flusher_same serves old new same
-    serve_works i (Err over) old new one = turned_works (Err over) old new one
+    once_works : (vain : ℕ) (result : Result ℕ Over) (old new : FlusherState L) → ServesOnce F domain limits serves vain result old new → FlusherWorks serves old new
+    once_works vain (Ok after) old new (moved, written, one, is) = turned_works (Ok moved) old new one
+    once_works vain (Err over) old new one = turned_works (Err over) old new one
 
     -- all turns of a flusher: so many, or until its stop
     pub turns_work : (most : ℕ) (result : Result (Unit {0}) Over) (old new : FlusherState L) → UpTo (TurnsNext F domain limits serves) most result old new → FlusherWorks serves old new
     turns_work = each_hold (FlusherWorks serves) (flusher_same serves) (flusher_then serves) _ (λ i. turn_works)
 
-    pub served_work : (most : ℕ) (result : Result (Unit {0}) Over) (old new : FlusherState L) → UpTo (ServesNext F domain limits serves) most result old new → FlusherWorks serves old new
-    served_work = up_to_holds (FlusherWorks serves) (flusher_same serves) (flusher_then serves) (ServesNext F domain limits serves) serve_works
+    pub served_work : (result : Result Stopped Over) (old new : FlusherState L) → ServesUntil F domain limits serves result old new → FlusherWorks serves old new
+    served_work result old new served = flusher_then serves old served.last.own new before (by result served.ended)
+      where
+        before : FlusherWorks serves old served.last.own
+        before = followed_holds (λ (a b : ServeState L). FlusherWorks serves a.own b.own) (λ (a b : ServeState L) (is : b ≡ a). flusher_same serves a.own b.own (ap (λ (s : ServeState L). s.own) is)) (λ (a b c : ServeState L). flusher_then serves a.own b.own c.own)
+            (ServesNext F domain limits serves) (λ i next (a b : ServeState L). once_works a.vain (Ok b.vain) a.own b.own) served.turns (serve_of old 0) served.last served.before
+
+        by : (result : Result Stopped Over) → MatchResult result (λ _. new ≡ served.last.own) (λ over. Serves F domain limits serves (Err over) served.last.own new) → FlusherWorks serves served.last.own new
+        by (Ok stopped) same = flusher_same serves served.last.own new same
+        by (Err over) one = turned_works (Err over) served.last.own new one
 
 -- the zeros of a sweep behind the call that took its page
 zeros_sweep : (sizes : Sizes) (p n : ℕ) (list : List Step) (older : List Entry) (view : RiderView) → next_to_clean sizes list ≡ Some p → n ≤ sizes.page_size → AreSweeps sizes view.touches (entry list (CleanTake ∷ []) ∷ older)
@@ -285,7 +294,7 @@ module _ (serves : Bool) (F : Type 0) (domain : DomainState) (cuts : Cuts) where
       } in
       subst (λ (r : RiderState). WorksOn serves domain.sizes old (swept_by domain broom r)) (sym entered) swept
 
-  free_works : (broom : BroomRecord) (result : Result (Unit {0}) Over) (old new : RiderState) → Frees F domain cuts broom result old new → WorksOn serves domain.sizes old new
+  free_works : (broom : BroomRecord) (result : Result Accepted Over) (old new : RiderState) → Frees F domain cuts broom result old new → WorksOn serves domain.sizes old new
   free_works broom result old new frees = tries_work serves domain.sizes F domain (makes_room cuts) _ (λ answer a b done. step_works serves domain.sizes (CleanDone broom.page) answer a b done (λ serving p. refl)) _ old new frees.2
 
   clean_works : (result : Result Bool Over) (old new : RiderState) → Cleans F domain cuts result old new → WorksOn serves domain.sizes old new

@@ -23,6 +23,7 @@ use Rattle.hl_images.specs.Later.{IsLater}
 use Rattle.hl_images.proofs.CopyLaws.{copied, answered_is_flushed}
 use Rattle.hl_images.proofs.ImageLaws.{copied_stays, flushed_stays}
 use Rattle.hl_images.proofs.LaterLaws.{same as is_same, still, call as later_call}
+use Rattle.hl_crew.specs.declared.ends.Accepted.{Accepted}
 use Rattle.hl_crew.specs.declared.messages.Over.{Over}
 use Rattle.hl_crew.specs.declared.limits.Cuts.{Cuts}
 use Rattle.hl_crew.specs.declared.writer.WriterState.{WriterState}
@@ -142,7 +143,7 @@ module _ {L W : Type 0} (has : W → ℕ → List ℕ → Type 0) (serves : Bool
   Works old new = WritesOn has serves domain.sizes old new
 
   -- a page that was answered as flushed
-  done_works : (page stamp : ℕ) (words : List ℕ) (list : List Step) (result : Result (Unit {0}) Over) (old new : WriterState L W) → HasCopied domain.sizes page words list old.rider → has old.pages page (image page words) → new.pages ≡ old.pages
+  done_works : (page stamp : ℕ) (words : List ℕ) (list : List Step) (result : Result Accepted Over) (old new : WriterState L W) → HasCopied domain.sizes page words list old.rider → has old.pages page (image page words) → new.pages ≡ old.pages
       → TriesFor F domain (makes_room cuts) (EndsFlush F domain page true stamp) result old.rider new.rider → Works old new
   done_works page stamp words list result old new copy there pages (answer, told, tries) =
       writer_then has serves domain.sizes old mid new (rider_writes has serves domain.sizes old mid again refl) (by answer tries.answered)
@@ -173,7 +174,7 @@ module _ {L W : Type 0} (has : W → ℕ → List ℕ → Type 0) (serves : Bool
       others_write has serves domain.sizes load.page old copier (fresh_page load old.rider taker taken) (then serves domain.sizes old.rider taker copier.rider takes did.0) did.1
 
   flushes_page : (Behind : Result Bool Over → WriterState L W → WriterState L W → Type 0) → ((passed : Result Bool Over) (old new : WriterState L W) → Behind passed old new → Works old new)
-      → (ok : Bool) (passed : Result Bool Over) (result : Result (Unit {0}) Over) (old new : WriterState L W) → FlushesPage F domain cuts lets (WritesPage has wrote) (FailsPage has failed) failures Behind ok passed result old new → Works old new
+      → (ok : Bool) (passed : Result Bool Over) (result : Result Accepted Over) (old new : WriterState L W) → FlushesPage F domain cuts lets (WritesPage has wrote) (FailsPage has failed) failures Behind ok passed result old new → Works old new
   flushes_page Behind behind true passed result old new one =
       let is = one.copies.1 in
       let page = one.load.page in

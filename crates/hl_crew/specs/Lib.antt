@@ -5,6 +5,7 @@ pub mod Goes
 pub mod Lags
 pub mod Looks
 pub mod Limited
+pub mod Naps
 pub mod Overs
 pub mod Pages
 pub mod Pouches
@@ -14,4 +15,5 @@ pub mod Riders
 pub mod Tries
 pub mod Turns
 pub mod Waits
+pub mod Wakes
 pub mod Writes

@@ -1,5 +1,5 @@
 -- What a crew runs by.
-use Rattle.std.specs.Prelude.{ℕ, Bool, true, false, Option, Some, None}
+use Rattle.std.specs.Prelude.{ℕ, ◌-◌, ◌^◌, Bool, true, false, Option, Some, None}
 use Rattle.hl_crew.specs.declared.duty.Duty.{Duty}
 use Rattle.hl_crew.specs.declared.limits.Cuts.{Cuts}
 use Rattle.hl_crew.specs.declared.limits.Cuts.TheVariants.{Never, EachTurn, Above}
@@ -30,3 +30,8 @@ run_limits mutable resident cut = record { mutable = mutable; resident = residen
 abbrev pub is_until : Mode → Bool
 is_until (Turns most) = false
 is_until (Until stop) = true
+
+-- how often its cleaner looks for a page at most
+abbrev pub looks_of : Mode → ℕ
+looks_of (Turns most) = most
+looks_of (Until stop) = 2 ^ 64 - 1

@@ -2,6 +2,7 @@
 use Rattle.std.specs.Prelude.{Bool, true, false, Result, Ok, Err}
 use Rattle.hl_model.specs.declared.fault.Fault.{Fault}
 use Rattle.hl_model.specs.declared.fault.Fault.TheVariants.{Empty, JournalFull, NotReady}
+use Rattle.hl_crew.specs.declared.ends.Accepted.{Accepted}
 use Rattle.hl_crew.specs.declared.messages.Over.{Over}
 use Rattle.hl_crew.specs.declared.messages.Over.TheVariants.{Full, Lost}
 use Rattle.hl_crew.specs.declared.limits.Cuts.{Cuts}
@@ -12,9 +13,13 @@ abbrev pub over_of : Fault → Over
 over_of JournalFull = Full
 over_of _ = Lost
 
+-- an answer was accepted
+abbrev pub accepted : Accepted
+accepted = record { made = tt }
+
 -- what the answer to one means for them
-abbrev pub over_if_refused : {X : Type 0} → Result X Fault → Result (Unit {0}) Over
-over_if_refused (Ok x) = Ok tt
+abbrev pub over_if_refused : {X : Type 0} → Result X Fault → Result Accepted Over
+over_if_refused (Ok x) = Ok accepted
 over_if_refused (Err fault) = Err (over_of fault)
 
 -- whether a call was refused since the journal is full

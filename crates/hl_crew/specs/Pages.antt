@@ -7,6 +7,7 @@ use Rattle.hl_model.specs.Sizes.{Sizes}
 use Rattle.hl_words.specs.States.{RiderState}
 use Rattle.hl_keeper.specs.declared.load.PageJob.{PageJob}
 use Rattle.hl_domain.specs.Domains.{DomainState}
+use Rattle.hl_crew.specs.declared.ends.Accepted.{Accepted}
 use Rattle.hl_crew.specs.declared.messages.Over.{Over}
 use Rattle.hl_crew.specs.declared.limits.Cuts.{Cuts}
 use Rattle.hl_crew.specs.declared.writer.WriterState.{WriterState}
@@ -42,7 +43,7 @@ module _ {L W : Type 0} (F : Type 0) (domain : DomainState) (cuts : Cuts) (lets 
 
     -- a rider took a page, copied it, and answered it as written; or as failed, once the next one behind it was
     -- flushed. An answer that was accepted was counted
-    pub record FlushesPage (ok : Bool) (passed : Result Bool Over) (result : Result (Unit {0}) Over)
+    pub record FlushesPage (ok : Bool) (passed : Result Bool Over) (result : Result Accepted Over)
         (old new : WriterState L W) : Type 0 where
       pub load : PageJob
       pub taker : RiderState
@@ -65,7 +66,7 @@ module _ {L W : Type 0} (F : Type 0) (domain : DomainState) (cuts : Cuts) (lets 
         ((result ≡ Ok false) × RefusesPage NoneSealed old new)
         ⊎ ((fault : Fault) × (fault ≡ NoneSealed → ⊥) × (result ≡ Err (over_of fault))
         × RefusesPage fault old new)
-        ⊎ ((ok : Bool) × (passed : Result Bool Over) × (ended : Result (Unit {0}) Over)
+        ⊎ ((ok : Bool) × (passed : Result Bool Over) × (ended : Result Accepted Over)
         × FlushesPage ok passed ended old new × (result ≡ result_and ended passed))
 
   -- what was done behind a page that wasn't written: the next one was flushed, if so many more may fail

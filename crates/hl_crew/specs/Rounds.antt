@@ -37,3 +37,9 @@ module _ {L W : Type 0} (F : Type 0) (domain : DomainState) (limits : Limits) (l
   MakesRound i (Err over) old new =
       Serves F domain limits true (Err over) old.flusher new.flusher
       × (new ≡ record old { flusher = new.flusher })
+
+  -- the last rounds were made, at most a thousand, up to the first in which the flusher got nowhere, or failed; or
+  -- there were none
+  abbrev pub RoundsIf : Bool → CrewState L W → CrewState L W → Type 0
+  RoundsIf true old new = (result : Result (Unit {0}) Over) × UpTo MakesRound 1000 result old new
+  RoundsIf false old new = new ≡ old

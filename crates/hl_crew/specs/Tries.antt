@@ -12,6 +12,7 @@ use Rattle.hl_keeper.specs.Calls.{Ends}
 use Rattle.hl_keeper.specs.Keepers.{KeeperState}
 use Rattle.hl_keeper.specs.Pages.{BroomRecord}
 use Rattle.hl_domain.specs.Domains.{DomainState, call_of, MakesUnderLock}
+use Rattle.hl_crew.specs.declared.ends.Accepted.{Accepted}
 use Rattle.hl_crew.specs.declared.messages.Over.{Over}
 use Rattle.hl_crew.specs.Cutting.{CutsJournal}
 use Rattle.hl_crew.specs.Goes.{Followed}
@@ -61,5 +62,5 @@ module _ {X : Type 0} (F : Type 0) (domain : DomainState) (may_cut : Bool)
     pub given_up : result ≡ Err JournalFull → may_cut ≡ true → before ≡ 1000
 
   -- and this is what its answer means for the turns
-  abbrev pub TriesFor : Result (Unit {0}) Over → RiderState → RiderState → Type 0
+  abbrev pub TriesFor : Result Accepted Over → RiderState → RiderState → Type 0
   TriesFor over old new = (result : Result X Fault) × (over ≡ over_if_refused result) × Tries result old new

@@ -10,11 +10,12 @@ use Rattle.hl_keeper.specs.Calls.{Makes}
 use Rattle.hl_domain.specs.Domains.{DomainState, call_of, answered, LeavesUnderLock, MakesUnderLock}
 use Rattle.hl_keeper.specs.Pages.{BroomRecord, to_flush, to_clean, first_cell, zeroed}
 use Rattle.hl_keeper.specs.Taking.{taken_from, ready_reply}
+use Rattle.hl_crew.specs.declared.ends.Accepted.{Accepted}
 use Rattle.hl_crew.specs.declared.messages.Over.{Over}
 use Rattle.hl_crew.specs.declared.messages.Over.TheVariants.{Lost}
 use Rattle.hl_crew.specs.declared.limits.Cuts.{Cuts}
 use Rattle.hl_crew.specs.Cutting.{OrCuts}
-use Rattle.hl_crew.specs.Overs.{over_of, is_none_ready, makes_room}
+use Rattle.hl_crew.specs.Overs.{over_of, accepted, is_none_ready, makes_room}
 use Rattle.hl_crew.specs.Pouches.{Puts}
 use Rattle.hl_crew.specs.Tries.{EndsAction, EndsClean, TriesFor}
 
@@ -78,7 +79,7 @@ module _ (F : Type 0) (domain : DomainState) where
 
 module _ (F : Type 0) (domain : DomainState) (cuts : Cuts) where
   -- the done of an action was answered so, by as many tries as that takes
-  abbrev pub Finishes : ℕ → ℕ → Result (Unit {0}) Over → RiderState → RiderState → Type 0
+  abbrev pub Finishes : ℕ → ℕ → Result Accepted Over → RiderState → RiderState → Type 0
   Finishes origin ticket result old new =
       TriesFor F domain (makes_room cuts) (EndsAction F domain origin ticket) result old new
 
@@ -87,7 +88,7 @@ module _ (F : Type 0) (domain : DomainState) (cuts : Cuts) where
     pub ready : ReadyRecord F
     pub mid : RiderState
     pub taken : Takes F domain (Ok ready) old mid
-    pub done : Finishes ready.origin ready.firing.ticket (Ok tt) mid new
+    pub done : Finishes ready.origin ready.firing.ticket (Ok accepted) mid new
 
   -- a take of an action was refused for another reason than that none is ready, or an action was taken and
   -- then not accepted as done: that is what it means for the turns
@@ -106,7 +107,7 @@ module _ (F : Type 0) (domain : DomainState) (cuts : Cuts) where
   RunsAction i (Err over) old new = FailsAction over old new
 
   -- that of a page that was swept was answered so, by as many tries as that takes
-  abbrev pub Frees : BroomRecord → Result (Unit {0}) Over → RiderState → RiderState → Type 0
+  abbrev pub Frees : BroomRecord → Result Accepted Over → RiderState → RiderState → Type 0
   Frees broom result old new = TriesFor F domain (makes_room cuts) (EndsClean F domain broom) result old new
 
   -- a page was taken, all its cells swept, and it was accepted as clean
@@ -114,7 +115,7 @@ module _ (F : Type 0) (domain : DomainState) (cuts : Cuts) where
     pub broom : BroomRecord
     pub taker : RiderState
     pub taken : Brooms F domain (Ok broom) old taker
-    pub done : Frees (swept domain broom) (Ok tt) (swept_by domain broom taker) new
+    pub done : Frees (swept domain broom) (Ok accepted) (swept_by domain broom taker) new
 
   -- a page that was taken is of another domain; or it was swept, and not accepted as clean
   abbrev pub FailsBroom : Over → BroomRecord → RiderState → RiderState → Type 0

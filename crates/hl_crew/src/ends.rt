@@ -17,6 +17,12 @@ use std::sync::Wait;
 /// How often what ends something is tried again, while the journal is full and is cut.
 const ATTEMPTS: u64 = 1_000;
 
+/// That what was taken was ended, and the domain accepted it. Only [`Run::end_by`] makes one.
+#[derive(Drop)]
+pub(crate) struct Accepted {
+    made: (),
+}
+
 /// What a call of the domain ends: one that refuses returns it.
 pub trait Ends<E: Epochs + Drop, F: Task, P: Promise, L: Realm>: Sized {
     ghost use Rattle.std.specs.Prelude.{Result, ⊤};
@@ -129,7 +135,8 @@ pub fn end_by_tries<R: Wait, E: Epochs + Drop, F: Task, P: Promise, L: Realm, X:
     what: X,
 ) -> Result<X::Answer, (Fault, X)>
     requires { X.can_end what domain.now }
-    ensures met { Tries F domain.now may_cut (X.ends what domain.now) (without_back result) rider.old rider.new }
+    ensures met { Tries F domain.now may_cut (X.ends what domain.now) (without_back result)
+        rider.old rider.new }
     ensures refused { IfErr result (λ back. back.1 ≡ what) }
 {
     let mut what = what;
@@ -171,13 +178,13 @@ impl<R: Wait, E: Epochs + Drop, F: Task, P: Promise, L: Realm, G> Run<'_, R, E, 
         &self,
         rider: &mut Rider<L>,
         what: X,
-    ) -> Result<(), Over>
+    ) -> Result<Accepted, Over>
         requires { X.can_end what self.now.domain.now }
         ensures { TriesFor F self.now.domain.now (makes_room self.now.limits.cuts)
             (X.ends what self.now.domain.now) result rider.old rider.new }
     {
         match end_by_tries(self.rt, self.domain, rider, self.limits.makes_room(), what) {
-            Ok(_) => Ok(()),
+            Ok(_) => Ok(Accepted { made: () }),
             Err((fault, what)) => {
                 what.forsake();
                 Err(Over::of(&fault))

@@ -1,9 +1,9 @@
-ghost use Rattle.std.specs.Prelude.{◌≡◌, ◌-◌, ◌^◌, None, OnOk, is_none, replicate};
+ghost use Rattle.std.specs.Prelude.{◌≡◌, None, OnOk, is_none, replicate};
 ghost use Rattle.hl_crew.specs.Cutting.{EndsTurn};
 ghost use Rattle.hl_crew.specs.Flushes.{AreFlushed};
 ghost use Rattle.hl_crew.specs.Goes.{UpTo};
 ghost use Rattle.hl_crew.specs.Pouches.{load_count};
-ghost use Rattle.hl_crew.specs.Runs.{FlushesIf, MakesTurn, TurnsNext, Serves, ServesNext};
+ghost use Rattle.hl_crew.specs.Runs.{FlushesIf, MakesTurn, TurnsBy, TurnsNext, Serves, ServesOnce, ServesUntil};
 ghost use Rattle.hl_crew.specs.Riders.{IsGiven, WorksOn};
 
 use crate::counts::Counts;
@@ -14,7 +14,7 @@ use crate::mode::Mode;
 use crate::pouch::Pouch;
 use crate::run::Run;
 use crate::seats::{HasRider, Seat};
-use crate::stop::Stop;
+use crate::stop::{Stop, Stopped};
 use hl_action::{Promise, Task};
 use hl_epoch::Epochs;
 use hl_words::{Realm, Rider};
@@ -58,15 +58,21 @@ impl<R: Wait, E: Epochs + Drop, F: Task, P: Promise, L: Realm, G> Run<'_, R, E, 
         self.end();
     }
 
-    // Makes its turns, as many as the mode says.
+    // Makes its turns, as many as the mode says. Its rider stores nothing, and if the crew serves, it flushes no page.
     fn make_all_turns(&self, own: &mut FlusherState<L>)
-        ensures { WorksOn (is_none self.now.channels) self.now.domain.now.sizes
+        ensures turns { TurnsBy F self.now.domain.now self.now.limits
+            (is_none self.now.channels) self.now.mode own.old own.new }
+        ensures works { WorksOn (is_none self.now.channels) self.now.domain.now.sizes
             own.old.rider own.new.rider }
     {
-        let _ = match &self.mode {
-            Mode::Turns(most) => self.make_turns(own, *most),
-            Mode::Until(stop) => self.serve(own, stop),
-        };
+        match &self.mode {
+            Mode::Turns(most) => {
+                let _ = self.make_turns(own, *most);
+            }
+            Mode::Until(stop) => {
+                let _ = self.serve(own, stop);
+            }
+        }
     }
 
     // Makes this many turns, up to the first that failed. After each it wakes the cleaner.
@@ -83,27 +89,34 @@ impl<R: Wait, E: Epochs + Drop, F: Task, P: Promise, L: Realm, G> Run<'_, R, E, 
         Ok(())
     }
 
-    // Makes turns until the stop is given, or the first after which it can't go on. If a turn got nowhere,
-    // and no page was written meanwhile, it rests.
-    #[tactic(auto, using(crate::proofs::GoesLaws::going))]
-    fn serve(&self, own: &mut FlusherState<L>, stop: &Stop) -> Result<(), Over>
-        ensures { UpTo (ServesNext F self.now.domain.now self.now.limits
-            (is_none self.now.channels)) (2 ^ 64 - 1) result own.old own.new }
+    // Makes turns until the stop is given, or the first after which it can't go on.
+    fn serve(&self, own: &mut FlusherState<L>, stop: &Stop) -> Result<Stopped, Over>
+        ensures { ServesUntil F self.now.domain.now self.now.limits
+            (is_none self.now.channels) result own.old own.new }
     {
-        let mut vain = 0u64;
-        for _ in 0..u64::MAX {
-            if stop.is_given() {
-                return Ok(());
+        let rt = self.rt;
+        let mut vain = 0;
+        for _ in rt.forever() {
+            if let Some(stopped) = stop.stopped() {
+                return Ok(stopped);
             }
-            let moved = self.serve_turn(own)?;
-            if self.has_written.swap(false, Ordering::SeqCst) | moved {
-                vain = 0;
-            } else {
-                stop.rest(self.rt, vain);
-                vain = vain.saturating_add(1);
+            match self.serve_once(own, stop, vain) {
+                Ok(after) => vain = after,
+                Err(over) => return Err(over),
             }
         }
-        Ok(())
+        unreachable!()
+    }
+
+    // Makes a turn, and rests if that got nowhere, and no page was written meanwhile. Returns how many such turns there
+    // are in a row, with `vain` before it.
+    fn serve_once(&self, own: &mut FlusherState<L>, stop: &Stop, vain: u64) -> Result<u64, Over>
+        ensures { ServesOnce F self.now.domain.now self.now.limits
+            (is_none self.now.channels) vain result own.old own.new }
+    {
+        let moved = self.serve_turn(own)?;
+        let written = self.has_written.swap(false, Ordering::SeqCst);
+        Ok(stop.rest_unless(self.rt, written || moved, vain))
     }
 
     /// Makes a turn. True if that entered a step. A full journal that may be cut
@@ -168,16 +181,13 @@ impl<R: Wait, E: Epochs + Drop, F: Task, P: Promise, L: Realm, G> Run<'_, R, E, 
     fn end_turn(&self, rider: &mut Rider<L>)
         ensures { EndsTurn F self.now.domain.now self.now.limits.cuts rider.old rider.new }
     {
-        match self.limits.cuts() {
-            Cuts::Never => {}
-            Cuts::EachTurn => {
-                self.domain.cut(self.rt, rider);
-            }
-            Cuts::Above(steps) => {
-                if self.domain.snapshot_by(self.rt, rider).1 > steps {
-                    self.domain.cut(self.rt, rider);
-                }
-            }
+        let is_due = match self.limits.cuts() {
+            Cuts::Never => false,
+            Cuts::EachTurn => true,
+            Cuts::Above(steps) => self.domain.snapshot_by(self.rt, rider).1 > steps,
+        };
+        if is_due {
+            self.domain.cut(self.rt, rider);
         }
     }
 }

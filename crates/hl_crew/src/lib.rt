@@ -78,7 +78,7 @@
 //! | `duty`, `stop` | what a crew that serves is given; what ends it |
 //! | `limits`, `mode` | what all its threads keep to; for how long they work |
 //! | `flusher`, and in it `lag`, `asked`, `actions`, `pages`, `acknowledgements` | the flusher's turn, a part each |
-//! | `looks`, `ends` | how a thread looks for pages; how what was taken is ended |
+//! | `looks`, `woken`, `ends` | how a thread looks for pages; who is woken; how what was taken is ended |
 //! | `writer`, and in it `buffers`, `write` and `flush`; `cleaner` | the other threads |
 //! | `pouch` | the pages that wait for their acknowledgement |
 //! | `gate`, `messages`, `counts` | when a page may be written; what the channels carry; what is counted |
@@ -105,6 +105,7 @@ mod state;
 mod stop;
 mod threads;
 mod whole;
+mod woken;
 mod writer;
 
 pub use calls::{CrewEnd, run_crew};

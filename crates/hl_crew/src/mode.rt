@@ -1,3 +1,6 @@
+ghost use Rattle.std.specs.Prelude.{◌≡◌};
+ghost use Rattle.hl_crew.specs.Limited.{looks_of};
+
 use crate::stop::Stop;
 
 /// How long a crew works, and how its pages come to the writers.
@@ -11,7 +14,9 @@ pub(crate) enum Mode<'x> {
 
 impl<'x> Mode<'x> {
     /// Returns how often the cleaner looks for a page at most.
-    pub(crate) fn looks(&self) -> u64 {
+    pub(crate) fn looks(&self) -> u64
+        ensures { result ≡ looks_of self.now }
+    {
         match self {
             Mode::Turns(most) => *most,
             Mode::Until(_) => u64::MAX,

@@ -1,7 +1,7 @@
 //! How a crew that serves ends: by rounds of all its threads' work in one thread.
-ghost use Rattle.std.specs.Prelude.{◌≡◌, is_none, true};
+ghost use Rattle.std.specs.Prelude.{◌≡◌, ◌&&◌, is_none, true};
 ghost use Rattle.hl_crew.specs.Goes.{UpTo};
-ghost use Rattle.hl_crew.specs.Rounds.{AllLook, MakesRound};
+ghost use Rattle.hl_crew.specs.Rounds.{AllLook, MakesRound, RoundsIf};
 ghost use Rattle.hl_crew.specs.Riders.{AllWorkOn, WritesPage, FailsPage};
 
 use crate::gate::Gate;
@@ -19,7 +19,10 @@ impl<R: Wait, E: Epochs + Drop, F: Task, P: Promise, L: Realm, G: Gate> Run<'_, 
     /// What a crew does whose threads have ended: if it serves and was whole, it makes its last turns. Its riders
     /// store only to sweep, and flush only pages whose images were written.
     pub(crate) fn end_rounds<W: PageWriter>(&self, state: &mut CrewState<L, W>, is_whole: bool)
-        ensures { AllWorkOn W.has (is_none self.now.channels) self.now.domain.now.sizes
+        ensures rounds { RoundsIf F self.now.domain.now self.now.limits (G.lets self.now.gate.now)
+            (WritesPage W.has W.wrote) (FailsPage W.has W.failed) W.failures
+            (is_whole && is_none self.now.channels) state.old state.new }
+        ensures works { AllWorkOn W.has (is_none self.now.channels) self.now.domain.now.sizes
             state.old state.new }
     {
         if is_whole && self.serves() {

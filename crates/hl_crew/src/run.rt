@@ -5,6 +5,7 @@ ghost use Rattle.hl_crew.specs.Lags.{IsLag};
 use crate::limits::Limits;
 use crate::messages::{Channels, Message, Over};
 use crate::mode::Mode;
+use crate::woken::Woken;
 use hl_action::{Promise, Task};
 use hl_domain::Domain;
 use hl_epoch::Epochs;
@@ -60,14 +61,13 @@ impl<R: Wait, E: Epochs + Drop, F: Task, P: Promise, L: Realm, G> Run<'_, R, E, 
         }
     }
 
-    /// Wakes who looks for pages if there may be some: the writers if so many frames are sealed, the cleaner if so many are
-    /// closed.
-    pub(crate) fn wake(&self, sealed: u64, closed: u64) {
-        if sealed > 0 {
+    /// Wakes these of those that look for pages.
+    pub(crate) fn wake(&self, woken: Woken) {
+        if woken.writers {
             self.first.unpark();
             self.second.unpark();
         }
-        if closed > 0 {
+        if woken.cleaner {
             self.cleaner.unpark();
         }
     }
@@ -81,6 +81,6 @@ impl<R: Wait, E: Epochs + Drop, F: Task, P: Promise, L: Realm, G> Run<'_, R, E, 
             }
         }
         self.has_ended.store(true, Ordering::SeqCst);
-        self.wake(1, 1);
+        self.wake(Woken::all());
     }
 }

@@ -1,3 +1,6 @@
+ghost use Rattle.std.specs.Prelude.{◌≡◌};
+ghost use Rattle.hl_crew.specs.Naps.{nap_of, vain_after};
+
 use std::sync::Wait;
 use std::sync::atomic::{AtomicBool, Ordering};
 use std::thread::Parker;
@@ -20,6 +23,12 @@ pub(crate) const LAST_TURNS: u64 = 1_000;
 pub struct Stop {
     is_given: AtomicBool,
     sleeper: Parker,
+}
+
+/// That a stop was given. Only [`Stop::stopped`] makes one, so a crew that serves can't end its turns without.
+#[derive(Clone, Copy)]
+pub(crate) struct Stopped {
+    _given: (),
 }
 
 impl Stop {
@@ -46,12 +55,36 @@ impl Stop {
 
     /// Returns whether the stop was given.
     pub fn is_given(&self) -> bool {
-        self.is_given.load(Ordering::SeqCst)
+        self.stopped().is_some()
     }
 
-    /// Rests after a turn that got nowhere, with `vain` such turns in a row before it.
-    pub(crate) fn rest(&self, rt: &impl Wait, vain: u64) {
-        let nap = LONGEST_NAP.min(FIRST_NAP << vain.min(DOUBLINGS));
-        self.sleeper.park_timeout(rt, Duration::from_millis(nap));
+    /// Returns that the stop was given; `None` if it wasn't.
+    pub(crate) fn stopped(&self) -> Option<Stopped> {
+        if self.is_given.load(Ordering::SeqCst) {
+            Some(Stopped { _given: () })
+        } else {
+            None
+        }
     }
+
+    /// Rests after a turn, unless that got somewhere, with `vain` turns in a row before it that got nowhere. Returns how
+    /// many there are in a row after it.
+    pub(crate) fn rest_unless(&self, rt: &impl Wait, moved: bool, vain: u64) -> u64
+        ensures { result ≡ vain_after moved vain }
+    {
+        if moved {
+            return 0;
+        }
+        let nap = Duration::from_millis(nap_of(vain));
+        self.sleeper.park_timeout(rt, nap);
+        vain.saturating_add(1)
+    }
+}
+
+// Returns how long a crew sleeps at most after a turn that got nowhere, in milliseconds, with `vain` such turns in a row
+// before it.
+fn nap_of(vain: u64) -> u64
+    ensures { result ≡ nap_of vain }
+{
+    LONGEST_NAP.min(FIRST_NAP << vain.min(DOUBLINGS))
 }

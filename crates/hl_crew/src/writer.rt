@@ -1,6 +1,8 @@
-ghost use Rattle.std.specs.Prelude.{◌≡◌, is_none, false};
+ghost use Rattle.std.specs.Prelude.{◌≡◌, is_none, false, true};
 ghost use Rattle.hl_crew.specs.Counting.{nothing};
-ghost use Rattle.hl_crew.specs.Riders.{IsGiven, WritesOn};
+ghost use Rattle.hl_crew.specs.Pages.{FindsPage};
+ghost use Rattle.hl_crew.specs.Riders.{IsGiven, FailsPage, WritesOn, WritesPage};
+ghost use Rattle.hl_crew.specs.Rounds.{LooksOn};
 
 use crate::counts::Counts;
 use crate::gate::Gate;
@@ -82,7 +84,11 @@ impl<R: Wait, E: Epochs + Drop, F: Task, P: Promise, L: Realm, G: Gate> Run<'_, 
 
     // Writes its pages, which are sent or which it takes.
     fn write_all<W: PageWriter>(&self, own: &mut WriterState<L, W>, sleeper: &Parker)
-        ensures { WritesOn W.has (is_none self.now.channels) self.now.domain.now.sizes own.old own.new }
+        ensures looks { is_none self.now.channels ≡ true → LooksOn (FindsPage F self.now.domain.now
+            self.now.limits.cuts (G.lets self.now.gate.now) (WritesPage W.has W.wrote)
+            (FailsPage W.has W.failed) W.failures) own.old own.new }
+        ensures works { WritesOn W.has (is_none self.now.channels) self.now.domain.now.sizes
+            own.old own.new }
     {
         match &self.channels {
             Some(channels) => self.write_on(own, channels),

@@ -6,6 +6,7 @@ ghost use Rattle.hl_crew.specs.Lags.{is_wanted, is_lag_step, lag_end, MakesStep,
 use crate::flusher::{Asked, FlusherState};
 use crate::messages::Over;
 use crate::run::Run;
+use crate::woken::Woken;
 use hl_action::{Promise, Task};
 use hl_drain::Ask;
 use hl_epoch::Epochs;
@@ -28,8 +29,7 @@ impl<R: Wait, E: Epochs + Drop, F: Task, P: Promise, L: Realm, G> Run<'_, R, E, 
             limits.mutable limits.resident result own.old own.new }
     {
         let (now, _, _) = self.domain.snapshot(self.rt);
-        let [_, sealed, _, closed, _] = now.frames;
-        self.wake(sealed, closed);
+        self.wake(Woken::by(now.frames));
         let limits = self.limits;
         let lag = lag_steps(
             self.domain.params(),

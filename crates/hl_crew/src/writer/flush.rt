@@ -5,7 +5,7 @@ ghost use Rattle.hl_crew.specs.Looks.{LooksNext};
 ghost use Rattle.hl_crew.specs.Pages.{FindsPage, Flushes, Passes, PassesIf};
 ghost use Rattle.hl_crew.specs.Riders.{WritesPage, FailsPage};
 
-use crate::ends::Flush;
+use crate::ends::{Accepted, Flush};
 use crate::gate::Gate;
 use crate::looks::{Look, Looker};
 use crate::messages::Over;
@@ -73,9 +73,9 @@ impl<R: Wait, E: Epochs + Drop, F: Task, P: Promise, L: Realm, G: Gate> Run<'_, 
         let ok = self.write(own, load.job()).ok();
         let passed = self.flush_behind(own, ok, behind);
         let flush = Flush { load, ok };
-        self.end_by(&mut own.rider, flush)?;
+        let accepted = self.end_by(&mut own.rider, flush)?;
         own.counts.count(ok);
-        self.tell(ok);
+        self.tell(accepted, ok);
         passed
     }
 
@@ -90,8 +90,8 @@ impl<R: Wait, E: Epochs + Drop, F: Task, P: Promise, L: Realm, G: Gate> Run<'_, 
         ensures { PassesIf F self.now.domain.now self.now.limits.cuts
             (G.lets self.now.gate.now) (WritesPage W.has W.wrote) (FailsPage W.has W.failed) W.failures
             (Passes F self.now.domain.now self.now.limits.cuts
-            (G.lets self.now.gate.now) (WritesPage W.has W.wrote) (FailsPage W.has W.failed) W.failures behind)
-            ok result own.old own.new }
+            (G.lets self.now.gate.now) (WritesPage W.has W.wrote) (FailsPage W.has W.failed) W.failures
+            behind) ok result own.old own.new }
     {
         if ok {
             return Ok(true);
@@ -102,8 +102,8 @@ impl<R: Wait, E: Epochs + Drop, F: Task, P: Promise, L: Realm, G: Gate> Run<'_, 
         self.flush(own, behind - 1)
     }
 
-    // Wakes the flusher if a page was written: the head may go on.
-    fn tell(&self, ok: bool) {
+    // Wakes the flusher once a page was answered, if as written: the head may go on.
+    fn tell(&self, _accepted: Accepted, ok: bool) {
         match self.mode {
             Mode::Until(stop) if ok => {
                 self.has_written.store(true, Ordering::SeqCst);

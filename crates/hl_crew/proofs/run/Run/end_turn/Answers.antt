@@ -1,15 +1,22 @@
-use Rattle.std.proofs.Common.{◌≡◌, true, sym, ap, ◌∙◌, arith}
+use Rattle.std.proofs.Common.{◌≡◌, true, false, sym, ap, ◌∙◌}
 use Rattle.std.specs.Prelude.{nat_lt}
-use Rattle.std.proofs.lemmas.Bool.Decides.{nat_tests}
 use Rattle.hl_crew.proofs.Steps.{leaves}
 use Rattle.hl_crew.proofs.run.Run.end_turn.Goals as goal
+use Rattle.hl_crew.proofs.run.Run.end_turn.Goals.{in-Never, in-EachTurn, in-Above}
 
-pub returns-then-snapshot_by-steps : goal.returns-then-snapshot_by-steps
-returns-then-snapshot_by-steps g c =
-    let more : true ≡ nat_lt c.in-Above.steps c.snapshot_by.result.1 = grind (arith, nat_tests) in
-    rw (sym c.cuts.ensures ∙ c.in-Above.is) (
-      true,
-      c.snapshot_by.new.rider,
-      leaves (λ before after h. (h.0, more ∙ ap (nat_lt c.in-Above.steps) h.2)) c.snapshot_by.ensures.met,
-      leaves (λ before after h. (h.1, h.2, h.3)) c.cut-then-snapshot_by-steps.ensures.met,
-    )
+-- a cut was due by the limits
+pub returns-then-is_due : goal.returns-then-is_due
+returns-then-is_due g c =
+    elim c.match-cuts.branch [
+      | in-Never w ↦ absurd (let no : true ≡ false = sym c.if-is_due.true ∙ w.is_due-is in cc)
+      | in-EachTurn w ↦
+          rw (sym c.cuts.ensures ∙ w.in-EachTurn.is) (leaves (λ before after h. (h.1, h.2, h.3)) (rw w.rider-is at c.cut.ensures.met))
+      | in-Above w ↦
+          let more = sym c.if-is_due.true ∙ w.is_due-is in
+          rw (sym c.cuts.ensures ∙ w.in-Above.is) (
+            true,
+            w.snapshot_by.new.rider,
+            leaves (λ before after h. (h.0, more ∙ ap (nat_lt w.in-Above.steps) h.2)) w.snapshot_by.ensures.met,
+            leaves (λ before after h. (h.1, h.2, h.3)) (rw w.rider-is at c.cut.ensures.met),
+          )
+    ]
