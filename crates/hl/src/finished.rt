@@ -159,7 +159,7 @@ fn finish_one<L: Realm + Send + Sync, R: Wait, P: Work<R>>(
     rider: Rider<L>,
     work: &P,
 ) -> (Result<Option<P::Out>, Fault>, Rider<L>)
-    ensures { Tells P.Job log.now (Finishing (P.finishes work.now)) rider result.1 result.0 }
+    ensures { Tells P.Job log.now false (Finishing (P.finishes work.now)) rider result.1 result.0 }
 {
     let mut session = match Session::enter(rt, log, rider) {
         Ok(session) => session,

@@ -30,6 +30,7 @@ impl<'a, R: Wait, L: Realm, F: Task, P: Promise, E: Epochs + Drop> Session<'a, R
         ensures one_page { let page_size = self.old.log.sizes.page_size
             in IfOk result (λ a. a / page_size ≡ (a + length words.now - 1) / page_size) }
         ensures log { self.new.log ≡ self.old.log }
+        ensures rings { self.new.rings ≡ self.old.rings }
     {
         for _ in 0..PLACES_ANEW {
             match self.place(words) {
@@ -47,6 +48,7 @@ impl<'a, R: Wait, L: Realm, F: Task, P: Promise, E: Epochs + Drop> Session<'a, R
         ensures one_page { let page_size = self.old.log.sizes.page_size
             in IfOk result (λ a. a / page_size ≡ (a + length words.now - 1) / page_size) }
         ensures log { self.new.log ≡ self.old.log }
+        ensures rings { self.new.rings ≡ self.old.rings }
     {
         let address = match self.allocate(words.len() as u64) {
             Ok(address) => address,
@@ -65,6 +67,7 @@ impl<'a, R: Wait, L: Realm, F: Task, P: Promise, E: Epochs + Drop> Session<'a, R
             (λ _. AreStored self.old.log.sizes address words.now self.old.pass self.new.pass)
             (λ fault. StopsAt F self.old.log address words.now fault self.old.pass self.new.pass) }
         ensures log { self.new.log ≡ self.old.log }
+        ensures rings { self.new.rings ≡ self.old.rings }
     {
         for k in 0..words.len() {
             match self.store_one(address + k as u64, words[k]) {
@@ -81,6 +84,7 @@ impl<'a, R: Wait, L: Realm, F: Task, P: Promise, E: Epochs + Drop> Session<'a, R
             (λ _. AreStored self.old.log.sizes address (word ∷ []) self.old.pass self.new.pass)
             (λ fault. RefusesStore F self.old.log address fault self.old.pass self.new.pass) }
         ensures log { self.new.log ≡ self.old.log }
+        ensures rings { self.new.rings ≡ self.old.rings }
     {
         match self.store(address, word) {
             Err(Fault::TouchesFull) => self.store_refreshed(address, word),
@@ -94,6 +98,7 @@ impl<'a, R: Wait, L: Realm, F: Task, P: Promise, E: Epochs + Drop> Session<'a, R
             (λ _. AreStored self.old.log.sizes address (word ∷ []) self.old.pass self.new.pass)
             (λ fault. RefusesStore F self.old.log address fault self.old.pass self.new.pass) }
         ensures log { self.new.log ≡ self.old.log }
+        ensures rings { self.new.rings ≡ self.old.rings }
     {
         match self.refresh() {
             Ok(_) => self.store(address, word),
