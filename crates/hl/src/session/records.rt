@@ -1,6 +1,9 @@
 //! Whole records: placed and stored by one call, or loaded by one.
-ghost use Rattle.std.specs.Prelude.{◌≡◌, ◌+◌, ◌-◌, ◌/◌, ◌^◌, ◌≤◌, [], ◌∷◌, length, IfOk, MatchResult};
+ghost use Rattle.std.specs.Prelude.{◌≡◌, ◌≢◌, ◌+◌, ◌-◌, ◌/◌, ◌^◌, ◌≤◌, [], ◌∷◌, length, Some, IfOk, MatchResult};
+ghost use Rattle.hl_model.specs.declared.fault.Fault.TheVariants.{TouchesFull as FULL};
 ghost use Rattle.hl_model.specs.Replies.{unless_fault};
+ghost use Rattle.hl_keeper.specs.Passes.{store_fault};
+ghost use Rattle.hl_domain.specs.Words.{HasStored};
 ghost use Rattle.hl.specs.Records.{row_fault, with_loads, AreStored, RefusesStore, StopsAt, Places, Appends};
 ghost use Rattle.hl.specs.Sessions.{with_pass};
 
@@ -80,6 +83,9 @@ impl<'a, R: Wait, L: Realm, F: Task, P: Promise, E: Epochs + Drop> Session<'a, R
 
     // Stores a word, after a refresh if there is no room for a touch.
     fn store_one(&mut self, address: u64, word: u64) -> Result<(), Fault>
+        ensures alone { store_fault self.old.pass address ≢ Some FULL
+            → HasStored (λ p. with_pass p self.old) self.old.log.sizes address word self.old.pass
+            self.new result }
         ensures stored { MatchResult result
             (λ _. AreStored self.old.log.sizes address (word ∷ []) self.old.pass self.new.pass)
             (λ fault. RefusesStore F self.old.log address fault self.old.pass self.new.pass) }
@@ -87,13 +93,17 @@ impl<'a, R: Wait, L: Realm, F: Task, P: Promise, E: Epochs + Drop> Session<'a, R
         ensures rings { self.new.rings ≡ self.old.rings }
     {
         match self.store(address, word) {
-            Err(Fault::TouchesFull) => self.store_refreshed(address, word),
-            stored => stored,
+            Ok(()) => Ok(()),
+            Err(fault) => match fault {
+                Fault::TouchesFull => self.store_refreshed(address, word),
+                _ => Err(fault),
+            },
         }
     }
 
-    // The same, after a refresh.
+    // The same, after a refresh: there is no room.
     fn store_refreshed(&mut self, address: u64, word: u64) -> Result<(), Fault>
+        requires { store_fault self.old.pass address ≡ Some FULL }
         ensures stored { MatchResult result
             (λ _. AreStored self.old.log.sizes address (word ∷ []) self.old.pass self.new.pass)
             (λ fault. RefusesStore F self.old.log address fault self.old.pass self.new.pass) }
