@@ -111,7 +111,7 @@ module _ {F : Type 0} (log : DomainState) (law : PassesStayEntered log.sizes) (s
       refused law some met.before.cut met.after.cut met.list first.pass last.pass (subst (λ (z : Sizes). IsAccepted z met.list) met.met.sizes_are met.met.stands.core_stands.accepted) met.rises met.entered (ap (λ (s : SessionState). s.pass) is) h
 
   -- a thread's rider, once it left: its stores are writes of its calls, and these are of counters alone
-  pub stood : RidersStayEntered log.sizes → (number : ℕ) (new : RiderState) (sums : List ℕ) → 4 ≤ log.sizes.page_size → Stood F log (returns_sums number) (new_rider number) (Ok new) sums → RiderEnters log.sizes None new × AreOfCounters new.calls
+  pub stood : RidersStayEntered log.sizes → (number : ℕ) (new : RiderState) (sums : List ℕ) → 4 ≤ log.sizes.page_size → Stood F log true (returns_sums number) (new_rider number) (Ok new) sums → RiderEnters log.sizes None new × AreOfCounters new.calls
   stood riders number new sums room s =
       let met = s.entered in
       let keeper = met.before in

@@ -123,7 +123,7 @@ module _ (A : List Step) (records : List (List Entry)) (one : IsOneList A record
       by_test false false p q = unlike (omega (arith, ltb-false (length d.list) (length e.list) p, ltb-false (length e.list) (length d.list) q))
 
 -- a thread's rider drew its ticket
-drawn_of : {J : Type 0} (log : DomainState) (number : ℕ) (old new : RiderState) (ticket : ℕ) → Stood J log (bumps_once number) old (Ok new) (Ok ticket) → Drawn new.calls ticket
+drawn_of : {J : Type 0} (log : DomainState) (number : ℕ) (old new : RiderState) (ticket : ℕ) → Stood J log true (bumps_once number) old (Ok new) (Ok ticket) → Drawn new.calls ticket
 drawn_of log number old new ticket s =
     let newest = entry s.met.list (s.last.pass.touches ++ Release s.last.pass.slot ∷ []) in
     record {
@@ -146,7 +146,7 @@ module _ {F J : Type 0} (Took : ℕ → List ℕ → Type 0) (o : Opening Sizes)
       let within = slice_get_within outs n (Ok (Ok t)) at in
       let told = all.each n (Ok (Ok 0)) within in
       let is : slice_index_or outs n (Ok (Ok 0)) ≡ Ok (Ok t) = get_or_from_slice_get outs n (Ok (Ok t)) (Ok (Ok 0)) at in
-      let mine = drawn_of (opened_as o) n (new_rider n) (rider_at riders n) t (subst (λ (x : Result (Result ℕ Fault) Fault). Tells J (opened_as o) (bumps_once n) (new_rider n) (rider_at riders n) x) is told) in
+      let mine = drawn_of (opened_as o) n (new_rider n) (rider_at riders n) t (subst (λ (x : Result (Result ℕ Fault) Fault). Tells J (opened_as o) true (bumps_once n) (new_rider n) (rider_at riders n) x) is told) in
       subst (λ d. Drawn d t) (sym (get_or-map (λ r. r.calls) riders n (new_rider n) [] (omega (arith, within, all.threads, all.back)))) mine
 
   apart : (i j a b : ℕ) → i < j → slice_get outs i ≡ Some (Ok (Ok a)) → slice_get outs j ≡ Some (Ok (Ok b)) → a ≢ b

@@ -1,5 +1,5 @@
 -- Two calls of one list, of which the later one's thread saw that there were no fewer steps than after the earlier one.
-use Rattle.std.proofs.Common.{◌≡◌, ◌≢◌, ℕ, ◌+◌, ◌<◌, ◌≤◌, List, [], ◌∷◌, ◌++◌, map, length, slice_index_or, Option, Some, Ok, Result, IfOk, MatchResult, Vec, Global, slice_get, refl, ap, sym, ◌∙◌, subst, arith, length-append}
+use Rattle.std.proofs.Common.{◌≡◌, ◌≢◌, ℕ, ◌+◌, ◌<◌, ◌≤◌, List, [], ◌∷◌, ◌++◌, map, length, slice_index_or, Option, Some, Ok, Result, IfOk, MatchResult, true, Vec, Global, slice_get, refl, ap, sym, ◌∙◌, subst, arith, length-append}
 use Rattle.std.proofs.lemmas.List.{get_or-map, length-map}
 use Rattle.std.proofs.lemmas.Option.{slice_get_within, get_or_from_slice_get, slice_get-get_or}
 use Rattle.hl_model.specs.declared.fault.Fault.{Fault}
@@ -66,7 +66,7 @@ module _ {F : Type 0} (sizes : Sizes) (riders : List RiderState) (ending : Endin
 
 -- a thread's rider drew its ticket
 drew_of : {J : Type 0} (Draws : ℕ → ℕ → List Entry → List Entry → Type 0) (log : DomainState) (number : ℕ) (old new : RiderState) (answer : Answer) (at : Option RiderState)
-    → (s : Stood J log (answers number) old (Ok new) (Some answer)) → Draws answer.ticket answer.steps s.first.pass.rider.calls s.last.pass.rider.calls → at ≡ Some new → Drew Draws answer.ticket answer.steps at
+    → (s : Stood J log true (answers number) old (Ok new) (Some answer)) → Draws answer.ticket answer.steps s.first.pass.rider.calls s.last.pass.rider.calls → at ≡ Some new → Drew Draws answer.ticket answer.steps at
 drew_of Draws log number old new answer at s draws is =
     record {
       rider = new;
@@ -80,10 +80,10 @@ drew_of Draws log number old new answer at s draws is =
 
 -- what the threads' log left, where both drew
 module _ {J : Type 0} (Took : ℕ → List ℕ → Type 0) (o : Opening Sizes) (outs : List (Result (Option Answer) Fault)) (riders : List RiderState) (all : AllReturned J (opened_as o) answers Took outs riders) where
-  stood_at : (number : ℕ) (answer : Answer) → slice_get outs number ≡ Some (Ok (Some answer)) → Stood J (opened_as o) (answers number) (new_rider number) (Ok (rider_at riders number)) (Some answer)
+  stood_at : (number : ℕ) (answer : Answer) → slice_get outs number ≡ Some (Ok (Some answer)) → Stood J (opened_as o) true (answers number) (new_rider number) (Ok (rider_at riders number)) (Some answer)
   stood_at number answer at =
       let told = all.each number (Ok (Some answer)) (slice_get_within outs number (Ok (Some answer)) at) in
-      subst (λ (x : Result (Option Answer) Fault). Tells J (opened_as o) (answers number) (new_rider number) (rider_at riders number) x) (get_or_from_slice_get outs number (Ok (Some answer)) (Ok (Some answer)) at) told
+      subst (λ (x : Result (Option Answer) Fault). Tells J (opened_as o) true (answers number) (new_rider number) (rider_at riders number) x) (get_or_from_slice_get outs number (Ok (Some answer)) (Ok (Some answer)) at) told
 
   rider_of : (number : ℕ) (answer : Answer) → slice_get outs number ≡ Some (Ok (Some answer)) → slice_get riders number ≡ Some (rider_at riders number)
   rider_of number answer at = slice_get-get_or riders number (new_rider number) (omega (arith, slice_get_within outs number (Ok (Some answer)) at, all.threads, all.back))

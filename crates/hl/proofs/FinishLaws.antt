@@ -58,9 +58,8 @@ module _ {Out : Type 0} {F : Type 0} {o : Opening Sizes} {Returns : ℕ → Sess
   pub all_there : length riders + 1 ≡ log.riders
   all_there = ap (λ n. n + 1) returned.back ∙ t.others ∙ sym (ap (λ (l : DomainState). l.riders) t.same)
 
-  pub refused_thread : (Finishes : SessionState → SessionState → Out → Type 0) (fault : Fault) → (fault ≡ OutOfMemory) ⊎ IsFirstFault v.items fault → IsUnfinished F o Returns Took Finishes fault
-  refused_thread Finishes fault (inl memory) = inl memory
-  refused_thread Finishes fault (inr first) = inr (inl (record { count = length rest; others = t.others; outs = v.items; riders = riders; returned = returned; first = first }))
+  pub refused_thread : (Finishes : SessionState → SessionState → Out → Type 0) (fault : Fault) → IsFirstFault v.items fault → IsUnfinished F o Returns Took Finishes fault
+  refused_thread Finishes fault first = inr (inl (record { count = length rest; others = t.others; outs = v.items; riders = riders; returned = returned; first = first }))
 
   pub finished_or : (Finishes : SessionState → SessionState → Out → Type 0) (all : Vec Out Global) (result : Result (Finished Out F) Fault) → v.items ≡ map (λ out. Ok out) all.items
       → MatchResult result (λ finished. (finished.outs ≡ all) × IsFinish F log Finishes riders last finished) (λ fault. (fault ≡ OutOfMemory) ⊎ IsNoFinish F log Finishes last fault)

@@ -1,10 +1,10 @@
 -- What a session stores and loads of a record, word for word.
-use Rattle.std.proofs.Common.{◌≡◌, ℕ, suc, ◌+◌, ◌<◌, ◌≤◌, List, [], ◌∷◌, ◌++◌, length, take, set, get_or, refl, ap, sym, ◌∙◌, subst, arith, append_assoc, append-nil, inl, inr, Some, Ok, Err}
-use Rattle.std.specs.Prelude.{◌-◌, if◌then◌else◌, nat_le, Option, None, Result, MatchResult}
-use Rattle.std.proofs.lemmas.Bool.{le-ltb, lt-leb}
+use Rattle.std.proofs.Common.{◌≡◌, ◌≢◌, ℕ, suc, ◌+◌, ◌<◌, ◌≤◌, Bool, true, false, List, [], ◌∷◌, ◌++◌, length, take, set, get_or, refl, ap, sym, ◌∙◌, subst, arith, append_assoc, append-nil, inl, inr, Some, Ok, Err}
+use Rattle.std.specs.Prelude.{◌-◌, ◌==◌, if◌then◌else◌, nat_le, nat_lt, Option, None, Result, MatchResult}
+use Rattle.std.proofs.lemmas.Bool.{eqb-true, le-ltb, lt-leb}
 use Rattle.std.specs.List.{AllByRecursion as Every}
 use Rattle.std.proofs.Math.Seq.{take-suc, take-suc-set}
-use Rattle.std.proofs.lemmas.List.{length-take}
+use Rattle.std.proofs.lemmas.List.{length-append, length-take}
 use Rattle.hl_model.specs.declared.fault.Fault.{Fault}
 use Rattle.hl_model.specs.declared.step.Step.{Step}
 use Rattle.hl_model.specs.declared.step.Step.TheVariants.{Refresh, Write}
@@ -13,13 +13,14 @@ use Rattle.hl_model.specs.Sizes.{Sizes}
 use Rattle.hl_words.specs.declared.view.Touch.{Touch}
 use Rattle.hl_words.specs.declared.view.Touch.TheVariants.{Stored}
 use Rattle.hl_words.specs.States.{RiderState}
-use Rattle.hl_model.specs.declared.fault.Fault.TheVariants.{Beyond, Evicted}
-use Rattle.hl_model.specs.Replies.{unless_fault, unless_refused}
+use Rattle.hl_model.specs.declared.fault.Fault.TheVariants.{Below, Beyond, Evicted, TouchesFull}
+use Rattle.hl_model.specs.Replies.{or_fault, unless_fault, unless_refused}
 use Rattle.hl_model.proofs.ListLaws.{all-append}
-use Rattle.hl_keeper.specs.Passes.{PassRecord, seen, cell_at, store_fault, load_fault, with_store, with_load}
+use Rattle.hl_laws.proofs.NoFaultLaws.{unless_err}
+use Rattle.hl_keeper.specs.Passes.{PassRecord, seen, cell_at, store_fault, load_fault, touch_fault, touches_most, with_store, with_load}
 use Rattle.hl_domain.specs.Domains.{DomainState, Refreshed}
 use Rattle.hl.specs.Sessions.{SessionState, with_pass}
-use Rattle.hl.specs.Records.{with_loads, entered_steps, own_steps, writes_in, writes_at, StoresOrRefreshes, stores_in, stored_at, AreStored, RefusesStore}
+use Rattle.hl.specs.Records.{with_loads, entered_steps, own_steps, writes_in, writes_at, StoresOrRefreshes, touches_after, RefreshesIfFull, stores_in, stored_at, AreStored, RefusesStore}
 
 writes_in-append : (xs ys : List Step) → writes_in (xs ++ ys) ≡ writes_in xs ++ writes_in ys
 writes_in-append [] ys = refl
@@ -36,6 +37,29 @@ stored_at-append sizes a (x ∷ xs) ys before =
     let later = Stored (cell_at sizes a) x ∷ before in
     stored_at-append sizes (a + 1) xs ys later ∙ ap (λ n. stored_at sizes n ys (stored_at sizes (a + 1) xs later)) (omega arith)
 
+touches_after-append : (n : ℕ) (xs ys : List Step) → touches_after n (xs ++ ys) ≡ touches_after (touches_after n xs) ys
+touches_after-append n [] ys = refl
+touches_after-append n (Refresh t ∷ xs) ys = touches_after-append 0 xs ys
+touches_after-append n (_ ∷ xs) ys = touches_after-append (n + 1) xs ys
+
+if_full-append : (n : ℕ) (xs ys : List Step) → RefreshesIfFull n xs → RefreshesIfFull (touches_after n xs) ys → RefreshesIfFull n (xs ++ ys)
+if_full-append n [] ys x y = y
+if_full-append n (Refresh t ∷ xs) ys x y = (x.0, if_full-append 0 xs ys x.1 y)
+if_full-append n (_ ∷ xs) ys x y = if_full-append (n + 1) xs ys x y
+
+-- a store is refused for want of room only where there is none
+is_full : (p : PassRecord) (a : ℕ) → store_fault p a ≡ Some TouchesFull → length p.touches ≡ touches_most
+unfolding store_fault touch_fault
+is_full p a is = by (nat_lt a (seen p).read_only) (nat_le (seen p).tail a) (length p.touches == touches_most) refl is
+  where
+    by : (below beyond full : Bool) → (length p.touches == touches_most) ≡ full
+        → or_fault (if below then Some (Below (seen p).read_only) else (if beyond then Some (Beyond (seen p).tail) else None)) (if full then Some TouchesFull else None) ≡ Some TouchesFull
+        → length p.touches ≡ touches_most
+    by true beyond full e none = cc
+    by false true full e none = cc
+    by false false true e none = eqb-true (length p.touches) touches_most e
+    by false false false e none = cc
+
 -- nothing was stored
 pub none_stored : (sizes : Sizes) (a : ℕ) (p q : PassRecord) → q ≡ p → AreStored sizes a [] p q
 none_stored sizes a p q same = record {
@@ -44,6 +68,8 @@ none_stored sizes a p q same = record {
   steps = ap own_steps same ∙ sym (append-nil (own_steps p));
   kinds = tt;
   writes = refl;
+  full = tt;
+  touches = ap (λ (z : PassRecord). length z.touches) same;
   cells = ap (λ (z : PassRecord). stores_in z.rider.view.touches) same;
 }
 
@@ -56,12 +82,14 @@ one_stored sizes a v p q is = record {
   steps = ap own_steps is ∙ sym (append_assoc (entered_steps p.rider.calls) p.touches (Write p.slot a v ∷ []));
   kinds = (inl (a, v, refl), tt);
   writes = refl;
+  full = tt;
+  touches = ap (λ (z : PassRecord). length z.touches) is ∙ length-append p.touches (Write p.slot a v ∷ []);
   cells = ap (λ (z : PassRecord). stores_in z.rider.view.touches) is;
 }
 
--- a refresh
-pub refreshed : {F : Type 0} (log : DomainState) (sizes : Sizes) (a : ℕ) (p q : PassRecord) (view : View) → Refreshed F log p q (Ok view) → AreStored sizes a [] p q
-refreshed log sizes a p q view r =
+-- a refresh where there was no room for a store
+pub refreshed : {F : Type 0} (log : DomainState) (sizes : Sizes) (a : ℕ) (p q : PassRecord) (view : View) → store_fault p a ≡ Some TouchesFull → Refreshed F log p q (Ok view) → AreStored sizes a [] p q
+refreshed log sizes a p q view none r =
     let entered = r.met.entered in
     let touches : q.touches ≡ [] = ap (λ (z : PassRecord). z.touches) r.pass in
     let calls : entered_steps q.rider.calls ≡ entered_steps p.rider.calls ++ (p.touches ++ Refresh p.slot ∷ []) = ap (λ (z : RiderState). entered_steps z.calls) entered in
@@ -72,6 +100,8 @@ refreshed log sizes a p q view r =
           ∙ sym (append_assoc (entered_steps p.rider.calls) p.touches (Refresh p.slot ∷ []));
       kinds = (inr refl, tt);
       writes = refl;
+      full = (is_full p a none, tt);
+      touches = ap length touches;
       cells = ap (λ (z : RiderState). stores_in z.view.touches) entered;
     }
 
@@ -85,6 +115,8 @@ stored_then sizes a b xs ys p m q at x y = record {
   writes = writes_in-append x.behind y.behind ∙ ap (λ l. l ++ writes_in y.behind) x.writes
       ∙ ap (λ l. writes_at p.slot a xs ++ l) (y.writes ∙ ap (λ t. writes_at t b ys) x.slot ∙ ap (λ n. writes_at p.slot n ys) at)
       ∙ sym (writes_at-append p.slot a xs ys);
+  full = if_full-append (length p.touches) x.behind y.behind x.full (subst (λ n. RefreshesIfFull n y.behind) x.touches y.full);
+  touches = y.touches ∙ ap (λ n. touches_after n y.behind) x.touches ∙ sym (touches_after-append (length p.touches) x.behind y.behind);
   cells = y.cells ∙ ap (stored_at sizes b ys) x.cells ∙ ap (λ n. stored_at sizes n ys (stored_at sizes a xs (stores_in p.rider.view.touches))) at
       ∙ sym (stored_at-append sizes a xs ys (stores_in p.rider.view.touches));
 }
@@ -117,19 +149,24 @@ loads_see sizes a [] p = refl
 loads_see sizes a (w ∷ ws) p = loads_see sizes (a + 1) ws (with_load sizes a w p)
 
 -- a store, after at most a refresh, was answered so
-pub store_answered : (F : Type 0) (log : DomainState) (a v : ℕ) (p m q : PassRecord) (o : Option Fault) (r : Result (Unit {0}) Fault) → AreStored log.sizes a [] p m → store_fault m a ≡ o
+pub store_answered : (F : Type 0) (log : DomainState) (a v : ℕ) (p m q : PassRecord) (o : Option Fault) (r : Result (Unit {0}) Fault) → AreStored log.sizes a [] p m → store_fault m a ≡ o → r ≢ Err TouchesFull
     → r ≡ unless_fault o tt → q ≡ unless_refused o m (with_store log.sizes a v m)
     → MatchResult r (λ _. AreStored log.sizes a (v ∷ []) p q) (λ fault. RefusesStore F log a fault p q)
-store_answered F log a v p m q None r none met answer is =
+store_answered F log a v p m q None r none met room answer is =
     let P = λ (z : Result (Unit {0}) Fault). MatchResult z (λ _. AreStored log.sizes a (v ∷ []) p q) (λ fault. RefusesStore F log a fault p q) in
     subst P (sym answer) (stored_then log.sizes a a [] (v ∷ []) p m q (omega arith) none (one_stored log.sizes a v m q is))
-store_answered F log a v p m q (Some f) r none met answer is =
+store_answered F log a v p m q (Some f) r none met room answer is =
     let P = λ (z : Result (Unit {0}) Fault). MatchResult z (λ _. AreStored log.sizes a (v ∷ []) p q) (λ fault. RefusesStore F log a fault p q) in
-    subst P (sym answer) (record { last = m; none = none; refused = inl (is, met) })
+    subst P (sym answer) (record { last = m; none = none; refused = inl (is, met, λ full. room (answer ∙ ap Err full)) })
 
 -- a refresh that was to make room was refused
-pub refresh_refused : (F : Type 0) (log : DomainState) (a : ℕ) (fault : Fault) (p q : PassRecord) → Refreshed F log p q (Err fault) → RefusesStore F log a fault p q
-refresh_refused F log a fault p q r = record { last = p; none = none_stored log.sizes a p p refl; refused = inr r }
+pub refresh_refused : (F : Type 0) (log : DomainState) (a : ℕ) (fault : Fault) (p q : PassRecord) → store_fault p a ≡ Some TouchesFull → Refreshed F log p q (Err fault) → RefusesStore F log a fault p q
+refresh_refused F log a fault p q full r = record { last = p; none = none_stored log.sizes a p p refl; refused = inr (full, r) }
+
+-- a refresh makes room for a store
+pub made_room : {F : Type 0} (log : DomainState) (a : ℕ) (p q : PassRecord) (view : View) (result : Result (Unit {0}) Fault) → Refreshed F log p q (Ok view) → result ≡ unless_fault (store_fault q a) tt → result ≢ Err TouchesFull
+made_room log a p q view result r answer none =
+    omega (arith, is_full q a (unless_err (store_fault q a) TouchesFull tt (sym none ∙ answer)), ap (λ (z : PassRecord). length z.touches) r.pass)
 
 -- each word of a row below the tail may be loaded
 pub load_free : (p m : PassRecord) (a n k : ℕ) → (seen p).head ≤ a → n ≤ (seen p).tail - a → k < n → seen m ≡ seen p → load_fault m (a + k) ≡ None

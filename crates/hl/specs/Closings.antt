@@ -1,5 +1,5 @@
 -- What is left of a log that was opened and closed by one call.
-use Rattle.std.specs.Prelude.{◌≡◌, ◌≢◌, ◌<◌, ◌+◌, ◌⊎◌, ℕ, true, Option, Result, Ok, Err, IfErr, MatchResult, List, length, map, drop, slice_index_or, Vec}
+use Rattle.std.specs.Prelude.{◌≡◌, ◌≢◌, ◌<◌, ◌+◌, ◌⊎◌, ℕ, Bool, true, Option, Result, Ok, Err, IfErr, MatchResult, List, length, map, drop, slice_index_or, Vec}
 use Rattle.std.specs.List.{AllByRecursion}
 use Rattle.std.specs.declared.alloc.Global.{Global}
 use Rattle.hl_model.specs.declared.fault.Fault.{Fault}
@@ -29,34 +29,35 @@ pub record IsClosed {Out F : Type 0} (o : Opening Sizes) (Leaves : Out → List 
       (λ ending. (length riders ≡ o.riders) × IsEnding o.params riders ending)
       (λ fault. (fault ≡ Stranger o.stamp) × (length riders ≢ o.riders))
 
--- a rider entered a session of the log, a thread ran in it and returned a value of which so much holds, and its leave
--- was answered so; the session that it left is of the same log
-pub record Stood {Out : Type 0} (F : Type 0) (log : DomainState)
+-- a rider entered a session of the log, with a crew to wake or without, a thread ran in it and returned a value of which
+-- so much holds, and its leave was answered so; the session that it left is of the same log
+pub record Stood {Out : Type 0} (F : Type 0) (log : DomainState) (rings : Bool)
     (Returns : SessionState → SessionState → Out → Type 0) (old : RiderState)
     (left : Result RiderState (Refused SessionState)) (out : Out) : Type 0 where
   pub first : SessionState
   pub last : SessionState
   pub entered : Entered F log old (Ok first)
   pub log_is : first.log ≡ log
+  pub rings_is : first.rings ≡ rings
   pub ran : Returns first last out
   pub log_stays : last.log ≡ log
   pub met : Left F last left
 
 -- why a thread has no result: its rider was refused a session, and is the one handed back; or it ran, and couldn't
 -- leave its session, which was abandoned
-abbrev pub Failed : {Out : Type 0} → (F : Type 0) → DomainState
+abbrev pub Failed : {Out : Type 0} → (F : Type 0) → DomainState → Bool
     → (SessionState → SessionState → Out → Type 0) → RiderState → RiderState → Fault → Type 0
-Failed {Out} F log Returns old new fault =
+Failed {Out} F log rings Returns old new fault =
     Entered F log old (Err (was_refused fault new))
     ⊎ ((out : Out) × (back : SessionState) × (new ≡ back.pass.rider)
-    × Stood F log Returns old (Err (was_refused fault back)) out)
+    × Stood F log rings Returns old (Err (was_refused fault back)) out)
 
 -- the result of a thread with this rider, before and after it, is a value that it returned and left its session with,
 -- or why it has none
-abbrev pub Tells : {Out : Type 0} → (F : Type 0) → DomainState
+abbrev pub Tells : {Out : Type 0} → (F : Type 0) → DomainState → Bool
     → (SessionState → SessionState → Out → Type 0) → RiderState → RiderState → Result Out Fault → Type 0
-Tells F log Returns old new result =
-    MatchResult result (Stood F log Returns old (Ok new)) (Failed F log Returns old new)
+Tells F log rings Returns old new result =
+    MatchResult result (Stood F log rings Returns old (Ok new)) (Failed F log rings Returns old new)
 
 -- the rider at a place; a new one where there is none
 abbrev pub rider_at : List RiderState → ℕ → RiderState
@@ -68,7 +69,7 @@ abbrev pub AreReturned : {Out : Type 0} → (F : Type 0) → DomainState
     → List (Result Out Fault) → List RiderState → Type 0
 AreReturned {Out} F log Returns olds outs riders =
     (number : ℕ) (other : Result Out Fault) → number < length outs
-    → Tells F log (Returns number) (olds number) (rider_at riders number) (slice_index_or outs number other)
+    → Tells F log true (Returns number) (olds number) (rider_at riders number) (slice_index_or outs number other)
 
 -- so it is of these, of which each has its rider beside it; those riders were these
 abbrev pub HaveWorked : {Out : Type 0} → (F : Type 0) → DomainState

@@ -1,5 +1,5 @@
 -- One round of help: the oldest action is run if it is ready, and then the session refreshes.
-use Rattle.std.specs.Prelude.{◌≡◌, ◌⊎◌, ℕ, Bool, true, false, is_some, IfSome, IsSomeAnd, Result, Ok, Err, List, [], ◌∷◌, ◌++◌}
+use Rattle.std.specs.Prelude.{◌≡◌, ◌⊎◌, ℕ, Bool, true, false, not, is_some, IfSome, IsSomeAnd, Result, Ok, Err, List, [], ◌∷◌, ◌++◌}
 use Rattle.hl_model.specs.declared.fault.Fault.{Fault}
 use Rattle.hl_model.specs.declared.step.Reply.{Reply}
 use Rattle.hl_model.specs.declared.step.Step.{Step}
@@ -56,6 +56,11 @@ module _ (F : Type 0) (log : DomainState) where
         (RunsOldest (Err fault) old.rider new.rider × (new ≡ with_rider new.rider old))
         ⊎ ((did : Bool) × (mid : RiderState) × RunsOldest (Ok did) old.rider mid
         × Refreshed F log (with_rider mid old) new (Err fault))
+
+-- whether a round of help was in vain: it found no action to run, or was refused
+abbrev pub in_vain : Result Bool Fault → Bool
+in_vain (Ok did) = not did
+in_vain (Err fault) = true
 
 -- a take and a done where an action was run; else nothing
 abbrev pub AreOfHelp : Bool → List Step → Type 0

@@ -1,5 +1,5 @@
 -- What is left of a log whose threads ran, and then one session more.
-use Rattle.std.specs.Prelude.{◌≡◌, ◌⊎◌, ◌+◌, ℕ, Option, MatchOption, Result, Ok, Err, List, [], ◌∷◌, ◌++◌, map}
+use Rattle.std.specs.Prelude.{◌≡◌, ◌⊎◌, ◌+◌, ℕ, false, Option, MatchOption, Result, Ok, Err, List, [], ◌∷◌, ◌++◌, map}
 use Rattle.hl_model.specs.declared.fault.Fault.{Fault}
 use Rattle.hl_model.specs.declared.fault.Fault.TheVariants.{OutOfMemory}
 use Rattle.hl_model.specs.Sizes.{Sizes}
@@ -22,18 +22,19 @@ abbrev pub Finishing : {Out : Type 0} → (SessionState → SessionState → Out
     → SessionState → SessionState → Option Out → Type 0
 Finishing Finishes old new out = MatchOption out (new ≡ old) (Finishes old new)
 
--- this rider was in a session of the log and finished, and the log was then closed with it behind the others
+-- this rider was in a session of the log, with no crew to wake, and finished; the log was then closed with it behind the
+-- others
 pub record IsFinish {Out : Type 0} (F : Type 0) (log : DomainState) (Finishes : SessionState → SessionState → Out → Type 0)
     (riders : List RiderState) (old : RiderState) (finished : Finished Out F) : Type 0 where
   pub last : RiderState
-  pub finish : Stood F log (Finishing Finishes) old (Ok last) finished.last
+  pub finish : Stood F log false (Finishing Finishes) old (Ok last) finished.last
   pub ending : IsEnding log.sizes (riders ++ last ∷ []) finished.ending
 
 -- this rider was refused a session of the log to finish in, or couldn't leave it
 pub record IsNoFinish {Out : Type 0} (F : Type 0) (log : DomainState)
     (Finishes : SessionState → SessionState → Out → Type 0) (old : RiderState) (fault : Fault) : Type 0 where
   pub last : RiderState
-  pub failed : Failed F log (Finishing Finishes) old last fault
+  pub failed : Failed F log false (Finishing Finishes) old last fault
 
 module _ {Out : Type 0} (F : Type 0) (o : Opening Sizes) (Returns : ℕ → SessionState → SessionState → Out → Type 0)
     (Took : ℕ → List ℕ → Type 0) (Finishes : SessionState → SessionState → Out → Type 0) where

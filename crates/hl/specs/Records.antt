@@ -1,8 +1,8 @@
 -- What a session does with a whole record: it places and stores one, or loads one.
-use Rattle.std.specs.Prelude.{◌≡◌, ◌⊎◌, ℕ, ◌+◌, ◌-◌, ◌<◌, ◌≤◌, nat_lt, if◌then◌else◌, Bool, Option, Some, None, Result, Ok, Err, MatchResult, List, [], ◌∷◌, ◌++◌, length, take}
+use Rattle.std.specs.Prelude.{◌≡◌, ◌≢◌, ◌⊎◌, ⊤, ℕ, ◌+◌, ◌-◌, ◌<◌, ◌≤◌, nat_lt, if◌then◌else◌, Bool, Option, Some, None, Result, Ok, Err, MatchResult, List, [], ◌∷◌, ◌++◌, length, take}
 use Rattle.std.specs.List.{AllByRecursion}
 use Rattle.hl_model.specs.declared.fault.Fault.{Fault}
-use Rattle.hl_model.specs.declared.fault.Fault.TheVariants.{Below, Beyond, Evicted}
+use Rattle.hl_model.specs.declared.fault.Fault.TheVariants.{Below, Beyond, Evicted, TouchesFull}
 use Rattle.hl_model.specs.declared.step.Step.{Step}
 use Rattle.hl_model.specs.declared.step.Step.TheVariants.{Allocate, Refresh, Write}
 use Rattle.hl_model.specs.Offsets.{place_of, tail}
@@ -10,7 +10,7 @@ use Rattle.hl_model.specs.Sizes.{Sizes}
 use Rattle.hl_history.specs.declared.view.Entry.{Entry}
 use Rattle.hl_words.specs.declared.view.Touch.{Touch}
 use Rattle.hl_words.specs.declared.view.Touch.TheVariants.{Stored, Loaded, Changed, Called, Looked, Met}
-use Rattle.hl_keeper.specs.Passes.{PassRecord, seen, cell_at, store_fault, with_load, with_rider, with_tail}
+use Rattle.hl_keeper.specs.Passes.{PassRecord, seen, cell_at, store_fault, touches_most, with_load, with_rider, with_tail}
 use Rattle.hl_keeper.specs.Calls.{call_fault, MakesTouched}
 use Rattle.hl_domain.specs.Domains.{DomainState, pass_call, with_held, MakesUnderLock, Refreshed}
 use Rattle.hl_crew.specs.Goes.{Followed}
@@ -51,6 +51,18 @@ writes_at t a (w ∷ ws) = Write t a w ∷ writes_at t (a + 1) ws
 abbrev pub StoresOrRefreshes : ℕ → Step → Type 0
 StoresOrRefreshes t step = ((a : ℕ) × (v : ℕ) × (step ≡ Write t a v)) ⊎ (step ≡ Refresh t)
 
+-- how many touches a pass has after these steps of its slot, that had so many before
+abbrev pub touches_after : ℕ → List Step → ℕ
+touches_after n [] = n
+touches_after n (Refresh t ∷ steps) = touches_after 0 steps
+touches_after n (step ∷ steps) = touches_after (n + 1) steps
+
+-- a pass that had so many touches made these steps, and each refresh among them when it had no room for one more
+abbrev pub RefreshesIfFull : ℕ → List Step → Type 0
+RefreshesIfFull n [] = ⊤
+RefreshesIfFull n (Refresh t ∷ steps) = (n ≡ touches_most) × RefreshesIfFull 0 steps
+RefreshesIfFull n (step ∷ steps) = RefreshesIfFull (n + 1) steps
+
 -- the stores into cells among these touches, of which the newest stands first
 abbrev pub stores_in : List Touch → List Touch
 stores_in [] = []
@@ -67,13 +79,15 @@ stored_at sizes a [] before = before
 stored_at sizes a (w ∷ ws) before = stored_at sizes (a + 1) ws (Stored (cell_at sizes a) w ∷ before)
 
 -- between these two a pass stored these words from address a on, one after another: the steps that it made are their
--- writes, with refreshes between; and it stored nothing else into cells
+-- writes, with a refresh wherever it had no room for a touch; and it stored nothing else into cells
 pub record AreStored (sizes : Sizes) (a : ℕ) (words : List ℕ) (old new : PassRecord) : Type 0 where
   pub slot : new.slot ≡ old.slot
   pub behind : List Step
   pub steps : own_steps new ≡ own_steps old ++ behind
   pub kinds : AllByRecursion (StoresOrRefreshes old.slot) behind
   pub writes : writes_in behind ≡ writes_at old.slot a words
+  pub full : RefreshesIfFull (length old.touches) behind
+  pub touches : length new.touches ≡ touches_after (length old.touches) behind
   pub cells : stores_in new.rider.view.touches ≡ stored_at sizes a words (stores_in old.rider.view.touches)
 
 -- a pass asked for a record of n words, and was answered so
@@ -85,12 +99,13 @@ pub record Allocated (F : Type 0) (log : DomainState) (n : ℕ) (old new : PassR
   pub pass : let p = with_rider new.rider old
       in MatchResult result (λ a. new ≡ with_held p.epoch (with_tail (a + n) (seen p)) p) (λ _. new ≡ p)
 
--- the store of a word at address a was refused with this fault, maybe after a refresh that was to make room for it; or
--- that refresh was refused so
+-- the store of a word at address a was refused with this fault, and not for want of room for a touch: maybe after a
+-- refresh that made room; or there was no room, and the refresh that was to make it was refused so
 pub record RefusesStore (F : Type 0) (log : DomainState) (a : ℕ) (fault : Fault) (old new : PassRecord) : Type 0 where
   pub last : PassRecord
   pub none : AreStored log.sizes a [] old last
-  pub refused : ((new ≡ last) × (store_fault last a ≡ Some fault)) ⊎ Refreshed F log last new (Err fault)
+  pub refused : ((new ≡ last) × (store_fault last a ≡ Some fault) × (fault ≢ TouchesFull))
+      ⊎ ((store_fault last a ≡ Some TouchesFull) × Refreshed F log last new (Err fault))
 
 -- of these words from address a on, a pass stored some, and the store of the next was refused with this fault
 pub record StopsAt (F : Type 0) (log : DomainState) (a : ℕ) (words : List ℕ) (fault : Fault) (old new : PassRecord)

@@ -1,5 +1,5 @@
 -- A rider between two sessions of its log.
-use Rattle.std.specs.Prelude.{◌≡◌, ℕ, Bool, Result, Ok, Err}
+use Rattle.std.specs.Prelude.{◌≡◌, ℕ, Bool, false, Result, Ok, Err}
 use Rattle.hl_model.specs.declared.fault.Fault.{Fault}
 use Rattle.hl_words.specs.States.{RiderState}
 use Rattle.hl_keeper.specs.Passes.{PassRecord, with_rider}
@@ -9,10 +9,11 @@ use Rattle.hl.specs.declared.refused.Refused.{Refused}
 use Rattle.hl.specs.Openings.{was_refused}
 use Rattle.hl.specs.Sessions.{SessionState, Entered, Left}
 
--- a rider that rests, and the log that it left
+-- a rider that rests, the log that it left, and whether it has a crew that it wakes
 pub record RestState : Type 0 where
   pub log : DomainState
   pub rider : RiderState
+  pub rings : Bool
 
 -- the rider that a session left, or the session
 abbrev pub left_rider : Result RestState (Refused SessionState) → Result RiderState (Refused SessionState)
@@ -32,6 +33,10 @@ Suspended F session result = Left F session (left_rider result)
 abbrev pub Resumed : (F : Type 0) → RestState → Result SessionState (Refused RestState) → Type 0
 Resumed F rest result = Entered F rest.log rest.rider (entered_session result)
 
+-- a session of this log by a pass alone: it has no crew that it wakes
+abbrev pub by_pass : DomainState → PassRecord → SessionState
+by_pass log pass = record { log = log; pass = pass; rings = false }
+
 module _ (F : Type 0) (log : DomainState) where
   -- a rider was to enter, and was refused: another try may follow
   abbrev pub EntersNext : ℕ → Result Bool Fault → RiderState → RiderState → Type 0
@@ -42,14 +47,14 @@ module _ (F : Type 0) (log : DomainState) where
     pub refused : ℕ
     pub last : RiderState
     pub before : Followed EntersNext refused rider last
-    pub entered : Entered F log last (Ok (record { log = log; pass = pass }))
+    pub entered : Entered F log last (Ok (by_pass log pass))
 
   -- a pass left its slot, a call returned this, and the rider entered again; or the pass couldn't leave, and has its rider
   abbrev pub RestsOf : {X : Type 0} → (X → Type 0) → Result X Fault → PassRecord → PassRecord → Type 0
   RestsOf Gives (Ok x) old new =
-      Gives x × (left : RiderState) × Left F (record { log = log; pass = old }) (Ok left) × Reenters left new
+      Gives x × (left : RiderState) × Left F (by_pass log old) (Ok left) × Reenters left new
   RestsOf Gives (Err fault) old new =
-      Left F (record { log = log; pass = old }) (Err (was_refused fault (record { log = log; pass = new })))
+      Left F (by_pass log old) (Err (was_refused fault (by_pass log new)))
       × (new ≡ with_rider new.rider old)
 
 -- likewise a session

@@ -1,5 +1,5 @@
 -- A session, and how its slot was found.
-use Rattle.std.specs.Prelude.{◌≡◌, ℕ, Ok, Err, Result}
+use Rattle.std.specs.Prelude.{◌≡◌, ℕ, Bool, Ok, Err, Result}
 use Rattle.hl_model.specs.declared.fault.Fault.{Fault}
 use Rattle.hl_model.specs.declared.step.Step.TheVariants.{Acquire, Release}
 use Rattle.hl_words.specs.States.{RiderState}
@@ -9,14 +9,15 @@ use Rattle.hl_keeper.specs.Calls.{call_fault, Makes, MakesAt, MakesTouched, pass
 use Rattle.hl_domain.specs.Domains.{DomainState, call_of, pass_call, enter_call, MakesUnderLock}
 use Rattle.hl.specs.declared.refused.Refused.{Refused}
 
--- a session: its log, and its pass there
+-- a session: its log, its pass there, and whether it has a crew that it wakes
 pub record SessionState : Type 0 where
   pub log : DomainState
   pub pass : PassRecord
+  pub rings : Bool
 
 -- the same session with another pass
 abbrev pub with_pass : PassRecord → SessionState → SessionState
-with_pass pass s = record { log = s.log; pass = pass }
+with_pass pass s = record s { pass = pass }
 
 -- the answer of a call, without what a refusal hands back
 abbrev pub fault_alone : {X Y : Type 0} → Result X (Refused Y) → Result X Fault

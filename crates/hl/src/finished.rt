@@ -1,5 +1,5 @@
 //! A log that threads use beside a crew, and one session more, opened and closed by one call, with one result.
-ghost use Rattle.std.specs.Prelude.{◌≡◌, ◌+◌, ◌≤◌, ◌⊎◌, length, map, true, false, Ok, Err, MatchResult};
+ghost use Rattle.std.specs.Prelude.{◌≡◌, ◌+◌, ◌≤◌, ◌⊎◌, [], length, map, vec_capacity, true, false, Ok, Err, MatchResult};
 ghost use Rattle.hl_model.specs.declared.fault.Fault.TheVariants.{OutOfMemory, Size};
 ghost use Rattle.hl_words.specs.States.{IsSeedOf};
 ghost use Rattle.hl.specs.Closings.{Tells};
@@ -17,7 +17,7 @@ use crate::work::Work;
 use hl_action::{AnyAnswer, NoJob, Task};
 use hl_crew::Duty;
 use hl_domain::Ending;
-use hl_model::{Fault, Sizes};
+use hl_model::{Fault, Sizes, with_room};
 use hl_words::{Realm, Rider, Seed};
 use std::alloc::Global;
 use std::marker::Brand;
@@ -102,23 +102,27 @@ fn run_over<L: Realm + Send + Sync, R: Threads + Wait + Sync, P: Work<R> + Sync>
         Ok(outs) => outs,
         Err(fault) => return Err(fault),
     };
-    let outs = match all_of(alloc, outs) {
+    let room = match with_room(alloc, outs.len() as u64) {
+        Ok(room) => room,
+        Err(fault) => return Err(fault),
+    };
+    let outs = match all_of(room, outs) {
         Ok(outs) => outs,
         Err(fault) => return Err(fault),
     };
     finish_log(rt, log, riders, last, work, outs)
 }
 
-// What all threads returned; or the first fault among their results, or that memory was refused.
-fn all_of<T: Drop>(alloc: Global, outs: Outs<T>) -> Result<Vec<T>, Fault>
+// What all threads returned, put into an empty row with room for it; or the first fault among their results.
+fn all_of<T: Drop>(room: Vec<T>, outs: Outs<T>) -> Result<Vec<T>, Fault>
+    requires empty { room.items ≡ [] }
+    requires room { length outs.items ≤ vec_capacity room }
     ensures { MatchResult result (λ all. outs.items ≡ map (λ out. Ok out) all.items)
-        (λ fault. (fault ≡ OutOfMemory) ⊎ IsFirstFault outs.items fault) }
+        (IsFirstFault outs.items) }
 {
-    let mut all = Vec::new(alloc);
+    let mut all = room;
     for out in outs {
-        if all.push(out?).is_err() {
-            return Err(Fault::OutOfMemory);
-        }
+        all.push_reserved(out?);
     }
     Ok(all)
 }
@@ -159,7 +163,7 @@ fn finish_one<L: Realm + Send + Sync, R: Wait, P: Work<R>>(
     rider: Rider<L>,
     work: &P,
 ) -> (Result<Option<P::Out>, Fault>, Rider<L>)
-    ensures { Tells P.Job log.now (Finishing (P.finishes work.now)) rider result.1 result.0 }
+    ensures { Tells P.Job log.now false (Finishing (P.finishes work.now)) rider result.1 result.0 }
 {
     let mut session = match Session::enter(rt, log, rider) {
         Ok(session) => session,

@@ -1,5 +1,5 @@
 //! A thread's time in a slot of a log.
-ghost use Rattle.std.specs.Prelude.{◌≡◌, ◌+◌, ◌-◌, ◌/◌, ◌^◌, ◌≤◌, Ok, true, false, IfOk, IfErr, MatchResult};
+ghost use Rattle.std.specs.Prelude.{◌≡◌, ◌+◌, ◌-◌, ◌/◌, ◌^◌, ◌≤◌, Ok, true, false, is_some, IfOk, IfErr, MatchResult};
 ghost use Rattle.hl_keeper.specs.Passes.{seen, with_rider, with_tail};
 ghost use Rattle.hl_keeper.specs.Leases.{placed};
 ghost use Rattle.hl_domain.specs.Domains.{with_held, after_news, stays_current, Refreshed};
@@ -54,11 +54,12 @@ pub struct Session<
 }
 
 impl<'a, R: Wait, L: Realm, F: Task, P: Promise, E: Epochs> Model for Session<'a, R, L, F, P, E> {
+    ghost use Rattle.std.specs.Prelude.{is_some};
     ghost use Rattle.hl.specs.Sessions.{SessionState};
 
     ghost Value = { SessionState };
 
-    ghost view = { λ s. record { log = s.log.now; pass = s.pass } };
+    ghost view = { λ s. record { log = s.log.now; pass = s.pass; rings = is_some s.bell } };
 }
 
 impl<'a, R: Wait, L: Realm, F: Task, P: Promise, E: Epochs + Drop> Session<'a, R, L, F, P, E> {
@@ -72,13 +73,28 @@ impl<'a, R: Wait, L: Realm, F: Task, P: Promise, E: Epochs + Drop> Session<'a, R
     ) -> Result<Session<'a, R, L, F, P, E>, Refused<Rider<L>>>
         ensures met { Entered F log.now rider result }
         ensures log { IfOk result (λ session. session.log ≡ log.now) }
+        ensures rings { IfOk result (λ session. session.rings ≡ false) }
+    {
+        Session::enter_with(rt, log, rider, None)
+    }
+
+    // The same, with a crew to wake, if there is one.
+    pub(crate) fn enter_with(
+        rt: &'a R,
+        log: &'a Log<L, F, P, E>,
+        rider: Rider<L>,
+        bell: Option<&'a Stop>,
+    ) -> Result<Session<'a, R, L, F, P, E>, Refused<Rider<L>>>
+        ensures met { Entered F log.now rider result }
+        ensures log { IfOk result (λ session. session.log ≡ log.now) }
+        ensures rings { IfOk result (λ session. session.rings ≡ is_some bell.entry) }
     {
         match log.enter(rt, rider) {
             Ok(pass) => Ok(Session {
                 rt,
                 log,
                 pass,
-                bell: None,
+                bell,
             }),
             Err((fault, back)) => Err(Refused { fault, back }),
         }
@@ -95,6 +111,7 @@ impl<'a, R: Wait, L: Realm, F: Task, P: Promise, E: Epochs + Drop> Session<'a, R
     ) -> Result<Session<'a, R, L, F, P, E>, Refused<Rider<L>>>
         ensures met { Asked F log.now rider slot result }
         ensures log { IfOk result (λ session. session.log ≡ log.now) }
+        ensures rings { IfOk result (λ session. session.rings ≡ false) }
     {
         match log.acquire(rt, slot, rider) {
             Ok(pass) => Ok(Session {
@@ -113,6 +130,7 @@ impl<'a, R: Wait, L: Realm, F: Task, P: Promise, E: Epochs + Drop> Session<'a, R
     pub fn refresh(&mut self) -> Result<View, Fault>
         ensures refreshed { Refreshed F self.old.log self.old.pass self.new.pass result }
         ensures log { self.new.log ≡ self.old.log }
+        ensures rings { self.new.rings ≡ self.old.rings }
     {
         self.log.refresh(self.rt, &mut self.pass)
     }
@@ -131,6 +149,7 @@ impl<'a, R: Wait, L: Realm, F: Task, P: Promise, E: Epochs + Drop> Session<'a, R
             in let old = self.old.pass
             in stays_current old new ≡ false → Refreshed F self.old.log (after_news old new) new result }
         ensures log { self.new.log ≡ self.old.log }
+        ensures rings { self.new.rings ≡ self.old.rings }
     {
         self.log.keep_up(self.rt, &mut self.pass)
     }
@@ -221,24 +240,6 @@ impl<'a, R: Wait, L: Realm, F: Task, P: Promise, E: Epochs + Drop> Session<'a, R
     pub fn ring(&self) {
         if let Some(bell) = self.bell {
             bell.ring();
-        }
-    }
-
-    // The same session, which wakes this crew, if there is one.
-    pub(crate) fn with_bell(self, bell: Option<&'a Stop>) -> Session<'a, R, L, F, P, E>
-        ensures { result ≡ self.entry }
-    {
-        let Session {
-            rt,
-            log,
-            pass,
-            bell: _,
-        } = self;
-        Session {
-            rt,
-            log,
-            pass,
-            bell,
         }
     }
 

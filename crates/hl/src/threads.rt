@@ -235,7 +235,7 @@ fn work_all<L: Realm + Send + Sync, R: Threads + Wait + Sync, P: Work<R> + Sync>
         rt,
         jobs,
         &|job: (usize, Rider<L>)| -> Worked<L, P::Out>
-            ensures { Tells P.Job log.entry.now (P.returns work.entry.now job.0) job.1 result.1 result.0 }
+            ensures { Tells P.Job log.entry.now true (P.returns work.entry.now job.0) job.1 result.1 result.0 }
         { work_one(rt, log, job.1, job.0 as u64, work, stop) },
     )
 }
@@ -249,10 +249,10 @@ fn work_one<L: Realm + Send + Sync, R: Wait, P: Work<R>>(
     work: &P,
     stop: &Stop,
 ) -> Worked<L, P::Out>
-    ensures { Tells P.Job log.now (P.returns work.now number) rider result.1 result.0 }
+    ensures { Tells P.Job log.now true (P.returns work.now number) rider result.1 result.0 }
 {
-    let mut session = match Session::enter(rt, log, rider) {
-        Ok(session) => session.with_bell(Some(stop)),
+    let mut session = match Session::enter_with(rt, log, rider, Some(stop)) {
+        Ok(session) => session,
         Err(Refused { fault, back }) => return (Err(fault), back),
     };
     let out = work.run(rt, &mut session, number);

@@ -29,6 +29,7 @@ impl<'a, R: Wait, L: Realm, F: Task, P: Promise, E: Epochs + Drop> Session<'a, R
         ensures steps { IfOk result (λ did. Enters did self.old.pass self.new.pass) }
         ensures slot { self.new.pass.slot ≡ self.old.pass.slot }
         ensures log { self.new.log ≡ self.old.log }
+        ensures rings { self.new.rings ≡ self.old.rings }
     {
         self.ring();
         let did = self.run_oldest()?;

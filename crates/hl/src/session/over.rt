@@ -31,6 +31,7 @@ impl<'a, R: Wait, L: Realm, F: Task, P: Promise, E: Epochs + Drop> Session<'a, R
             self.old.pass self.new.pass }
         ensures slot { self.new.pass.slot ≡ self.old.pass.slot }
         ensures log { self.new.log ≡ self.old.log }
+        ensures rings { self.new.rings ≡ self.old.rings }
     {
         let rt = self.rt;
         for _ in rt.forever() {

@@ -26,6 +26,7 @@ impl<'a, R: Wait, L: Realm, F: Task, P: Promise, E: Epochs + Drop> Session<'a, R
         requires { C.IsAlwaysCallable idle }
         ensures rests { Rests F (C.post idle) result self.old self.new }
         ensures log { self.new.log ≡ self.old.log }
+        ensures rings { self.new.rings ≡ self.old.rings }
     {
         let (rt, log) = (self.rt, self.log);
         replace_with(

@@ -1,6 +1,9 @@
 //! Whole records: placed and stored by one call, or loaded by one.
-ghost use Rattle.std.specs.Prelude.{◌≡◌, ◌+◌, ◌-◌, ◌/◌, ◌^◌, ◌≤◌, [], ◌∷◌, length, IfOk, MatchResult};
+ghost use Rattle.std.specs.Prelude.{◌≡◌, ◌≢◌, ◌+◌, ◌-◌, ◌/◌, ◌^◌, ◌≤◌, [], ◌∷◌, length, Some, IfOk, MatchResult};
+ghost use Rattle.hl_model.specs.declared.fault.Fault.TheVariants.{TouchesFull as FULL};
 ghost use Rattle.hl_model.specs.Replies.{unless_fault};
+ghost use Rattle.hl_keeper.specs.Passes.{store_fault};
+ghost use Rattle.hl_domain.specs.Words.{HasStored};
 ghost use Rattle.hl.specs.Records.{row_fault, with_loads, AreStored, RefusesStore, StopsAt, Places, Appends};
 ghost use Rattle.hl.specs.Sessions.{with_pass};
 
@@ -30,6 +33,7 @@ impl<'a, R: Wait, L: Realm, F: Task, P: Promise, E: Epochs + Drop> Session<'a, R
         ensures one_page { let page_size = self.old.log.sizes.page_size
             in IfOk result (λ a. a / page_size ≡ (a + length words.now - 1) / page_size) }
         ensures log { self.new.log ≡ self.old.log }
+        ensures rings { self.new.rings ≡ self.old.rings }
     {
         for _ in 0..PLACES_ANEW {
             match self.place(words) {
@@ -47,6 +51,7 @@ impl<'a, R: Wait, L: Realm, F: Task, P: Promise, E: Epochs + Drop> Session<'a, R
         ensures one_page { let page_size = self.old.log.sizes.page_size
             in IfOk result (λ a. a / page_size ≡ (a + length words.now - 1) / page_size) }
         ensures log { self.new.log ≡ self.old.log }
+        ensures rings { self.new.rings ≡ self.old.rings }
     {
         let address = match self.allocate(words.len() as u64) {
             Ok(address) => address,
@@ -65,6 +70,7 @@ impl<'a, R: Wait, L: Realm, F: Task, P: Promise, E: Epochs + Drop> Session<'a, R
             (λ _. AreStored self.old.log.sizes address words.now self.old.pass self.new.pass)
             (λ fault. StopsAt F self.old.log address words.now fault self.old.pass self.new.pass) }
         ensures log { self.new.log ≡ self.old.log }
+        ensures rings { self.new.rings ≡ self.old.rings }
     {
         for k in 0..words.len() {
             match self.store_one(address + k as u64, words[k]) {
@@ -77,23 +83,32 @@ impl<'a, R: Wait, L: Realm, F: Task, P: Promise, E: Epochs + Drop> Session<'a, R
 
     // Stores a word, after a refresh if there is no room for a touch.
     fn store_one(&mut self, address: u64, word: u64) -> Result<(), Fault>
+        ensures alone { store_fault self.old.pass address ≢ Some FULL
+            → HasStored (λ p. with_pass p self.old) self.old.log.sizes address word self.old.pass
+            self.new result }
         ensures stored { MatchResult result
             (λ _. AreStored self.old.log.sizes address (word ∷ []) self.old.pass self.new.pass)
             (λ fault. RefusesStore F self.old.log address fault self.old.pass self.new.pass) }
         ensures log { self.new.log ≡ self.old.log }
+        ensures rings { self.new.rings ≡ self.old.rings }
     {
         match self.store(address, word) {
-            Err(Fault::TouchesFull) => self.store_refreshed(address, word),
-            stored => stored,
+            Ok(()) => Ok(()),
+            Err(fault) => match fault {
+                Fault::TouchesFull => self.store_refreshed(address, word),
+                _ => Err(fault),
+            },
         }
     }
 
-    // The same, after a refresh.
+    // The same, after a refresh: there is no room.
     fn store_refreshed(&mut self, address: u64, word: u64) -> Result<(), Fault>
+        requires { store_fault self.old.pass address ≡ Some FULL }
         ensures stored { MatchResult result
             (λ _. AreStored self.old.log.sizes address (word ∷ []) self.old.pass self.new.pass)
             (λ fault. RefusesStore F self.old.log address fault self.old.pass self.new.pass) }
         ensures log { self.new.log ≡ self.old.log }
+        ensures rings { self.new.rings ≡ self.old.rings }
     {
         match self.refresh() {
             Ok(_) => self.store(address, word),

@@ -32,11 +32,12 @@ pub struct Resting<
 }
 
 impl<'a, R: Wait, L: Realm, F: Task, P: Promise, E: Epochs> Model for Resting<'a, R, L, F, P, E> {
+    ghost use Rattle.std.specs.Prelude.{is_some};
     ghost use Rattle.hl.specs.Rests.{RestState};
 
     ghost Value = { RestState };
 
-    ghost view = { λ r. record { log = r.log.now; rider = r.rider } };
+    ghost view = { λ r. record { log = r.log.now; rider = r.rider; rings = is_some r.bell } };
 }
 
 impl<'a, R: Wait, L: Realm, F: Task, P: Promise, E: Epochs + Drop> Session<'a, R, L, F, P, E> {
@@ -49,6 +50,7 @@ impl<'a, R: Wait, L: Realm, F: Task, P: Promise, E: Epochs + Drop> Session<'a, R
         ensures back { IfErr result (λ refused. refused.back
             ≡ with_pass (with_rider refused.back.pass.rider self.entry.pass) self.entry) }
         ensures log { IfOk result (λ resting. resting.log ≡ self.entry.log) }
+        ensures rings { IfOk result (λ resting. resting.rings ≡ self.entry.rings) }
     {
         let (rt, log, bell) = (self.rt, self.log, self.bell);
         match self.leave() {
@@ -71,7 +73,9 @@ impl<'a, R: Wait, L: Realm, F: Task, P: Promise, E: Epochs + Drop> Resting<'a, R
     pub fn resume(self) -> Result<Session<'a, R, L, F, P, E>, Refused<Resting<'a, R, L, F, P, E>>>
         ensures met { Resumed F self.entry result }
         ensures log { IfOk result (λ session. session.log ≡ self.entry.log) }
-        ensures back { IfErr result (λ refused. refused.back.log ≡ self.entry.log) }
+        ensures rings { IfOk result (λ session. session.rings ≡ self.entry.rings) }
+        ensures back { IfErr result (λ refused. refused.back
+            ≡ record self.entry { rider = refused.back.rider }) }
     {
         let Resting {
             rt,
@@ -79,8 +83,8 @@ impl<'a, R: Wait, L: Realm, F: Task, P: Promise, E: Epochs + Drop> Resting<'a, R
             rider,
             bell,
         } = self;
-        match Session::enter(rt, log, rider) {
-            Ok(session) => Ok(session.with_bell(bell)),
+        match Session::enter_with(rt, log, rider, bell) {
+            Ok(session) => Ok(session),
             Err(Refused { fault, back }) => Err(Refused {
                 fault,
                 back: Resting {

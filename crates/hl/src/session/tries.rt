@@ -2,7 +2,7 @@
 ghost use Rattle.std.specs.Prelude.{◌≡◌};
 ghost use Rattle.std.specs.Fn.{CalledAtMut};
 ghost use Rattle.hl.specs.Attempts.{cure_of, Attempts, SessionHelps};
-ghost use Rattle.hl.specs.Helps.{Helps};
+ghost use Rattle.hl.specs.Helps.{in_vain, Helps};
 
 use super::Session;
 use hl_action::{Promise, Task};
@@ -30,7 +30,9 @@ pub trait Curable {
     ghost use Rattle.std.specs.Prelude.{Option, ⊤};
     ghost use Rattle.hl.specs.declared.session.tries.Cure.{Cure as CURE};
 
-    /// What holds of an error and of its cure: nothing, unless a program says so.
+    /// What holds of an error and of its cure: nothing, unless a program says so. If it says nothing of an
+    /// engine's own error, [`attempt`]'s clause tells only that there were at most so many tries, with a round of help
+    /// between two: neither that an error with a cure was followed by another try, nor that one without wasn't.
     ghost cures: { Self → Option CURE → Type 0 } = { λ _ _. ⊤ };
 
     /// Returns what may cure it; `None` if nothing does.
@@ -119,13 +121,21 @@ impl<'a, R: Wait, L: Realm, F: Task, P: Promise, E: Epochs + Drop> Session<'a, R
         ensures helped { Helps F self.old.log F.gives P.keeps result self.old.pass self.new.pass }
         ensures slot { self.new.pass.slot ≡ self.old.pass.slot }
         ensures log { self.new.log ≡ self.old.log }
+        ensures rings { self.new.rings ≡ self.old.rings }
     {
         let helped = self.help();
-        if !matches!(helped, Ok(true)) {
+        if is_in_vain(&helped) {
             nap(self.rt);
         }
         helped
     }
+}
+
+// Whether a round of help was in vain: it found no action to run, or was refused. Then others have to act.
+fn is_in_vain(helped: &Result<bool, Fault>) -> bool
+    ensures { result ≡ in_vain helped.now }
+{
+    !matches!(helped, Ok(true))
 }
 
 // A short nap, so that others go on.

@@ -31,6 +31,7 @@ impl<'a, R: Wait, L: Realm, F: Task, P: Promise, E: Epochs + Drop> Session<'a, R
         ensures waits { Waits F self.old.log F.gives P.keeps ticket result self.old.pass self.new.pass }
         ensures slot { self.new.pass.slot ≡ self.old.pass.slot }
         ensures log { self.new.log ≡ self.old.log }
+        ensures rings { self.new.rings ≡ self.old.rings }
     {
         let rt = self.rt;
         for _ in rt.forever() {
@@ -56,6 +57,7 @@ impl<'a, R: Wait, L: Realm, F: Task, P: Promise, E: Epochs + Drop> Session<'a, R
         ensures all { IfOk result (λ _. ForAll self.old.pass.rider self.new.pass.rider) }
         ensures slot { self.new.pass.slot ≡ self.old.pass.slot }
         ensures log { self.new.log ≡ self.old.log }
+        ensures rings { self.new.rings ≡ self.old.rings }
     {
         match self.bare() {
             Ok(ticket) => self.wait(ticket),

@@ -13,6 +13,7 @@ returns-in-Err-leave g c =
         last = c.run-out.new.session;
         entered = search rules;
         log_is = search rules;
+        rings_is = search rules;
         ran = search rules;
         log_stays = search rules;
         met = search rules;

@@ -1,8 +1,11 @@
-use Rattle.std.proofs.Common.{◌+◌, [], ◌∷◌, get_or, subst, ◌∙◌}
+use Rattle.std.proofs.Common.{◌+◌, [], ◌∷◌, get_or, refl, subst, ◌∙◌}
 use Rattle.hl_domain.specs.Domains.{DomainState}
 use Rattle.hl.specs.Records.{AreStored}
-use Rattle.hl.proofs.RecordLaws.{stored_next}
+use Rattle.hl.proofs.RecordLaws.{none_stored, stored_next}
 use Rattle.hl.proofs.session.Session.store_all.Goals as goal
+
+pub loop-k-init : goal.loop-k-init
+loop-k-init g c = (refl, refl, none_stored c.args.self.now.log.sizes c.args.address c.args.self.now.pass c.args.self.now.pass refl)
 
 pub loop-k-preserved : goal.loop-k-preserved
 loop-k-preserved g c =
@@ -14,6 +17,7 @@ loop-k-preserved g c =
     let q = c.store_one.new.self.pass in
     let met = c.loop-k.invariant in (
       c.store_one.ensures.log ∙ met.0,
-      stored_next log.sizes a k 0 words c.args.self.now.pass m q c.loop-k-test.true met.1
+      c.store_one.ensures.rings ∙ met.1,
+      stored_next log.sizes a k 0 words c.args.self.now.pass m q c.loop-k-test.true met.2
           (subst (λ (l : DomainState). AreStored l.sizes (a + k) (get_or words k 0 ∷ []) m q) met.0 c.in-Ok.ensures.stored),
     )
