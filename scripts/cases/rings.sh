@@ -1,6 +1,6 @@
-# A thread that finds no frame free may wake its crew (Session::ring), which no clause speaks of: a crew that has been idle
-# sleeps for up to 160 milliseconds. In one run pages are filled ten times with the crew woken and ten times without; woken,
-# they are filled in less than half the time.
+# A thread that finds no frame free wakes its crew by a round of help, which no clause speaks of: a crew that has been idle
+# sleeps for up to 160 milliseconds. In one run pages are filled ten times with help and ten times without; with it, they are
+# filled in less than half the time.
 
 wakes_its_crew() {
     local rung left

@@ -14,7 +14,7 @@
 //! serves and has nothing to do. What the process uses meanwhile is what such a crew costs.
 //!
 //! `hl_pace rings ROUNDS` prints for how many microseconds in all a thread filled pages beside a crew that had been idle:
-//! with the crew woken at each `Busy`, and with the crew left to wake by itself. It does each so many times.
+//! with the crew woken by a round of help at each `Busy`, and left to wake by itself. It does each so many times.
 #![tactic(auto)]
 
 mod calls;

@@ -85,9 +85,10 @@ fn enter_page<R: Wait + Clock, L: Realm>(
         match session.allocate(PAGE) {
             Err(Fault::Busy { .. }) => {
                 if rings {
-                    session.ring();
+                    session.help()?;
+                } else {
+                    session.refresh()?;
                 }
-                session.refresh()?;
                 thread::sleep(rt, Duration::from_millis(1));
             }
             placed => return placed,
