@@ -21,7 +21,8 @@ pub struct Config {
     pub threads: u64,
     /// Words a page: a power of two, 4 to 2^20.
     pub page_size: u64,
-    /// How many pages the memory has room for, 2 to 2^16.
+    /// How many pages the memory has room for, 2 to 2^16. [`with_frames`](Config::with_frames) sets `mutable` and
+    /// `resident` with it, which have to stay below it.
     pub frames: u64,
     /// Places for actions, 1 to 4,096.
     pub actions: u64,

@@ -35,7 +35,8 @@ pub trait Work<R: Wait> {
         ensures { returns self.now number session.old session.new result };
 
     /// Writes the image of a page to the program's device: whether it did, and then what `took` says holds. Two
-    /// writers of the crew call it.
+    /// writers of the crew call it. After false the page is taken again. So if the crew alone flushes, the device has
+    /// each page that was evicted.
     fn write_page(&self, rt: &R, page: u64, image: &[u8]) -> bool
         ensures { result ≡ true → took self.now page image.now };
 
