@@ -1,4 +1,5 @@
-# A project of one's own, as ./hl new makes it: its program runs, its edit can be applied, and what is there is left alone.
+# A project of one's own, as ./hl new makes it: its program runs, its edit can be applied, its page names what is there,
+# and a folder that isn't empty is left alone.
 
 top="$(cd "$scripts/.." && pwd)"
 project="$room/project"
@@ -17,6 +18,14 @@ edit_fits() {
     done
 }
 
+# Each file that its page names is there.
+has_what_it_names() {
+    local file
+    while read -r file; do
+        [ -e "$project/$file" ] || { echo "$file isn't there"; return 1; }
+    done < <(grep -o '](crates/[^)]*)' "$project/README.md" | tr -d '()]')
+}
+
 leaves_what_is_there() {
     local status=0
     mkdir -p "$room/full" && echo mine > "$room/full/file"
@@ -27,5 +36,6 @@ leaves_what_is_there() {
 if has_all 'a project of one'"'"'s own' rt; then
     check 'a new project runs' makes_a_project
     check 'the edit of a new project fits' edit_fits
+    check 'a new project has what its page names' has_what_it_names
     check 'a folder that is not empty is no project' leaves_what_is_there
 fi
