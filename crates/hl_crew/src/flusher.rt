@@ -90,7 +90,7 @@ impl<R: Wait, E: Epochs + Drop, F: Task, P: Promise, L: Realm, G> Run<'_, R, E, 
     }
 
     // Makes turns until the stop is given, or the first after which it can't go on.
-    fn serve(&self, own: &mut FlusherState<L>, stop: &Stop) -> Result<Stopped, Over>
+    fn serve<'y>(&self, own: &mut FlusherState<L>, stop: &'y Stop) -> Result<Stopped<'y>, Over>
         ensures { ServesUntil F self.now.domain.now self.now.limits
             (is_none self.now.channels) result own.old own.new }
     {

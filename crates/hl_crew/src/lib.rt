@@ -64,11 +64,13 @@
 //! failed, nothing was written, or the write failed and was counted so. Of pages that are sent: the flusher takes
 //! them up to four a turn, or to the first take that finds none; as many acknowledgements as it sent pages are
 //! answered and counted once each, as each says, and each page that none of them named once as failed. A turn that
-//! ended well ended by the cut that its limits say; where a part failed, the turn failed for the same reason. A full
-//! journal is cut only if the limits say so, and what ends something is then tried again, up to a thousand times. A
-//! page reported as clean was swept. Whoever looks for pages looks until a look fails, or one is in vain that was
-//! begun once the flusher had ended. No clause says that a thread gets on, what a channel delivers, or what
-//! [`CrewEnd`] counts in all: what lies under a lock or comes from a channel is known by its type alone.
+//! ended well ended by the cut that its limits say; where a part failed, the turn failed for the same reason. Turns
+//! are made as many as were asked for, or until the stop was given, if none fails. How long a nap is follows from how
+//! many turns in a row got nowhere. A full journal is cut only if the limits say so, and what ends something is then
+//! tried again, up to a thousand times. A page reported as clean was swept. Whoever looks for pages looks until a look
+//! fails, or one is in vain that was begun once the flusher had ended. No clause says that a thread gets on or sleeps,
+//! what a channel delivers, or what [`CrewEnd`] counts in all: what lies under a lock or comes from a channel is known
+//! by its type alone.
 //!
 //! | Module | What it has |
 //! |---|---|

@@ -25,10 +25,10 @@ pub struct Stop {
     sleeper: Parker,
 }
 
-/// That a stop was given. Only [`Stop::stopped`] makes one, so a crew that serves can't end its turns without.
+/// That this stop was given. Only [`Stop::stopped`] makes one, so a crew that serves can't end its turns without.
 #[derive(Clone, Copy)]
-pub(crate) struct Stopped {
-    _given: (),
+pub(crate) struct Stopped<'x> {
+    _stop: &'x Stop,
 }
 
 impl Stop {
@@ -59,9 +59,9 @@ impl Stop {
     }
 
     /// Returns that the stop was given; `None` if it wasn't.
-    pub(crate) fn stopped(&self) -> Option<Stopped> {
+    pub(crate) fn stopped(&self) -> Option<Stopped<'_>> {
         if self.is_given.load(Ordering::SeqCst) {
-            Some(Stopped { _given: () })
+            Some(Stopped { _stop: self })
         } else {
             None
         }

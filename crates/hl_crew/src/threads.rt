@@ -4,15 +4,16 @@ ghost use Rattle.hl_crew.specs.Riders.{IsGiven};
 use crate::gate::Gate;
 use crate::given::Given;
 use crate::run::Run;
-use crate::seats::Seats;
+use crate::seats::{Seat, Seats};
 use crate::whole::Whole;
+use crate::writer::WriterState;
 use hl_action::{Promise, Task};
 use hl_epoch::Epochs;
 use hl_image::PageWriter;
 use hl_words::Realm;
-use std::sync::Wait;
+use std::sync::{Mutex, Wait};
 use std::thread;
-use std::thread::Threads;
+use std::thread::{JoinHandle, Parker, Scope, Threads};
 
 impl<R, E, F, P, L, G> Run<'_, R, E, F, P, L, G>
 where
@@ -43,44 +44,59 @@ where
                 requires gate_shared { IsSync G.row }
                 requires given { IsSend K.row }
                 requires named { IsGiven K.sizes K.serves self.now.domain.now self.now.channels }
-            {
-                let first = scope
-                    .spawn(
-                        move ||
-                            requires { IsGiven K.sizes K.serves self.now.domain.now self.now.channels }
-                        { self.run_writer(&seats.first, &self.first) },
-                    )
-                    .ok();
-                let second = scope
-                    .spawn(
-                        move ||
-                            requires { IsGiven K.sizes K.serves self.now.domain.now self.now.channels }
-                        { self.run_writer(&seats.second, &self.second) },
-                    )
-                    .ok();
-                let cleaner = scope
-                    .spawn(
-                        move ||
-                            requires { IsGiven K.sizes K.serves self.now.domain.now self.now.channels }
-                        { self.run_cleaner(&seats.cleaner) },
-                    )
-                    .ok();
-                let flusher = if first.is_some() && second.is_some() && cleaner.is_some() {
-                    scope
-                        .spawn(
-                            move ||
-                                requires { IsGiven K.sizes K.serves self.now.domain.now self.now.channels }
-                            { self.run_flusher(&seats.flusher) },
-                        )
-                        .ok()
-                } else {
-                    None
-                };
-                if flusher.is_none() {
-                    self.end();
-                }
-                Whole::of(first, second, cleaner, flusher)
-            },
+            { self.start(scope, seats) },
         )
+    }
+
+    // Makes the threads, the flusher behind the others. If it can't be made, these are told to end.
+    fn start<'s, 'y, W: PageWriter + Send, K: Given + Send>(
+        &'y self,
+        scope: &'s Scope<'s, &'y ()>,
+        seats: &'y Seats<L, W, K>,
+    ) -> Option<Whole>
+        requires { IsGiven K.sizes K.serves self.now.domain.now self.now.channels }
+    {
+        let first = self.start_writer(scope, &seats.first, &self.first);
+        let second = self.start_writer(scope, &seats.second, &self.second);
+        let cleaner = scope
+            .spawn(
+                move ||
+                    requires { IsGiven K.sizes K.serves self.now.domain.now self.now.channels }
+                { self.run_cleaner(&seats.cleaner) },
+            )
+            .ok();
+        let flusher = if first.is_some() && second.is_some() && cleaner.is_some() {
+            scope
+                .spawn(
+                    move ||
+                        requires { IsGiven K.sizes K.serves self.now.domain.now self.now.channels }
+                    { self.run_flusher(&seats.flusher) },
+                )
+                .ok()
+        } else {
+            None
+        };
+        if flusher.is_none() {
+            self.end();
+        }
+        Whole::of(first, second, cleaner, flusher)
+    }
+
+    // Makes a writer's thread. `None` if it couldn't be made.
+    fn start_writer<'s, 'y, W: PageWriter + Send, K: Given + Send>(
+        &'y self,
+        scope: &'s Scope<'s, &'y ()>,
+        own: &'y Mutex<Seat<WriterState<L, W>, K>>,
+        sleeper: &'y Parker,
+    ) -> Option<JoinHandle<()>>
+        requires { IsGiven K.sizes K.serves self.now.domain.now self.now.channels }
+    {
+        scope
+            .spawn(
+                move ||
+                    requires { IsGiven K.sizes K.serves self.now.domain.now self.now.channels }
+                { self.run_writer(own, sleeper) },
+            )
+            .ok()
     }
 }
