@@ -1,10 +1,9 @@
 -- An action that was stored and is over is done.
 use Rattle.std.proofs.Common.{◌≡◌, ℕ, zero, suc, ◌<◌, ◌≤◌, Bool, true, false, not, ◌&&◌, List, [], ◌∷◌, take, drop, refl, arith, ne_eqb, ltb-true, ◌||◌}
-use Rattle.std.specs.Prelude.{◌==◌, nat_lt}
+use Rattle.std.specs.Prelude.{◌==◌}
 use Rattle.std.specs.List.{list_any}
 use Rattle.hl_model.specs.declared.action.Waiting.{Waiting}
-use Rattle.hl_model.specs.declared.step.Step.{Step}
-use Rattle.hl_model.specs.Actions.{actions, takes, pending, ever_taken, is_taken, is_finished}
+use Rattle.hl_model.specs.Actions.{actions, takes, pending, ever_taken, is_taken}
 use Rattle.hl_laws.proofs.ActionLaws.{actions-rising}
 use Rattle.hl_laws.proofs.TicketLaws.{Rising}
 use Rattle.hl_core.specs.Holding.{oldest, oldest_of, is_before, is_over}

@@ -1,8 +1,7 @@
 -- A log's last rider finishes after the others.
 use Rattle.std.proofs.Common.{◌≡◌, ℕ, zero, suc, ◌+◌, Option, false, List, [], ◌∷◌, ◌++◌, map, length, refl, ap, sym, ◌∙◌, subst, subst₂, Result, Ok, Err, MatchResult, Vec, Global, arith, length-append, inl, inr}
-use Rattle.std.specs.Prelude.{◌⊎◌, is_some}
+use Rattle.std.specs.Prelude.{is_some}
 use Rattle.hl_model.specs.declared.fault.Fault.{Fault}
-use Rattle.hl_model.specs.declared.fault.Fault.TheVariants.{OutOfMemory}
 use Rattle.hl_model.specs.Sizes.{Sizes}
 use Rattle.hl_words.specs.States.{RiderState, new_rider, new_riders}
 use Rattle.hl_words.proofs.Dealing.{new_long}
@@ -62,7 +61,7 @@ module _ {Out : Type 0} {F : Type 0} {o : Opening Sizes} {Returns : ℕ → Sess
   refused_thread Finishes fault first = inr (inl (record { count = length rest; others = t.others; outs = v.items; riders = riders; returned = returned; first = first }))
 
   pub finished_or : (Finishes : SessionState → SessionState → Out → Type 0) (all : Vec Out Global) (result : Result (Finished Out F) Fault) → v.items ≡ map (λ out. Ok out) all.items
-      → MatchResult result (λ finished. (finished.outs ≡ all) × IsFinish F log Finishes riders last finished) (λ fault. (fault ≡ OutOfMemory) ⊎ IsNoFinish F log Finishes last fault)
+      → MatchResult result (λ finished. (finished.outs ≡ all) × IsFinish F log Finishes riders last finished) (IsNoFinish F log Finishes last)
       → MatchResult result (AreFinished F o Returns Took Finishes) (IsUnfinished F o Returns Took Finishes)
   finished_or Finishes all (Ok finished) are (outs, finish) = record {
     count = length rest;
@@ -71,8 +70,7 @@ module _ {Out : Type 0} {F : Type 0} {o : Opening Sizes} {Returns : ℕ → Sess
     returned = subst (λ l. CountReturned F (opened_as o) Returns Took (length rest) l riders) (are ∙ ap (λ (w : Vec Out Global). map (λ out. Ok out) w.items) (sym outs)) returned;
     finish = subst₂ (λ (l : DomainState) (r : RiderState). IsFinish F l Finishes riders r finished) t.same t.last_is finish;
   }
-  finished_or Finishes all (Err fault) are (inl memory) = inl memory
-  finished_or Finishes all (Err fault) are (inr failed) = inr (inr (record {
+  finished_or Finishes all (Err fault) are failed = inr (inr (record {
     count = length rest;
     others = t.others;
     outs = all.items;

@@ -1,6 +1,6 @@
 //! A log that threads use beside a crew, and one session more, opened and closed by one call, with one result.
-ghost use Rattle.std.specs.Prelude.{◌≡◌, ◌+◌, ◌≤◌, ◌⊎◌, [], length, map, vec_capacity, true, false, Ok, Err, MatchResult};
-ghost use Rattle.hl_model.specs.declared.fault.Fault.TheVariants.{OutOfMemory, Size};
+ghost use Rattle.std.specs.Prelude.{◌≡◌, ◌+◌, ◌<◌, ◌≤◌, [], length, map, vec_len, vec_capacity, true, false, Ok, Err, MatchResult};
+ghost use Rattle.hl_model.specs.declared.fault.Fault.TheVariants.{Size};
 ghost use Rattle.hl_words.specs.States.{IsSeedOf};
 ghost use Rattle.hl.specs.Closings.{Tells};
 ghost use Rattle.hl.specs.Configs.{all_fit, opening_of};
@@ -97,7 +97,7 @@ fn run_over<L: Realm + Send + Sync, R: Threads + Wait + Sync, P: Work<R> + Sync>
     let Some(last) = riders.pop() else {
         unreachable!()
     };
-    let ((outs, _device), riders) = run_all(rt, alloc, &log, riders, duty, work, None);
+    let ((outs, _device), mut riders) = run_all(rt, alloc, &log, riders, duty, work, None);
     let outs = match outs {
         Ok(outs) => outs,
         Err(fault) => return Err(fault),
@@ -110,6 +110,9 @@ fn run_over<L: Realm + Send + Sync, R: Threads + Wait + Sync, P: Work<R> + Sync>
         Ok(outs) => outs,
         Err(fault) => return Err(fault),
     };
+    if riders.reserve(1).is_err() {
+        return Err(Fault::OutOfMemory);
+    }
     finish_log(rt, log, riders, last, work, outs)
 }
 
@@ -127,7 +130,7 @@ fn all_of<T: Drop>(room: Vec<T>, outs: Outs<T>) -> Result<Vec<T>, Fault>
     Ok(all)
 }
 
-// Calls `Work::finish` in a session of this rider, and closes the log with it behind the others.
+// Calls `Work::finish` in a session of this rider, and closes the log with it behind the others, where there is room.
 fn finish_log<L: Realm + Send + Sync, R: Wait, P: Work<R>>(
     rt: &R,
     log: Log<L, P::Job>,
@@ -137,15 +140,14 @@ fn finish_log<L: Realm + Send + Sync, R: Wait, P: Work<R>>(
     outs: Vec<P::Out>,
 ) -> Result<Finished<P::Out, P::Job>, Fault>
     requires all { length riders.items + 1 ≡ log.riders }
+    requires room { vec_len riders < vec_capacity riders }
     ensures closed { MatchResult result
         (λ finished. (finished.outs ≡ outs)
         × IsFinish P.Job log (P.finishes work.now) riders.items last finished)
-        (λ fault. (fault ≡ OutOfMemory) ⊎ IsNoFinish P.Job log (P.finishes work.now) last fault) }
+        (IsNoFinish P.Job log (P.finishes work.now) last) }
 {
     let (done, rider) = finish_one(rt, &log, last, work);
-    if riders.push(rider).is_err() {
-        return Err(Fault::OutOfMemory);
-    }
+    riders.push_reserved(rider);
     let last = match done {
         Ok(last) => last,
         Err(fault) => return Err(fault),

@@ -44,9 +44,9 @@ type Served<L> = (
 ///
 /// If `out` is `Ok`, its places are the threads' numbers, and no rider is missing: in `IsClosed` the threads' riders
 /// stand in their order before the crew's four. Each place holds what that thread returned, and then its rider, new at
-/// first, entered a session of this log, was in it as `Work::returns` says, and left it. Or it holds the fault by which
-/// the rider was refused its session, or the thread, once it had run, couldn't leave its own. So what a thread's calls
-/// met and did is tied to the one list of the ending.
+/// first, entered a session of this log that wakes the crew, was in it as `Work::returns` says, and left it. Or it holds
+/// the fault by which the rider was refused its session, or the thread, once it had run, couldn't leave its own. So what
+/// a thread's calls met and did is tied to the one list of the ending.
 ///
 /// The crew's riders stored into cells only to sweep pages that their calls took to clean: if no page was closed, the
 /// threads alone changed words. Of each page that they flushed `Work::took` says that the device took its image, and the
