@@ -2,7 +2,6 @@ use Rattle.std.proofs.Common.{refl, inl, Err}
 use Rattle.std.specs.Prelude.{Ok}
 use Rattle.std.proofs.lemmas.Result.{err_from_is_err_and}
 use Rattle.hl_crew.specs.Riders.{WritesPage, FailsPage}
-use Rattle.hl_crew.specs.Overs.{accepted}
 use Rattle.hl_crew.proofs.PageLaws.{flushed, passes_more}
 use Rattle.hl_crew.proofs.run.Run.+flush.Goals as goal
 
@@ -18,7 +17,7 @@ flush-returns-in_err-accepted g t c =
 
 pub flush-returns : goal.flush-returns
 flush-returns g t c =
-    flushed g.row.F.Denot c.args.self.now.domain.now c.args.self.now.limits.cuts _ _ _ _ _ c.ok-ok.result c.flush_behind-passed.result (Ok accepted) c.in-Ok.load c.flush_take.new.rider c.args.own.now c.write.new.own c.flush_behind-passed.new.own _
+    flushed g.row.F.Denot c.args.self.now.domain.now c.args.self.now.limits.cuts _ _ _ _ _ c.ok-ok.result c.flush_behind-passed.result (Ok c.in_ok-accepted.accepted) c.in-Ok.load c.flush_take.new.rider c.args.own.now c.write.new.own c.flush_behind-passed.new.own _
     c.in-Ok.ensures.met (rw c.ok-ok.ensures (rw c.job.ensures at c.write.ensures.copies)) c.write.ensures.counts c.flush_behind-passed.ensures c.in_ok-accepted.ensures refl c.count.ensures
 
 pub flush_behind-returns : goal.flush_behind-returns
