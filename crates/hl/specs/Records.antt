@@ -51,7 +51,7 @@ writes_at t a (w ∷ ws) = Write t a w ∷ writes_at t (a + 1) ws
 abbrev pub StoresOrRefreshes : ℕ → Step → Type 0
 StoresOrRefreshes t step = ((a : ℕ) × (v : ℕ) × (step ≡ Write t a v)) ⊎ (step ≡ Refresh t)
 
--- how many touches a pass has after these steps of its slot, that had so many before
+-- how many touches a pass has after these steps of its slot, if it had so many before
 abbrev pub touches_after : ℕ → List Step → ℕ
 touches_after n [] = n
 touches_after n (Refresh t ∷ steps) = touches_after 0 steps
@@ -79,7 +79,7 @@ stored_at sizes a [] before = before
 stored_at sizes a (w ∷ ws) before = stored_at sizes (a + 1) ws (Stored (cell_at sizes a) w ∷ before)
 
 -- between these two a pass stored these words from address a on, one after another: the steps that it made are their
--- writes, with a refresh wherever it had no room for a touch; and it stored nothing else into cells
+-- writes, with refreshes between, each when it had no room for a touch; and it stored nothing else into cells
 pub record AreStored (sizes : Sizes) (a : ℕ) (words : List ℕ) (old new : PassRecord) : Type 0 where
   pub slot : new.slot ≡ old.slot
   pub behind : List Step
