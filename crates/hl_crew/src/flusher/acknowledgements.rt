@@ -1,6 +1,6 @@
 ghost use Rattle.std.specs.Prelude.{◌≡◌, ◌+◌, ℕ, Some, position, OnOk};
 ghost use Rattle.hl_crew.specs.Counting.{counted};
-ghost use Rattle.hl_crew.specs.Flushes.{hold_of, AnswersPage, TellsNext, FailsNext};
+ghost use Rattle.hl_crew.specs.Flushes.{hold_of, AnswersPage, Tells, TellsNext, FailsNext};
 ghost use Rattle.hl_crew.specs.Goes.{UpTo};
 ghost use Rattle.hl_crew.specs.Pouches.{is_of, load_count};
 
@@ -8,6 +8,7 @@ use crate::flusher::FlusherState;
 use crate::messages::{Channels, Over};
 use crate::pouch::Pouch;
 use crate::run::Run;
+use crate::writer::Acknowledgement;
 use hl_action::{Promise, Task};
 use hl_epoch::Epochs;
 use hl_words::Realm;
@@ -31,13 +32,27 @@ impl<R: Wait, E: Epochs + Drop, F: Task, P: Promise, L: Realm, G> Run<'_, R, E, 
             let Ok(acknowledgement) = channels.acknowledged.recv(self.rt) else {
                 return Err(Over::Lost);
             };
-            if !pouch.holds(acknowledgement.page()) {
-                own.counts.count_stranger();
-                continue;
-            }
-            self.answer_held(own, pouch, acknowledgement.page(), acknowledgement.ok())?;
+            self.answer_told(own, pouch, acknowledgement)?;
         }
         Ok(())
+    }
+
+    // Answers the page of an acknowledgement as that says, and counts the answer. One whose page isn't in the pouch is
+    // counted as a stranger. Only `Run::write` makes an acknowledgement: so its caller can tell no other end of a write.
+    fn answer_told(
+        &self,
+        own: &mut FlusherState<L>,
+        pouch: &mut Pouch,
+        acknowledgement: Acknowledgement,
+    ) -> Result<(), Over>
+        ensures { Tells F self.now.domain.now acknowledgement.page acknowledgement.ok
+            result (hold_of own.old pouch.old) (hold_of own.new pouch.new) }
+    {
+        if !pouch.holds(acknowledgement.page()) {
+            own.counts.count_stranger();
+            return Ok(());
+        }
+        self.answer_held(own, pouch, acknowledgement.page(), acknowledgement.ok())
     }
 
     /// Answers each page that is still in the pouch as failed, and counts it so.
