@@ -55,6 +55,7 @@ impl MemoryDevice {
     ) -> (Option<MemoryWriter>, Option<MemoryWriter>)
         ensures first { is_some result.0 ≡ is_some device }
         ensures second { is_some result.1 ≡ is_some device }
+        ensures same { IfSome device (λ was. result ≡ (Some was.first, Some was.second)) }
     {
         match device {
             Some(MemoryDevice { first, second }) => (Some(first), Some(second)),
