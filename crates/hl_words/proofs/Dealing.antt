@@ -14,14 +14,14 @@ shorter : {X : Type 0} (x : X) (m k : ℕ) → m ≡ k + 1 → drop 1 (replicate
 shorter x zero k e = absurd (omega arith)
 shorter x (suc m) k e = let same : m ≡ k = omega arith in ap (λ (j : ℕ). replicate j x) same
 
-shorter_row : (name m k : ℕ) → m ≡ k + 1 → drop 1 (fresh_from name m) ≡ fresh_from (name + 1) k
+pub shorter_row : (name m k : ℕ) → m ≡ k + 1 → drop 1 (fresh_from name m) ≡ fresh_from (name + 1) k
 shorter_row name zero k e = absurd (omega arith)
 shorter_row name (suc m) k e =
     let same : m ≡ k = omega arith in
     let next : suc name ≡ name + 1 = omega arith in
     ap (λ (j : ℕ). fresh_from (suc name) j) same ∙ ap (λ (j : ℕ). fresh_from j k) next
 
-first_one : (name m k : ℕ) → m ≡ k + 1 → take 1 (fresh_from name m) ≡ fresh name ∷ []
+pub first_one : (name m k : ℕ) → m ≡ k + 1 → take 1 (fresh_from name m) ≡ fresh name ∷ []
 first_one name zero k e = absurd (omega arith)
 first_one name (suc m) k e = refl
 

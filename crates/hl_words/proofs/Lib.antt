@@ -7,6 +7,7 @@ pub mod Standing
 pub mod Steps
 pub mod Seatings
 pub mod Dealing
+pub mod Rows
 pub mod WordAt
 pub mod LawProofs
 pub mod Told

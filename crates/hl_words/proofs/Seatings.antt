@@ -34,29 +34,30 @@ riders_in-push (u ∷ us) w = ap (λ l. u.riders ++ l) (riders_in-push us w) ∙
 
 module _ (room : Room) where
   -- the master's steps are those of seat 0
-  pub sets_allowed : (slots id : ℕ) (me : Me Nothing SeatView) (m : Extent) (last : OffsetWords) (which : Which) (i x : ℕ) → id ≡ 0 → me ≡ (master_seat m last [], []) → i ≡ 8 + place_of which room.cells → offset_of which last ≤ x
+  pub sets_allowed : (slots id : ℕ) (me : Me Nothing SeatView) (m : Extent) (last : OffsetWords) (riders : List RiderView) (which : Which) (i x : ℕ) → id ≡ 0 → me ≡ (master_seat m last riders, []) → i ≡ 8 + place_of which room.cells → offset_of which last ≤ x
       → Allows (Holds room) slots id me i (λ _. x) (λ _. Sets which (step slots i x 0 none) me x)
-  sets_allowed slots id me m last which i x first is place le =
+  sets_allowed slots id me m last riders which i x first is place le =
       subst (λ (k : ℕ). Allows (Holds room) slots k me i (λ _. x) (λ _. Sets which (step slots i x 0 none) me x)) (sym first)
       (subst (λ (m : Me Nothing SeatView). Allows (Holds room) slots 0 m i (λ _. x) (λ _. Sets which (step slots i x 0 none) m x)) (sym is)
-      (λ s h homes at bound. (master_seat m (with_offset which x last) [], keeps, tt, kept s.words s.views h at, refl)))
+      (λ s h homes at bound. (master_seat m (with_offset which x last) riders, keeps, tt, kept s.words s.views h at, refl)))
     where
-      kept : (words : List ℕ) (views : List SeatView) → IsKept room words views → get_elem? views 0 ≡ some (master_seat m last []) → IsKept room (set words i x) (set views 0 (master_seat m (with_offset which x last) []))
-      kept words [] h at = absurd (some-ne-none (master_seat m last []) (sym at))
+      kept : (words : List ℕ) (views : List SeatView) → IsKept room words views → get_elem? views 0 ≡ some (master_seat m last riders) → IsKept room (set words i x) (set views 0 (master_seat m (with_offset which x last) riders))
+      kept words [] h at = absurd (some-ne-none (master_seat m last riders) (sym at))
       kept words (v ∷ views) h at =
-          let same : v ≡ master_seat m last [] = some-injective v (master_seat m last []) at in
-          let mine : h.master ≡ master_seat m last [] = sym (some-injective v h.master h.seat) ∙ same in
-          let flat : riders_in (v ∷ views) ≡ riders_in views = ap (λ (u : SeatView). u.riders ++ riders_in views) same in
+          let same : v ≡ master_seat m last riders = some-injective v (master_seat m last riders) at in
+          let mine : h.master ≡ master_seat m last riders = sym (some-injective v h.master h.seat) ∙ same in
+          let all = riders ++ riders_in views in
+          let flat : riders_in (v ∷ views) ≡ all = ap (λ (u : SeatView). u.riders ++ riders_in views) same in
           let used = drop 8 words in
           let ruled = subst (λ l. IsRuledAt room.cells used last m l) flat (subst (λ (u : SeatView). IsRuledAt room.cells used u.offsets u.called (riders_in (v ∷ views))) mine h.ruled) in
-          let now = ruled_from room.cells (set used (place_of which room.cells) x) (with_offset which x last) m (riders_in views)
-          (after_set which room.cells used last m (riders_in views) x (line_wide room.cells words h.width) le (standing_from room.cells used last m (riders_in views) ruled)) in
+          let now = ruled_from room.cells (set used (place_of which room.cells) x) (with_offset which x last) m all
+          (after_set which room.cells used last m all x (line_wide room.cells words h.width) le (standing_from room.cells used last m all ruled)) in
           record {
-            master = master_seat m (with_offset which x last) [];
+            master = master_seat m (with_offset which x last) riders;
             seat = refl;
             width = length-set words i x ∙ h.width;
             count = sym (ap length flat) ∙ h.count;
-            ruled = subst (λ ws. IsRuledAt room.cells ws (with_offset which x last) m (riders_in views)) (sym (line_set words i (place_of which room.cells) x place)) now;
+            ruled = subst (λ ws. IsRuledAt room.cells ws (with_offset which x last) m all) (sym (line_set words i (place_of which room.cells) x place)) now;
             known = (tt, subst (λ l. AllKnown l views) flat h.known.1);
           }
 

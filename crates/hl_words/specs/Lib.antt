@@ -4,3 +4,4 @@ pub mod Seats
 pub mod States
 pub mod Laws
 pub mod Past
+pub mod Rows

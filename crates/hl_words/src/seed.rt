@@ -133,8 +133,8 @@ impl Seed {
     }
 }
 
-// The table, all 0, and its first seat.
-fn laid(alloc: Global, room: Room) -> Result<(WordTable, WordSeat), AllocError>
+/// The table, all 0, and its first seat.
+pub(crate) fn laid(alloc: Global, room: Room) -> Result<(WordTable, WordSeat), AllocError>
     requires { room.cells ≤ 2 ^ 36 }
     ensures table { IfOk result
         (λ t. (t.0.shared.key ≡ room) × (t.0.shared.table_id.words ≡ room.cells + 27)

@@ -9,13 +9,11 @@ mod pasts;
 
 use crate::master::Master;
 use crate::rider::Rider;
-use crate::rule::{
-    AddCell, Deal, ExchangeCell, LoadCell, LoadEnded, LoadHead, LoadReadOnly, LoadSafeReadOnly,
-    StoreCell, StoreEnded, StoreHead, StoreReadOnly, StoreSafeReadOnly,
-};
+use crate::rule::Deal;
 use crate::seed::{HistoryOf, Realm, Recorder, Seed, WordTable};
+use crate::table_steps;
 use crate::view::Room;
-use crate::which::{ENDED_AT, FIRST, HEAD_AT, READ_ONLY_AT, SAFE_READ_ONLY_AT, Which};
+use crate::which::Which;
 use hl_history::History;
 use hl_model::Fault;
 use std::alloc::Global;
@@ -122,8 +120,7 @@ impl<L: Realm> Words<L> {
         requires { cell < self.now.cells }
         ensures { rider.new ≡ with_view (stored cell value rider.old.view) rider.old }
     {
-        let shared = &self.table.shared;
-        shared.store::<StoreCell>(&mut rider.seat, FIRST + cell as usize, value);
+        table_steps::store_cell(&self.table, &mut rider.seat, cell, value);
     }
 
     /// Loads a cell. The rider's view has the load; that its value is lawful is what `close` tells of all
@@ -133,8 +130,7 @@ impl<L: Realm> Words<L> {
         requires { cell < self.now.cells }
         ensures { rider.new ≡ with_view (loaded cell result rider.old.view) rider.old }
     {
-        let shared = &self.table.shared;
-        shared.load::<LoadCell>(&mut rider.seat, FIRST + cell as usize)
+        table_steps::load_cell(&self.table, &mut rider.seat, cell)
     }
 
     /// Adds a number to a cell, modulo 2^64, in one step: no store of another rider comes between its
@@ -144,8 +140,7 @@ impl<L: Realm> Words<L> {
         requires { cell < self.now.cells }
         ensures { rider.new ≡ with_view (added cell more result rider.old.view) rider.old }
     {
-        let shared = &self.table.shared;
-        shared.fetch_add::<AddCell>(&mut rider.seat, FIRST + cell as usize, more)
+        table_steps::add_cell(&self.table, &mut rider.seat, cell, more)
     }
 
     /// Stores the new value into a cell if the old one stands there, in one step. Returns what it
@@ -154,8 +149,7 @@ impl<L: Realm> Words<L> {
         requires { cell < self.now.cells }
         ensures { rider.new ≡ with_view (exchanged cell old new result rider.old.view) rider.old }
     {
-        let shared = &self.table.shared;
-        shared.compare_exchange::<ExchangeCell>(&mut rider.seat, FIRST + cell as usize, old, new)
+        table_steps::exchange_cell(&self.table, &mut rider.seat, cell, old, new)
     }
 
     /// Stores one of the master's words: an offset in words of the log, or an epoch. The caller sees to it
@@ -166,22 +160,13 @@ impl<L: Realm> Words<L> {
             in let offsets = with_offset which offset old.offsets
             in master.new ≡ record { offsets = offsets; total = old.total; called = old.called } }
     {
-        let shared = &self.table.shared;
-        let seat = &mut master.seat;
-        match which {
-            Which::ReadOnly => shared.store::<StoreReadOnly>(
-                seat,
-                self.room.cells + READ_ONLY_AT,
-                offset,
-            ),
-            Which::Head => shared.store::<StoreHead>(seat, self.room.cells + HEAD_AT, offset),
-            Which::Ended => shared.store::<StoreEnded>(seat, self.room.cells + ENDED_AT, offset),
-            Which::SafeReadOnly => shared.store::<StoreSafeReadOnly>(
-                seat,
-                self.room.cells + SAFE_READ_ONLY_AT,
-                offset,
-            ),
-        }
+        table_steps::store_word(
+            &self.table,
+            self.room.cells,
+            &mut master.seat,
+            which,
+            offset,
+        );
     }
 
     /// Loads one of the master's words: an offset in words of the log, or an epoch. It isn't below what this
@@ -192,15 +177,6 @@ impl<L: Realm> Words<L> {
         ensures view { rider.new ≡ with_view (with_loaded which result rider.old.view) rider.old }
         ensures rises { greatest_of which (looked rider.old.view.touches) ≤ result }
     {
-        let shared = &self.table.shared;
-        let seat = &mut rider.seat;
-        match which {
-            Which::ReadOnly => shared.load::<LoadReadOnly>(seat, self.room.cells + READ_ONLY_AT),
-            Which::Head => shared.load::<LoadHead>(seat, self.room.cells + HEAD_AT),
-            Which::Ended => shared.load::<LoadEnded>(seat, self.room.cells + ENDED_AT),
-            Which::SafeReadOnly => {
-                shared.load::<LoadSafeReadOnly>(seat, self.room.cells + SAFE_READ_ONLY_AT)
-            }
-        }
+        table_steps::load_word(&self.table, self.room.cells, &mut rider.seat, which)
     }
 }

@@ -1,14 +1,15 @@
-use Rattle.std.proofs.Common.{rules, ◌+◌, ◌<◌, sym, ap, ◌∙◌, arith}
-use Rattle.hl_words.proofs.Steps.{stores_allowed}
+use Rattle.std.proofs.Common.{rules, sym, ap, ◌∙◌, arith}
+use Rattle.hl_words.proofs.Rows.{can_step}
 use Rattle.hl_words.proofs.words.Words.store_cell.Goals as goal
 
 pub returns : goal.returns
 returns g c = search rules
 
-pub store-requires : goal.store-requires
-store-requires g c =
+pub store_cell-requires-clause-can : goal.store_cell-requires-clause-can
+store_cell-requires-clause-can g c =
     let t = c.self.invariant in
     let r = c.rider.invariant in
-    let key = c.self.inside.table.shared.key in
-    let below : c.args.cell < key.cells = omega (arith, c.requires, ap (λ w. w.cells) c.self.view_is, ap (λ k. k.cells) t.0.key_is) in
-    (r.1 ∙ sym t.1, omega (arith, below, t.0.words_are, ap (λ k. k.cells) t.0.key_is), stores_allowed key c.self.inside.table.shared.table_id.slots c.rider.inside.seat.id c.rider.inside.seat.me _ (8 + c.args.cell) c.args.value r.0 (omega arith) (omega (arith, below)))
+    can_step c.self.inside.room c.self.inside.table.shared.key _ _ _ t.0 (r.1 ∙ sym t.1) r.0
+
+pub store_cell-requires-clause-cell : goal.store_cell-requires-clause-cell
+store_cell-requires-clause-cell g c = omega (arith, c.requires, ap (λ w. w.cells) c.self.view_is, ap (λ k. k.cells) c.self.invariant.0.key_is)

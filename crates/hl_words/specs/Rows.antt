@@ -1,0 +1,69 @@
+-- What contracts see of a row of words without a brand, and what the steps of its table ask of a seat and leave it.
+use Rattle.std.specs.Prelude.{ℕ, ◌≡◌, ◌+◌, ◌-◌, ◌^◌, ◌≤◌, []}
+use Rattle.atomic_table.specs.Seated.{TableId}
+use Rattle.atomic_table.specs.Table.{Me}
+use Rattle.hl_words.specs.declared.view.OffsetWords.{OffsetWords}
+use Rattle.hl_words.specs.declared.view.RiderView.{RiderView}
+use Rattle.hl_words.specs.declared.view.SeatView.{SeatView}
+use Rattle.hl_words.specs.declared.view.Room.{Room}
+use Rattle.hl_words.specs.declared.which.Which.{Which}
+use Rattle.hl_words.specs.Seats.{rider_seat}
+use Rattle.hl_words.specs.States.{first_rider}
+use Rattle.hl_words.specs.Views.{fresh, no_offsets, with_offset}
+
+-- a table with the cells of this room and 27 words more
+abbrev pub IsWide : Room → TableId → Type 0
+IsWide room table = (table.words ≡ room.cells + 27) × (room.cells ≤ 2 ^ 36)
+
+-- a seat that stands for this rider alone
+abbrev pub StandsFor : RiderView → Me (Unit {0}) SeatView → Type 0
+StandsFor r me = me ≡ (rider_seat r, [])
+
+-- a rider's seat at this table may step there
+pub record CanStep (room : Room) (table seat : TableId) (me : Me (Unit {0}) SeatView) : Type 0 where
+  pub wide : IsWide room table
+  pub there : seat ≡ table
+  pub rider : StandsFor (first_rider me.0) me
+
+-- how many cells a row has, and which row it is
+pub record RowState : Type 0 where
+  pub cells : ℕ
+  pub table : TableId
+
+-- what a rider did, and at which row
+pub record RowRiderState : Type 0 where
+  pub view : RiderView
+  pub table : TableId
+
+-- the master's stores of its words, the name of the next rider that it deals out, how many it can still deal out, and
+-- at which row it is
+pub record RowMasterState : Type 0 where
+  pub offsets : OffsetWords
+  pub next : ℕ
+  pub left : ℕ
+  pub table : TableId
+
+-- the master of a row before its first store, with so many riders
+abbrev pub first_master : ℕ → TableId → RowMasterState
+first_master riders table = record { offsets = no_offsets; next = 0; left = riders; table = table }
+
+-- the master after one more store of a word
+abbrev pub with_word : Which → ℕ → RowMasterState → RowMasterState
+with_word which x m = record {
+  offsets = with_offset which x m.offsets;
+  next = m.next;
+  left = m.left;
+  table = m.table;
+}
+
+-- the master after one rider more was dealt out
+abbrev pub dealt : RowMasterState → RowMasterState
+dealt m = record { offsets = m.offsets; next = m.next + 1; left = m.left - 1; table = m.table }
+
+-- the rider that the master deals out next, which did nothing yet
+abbrev pub next_rider : RowMasterState → RowRiderState
+next_rider m = record { view = fresh m.next; table = m.table }
+
+-- the rider of a row after it did this
+abbrev pub acted : (RiderView → RiderView) → RowRiderState → RowRiderState
+acted f r = record { view = f r.view; table = r.table }
