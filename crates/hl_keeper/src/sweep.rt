@@ -32,7 +32,7 @@ pub fn copy_page<L: Realm>(
     if job.stamp != stamp {
         return Err(Fault::Stranger { stamp });
     }
-    copy_cells(words, rider, first_cell(params, job.page), out);
+    words.load_cells(rider, first_cell(params, job.page), out);
     Ok(())
 }
 
@@ -59,7 +59,7 @@ pub fn sweep<L: Realm>(
         return Err(Fault::Stranger { stamp });
     }
     let (first, places) = (first_cell(params, broom.page()), params.page_size());
-    zero_cells(words, rider, first, places);
+    words.zero_cells(rider, first, places);
     broom.count(places);
     Ok(())
 }
@@ -71,26 +71,4 @@ fn first_cell(params: Sizes, page: u64) -> u64
     ensures few { result + params.page_size ≤ 2 ^ 36 }
 {
     page % params.frames() * params.page_size()
-}
-
-// Loads as many cells as there are places.
-fn copy_cells<L: Realm>(words: &Words<L>, rider: &mut Rider<L>, first: u64, out: &mut [u64])
-    requires cells { first + length out.old ≤ words.now.cells }
-    requires few { first + length out.old ≤ 2 ^ 36 }
-    ensures { rider.new ≡ with_view (loaded_all first out.new rider.old.view) rider.old }
-{
-    for k in 0..out.len() {
-        out[k] = words.load_cell(rider, first + k as u64);
-    }
-}
-
-// Stores 0 into n cells.
-fn zero_cells<L: Realm>(words: &Words<L>, rider: &mut Rider<L>, first: u64, n: u64)
-    requires cells { first + n ≤ words.now.cells }
-    requires few { first + n ≤ 2 ^ 36 }
-    ensures { rider.new ≡ with_view (zeroed first n rider.old.view) rider.old }
-{
-    for k in 0..n {
-        words.store_cell(rider, first + k, 0);
-    }
 }

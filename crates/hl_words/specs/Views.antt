@@ -116,3 +116,13 @@ no_extent = record { steps = 0; cut = 0 }
 -- the view after a call under the master's lock, which met the one list so far and left it so far
 abbrev pub called : Extent → Extent → RiderView → RiderView
 called met left r = touched (Called met left) r
+
+-- the view after stores of 0 into n cells from a cell on
+unfoldable pub zeroed : ℕ → ℕ → RiderView → RiderView
+zeroed cell zero view = view
+zeroed cell (suc n) view = stored (cell + n) 0 (zeroed cell n view)
+
+-- the view after loads of these words from as many cells from a cell on
+unfoldable pub loaded_all : ℕ → List ℕ → RiderView → RiderView
+loaded_all cell [] view = view
+loaded_all cell (w ∷ ws) view = loaded_all (cell + 1) ws (loaded cell w view)

@@ -1,9 +1,9 @@
 //! Words for whoever can't name a brand in a type, as a C interface: the same table under the same rule, where each
 //! rider and the master know at which row they are.
-ghost use Rattle.std.specs.Prelude.{◌≡◌, ◌^◌, ◌<◌, ◌≤◌, IfOk, IfErr, MatchOption};
+ghost use Rattle.std.specs.Prelude.{◌≡◌, ◌+◌, ◌^◌, ◌<◌, ◌≤◌, length, IfOk, IfErr, MatchOption};
 ghost use Rattle.hl_model.specs.declared.fault.Fault.TheVariants.{OutOfMemory};
 ghost use Rattle.hl_words.specs.Rows.{acted, dealt, first_master, next_rider, with_word};
-ghost use Rattle.hl_words.specs.Views.{offset_of, greatest_of, stored, loaded, added, exchanged, with_loaded, looked};
+ghost use Rattle.hl_words.specs.Views.{offset_of, greatest_of, stored, loaded, added, exchanged, with_loaded, looked, zeroed, loaded_all};
 
 use crate::rule::Deal;
 use crate::seed::{WordSeat, WordTable, laid};
@@ -152,6 +152,25 @@ impl Row {
         ensures { rider.new ≡ acted (exchanged cell old new result) rider.old }
     {
         table_steps::exchange_cell(&self.table, &mut rider.seat, cell, old, new)
+    }
+
+    /// Loads as many cells as there are places, from a cell on.
+    pub fn load_cells(&self, rider: &mut RowRider, first: u64, out: &mut [u64])
+        requires there { rider.old.table ≡ self.now.table }
+        requires cells { first + length out.old ≤ self.now.cells }
+        ensures rider { rider.new ≡ acted (loaded_all first out.new) rider.old }
+        ensures places { length out.new ≡ length out.old }
+    {
+        table_steps::load_cells(&self.table, &mut rider.seat, first, out);
+    }
+
+    /// Stores 0 into n cells, from a cell on.
+    pub fn zero_cells(&self, rider: &mut RowRider, first: u64, n: u64)
+        requires there { rider.old.table ≡ self.now.table }
+        requires cells { first + n ≤ self.now.cells }
+        ensures { rider.new ≡ acted (zeroed first n) rider.old }
+    {
+        table_steps::zero_cells(&self.table, &mut rider.seat, first, n);
     }
 
     /// Stores one of the master's words, which isn't below the master's last store.

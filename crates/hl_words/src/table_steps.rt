@@ -1,9 +1,9 @@
 //! The steps of the table, which words with a brand and without one take: by a rider's seat, or the master's.
-ghost use Rattle.std.specs.Prelude.{◌≡◌, ◌<◌, ◌≤◌};
+ghost use Rattle.std.specs.Prelude.{◌≡◌, ◌+◌, ◌<◌, ◌≤◌, length};
 ghost use Rattle.hl_words.specs.Rows.{CanStep, IsWide, StandsFor};
 ghost use Rattle.hl_words.specs.Seats.{with_store};
 ghost use Rattle.hl_words.specs.States.{first_rider, IsMasterSeat};
-ghost use Rattle.hl_words.specs.Views.{offset_of, greatest_of, stored, loaded, added, exchanged, with_loaded, looked};
+ghost use Rattle.hl_words.specs.Views.{offset_of, greatest_of, stored, loaded, added, exchanged, with_loaded, looked, zeroed, loaded_all};
 
 use crate::rule::{
     AddCell, ExchangeCell, LoadCell, LoadEnded, LoadHead, LoadReadOnly, LoadSafeReadOnly,
@@ -65,6 +65,31 @@ pub(crate) fn exchange_cell(
     let place = FIRST + cell as usize;
     let shared = &table.shared;
     shared.compare_exchange::<ExchangeCell>(seat, place, old, new)
+}
+
+/// Loads as many cells as there are places, from a cell on.
+pub(crate) fn load_cells(table: &WordTable, seat: &mut WordSeat, first: u64, out: &mut [u64])
+    requires can { CanStep table.now.shared.key table.now.shared.table_id seat.old.table_id seat.old.me }
+    requires cells { first + length out.old ≤ table.now.shared.key.cells }
+    ensures seat { seat.new.table_id ≡ seat.old.table_id }
+    ensures did { StandsFor (loaded_all first out.new (first_rider seat.old.me.0)) seat.new.me }
+    ensures places { length out.new ≡ length out.old }
+{
+    for k in 0..out.len() {
+        out[k] = load_cell(table, seat, first + k as u64);
+    }
+}
+
+/// Stores 0 into n cells, from a cell on.
+pub(crate) fn zero_cells(table: &WordTable, seat: &mut WordSeat, first: u64, n: u64)
+    requires can { CanStep table.now.shared.key table.now.shared.table_id seat.old.table_id seat.old.me }
+    requires cells { first + n ≤ table.now.shared.key.cells }
+    ensures seat { seat.new.table_id ≡ seat.old.table_id }
+    ensures did { StandsFor (zeroed first n (first_rider seat.old.me.0)) seat.new.me }
+{
+    for k in 0..n {
+        store_cell(table, seat, first + k, 0);
+    }
 }
 
 /// Loads one of the master's words, which lie behind so many cells. It isn't below what this rider loaded of it before.

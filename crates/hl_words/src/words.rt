@@ -1,6 +1,6 @@
-ghost use Rattle.std.specs.Prelude.{◌≡◌, ◌<◌, ◌≤◌, [], IfOk, IfErr};
+ghost use Rattle.std.specs.Prelude.{◌≡◌, ◌+◌, ◌<◌, ◌≤◌, [], length, IfOk, IfErr};
 ghost use Rattle.hl_model.specs.declared.fault.Fault.TheVariants.{OutOfMemory};
-ghost use Rattle.hl_words.specs.Views.{offset_of, greatest_of, with_offset, stored, loaded, added, exchanged, with_loaded, looked};
+ghost use Rattle.hl_words.specs.Views.{offset_of, greatest_of, with_offset, stored, loaded, added, exchanged, with_loaded, looked, zeroed, loaded_all};
 ghost use Rattle.hl_words.specs.States.{IsSeedOf, new_master, new_riders, with_view};
 
 mod calls;
@@ -150,6 +150,23 @@ impl<L: Realm> Words<L> {
         ensures { rider.new ≡ with_view (exchanged cell old new result rider.old.view) rider.old }
     {
         table_steps::exchange_cell(&self.table, &mut rider.seat, cell, old, new)
+    }
+
+    /// Loads as many cells as there are places, from a cell on. The rider's view has the loads.
+    pub fn load_cells(&self, rider: &mut Rider<L>, first: u64, out: &mut [u64])
+        requires { first + length out.old ≤ self.now.cells }
+        ensures rider { rider.new ≡ with_view (loaded_all first out.new rider.old.view) rider.old }
+        ensures places { length out.new ≡ length out.old }
+    {
+        table_steps::load_cells(&self.table, &mut rider.seat, first, out);
+    }
+
+    /// Stores 0 into n cells, from a cell on. The rider's view has the stores.
+    pub fn zero_cells(&self, rider: &mut Rider<L>, first: u64, n: u64)
+        requires { first + n ≤ self.now.cells }
+        ensures { rider.new ≡ with_view (zeroed first n rider.old.view) rider.old }
+    {
+        table_steps::zero_cells(&self.table, &mut rider.seat, first, n);
     }
 
     /// Stores one of the master's words: an offset in words of the log, or an epoch. The caller sees to it

@@ -1,0 +1,8 @@
+use Rattle.std.proofs.Common.{◌≡◌, take}
+use Rattle.hl_words.specs.Rows.{StandsFor}
+use Rattle.hl_words.specs.States.{first_rider}
+use Rattle.hl_words.specs.Views.{loaded_all}
+use Rattle.hl_words.proofs.table_steps.load_cells.Given as goal
+
+abbrev pub invariant-loop-k : goal.invariant-loop-k
+invariant-loop-k l = (l.seat.table_id ≡ l.fn.seat.table_id) × StandsFor (loaded_all l.first (take l.k l.out) (first_rider l.fn.seat.me.0)) l.seat.me
