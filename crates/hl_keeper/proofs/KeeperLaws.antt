@@ -21,7 +21,7 @@ use Rattle.hl_keeper.specs.Stamps.{acquires_in, slot_stamps}
 use Rattle.hl_keeper.specs.Stores.{stores_of}
 use Rattle.hl_keeper.specs.Calls.{room_fault}
 use Rattle.hl_keeper.proofs.JournalLaws.{full-none}
-use Rattle.hl_keeper.proofs.StoreLaws.{stores-nil, newest-read_only, newest-head, newest-settled}
+use Rattle.hl_pass.proofs.StoreLaws.{stores-nil, newest-read_only, newest-head, newest-settled}
 use Rattle.hl_keeper.proofs.StampLaws.{acquires_in-nil, slot_stamps-nil}
 
 module _ {F : Type 0} where

@@ -10,9 +10,7 @@ pub mod EnterLaws
 pub mod TouchedLaws
 pub mod SlotLaws
 pub mod StepLaws
-pub mod StoreLaws
 pub mod SettledLaws
 pub mod AcquireLaws
 pub mod ActionLaws
-pub mod SweepLaws
 pub mod WorkedProofs

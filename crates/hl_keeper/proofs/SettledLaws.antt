@@ -15,7 +15,7 @@ use Rattle.hl_laws.proofs.BoundLaws.{writes_are_above_safe_read_only}
 use Rattle.hl_laws.proofs.SettledLaws.{done_greatest-nil, done_greatest-grows}
 use Rattle.hl_words.specs.Rule.{AreLoads}
 use Rattle.hl_keeper.specs.Stores.{if_settle, settled_by, settled_in, stores_of, IsSettled}
-use Rattle.hl_keeper.proofs.StoreLaws.{settled-nil, settled-push}
+use Rattle.hl_pass.proofs.StoreLaws.{settled-nil, settled-push}
 
 -- it was the safe read-only offset of the first n steps
 abbrev pub WasSafe : List Step → ℕ → Type 0

@@ -22,7 +22,7 @@ use Rattle.hl_keeper.specs.Stores.{stores_of, with_told, IsAbove}
 use Rattle.hl_keeper.specs.Calls.{room_fault, step_fault, made, Replied, Makes, SameStamps}
 use Rattle.hl_keeper.proofs.EnterLaws.{stepped_on}
 use Rattle.hl_keeper.proofs.StampLaws.{acquires_in-stay, slot_stamps-stay}
-use Rattle.hl_keeper.proofs.StoreLaws.{stores-told, stores-rise}
+use Rattle.hl_pass.proofs.StoreLaws.{stores-told, stores-rise}
 use Rattle.hl_keeper.proofs.KeeperLaws.{Stamped, grown, kept_on, room-none, counted}
 
 -- of two faults the first that there is

@@ -24,7 +24,7 @@ use Rattle.hl_pass.proofs.LookLaws.{viewed, viewed_fault, look_free}
 use Rattle.hl_keeper.specs.Stamps.{is_acquire, acquires_in, slot_stamps}
 use Rattle.hl_keeper.specs.Stores.{stores_of}
 use Rattle.hl_keeper.proofs.StampLaws.{acquires_in-stay, slot_stamps-stay}
-use Rattle.hl_keeper.proofs.StoreLaws.{stores-stay}
+use Rattle.hl_pass.proofs.StoreLaws.{stores-stay}
 use Rattle.hl_keeper.specs.Touches.{view_past, view_after, IsTouch, AreTouches, is_call}
 
 -- a step that moves no slot, no offset and no page that is freed, ends no action and stamps no slot

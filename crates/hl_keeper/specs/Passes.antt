@@ -8,6 +8,7 @@ use Rattle.hl_model.specs.declared.step.Step.TheVariants.{Look, Write}
 use Rattle.hl_model.specs.declared.view.View.{View}
 use Rattle.hl_model.specs.Sizes.{Sizes}
 use Rattle.hl_model.specs.Replies.{or_fault}
+pub use Rattle.hl_words.specs.Cells.{cell_at}
 use Rattle.hl_words.specs.declared.which.Which.TheVariants.{ReadOnly, Head, Ended}
 use Rattle.hl_words.specs.States.{RiderState, with_view}
 use Rattle.hl_words.specs.Views.{offset_of, looked, greatest_of, stored, changed, loaded, with_loaded}
@@ -49,10 +50,6 @@ store_fault p a = or_fault (view_store_fault (seen p) a) (touch_fault p)
 -- the fault of a load at address a
 unfoldable pub load_fault : PassRecord → ℕ → Option Fault
 load_fault p a = view_load_fault (seen p) a
-
--- the cell of address a
-abbrev pub cell_at : Sizes → ℕ → ℕ
-cell_at sizes a = a / sizes.page_size % sizes.frames * sizes.page_size + a % sizes.page_size
 
 -- the pass after a store of v at address a: its rider stored it into the address's cell, and it has one touch
 -- more

@@ -7,7 +7,7 @@ ghost use Rattle.hl_keeper.specs.Pages.{first_cell, zeroed, loaded_all};
 
 use crate::load::{Broom, PageJob};
 use hl_model::{Fault, Sizes};
-use hl_words::{Realm, Rider, Words};
+use hl_words::{Realm, Rider, Words, first_cell};
 
 /// Loads the cells of a page into P places, as many as a page has words. It is meant for a page in
 /// flight, by whoever has the job of its load. How the loads are ordered among other riders' stores
@@ -62,13 +62,4 @@ pub fn sweep<L: Realm>(
     words.zero_cells(rider, first, places);
     broom.count(places);
     Ok(())
-}
-
-// The first cell of a page. Behind it the page has P cells.
-fn first_cell(params: Sizes, page: u64) -> u64
-    ensures value { result ≡ first_cell params page }
-    ensures room { result + params.page_size ≤ params.frames * params.page_size }
-    ensures few { result + params.page_size ≤ 2 ^ 36 }
-{
-    page % params.frames() * params.page_size()
 }

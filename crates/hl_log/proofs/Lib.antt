@@ -1,2 +1,4 @@
-pub mod CallLaws
+pub mod StandLaws
 pub mod KnownLaws
+pub mod CallLaws
+pub mod LoadLaws

@@ -3,3 +3,5 @@ pub mod Calls
 pub mod Logs
 pub mod Passes
 pub mod Taken
+pub mod Loads
+pub mod States

@@ -1,27 +1,49 @@
--- When a log stands at a list of steps, and what stays of it.
-use Rattle.std.specs.Prelude.{◌≡◌, ℕ, Bool, true, false, Result, List}
+-- What a log keeps, when it stands at a list of steps, and what stays of it.
+use Rattle.std.specs.Prelude.{◌≡◌, ℕ, Bool, true, false, Result, List, length}
 use Rattle.hl_model.specs.declared.step.Step.{Step}
 use Rattle.hl_model.specs.declared.step.Step.TheVariants.{Bump, Settle, Close, Bare, Done, Raise, Shift}
 use Rattle.hl_model.specs.declared.step.Reply.{Reply}
 use Rattle.hl_model.specs.declared.fault.Fault.{Fault}
+use Rattle.hl_model.specs.Replies.{reply_of, extended}
 use Rattle.hl_core.specs.Standing.{Stands}
-use Rattle.hl_core.specs.Steps.{Made}
 use Rattle.hl_pass.specs.Stamps.{IsGiven}
-use Rattle.hl_log.specs.declared.log.Log.{Log}
+use Rattle.hl_pass.specs.Stores.{stores_of}
+use Rattle.hl_log.specs.States.{LogState}
 
--- the log's core stands at these steps
-abbrev pub StandsAt : Log → List Step → Type 0
-StandsAt log A = Stands (λ t. t.0) log.core A
+-- the log's core stands at these steps, and its four words were stored as these steps tell
+pub record StandsAt (log : LogState) (A : List Step) : Type 0 where
+  pub standing : Stands (λ t. t.0) log.core A
+  pub stored : log.master.offsets ≡ stores_of A
 
--- all beside the core is as it was: the words, the stamps
-pub record IsBeside (old new : Log) : Type 0 where
-  pub shared : new.shared ≡ old.shared
+-- each log stands at some list; each slot has a stamp, and the master is that of the log's words
+pub record IsLog (log : LogState) : Type 0 where
+  pub stands : (A : List Step) × StandsAt log A
+  pub room : length log.stamps.row.items ≡ log.core.sizes.slots
+  pub there : log.master.table ≡ log.words.words.table
+
+-- all beside the core is as it was: the words, the stores of the four, the stamps
+pub record IsBeside (old new : LogState) : Type 0 where
+  pub words : new.words ≡ old.words
+  pub master : new.master ≡ old.master
   pub stamps : new.stamps ≡ old.stamps
 
 -- slot t was given the next stamp, and all else beside the core is as it was
-pub record IsStamped (old : Log) (t : ℕ) (new : Log) : Type 0 where
-  pub shared : new.shared ≡ old.shared
+pub record IsStamped (old : LogState) (t : ℕ) (new : LogState) : Type 0 where
+  pub words : new.words ≡ old.words
+  pub master : new.master ≡ old.master
   pub stamps : IsGiven old.stamps t new.stamps
+
+-- a log that stood at A answered a step as the definitions do, and stands at the list with the step, where it was
+-- accepted
+pub record Stepped (old : LogState) (A : List Step) (step : Step) (new : LogState) (result : Result Reply Fault)
+    : Type 0 where
+  pub reply : result ≡ reply_of old.core.sizes A step
+  pub sizes : new.core.sizes ≡ old.core.sizes
+  pub standing : StandsAt new (extended old.core.sizes A step)
+
+-- so it did at whatever list it stood
+abbrev pub Makes : LogState → Step → LogState → Result Reply Fault → Type 0
+Makes old step new result = (A : List Step) → StandsAt old A → Stepped old A step new result
 
 -- a step that is no slot's and no page's, and tells no job
 abbrev pub is_own : Step → Bool
@@ -37,7 +59,8 @@ is_own _ = false
 abbrev pub IsOwn : Step → Type 0
 IsOwn step = is_own step ≡ true
 
--- the log's core made the step, at whatever list it stood, and all beside the core is as it was
-pub record Moves (old : Log) (step : Step) (new : Log) (result : Result Reply Fault) : Type 0 where
-  pub made : Made (λ t. t.0) old.core step new.core result
-  pub beside : IsBeside old new
+-- the log made the step, at whatever list it stood, with the same words and stamps
+pub record Moves (old : LogState) (step : Step) (new : LogState) (result : Result Reply Fault) : Type 0 where
+  pub made : Makes old step new result
+  pub words : new.words ≡ old.words
+  pub stamps : new.stamps ≡ old.stamps

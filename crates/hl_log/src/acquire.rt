@@ -3,17 +3,17 @@ ghost use Rattle.std.specs.Prelude.{◌≡◌, List, IfSome, OnOk, OnErr};
 ghost use Rattle.hl_model.specs.declared.step.Step.{Step as STEP};
 ghost use Rattle.hl_model.specs.declared.step.Step.TheVariants.{Acquire as ACQUIRE};
 ghost use Rattle.hl_model.specs.Views.{slot_view};
-ghost use Rattle.hl_core.specs.Steps.{Made};
 ghost use Rattle.hl_model.specs.Replies.{extended};
 ghost use Rattle.hl_pass.specs.Passes.{rested_in, stamped};
 ghost use Rattle.hl_pass.specs.Stamps.{next_stamp};
 ghost use Rattle.hl_log.specs.Calls.{KnownAt};
-ghost use Rattle.hl_log.specs.Logs.{StandsAt, IsStamped};
+ghost use Rattle.hl_log.specs.Logs.{StandsAt, Makes, IsStamped};
 ghost use Rattle.hl_log.specs.Passes.{with_own, epoch_told, IsRisen, IsVacant};
 
 use crate::call::epoch_told;
 use crate::log::Log;
 use crate::pass::Pass;
+use crate::shared::Shared;
 use hl_model::{Fault, Reply, Step, View};
 use hl_pass::PassView;
 use std::sync::Arc;
@@ -21,10 +21,13 @@ use std::sync::Arc;
 impl Log {
     /// Returns a pass that acts for no slot yet, or None if the owners of the shared words can't be counted
     /// further.
-    pub fn vacant(&self, slot: u64) -> Option<Pass>
-        ensures { IfSome result (λ pass. IsVacant self.now slot pass) }
+    pub fn vacant(&mut self, slot: u64) -> Option<Pass>
+        ensures pass { IfSome result (λ pass. IsVacant self.old slot pass) }
+        ensures log { self.new ≡ self.old }
     {
         let shared = Arc::try_clone(&self.shared).ok()?;
+        let words: &Shared = &self.shared;
+        let rider = words.words.deal(&mut self.master)?;
         let own = PassView {
             slot,
             stamp: 0,
@@ -32,14 +35,14 @@ impl Log {
             held: View::default(),
             view: View::default(),
         };
-        Some(Pass { shared, own })
+        Some(Pass { shared, own, rider })
     }
 
     /// Protects the slot of a vacant pass, which then acts for it: the slot's epoch and view.
     ///
     /// Faults: `NoSlot`, `Occupied`; then nothing is changed.
     pub fn acquire(&mut self, pass: &mut Pass) -> Result<Reply, Fault>
-        ensures made { Made (λ t. t.0) self.old.core (ACQUIRE pass.old.own.slot) self.new.core result }
+        ensures made { Makes self.old (ACQUIRE pass.old.own.slot) self.new result }
         ensures refused { OnErr result ((self.new ≡ self.old) × (pass.new ≡ pass.old)) }
         ensures stamps { OnOk result (IsStamped self.old pass.old.own.slot self.new) }
         ensures pass { let p = pass.old

@@ -33,6 +33,7 @@ mod acquire;
 mod call;
 mod log;
 mod open;
+mod page_words;
 mod pages;
 mod pass;
 mod region;

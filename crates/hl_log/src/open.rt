@@ -19,12 +19,14 @@ impl Log {
             × (log.stamps.own ≡ stamp) × (log.stamps.given ≡ 0)) }
     {
         let core = Core::open(alloc, sizes).ok()?;
-        let shared = Arc::new(alloc, Shared::open(alloc, sizes)?).ok()?;
+        let (words, master) = Shared::open(alloc, sizes)?;
+        let shared = Arc::new(alloc, words).ok()?;
         let stamps = Stamps::open(alloc, sizes.slots(), stamp).ok()?;
         Some(Log {
             core,
             shared,
             stamps,
+            master,
         })
     }
 

@@ -2,11 +2,12 @@
 ghost use Rattle.std.specs.Prelude.{◌≡◌, IfSome, IfOk, OnErr};
 ghost use Rattle.hl_model.specs.declared.step.Step.TheVariants.{FlushDone as FLUSH_DONE, CleanDone as CLEAN_DONE};
 ghost use Rattle.hl_model.specs.declared.step.Reply.TheVariants.{Page as PAGE};
-ghost use Rattle.hl_core.specs.Steps.{Made, as_reply};
-ghost use Rattle.hl_log.specs.Logs.{IsBeside};
+ghost use Rattle.hl_core.specs.Steps.{as_reply};
+ghost use Rattle.hl_log.specs.Logs.{Makes, IsBeside};
 ghost use Rattle.hl_log.specs.Taken.{taking, numbered, origin_fault, unswept_fault, Ends, IsFresh};
 
 use crate::log::Log;
+use crate::shared::Shared;
 use crate::taken::Taken;
 use hl_model::{Fault, Reply, Step};
 use std::sync::Arc;
@@ -14,15 +15,20 @@ use std::sync::Arc;
 impl Log {
     /// Returns a page that is to be taken, to be cleaned or else to be flushed, or None if the owners of the
     /// shared words can't be counted further.
-    pub fn vacant_page(&self, cleans: bool) -> Option<Taken>
-        ensures { IfSome result (λ page. IsFresh self.now cleans page) }
+    pub fn vacant_page(&mut self, cleans: bool) -> Option<Taken>
+        ensures page { IfSome result (λ page. IsFresh self.old cleans page) }
+        ensures log { self.new ≡ self.old }
     {
+        let shared = Arc::try_clone(&self.shared).ok()?;
+        let words: &Shared = &self.shared;
+        let rider = words.words.deal(&mut self.master)?;
         Some(Taken {
-            shared: Arc::try_clone(&self.shared).ok()?,
+            shared,
             origin: self.stamps.own(),
             page: 0,
             cleans,
             swept: false,
+            rider,
         })
     }
 
@@ -31,19 +37,27 @@ impl Log {
     ///
     /// Faults: `NoneClosed`, `NoneSealed`; then nothing is changed.
     pub fn take_page(&mut self, page: &mut Taken) -> Result<u64, Fault>
-        ensures made { Made (λ t. t.0) self.old.core (taking page.old.cleans) self.new.core
-            (as_reply PAGE result) }
+        ensures made { Makes self.old (taking page.old.cleans) self.new (as_reply PAGE result) }
         ensures beside { IsBeside self.old self.new }
         ensures page { IfOk result (λ number. page.new ≡ numbered number page.old) }
         ensures refused { OnErr result ((self.new ≡ self.old) × (page.new ≡ page.old)) }
     {
-        let number = if page.cleans {
-            self.core.clean_take()?
-        } else {
-            self.core.flush_take()?
-        };
+        let number = self.take_number(page.cleans)?;
         page.page = number;
         Ok(number)
+    }
+
+    // The same, of which the number alone is told.
+    fn take_number(&mut self, cleans: bool) -> Result<u64, Fault>
+        ensures made { Makes self.old (taking cleans) self.new (as_reply PAGE result) }
+        ensures beside { IsBeside self.old self.new }
+        ensures refused { OnErr result (self.new ≡ self.old) }
+    {
+        if cleans {
+            self.core.clean_take()
+        } else {
+            self.core.flush_take()
+        }
     }
 
     /// The flush of a page ended, well or not; returns the flushed offset.

@@ -1,12 +1,15 @@
 //! Which region of the log an address lies in, without the lock.
 ghost use Rattle.std.specs.Prelude.{◌≡◌, None, Some, MatchResult};
+ghost use Rattle.hl_words.specs.declared.which.Which.TheVariants.{SafeReadOnly};
+ghost use Rattle.hl_words.specs.Views.{with_loaded};
 ghost use Rattle.hl_log.specs.Addresses.{region_fault, region_of};
+ghost use Rattle.hl_log.specs.Passes.{with_act};
 
 use crate::pass::Pass;
 use crate::shared::Shared;
 use hl_model::{Fault, View};
 use hl_pass::Region;
-use std::sync::atomic::Ordering::SeqCst;
+use hl_words::Which;
 
 impl Pass {
     /// Returns the region of an address, by what the pass sees and the safe read-only offset, which it loads
@@ -14,19 +17,22 @@ impl Pass {
     ///
     /// `Beyond` if the address isn't below the tail that the pass sees, nor below the head that it sees.
     #[inline(always)]
-    pub fn region(&self, address: u64) -> Result<(Region, u64), Fault>
-        ensures { let view = self.now.own.view
+    pub fn region(&mut self, address: u64) -> Result<(Region, u64), Fault>
+        ensures { let view = self.old.own.view
             in let met = region_fault view address
             in MatchResult result
-            (λ told. (met ≡ None) × (told.0 ≡ region_of view told.1 address))
-            (λ fault. met ≡ Some fault) }
+            (λ told. (met ≡ None) × (told.0 ≡ region_of view told.1 address)
+            × (self.new ≡ with_act (with_loaded SafeReadOnly told.1) self.old))
+            (λ fault. (met ≡ Some fault) × (self.new ≡ self.old)) }
     {
         let view = self.own.view;
         if address >= view.head && address >= view.tail {
             return Err(Fault::Beyond { tail: view.tail });
         }
         let shared: &Shared = &self.shared;
-        let safe_read_only = shared.safe_read_only.load(SeqCst);
+        let safe_read_only = shared
+            .words
+            .load_offset(&mut self.rider, Which::SafeReadOnly);
         Ok((region_of(view, safe_read_only, address), safe_read_only))
     }
 }

@@ -1,65 +1,81 @@
-ghost use Rattle.std.specs.Prelude.{◌≡◌, ◌*◌, ◌<◌, length, IfSome};
+ghost use Rattle.std.specs.Prelude.{◌≡◌, ◌+◌, ◌*◌, ◌^◌, ◌<◌, ◌≤◌, length, IfSome};
+ghost use Rattle.hl_words.specs.Cells.{cell_at, first_cell};
+ghost use Rattle.hl_words.specs.Rows.{acted, first_master};
+ghost use Rattle.hl_log.specs.Loads.{loaded_news, loaded_row};
 
-use hl_model::{Sizes, cell_of, with_room};
+use hl_model::{Sizes, cell_of};
 use hl_pass::News;
+use hl_words::{Row, RowMaster, RowRider, Which, first_cell};
 use std::alloc::Global;
-use std::sync::atomic::AtomicU64;
-use std::sync::atomic::Ordering::SeqCst;
+
+/// How many passes and pages a log can have had. As many fit no program's time: a pass is refused only once the
+/// owners of the words can't be counted further either.
+const RIDERS: usize = 1 << 62;
 
 /// What a log and its passes share with no lock: the words of the frames, and four words that the log's calls
 /// store and passes load.
 #[derive(Drop)]
 pub struct Shared {
-    cells: Vec<AtomicU64>,
-    pub(crate) read_only: AtomicU64,
-    pub(crate) head: AtomicU64,
-    pub(crate) ended: AtomicU64,
-    pub(crate) safe_read_only: AtomicU64,
+    pub(crate) words: Row,
     pub(crate) sizes: Sizes,
-    ghost fits: { length cells.items ≡ sizes.frames * sizes.page_size },
+    ghost fits: { words.cells ≡ sizes.frames * sizes.page_size },
 }
 
 impl Shared {
-    /// Returns words that are all 0, or None if memory is refused.
-    pub(crate) fn open(alloc: Global, sizes: Sizes) -> Option<Shared>
-        ensures { IfSome result (λ shared. shared.sizes ≡ sizes) }
+    /// Returns words that are all 0, and their master, or None if memory is refused.
+    pub(crate) fn open(alloc: Global, sizes: Sizes) -> Option<(Shared, RowMaster)>
+        ensures sizes { IfSome result (λ opened. opened.0.sizes ≡ sizes) }
+        ensures master { IfSome result (λ opened. opened.1 ≡ first_master opened.0.words.table) }
     {
-        let count = sizes.frames() * sizes.page_size();
-        let mut cells = with_room(alloc, count).ok()?;
-        for _ in 0..count {
-            cells.push_reserved(AtomicU64::new(0));
+        let cells = sizes.frames() * sizes.page_size();
+        let (words, master) = Row::open(alloc, cells as usize, RIDERS).ok()?;
+        Some((Shared { words, sizes }, master))
+    }
+
+    /// The cell of an address.
+    #[inline(always)]
+    pub(crate) fn cell(&self, address: u64) -> u64
+        ensures value { result ≡ cell_at self.now.sizes address }
+        ensures in_range { result < self.now.words.cells }
+    {
+        cell_of(self.sizes, address)
+    }
+
+    /// The first cell of a page. From it on the page has P cells.
+    #[inline(always)]
+    pub(crate) fn first_cell(&self, page: u64) -> u64
+        ensures value { result ≡ first_cell self.now.sizes page }
+        ensures room { result + self.now.sizes.page_size ≤ self.now.words.cells }
+    {
+        first_cell(self.sizes, page)
+    }
+
+    /// Loads the words from an address on, as many as there are places.
+    pub(crate) fn load_row(&self, rider: &mut RowRider, address: u64, out: &mut [u64])
+        requires there { rider.old.table ≡ self.now.words.table }
+        requires range { address + length out.old < 2 ^ 64 }
+        ensures rider { rider.new ≡ acted (loaded_row self.now.sizes address out.new) rider.old }
+        ensures places { length out.new ≡ length out.old }
+    {
+        for k in 0..out.len() {
+            let cell = self.cell(address + k as u64);
+            out[k] = self.words.load_cell(rider, cell);
         }
-        Some(Shared {
-            cells,
-            read_only: AtomicU64::new(0),
-            head: AtomicU64::new(0),
-            ended: AtomicU64::new(0),
-            safe_read_only: AtomicU64::new(0),
-            sizes,
-        })
     }
 
-    /// The word of an address.
+    /// Loads the three words that tell a pass of something new.
     #[inline(always)]
-    pub(crate) fn cell(&self, address: u64) -> &AtomicU64 {
-        &self.cells[cell_of(self.sizes, address) as usize]
-    }
-
-    /// The three words that tell a pass of something new.
-    #[inline(always)]
-    pub(crate) fn news(&self) -> News {
+    pub(crate) fn news(&self, rider: &mut RowRider) -> News
+        requires { rider.old.table ≡ self.now.words.table }
+        ensures { rider.new ≡ acted (loaded_news result) rider.old }
+    {
+        let read_only = self.words.load_offset(rider, Which::ReadOnly);
+        let head = self.words.load_offset(rider, Which::Head);
+        let ended = self.words.load_offset(rider, Which::Ended);
         News {
-            read_only: self.read_only.load(SeqCst),
-            head: self.head.load(SeqCst),
-            ended: self.ended.load(SeqCst),
+            read_only,
+            head,
+            ended,
         }
-    }
-
-    /// The word at a place of the frame of a page.
-    pub(crate) fn word(&self, page: u64, place: u64) -> &AtomicU64
-        requires { place < self.now.sizes.page_size }
-    {
-        let first = page % self.sizes.frames() * self.sizes.page_size();
-        &self.cells[(first + place) as usize]
     }
 }

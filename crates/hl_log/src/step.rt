@@ -1,14 +1,15 @@
 //! The steps that no pass makes.
 ghost use Rattle.std.specs.Prelude.{◌≡◌, OnErr, IfOk};
 ghost use Rattle.hl_model.specs.declared.step.Step.TheVariants.{Take as TAKE};
-ghost use Rattle.hl_core.specs.Steps.{Made, CameOut, take_reply};
-ghost use Rattle.hl_log.specs.Logs.{Moves, IsOwn, IsBeside};
+ghost use Rattle.hl_core.specs.Steps.{CameOut, take_reply};
+ghost use Rattle.hl_pass.specs.Stores.{with_told, IsAbove};
+ghost use Rattle.hl_log.specs.Logs.{Makes, Moves, IsOwn, IsBeside};
 
 use crate::log::Log;
 use crate::shared::Shared;
 use hl_action::Firing;
 use hl_model::{Fault, Reply, Step, Tag};
-use std::sync::atomic::Ordering::SeqCst;
+use hl_words::{RowMaster, Which};
 
 impl Log {
     /// Makes a step that is no slot's and not a page's. If it moved an offset or ended an epoch, the words
@@ -22,7 +23,7 @@ impl Log {
         ensures refused { OnErr result (self.new ≡ self.old) }
     {
         let reply = self.core.step(step)?;
-        tell(&self.shared, reply);
+        tell(&self.shared, &mut self.master, reply);
         Ok(reply)
     }
 
@@ -31,7 +32,7 @@ impl Log {
     /// Faults: `Empty`, `NotReady`.
     #[inline(always)]
     pub fn take(&mut self) -> Result<(Firing, Option<Tag>), Fault>
-        ensures made { Made (λ t. t.0) self.old.core TAKE self.new.core (take_reply result) }
+        ensures made { Makes self.old TAKE self.new (take_reply result) }
         ensures out { let old = self.old.core
             in let new = self.new.core
             in IfOk result (λ taken. CameOut (λ t. t.0) old new taken.0.ticket taken.1) }
@@ -44,12 +45,20 @@ impl Log {
 
 /// Stores what a reply told of an offset or of the epoch.
 #[inline(always)]
-fn tell(shared: &Shared, reply: Reply) {
+fn tell(shared: &Shared, master: &mut RowMaster, reply: Reply)
+    requires there { master.old.table ≡ shared.now.words.table }
+    requires rises { IsAbove master.old.offsets (with_told reply master.old.offsets) }
+    ensures { let old = master.old
+        in master.new ≡ record { offsets = with_told reply old.offsets; table = old.table } }
+{
+    let words = &shared.words;
     match reply {
-        Reply::Raised(read_only) => shared.read_only.store(read_only, SeqCst),
-        Reply::Shifted(head) => shared.head.store(head, SeqCst),
-        Reply::Ticket(ended) | Reply::Bumped(ended) => shared.ended.store(ended, SeqCst),
-        Reply::Settled(safe) => shared.safe_read_only.store(safe, SeqCst),
+        Reply::Raised(read_only) => words.store_offset(master, Which::ReadOnly, read_only),
+        Reply::Shifted(head) => words.store_offset(master, Which::Head, head),
+        Reply::Ticket(ended) | Reply::Bumped(ended) => {
+            words.store_offset(master, Which::Ended, ended)
+        }
+        Reply::Settled(safe) => words.store_offset(master, Which::SafeReadOnly, safe),
         _ => {}
     }
 }

@@ -1,15 +1,18 @@
-//! What a pass does without the lock.
-ghost use Rattle.std.specs.Prelude.{◌≡◌, None, Some, length, IfSome, MatchResult};
-ghost use Rattle.hl_model.specs.Replies.{unless_fault};
+//! What a pass does without the lock. Its rider records each store, load and change of a word.
+ghost use Rattle.std.specs.Prelude.{◌≡◌, None, Some, OnOk, length, IfSome, MatchResult};
+ghost use Rattle.hl_model.specs.Replies.{unless_fault, unless_refused};
+ghost use Rattle.hl_words.specs.declared.which.Which.TheVariants.{ReadOnly as READ_ONLY, Head as HEAD};
+ghost use Rattle.hl_words.specs.Views.{stored, loaded, added, exchanged};
 ghost use Rattle.hl_log.specs.Addresses.{row_fault};
-ghost use Rattle.hl_log.specs.Passes.{with_look, IsRisen};
+ghost use Rattle.hl_log.specs.Loads.{loaded_news, loaded_row};
+ghost use Rattle.hl_log.specs.Passes.{cell_of, with_act, with_look, IsLaterLoad, IsRisen};
 ghost use Rattle.hl_pass.specs.Views.{store_fault, load_fault, is_current};
 
 use crate::pass::Pass;
 use crate::shared::Shared;
 use hl_model::Fault;
 use hl_pass::{News, is_current, may_load, may_store, raised};
-use std::sync::atomic::Ordering::SeqCst;
+use hl_words::Which;
 
 impl Pass {
     /// Stores a word of 64 bits at an address of the log; addresses count words.
@@ -17,41 +20,50 @@ impl Pass {
     /// Faults: `Below` if the address is below the read-only offset that the pass sees, `Beyond` if it isn't
     /// below the tail that it sees.
     #[inline(always)]
-    pub fn store(&self, address: u64, word: u64) -> Result<(), Fault>
-        ensures { result ≡ unless_fault (store_fault self.now.own.view address) tt }
+    pub fn store(&mut self, address: u64, word: u64) -> Result<(), Fault>
+        ensures answer { result ≡ unless_fault (store_fault self.old.own.view address) tt }
+        ensures did { self.new ≡ unless_refused (store_fault self.old.own.view address) self.old
+            (with_act (stored (cell_of self.old address) word) self.old) }
     {
         self.may_store(address)?;
         let shared: &Shared = &self.shared;
-        shared.cell(address).store(word, SeqCst);
+        let cell = shared.cell(address);
+        shared.words.store_cell(&mut self.rider, cell, word);
         Ok(())
     }
 
     /// Adds to the word of an address in one step, modulo 2^64: what it found. Faults as those of a store.
     #[inline(always)]
-    pub fn fetch_add(&self, address: u64, more: u64) -> Result<u64, Fault>
-        ensures { let met = store_fault self.now.own.view address
-            in MatchResult result (λ _. met ≡ None) (λ fault. met ≡ Some fault) }
+    pub fn fetch_add(&mut self, address: u64, more: u64) -> Result<u64, Fault>
+        ensures { let met = store_fault self.old.own.view address
+            in MatchResult result
+            (λ found. (met ≡ None) × (self.new ≡ with_act (added (cell_of self.old address) more found) self.old))
+            (λ fault. (met ≡ Some fault) × (self.new ≡ self.old)) }
     {
         self.may_store(address)?;
         let shared: &Shared = &self.shared;
-        Ok(shared.cell(address).fetch_add(more, SeqCst))
+        let cell = shared.cell(address);
+        Ok(shared.words.fetch_add_cell(&mut self.rider, cell, more))
     }
 
     /// Stores a word where this one stands, in one step; returns what it found, which is the word looked for
     /// if it stored. Faults as those of a store.
     #[inline(always)]
-    pub fn compare_exchange(&self, address: u64, current: u64, word: u64) -> Result<u64, Fault>
-        ensures { let met = store_fault self.now.own.view address
-            in MatchResult result (λ _. met ≡ None) (λ fault. met ≡ Some fault) }
+    pub fn compare_exchange(&mut self, address: u64, current: u64, word: u64) -> Result<u64, Fault>
+        ensures { let met = store_fault self.old.own.view address
+            in let cell = cell_of self.old address
+            in MatchResult result
+            (λ found. (met ≡ None) × (self.new ≡ with_act (exchanged cell current word found) self.old))
+            (λ fault. (met ≡ Some fault) × (self.new ≡ self.old)) }
     {
         self.may_store(address)?;
         let shared: &Shared = &self.shared;
-        match shared
-            .cell(address)
-            .compare_exchange(current, word, SeqCst, SeqCst)
-        {
-            Ok(found) | Err(found) => Ok(found),
-        }
+        let cell = shared.cell(address);
+        Ok(
+            shared
+                .words
+                .compare_exchange_cell(&mut self.rider, cell, current, word),
+        )
     }
 
     /// Loads the word of an address.
@@ -59,23 +71,28 @@ impl Pass {
     /// Faults: `Evicted` if the address is below the head that the pass sees, `Beyond` if it isn't below the
     /// tail that it sees.
     #[inline(always)]
-    pub fn load(&self, address: u64) -> Result<u64, Fault>
-        ensures { let met = load_fault self.now.own.view address
-            in MatchResult result (λ _. met ≡ None) (λ fault. met ≡ Some fault) }
+    pub fn load(&mut self, address: u64) -> Result<u64, Fault>
+        ensures { let met = load_fault self.old.own.view address
+            in MatchResult result
+            (λ found. (met ≡ None) × (self.new ≡ with_act (loaded (cell_of self.old address) found) self.old))
+            (λ fault. (met ≡ Some fault) × (self.new ≡ self.old)) }
     {
         may_load(self.own.view, address)?;
         let shared: &Shared = &self.shared;
-        Ok(shared.cell(address).load(SeqCst))
+        let cell = shared.cell(address);
+        Ok(shared.words.load_cell(&mut self.rider, cell))
     }
 
     /// Loads the words from an address on, as many as there are places.
     ///
     /// Faults: `Evicted` if the address is below the head that the pass sees, `Beyond` if the last of them
     /// isn't below the tail that it sees; then nothing is loaded.
-    pub fn load_into(&self, address: u64, words: &mut [u64]) -> Result<(), Fault>
-        ensures answer { result ≡ unless_fault (row_fault self.now.own.view address (length words.old)) tt }
-        ensures kept { IfSome (row_fault self.now.own.view address (length words.old))
-            (λ _. words.new ≡ words.old) }
+    pub fn load_into(&mut self, address: u64, words: &mut [u64]) -> Result<(), Fault>
+        ensures answer { result ≡ unless_fault (row_fault self.old.own.view address (length words.old)) tt }
+        ensures kept { IfSome (row_fault self.old.own.view address (length words.old))
+            (λ _. (words.new ≡ words.old) × (self.new ≡ self.old)) }
+        ensures did { OnOk result
+            (self.new ≡ with_act (loaded_row self.old.words.sizes address words.new) self.old) }
         ensures places { length words.new ≡ length words.old }
     {
         let view = self.own.view;
@@ -86,23 +103,22 @@ impl Pass {
             return Err(Fault::Beyond { tail: view.tail });
         }
         let shared: &Shared = &self.shared;
-        for k in 0..words.len() {
-            words[k] = shared.cell(address + k as u64).load(SeqCst);
-        }
+        shared.load_row(&mut self.rider, address, words);
         Ok(())
     }
 
     /// Loads both offset words, the read-only offset's and the head's: each of the two offsets that the pass
-    /// sees becomes the greater of its own and the loaded one. Returns what it loaded. The next call under
-    /// the lock enters the look.
+    /// sees becomes the greater of its own and the loaded one. Returns what it loaded, neither below what it
+    /// loaded of it before. The next call under the lock enters the look.
     #[inline(always)]
     pub fn look(&mut self) -> (u64, u64)
         ensures pass { self.new ≡ with_look result.0 result.1 self.old }
+        ensures later { IsLaterLoad READ_ONLY self.old result.0 × IsLaterLoad HEAD self.old result.1 }
         ensures risen { IsRisen self.old → IsRisen self.new }
     {
         let shared: &Shared = &self.shared;
-        let read_only = shared.read_only.load(SeqCst);
-        let head = shared.head.load(SeqCst);
+        let read_only = shared.words.load_offset(&mut self.rider, Which::ReadOnly);
+        let head = shared.words.load_offset(&mut self.rider, Which::Head);
         // Most often nothing rose, and nothing is written.
         if read_only > self.own.view.read_only || head > self.own.view.head {
             self.own.view = raised(self.own.view, read_only, head);
@@ -113,11 +129,12 @@ impl Pass {
     /// Loads all three words; returns whether none is new to the pass, and what it loaded. If none is,
     /// neither offset is above the one that the pass sees, and its epoch has not ended.
     #[inline(always)]
-    pub fn keeps_up(&self) -> (bool, News)
-        ensures { result.0 ≡ is_current self.now.own.view self.now.own.epoch result.1 }
+    pub fn keeps_up(&mut self) -> (bool, News)
+        ensures answer { result.0 ≡ is_current self.old.own.view self.old.own.epoch result.1 }
+        ensures did { self.new ≡ with_act (loaded_news result.1) self.old }
     {
         let shared: &Shared = &self.shared;
-        let news = shared.news();
+        let news = shared.news(&mut self.rider);
         (is_current(self.own.view, self.own.epoch, news), news)
     }
 

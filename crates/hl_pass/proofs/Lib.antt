@@ -1,2 +1,3 @@
 pub mod KnownLaws
 pub mod LookLaws
+pub mod StoreLaws

@@ -3,3 +3,4 @@ pub mod Laws
 pub mod Passes
 pub mod Stamps
 pub mod Views
+pub mod Stores

@@ -13,3 +13,4 @@ pub mod LawProofs
 pub mod Told
 pub mod PastProofs
 pub mod OneProofs
+pub mod PageCells

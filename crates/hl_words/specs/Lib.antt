@@ -5,3 +5,4 @@ pub mod States
 pub mod Laws
 pub mod Past
 pub mod Rows
+pub mod Cells

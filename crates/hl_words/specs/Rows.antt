@@ -1,5 +1,5 @@
 -- What contracts see of a row of words without a brand, and what the steps of its table ask of a seat and leave it.
-use Rattle.std.specs.Prelude.{ℕ, ◌≡◌, ◌+◌, ◌-◌, ◌^◌, ◌≤◌, []}
+use Rattle.std.specs.Prelude.{ℕ, ◌≡◌, ◌+◌, ◌^◌, ◌≤◌, []}
 use Rattle.atomic_table.specs.Seated.{TableId}
 use Rattle.atomic_table.specs.Table.{Me}
 use Rattle.hl_words.specs.declared.view.OffsetWords.{OffsetWords}
@@ -9,7 +9,7 @@ use Rattle.hl_words.specs.declared.view.Room.{Room}
 use Rattle.hl_words.specs.declared.which.Which.{Which}
 use Rattle.hl_words.specs.Seats.{rider_seat}
 use Rattle.hl_words.specs.States.{first_rider}
-use Rattle.hl_words.specs.Views.{fresh, no_offsets, with_offset}
+use Rattle.hl_words.specs.Views.{no_offsets, with_offset}
 
 -- a table with the cells of this room and 27 words more
 abbrev pub IsWide : Room → TableId → Type 0
@@ -35,34 +35,22 @@ pub record RowRiderState : Type 0 where
   pub view : RiderView
   pub table : TableId
 
--- the master's stores of its words, the name of the next rider that it deals out, how many it can still deal out, and
--- at which row it is
+-- the master's stores of its words, and at which row it is
 pub record RowMasterState : Type 0 where
   pub offsets : OffsetWords
-  pub next : ℕ
-  pub left : ℕ
   pub table : TableId
 
--- the master of a row before its first store, with so many riders
-abbrev pub first_master : ℕ → TableId → RowMasterState
-first_master riders table = record { offsets = no_offsets; next = 0; left = riders; table = table }
+-- the master of a row before its first store
+abbrev pub first_master : TableId → RowMasterState
+first_master table = record { offsets = no_offsets; table = table }
 
 -- the master after one more store of a word
 abbrev pub with_word : Which → ℕ → RowMasterState → RowMasterState
-with_word which x m = record {
-  offsets = with_offset which x m.offsets;
-  next = m.next;
-  left = m.left;
-  table = m.table;
-}
+with_word which x m = record { offsets = with_offset which x m.offsets; table = m.table }
 
--- the master after one rider more was dealt out
-abbrev pub dealt : RowMasterState → RowMasterState
-dealt m = record { offsets = m.offsets; next = m.next + 1; left = m.left - 1; table = m.table }
-
--- the rider that the master deals out next, which did nothing yet
-abbrev pub next_rider : RowMasterState → RowRiderState
-next_rider m = record { view = fresh m.next; table = m.table }
+-- a rider of this master's row that did nothing yet
+abbrev pub IsNew : RowMasterState → RowRiderState → Type 0
+IsNew m r = (r.table ≡ m.table) × (r.view.touches ≡ [])
 
 -- the rider of a row after it did this
 abbrev pub acted : (RiderView → RiderView) → RowRiderState → RowRiderState

@@ -63,6 +63,7 @@
 //! No call waits. Memory is taken by `Seed::make`, `Words::open` and `Words::open_with_recorder` alone.
 #![tactic(auto)]
 
+mod cells;
 mod last;
 pub mod laws;
 mod master;
@@ -77,6 +78,7 @@ mod view;
 mod which;
 mod words;
 
+pub use cells::first_cell;
 pub use last::LastWords;
 pub use master::Master;
 pub use past::Past;

@@ -1,8 +1,8 @@
 //! Words for whoever can't name a brand in a type, as a C interface: the same table under the same rule, where each
 //! rider and the master know at which row they are.
-ghost use Rattle.std.specs.Prelude.{◌≡◌, ◌+◌, ◌^◌, ◌<◌, ◌≤◌, length, IfOk, IfErr, MatchOption};
+ghost use Rattle.std.specs.Prelude.{◌≡◌, ◌+◌, ◌^◌, ◌<◌, ◌≤◌, length, IfOk, IfErr, IfSome};
 ghost use Rattle.hl_model.specs.declared.fault.Fault.TheVariants.{OutOfMemory};
-ghost use Rattle.hl_words.specs.Rows.{acted, dealt, first_master, next_rider, with_word};
+ghost use Rattle.hl_words.specs.Rows.{acted, first_master, with_word, IsNew};
 ghost use Rattle.hl_words.specs.Views.{offset_of, greatest_of, stored, loaded, added, exchanged, with_loaded, looked, zeroed, loaded_all};
 
 use crate::rule::Deal;
@@ -50,7 +50,7 @@ impl Model for RowRider {
     ghost invariant = { λ r. StandsFor (first_rider r.seat.me.0) r.seat.me };
 }
 
-/// The right to store the four words of a row, and to deal riders out. Contracts see its stores, and which rider is next.
+/// The right to store the four words of a row, and to deal riders out. Contracts see its stores.
 #[derive(Drop)]
 pub struct RowMaster {
     seat: WordSeat,
@@ -66,12 +66,7 @@ impl Model for RowMaster {
 
     ghost Value = { RowMasterState };
 
-    ghost view = { λ m. record {
-      offsets = m.seat.me.0.offsets;
-      next = m.next;
-      left = m.left;
-      table = m.seat.table_id;
-    } };
+    ghost view = { λ m. record { offsets = m.seat.me.0.offsets; table = m.seat.table_id } };
 
     ghost invariant = { λ m. IsMasterSeat no_extent m.seat.me.0.offsets (fresh_from m.next m.left) m.seat.id m.seat.me
         × (m.next + m.left < 2 ^ 64) };
@@ -84,7 +79,7 @@ impl Row {
     pub fn open(alloc: Global, cells: usize, riders: usize) -> Result<(Row, RowMaster), Fault>
         requires { cells ≤ 2 ^ 36 }
         ensures row { IfOk result (λ opened. opened.0.cells ≡ cells) }
-        ensures master { IfOk result (λ opened. opened.1 ≡ first_master riders opened.0.table) }
+        ensures master { IfOk result (λ opened. opened.1 ≡ first_master opened.0.table) }
         ensures memory { IfErr result (λ fault. fault ≡ OutOfMemory) }
     {
         let room = Room { cells, riders };
@@ -99,11 +94,11 @@ impl Row {
         Ok((Row { table, room }, master))
     }
 
-    /// Deals a rider out that did nothing yet, or none if all were.
+    /// Deals a rider out that did nothing yet, or none if all were dealt out.
     pub fn deal(&self, master: &mut RowMaster) -> Option<RowRider>
         requires { master.old.table ≡ self.now.table }
-        ensures { MatchOption result (master.new ≡ master.old)
-            (λ rider. (rider ≡ next_rider master.old) × (master.new ≡ dealt master.old)) }
+        ensures rider { IfSome result (IsNew master.old) }
+        ensures master { master.new ≡ master.old }
     {
         if master.left == 0 {
             return None;

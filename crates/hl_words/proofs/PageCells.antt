@@ -1,13 +1,7 @@
--- Cells of a page, one after another.
-use Rattle.std.proofs.Common.{◌≡◌, ℕ, suc, ◌+◌, ◌*◌, ◌^◌, ◌%◌, ◌<◌, ◌≤◌, List, [], ◌∷◌, ◌++◌, length, take, set, refl, sym, ap, ◌∙◌, arith}
+-- The cells of a page.
+use Rattle.std.proofs.Common.{ℕ, ◌+◌, ◌*◌, ◌^◌, ◌%◌, ◌<◌, ◌≤◌, arith}
 use Rattle.std.proofs.Math.Nat.{mul-le-mul_right, mul-le-mul_left, add-mul}
-use Rattle.std.proofs.Math.Seq.{take-suc-set}
 use Rattle.std.proofs.lemmas.Nat.{mod_below}
-use Rattle.std.proofs.lemmas.List.{length-take}
-use Rattle.hl_words.specs.declared.view.RiderView.{RiderView}
-use Rattle.hl_words.specs.States.{RiderState, with_view}
-use Rattle.hl_words.specs.Views.{stored, loaded}
-use Rattle.hl_keeper.specs.Pages.{zeroed, loaded_all}
 
 -- a page's cells are cells
 pub page_fits : (page_size frames p : ℕ) → 0 < frames → p % frames * page_size + page_size ≤ frames * page_size

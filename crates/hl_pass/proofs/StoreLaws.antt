@@ -27,7 +27,7 @@ use Rattle.hl_laws.proofs.SettledLaws.{done_greatest-nil, done_greatest-quiet, d
 use Rattle.hl_words.specs.declared.view.OffsetWords.{OffsetWords}
 use Rattle.hl_words.specs.declared.which.Which.TheVariants.{Ended}
 use Rattle.hl_words.specs.Views.{newest, no_offsets, with_offset}
-use Rattle.hl_keeper.specs.Stores.{moves_in, down_from, if_settle, settled_by, settled_in, stores_of, with_told, IsAbove}
+use Rattle.hl_pass.specs.Stores.{moves_in, down_from, if_settle, settled_by, settled_in, stores_of, with_told, IsAbove}
 
 -- what one step more puts before the others
 moves-push : (to : Step → ℕ) (A : List Step) (s : Step) → moves_in to (A ++ s ∷ []) ≡ reverse (cond (ltb 0 (to s)) (to s ∷ []) []) ++ moves_in to A
