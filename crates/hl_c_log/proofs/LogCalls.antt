@@ -10,11 +10,11 @@ use Rattle.hl_model.specs.Actions.{pending}
 use Rattle.hl_action.specs.Firings.{FiringRecord}
 use Rattle.hl_core.specs.declared.holders.Holder.{Holder}
 use Rattle.hl_core.specs.Holding.{holders, oldest}
-use Rattle.hl_core.specs.Steps.{Made, take_reply, CameOut}
+use Rattle.hl_core.specs.Steps.{take_reply, CameOut}
 use Rattle.hl_answers.specs.declared.outcome.Outcome.{Outcome}
 use Rattle.hl_answers.specs.Outcomes.{outcome_of, take_outcome, taken_outcome}
 use Rattle.hl_answers.proofs.Takes.{taken_is}
-use Rattle.hl_log.specs.Logs.{IsBeside, Moves}
+use Rattle.hl_log.specs.Logs.{IsBeside, Makes, Moves}
 use Rattle.hl_c_log.specs.Holders.{holder_of, holder_told}
 use Rattle.hl_c_log.specs.Logs.{Answers, Takes}
 use Rattle.hl_c_log.specs.Rows.{LogRow}
@@ -24,18 +24,18 @@ pub step_answers : (v w : Option LogRow.Denot) (old lent new : LogRow.Denot) (st
     → v ≡ Some old → lent ≡ old → Moves lent step new result → w ≡ Some new → outcome ≡ outcome_of result → Answers v step w outcome
 step_answers v w old lent new step outcome result was same moves is told = subst (λ (u : Option LogRow.Denot). Answers u step w outcome) (sym was)
     (let here = subst (λ (l : LogRow.Denot). Moves l step new result) same moves in
-    (new, is, here.beside, λ A stands. let m = here.made A stands in record { told = told ∙ ap outcome_of m.reply; sizes = m.sizes; standing = m.standing }))
+    (new, is, here.words, here.stamps, λ A stands. let m = here.made A stands in record { told = told ∙ ap outcome_of m.reply; sizes = m.sizes; standing = m.standing }))
 
 -- a log that was taken out, gave its oldest action and was put back
 pub take_answers : (v w : Option LogRow.Denot) (old new : LogRow.Denot) (outcome : Outcome) (result : Result (FiringRecord × Option Tag) Fault)
-    → v ≡ Some old → Made (λ t. t.0) old.core Take new.core (take_reply result) → IfOk result (λ taken. CameOut (λ t. t.0) old.core new.core taken.0.ticket taken.1)
+    → v ≡ Some old → Makes old Take new (take_reply result) → IfOk result (λ taken. CameOut (λ t. t.0) old.core new.core taken.0.ticket taken.1)
     → IsBeside old new → w ≡ Some new → outcome ≡ taken_outcome result → Takes v w outcome
 take_answers v w old new outcome result was made out beside is told = subst (λ (u : Option LogRow.Denot). Takes u w outcome) (sym was) (
   new,
   is,
   beside,
   λ A stands. let m = made A stands in record {
-    told = told ∙ taken_is old.core new.core A result stands out ∙ ap (λ (r : Result Reply Fault). take_outcome r (pending A)) m.reply;
+    told = told ∙ taken_is old.core new.core A result stands.standing out ∙ ap (λ (r : Result Reply Fault). take_outcome r (pending A)) m.reply;
     sizes = m.sizes;
     standing = m.standing;
   },

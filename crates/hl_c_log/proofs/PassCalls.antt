@@ -6,15 +6,11 @@ use Rattle.hl_model.specs.declared.fault.Fault.{Fault}
 use Rattle.hl_model.specs.declared.step.Reply.{Reply}
 use Rattle.hl_model.specs.declared.step.Step.{Step}
 use Rattle.hl_answers.specs.declared.outcome.Outcome.{Outcome}
-use Rattle.hl_answers.specs.Outcomes.{outcome_of, no_core, reply_outcome}
-use Rattle.hl_model.specs.declared.step.Reply.TheVariants.{Looked}
+use Rattle.hl_answers.specs.Outcomes.{outcome_of, no_core}
 use Rattle.hl_log.specs.Calls.{by_slot, Calls}
-use Rattle.hl_pass.specs.declared.news.News.{News}
-use Rattle.hl_log.specs.Passes.{with_look, IsRisen}
-use Rattle.hl_pass.specs.Views.{is_current}
+use Rattle.hl_log.specs.Passes.{IsRisen}
 use Rattle.hl_c_log.specs.Passes.{CallsBy, Acquires, AcquiresOf, stays, leaves}
 use Rattle.hl_c_log.specs.Rows.{LogRow, PassRow}
-use Rattle.hl_c_log.specs.Words.{Looks, KeepsUp}
 
 -- a log and a pass that were taken out, made the step and were put back
 pub calls_by : (kept : Outcome → PassRow.Denot → Option PassRow.Denot) (step : Step) (v w : Option LogRow.Denot) (q r : Option PassRow.Denot)
@@ -66,15 +62,3 @@ pub acquires_by : (slot : ℕ) (v w : Option LogRow.Denot) (q r : Option PassRow
     → v ≡ Some old → q ≡ None → w ≡ Some new → lent ≡ old → AcquiresOf slot lent new r outcome → Acquires slot v q w r outcome
 acquires_by slot v w q r old lent new outcome was none is same acquires = subst (λ (u : Option LogRow.Denot). Acquires slot u q w r outcome) (sym was)
     (subst (λ (u : Option PassRow.Denot). Acquires slot (Some old) u w r outcome) (sym none) (new, is, subst (λ (l : LogRow.Denot). AcquiresOf slot l new r outcome) same acquires))
-
--- a pass that was taken out, looked and was put back
-pub looks : (v w : Option PassRow.Denot) (p q : PassRow.Denot) (loaded : ℕ × ℕ) (outcome : Outcome)
-    → v ≡ Some p → w ≡ Some q → q ≡ with_look loaded.0 loaded.1 p → outcome ≡ reply_outcome (Looked q.own.view) → Looks v w outcome
-looks v w p q loaded outcome was is saw told = subst (λ (u : Option PassRow.Denot). Looks u w outcome) (sym was)
-    (loaded, is ∙ ap Some saw, told ∙ ap (λ (o : PassRow.Denot). reply_outcome (Looked o.own.view)) saw)
-
--- a pass that was taken out, loaded the words and was put back
-pub keeps_up : (v w : Option PassRow.Denot) (p lent : PassRow.Denot) (current : Bool) (news : News) (number : ℕ)
-    → v ≡ Some p → w ≡ Some p → lent ≡ p → current ≡ is_current lent.own.view lent.own.epoch news → number ≡ cond current 1 0 → KeepsUp v w number
-keeps_up v w p lent current news number was is same judged told = subst (λ (u : Option PassRow.Denot). KeepsUp u w number) (sym was)
-    (is, (news, told ∙ ap (λ (b : Bool). cond b 1 0) (judged ∙ ap (λ (o : PassRow.Denot). is_current o.own.view o.own.epoch news) same)))

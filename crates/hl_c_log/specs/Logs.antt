@@ -19,12 +19,12 @@ pub record Moved (old : LogRow.Denot) (A : List Step) (step : Step) (new : LogRo
   pub sizes : new.core.sizes ≡ old.core.sizes
   pub standing : StandsAt new (extended old.core.sizes A step)
 
--- the log that was open made the step, at whatever list it stood, and is open, with the same words and stamps;
--- where none was, none is, and the outcome says so
+-- the log that was open made the step, at whatever list it stood, and is open, with the same words and stamps; its four
+-- words were stored as that list with the step tells. Where none was, none is, and the outcome says so
 abbrev pub Answers : Option LogRow.Denot → Step → Option LogRow.Denot → Outcome → Type 0
 Answers None step new outcome = (outcome ≡ no_core) × (new ≡ None)
-Answers (Some old) step new outcome = (log : LogRow.Denot) × (new ≡ Some log) × IsBeside old log
-    × ((A : List Step) → StandsAt old A
+Answers (Some old) step new outcome = (log : LogRow.Denot) × (new ≡ Some log) × (log.words ≡ old.words)
+    × (log.stamps ≡ old.stamps) × ((A : List Step) → StandsAt old A
     → Moved old A step log (outcome_of (reply_of old.core.sizes A step)) outcome)
 
 -- so for a step of which one number is told

@@ -1,5 +1,5 @@
 -- What a call with a page makes of both handles.
-use Rattle.std.specs.Prelude.{◌≡◌, ℕ, ◌==◌, Bool, if◌then◌else◌, is_none, Option, Some, None, List, ◌⊎◌}
+use Rattle.std.specs.Prelude.{◌≡◌, ℕ, ◌==◌, Bool, if◌then◌else◌, is_none, Option, Some, None, IfSome, List, length, ◌⊎◌}
 use Rattle.hl_model.specs.declared.fault.Fault.{Fault}
 use Rattle.hl_model.specs.declared.fault.Fault.TheVariants.{OutOfMemory}
 use Rattle.hl_model.specs.declared.step.Reply.TheVariants.{Page}
@@ -8,7 +8,7 @@ use Rattle.hl_model.specs.Replies.{reply_of, fault_of, extended, unless_fault, u
 use Rattle.hl_answers.specs.declared.outcome.Brief.{Brief}
 use Rattle.hl_answers.specs.Outcomes.{outcome_of, fault_outcome, brief_of, no_core}
 use Rattle.hl_log.specs.Logs.{StandsAt, IsBeside}
-use Rattle.hl_log.specs.Taken.{taking, unless_met, copy_fault, sweep_fault, swept, IsFresh}
+use Rattle.hl_log.specs.Taken.{taking, unless_met, copied, copy_fault, sweep_fault, swept, IsFresh}
 use Rattle.hl_c_log.specs.Rows.{LogRow, PageRow}
 
 -- a log that stood at A gave a page, whose number the brief tells
@@ -66,13 +66,15 @@ Ends fault step (Some log) (Some p) new left brief = (after : LogRow.Denot) × (
     × (left ≡ (if brief.number == 0 then None else Some p)) × IsBeside log after
     × ((A : List Step) → StandsAt log A → Ended log A (fault log p) (step p.page) after brief)
 
--- a copy of a page into so many places
-abbrev pub Copies : Option PageRow.Denot → ℕ → Option PageRow.Denot → Brief → Type 0
-Copies None count new brief = (brief ≡ brief_of no_core) × (new ≡ None)
-Copies (Some p) count new brief = (new ≡ Some p)
-    × (brief ≡ brief_of (outcome_of (unless_fault (copy_fault p count) (Page p.page))))
+-- a copy of a page into so many places: its rider loaded these words, or nothing where it was refused
+abbrev pub Copies : Option PageRow.Denot → List ℕ → Option PageRow.Denot → List ℕ → Brief → Type 0
+Copies None places new words brief = (brief ≡ brief_of no_core) × (new ≡ None) × (words ≡ places)
+Copies (Some p) places new words brief = let met = copy_fault p (length places) in
+    (new ≡ Some (unless_refused met p (copied words p)))
+    × (brief ≡ brief_of (outcome_of (unless_fault met (Page p.page))))
+    × (length words ≡ length places) × IfSome met (λ _. words ≡ places)
 
--- a sweep of a page
+-- a sweep of a page: its rider stored 0 into each of its cells, or nothing where it was refused
 abbrev pub Sweeps : Option PageRow.Denot → Option PageRow.Denot → Brief → Type 0
 Sweeps None new brief = (brief ≡ brief_of no_core) × (new ≡ None)
 Sweeps (Some p) new brief = (new ≡ Some (unless_refused (sweep_fault p) p (swept p)))

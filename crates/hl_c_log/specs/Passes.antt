@@ -1,5 +1,5 @@
 -- What a call of a pass, under the lock, makes of both handles.
-use Rattle.std.specs.Prelude.{◌≡◌, ℕ, ◌==◌, true, if◌then◌else◌, Option, Some, None, List, unwrap_or, ◌⊎◌}
+use Rattle.std.specs.Prelude.{◌≡◌, ℕ, ◌==◌, true, if◌then◌else◌, Option, Some, None, List, [], unwrap_or, ◌⊎◌}
 use Rattle.hl_model.specs.declared.fault.Fault.{Fault}
 use Rattle.hl_model.specs.declared.fault.Fault.TheVariants.{OutOfMemory}
 use Rattle.hl_model.specs.declared.step.Step.{Step}
@@ -69,7 +69,7 @@ abbrev pub no_view : View
 no_view = record { read_only = 0; head = 0; tail = 0 }
 
 -- a log that stood at A protected a slot, and this pass acts for it: it has the slot's view and epoch, and the next
--- stamp; it is no stranger
+-- stamp; it is no stranger, and did nothing to words yet
 pub record Acquired (old : LogRow.Denot) (A : List Step) (slot : ℕ) (new : LogRow.Denot) (q : PassRow.Denot)
     (outcome : Outcome)
     : Type 0 where
@@ -84,7 +84,8 @@ pub record Acquired (old : LogRow.Denot) (A : List Step) (slot : ℕ) (new : Log
   pub held_is : q.own.held
       ≡ unwrap_or (slot_view old.core.sizes slot (extended old.core.sizes A (Acquire slot))) no_view
   pub view_is : q.own.view ≡ q.own.held
-  pub words : q.shared.value ≡ old.shared.value
+  pub words : q.words ≡ old.words
+  pub did_nothing : q.rider.view.touches ≡ []
   pub known : KnownAt new (extended old.core.sizes A (Acquire slot)) q
 
 -- a log refused a slot: memory was refused, or the definitions refuse it at whatever list it stood

@@ -54,8 +54,9 @@ fn acquired(alloc: Global, log: &mut Log, pass: &mut PassHandle, slot: u64) -> O
 }
 
 /// Returns a pass on the heap that acts for no slot yet, or None if memory is refused.
-fn vacant(alloc: Global, log: &Log, slot: u64) -> Option<Box<Pass>>
-    ensures { IfSome result (λ pass. IsVacant log.now slot pass.value) }
+fn vacant(alloc: Global, log: &mut Log, slot: u64) -> Option<Box<Pass>>
+    ensures pass { IfSome result (λ pass. IsVacant log.old slot pass.value) }
+    ensures log { log.new ≡ log.old }
 {
     let pass = log.vacant(slot)?;
     Box::new(alloc, pass).ok()

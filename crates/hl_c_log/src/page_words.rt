@@ -1,5 +1,5 @@
 //! The words of a page that was taken, without the lock.
-ghost use Rattle.std.specs.Prelude.{◌≡◌, None, length};
+ghost use Rattle.std.specs.Prelude.{◌≡◌, None};
 ghost use Rattle.hl_c_log.specs.Logs.{free_number};
 ghost use Rattle.hl_c_log.specs.Pages.{Copies, Sweeps};
 
@@ -10,11 +10,10 @@ use hl_model::Reply;
 /// Copies the words of a page into so many places, as many as a page has: its number.
 #[unsafe(no_mangle)]
 pub extern "C" fn hl_log_copy_page(page: &mut PageHandle, words: &mut [u64]) -> Brief
-    ensures answer { Copies page.old.slot.value (length words.old) page.new.slot.value result }
-    ensures places { length words.new ≡ length words.old }
+    ensures { Copies page.old.slot.value words.old page.new.slot.value words.new result }
 {
     match page.take() {
-        Some(own) => {
+        Some(mut own) => {
             let number = own.page();
             let copied = own.copy(words);
             page.put(own);

@@ -78,8 +78,9 @@ fn taken(alloc: Global, log: &mut Log, page: &mut PageHandle, cleans: bool) -> B
 }
 
 /// Returns a page on the heap that is to be taken, or None if memory is refused.
-fn vacant(alloc: Global, log: &Log, cleans: bool) -> Option<Box<Taken>>
-    ensures { IfSome result (λ page. IsFresh log.now cleans page.value) }
+fn vacant(alloc: Global, log: &mut Log, cleans: bool) -> Option<Box<Taken>>
+    ensures page { IfSome result (λ page. IsFresh log.old cleans page.value) }
+    ensures log { log.new ≡ log.old }
 {
     let page = log.vacant_page(cleans)?;
     Box::new(alloc, page).ok()

@@ -3,7 +3,9 @@ ghost use Rattle.std.specs.Prelude.{◌≡◌, Result, MatchResult};
 ghost use Rattle.hl_model.specs.declared.step.Reply.TheVariants.{Value as VALUE};
 ghost use Rattle.hl_core.specs.Steps.{as_reply};
 ghost use Rattle.hl_answers.specs.Outcomes.{accepted, brief_of, fault_outcome, outcome_of, no_core};
-ghost use Rattle.hl_c_log.specs.Words.{region_number, Stores, Loads, LoadsRow, Looks, KeepsUp, TellsRegion};
+ghost use Rattle.hl_words.specs.Views.{stored, loaded, added, exchanged};
+ghost use Rattle.hl_pass.specs.Views.{store_fault, load_fault};
+ghost use Rattle.hl_c_log.specs.Words.{region_number, Does, LoadsRow, Looks, KeepsUp, TellsRegion};
 
 use crate::pass_handle::PassHandle;
 use hl_answers::{Brief, Outcome};
@@ -13,10 +15,11 @@ use hl_model::{Fault, Reply};
 /// Stores a word.
 #[unsafe(no_mangle)]
 pub extern "C" fn hl_pass_store(pass: &mut PassHandle, address: u64, word: u64) -> Brief
-    ensures { Stores pass.old.slot.value address 0 pass.new.slot.value result }
+    ensures { Does store_fault (λ cell. stored cell word) pass.old.slot.value address 0
+        pass.new.slot.value result }
 {
     match pass.take() {
-        Some(own) => {
+        Some(mut own) => {
             let stored = own.store(address, word);
             pass.put(own);
             word_told(stored.map(|()| 0))
@@ -28,10 +31,11 @@ pub extern "C" fn hl_pass_store(pass: &mut PassHandle, address: u64, word: u64) 
 /// Adds to a word in one step: what it found.
 #[unsafe(no_mangle)]
 pub extern "C" fn hl_pass_fetch_add(pass: &mut PassHandle, address: u64, more: u64) -> Brief
-    ensures { Stores pass.old.slot.value address result.a pass.new.slot.value result }
+    ensures { Does store_fault (λ cell. added cell more result.a) pass.old.slot.value address result.a
+        pass.new.slot.value result }
 {
     match pass.take() {
-        Some(own) => {
+        Some(mut own) => {
             let found = own.fetch_add(address, more);
             pass.put(own);
             word_told(found)
@@ -48,10 +52,11 @@ pub extern "C" fn hl_pass_compare_exchange(
     current: u64,
     word: u64,
 ) -> Brief
-    ensures { Stores pass.old.slot.value address result.a pass.new.slot.value result }
+    ensures { Does store_fault (λ cell. exchanged cell current word result.a) pass.old.slot.value address
+        result.a pass.new.slot.value result }
 {
     match pass.take() {
-        Some(own) => {
+        Some(mut own) => {
             let found = own.compare_exchange(address, current, word);
             pass.put(own);
             word_told(found)
@@ -63,10 +68,11 @@ pub extern "C" fn hl_pass_compare_exchange(
 /// Loads a word.
 #[unsafe(no_mangle)]
 pub extern "C" fn hl_pass_load(pass: &mut PassHandle, address: u64) -> Brief
-    ensures { Loads pass.old.slot.value address result.a pass.new.slot.value result }
+    ensures { Does load_fault (λ cell. loaded cell result.a) pass.old.slot.value address result.a
+        pass.new.slot.value result }
 {
     match pass.take() {
-        Some(own) => {
+        Some(mut own) => {
             let found = own.load(address);
             pass.put(own);
             word_told(found)
@@ -81,7 +87,7 @@ pub extern "C" fn hl_pass_load_into(pass: &mut PassHandle, address: u64, words: 
     ensures { LoadsRow pass.old.slot.value address words.old pass.new.slot.value words.new result }
 {
     match pass.take() {
-        Some(own) => {
+        Some(mut own) => {
             let loaded = own.load_into(address, words);
             pass.put(own);
             Outcome::of(loaded.map(|()| Reply::Readable)).brief()
@@ -112,7 +118,7 @@ pub extern "C" fn hl_pass_keeps_up(pass: &mut PassHandle) -> u64
     ensures { KeepsUp pass.old.slot.value pass.new.slot.value result }
 {
     match pass.take() {
-        Some(own) => {
+        Some(mut own) => {
             let (current, _loaded) = own.keeps_up();
             pass.put(own);
             if current { 1 } else { 0 }
@@ -127,7 +133,7 @@ pub extern "C" fn hl_pass_region(pass: &mut PassHandle, address: u64) -> Outcome
     ensures { TellsRegion pass.old.slot.value address pass.new.slot.value result }
 {
     match pass.take() {
-        Some(own) => {
+        Some(mut own) => {
             let found = own.region(address);
             pass.put(own);
             region_told(found)

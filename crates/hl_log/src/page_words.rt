@@ -1,5 +1,5 @@
 //! The words of a page that was taken, without the lock.
-ghost use Rattle.std.specs.Prelude.{◌≡◌, OnOk, OnErr, length};
+ghost use Rattle.std.specs.Prelude.{◌≡◌, IfSome, length};
 ghost use Rattle.hl_model.specs.Replies.{unless_fault, unless_refused};
 ghost use Rattle.hl_log.specs.Taken.{copied, copy_fault, sweep_fault, swept};
 
@@ -22,8 +22,9 @@ impl Taken {
     /// has words; then nothing is loaded.
     pub fn copy(&mut self, words: &mut [u64]) -> Result<(), Fault>
         ensures answer { result ≡ unless_fault (copy_fault self.old (length words.old)) tt }
-        ensures did { OnOk result (self.new ≡ copied words.new self.old) }
-        ensures kept { OnErr result ((words.new ≡ words.old) × (self.new ≡ self.old)) }
+        ensures did { self.new ≡ unless_refused (copy_fault self.old (length words.old)) self.old
+            (copied words.new self.old) }
+        ensures kept { IfSome (copy_fault self.old (length words.old)) (λ _. words.new ≡ words.old) }
         ensures places { length words.new ≡ length words.old }
     {
         if self.cleans {

@@ -18,12 +18,13 @@ impl Pass {
     /// `Beyond` if the address isn't below the tail that the pass sees, nor below the head that it sees.
     #[inline(always)]
     pub fn region(&mut self, address: u64) -> Result<(Region, u64), Fault>
-        ensures { let view = self.old.own.view
+        ensures told { let view = self.old.own.view
             in let met = region_fault view address
             in MatchResult result
             (λ told. (met ≡ None) × (told.0 ≡ region_of view told.1 address)
             × (self.new ≡ with_act (with_loaded SafeReadOnly told.1) self.old))
             (λ fault. (met ≡ Some fault) × (self.new ≡ self.old)) }
+        ensures own { self.new.own ≡ self.old.own }
     {
         let view = self.own.view;
         if address >= view.head && address >= view.tail {

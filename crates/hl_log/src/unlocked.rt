@@ -1,5 +1,5 @@
 //! What a pass does without the lock. Its rider records each store, load and change of a word.
-ghost use Rattle.std.specs.Prelude.{◌≡◌, None, Some, OnOk, length, IfSome, MatchResult};
+ghost use Rattle.std.specs.Prelude.{◌≡◌, None, Some, length, IfSome, MatchResult};
 ghost use Rattle.hl_model.specs.Replies.{unless_fault, unless_refused};
 ghost use Rattle.hl_words.specs.declared.which.Which.TheVariants.{ReadOnly as READ_ONLY, Head as HEAD};
 ghost use Rattle.hl_words.specs.Views.{stored, loaded, added, exchanged};
@@ -24,6 +24,7 @@ impl Pass {
         ensures answer { result ≡ unless_fault (store_fault self.old.own.view address) tt }
         ensures did { self.new ≡ unless_refused (store_fault self.old.own.view address) self.old
             (with_act (stored (cell_of self.old address) word) self.old) }
+        ensures own { self.new.own ≡ self.old.own }
     {
         self.may_store(address)?;
         let shared: &Shared = &self.shared;
@@ -35,10 +36,11 @@ impl Pass {
     /// Adds to the word of an address in one step, modulo 2^64: what it found. Faults as those of a store.
     #[inline(always)]
     pub fn fetch_add(&mut self, address: u64, more: u64) -> Result<u64, Fault>
-        ensures { let met = store_fault self.old.own.view address
+        ensures did { let met = store_fault self.old.own.view address
             in MatchResult result
             (λ found. (met ≡ None) × (self.new ≡ with_act (added (cell_of self.old address) more found) self.old))
             (λ fault. (met ≡ Some fault) × (self.new ≡ self.old)) }
+        ensures own { self.new.own ≡ self.old.own }
     {
         self.may_store(address)?;
         let shared: &Shared = &self.shared;
@@ -50,11 +52,12 @@ impl Pass {
     /// if it stored. Faults as those of a store.
     #[inline(always)]
     pub fn compare_exchange(&mut self, address: u64, current: u64, word: u64) -> Result<u64, Fault>
-        ensures { let met = store_fault self.old.own.view address
+        ensures did { let met = store_fault self.old.own.view address
             in let cell = cell_of self.old address
             in MatchResult result
             (λ found. (met ≡ None) × (self.new ≡ with_act (exchanged cell current word found) self.old))
             (λ fault. (met ≡ Some fault) × (self.new ≡ self.old)) }
+        ensures own { self.new.own ≡ self.old.own }
     {
         self.may_store(address)?;
         let shared: &Shared = &self.shared;
@@ -72,10 +75,11 @@ impl Pass {
     /// tail that it sees.
     #[inline(always)]
     pub fn load(&mut self, address: u64) -> Result<u64, Fault>
-        ensures { let met = load_fault self.old.own.view address
+        ensures did { let met = load_fault self.old.own.view address
             in MatchResult result
             (λ found. (met ≡ None) × (self.new ≡ with_act (loaded (cell_of self.old address) found) self.old))
             (λ fault. (met ≡ Some fault) × (self.new ≡ self.old)) }
+        ensures own { self.new.own ≡ self.old.own }
     {
         may_load(self.own.view, address)?;
         let shared: &Shared = &self.shared;
@@ -90,9 +94,10 @@ impl Pass {
     pub fn load_into(&mut self, address: u64, words: &mut [u64]) -> Result<(), Fault>
         ensures answer { result ≡ unless_fault (row_fault self.old.own.view address (length words.old)) tt }
         ensures kept { IfSome (row_fault self.old.own.view address (length words.old))
-            (λ _. (words.new ≡ words.old) × (self.new ≡ self.old)) }
-        ensures did { OnOk result
-            (self.new ≡ with_act (loaded_row self.old.words.sizes address words.new) self.old) }
+            (λ _. words.new ≡ words.old) }
+        ensures did { self.new ≡ unless_refused (row_fault self.old.own.view address (length words.old))
+            self.old (with_act (loaded_row self.old.words.sizes address words.new) self.old) }
+        ensures own { self.new.own ≡ self.old.own }
         ensures places { length words.new ≡ length words.old }
     {
         let view = self.own.view;
@@ -132,6 +137,7 @@ impl Pass {
     pub fn keeps_up(&mut self) -> (bool, News)
         ensures answer { result.0 ≡ is_current self.old.own.view self.old.own.epoch result.1 }
         ensures did { self.new ≡ with_act (loaded_news result.1) self.old }
+        ensures own { self.new.own ≡ self.old.own }
     {
         let shared: &Shared = &self.shared;
         let news = shared.news(&mut self.rider);
