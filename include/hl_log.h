@@ -7,8 +7,8 @@
  * The calls are the steps and queries of docs/RULES.md. Each is proved. At whatever list of accepted steps the log
  * stood, a call under the lock is answered as the definitions answer (docs/DEFINITIONS.md), and a refused step changes
  * nothing. A call of a pass begins with what the pass saw without the lock: that look is entered before its own step,
- * where the step is refused too. A store and a load are judged by what the pass sees, and each is one access of one
- * word, in one order for all threads. No clause of the proofs tells what a word has: that is the code's, and tests'.
+ * where the step is refused too. A store and a load are judged by what the pass sees, and each is one access of the
+ * address's word, in one order for all threads: a load finds what the newest store before it left.
  *
  * A handle that is all zero has nothing: `hl_log log = {0};`. Its fields are the library's: never read or write them,
  * and keep the handle where it is while a call uses it. Never use two copies of one: no answer would tell.

@@ -11,11 +11,11 @@
 //! pass's, and changes nothing; else what the definitions reply behind the list and the pass's look, and the
 //! pass has what its slot has then (`CallsBy`, in `specs/Passes.antt`).
 //!
-//! Without it: a store and a load are judged by what the pass sees (`Stores` and `Loads`, in
-//! `specs/Words.antt`), and are one access of one word; a row of words is loaded one after another
-//! (`LoadsRow`). The region of an address is told by what the pass sees and by the safe read-only offset that
-//! it loaded, which it tells too (`TellsRegion`). That a word is stored is in the code alone: no clause tells
-//! what a word has.
+//! Without it: a store, a load and a change are judged by what the pass sees, and are one access of the word
+//! of the address, which the pass's rider records (`Does`, in `specs/Words.antt`); a row of words is loaded one
+//! after another (`LoadsRow`). The region of an address is told by what the pass sees and by the safe read-only
+//! offset that it loaded, which it tells too (`TellsRegion`). The words' type keeps the rule of `hl_words`: each
+//! load finds what the newest store before it left, in one order of all that passes and pages did.
 //!
 //! # Threads
 //!

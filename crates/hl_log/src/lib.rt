@@ -7,7 +7,9 @@
 //! # What is promised
 //!
 //! At whatever list of accepted steps the log stood, [`Log::step`] replies as the definitions do after that
-//! list, and the log then stands at the list with the step, if it was accepted. A call of a pass,
+//! list, and the log then stands at the list with the step, if it was accepted. That it stands there says of
+//! its core that each quantity is the list's, and of the four words that they were stored as the list tells, one
+//! store after another (`StandsAt`, in `specs/Logs.antt`). A call of a pass,
 //! [`Log::refresh`] and [`Log::call`], returns that the pass is a stranger, with the slot's stamp, or what
 //! the definitions reply behind the list and what the pass saw without the lock; the pass then has what its
 //! slot has (`Calls`, in `specs/Calls.antt`). Who a pass is, and what its view allows, is `hl_pass`'s, on
@@ -17,16 +19,21 @@
 //! the lock is accepted, as a look.
 //!
 //! A store is judged by what the pass sees, and is one store of one word; so are the load and the two changes
-//! in place. A look brings the offsets that it loaded, and the next call of the pass enters it into the list.
-//! The region of an address is told by what the pass sees and the safe read-only offset that it loads, which
-//! it tells too ([`Pass::region`]).
+//! in place. Each pass has a rider of the words (`hl_words::RowRider`), which records all this in proofs alone:
+//! which cell was stored, loaded or changed, and with what. So does each page, whose words are copied or swept.
+//! A look brings the offsets that it loaded, and the next call of the pass enters it into the list. The region
+//! of an address is told by what the pass sees and the safe read-only offset that it loads, which it tells too
+//! ([`Pass::region`]).
+//!
+//! The words are a `hl_words::Row`, whose type keeps the rule: all that riders did has one order, in which each
+//! load and each change found what the newest store before it left, and no load of the four words found what
+//! the log's calls hadn't stored.
 //!
 //! # What isn't
 //!
-//! No clause tells what a word has, nor that the log's calls store the four words: three are meant to tell
-//! passes that something is new, and the fourth is the safe read-only offset. So a look may bring offsets
-//! that are older than those of the log, and that it brings none above them is in the code alone. It never
-//! falls below what the pass saw.
+//! No call closes the words and says so of exactly these riders, as a log with a brand does: without one, a
+//! rider that comes back can't be shown to be of the same words. So which value another pass's store has when
+//! a load finds it, no clause of one call tells.
 #![tactic(auto)]
 
 mod acquire;

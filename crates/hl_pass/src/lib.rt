@@ -17,6 +17,9 @@
 //!
 //! Without the lock a pass is judged by its own view: [`may_store`], [`may_load`], and whether anything that
 //! it loaded is new to it, [`is_current`]. A [`Region`] is what an address is to a pass.
+//!
+//! What a log stores for its passes, its offsets and the last epoch that ended, its list tells: `stores_of` in
+//! `specs/Stores.antt`.
 #![tactic(auto)]
 
 mod judge;

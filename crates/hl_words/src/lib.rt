@@ -11,6 +11,10 @@
 //! master lies: `Words::enter` then puts a call's steps behind the list, and notes the call in the rider.
 //! `Words::close_with_recorder` says that the recorder's list is the one list of all riders' calls.
 //!
+//! Whoever can't name a realm in a type, as a C interface, takes a [`Row`]: the same table under the same rule,
+//! with a [`RowMaster`] and [`RowRider`]s. Contracts see of each at which row it is, and a call asks that all are
+//! of one. No call closes a row, so that its rule holds is kept by its type alone.
+//!
 //! What each value witnesses:
 //!
 //! - a **rider**: its touches, which are its stores into cells, its loads and changes of cells, its loads of
@@ -60,7 +64,8 @@
 //! and that a rider may go to another. The master's stores have an order of their own, and no place in the
 //! one order.
 //!
-//! No call waits. Memory is taken by `Seed::make`, `Words::open` and `Words::open_with_recorder` alone.
+//! No call waits. Memory is taken by `Seed::make`, `Words::open`, `Words::open_with_recorder` and `Row::open`
+//! alone.
 #![tactic(auto)]
 
 mod cells;
