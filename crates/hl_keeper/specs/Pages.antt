@@ -4,7 +4,7 @@ use Rattle.hl_model.specs.declared.step.Step.{Step}
 use Rattle.hl_model.specs.Sizes.{Sizes}
 use Rattle.hl_model.specs.Pages.{next_to_flush, next_to_clean}
 pub use Rattle.hl_words.specs.Cells.{first_cell}
-pub use Rattle.hl_words.specs.Views.{zeroed, loaded_all}
+unfoldable pub use Rattle.hl_words.specs.Views.{zeroed, loaded_all}
 use Rattle.hl_keeper.specs.declared.load.PageJob.{PageJob}
 
 -- a page that was taken to be cleaned, and how many of its cells were swept
