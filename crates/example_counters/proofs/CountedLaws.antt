@@ -40,6 +40,7 @@ use Rattle.hl.specs.declared.opening.Opening.{Opening}
 use Rattle.hl.specs.Openings.{opened_as}
 use Rattle.hl.specs.Closings.{rider_at, FlushesTaken, Stood, Tells, AllReturned}
 use Rattle.hl.specs.Devices.{on_memory}
+use Rattle.hl.proofs.LeaveLaws.{at_last}
 use Rattle.example_sums.proofs.SumLaws.{call_adds_nothing}
 use Rattle.example_counters.specs.declared.Counted.{Counted}
 use Rattle.example_counters.specs.Counters.{IsOfCounters, AreOfCounters, returns_sums, counters_in, HasSums, AreCounted}
@@ -94,13 +95,15 @@ room sizes range =
     omega (arith, range.page_size_least, more)
 
 -- what a thread's rider added to a counter
-stood_adds : {J : Type 0} (counter : ℕ) → counter < 4 → (log : DomainState) (number : ℕ) (new : RiderState) (sums : List ℕ) → 4 ≤ log.sizes.page_size → Stood J log true (returns_sums number) (new_rider number) (Ok new) sums
+stood_adds : {J : Type 0} (counter : ℕ) → counter < 4 → (log : DomainState) (may_cut : Bool) (number : ℕ) (new : RiderState) (sums : List ℕ) → 4 ≤ log.sizes.page_size → Stood J log true may_cut (returns_sums number) (new_rider number) (Ok new) sums
     → (t : ℕ) × (slice_index sums counter ≡ t % 2 ^ 64) × AddsUp counter t new.view.touches
-stood_adds counter few log number new sums room s =
+stood_adds {J} counter few log may_cut number new sums room s =
     let entered = call_adds_nothing s.entered.before.cut s.entered.after.cut s.entered.list _ (new_rider number) s.first.pass.rider s.entered.entered counter 0 refl in
     let here : 4 ≤ s.first.log.sizes.page_size = subst (λ (l : DomainState). 4 ≤ l.sizes.page_size) (sym s.log_is) room in
     let one = s.ran.0 here counter few in
-    let left = call_adds_nothing s.met.before.cut s.met.after.cut s.met.list _ s.last.pass.rider new s.met.entered counter (0 + one.more) (one.adds_up 0 entered) in
+    let tried = at_last J may_cut s.last (λ r. AddsUp counter (0 + one.more) r.view.touches) (λ was now list r accepted of adds. adds) s.met.before s.last.pass.rider s.met.last s.met.again (one.adds_up 0 entered) in
+    let met = s.met.answered in
+    let left = call_adds_nothing met.before.cut met.after.cut met.list _ s.met.last new met.entered counter (0 + one.more) tried in
     (0 + one.more, omega (arith, one.sum_is), left)
 
 -- all writes of calls that write counters alone, into a counter's cell, are to the counter
@@ -112,7 +115,7 @@ writes_alone sizes counter few room calls h = every_weaker _ _ calls (λ (e : En
         let low : b < 4 = subst IsOfCounters same is in
         sym (cell_is sizes b low room) ∙ cells ∙ cell_is sizes counter few room
 
-module _ {Took : ℕ → List ℕ → Type 0} (o : Opening Sizes) (range : AreInRange o.params) (all : List (List ℕ)) (riders : List RiderState) (ending : EndingState NoJob) (returned : AllReturned NoJob (opened_as o) returns_sums Took (map Ok all) riders) (end : IsEnding o.params riders ending) where
+module _ {Took : ℕ → List ℕ → Type 0} (o : Opening Sizes) (may_cut : Bool) (range : AreInRange o.params) (all : List (List ℕ)) (riders : List RiderState) (ending : EndingState NoJob) (returned : AllReturned NoJob (opened_as o) may_cut returns_sums Took (map Ok all) riders) (end : IsEnding o.params riders ending) where
   abbrev whole : List Step
   whole = end.steps_cut ++ ending.journal
 
@@ -120,11 +123,11 @@ module _ {Took : ℕ → List ℕ → Type 0} (o : Opening Sizes) (range : AreIn
   threads_long = length-map all Ok
 
   -- a thread's rider was in its session
-  thread_stood : (i : ℕ) → i < length all → Stood NoJob (opened_as o) true (returns_sums i) (new_rider i) (Ok (rider_at riders i)) (slice_index_or all i [])
+  thread_stood : (i : ℕ) → i < length all → Stood NoJob (opened_as o) true may_cut (returns_sums i) (new_rider i) (Ok (rider_at riders i)) (slice_index_or all i [])
   thread_stood i within =
       let told = returned.each i (Ok []) (omega (arith, within, threads_long)) in
       let is : slice_index_or (map Ok all) i (Ok []) ≡ Ok (slice_index_or all i []) = get_or-map Ok all i [] (Ok []) within in
-      subst (λ (x : Result (List ℕ) Fault). Tells NoJob (opened_as o) true (returns_sums i) (new_rider i) (rider_at riders i) x) is told
+      subst (λ (x : Result (List ℕ) Fault). Tells NoJob (opened_as o) true may_cut (returns_sums i) (new_rider i) (rider_at riders i) x) is told
 
   -- of a crew's rider holds what holds of all of them
   crew_has : (P : RiderState → Type 0) → Every P (drop (length (map {B = Result (List ℕ) Fault} Ok all)) riders) → (i : ℕ) → length all ≤ i → i < length riders → P (rider_at riders i)
@@ -181,7 +184,7 @@ module _ {Took : ℕ → List ℕ → Type 0} (o : Opening Sizes) (range : AreIn
     counted_word law none =
         let clean = none_taken o.params whole end.accepted (sym (ap (λ s. s.six.closed) end.snapshot_is) ∙ none) in
         let totals = each_share (λ t r. AddsUp counter t r.view.touches)
-        (λ i within. stood_adds counter few (opened_as o) i (rider_at riders i) (slice_index_or all i []) range.page_size_least (thread_stood i within))
+        (λ i within. stood_adds counter few (opened_as o) may_cut i (rider_at riders i) (slice_index_or all i []) range.page_size_least (thread_stood i within))
         (λ i behind within. quiet_rider whole o.params counter (rider_at riders i) clean (calls_of i within) (crew_has (StoresSweep o.params) returned.sweeps i behind within)) in
         let views = map (λ r. r.view) riders in
         let cells : counter < ending.words.cells = omega (arith, few, end.cells_are, room o.params range) in
@@ -207,8 +210,8 @@ module _ {Took : ℕ → List ℕ → Type 0} (o : Opening Sizes) (range : AreIn
         let totals = each_share Joins
         (λ i within.
         let ran = thread_stood i within in
-        let adds = stood_adds counter few (opened_as o) i (rider_at riders i) (slice_index_or all i []) range.page_size_least ran in
-        let steps = stood (opened_as o) passes some stay i (rider_at riders i) (slice_index_or all i []) range.page_size_least ran in (
+        let adds = stood_adds counter few (opened_as o) may_cut i (rider_at riders i) (slice_index_or all i []) range.page_size_least ran in
+        let steps = stood (opened_as o) passes some may_cut stay i (rider_at riders i) (slice_index_or all i []) range.page_size_least ran in (
           adds.0,
           adds.1,
           inl (record {
@@ -244,7 +247,7 @@ module _ {Took : ℕ → List ℕ → Type 0} (o : Opening Sizes) (range : AreIn
       by : (i : ℕ) → i < length riders → has_flushed 0 (rider_at riders i).calls ≡ true → (b : Bool) → nat_lt i (length all) ≡ b → (words : List ℕ) × Took 0 (image 0 words) × IsImaged o.params riders ending 0 words
       by i within its true e =
           let ran = thread_stood i (ltb-true i (length all) e) in
-          let steps = stood (opened_as o) passes (omega (arith, range.page_size_least)) stay i (rider_at riders i) (slice_index_or all i []) range.page_size_least ran in
+          let steps = stood (opened_as o) passes (omega (arith, range.page_size_least)) may_cut stay i (rider_at riders i) (slice_index_or all i []) range.page_size_least ran in
           let no : true ≡ false = sym its ∙ counts_flushed_none 0 (rider_at riders i).calls steps.1 in
           absurd (cc no)
       by i within its false e =
@@ -288,11 +291,11 @@ pub record Stands : Type 0 where
   pub images : ImagesAreSums NoJob
 
 -- what threads left that added to counters
-pub counted_left : Stands → (o : Opening Sizes) → AreInRange o.params → (riders : List RiderState) (counted : Counted)
-    → AllReturned NoJob (opened_as o) returns_sums (on_memory counted.device) counted.outs.items riders → IsEnding o.params riders counted.ending → counted.words ≡ map (slice_index counted.ending.words.words) (0 ∷ 1 ∷ 2 ∷ 3 ∷ [])
+pub counted_left : Stands → (o : Opening Sizes) (may_cut : Bool) → AreInRange o.params → (riders : List RiderState) (counted : Counted)
+    → AllReturned NoJob (opened_as o) may_cut returns_sums (on_memory counted.device) counted.outs.items riders → IsEnding o.params riders counted.ending → counted.words ≡ map (slice_index counted.ending.words.words) (0 ∷ 1 ∷ 2 ∷ 3 ∷ [])
     → counted.first ≡ option_and_then counters_in (image_at 0 counted.device.first) → counted.second ≡ option_and_then counters_in (image_at 0 counted.device.second)
-    → AreCounted o counted
-counted_left laws o range riders counted returned end read first second =
+    → AreCounted o may_cut counted
+counted_left laws o may_cut range riders counted returned end read first second =
     let words : (counter : ℕ) → counter < 4 → slice_index counted.words counter ≡ slice_index counted.ending.words.words counter =
     λ counter few. ap (λ l. slice_index l counter) read ∙ word_at counted.ending.words.words counter few in
     record {
@@ -303,10 +306,10 @@ counted_left laws o range riders counted returned end read first second =
       first = first;
       second = second;
       sums = λ all are none counter few.
-          words counter few ∙ counted_word o range all riders counted.ending (threads all are) end counter few laws.adds none;
+          words counter few ∙ counted_word o may_cut range all riders counted.ending (threads all are) end counter few laws.adds none;
       device_sums = λ all are most.
-          let taken = flushed_by_crew o range all riders counted.ending (threads all are) end (laws.passes o.params) (laws.riders o.params) laws.imaged most in
-          let sums = λ (counter : ℕ) (few : counter < 4). imaged_word o range all riders counted.ending (threads all are) end counter few (laws.passes o.params) (laws.riders o.params) laws.images taken.0 taken.2 in
+          let taken = flushed_by_crew o may_cut range all riders counted.ending (threads all are) end (laws.passes o.params) (laws.riders o.params) laws.imaged most in
+          let sums = λ (counter : ℕ) (few : counter < 4). imaged_word o may_cut range all riders counted.ending (threads all are) end counter few (laws.passes o.params) (laws.riders o.params) laws.images taken.0 taken.2 in
           let long : 4 ≤ length taken.0 = omega (arith, taken.2.places, range.page_size_least) in
           ⊎_elim
           (λ (at : image_at 0 counted.device.first ≡ Some (image 0 taken.0)). inl (read_sums all taken.0 (image_at 0 counted.device.first) counted.first long sums at first))
@@ -315,5 +318,5 @@ counted_left laws o range riders counted returned end read first second =
       somewhere = somewhere_ended o range riders counted.ending end;
     }
   where
-    threads : (all : List (List ℕ)) → counted.outs.items ≡ map Ok all → AllReturned NoJob (opened_as o) returns_sums (on_memory counted.device) (map Ok all) riders
-    threads all are = subst (λ l. AllReturned NoJob (opened_as o) returns_sums (on_memory counted.device) l riders) are returned
+    threads : (all : List (List ℕ)) → counted.outs.items ≡ map Ok all → AllReturned NoJob (opened_as o) may_cut returns_sums (on_memory counted.device) (map Ok all) riders
+    threads all are = subst (λ l. AllReturned NoJob (opened_as o) may_cut returns_sums (on_memory counted.device) l riders) are returned

@@ -24,6 +24,7 @@ use Rattle.hl_domain.specs.Domains.{DomainState, pass_call, with_entry, with_hel
 use Rattle.hl_images.specs.Kept.{RiderEnters, RidersStayEntered, PassesStayEntered}
 use Rattle.hl.specs.Closings.{Stood}
 use Rattle.hl.specs.Sessions.{SessionState, with_pass}
+use Rattle.hl.proofs.LeaveLaws.{at_last}
 use Rattle.example_counters.specs.Counters.{IsOfCounters, AreOfCounters, IsCounting, CountsOn, returns_sums}
 
 -- a pass's own step writes nothing and flushes no page
@@ -111,8 +112,8 @@ module _ {F : Type 0} (log : DomainState) (law : PassesStayEntered log.sizes) (s
       refused law some met.before.cut met.after.cut met.list first.pass last.pass (subst (λ (z : Sizes). IsAccepted z met.list) met.met.sizes_are met.met.stands.core_stands.accepted) met.rises met.entered (ap (λ (s : SessionState). s.pass) is) h
 
   -- a thread's rider, once it left: its stores are writes of its calls, and these are of counters alone
-  pub stood : RidersStayEntered log.sizes → (number : ℕ) (new : RiderState) (sums : List ℕ) → 4 ≤ log.sizes.page_size → Stood F log true (returns_sums number) (new_rider number) (Ok new) sums → RiderEnters log.sizes None new × AreOfCounters new.calls
-  stood riders number new sums room s =
+  pub stood : (may_cut : Bool) → RidersStayEntered log.sizes → (number : ℕ) (new : RiderState) (sums : List ℕ) → 4 ≤ log.sizes.page_size → Stood F log true may_cut (returns_sums number) (new_rider number) (Ok new) sums → RiderEnters log.sizes None new × AreOfCounters new.calls
+  stood may_cut riders number new sums room s =
       let met = s.entered in
       let keeper = met.before in
       let at = λ (z : Sizes). least_free z met.list in
@@ -129,9 +130,12 @@ module _ {F : Type 0} (log : DomainState) (law : PassesStayEntered log.sizes) (s
       let first : IsCounting log.sizes s.first.pass =
       subst (IsCounting log.sizes) (sym (is ∙ ap (new_pass (at log.sizes) (keeper.stamp + acquires_in (reached log.sizes)) (slot_after log.sizes (at log.sizes) (reached log.sizes))) met.entered)) begun in
       let ran : CountsOn log.sizes s.first.pass s.last.pass = subst (λ (l : DomainState). CountsOn l.sizes s.first.pass s.last.pass) s.log_is s.ran.1 in
-      let last = ran room first in
-      let left = s.met in
       let own = Release s.last.pass.slot in
+      let sizes : s.last.log.sizes ≡ log.sizes = ap (λ (l : DomainState). l.sizes) s.log_stays in
+      let last = at_last F may_cut s.last (λ r. IsCounting log.sizes (with_rider r s.last.pass))
+      (λ was now list r accepted of h. refused law some was now list (with_rider r s.last.pass) (with_rider (with_entry was now list [] r) s.last.pass) (subst (λ (z : Sizes). IsAccepted z list) sizes accepted) of refl refl h)
+      s.met.before s.last.pass.rider s.met.last s.met.again (ran room first) in
+      let left = s.met.answered in
       let all = every_append IsOfCounters s.last.pass.touches (own ∷ []) last.touches (tt, tt) in
-      let ends : new ≡ with_entry left.before.cut left.after.cut left.list (s.last.pass.touches ++ own ∷ []) s.last.pass.rider = left.entered in
-      subst (λ (r : RiderState). RiderEnters log.sizes None r × AreOfCounters r.calls) (sym ends) (law.releases left.before.cut left.after.cut left.list s.last.pass last.enters, (all, last.calls))
+      let ends : new ≡ with_entry left.before.cut left.after.cut left.list (s.last.pass.touches ++ own ∷ []) s.met.last = left.entered in
+      subst (λ (r : RiderState). RiderEnters log.sizes None r × AreOfCounters r.calls) (sym ends) (law.releases left.before.cut left.after.cut left.list (with_rider s.met.last s.last.pass) last.enters, (all, last.calls))

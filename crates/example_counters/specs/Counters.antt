@@ -79,14 +79,14 @@ abbrev pub HasSums : List (List ℕ) → Option (List ℕ) → Type 0
 HasSums all (Some words) = AreSums all words
 HasSums all None = ⊥
 
--- A log was closed whose threads added to its counters: what they returned, and the counters' words at the end, in memory
+-- A log was closed whose threads added to its counters, whose leaves may cut a full journal or not: what they returned, and the counters' words at the end, in memory
 -- and in the image of their page that each of the two writers of the device has, if any. Where no thread was refused, the
 -- words in memory are the sums if the closed offset is 0 at the end; those that one of the writers has, if the counters'
 -- page is flushed; and one of both always holds
-pub record AreCounted (o : Opening Sizes) (counted : Counted) : Type 0 where
+pub record AreCounted (o : Opening Sizes) (may_cut : Bool) (counted : Counted) : Type 0 where
   pub riders : List RiderState
-  pub returned : AllReturned NoJob (opened_as o) returns_sums (on_memory counted.device) counted.outs.items
-      riders
+  pub returned : AllReturned NoJob (opened_as o) may_cut returns_sums (on_memory counted.device)
+      counted.outs.items riders
   pub ends : IsEnding o.params riders counted.ending
   pub words : (counter : ℕ) → counter < COUNTERS
       → slice_index counted.words counter ≡ slice_index counted.ending.words.words counter

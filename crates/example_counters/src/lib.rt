@@ -18,7 +18,7 @@ mod adder;
 
 ghost use Rattle.byteorder.specs.Endian.{big_number};
 ghost use Rattle.std.specs.Option.{option_and_then, option_copied};
-ghost use Rattle.std.specs.Prelude.{◌≡◌, ◌≤◌, ◌+◌, ◌*◌, [], ◌∷◌, true, false, Err, IfOk, IfErr, drop, length, map, slice_index};
+ghost use Rattle.std.specs.Prelude.{◌≡◌, ◌≤◌, ◌+◌, ◌*◌, [], ◌∷◌, true, false, Err, IfOk, IfErr, drop, is_some, length, map, slice_index};
 ghost use Rattle.hl_model.specs.declared.fault.Fault.TheVariants.{OutOfMemory, Size};
 ghost use Rattle.hl_model.specs.Sizes.{AreInRange};
 ghost use Rattle.hl.specs.Openings.{of_sizes};
@@ -119,7 +119,8 @@ pub fn count<R: Threads + Wait + Sync, S: HasSizes>(
     ensures size { can_run (of_sizes S.sizes_of opening) duty ≡ false → result ≡ Err Size }
     ensures memory { can_run (of_sizes S.sizes_of opening) duty ≡ true
         → IfErr result (λ fault. fault ≡ OutOfMemory) }
-    ensures counted { IfOk result (AreCounted (of_sizes S.sizes_of opening)) }
+    ensures counted { IfOk result
+        (AreCounted (of_sizes S.sizes_of opening) (is_some duty.cut_above)) }
 {
     laws::no_add_is_lost();
     images::riders_stay_entered();

@@ -15,7 +15,8 @@ use Rattle.hl_model.specs.Actions.{bumps}
 use Rattle.hl_model.specs.Sizes.{Sizes}
 use Rattle.hl_laws.proofs.ActionLaws.{bumps-push, current_epoch-bumps}
 use Rattle.hl_history.specs.declared.view.Entry.{Entry}
-use Rattle.hl_history.specs.Lists.{Begins, entry, enters_at, entered_at, IsOf, IsOneList}
+use Rattle.hl_history.specs.Lists.{Begins, entry, left_by, enters_at, entered_at, IsOf, IsOneList}
+use Rattle.hl_history.proofs.Calls.{every_back}
 use Rattle.hl_words.specs.States.{RiderState, new_rider}
 use Rattle.hl_keeper.specs.Endings.{EndingState}
 use Rattle.hl_domain.specs.Domains.{DomainState, IsEnding}
@@ -23,18 +24,19 @@ use Rattle.hl.specs.declared.open.Closed.{Closed}
 use Rattle.hl.specs.declared.opening.Opening.{Opening}
 use Rattle.hl.specs.Openings.{opened_as}
 use Rattle.hl.specs.Closings.{rider_at, IsClosed, Stood, Tells, AllReturned, AreAllReturned}
+use Rattle.hl.proofs.LeaveLaws.{left_calls}
 use Rattle.example_tickets.specs.Tickets.{bumps_once, AreTickets}
 use Rattle.example_tickets.proofs.Numbers.{all_there}
 
 abbrev bump_at : List Step → Entry
 bump_at list = entry list (Settle ∷ [])
 
--- a record of calls whose newest call but one made a bump, with this ticket
+-- a record of calls one of which made a bump, with this ticket
 record Drawn (calls : List Entry) (ticket : ℕ) : Type 0 where
-  newest : Entry
+  newer : List Entry
   list : List Step
   earlier : List Entry
-  calls_are : calls ≡ newest ∷ bump_at list ∷ earlier
+  calls_are : calls ≡ newer ++ bump_at list ∷ earlier
   ticket_is : ticket ≡ bumps (list ++ Settle ∷ [])
 
 -- of two beginnings of one list, the shorter begins the longer
@@ -79,10 +81,11 @@ enters_here list =
 enters_drawn : (calls : List Entry) (ticket : ℕ) (d : Drawn calls ticket) → 1 ≤ entered_at (length d.list) calls
 enters_drawn calls ticket d =
     subst (λ c. 1 ≤ entered_at (length d.list) c) (sym d.calls_are)
-    (let f = enters_at (length d.list) in omega (arith, sum_by-cons f d.newest (bump_at d.list ∷ d.earlier), sum_by-cons f (bump_at d.list) d.earlier, enters_here d.list))
+    (let f = enters_at (length d.list) in omega (arith, sum_by-append f d.newer (bump_at d.list ∷ d.earlier), sum_by-cons f (bump_at d.list) d.earlier, enters_here d.list))
 
 begins_drawn : (A : List Step) (calls : List Entry) (ticket : ℕ) (d : Drawn calls ticket) → IsOf A calls → Begins (d.list ++ Settle ∷ []) A
-begins_drawn A calls ticket d h = (subst (λ c. IsOf A c) d.calls_are h).begins.1.0
+begins_drawn A calls ticket d h =
+    (every_back (λ e. Begins (left_by e) A) d.newer (bump_at d.list ∷ d.earlier) (subst (λ c. IsOf A c) d.calls_are h).begins).0
 
 -- of two calls that met beginnings of one list, the one that met less was answered less
 less_first : (A : List Step) (a b : ℕ) (l m : List Step) → a ≡ bumps (l ++ Settle ∷ []) → b ≡ bumps (m ++ Settle ∷ []) → Begins (l ++ Settle ∷ []) A → Begins (m ++ Settle ∷ []) A → length l < length m → a < b
@@ -123,18 +126,19 @@ module _ (A : List Step) (records : List (List Entry)) (one : IsOneList A record
       by_test false false p q = unlike (omega (arith, ltb-false (length d.list) (length e.list) p, ltb-false (length e.list) (length d.list) q))
 
 -- a thread's rider drew its ticket
-drawn_of : {J : Type 0} (log : DomainState) (number : ℕ) (old new : RiderState) (ticket : ℕ) → Stood J log true (bumps_once number) old (Ok new) (Ok ticket) → Drawn new.calls ticket
-drawn_of log number old new ticket s =
-    let newest = entry s.met.list (s.last.pass.touches ++ Release s.last.pass.slot ∷ []) in
+drawn_of : {J : Type 0} (log : DomainState) (may_cut : Bool) (number : ℕ) (old new : RiderState) (ticket : ℕ) → Stood J log true may_cut (bumps_once number) old (Ok new) (Ok ticket) → Drawn new.calls ticket
+drawn_of log may_cut number old new ticket s =
+    let left = left_calls may_cut s.last new s.met in
+    let leave = entry left.0 (s.last.pass.touches ++ Release s.last.pass.slot ∷ []) in
     record {
-      newest = newest;
+      newer = leave ∷ left.1;
       list = s.ran.list;
       earlier = s.first.pass.rider.calls;
-      calls_are = ap (λ (r : RiderState). r.calls) s.met.entered ∙ ap (λ cs. newest ∷ cs) s.ran.calls_are;
+      calls_are = left.3 ∙ ap (λ cs. leave ∷ (left.1 ++ cs)) s.ran.calls_are;
       ticket_is = s.ran.ticket_is;
     }
 
-module _ {F J : Type 0} (Took : ℕ → List ℕ → Type 0) (o : Opening Sizes) (outs : List (Result (Result ℕ Fault) Fault)) (riders : List RiderState) (ending : EndingState F) (all : AllReturned J (opened_as o) bumps_once Took outs riders) (end : IsEnding o.params riders ending) where
+module _ {F J : Type 0} (may_cut : Bool) (Took : ℕ → List ℕ → Type 0) (o : Opening Sizes) (outs : List (Result (Result ℕ Fault) Fault)) (riders : List RiderState) (ending : EndingState F) (all : AllReturned J (opened_as o) may_cut bumps_once Took outs riders) (end : IsEnding o.params riders ending) where
   abbrev calls_of : List (List Entry)
   calls_of = map (λ r. r.calls) riders
 
@@ -146,7 +150,7 @@ module _ {F J : Type 0} (Took : ℕ → List ℕ → Type 0) (o : Opening Sizes)
       let within = slice_get_within outs n (Ok (Ok t)) at in
       let told = all.each n (Ok (Ok 0)) within in
       let is : slice_index_or outs n (Ok (Ok 0)) ≡ Ok (Ok t) = get_or_from_slice_get outs n (Ok (Ok t)) (Ok (Ok 0)) at in
-      let mine = drawn_of (opened_as o) n (new_rider n) (rider_at riders n) t (subst (λ (x : Result (Result ℕ Fault) Fault). Tells J (opened_as o) true (bumps_once n) (new_rider n) (rider_at riders n) x) is told) in
+      let mine = drawn_of (opened_as o) may_cut n (new_rider n) (rider_at riders n) t (subst (λ (x : Result (Result ℕ Fault) Fault). Tells J (opened_as o) true may_cut (bumps_once n) (new_rider n) (rider_at riders n) x) is told) in
       subst (λ d. Drawn d t) (sym (get_or-map (λ r. r.calls) riders n (new_rider n) [] (omega (arith, within, all.threads, all.back)))) mine
 
   apart : (i j a b : ℕ) → i < j → slice_get outs i ≡ Some (Ok (Ok a)) → slice_get outs j ≡ Some (Ok (Ok b)) → a ≢ b
@@ -179,15 +183,15 @@ module _ {F J : Type 0} (Took : ℕ → List ℕ → Type 0) (o : Opening Sizes)
       }
 
 -- what the threads' log left
-pub tickets_left : {F : Type 0} (J : Type 0) (Took : ℕ → List ℕ → Type 0) (o : Opening Sizes) (result : Result (Closed (Result (Vec (Result (Result ℕ Fault) Fault) Global) Fault) F) Fault)
-    → IfOk result (IsClosed o (AreAllReturned J (opened_as o) bumps_once Took))
+pub tickets_left : {F : Type 0} (J : Type 0) (may_cut : Bool) (Took : ℕ → List ℕ → Type 0) (o : Opening Sizes) (result : Result (Closed (Result (Vec (Result (Result ℕ Fault) Fault) Global) Fault) F) Fault)
+    → IfOk result (IsClosed o (AreAllReturned J (opened_as o) may_cut bumps_once Took))
     → IfOk result (λ drawn. IfOk drawn.out (λ outs. IfOk drawn.ending (λ ending. AreTickets o.riders outs.items ending.snapshot.epoch)))
-tickets_left {F} J Took o (Ok closed) told = by_parts closed.out closed.ending told.riders told.left told.ending
+tickets_left {F} J may_cut Took o (Ok closed) told = by_parts closed.out closed.ending told.riders told.left told.ending
   where
-    by_parts : (out : Result (Vec (Result (Result ℕ Fault) Fault) Global) Fault) (ending : Result (EndingState F) Fault) (riders : List RiderState) → AreAllReturned J (opened_as o) bumps_once Took out riders
+    by_parts : (out : Result (Vec (Result (Result ℕ Fault) Fault) Global) Fault) (ending : Result (EndingState F) Fault) (riders : List RiderState) → AreAllReturned J (opened_as o) may_cut bumps_once Took out riders
         → MatchResult ending (λ ending. (length riders ≡ o.riders) × IsEnding o.params riders ending) (λ fault. (fault ≡ Stranger o.stamp) × (length riders ≢ o.riders))
         → IfOk out (λ outs. IfOk ending (λ ending. AreTickets o.riders outs.items ending.snapshot.epoch))
-    by_parts (Ok outs) (Ok ending) riders all end = tickets_of Took o outs.items riders ending all end.1
+    by_parts (Ok outs) (Ok ending) riders all end = tickets_of may_cut Took o outs.items riders ending all end.1
     by_parts (Ok outs) (Err fault) riders all end = tt
     by_parts (Err fault) ending riders all end = tt
-tickets_left J Took o (Err fault) told = tt
+tickets_left J may_cut Took o (Err fault) told = tt

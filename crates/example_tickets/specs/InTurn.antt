@@ -1,5 +1,6 @@
 -- What two threads of one log are answered of which one bumps once it was told how many steps there were after the other's bump.
 use Rattle.std.specs.Prelude.{ℕ, ◌≡◌, ◌<◌, ◌≤◌, List, [], ◌∷◌, ◌++◌, length, Option, Some, IfSome, slice_get}
+use Rattle.std.specs.List.{AllByRecursion}
 use Rattle.hl_model.specs.declared.step.Step.{Step}
 use Rattle.hl_model.specs.declared.step.Step.TheVariants.{Settle}
 use Rattle.hl_model.specs.Actions.{bumps}
@@ -39,15 +40,18 @@ answers number first last out = IfSome out (λ answer.
     in (number ≡ 0 → DrewFirst answer.ticket answer.steps old new)
     × (number ≡ 1 → DrewSecond answer.ticket answer.steps old new))
 
--- a rider is there that made the calls of its session, and among them drew a ticket so
+-- a rider is there that made the calls of its session, and among them drew a ticket so; behind them stands its leave, and
+-- between calls that made no step, where a full journal refused it and was cut
 pub record Drew (Draws : ℕ → ℕ → List Entry → List Entry → Type 0) (ticket steps : ℕ) (at : Option RiderState)
     : Type 0 where
   pub rider : RiderState
   pub is : at ≡ Some rider
   pub leave : Entry
+  pub vain : List Entry
+  pub none : AllByRecursion (λ call. call.steps ≡ []) vain
   pub enter : List Entry
   pub drawn : List Entry
-  pub calls_are : rider.calls ≡ leave ∷ drawn
+  pub calls_are : rider.calls ≡ leave ∷ (vain ++ drawn)
   pub draws : Draws ticket steps enter drawn
 
 -- the first two riders of a log that was closed drew these tickets, the second once it was told of the first one's

@@ -9,7 +9,7 @@
 
 mod in_turn;
 
-ghost use Rattle.std.specs.Prelude.{◌≡◌, true, false, Err, IfOk, IfErr, ⊤};
+ghost use Rattle.std.specs.Prelude.{◌≡◌, true, false, Err, IfOk, IfErr, is_some, ⊤};
 ghost use Rattle.hl_model.specs.declared.fault.Fault.TheVariants.{OutOfMemory, Size};
 ghost use Rattle.hl.specs.Openings.{of_sizes, opened_as};
 ghost use Rattle.hl.specs.Crews.{can_run};
@@ -77,7 +77,8 @@ pub fn draw<R: Threads + Wait + Sync, S: HasSizes>(
     ensures memory { can_run (of_sizes S.sizes_of opening) duty ≡ true
         → IfErr result (λ fault. fault ≡ OutOfMemory) }
     ensures closed { let o = of_sizes S.sizes_of opening
-        in IfOk result (IsClosed o (AreAllReturned NoJob (opened_as o) bumps_once (λ _ _. ⊤))) }
+        in IfOk result (IsClosed o
+        (AreAllReturned NoJob (opened_as o) (is_some duty.cut_above) bumps_once (λ _ _. ⊤))) }
     ensures tickets { IfOk result (λ drawn. IfOk drawn.out (λ outs. IfOk drawn.ending
         (λ ending. AreTickets opening.riders outs.items ending.snapshot.epoch))) }
 {

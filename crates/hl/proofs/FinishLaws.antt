@@ -1,5 +1,5 @@
 -- A log's last rider finishes after the others.
-use Rattle.std.proofs.Common.{◌≡◌, ℕ, zero, suc, ◌+◌, Option, false, List, [], ◌∷◌, ◌++◌, map, length, refl, ap, sym, ◌∙◌, subst, subst₂, Result, Ok, Err, MatchResult, Vec, Global, arith, length-append, inl, inr}
+use Rattle.std.proofs.Common.{◌≡◌, ℕ, zero, suc, ◌+◌, Option, true, false, List, [], ◌∷◌, ◌++◌, map, length, refl, ap, sym, ◌∙◌, subst, subst₂, Result, Ok, Err, MatchResult, Vec, Global, arith, length-append, inl, inr}
 use Rattle.std.specs.Prelude.{is_some}
 use Rattle.hl_model.specs.declared.fault.Fault.{Fault}
 use Rattle.hl_model.specs.Sizes.{Sizes}
@@ -40,18 +40,18 @@ pub record ThreadsLeft {Out : Type 0} (F : Type 0) (o : Opening Sizes) (Returns 
   pub same : log ≡ opened_as o
   pub others : length rest + 1 ≡ o.riders
   pub last_is : last ≡ new_rider (length rest)
-  pub returned : AreCountReturned F (opened_as o) Returns Took (length rest) outs riders
+  pub returned : AreCountReturned F (opened_as o) true Returns Took (length rest) outs riders
 
 pub threads_left : {Out : Type 0} (F : Type 0) (o : Opening Sizes) (Returns : ℕ → SessionState → SessionState → Out → Type 0) (Took : ℕ → List ℕ → Type 0) {log : DomainState} {rest : List RiderState} {last : RiderState} {riders : List RiderState} {outs : Result (Vec (Result Out Fault) Global) Fault} (device : Option MemoryDevice)
-    → log ≡ opened_as o → new_riders o.riders ≡ rest ++ last ∷ [] → is_some device ≡ false → AreLeft F log Returns Took (length rest) (outs, device) riders → ThreadsLeft F o Returns Took log rest last riders outs
+    → log ≡ opened_as o → new_riders o.riders ≡ rest ++ last ∷ [] → is_some device ≡ false → AreLeft F log true Returns Took (length rest) (outs, device) riders → ThreadsLeft F o Returns Took log rest last riders outs
 threads_left F o Returns Took {log} {rest} {last} {riders} {outs} device same parts none left =
     let new = last_new o.riders rest last parts in
-    record { same = same; others = new.0; last_is = new.2; returned = subst (λ l. AreCountReturned F l Returns Took (length rest) outs riders) same (left_without F log Returns Took (length rest) outs device riders none left) }
+    record { same = same; others = new.0; last_is = new.2; returned = subst (λ l. AreCountReturned F l true Returns Took (length rest) outs riders) same (left_without F log true Returns Took (length rest) outs device riders none left) }
 
 module _ {Out : Type 0} {F : Type 0} {o : Opening Sizes} {Returns : ℕ → SessionState → SessionState → Out → Type 0} {Took : ℕ → List ℕ → Type 0} {log : DomainState} {rest : List RiderState} {last : RiderState} {riders : List RiderState} {outs : Result (Vec (Result Out Fault) Global) Fault}
     (t : ThreadsLeft F o Returns Took log rest last riders outs) {v : Vec (Result Out Fault) Global} (is : outs ≡ Ok v) where
-  returned : CountReturned F (opened_as o) Returns Took (length rest) v.items riders
-  returned = subst (λ r. AreCountReturned F (opened_as o) Returns Took (length rest) r riders) is t.returned
+  returned : CountReturned F (opened_as o) true Returns Took (length rest) v.items riders
+  returned = subst (λ r. AreCountReturned F (opened_as o) true Returns Took (length rest) r riders) is t.returned
 
   -- with the last one the riders are all
   pub all_there : length riders + 1 ≡ log.riders
@@ -67,7 +67,7 @@ module _ {Out : Type 0} {F : Type 0} {o : Opening Sizes} {Returns : ℕ → Sess
     count = length rest;
     others = t.others;
     riders = riders;
-    returned = subst (λ l. CountReturned F (opened_as o) Returns Took (length rest) l riders) (are ∙ ap (λ (w : Vec Out Global). map (λ out. Ok out) w.items) (sym outs)) returned;
+    returned = subst (λ l. CountReturned F (opened_as o) true Returns Took (length rest) l riders) (are ∙ ap (λ (w : Vec Out Global). map (λ out. Ok out) w.items) (sym outs)) returned;
     finish = subst₂ (λ (l : DomainState) (r : RiderState). IsFinish F l Finishes riders r finished) t.same t.last_is finish;
   }
   finished_or Finishes all (Err fault) are failed = inr (inr (record {
@@ -75,6 +75,6 @@ module _ {Out : Type 0} {F : Type 0} {o : Opening Sizes} {Returns : ℕ → Sess
     others = t.others;
     outs = all.items;
     riders = riders;
-    returned = subst (λ l. CountReturned F (opened_as o) Returns Took (length rest) l riders) are returned;
+    returned = subst (λ l. CountReturned F (opened_as o) true Returns Took (length rest) l riders) are returned;
     failed = subst₂ (λ (l : DomainState) (r : RiderState). IsNoFinish F l Finishes r fault) t.same t.last_is failed;
   }))

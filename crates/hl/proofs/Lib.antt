@@ -3,6 +3,7 @@ pub mod DoneLaws
 pub mod EvictedLaws
 pub mod FinishLaws
 pub mod HelpLaws
+pub mod LeaveLaws
 pub mod OutLaws
 pub mod RecordLaws
 pub mod ReportLaws

@@ -88,22 +88,22 @@ crew_taken has Took sizes crew first second are = (
 )
 
 -- of threads of one log, of whose sessions so much holds
-module _ {Out : Type 0} (F : Type 0) (log : DomainState) (Returns : ℕ → SessionState → SessionState → Out → Type 0) where
+module _ {Out : Type 0} (F : Type 0) (log : DomainState) (may_cut : Bool) (Returns : ℕ → SessionState → SessionState → Out → Type 0) where
   -- results and riders are taken by their places from pairs of both
   returned_of : (olds : ℕ → RiderState) (pairs : List (Result Out Fault × RiderState))
-      → ((i : ℕ) (pair : Result Out Fault × RiderState) → i < length pairs → Tells F log true (Returns i) (olds i) (slice_index_or pairs i pair).1 (slice_index_or pairs i pair).0)
-      → AreReturned F log Returns olds (map (λ one. one.0) pairs) (map (λ one. one.1) pairs)
+      → ((i : ℕ) (pair : Result Out Fault × RiderState) → i < length pairs → Tells F log true may_cut (Returns i) (olds i) (slice_index_or pairs i pair).1 (slice_index_or pairs i pair).0)
+      → AreReturned F log may_cut Returns olds (map (λ one. one.0) pairs) (map (λ one. one.1) pairs)
   returned_of olds pairs each i d within =
       let inside : i < length pairs = subst (λ n. i < n) (length-map pairs (λ x. x.0)) within in
-      subst₂ (λ (x : Result Out Fault) (r : RiderState). Tells F log true (Returns i) (olds i) r x)
+      subst₂ (λ (x : Result Out Fault) (r : RiderState). Tells F log true may_cut (Returns i) (olds i) r x)
       (sym (get_or-map (λ x. x.0) pairs i (d, new_rider i) d inside)) (sym (get_or-map (λ x. x.1) pairs i (d, new_rider i) (new_rider i) inside)) (each i (d, new_rider i) inside)
 
   -- what is left of jobs that carry their own places and riders, where each call returns what is said of its job's
   pub work_returned : {C : Type 0} (g : Shared C ((ℕ × RiderState) × Unit {0}) (Result Out Fault × RiderState)) (f : C) (jobs : Vec (ℕ × RiderState) Global) (olds : List RiderState) (result : Result (Vec (Result Out Fault × RiderState) Global) AllocError)
       → olds ≡ map (λ job. job.1) jobs.items → ((i : ℕ) (job : ℕ × RiderState) → i < length jobs.items → (slice_index_or jobs.items i job).0 ≡ i)
-      → ((job : ℕ × RiderState) (one : Result Out Fault × RiderState) → FnReturns g f (job, tt) one → Tells F log true (Returns job.0) job.1 one.1 one.0)
+      → ((job : ℕ × RiderState) (one : Result Out Fault × RiderState) → FnReturns g f (job, tt) one → Tells F log true may_cut (Returns job.0) job.1 one.1 one.0)
       → IfOk result (λ v. vec_len v ≡ vec_len jobs) → IfOk result (λ v. GivesJobs g f jobs.items v.items)
-      → IfOk result (λ worked. (length worked.items ≡ length olds) × AreReturned F log Returns (rider_at olds) (map (λ one. one.0) worked.items) (map (λ one. one.1) worked.items))
+      → IfOk result (λ worked. (length worked.items ≡ length olds) × AreReturned F log may_cut Returns (rider_at olds) (map (λ one. one.0) worked.items) (map (λ one. one.1) worked.items))
   work_returned g f jobs olds (Ok worked) same numbered calls len each =
       let all : length worked.items ≡ length jobs.items = omega (arith, worked.ok, jobs.ok, len) in (
         all ∙ sym (ap length same ∙ length-map jobs.items (λ job. job.1)),
@@ -112,14 +112,14 @@ module _ {Out : Type 0} (F : Type 0) (log : DomainState) (Returns : ℕ → Sess
             let gives = (each i pair inside).1 in
             let place : gives.job.0 ≡ i = sym (ap (λ job. job.0) (gives.job_is gives.job)) ∙ numbered i gives.job inside in
             let rider : gives.job.1 ≡ rider_at olds i = sym (ap (λ job. job.1) (gives.job_is gives.job)) ∙ sym (get_or-map (λ job. job.1) jobs.items i gives.job (new_rider i) inside) ∙ ap (λ l. rider_at l i) (sym same) in
-            subst₂ (λ (n : ℕ) (r : RiderState). Tells F log true (Returns n) r (slice_index_or worked.items i pair).1 (slice_index_or worked.items i pair).0) place rider (calls gives.job _ gives.call)),
+            subst₂ (λ (n : ℕ) (r : RiderState). Tells F log true may_cut (Returns n) r (slice_index_or worked.items i pair).1 (slice_index_or worked.items i pair).0) place rider (calls gives.job _ gives.call)),
       )
   work_returned g f jobs olds (Err error) same numbered calls len each = tt
 
   -- results and riders of threads whose riders were new, with a crew's riders behind
   pub with_crew : (Took : ℕ → List ℕ → Type 0) (total : ℕ) (all olds crew : List RiderState) (outs : List (Result Out Fault)) (news back : List RiderState)
       → all ≡ new_riders total → all ≡ olds ++ crew → length outs ≡ length olds → length news ≡ length olds → length crew ≡ 4 → length back ≡ 4
-      → StoreSweeps log.sizes back → AllByRecursion (FlushesTaken Took log.sizes) back → AreReturned F log Returns (rider_at olds) outs news → CountReturned F log Returns Took total outs (news ++ back)
+      → StoreSweeps log.sizes back → AllByRecursion (FlushesTaken Took log.sizes) back → AreReturned F log may_cut Returns (rider_at olds) outs news → CountReturned F log may_cut Returns Took total outs (news ++ back)
   with_crew Took total all olds crew outs news back new parts long many four others sweeps taken each =
       let count : length olds + 4 ≡ total = omega (arith, ap length parts, length-append olds crew, four, ap length new, new_long total) in
       let crews : drop (length outs) (news ++ back) ≡ back = drop_at news back (length outs) (many ∙ sym long) in
@@ -130,34 +130,34 @@ module _ {Out : Type 0} (F : Type 0) (log : DomainState) (Returns : ℕ → Sess
             let here : number < length olds = omega (arith, within, long) in
             let old : rider_at olds number ≡ new_rider number = sym (get_or_append_left olds crew (new_rider number) number here) ∙ ap (λ l. rider_at l number) (sym parts ∙ new) ∙ new_at total number (new_rider number) (omega (arith, here, count)) in
             let now : rider_at news number ≡ rider_at (news ++ back) number = sym (get_or_append_left news back (new_rider number) number (omega (arith, here, many))) in
-            subst₂ (λ (r s : RiderState). Tells F log true (Returns number) r s (slice_index_or outs number other)) old now (each number other within);
+            subst₂ (λ (r s : RiderState). Tells F log true may_cut (Returns number) r s (slice_index_or outs number other)) old now (each number other within);
         sweeps = subst (StoreSweeps log.sizes) (sym crews) sweeps;
         images = subst (AllByRecursion (FlushesTaken Took log.sizes)) (sym crews) taken;
       }
 
 -- what all threads returned, where the crew served, or why it was refused
-pub gathered : {Out S : Type 0} (F : Type 0) (log : DomainState) (Returns : ℕ → SessionState → SessionState → Out → Type 0) (Took : ℕ → List ℕ → Type 0) (total : ℕ) (served : Result S Fault) (outs : Result (Vec (Result Out Fault) Global) Fault) (returned : List (Result Out Fault)) (riders : List RiderState)
-    → MatchResult served (λ _. IsOk outs) (λ fault. outs ≡ Err fault) → IfErr served (λ fault. fault ≡ OutOfMemory) → IfOk outs (λ outs. outs.items ≡ returned) → CountReturned F log Returns Took total returned riders
-    → AreCountReturned F log Returns Took total outs riders
-gathered F log Returns Took total served (Ok outs) returned riders told memory are all = subst (λ l. CountReturned F log Returns Took total l riders) (sym are) all
-gathered F log Returns Took total (Ok end) (Err fault) returned riders told memory are all = absurd (let e : false ≡ true = told in cc)
-gathered F log Returns Took total (Err refused) (Err fault) returned riders told memory are all =
+pub gathered : {Out S : Type 0} (F : Type 0) (log : DomainState) (may_cut : Bool) (Returns : ℕ → SessionState → SessionState → Out → Type 0) (Took : ℕ → List ℕ → Type 0) (total : ℕ) (served : Result S Fault) (outs : Result (Vec (Result Out Fault) Global) Fault) (returned : List (Result Out Fault)) (riders : List RiderState)
+    → MatchResult served (λ _. IsOk outs) (λ fault. outs ≡ Err fault) → IfErr served (λ fault. fault ≡ OutOfMemory) → IfOk outs (λ outs. outs.items ≡ returned) → CountReturned F log may_cut Returns Took total returned riders
+    → AreCountReturned F log may_cut Returns Took total outs riders
+gathered F log may_cut Returns Took total served (Ok outs) returned riders told memory are all = subst (λ l. CountReturned F log may_cut Returns Took total l riders) (sym are) all
+gathered F log may_cut Returns Took total (Ok end) (Err fault) returned riders told memory are all = absurd (let e : false ≡ true = told in cc)
+gathered F log may_cut Returns Took total (Err refused) (Err fault) returned riders told memory are all =
     let same : fault ≡ refused = cc told in
     same ∙ memory
 
 -- what is known of one log and so many riders is known of what is the same
-pub all_of_same : {Out : Type 0} (F : Type 0) (log other : DomainState) (Returns : ℕ → SessionState → SessionState → Out → Type 0) (Took : ℕ → List ℕ → Type 0) (total many : ℕ) (outs : Result (Vec (Result Out Fault) Global) Fault) (riders : List RiderState) → log ≡ other → total ≡ many → AreCountReturned F log Returns Took total outs riders → AreCountReturned F other Returns Took many outs riders
-all_of_same F log other Returns Took total many outs riders same count known = subst₂ (λ l n. AreCountReturned F l Returns Took n outs riders) same count known
+pub all_of_same : {Out : Type 0} (F : Type 0) (log other : DomainState) (may_cut : Bool) (Returns : ℕ → SessionState → SessionState → Out → Type 0) (Took : ℕ → List ℕ → Type 0) (total many : ℕ) (outs : Result (Vec (Result Out Fault) Global) Fault) (riders : List RiderState) → log ≡ other → total ≡ many → AreCountReturned F log may_cut Returns Took total outs riders → AreCountReturned F other may_cut Returns Took many outs riders
+all_of_same F log other may_cut Returns Took total many outs riders same count known = subst₂ (λ l n. AreCountReturned F l may_cut Returns Took n outs riders) same count known
 
 -- what is left without a device in memory, and with one
-pub left_without : {Out : Type 0} (F : Type 0) (log : DomainState) (Returns : ℕ → SessionState → SessionState → Out → Type 0) (Took : ℕ → List ℕ → Type 0) (total : ℕ) (outs : Result (Vec (Result Out Fault) Global) Fault) (device : Option MemoryDevice) (riders : List RiderState)
-    → is_some device ≡ false → AreLeft F log Returns Took total (outs, device) riders → AreCountReturned F log Returns Took total outs riders
-left_without F log Returns Took total outs None riders none left = left
-left_without F log Returns Took total outs (Some d) riders none left = absurd cc
+pub left_without : {Out : Type 0} (F : Type 0) (log : DomainState) (may_cut : Bool) (Returns : ℕ → SessionState → SessionState → Out → Type 0) (Took : ℕ → List ℕ → Type 0) (total : ℕ) (outs : Result (Vec (Result Out Fault) Global) Fault) (device : Option MemoryDevice) (riders : List RiderState)
+    → is_some device ≡ false → AreLeft F log may_cut Returns Took total (outs, device) riders → AreCountReturned F log may_cut Returns Took total outs riders
+left_without F log may_cut Returns Took total outs None riders none left = left
+left_without F log may_cut Returns Took total outs (Some d) riders none left = absurd cc
 
-pub left_with : {Out : Type 0} (F : Type 0) (log : DomainState) (Returns : ℕ → SessionState → SessionState → Out → Type 0) (Took : ℕ → List ℕ → Type 0) (outs : Result (Vec (Result Out Fault) Global) Fault) (device : Option MemoryDevice) (d : MemoryDevice) (riders : List RiderState)
-    → device ≡ Some d → AreLeft F log Returns Took log.riders (outs, device) riders → AreAllReturned F log Returns (on_memory d) outs riders
-left_with F log Returns Took outs device d riders is left = subst (λ (o : Option MemoryDevice). AreAllReturned F log Returns (device_has Took o) outs riders) is left
+pub left_with : {Out : Type 0} (F : Type 0) (log : DomainState) (may_cut : Bool) (Returns : ℕ → SessionState → SessionState → Out → Type 0) (Took : ℕ → List ℕ → Type 0) (outs : Result (Vec (Result Out Fault) Global) Fault) (device : Option MemoryDevice) (d : MemoryDevice) (riders : List RiderState)
+    → device ≡ Some d → AreLeft F log may_cut Returns Took log.riders (outs, device) riders → AreAllReturned F log may_cut Returns (on_memory d) outs riders
+left_with F log may_cut Returns Took outs device d riders is left = subst (λ (o : Option MemoryDevice). AreAllReturned F log may_cut Returns (device_has Took o) outs riders) is left
 
 -- the pages that a crew flushed by page writers of one kind, of which this is left
 pub sinks_taken : {L W P : Type 0} (Took : P → ℕ → List ℕ → Type 0) (work : P) (named : Option P) (memory : W → Option Pages) (sizes : Sizes) (crew : Crew L W) (device : Option MemoryDevice)

@@ -17,7 +17,8 @@ use Rattle.hl.specs.declared.memory.Written.{Written}
 use Rattle.hl.specs.declared.refused.Refused.{Refused}
 use Rattle.hl.specs.Devices.{device_has, on_memory}
 use Rattle.hl.specs.Openings.{was_refused}
-use Rattle.hl.specs.Sessions.{SessionState, Entered, Left}
+use Rattle.hl.specs.Leaves.{LeftByTries}
+use Rattle.hl.specs.Sessions.{SessionState, Entered}
 
 -- the part handed out its result and these riders; where they are all, the ending is that of a log with them,
 -- and otherwise it was refused
@@ -30,8 +31,9 @@ pub record IsClosed {Out F : Type 0} (o : Opening Sizes) (Leaves : Out → List 
       (λ fault. (fault ≡ Stranger o.stamp) × (length riders ≢ o.riders))
 
 -- a rider entered a session of the log, with a crew to wake or without, a thread ran in it and returned a value of which
--- so much holds, and its leave was answered so; the session that it left is of the same log
-pub record Stood {Out : Type 0} (F : Type 0) (log : DomainState) (rings : Bool)
+-- so much holds, and its leave was answered so, by as many tries as that takes where a full journal may be cut; the
+-- session that it left is of the same log
+pub record Stood {Out : Type 0} (F : Type 0) (log : DomainState) (rings may_cut : Bool)
     (Returns : SessionState → SessionState → Out → Type 0) (old : RiderState)
     (left : Result RiderState (Refused SessionState)) (out : Out) : Type 0 where
   pub first : SessionState
@@ -41,42 +43,43 @@ pub record Stood {Out : Type 0} (F : Type 0) (log : DomainState) (rings : Bool)
   pub rings_is : first.rings ≡ rings
   pub ran : Returns first last out
   pub log_stays : last.log ≡ log
-  pub met : Left F last left
+  pub met : LeftByTries F may_cut last left
 
 -- why a thread has no result: its rider was refused a session, and is the one handed back; or it ran, and couldn't
 -- leave its session, which was abandoned
-abbrev pub Failed : {Out : Type 0} → (F : Type 0) → DomainState → Bool
+abbrev pub Failed : {Out : Type 0} → (F : Type 0) → DomainState → Bool → Bool
     → (SessionState → SessionState → Out → Type 0) → RiderState → RiderState → Fault → Type 0
-Failed {Out} F log rings Returns old new fault =
+Failed {Out} F log rings may_cut Returns old new fault =
     Entered F log old (Err (was_refused fault new))
     ⊎ ((out : Out) × (back : SessionState) × (new ≡ back.pass.rider)
-    × Stood F log rings Returns old (Err (was_refused fault back)) out)
+    × Stood F log rings may_cut Returns old (Err (was_refused fault back)) out)
 
 -- the result of a thread with this rider, before and after it, is a value that it returned and left its session with,
 -- or why it has none
-abbrev pub Tells : {Out : Type 0} → (F : Type 0) → DomainState → Bool
+abbrev pub Tells : {Out : Type 0} → (F : Type 0) → DomainState → Bool → Bool
     → (SessionState → SessionState → Out → Type 0) → RiderState → RiderState → Result Out Fault → Type 0
-Tells F log rings Returns old new result =
-    MatchResult result (Stood F log rings Returns old (Ok new)) (Failed F log rings Returns old new)
+Tells F log rings may_cut Returns old new result = MatchResult result
+    (Stood F log rings may_cut Returns old (Ok new)) (Failed F log rings may_cut Returns old new)
 
 -- the rider at a place; a new one where there is none
 abbrev pub rider_at : List RiderState → ℕ → RiderState
 rider_at riders number = slice_index_or riders number (new_rider number)
 
 -- each of these results tells what the thread of its place did, whose riders were these and are these
-abbrev pub AreReturned : {Out : Type 0} → (F : Type 0) → DomainState
+abbrev pub AreReturned : {Out : Type 0} → (F : Type 0) → DomainState → Bool
     → (ℕ → SessionState → SessionState → Out → Type 0) → (ℕ → RiderState)
     → List (Result Out Fault) → List RiderState → Type 0
-AreReturned {Out} F log Returns olds outs riders =
+AreReturned {Out} F log may_cut Returns olds outs riders =
     (number : ℕ) (other : Result Out Fault) → number < length outs
-    → Tells F log true (Returns number) (olds number) (rider_at riders number) (slice_index_or outs number other)
+    → Tells F log true may_cut (Returns number) (olds number) (rider_at riders number)
+    (slice_index_or outs number other)
 
 -- so it is of these, of which each has its rider beside it; those riders were these
-abbrev pub HaveWorked : {Out : Type 0} → (F : Type 0) → DomainState
+abbrev pub HaveWorked : {Out : Type 0} → (F : Type 0) → DomainState → Bool
     → (ℕ → SessionState → SessionState → Out → Type 0) → List RiderState
     → List (Result Out Fault × RiderState) → Type 0
-HaveWorked F log Returns olds worked = (length worked ≡ length olds)
-    × AreReturned F log Returns (rider_at olds) (map (λ one. one.0) worked) (map (λ one. one.1) worked)
+HaveWorked F log may_cut Returns olds worked = (length worked ≡ length olds)
+    × AreReturned F log may_cut Returns (rider_at olds) (map (λ one. one.0) worked) (map (λ one. one.1) worked)
 
 -- each page that the rider answered as flushed it had copied, and this holds of the image of just these words
 abbrev pub FlushesTaken : (ℕ → List ℕ → Type 0) → Sizes → RiderState → Type 0
@@ -94,43 +97,45 @@ pub record HasServed {X : Type 0} (sizes : Sizes) (Took : ℕ → List ℕ → T
 -- a thread for each of so many riders, but the crew's four, has such a result, and its rider was the new one of its
 -- number; all riders came back, those of the threads in their order before the crew's. Each of these stored into cells only
 -- to sweep pages, and of the image of each page that it flushed this holds
-pub record CountReturned {Out : Type 0} (F : Type 0) (log : DomainState)
+pub record CountReturned {Out : Type 0} (F : Type 0) (log : DomainState) (may_cut : Bool)
     (Returns : ℕ → SessionState → SessionState → Out → Type 0) (Took : ℕ → List ℕ → Type 0) (count : ℕ)
     (outs : List (Result Out Fault)) (riders : List RiderState) : Type 0 where
   pub back : length riders ≡ count
   pub threads : length outs + 4 ≡ count
-  pub each : AreReturned F log Returns new_rider outs riders
+  pub each : AreReturned F log may_cut Returns new_rider outs riders
   pub sweeps : StoreSweeps log.sizes (drop (length outs) riders)
   pub images : AllByRecursion (FlushesTaken Took log.sizes) (drop (length outs) riders)
 
 -- so it is of all riders of the log
-abbrev pub AllReturned : {Out : Type 0} → (F : Type 0) → DomainState
+abbrev pub AllReturned : {Out : Type 0} → (F : Type 0) → DomainState → Bool
     → (ℕ → SessionState → SessionState → Out → Type 0) → (ℕ → List ℕ → Type 0)
     → List (Result Out Fault) → List RiderState → Type 0
-AllReturned F log Returns Took outs riders = CountReturned F log Returns Took log.riders outs riders
+AllReturned F log may_cut Returns Took outs riders =
+    CountReturned F log may_cut Returns Took log.riders outs riders
 
 -- so it is of so many, or memory or a thread was refused once the threads had begun
-abbrev pub AreCountReturned : {Out : Type 0} → (F : Type 0) → DomainState
+abbrev pub AreCountReturned : {Out : Type 0} → (F : Type 0) → DomainState → Bool
     → (ℕ → SessionState → SessionState → Out → Type 0) → (ℕ → List ℕ → Type 0) → ℕ
     → Result (Vec (Result Out Fault) Global) Fault → List RiderState → Type 0
-AreCountReturned F log Returns Took count outs riders = MatchResult outs
-    (λ outs. CountReturned F log Returns Took count outs.items riders) (λ fault. fault ≡ OutOfMemory)
+AreCountReturned F log may_cut Returns Took count outs riders = MatchResult outs
+    (λ outs. CountReturned F log may_cut Returns Took count outs.items riders) (λ fault. fault ≡ OutOfMemory)
 
 -- so it is of all riders of the log
-abbrev pub AreAllReturned : {Out : Type 0} → (F : Type 0) → DomainState
+abbrev pub AreAllReturned : {Out : Type 0} → (F : Type 0) → DomainState → Bool
     → (ℕ → SessionState → SessionState → Out → Type 0) → (ℕ → List ℕ → Type 0)
     → Result (Vec (Result Out Fault) Global) Fault → List RiderState → Type 0
-AreAllReturned F log Returns Took outs riders = AreCountReturned F log Returns Took log.riders outs riders
+AreAllReturned F log may_cut Returns Took outs riders =
+    AreCountReturned F log may_cut Returns Took log.riders outs riders
 
 -- the same of what was written: the device has the pages that the crew flushed
-abbrev pub AreWritten : {Out : Type 0} → (F : Type 0) → DomainState
+abbrev pub AreWritten : {Out : Type 0} → (F : Type 0) → DomainState → Bool
     → (ℕ → SessionState → SessionState → Out → Type 0) → Written Out → List RiderState → Type 0
-AreWritten F log Returns written riders =
-    AreAllReturned F log Returns (on_memory written.device) written.outs riders
+AreWritten F log may_cut Returns written riders =
+    AreAllReturned F log may_cut Returns (on_memory written.device) written.outs riders
 
 -- the same of what so many riders left: the device in memory has such a page, or this holds, if there is none
-abbrev pub AreLeft : {Out : Type 0} → (F : Type 0) → DomainState
+abbrev pub AreLeft : {Out : Type 0} → (F : Type 0) → DomainState → Bool
     → (ℕ → SessionState → SessionState → Out → Type 0) → (ℕ → List ℕ → Type 0) → ℕ
     → Result (Vec (Result Out Fault) Global) Fault × Option MemoryDevice → List RiderState → Type 0
-AreLeft F log Returns Took count left riders =
-    AreCountReturned F log Returns (device_has Took left.1) count left.0 riders
+AreLeft F log may_cut Returns Took count left riders =
+    AreCountReturned F log may_cut Returns (device_has Took left.1) count left.0 riders

@@ -1,5 +1,5 @@
 -- What is left of a log whose threads ran, and then one session more.
-use Rattle.std.specs.Prelude.{◌≡◌, ◌⊎◌, ◌+◌, ℕ, false, Option, MatchOption, Result, Ok, Err, List, [], ◌∷◌, ◌++◌, map}
+use Rattle.std.specs.Prelude.{◌≡◌, ◌⊎◌, ◌+◌, ℕ, true, false, Option, MatchOption, Result, Ok, Err, List, [], ◌∷◌, ◌++◌, map}
 use Rattle.hl_model.specs.declared.fault.Fault.{Fault}
 use Rattle.hl_model.specs.declared.fault.Fault.TheVariants.{OutOfMemory}
 use Rattle.hl_model.specs.Sizes.{Sizes}
@@ -22,28 +22,29 @@ abbrev pub Finishing : {Out : Type 0} → (SessionState → SessionState → Out
     → SessionState → SessionState → Option Out → Type 0
 Finishing Finishes old new out = MatchOption out (new ≡ old) (Finishes old new)
 
--- this rider was in a session of the log, with no crew to wake, and finished; the log was then closed with it behind the
--- others
+-- this rider was in a session of the log, with no crew to wake, and finished; at a full journal its leave may cut. The
+-- log was then closed with it behind the others
 pub record IsFinish {Out : Type 0} (F : Type 0) (log : DomainState) (Finishes : SessionState → SessionState → Out → Type 0)
     (riders : List RiderState) (old : RiderState) (finished : Finished Out F) : Type 0 where
   pub last : RiderState
-  pub finish : Stood F log false (Finishing Finishes) old (Ok last) finished.last
+  pub finish : Stood F log false true (Finishing Finishes) old (Ok last) finished.last
   pub ending : IsEnding log.sizes (riders ++ last ∷ []) finished.ending
 
 -- this rider was refused a session of the log to finish in, or couldn't leave it
 pub record IsNoFinish {Out : Type 0} (F : Type 0) (log : DomainState)
     (Finishes : SessionState → SessionState → Out → Type 0) (old : RiderState) (fault : Fault) : Type 0 where
   pub last : RiderState
-  pub failed : Failed F log false (Finishing Finishes) old last fault
+  pub failed : Failed F log false true (Finishing Finishes) old last fault
 
 module _ {Out : Type 0} (F : Type 0) (o : Opening Sizes) (Returns : ℕ → SessionState → SessionState → Out → Type 0)
     (Took : ℕ → List ℕ → Type 0) (Finishes : SessionState → SessionState → Out → Type 0) where
-  -- each thread has a result, and then the log's last rider finished; the ending is that of a log with all riders
+  -- each thread, whose leave may cut, has a result, and then the log's last rider finished; the ending is that of a log
+  -- with all riders
   pub record AreFinished (finished : Finished Out F) : Type 0 where
     pub count : ℕ
     pub others : count + 1 ≡ o.riders
     pub riders : List RiderState
-    pub returned : CountReturned F (opened_as o) Returns Took count (map (λ out. Ok out) finished.outs.items) riders
+    pub returned : CountReturned F (opened_as o) true Returns Took count (map (λ out. Ok out) finished.outs.items) riders
     pub finish : IsFinish F (opened_as o) Finishes riders (new_rider count) finished
 
   -- of the threads' results the first that is a fault is this one
@@ -52,7 +53,7 @@ module _ {Out : Type 0} (F : Type 0) (o : Opening Sizes) (Returns : ℕ → Sess
     pub others : count + 1 ≡ o.riders
     pub outs : List (Result Out Fault)
     pub riders : List RiderState
-    pub returned : CountReturned F (opened_as o) Returns Took count outs riders
+    pub returned : CountReturned F (opened_as o) true Returns Took count outs riders
     pub first : IsFirstFault outs fault
 
   -- each thread has a result, but the log's last rider couldn't finish
@@ -61,7 +62,7 @@ module _ {Out : Type 0} (F : Type 0) (o : Opening Sizes) (Returns : ℕ → Sess
     pub others : count + 1 ≡ o.riders
     pub outs : List Out
     pub riders : List RiderState
-    pub returned : CountReturned F (opened_as o) Returns Took count (map (λ out. Ok out) outs) riders
+    pub returned : CountReturned F (opened_as o) true Returns Took count (map (λ out. Ok out) outs) riders
     pub failed : IsNoFinish F (opened_as o) Finishes (new_rider count) fault
 
   -- why a log whose threads ran has no result: memory or a thread was refused; or one of these

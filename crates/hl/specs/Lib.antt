@@ -5,6 +5,7 @@ pub mod Crews
 pub mod Devices
 pub mod Evictions
 pub mod LastSession
+pub mod Leaves
 pub mod Helps
 pub mod Openings
 pub mod Overs

@@ -1,5 +1,5 @@
 //! A log that threads use beside a crew, and one session more, opened and closed by one call, with one result.
-ghost use Rattle.std.specs.Prelude.{◌≡◌, ◌+◌, ◌<◌, ◌≤◌, [], length, map, vec_len, vec_capacity, true, false, Ok, Err, MatchResult};
+ghost use Rattle.std.specs.Prelude.{◌≡◌, ◌+◌, ◌<◌, ◌≤◌, [], length, map, vec_len, vec_capacity, true, false, Ok, Err, is_some, MatchResult};
 ghost use Rattle.hl_model.specs.declared.fault.Fault.TheVariants.{Size};
 ghost use Rattle.hl_words.specs.States.{IsSeedOf};
 ghost use Rattle.hl.specs.Closings.{Tells};
@@ -40,9 +40,9 @@ pub struct Finished<T, F: Task = NoJob> {
 ///
 /// Faults, the first of these: `Size` if a number of the configuration is out of its range, and nothing was done;
 /// `OutOfMemory` if memory or a thread was refused, before the threads ran or after; the fault by which the first of
-/// the threads that have no result was refused its session, or couldn't leave it (`JournalFull`); and that of the
-/// session of `finish`. After a fault nothing is left of the log: if its ending is wanted all the same, take
-/// `with_threads`.
+/// the threads that have no result was refused its session, or couldn't leave it (`JournalFull` at each of 1,001 tries,
+/// with a cut between two); and that of the session of `finish`. After a fault nothing is left of the log: if its ending
+/// is wanted all the same, take `with_threads`.
 pub fn run_threads<R: Threads + Wait + Sync, P: Work<R> + Sync>(
     rt: &R,
     alloc: Global,
@@ -81,6 +81,7 @@ fn run_over<L: Realm + Send + Sync, R: Threads + Wait + Sync, P: Work<R> + Sync>
     requires range { IsInRange opening }
     requires five { 5 ≤ opening.riders }
     requires duty { duty.frames ≡ opening.params.frames }
+    requires cuts { is_some duty.cut_above ≡ true }
     ensures finished { MatchResult result
         (AreFinished P.Job opening (P.returns work.now) (P.took work.now) (P.finishes work.now))
         (IsUnfinished P.Job opening (P.returns work.now) (P.took work.now) (P.finishes work.now)) }
@@ -158,14 +159,14 @@ fn finish_log<L: Realm + Send + Sync, R: Wait, P: Work<R>>(
     Ok(Finished { outs, last, ending })
 }
 
-// The session that finishes.
+// The session that finishes, and is left by tries: the duty of such a log cuts.
 fn finish_one<L: Realm + Send + Sync, R: Wait, P: Work<R>>(
     rt: &R,
     log: &Log<L, P::Job>,
     rider: Rider<L>,
     work: &P,
 ) -> (Result<Option<P::Out>, Fault>, Rider<L>)
-    ensures { Tells P.Job log.now false (Finishing (P.finishes work.now)) rider result.1 result.0 }
+    ensures { Tells P.Job log.now false true (Finishing (P.finishes work.now)) rider result.1 result.0 }
 {
     let mut session = match Session::enter(rt, log, rider) {
         Ok(session) => session,
@@ -175,7 +176,7 @@ fn finish_one<L: Realm + Send + Sync, R: Wait, P: Work<R>>(
     // Of the session that `finish` left no more is known than its type, and that says which log it is of.
     session.log().known();
     log.known();
-    match session.leave() {
+    match session.leave_by_tries(true) {
         Ok(rider) => (Ok(out), rider),
         Err(Refused { fault, back }) => (Err(fault), back.abandon()),
     }

@@ -107,7 +107,8 @@ pub fn with_memory<R: Threads + Wait + Sync, P: Work<R> + Sync, S: HasSizes>(
     ensures memory { can_run (of_sizes S.sizes_of opening) duty ≡ true
         → IfErr result (λ fault. fault ≡ OutOfMemory) }
     ensures closed { let o = of_sizes S.sizes_of opening
-        in IfOk result (IsClosed o (AreWritten P.Job (opened_as o) (P.returns work.now))) }
+        in IfOk result (IsClosed o
+        (AreWritten P.Job (opened_as o) (is_some duty.cut_above) (P.returns work.now))) }
 {
     let closed = threads_of_sizes(rt, alloc, opening.of_sizes(), duty, work, Some(device))?;
     let Closed { out, ending } = closed;

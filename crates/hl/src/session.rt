@@ -7,6 +7,7 @@ ghost use Rattle.hl_domain.specs.Riders.{Allocates};
 ghost use Rattle.hl.specs.Sessions.{with_pass, Asked, Entered, Left};
 
 mod help;
+mod leave;
 mod over;
 mod pasts;
 mod pause;

@@ -48,6 +48,10 @@ type Served<L> = (
 /// the fault by which the rider was refused its session, or the thread, once it had run, couldn't leave its own. So what
 /// a thread's calls met and did is tied to the one list of the ending.
 ///
+/// By a duty that cuts, a leave that finds the journal full is tried again, up to 1,000 times, each after a cut
+/// ([`leave_by_tries`](Session::leave_by_tries)); so a thread loses its result only if even then others fill it each time.
+/// By another duty a leave is tried once, and nothing is cut.
+///
 /// The crew's riders stored into cells only to sweep pages that their calls took to clean: if no page was closed, the
 /// threads alone changed words. Of each page that they flushed `Work::took` says that the device took its image, and the
 /// words of that image are the page's, by `hl_images::laws::flushed_is_imaged`.
@@ -70,8 +74,8 @@ pub fn with_threads<R: Threads + Wait + Sync, P: Work<R> + Sync, S: HasSizes>(
     ensures memory { can_run (of_sizes S.sizes_of opening) duty ≡ true
         → IfErr result (λ fault. fault ≡ OutOfMemory) }
     ensures closed { let o = of_sizes S.sizes_of opening
-        in IfOk result
-        (IsClosed o (AreAllReturned P.Job (opened_as o) (P.returns work.now) (P.took work.now))) }
+        in IfOk result (IsClosed o (AreAllReturned P.Job (opened_as o) (is_some duty.cut_above)
+        (P.returns work.now) (P.took work.now))) }
 {
     let Closed { out, ending } = threads_of_sizes(rt, alloc, opening.of_sizes(), duty, work, None)?;
     Ok(Closed { out: out.0, ending })
@@ -92,8 +96,8 @@ pub(crate) fn threads_of_sizes<R: Threads + Wait + Sync, P: Work<R> + Sync>(
     ensures size { can_run opening duty ≡ false → result ≡ Err Size }
     ensures memory { can_run opening duty ≡ true → IfErr result (λ fault. fault ≡ OutOfMemory) }
     ensures kind { IfOk result (λ closed. is_some closed.out.1 ≡ is_some device) }
-    ensures closed { IfOk result (IsClosed opening
-        (AreLeft P.Job (opened_as opening) (P.returns work.now) (P.took work.now) opening.riders)) }
+    ensures closed { IfOk result (IsClosed opening (AreLeft P.Job (opened_as opening) (is_some duty.cut_above)
+        (P.returns work.now) (P.took work.now) opening.riders)) }
 {
     if !has_room(&opening, duty) {
         return Err(Fault::Size);
@@ -131,8 +135,8 @@ fn threads_over<L: Realm + Send + Sync, R: Threads + Wait + Sync, P: Work<R> + S
     requires duty { duty.frames ≡ opening.params.frames }
     ensures memory { IfErr result (λ fault. fault ≡ OutOfMemory) }
     ensures kind { IfOk result (λ closed. is_some closed.out.1 ≡ is_some device) }
-    ensures closed { IfOk result (IsClosed opening
-        (AreLeft P.Job (opened_as opening) (P.returns work.now) (P.took work.now) opening.riders)) }
+    ensures closed { IfOk result (IsClosed opening (AreLeft P.Job (opened_as opening) (is_some duty.cut_above)
+        (P.returns work.now) (P.took work.now) opening.riders)) }
 {
     let (log, riders) = Log::<L, P::Job>::open(alloc, seed, opening.journal, opening.stamp)?;
     let (out, riders) = run_all(rt, alloc, &log, riders, duty, work, device);
@@ -157,8 +161,8 @@ pub(crate) fn run_all<L: Realm + Send + Sync, R: Threads + Wait + Sync, P: Work<
     requires four { 4 ≤ length riders.items }
     requires duty { duty.frames ≡ log.now.sizes.frames }
     ensures kind { is_some result.0.1 ≡ is_some device }
-    ensures left { AreLeft P.Job log.now (P.returns work.now) (P.took work.now) (length riders.items)
-        result.0 result.1.items }
+    ensures left { AreLeft P.Job log.now (is_some duty.cut_above) (P.returns work.now) (P.took work.now)
+        (length riders.items) result.0 result.1.items }
 {
     let Some(crew) = CrewRiders::take_from(&mut riders) else {
         return ((Err(Fault::Size), device), riders);
@@ -173,11 +177,10 @@ pub(crate) fn run_all<L: Realm + Send + Sync, R: Threads + Wait + Sync, P: Work<
                 (riders_of crew) (riders_of result.0) result.2 × (is_some result.1 ≡ is_some device) }
         { serve_behind(rt, alloc, log, crew, duty, work, device, &stop) },
         || -> Result<Vec<Worked<L, P::Out>>, AllocError>
-            ensures { IfOk result
-                (λ worked. HaveWorked P.Job log.entry.now (P.returns work.entry.now) riders.items
-                worked.items) }
+            ensures { IfOk result (λ worked. HaveWorked P.Job log.entry.now (is_some duty.cut_above)
+                (P.returns work.entry.now) riders.items worked.items) }
         {
-            let worked = work_all(rt, alloc, log, riders, work, &stop);
+            let worked = work_all(rt, alloc, log, riders, duty, work, &stop);
             stop.give();
             worked
         },
@@ -224,32 +227,36 @@ fn work_all<L: Realm + Send + Sync, R: Threads + Wait + Sync, P: Work<R> + Sync>
     alloc: Global,
     log: &Log<L, P::Job>,
     riders: Vec<Rider<L>>,
+    duty: Duty,
     work: &P,
     stop: &Stop,
 ) -> Result<Vec<Worked<L, P::Out>>, AllocError>
-    ensures { IfOk result
-        (λ worked. HaveWorked P.Job log.now (P.returns work.now) riders.items worked.items) }
+    ensures { IfOk result (λ worked. HaveWorked P.Job log.now (is_some duty.cut_above)
+        (P.returns work.now) riders.items worked.items) }
 {
     let jobs = riders.into_iter().enumerate().collect::<Vec<_>>(alloc)?;
     thread::map_vec(
         rt,
         jobs,
         &|job: (usize, Rider<L>)| -> Worked<L, P::Out>
-            ensures { Tells P.Job log.entry.now true (P.returns work.entry.now job.0) job.1 result.1 result.0 }
-        { work_one(rt, log, job.1, job.0 as u64, work, stop) },
+            ensures { Tells P.Job log.entry.now true (is_some duty.cut_above) (P.returns work.entry.now job.0)
+                job.1 result.1 result.0 }
+        { work_one(rt, log, job.1, job.0 as u64, duty, work, stop) },
     )
 }
 
-// A thread's time in its session.
+// A thread's time in its session, which it leaves by tries if the duty cuts: others may fill the journal meanwhile.
 fn work_one<L: Realm + Send + Sync, R: Wait, P: Work<R>>(
     rt: &R,
     log: &Log<L, P::Job>,
     rider: Rider<L>,
     number: u64,
+    duty: Duty,
     work: &P,
     stop: &Stop,
 ) -> Worked<L, P::Out>
-    ensures { Tells P.Job log.now true (P.returns work.now number) rider result.1 result.0 }
+    ensures { Tells P.Job log.now true (is_some duty.cut_above) (P.returns work.now number)
+        rider result.1 result.0 }
 {
     let mut session = match Session::enter_with(rt, log, rider, Some(stop)) {
         Ok(session) => session,
@@ -259,7 +266,7 @@ fn work_one<L: Realm + Send + Sync, R: Wait, P: Work<R>>(
     // Of the session that `run` left no more is known than its type, and that says which log it is of.
     session.log().known();
     log.known();
-    match session.leave() {
+    match session.leave_by_tries(duty.cut_above().is_some()) {
         Ok(rider) => (Ok(out), rider),
         Err(Refused { fault, back }) => (Err(fault), back.abandon()),
     }

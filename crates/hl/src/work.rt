@@ -25,7 +25,8 @@ pub trait Work<R: Wait> {
     /// The same of the session of `finish`, and of what it returns, if anything.
     ghost finishes: { Self → SessionState → SessionState → Self.Out → Type 0 } = { λ _ _ _ _. ⊤ };
 
-    /// What the thread of this number does in its session; threads are counted from 0.
+    /// What the thread of this number does in its session; threads are counted from 0. The session is left for it then,
+    /// and if the journal is full and the duty cuts, it is cut for that.
     fn run<L: Realm + Send + Sync>(
         &self,
         rt: &R,

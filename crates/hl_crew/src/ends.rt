@@ -14,8 +14,8 @@ use hl_model::{Fault, Reply};
 use hl_words::{Realm, Rider};
 use std::sync::Wait;
 
-/// How often what ends something is tried again, while the journal is full and is cut.
-const ATTEMPTS: u64 = 1_000;
+/// How often what ends something is tried again, or a leave, while the journal is full and is cut.
+pub const ATTEMPTS: u64 = 1_000;
 
 /// That what was taken was ended, and the domain accepted it. Only [`Run::end_by`] makes one.
 #[derive(Drop)]
@@ -154,8 +154,8 @@ pub fn end_by_tries<R: Wait, E: Epochs + Drop, F: Task, P: Promise, L: Realm, X:
     what.end(rt, domain, rider)
 }
 
-// Whether what met this fault is to be tried again: the journal was full, and was cut, as it may be.
-fn make_room<R: Wait, E: Epochs + Drop, F: Task, P: Promise, L: Realm>(
+/// Whether what met this fault is to be tried again: the journal was full, and was cut, as it may be. Nothing else is cut.
+pub fn make_room<R: Wait, E: Epochs + Drop, F: Task, P: Promise, L: Realm>(
     rt: &R,
     domain: &Domain<E, F, P, L>,
     rider: &mut Rider<L>,

@@ -113,7 +113,7 @@ mod writer;
 pub use calls::{CrewEnd, run_crew};
 pub use crew::{Crew, CrewReport, CrewRiders};
 pub use duty::Duty;
-pub use ends::{Ends, end_by_tries};
+pub use ends::{ATTEMPTS, Ends, end_by_tries, make_room};
 pub use gate::{Gate, OpenGate};
 pub use limits::{Cuts, Limits};
 pub use pouch::Pouch;

@@ -100,7 +100,7 @@ impl<R: Wait + Clock + Print> Work<R> for Shared {
     ) -> Outcome<()> {
         let mut seat = Seat::new(rt, session, &self.store);
         seat.work(self, number)?;
-        // A session that finds no room in the journal when it is left loses its slot.
+        // So the leave has room at its first try, unless others fill the journal first.
         if !self.plan.images {
             seat.session.cut();
         }

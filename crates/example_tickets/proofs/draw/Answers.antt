@@ -4,4 +4,4 @@ use Rattle.example_tickets.proofs.draw.Goals as goal
 
 pub returns-clause-tickets : goal.returns-clause-tickets
 returns-clause-tickets g c =
-    tickets_left _ _ (of_sizes g.S.HasSizes.sizes_of c.args.opening) c.with_threads.result c.with_threads.ensures.closed
+    tickets_left _ _ _ (of_sizes g.S.HasSizes.sizes_of c.args.opening) c.with_threads.result c.with_threads.ensures.closed

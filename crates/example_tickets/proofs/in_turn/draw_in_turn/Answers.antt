@@ -15,5 +15,5 @@ returns g c =
     let ending_is : closed.ending ≡ Ok ending = search rules in
     let at : slice_get outs.items 0 ≡ Some (Ok (Some first)) = search rules in
     let also : slice_get outs.items 1 ≡ Some (Ok (Some second)) = search rules in
-    turns_left _ (of_sizes g.S.HasSizes.sizes_of c.args.opening) c.with_threads.result closed outs ending first second
+    turns_left _ _ (of_sizes g.S.HasSizes.sizes_of c.args.opening) c.with_threads.result closed outs ending first second
     opened outs_are ending_is at also (search rules) c.later_calls_begin.ensures c.with_threads.ensures.closed

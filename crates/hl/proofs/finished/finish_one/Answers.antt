@@ -2,11 +2,11 @@ use Rattle.std.proofs.Common.{rules, inr}
 use Rattle.hl.proofs.finished.finish_one.Goals as goal
 
 -- it entered and finished, and its leave was refused
-pub returns-in-Err-leave : goal.returns-in-Err-leave
-returns-in-Err-leave g c =
+pub returns-in-Err-leave_by_tries : goal.returns-in-Err-leave_by_tries
+returns-in-Err-leave_by_tries g c =
     inr (
       c.finish-out.result,
-      c.in-Err-leave.field-0.back,
+      c.in-Err-leave_by_tries.field-0.back,
       search rules,
       record {
         first = c.in-Ok.session;

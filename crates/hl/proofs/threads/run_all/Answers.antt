@@ -1,4 +1,5 @@
 use Rattle.std.proofs.Common.{rules, arith, ◌≡◌, ◌<◌, ◌++◌, map, length, refl, ◌∙◌}
+use Rattle.std.specs.Prelude.{is_some}
 use Rattle.std.specs.List.{AllByRecursion}
 use Rattle.std.proofs.lemmas.List.{length-map}
 use Rattle.hl_images.specs.Sweeps.{StoresSweep}
@@ -18,6 +19,7 @@ pub returns-in-Ok-gather_all-clause-left : goal.returns-in-Ok-gather_all-clause-
 returns-in-Ok-gather_all-clause-left g c =
     let Returns = g.P.Work.returns c.args.work.now in
     let log = c.args.log.now in
+    let may_cut = is_some c.args.duty.cut_above in
     let total = length c.args.riders.items in
     let worked = c.in-Ok.worked.items in
     let olds = c.take_from.new.riders.items in
@@ -25,13 +27,13 @@ returns-in-Ok-gather_all-clause-left g c =
     let crew = joined.0 in
     let back = riders_of crew in
     let Took = device_has (g.P.Work.took c.args.work.now) joined.1 in
-    let known : (length worked ≡ length olds) × AreReturned g.row.P-Job.Denot log Returns (rider_at olds) (map (λ one. one.0) worked) (map (λ one. one.1) worked) = search rules in
+    let known : (length worked ≡ length olds) × AreReturned g.row.P-Job.Denot log may_cut Returns (rider_at olds) (map (λ one. one.0) worked) (map (λ one. one.1) worked) = search rules in
     let riders : c.in-Ok-gather_all.all.1.items ≡ map (λ one. one.1) worked ++ back = search rules in
     let sweep_given : StoreSweeps log.sizes (riders_of c.in-Some.crew) = crew_given (StoresSweep log.sizes) (new_sweeps log.sizes) total c.args.riders.items olds (riders_of c.in-Some.crew) c.requires.new c.in-Some.ensures.taken in
     let none_given : AllByRecursion FlushesNone (riders_of c.in-Some.crew) = crew_given FlushesNone new_flushes total c.args.riders.items olds (riders_of c.in-Some.crew) c.requires.new c.in-Some.ensures.taken in
     let sweeps : StoreSweeps log.sizes back = search (rules, sweep_given) in
     let taken : AllByRecursion (FlushesTaken Took log.sizes) back = search (rules, none_given) in
-    let all : CountReturned g.row.P-Job.Denot log Returns Took total (map (λ one. one.0) worked) (map (λ one. one.1) worked ++ back) =
-    with_crew g.row.P-Job.Denot log Returns Took total c.args.riders.items olds (riders_of c.in-Some.crew) (map (λ one. one.0) worked) (map (λ one. one.1) worked) back c.requires.new c.in-Some.ensures.taken (length-map worked (λ one. one.0) ∙ known.0) (length-map worked (λ one. one.1) ∙ known.0) refl refl sweeps taken known.1 in
-    let here : CountReturned g.row.P-Job.Denot log Returns Took total (map (λ one. one.0) worked) c.in-Ok-gather_all.all.1.items = rw riders all in
-    gathered g.row.P-Job.Denot log Returns Took total joined.2 c.in-Ok-gather_all.all.0 (map (λ one. one.0) worked) c.in-Ok-gather_all.all.1.items (search rules) (search rules) (search rules) here
+    let all : CountReturned g.row.P-Job.Denot log may_cut Returns Took total (map (λ one. one.0) worked) (map (λ one. one.1) worked ++ back) =
+    with_crew g.row.P-Job.Denot log may_cut Returns Took total c.args.riders.items olds (riders_of c.in-Some.crew) (map (λ one. one.0) worked) (map (λ one. one.1) worked) back c.requires.new c.in-Some.ensures.taken (length-map worked (λ one. one.0) ∙ known.0) (length-map worked (λ one. one.1) ∙ known.0) refl refl sweeps taken known.1 in
+    let here : CountReturned g.row.P-Job.Denot log may_cut Returns Took total (map (λ one. one.0) worked) c.in-Ok-gather_all.all.1.items = rw riders all in
+    gathered g.row.P-Job.Denot log may_cut Returns Took total joined.2 c.in-Ok-gather_all.all.0 (map (λ one. one.0) worked) c.in-Ok-gather_all.all.1.items (search rules) (search rules) (search rules) here

@@ -8,6 +8,6 @@ use Rattle.hl.proofs.threads.with_threads.Goals as goal
 pub returns-clause-closed : goal.returns-clause-closed
 returns-clause-closed g c =
     let closed = c.in_ok-out.field-0 in
-    let told = subst (λ o. IsClosed o (AreLeft g.row.P-Job.Denot (opened_as o) (g.P.Work.returns c.args.work.now) (g.P.Work.took c.args.work.now) o.riders) closed) c.of_sizes.ensures c.in_ok-out.ensures.closed in
+    let told = subst (λ o. IsClosed o (AreLeft g.row.P-Job.Denot (opened_as o) (is_some c.args.duty.cut_above) (g.P.Work.returns c.args.work.now) (g.P.Work.took c.args.work.now) o.riders) closed) c.of_sizes.ensures c.in_ok-out.ensures.closed in
     let none : is_some closed.out.1 ≡ false = search rules in
-    record { riders = told.riders; left = left_without _ _ _ _ _ closed.out.0 closed.out.1 _ none told.left; ending = told.ending }
+    record { riders = told.riders; left = left_without _ _ _ _ _ _ closed.out.0 closed.out.1 _ none told.left; ending = told.ending }
