@@ -1,10 +1,11 @@
 -- What a session stores and loads of a record, word for word.
-use Rattle.std.proofs.Common.{◌≡◌, ◌≢◌, ℕ, suc, ◌+◌, ◌<◌, ◌≤◌, Bool, true, false, List, [], ◌∷◌, ◌++◌, length, take, set, get_or, refl, ap, sym, ◌∙◌, subst, arith, append_assoc, append-nil, inl, inr, Some, Ok, Err}
-use Rattle.std.specs.Prelude.{◌-◌, ◌==◌, if◌then◌else◌, nat_le, nat_lt, Option, None, Result, MatchResult}
+use Rattle.std.proofs.Common.{◌≡◌, ◌≢◌, ℕ, zero, suc, ◌+◌, ◌<◌, ◌≤◌, Bool, true, false, cond, List, [], ◌∷◌, ◌++◌, length, take, set, get_or, refl, ap, sym, ◌∙◌, subst, arith, append_assoc, append-nil, inl, inr, Some, Ok, Err}
+use Rattle.std.specs.Prelude.{◌-◌, ◌==◌, ◌⊎◌, ◌||◌, if◌then◌else◌, nat_le, nat_lt, Option, None, Result, MatchResult}
 use Rattle.std.proofs.lemmas.Bool.{eqb-true, le-ltb, lt-leb}
-use Rattle.std.specs.List.{AllByRecursion as Every}
+use Rattle.std.specs.List.{list_any, AllByRecursion as Every}
 use Rattle.std.proofs.Math.Seq.{take-suc, take-suc-set}
 use Rattle.std.proofs.lemmas.List.{length-append, length-take}
+use Rattle.std.proofs.lemmas.List.Folds.{list_any-append}
 use Rattle.hl_model.specs.declared.fault.Fault.{Fault}
 use Rattle.hl_model.specs.declared.step.Step.{Step}
 use Rattle.hl_model.specs.declared.step.Step.TheVariants.{Refresh, Write}
@@ -15,12 +16,14 @@ use Rattle.hl_words.specs.declared.view.Touch.TheVariants.{Stored}
 use Rattle.hl_words.specs.States.{RiderState}
 use Rattle.hl_model.specs.declared.fault.Fault.TheVariants.{Below, Beyond, Evicted, TouchesFull}
 use Rattle.hl_model.specs.Replies.{or_fault, unless_fault, unless_refused}
-use Rattle.hl_model.proofs.ListLaws.{all-append}
+use Rattle.hl_model.specs.Lists.{until_last}
+use Rattle.hl_model.proofs.ListLaws.{all-append, until_last-le}
+use Rattle.hl_laws.proofs.AppendLaws.{until_last-append}
 use Rattle.hl_laws.proofs.NoFaultLaws.{unless_err}
 use Rattle.hl_keeper.specs.Passes.{PassRecord, seen, cell_at, store_fault, load_fault, touch_fault, touches_most, with_store, with_load}
 use Rattle.hl_domain.specs.Domains.{DomainState, Refreshed}
 use Rattle.hl.specs.Sessions.{SessionState, with_pass}
-use Rattle.hl.specs.Records.{with_loads, entered_steps, own_steps, writes_in, writes_at, StoresOrRefreshes, touches_after, RefreshesIfFull, stores_in, stored_at, AreStored, RefusesStore}
+use Rattle.hl.specs.Records.{with_loads, entered_steps, own_steps, writes_in, writes_at, StoresOrRefreshes, is_refresh, touches_after, RefreshesIfFull, stores_in, stored_at, AreStored, RefusesStore}
 
 writes_in-append : (xs ys : List Step) → writes_in (xs ++ ys) ≡ writes_in xs ++ writes_in ys
 writes_in-append [] ys = refl
@@ -37,15 +40,75 @@ stored_at-append sizes a (x ∷ xs) ys before =
     let later = Stored (cell_at sizes a) x ∷ before in
     stored_at-append sizes (a + 1) xs ys later ∙ ap (λ n. stored_at sizes n ys (stored_at sizes (a + 1) xs later)) (omega arith)
 
+-- a list with an element at some place, where it is two lists: the place is in the one or in the other
+parts : (xs ys X : List Step) (z : Step) (Y : List Step) → xs ++ ys ≡ X ++ z ∷ Y → ((W : List Step) × (xs ≡ X ++ z ∷ W)) ⊎ ((W : List Step) × (X ≡ xs ++ W) × (ys ≡ W ++ z ∷ Y))
+parts [] ys X z Y e = inr (X, refl, e)
+parts (x ∷ xs) ys [] z Y e = let same : x ≡ z = cc e in inl (xs, ap (λ s. s ∷ xs) same)
+parts (x ∷ xs) ys (w ∷ X) z Y e = behind (parts xs ys X z Y (cc e))
+  where
+    first : x ≡ w
+    first = cc e
+
+    behind : ((W : List Step) × (xs ≡ X ++ z ∷ W)) ⊎ ((W : List Step) × (X ≡ xs ++ W) × (ys ≡ W ++ z ∷ Y)) → ((W : List Step) × (x ∷ xs ≡ (w ∷ X) ++ z ∷ W)) ⊎ ((W : List Step) × (w ∷ X ≡ (x ∷ xs) ++ W) × (ys ≡ W ++ z ∷ Y))
+    behind (inl (W, is)) = inl (W, ap (λ s. s ∷ xs) first ∙ ap (λ l. w ∷ l) is)
+    behind (inr (W, is, rest)) = inr (W, ap (λ s. s ∷ X) (sym first) ∙ ap (λ l. x ∷ l) is, rest)
+
+-- behind more steps without a refresh
+behind_none : (any : Bool) (n last xs ys all : ℕ) → all ≡ xs + ys → last ≤ xs → (if any then all - last else n + all) ≡ (if any then xs - last else n + xs) + ys
+behind_none true n last xs ys all long less = omega (arith, long, less)
+behind_none false n last xs ys all long less = omega (arith, long)
+
 touches_after-append : (n : ℕ) (xs ys : List Step) → touches_after n (xs ++ ys) ≡ touches_after (touches_after n xs) ys
-touches_after-append n [] ys = refl
-touches_after-append n (Refresh t ∷ xs) ys = touches_after-append 0 xs ys
-touches_after-append n (_ ∷ xs) ys = touches_after-append (n + 1) xs ys
+touches_after-append n xs ys = rw (list_any-append is_refresh xs ys, until_last-append is_refresh xs ys) (by_any (list_any is_refresh ys))
+  where
+    some : ℕ
+    some = until_last is_refresh ys
+
+    here : ℕ
+    here = until_last is_refresh xs
+
+    by_any : (late : Bool) → (if list_any is_refresh xs || late then length (xs ++ ys) - (cond late (length xs + some) here) else n + length (xs ++ ys))
+        ≡ (if late then length ys - some else touches_after n xs + length ys)
+    by_any true = by_early (list_any is_refresh xs)
+      where
+        by_early : (early : Bool) → (if early || true then length (xs ++ ys) - (length xs + some) else n + length (xs ++ ys)) ≡ length ys - some
+        by_early true = omega (arith, length-append xs ys)
+        by_early false = omega (arith, length-append xs ys)
+    by_any false = by_early (list_any is_refresh xs) refl
+      where
+        by_early : (early : Bool) → list_any is_refresh xs ≡ early → (if early || false then length (xs ++ ys) - here else n + length (xs ++ ys)) ≡ touches_after n xs + length ys
+        by_early true h = behind_none true n here (length xs) (length ys) (length (xs ++ ys)) (length-append xs ys) (until_last-le is_refresh xs) ∙ sym (ap (λ b. cond b (length xs - here) (n + length xs) + length ys) h)
+        by_early false h = behind_none false n here (length xs) (length ys) (length (xs ++ ys)) (length-append xs ys) (until_last-le is_refresh xs) ∙ sym (ap (λ b. cond b (length xs - here) (n + length xs) + length ys) h)
 
 if_full-append : (n : ℕ) (xs ys : List Step) → RefreshesIfFull n xs → RefreshesIfFull (touches_after n xs) ys → RefreshesIfFull n (xs ++ ys)
-if_full-append n [] ys x y = y
-if_full-append n (Refresh t ∷ xs) ys x y = (x.0, if_full-append 0 xs ys x.1 y)
-if_full-append n (_ ∷ xs) ys x y = if_full-append (n + 1) xs ys x y
+if_full-append n xs ys x y X t Y e = by_part (parts xs ys X (Refresh t) Y e)
+  where
+    by_part : ((W : List Step) × (xs ≡ X ++ Refresh t ∷ W)) ⊎ ((W : List Step) × (X ≡ xs ++ W) × (ys ≡ W ++ Refresh t ∷ Y)) → touches_after n X ≡ touches_most
+    by_part (inl (W, is)) = x X t W is
+    by_part (inr (W, is, rest)) = ap (touches_after n) is ∙ touches_after-append n xs W ∙ y W t Y rest
+
+-- one step alone, which is a refresh only where there was no room
+one_full : (n : ℕ) (s : Step) → ((t : ℕ) → s ≡ Refresh t → n ≡ touches_most) → RefreshesIfFull n (s ∷ [])
+unfolding until_last
+one_full n s full [] t Y e = omega (arith, full t (cc e))
+one_full n s full (x ∷ []) t Y e = cc e
+one_full n s full (x ∷ (y ∷ X)) t Y e = cc e
+
+none_full : (n : ℕ) → RefreshesIfFull n []
+none_full n [] t Y e = cc e
+none_full n (x ∷ X) t Y e = cc e
+
+after_none : (n : ℕ) → touches_after n [] ≡ n
+unfolding until_last
+after_none n = omega arith
+
+after_write : (n t a v : ℕ) → touches_after n (Write t a v ∷ []) ≡ n + 1
+unfolding until_last
+after_write n t a v = refl
+
+after_refresh : (n t : ℕ) → touches_after n (Refresh t ∷ []) ≡ 0
+unfolding until_last
+after_refresh n t = refl
 
 -- a store is refused for want of room only where there is none
 is_full : (p : PassRecord) (a : ℕ) → store_fault p a ≡ Some TouchesFull → length p.touches ≡ touches_most
@@ -68,8 +131,8 @@ none_stored sizes a p q same = record {
   steps = ap own_steps same ∙ sym (append-nil (own_steps p));
   kinds = tt;
   writes = refl;
-  full = tt;
-  touches = ap (λ (z : PassRecord). length z.touches) same;
+  full = none_full (length p.touches);
+  touches = ap (λ (z : PassRecord). length z.touches) same ∙ sym (after_none (length p.touches));
   cells = ap (λ (z : PassRecord). stores_in z.rider.view.touches) same;
 }
 
@@ -82,8 +145,8 @@ one_stored sizes a v p q is = record {
   steps = ap own_steps is ∙ sym (append_assoc (entered_steps p.rider.calls) p.touches (Write p.slot a v ∷ []));
   kinds = (inl (a, v, refl), tt);
   writes = refl;
-  full = tt;
-  touches = ap (λ (z : PassRecord). length z.touches) is ∙ length-append p.touches (Write p.slot a v ∷ []);
+  full = one_full (length p.touches) (Write p.slot a v) (λ t e. cc e);
+  touches = ap (λ (z : PassRecord). length z.touches) is ∙ length-append p.touches (Write p.slot a v ∷ []) ∙ sym (after_write (length p.touches) p.slot a v);
   cells = ap (λ (z : PassRecord). stores_in z.rider.view.touches) is;
 }
 
@@ -100,8 +163,8 @@ refreshed log sizes a p q view none r =
           ∙ sym (append_assoc (entered_steps p.rider.calls) p.touches (Refresh p.slot ∷ []));
       kinds = (inr refl, tt);
       writes = refl;
-      full = (is_full p a none, tt);
-      touches = ap length touches;
+      full = one_full (length p.touches) (Refresh p.slot) (λ t e. is_full p a none);
+      touches = ap length touches ∙ sym (after_refresh (length p.touches) p.slot);
       cells = ap (λ (z : RiderState). stores_in z.view.touches) entered;
     }
 

@@ -1,10 +1,11 @@
 -- What a session does with a whole record: it places and stores one, or loads one.
-use Rattle.std.specs.Prelude.{◌≡◌, ◌≢◌, ◌⊎◌, ⊤, ℕ, ◌+◌, ◌-◌, ◌<◌, ◌≤◌, nat_lt, if◌then◌else◌, Bool, Option, Some, None, Result, Ok, Err, MatchResult, List, [], ◌∷◌, ◌++◌, length, take}
-use Rattle.std.specs.List.{AllByRecursion}
+use Rattle.std.specs.Prelude.{◌≡◌, ◌≢◌, ◌⊎◌, ⊤, ℕ, ◌+◌, ◌-◌, ◌<◌, ◌≤◌, nat_lt, if◌then◌else◌, Bool, true, false, Option, Some, None, Result, Ok, Err, MatchResult, List, [], ◌∷◌, ◌++◌, length, take}
+use Rattle.std.specs.List.{AllByRecursion, list_any}
 use Rattle.hl_model.specs.declared.fault.Fault.{Fault}
 use Rattle.hl_model.specs.declared.fault.Fault.TheVariants.{Below, Beyond, Evicted, TouchesFull}
 use Rattle.hl_model.specs.declared.step.Step.{Step}
 use Rattle.hl_model.specs.declared.step.Step.TheVariants.{Allocate, Refresh, Write}
+use Rattle.hl_model.specs.Lists.{until_last}
 use Rattle.hl_model.specs.Offsets.{place_of, tail}
 use Rattle.hl_model.specs.Sizes.{Sizes}
 use Rattle.hl_history.specs.declared.view.Entry.{Entry}
@@ -51,17 +52,21 @@ writes_at t a (w ∷ ws) = Write t a w ∷ writes_at t (a + 1) ws
 abbrev pub StoresOrRefreshes : ℕ → Step → Type 0
 StoresOrRefreshes t step = ((a : ℕ) × (v : ℕ) × (step ≡ Write t a v)) ⊎ (step ≡ Refresh t)
 
--- how many touches a pass has after these steps of its slot, if it had so many before
+-- a refresh
+abbrev pub is_refresh : Step → Bool
+is_refresh (Refresh t) = true
+is_refresh _ = false
+
+-- how many touches a pass has after these steps of its slot, if it had so many before: the steps behind the last refresh, or
+-- all of them and those that it had
 abbrev pub touches_after : ℕ → List Step → ℕ
-touches_after n [] = n
-touches_after n (Refresh t ∷ steps) = touches_after 0 steps
-touches_after n (step ∷ steps) = touches_after (n + 1) steps
+touches_after n steps =
+    if list_any is_refresh steps then length steps - until_last is_refresh steps else n + length steps
 
 -- a pass that had so many touches made these steps, and each refresh among them when it had no room for one more
 abbrev pub RefreshesIfFull : ℕ → List Step → Type 0
-RefreshesIfFull n [] = ⊤
-RefreshesIfFull n (Refresh t ∷ steps) = (n ≡ touches_most) × RefreshesIfFull 0 steps
-RefreshesIfFull n (step ∷ steps) = RefreshesIfFull (n + 1) steps
+RefreshesIfFull n steps = (X : List Step) (t : ℕ) (Y : List Step) → steps ≡ X ++ Refresh t ∷ Y
+    → touches_after n X ≡ touches_most
 
 -- the stores into cells among these touches, of which the newest stands first
 abbrev pub stores_in : List Touch → List Touch
