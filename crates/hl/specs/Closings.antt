@@ -79,7 +79,8 @@ abbrev pub HaveWorked : {Out : Type 0} → (F : Type 0) → DomainState → Bool
     → (ℕ → SessionState → SessionState → Out → Type 0) → List RiderState
     → List (Result Out Fault × RiderState) → Type 0
 HaveWorked F log may_cut Returns olds worked = (length worked ≡ length olds)
-    × AreReturned F log may_cut Returns (rider_at olds) (map (λ one. one.0) worked) (map (λ one. one.1) worked)
+    × AreReturned F log may_cut Returns (rider_at olds)
+    (map (λ one. one.0) worked) (map (λ one. one.1) worked)
 
 -- each page that the rider answered as flushed it had copied, and this holds of the image of just these words
 abbrev pub FlushesTaken : (ℕ → List ℕ → Type 0) → Sizes → RiderState → Type 0

@@ -44,7 +44,8 @@ module _ {Out : Type 0} (F : Type 0) (o : Opening Sizes) (Returns : ℕ → Sess
     pub count : ℕ
     pub others : count + 1 ≡ o.riders
     pub riders : List RiderState
-    pub returned : CountReturned F (opened_as o) true Returns Took count (map (λ out. Ok out) finished.outs.items) riders
+    pub returned : CountReturned F (opened_as o) true Returns Took count
+        (map (λ out. Ok out) finished.outs.items) riders
     pub finish : IsFinish F (opened_as o) Finishes riders (new_rider count) finished
 
   -- of the threads' results the first that is a fault is this one

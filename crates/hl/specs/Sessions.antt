@@ -55,11 +55,13 @@ Entered F log rider result =
     (λ A. pass_after old (least_free old.core.sizes A) (seated result) A))
 
 -- a session that has this rider by now was asked to end, and answered as a release of its slot does; this is its rider then
-abbrev pub LeavesWith : (F : Type 0) → SessionState → Result RiderState Fault → RiderState → RiderState → Type 0
+abbrev pub LeavesWith : (F : Type 0) → SessionState → Result RiderState Fault → RiderState → RiderState
+    → Type 0
 LeavesWith F session result old new =
     let p = with_rider old session.pass in
     MakesUnderLock F session.log (pass_call p (Release p.slot) new) result
-    (λ keeper. MakesTouched keeper p (Release p.slot) (λ A. call_fault keeper A p (Release p.slot)) (λ A. new))
+    (λ keeper. MakesTouched keeper p (Release p.slot)
+    (λ A. call_fault keeper A p (Release p.slot)) (λ A. new))
 
 -- a session was asked to end, and answered so
 abbrev pub Left : (F : Type 0) → SessionState → Result RiderState (Refused SessionState) → Type 0
