@@ -1,6 +1,5 @@
 //! A device in memory: a ring of places for the images of pages, which any thread reads back without a lock.
-use hl::Fault;
-use std::alloc::Global;
+use std::alloc::{AllocError, Global};
 use std::sync::OnceLock;
 use std::sync::atomic::AtomicU64;
 use std::sync::atomic::Ordering::SeqCst;
@@ -14,39 +13,30 @@ pub(crate) const PLACES: u64 = 1 << 13;
 /// A place's first word is 1 + the number of its page, or 0 while one is written; the page's words follow.
 #[derive(Drop)]
 pub(crate) struct Device {
-    alloc: Global,
     places: Vec<OnceLock<Vec<AtomicU64>>>,
-    /// How many pages were written.
-    pub(crate) written: AtomicU64,
-    /// The first page that is still wanted: the place of an earlier one may be written again.
+    /// Where the first page begins that is still wanted: the place of an earlier one may be written again.
     pub(crate) first: AtomicU64,
 }
 
 impl Device {
     /// An empty device.
-    pub(crate) fn open(alloc: Global) -> Result<Device, Fault> {
-        let mut places = Vec::new(alloc);
-        for _ in 0..PLACES {
-            let place = OnceLock::new();
-            places.push(place).map_err(|_| Fault::OutOfMemory)?;
-        }
+    pub(crate) fn open(alloc: Global) -> Result<Device, AllocError> {
         Ok(Device {
-            alloc,
-            places,
-            written: AtomicU64::new(0),
+            places: (0..PLACES).map(|_| OnceLock::new()).collect(alloc)?,
             first: AtomicU64::new(0),
         })
     }
 
     /// Keeps the image of a page, which has 8 bytes for its number and for each word, if there is room.
     pub(crate) fn write(&self, page: u64, image: &[u8]) -> Option<()> {
-        if self.first.load(SeqCst).saturating_add(PLACES) <= page {
+        if self.first.load(SeqCst) / PAGE_SIZE + PLACES <= page {
             return None;
         }
         let place = self.places.get((page % PLACES) as usize)?;
         // Two writers are never at one place.
         if place.get().is_none() {
-            place.try_set(zeros(self.alloc, PAGE_SIZE + 1).ok()?).ok()?;
+            let words = zeros(*self.places.allocator(), PAGE_SIZE + 1).ok()?;
+            place.try_set(words).ok()?;
         }
         let (number, words) = place.get()?.split_first()?;
         number.store(0, SeqCst);
@@ -54,7 +44,6 @@ impl Device {
             word.store(u64::from_be_bytes(bytes.try_into().ok()?), SeqCst);
         }
         number.store(page.saturating_add(1), SeqCst);
-        self.written.fetch_add(1, SeqCst);
         Some(())
     }
 
@@ -69,11 +58,6 @@ impl Device {
 }
 
 /// So many words, each 0.
-pub(crate) fn zeros(alloc: Global, count: u64) -> Result<Vec<AtomicU64>, Fault> {
-    let mut words = Vec::new(alloc);
-    for _ in 0..count {
-        let word = AtomicU64::new(0);
-        words.push(word).map_err(|_| Fault::OutOfMemory)?;
-    }
-    Ok(words)
+pub(crate) fn zeros(alloc: Global, count: u64) -> Result<Vec<AtomicU64>, AllocError> {
+    (0..count).map(|_| AtomicU64::new(0)).collect(alloc)
 }

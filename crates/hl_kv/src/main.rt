@@ -13,28 +13,26 @@ mod images;
 mod store;
 mod work;
 
-use device::PAGE_SIZE;
 use hl::Config;
-use std::io::Write;
 use std::process::ExitCode;
 use std::{env, io};
 use work::Plan;
 
-const USAGE: &[u8] =
-    b"usage: hl_kv THREADS SECONDS [--reads PERCENT] [--zipf] [--keys N] [--frames F] [--compare] [--images]\n";
+const USAGE: &str =
+    "usage: hl_kv THREADS SECONDS [--reads PERCENT] [--zipf] [--keys N] [--frames F] [--compare] [--images]";
 
 fn main(rt: HostRuntime) -> io::Result<ExitCode> {
     let words = env::args(&rt)?.collect::<Vec<String>>(rt.alloc())?;
     let Some(plan) = plan_of(&words) else {
-        rt.stderr().write_all(USAGE)?;
+        eprintln!(rt; "{USAGE}")?;
         return Ok(ExitCode::from(2));
     };
     if let Some(number) = plan.config.out_of_range() {
-        writeln!(rt.stderr(), "hl_kv: {number}")?;
+        eprintln!(rt; "hl_kv: {number}")?;
         return Ok(ExitCode::from(2));
     }
     if let Err(trouble) = work::run(&rt, rt.alloc(), plan) {
-        println!(rt; "{trouble:?}")?;
+        println!(rt; "{trouble}")?;
         return Ok(ExitCode::from(1));
     }
     Ok(ExitCode::from(0))
@@ -43,10 +41,7 @@ fn main(rt: HostRuntime) -> io::Result<ExitCode> {
 // The plan that the program's words ask for; `None` if they ask for something else.
 fn plan_of(words: &[String]) -> Option<Plan> {
     let mut plan = Plan {
-        config: Config {
-            page_size: PAGE_SIZE,
-            ..Config::for_threads(words.get(1)?.parse().ok()?)
-        },
+        config: Config::for_threads(words.get(1)?.parse().ok()?),
         seconds: words.get(2)?.parse().ok()?,
         reads: 50,
         by_zipf: false,
@@ -59,7 +54,12 @@ fn plan_of(words: &[String]) -> Option<Plan> {
         match option.as_str() {
             "--zipf" => plan.by_zipf = true,
             "--compare" => plan.compares = plan.config.threads == 1,
-            "--images" => plan.images = true,
+            "--images" => {
+                plan.images = true;
+                plan.seconds = 0;
+                // Room for twice as many steps as they make, since the crew cuts above the half.
+                plan.config.journal = 1 << 22;
+            }
             "--reads" => plan.reads = rest.next()?.parse().ok()?,
             "--keys" => plan.keys = rest.next()?.parse().ok()?,
             "--frames" => plan.config = plan.config.with_frames(rest.next()?.parse().ok()?),

@@ -1,7 +1,8 @@
 //! The threads that use the store, and what they check.
 use crate::device::{PAGE_SIZE, zeros};
 use crate::images;
-use crate::store::{Operation, Outcome, Seat, Store, Trouble};
+use crate::store::{Operation, Seat, Store};
+use anyhow::{Result, ensure};
 use hl::{ArrayVec, Config, Fault, Holder, NoJob, Realm, Session, Work, run_threads};
 use rand::distr::Distribution;
 use rand::distr::weighted::WeightedIndex;
@@ -13,12 +14,16 @@ use std::sync::atomic::AtomicU64;
 use std::sync::atomic::Ordering::SeqCst;
 use std::thread::Threads;
 use std::time::{Clock, Instant};
+use std::{io, mem};
 
 /// How many operations a thread makes before it looks at the clock.
 const BATCH: u64 = 4096;
 
+/// How many batches a thread makes where the images are compared.
+const BATCHES: u64 = 16;
+
 /// How many keys are drawn by Zipf's law before the threads start, and then used over and over.
-const DRAWS: u64 = 1 << 20;
+const DRAWS: usize = 1 << 20;
 
 /// What the program is to do.
 #[derive(Clone, Copy)]
@@ -36,73 +41,81 @@ pub(crate) struct Plan {
     pub(crate) images: bool,
 }
 
-/// How many batches a thread makes where the images are compared.
-const BATCHES: u64 = 16;
-
-/// How many steps the journal has room for then: twice as many as they make, since the crew cuts above the half.
-const WHOLE_JOURNAL: u64 = 1 << 22;
-
 // What the threads share. The keys below `plan.keys` are counters; those above are marks, one of each thread.
 #[derive(Drop)]
 struct Shared {
-    alloc: Global,
     plan: Plan,
     store: Store,
-    // Keys by Zipf's law; none if each is drawn as often.
-    drawn: Vec<u64>,
+    // Keys by Zipf's law, if they are drawn so.
+    drawn: Option<Vec<u64>>,
     // What the threads that have ended added to each counter, by their own account.
     sums: Vec<AtomicU64>,
     operations: AtomicU64,
     copies: AtomicU64,
 }
 
-/// Runs the plan.
+/// Runs the plan, and prints what was right.
 pub(crate) fn run<R: Threads + Wait + Clock + Print + Sync>(
     rt: &R,
     alloc: Global,
     plan: Plan,
-) -> Outcome<()> {
+) -> Result<()> {
     let shared = Shared {
-        alloc,
         plan,
         store: Store::open(alloc, plan.keys)?,
-        drawn: zipf_row(alloc, if plan.by_zipf { plan.keys } else { 0 })?,
+        drawn: plan.by_zipf.then(|| zipf(alloc, plan.keys)).transpose()?,
         sums: zeros(alloc, plan.keys)?,
         operations: AtomicU64::new(0),
         copies: AtomicU64::new(0),
     };
-    let mut config = plan.config;
-    if plan.images {
-        config.journal = WHOLE_JOURNAL;
+    let finished = run_threads(rt, alloc, plan.config, &shared)?;
+    let mut ended = finished.outs.into_iter().chain(finished.last);
+    ended.try_for_each(|outcome| outcome)?;
+    println!(rt; "checked {} counters", plan.keys)?;
+    if let Some(pace) = shared.operations.load(SeqCst).checked_div(plan.seconds) {
+        println!(rt; "operations a second {pace}")?;
     }
-    let finished = run_threads(rt, alloc, config, &shared)?;
-    for ended in finished.outs {
-        ended?;
-    }
     if plan.images {
-        let words = images::compare(alloc, &shared.store.device, &finished.ending)?;
+        let words = images::compare(&shared.store.device, &finished.ending)?;
         let pages = finished.ending.snapshot.six.flushed / PAGE_SIZE;
-        println!(rt; "checked {words} words of {pages} images").map_err(|_| Fault::Stream)?;
+        println!(rt; "checked {words} words of {pages} images")?;
     }
-    finished.last.unwrap_or(Ok(()))
+    Ok(())
 }
 
 impl<R: Wait + Clock + Print> Work<R> for Shared {
     type Job = NoJob;
 
-    type Out = Outcome<()>;
+    type Out = Result<()>;
 
+    // What a thread does until its time is over.
     fn run<L: Realm + Send + Sync>(
         &self,
         rt: &R,
         session: &mut Session<R, L>,
         number: u64,
-    ) -> Outcome<()> {
-        let mut seat = Seat::new(rt, session, &self.store);
-        seat.work(self, number)?;
-        // So the leave has room at its first try, unless others fill the journal first.
-        if !self.plan.images {
-            seat.session.cut();
+    ) -> Result<()> {
+        let mut seat = Seat::new(session, &self.store);
+        let mut sums = vec![in *self.sums.allocator(); 0; self.sums.len()]?;
+        let mut random = SmallRng::seed_from_u64(number);
+        let mark = self.plan.keys.saturating_add(number);
+        let start = Instant::now(rt)?;
+        let mut told = 0;
+        for batch in 1..u64::MAX {
+            seat.batch(self, &mut random, &mut sums)?;
+            seat.apply(mark, Operation::Upsert(batch))?;
+            seat.expect(mark, batch)?;
+            let second = start.elapsed(rt)?.as_secs();
+            if told < second && number == 0 {
+                seat.report(rt, self, second)?;
+            }
+            told = second;
+            if self.plan.seconds <= second && (!self.plan.images || BATCHES <= batch) {
+                break;
+            }
+        }
+        for (all, own) in self.sums.iter().zip(sums.iter()) {
+            all.fetch_add(*own, SeqCst);
         }
         Ok(())
     }
@@ -110,11 +123,10 @@ impl<R: Wait + Clock + Print> Work<R> for Shared {
     // Reads what all have left.
     fn finish<L: Realm + Send + Sync>(
         &self,
-        rt: &R,
+        _rt: &R,
         session: &mut Session<R, L>,
-    ) -> Option<Outcome<()>> {
-        let mut seat = Seat::new(rt, session, &self.store);
-        Some(seat.check(self))
+    ) -> Option<Result<()>> {
+        Some(Seat::new(session, &self.store).check(&self.sums))
     }
 
     fn write_page(&self, _rt: &R, page: u64, image: &[u8]) -> bool {
@@ -122,110 +134,57 @@ impl<R: Wait + Clock + Print> Work<R> for Shared {
     }
 }
 
-impl Shared {
-    // Prints that all was right, and how many operations a second the threads made.
-    fn tell_end(&self, rt: &impl Print) -> std::io::Result<()> {
-        println!(rt; "checked {} counters", self.plan.keys)?;
-        match self.operations.load(SeqCst).checked_div(self.plan.seconds) {
-            Some(pace) => println!(rt; "operations a second {pace}"),
-            None => Ok(()),
-        }
-    }
-}
-
-impl<'a, 'b, R: Wait + Clock + Print, L: Realm> Seat<'a, 'b, R, L> {
-    // Compares each counter with what the threads added to it, and prints that all was right.
-    fn check(&mut self, shared: &Shared) -> Outcome<()> {
-        for (key, sum) in shared.sums.iter().enumerate() {
-            self.expect(key as u64, sum.load(SeqCst))?;
-        }
-        shared.tell_end(self.rt).map_err(|_| Fault::Stream)?;
-        Ok(())
-    }
-
-    // What a thread does until its time is over.
-    fn work(&mut self, shared: &Shared, number: u64) -> Outcome<()> {
-        let sums = vec![in shared.alloc; 0; shared.sums.len()];
-        let mut sums = sums.map_err(|_| Fault::OutOfMemory)?;
-        let start = Instant::now(self.rt).map_err(|_| Fault::Stream)?;
-        let mut random = SmallRng::seed_from_u64(number);
-        let mark = shared.plan.keys.saturating_add(number);
-        let mut told = 0;
-        for batch in 1..u64::MAX {
-            self.batch(shared, &mut random, &mut sums)?;
-            self.apply(mark, Operation::Upsert(batch))?;
-            self.expect(mark, batch)?;
-            let elapsed = start.elapsed(self.rt).map_err(|_| Fault::Stream)?;
-            let second = elapsed.as_secs();
-            if told < second && number == 0 {
-                self.report(shared, second).map_err(|_| Fault::Stream)?;
-            }
-            told = second;
-            let is_over = if shared.plan.images {
-                BATCHES <= batch
-            } else {
-                shared.plan.seconds <= second
-            };
-            if is_over {
-                break;
-            }
-        }
-        for (all, own) in shared.sums.iter().zip(sums.iter()) {
-            all.fetch_add(*own, SeqCst);
-        }
-        Ok(())
-    }
-
+impl<'a, 'b, R: Wait + Print, L: Realm> Seat<'a, 'b, R, L> {
     // Reads counters, and adds to them. Only a thread that is alone may upsert one: the others sum up what they added.
-    fn batch(&mut self, shared: &Shared, random: &mut SmallRng, sums: &mut [u64]) -> Outcome<()> {
+    fn batch(&mut self, shared: &Shared, random: &mut SmallRng, sums: &mut [u64]) -> Result<()> {
         let plan = &shared.plan;
-        let copied = self.copies;
         for _ in 0..BATCH {
             self.make_room()?;
-            let key = draw_key(random, &shared.drawn, plan.keys.saturating_sub(1));
+            let key = match &shared.drawn {
+                Some(row) => row.choose(random).copied().unwrap_or(0),
+                None => random.random_range(0..=plan.keys.saturating_sub(1)),
+            };
             let value = random.random_range(0..1000u64);
             let sum = sums.get_mut(key as usize).ok_or(Fault::Size)?;
-            if plan.reads <= random.random_range(0..100u64) {
-                let is_upsert = plan.compares && value < 500;
-                let operation = if is_upsert {
-                    Operation::Upsert(value)
-                } else {
-                    Operation::Add(value)
-                };
-                self.apply(key, operation)?;
-                *sum = if is_upsert {
-                    value
-                } else {
-                    sum.wrapping_add(value)
-                };
-            } else if plan.compares {
+            let is_read = random.random_range(0..100u64) < plan.reads;
+            if is_read && plan.compares {
                 self.expect(key, *sum)?;
-            } else {
+            } else if is_read {
                 self.apply(key, Operation::Read)?;
+            } else if plan.compares && value < 500 {
+                self.apply(key, Operation::Upsert(value))?;
+                *sum = value;
+            } else {
+                self.apply(key, Operation::Add(value))?;
+                *sum = sum.wrapping_add(value);
             }
         }
         shared.operations.fetch_add(BATCH, SeqCst);
-        let copies = self.copies.saturating_sub(copied);
-        shared.copies.fetch_add(copies, SeqCst);
+        shared.copies.fetch_add(mem::take(&mut self.copies), SeqCst);
+        Ok(())
+    }
+
+    // Compares each counter with what the threads added to it.
+    fn check(&mut self, sums: &[AtomicU64]) -> Result<()> {
+        for (sum, key) in sums.iter().zip(0u64..) {
+            self.expect(key, sum.load(SeqCst))?;
+        }
         Ok(())
     }
 
     // Reads a key, which has to hold what is due. A key without a value holds 0.
-    fn expect(&mut self, key: u64, due: u64) -> Outcome<()> {
+    fn expect(&mut self, key: u64, due: u64) -> Result<()> {
         let held = self.apply(key, Operation::Read)?.unwrap_or(0);
-        if held == due {
-            return Ok(());
-        }
-        Err(Trouble::Differs { key, held, due })
+        ensure!(held == due, "key {key} holds {held}, not {due}");
+        Ok(())
     }
 
     // Prints what the threads have done so far, how many frames are free, and which slots hold up the oldest action.
-    fn report(&self, shared: &Shared, second: u64) -> std::io::Result<()> {
-        let rt = self.rt;
+    fn report(&self, rt: &R, shared: &Shared, second: u64) -> io::Result<()> {
         let operations = shared.operations.load(SeqCst);
         let copies = shared.copies.load(SeqCst);
-        let written = self.store.device.written.load(SeqCst);
-        let free = self.session.log().snapshot(rt).0.frames[4];
+        let now = self.session.log().snapshot(rt).0;
+        let (written, free) = (now.six.flushed / PAGE_SIZE, now.frames[4]);
         print!(rt; "{second} operations {operations} copies {copies}")?;
         print!(rt; " written {written} free {free}")?;
         let mut holders = ArrayVec::<Holder, 64>::new();
@@ -239,29 +198,11 @@ impl<'a, 'b, R: Wait + Clock + Print, L: Realm> Seat<'a, 'b, R, L> {
     }
 }
 
-// Keys below `count` by Zipf's law: key k has the weight 1 / (k + 1)^0.99. None if `count` is 0.
-fn zipf_row(alloc: Global, count: u64) -> Result<Vec<u64>, Fault> {
-    let (mut weights, mut drawn) = (Vec::new(alloc), Vec::new(alloc));
-    if count == 0 {
-        return Ok(drawn);
-    }
-    for key in 0..count {
-        let weight = 1.0 / nearest_u64_to_f64(key + 1).powf(0.99);
-        weights.push(weight).map_err(|_| Fault::OutOfMemory)?;
-    }
-    let law = WeightedIndex::new(alloc, weights.as_slice()).map_err(|_| Fault::OutOfMemory)?;
-    let mut random = SmallRng::seed_from_u64(count);
-    for _ in 0..DRAWS {
-        let key = law.sample(&mut random) as u64;
-        drawn.push(key).map_err(|_| Fault::OutOfMemory)?;
-    }
-    Ok(drawn)
-}
-
-// A key of the row; if that is empty, one up to `last`.
-fn draw_key(random: &mut SmallRng, row: &[u64], last: u64) -> u64 {
-    match row.choose(random) {
-        Some(key) => *key,
-        None => random.random_range(0..=last),
-    }
+// Keys by Zipf's law: the one of rank r has the weight 1 / r^0.99.
+fn zipf(alloc: Global, keys: u64) -> Result<Vec<u64>> {
+    let weights = (1..=keys).map(|rank| 1.0 / nearest_u64_to_f64(rank).powf(0.99));
+    let weights = weights.collect::<Vec<f64>>(alloc)?;
+    let law = WeightedIndex::new(alloc, weights.as_slice())?;
+    let drawn = law.sample_iter(SmallRng::seed_from_u64(keys)).take(DRAWS);
+    Ok(drawn.map(|key| key as u64).collect(alloc)?)
 }
