@@ -52,6 +52,51 @@ fn a_work_finishes_once_and_after_its_threads(rt: HostRuntime) -> Result<(), Fai
     Ok(())
 }
 
+// What finishes leaves no room in the journal, with no crew beside it that cuts.
+#[derive(Drop)]
+struct Fills;
+
+impl<R: Wait> Work<R> for Fills {
+    type Job = NoJob;
+
+    type Out = bool;
+
+    fn run<L: Realm + Send + Sync>(
+        &self,
+        _rt: &R,
+        _session: &mut Session<R, L>,
+        _number: u64,
+    ) -> bool {
+        false
+    }
+
+    fn finish<L: Realm + Send + Sync>(&self, _rt: &R, session: &mut Session<R, L>) -> Option<bool> {
+        for _ in 0..64 {
+            if session.refresh() == Err(Fault::JournalFull) {
+                return Some(true);
+            }
+        }
+        None
+    }
+
+    fn write_page(&self, _rt: &R, _page: u64, _image: &[u8]) -> bool {
+        true
+    }
+}
+
+#[test]
+fn a_session_that_filled_the_journal_is_left(rt: HostRuntime) -> Result<(), Fail> {
+    let config = Config {
+        page_size: 4,
+        journal: 32,
+        ..Config::for_threads(1).with_frames(2)
+    };
+    let finished = run_threads(&rt, rt.alloc(), config, &Fills)?;
+    assert_eq!(rt; finished.last, Some(true));
+    assert_eq!(rt; finished.ending.journal.len(), 1);
+    Ok(())
+}
+
 #[test]
 fn a_number_out_of_its_range_is_displayed_with_it(rt: HostRuntime) -> Result<(), Fail> {
     let config = Config::for_threads(4).with_frames(1);
