@@ -218,8 +218,12 @@ impl<'a, 'b, R: Wait, L: Realm> Seat<'a, 'b, R, L> {
             return Ok(self.session.append(&record)?.saturating_add(1));
         }
         for (word, at) in record.into_iter().zip(0u64..) {
-            self.session.keep_up()?;
-            self.session.store(address.saturating_add(at), word)?;
+            let place = address.saturating_add(at);
+            if self.session.store(place, word).is_err() {
+                // There may have been no room for a touch.
+                self.session.refresh()?;
+                self.session.store(place, word)?;
+            }
         }
         Ok(address.saturating_add(1))
     }

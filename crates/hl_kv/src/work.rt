@@ -146,11 +146,10 @@ impl<'a, 'b, R: Wait + Print, L: Realm> Seat<'a, 'b, R, L> {
             };
             let value = random.random_range(0..1000u64);
             let sum = sums.get_mut(key as usize).ok_or(Fault::Size)?;
-            let is_read = random.random_range(0..100u64) < plan.reads;
-            if is_read && plan.compares {
-                self.expect(key, *sum)?;
-            } else if is_read {
-                self.apply(key, Operation::Read)?;
+            if random.random_range(0..100u64) < plan.reads {
+                let held = self.apply(key, Operation::Read)?.unwrap_or(0);
+                let is_right = held == *sum || !plan.compares;
+                ensure!(is_right, "key {key} holds {held}, not {sum}");
             } else if plan.compares && value < 500 {
                 self.apply(key, Operation::Upsert(value))?;
                 *sum = value;
