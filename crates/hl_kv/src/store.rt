@@ -132,8 +132,9 @@ impl<'a, 'b, R: Wait, L: Realm> Seat<'a, 'b, R, L> {
     pub(crate) fn make_room(&mut self) -> Result<(), Trouble> {
         let device = &self.store.device;
         let start = device.first.load(SeqCst);
+        let is_wanted = self.session.view().read_only < start.saturating_add(WORDS_MOST);
         // What is read-only is on the device, or soon will be.
-        if self.session.view().read_only < start.saturating_add(WORDS_MOST) {
+        if is_wanted || device.word(start).is_none() {
             return Ok(());
         }
         for record in 0..PAGE_SIZE / RECORD_WORDS {
