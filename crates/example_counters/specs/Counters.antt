@@ -79,10 +79,10 @@ abbrev pub HasSums : List (List ℕ) → Option (List ℕ) → Type 0
 HasSums all (Some words) = AreSums all words
 HasSums all None = ⊥
 
--- A log was closed whose threads added to its counters, whose leaves may cut a full journal or not: what they returned, and the counters' words at the end, in memory
--- and in the image of their page that each of the two writers of the device has, if any. Where no thread was refused, the
--- words in memory are the sums if the closed offset is 0 at the end; those that one of the writers has, if the counters'
--- page is flushed; and one of both always holds
+-- A log was closed whose threads added to its counters, and left where they may cut a full journal or not: what they
+-- returned, and the counters' words at the end, in memory and in the image of their page that each of the two writers of
+-- the device has, if any. Where no thread was refused, the words in memory are the sums if the closed offset is 0 at the
+-- end; those that one of the writers has, if the counters' page is flushed; and one of both always holds
 pub record AreCounted (o : Opening Sizes) (may_cut : Bool) (counted : Counted) : Type 0 where
   pub riders : List RiderState
   pub returned : AllReturned NoJob (opened_as o) may_cut returns_sums (on_memory counted.device)
