@@ -8,7 +8,8 @@
  * stood, a call under the lock is answered as the definitions answer (docs/DEFINITIONS.md), and a refused step changes
  * nothing. A call of a pass begins with what the pass saw without the lock: that look is entered before its own step,
  * where the step is refused too. A store and a load are judged by what the pass sees, and each is one access of the
- * address's word, in one order for all threads: a load finds what the newest store before it left.
+ * address's word. All accesses have one order, the same for all threads, in which a load finds what the newest store or
+ * sweep before it left, or 0: the type of the words keeps that, and no clause of one call says it.
  *
  * A handle that is all zero has nothing: `hl_log log = {0};`. Its fields are the library's: never read or write them,
  * and keep the handle where it is while a call uses it. Never use two copies of one: no answer would tell.

@@ -20,7 +20,7 @@ pub record Moved (old : LogRow.Denot) (A : List Step) (step : Step) (new : LogRo
   pub standing : StandsAt new (extended old.core.sizes A step)
 
 -- the log that was open made the step, at whatever list it stood, and is open, with the same words and stamps; its four
--- words were stored as that list with the step tells. Where none was, none is, and the outcome says so
+-- words were stored as that list with the step tells. Where none was open, none is, and the outcome says so
 abbrev pub Answers : Option LogRow.Denot → Step → Option LogRow.Denot → Outcome → Type 0
 Answers None step new outcome = (outcome ≡ no_core) × (new ≡ None)
 Answers (Some old) step new outcome = (log : LogRow.Denot) × (new ≡ Some log) × (log.words ≡ old.words)
@@ -51,6 +51,7 @@ Tells (Some log) answer none new outcome = (new ≡ Some log)
 -- a log of these sizes and this stamp, at the empty list
 pub record IsOpened (sizes : Sizes) (stamp : ℕ) (log : LogRow.Denot) : Type 0 where
   pub sizes_are : log.core.sizes ≡ sizes
+  pub shape : log.words.sizes ≡ sizes
   pub stands : StandsAt log []
   pub own : log.stamps.own ≡ stamp
   pub given : log.stamps.given ≡ 0

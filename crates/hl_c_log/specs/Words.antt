@@ -24,7 +24,7 @@ abbrev pub word_told : Option Fault → ℕ → Brief
 word_told fault found = brief_of (outcome_of (unless_fault fault (Value found)))
 
 -- a pass judged this by what it sees, and its rider did it to the address's cell, or nothing where it was refused; the
--- brief tells the word that was found. Where there is none, none is, and the brief says so
+-- brief tells the word that was found, or 0 of a store. Where there is no pass, none is there after, and the brief says so
 abbrev pub Does : (View → ℕ → Option Fault) → (ℕ → RiderView → RiderView) → Option PassRow.Denot → ℕ → ℕ
     → Option PassRow.Denot
     → Brief
@@ -33,7 +33,7 @@ Does fault act None a found new brief = (brief ≡ brief_of no_core) × (new ≡
 Does fault act (Some p) a found new brief = let met = fault p.own.view a in
     (new ≡ Some (unless_refused met p (with_act (act (cell_of p a)) p))) × (brief ≡ word_told met found)
 
--- a pass loaded words into so many places, or judged by what it sees that it may not, and left them as they were
+-- a pass loaded words into so many places, or judged by what it sees that it may not, and left the places as they were
 abbrev pub LoadsRow : Option PassRow.Denot → ℕ → List ℕ → Option PassRow.Denot → List ℕ → Brief → Type 0
 LoadsRow None a places new words brief = (brief ≡ brief_of no_core) × (new ≡ None) × (words ≡ places)
 LoadsRow (Some p) a places new words brief = let met = row_fault p.own.view a (length places) in
@@ -41,8 +41,8 @@ LoadsRow (Some p) a places new words brief = let met = row_fault p.own.view a (l
     × (brief ≡ brief_of (outcome_of (unless_fault met Readable)))
     × (length words ≡ length places) × IfSome met (λ _. words ≡ places)
 
--- a pass saw the two offsets that it loaded, neither below what it loaded of it before, where they are above its own, and
--- tells what it sees
+-- a pass saw the two offsets that it loaded, neither below what it loaded of that word before, where they are above its own,
+-- and tells what it sees
 abbrev pub Looks : Option PassRow.Denot → Option PassRow.Denot → Outcome → Type 0
 Looks None new outcome = (outcome ≡ no_core) × (new ≡ None)
 Looks (Some p) new outcome = (loaded : ℕ × ℕ) × IsLaterLoad READ_ONLY p loaded.0 × IsLaterLoad HEAD p loaded.1

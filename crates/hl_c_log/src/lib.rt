@@ -15,7 +15,7 @@
 //! of the address, which the pass's rider records (`Does`, in `specs/Words.antt`); a row of words is loaded one
 //! after another (`LoadsRow`). The region of an address is told by what the pass sees and by the safe read-only
 //! offset that it loaded, which it tells too (`TellsRegion`). The words' type keeps the rule of `hl_words`: each
-//! load finds what the newest store before it left, in one order of all that passes and pages did.
+//! load finds what the newest store before it left, or 0 before any, in one order of all that passes and pages did.
 //!
 //! # Threads
 //!
@@ -26,8 +26,8 @@
 //! # How a call goes
 //!
 //! As in the door of a core: it takes the boxes out of their handles, makes the call, and puts them back.
-//! `LogHandle::step` is the one way of a step of the log, `by_pass` that of a pass's but for its refresh,
-//! which returns what the slot itself has.
+//! `LogHandle::step` makes the steps that are no slot's, no page's and not the take; `by_pass` those of a pass
+//! but for its refresh, which returns what the slot itself has.
 #![tactic(auto)]
 
 mod acquire;

@@ -138,6 +138,7 @@ log_looked old new p log catches sizes beside = record {
   stands = (looked old.core.sizes log.stands.0 p, stands_looked old old new p refl catches beside.master log.stands.0 log.stands.1);
   room = ap (λ (s : Stamps). length s.row.items) beside.stamps ∙ log.room ∙ ap (λ (z : Sizes). z.slots) (sym sizes);
   there = ap (λ (m : RowMasterState). m.table) beside.master ∙ log.there ∙ ap (λ w. w.words.table) (sym beside.words);
+  shape = ap (λ w. w.sizes) beside.words ∙ log.shape ∙ sym sizes;
 }
 
 -- so it is a log still
@@ -147,6 +148,7 @@ log_after old new s result log makes row table words =
       stands = (extended old.core.sizes log.stands.0 s, stepped.standing);
       room = row ∙ log.room ∙ ap (λ (z : Sizes). z.slots) (sym stepped.sizes);
       there = table ∙ log.there ∙ ap (λ w. w.words.table) (sym words);
+      shape = ap (λ w. w.sizes) words ∙ log.shape ∙ sym stepped.sizes;
     }
 
 -- the same with all beside the core as it was

@@ -62,7 +62,8 @@ pub record Called (old : LogState) (A : List Step) (p : PassState) (step : Step)
   pub pass : q ≡ call_pass old A p step
 
 -- so at whatever list it stood; all beside its core is as it was. A pass that was no stranger is none then, if its
--- slot is still protected, and what it saw was accepted, as a look, if that was nothing below what its slot saw
+-- slot is still protected, and what it saw was accepted, as a look, if that was nothing below what its slot saw. A pass
+-- that saw nothing below that does so still
 pub record Calls (old : LogState) (p : PassState) (step : Step) (new : LogState) (q : PassState) (result : Result Reply Fault)
     : Type 0 where
   pub called : (A : List Step) → StandsAt old A → Called old A p step new q result

@@ -15,11 +15,13 @@ pub record StandsAt (log : LogState) (A : List Step) : Type 0 where
   pub standing : Stands (λ t. t.0) log.core A
   pub stored : log.master.offsets ≡ stores_of A
 
--- each log stands at some list; each slot has a stamp, and the master is that of the log's words
+-- each log stands at some list; each slot has a stamp, the master is that of the log's words, and these have the shape of
+-- the log's sizes
 pub record IsLog (log : LogState) : Type 0 where
   pub stands : (A : List Step) × StandsAt log A
   pub room : length log.stamps.row.items ≡ log.core.sizes.slots
   pub there : log.master.table ≡ log.words.words.table
+  pub shape : log.words.sizes ≡ log.core.sizes
 
 -- all beside the core is as it was: the words, the stores of the four, the stamps
 pub record IsBeside (old new : LogState) : Type 0 where
@@ -45,7 +47,7 @@ pub record Stepped (old : LogState) (A : List Step) (step : Step) (new : LogStat
 abbrev pub Makes : LogState → Step → LogState → Result Reply Fault → Type 0
 Makes old step new result = (A : List Step) → StandsAt old A → Stepped old A step new result
 
--- a step that is no slot's and no page's, and tells no job
+-- a step that is no slot's and no page's, and isn't the take, which tells a job too
 abbrev pub is_own : Step → Bool
 is_own (Bump tag) = true
 is_own Settle = true

@@ -16,11 +16,11 @@ use Rattle.hl_log.specs.States.{LogState, PassState}
 
 -- the pass that keeps this of its slot
 abbrev pub with_own : PassView → PassState → PassState
-with_own own p = record { words = p.words; own = own; rider = p.rider }
+with_own own p = record (p) { own = own }
 
 -- the pass after its rider did this
 abbrev pub with_act : (RiderView → RiderView) → PassState → PassState
-with_act f p = record { words = p.words; own = p.own; rider = acted f p.rider }
+with_act f p = record (p) { rider = acted f p.rider }
 
 -- the cell of an address of the pass's log
 abbrev pub cell_of : PassState → ℕ → ℕ
@@ -47,6 +47,7 @@ epoch_told _ e = e
 -- a pass of this log for a slot that it doesn't have yet: it saw nothing
 pub record IsVacant (log : LogState) (slot : ℕ) (p : PassState) : Type 0 where
   pub slot_is : p.own.slot ≡ slot
+  pub stamp_is : p.own.stamp ≡ 0
   pub epoch_is : p.own.epoch ≡ 0
   pub view_is : p.own.view ≡ record { read_only = 0; head = 0; tail = 0 }
   pub words : p.words ≡ log.words

@@ -26,14 +26,7 @@ sweep_fault page = if page.cleans then None else Some NotCleaning
 
 -- the page after its rider did this
 abbrev pub page_acted : (RiderView → RiderView) → PageState → PageState
-page_acted f page = record {
-  words = page.words;
-  origin = page.origin;
-  page = page.page;
-  cleans = page.cleans;
-  swept = page.swept;
-  rider = acted f page.rider;
-}
+page_acted f page = record (page) { rider = acted f page.rider }
 
 -- the first of its cells
 abbrev pub first_of : PageState → ℕ
@@ -45,11 +38,7 @@ copied words page = page_acted (loaded_all (first_of page) words) page
 
 -- the page after a sweep, which stored 0 into each of its cells
 abbrev pub swept : PageState → PageState
-swept page = record {
-  words = page.words;
-  origin = page.origin;
-  page = page.page;
-  cleans = page.cleans;
+swept page = record (page) {
   swept = true;
   rider = acted (zeroed (first_of page) page.words.sizes.page_size) page.rider;
 }
@@ -60,14 +49,7 @@ taking cleans = if cleans then CleanTake else FlushTake
 
 -- the page with a number
 abbrev pub numbered : ℕ → PageState → PageState
-numbered number page = record {
-  words = page.words;
-  origin = page.origin;
-  page = number;
-  cleans = page.cleans;
-  swept = page.swept;
-  rider = page.rider;
-}
+numbered number page = record (page) { page = number }
 
 -- a page of this log, for this work, which has not begun
 pub record IsFresh (log : LogState) (cleans : Bool) (page : PageState) : Type 0 where

@@ -20,7 +20,7 @@ use std::sync::Arc;
 
 impl Log {
     /// Returns a pass that acts for no slot yet, or None if the owners of the shared words can't be counted
-    /// further.
+    /// further, or all riders were dealt out.
     pub fn vacant(&mut self, slot: u64) -> Option<Pass>
         ensures pass { IfSome result (λ pass. IsVacant self.old slot pass) }
         ensures log { self.new ≡ self.old }
@@ -42,6 +42,7 @@ impl Log {
     ///
     /// Faults: `NoSlot`, `Occupied`; then nothing is changed.
     pub fn acquire(&mut self, pass: &mut Pass) -> Result<Reply, Fault>
+        requires there { pass.old.words ≡ self.old.words }
         ensures made { Makes self.old (ACQUIRE pass.old.own.slot) self.new result }
         ensures refused { OnErr result ((self.new ≡ self.old) × (pass.new ≡ pass.old)) }
         ensures stamps { OnOk result (IsStamped self.old pass.old.own.slot self.new) }

@@ -40,7 +40,7 @@ impl Log {
     }
 
     /// Makes a release or an allocation of a pass, whose slot takes the place of the step's, behind what the
-    /// pass saw. The pass then has the view of its slot, so it is no stranger at its next call.
+    /// pass saw. While its slot is protected, the pass then has its view, and is no stranger at its next call.
     ///
     /// `Stranger`, with the slot's stamp, if the slot isn't the pass's: nothing is changed then. Else the
     /// faults of the step; what the pass saw is entered with these too.

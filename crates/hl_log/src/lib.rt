@@ -2,17 +2,17 @@
 //!
 //! The log has the core, and one call at a time uses it: its caller keeps it under a lock. What threads share
 //! with no lock, the words of the frames and four words that the log's calls store, lies in one block that
-//! the log and its passes own together, so a pass outlives its log safely.
+//! the log, its passes and its pages own together, so that a pass or a page may outlive its log.
 //!
 //! # What is promised
 //!
 //! At whatever list of accepted steps the log stood, [`Log::step`] replies as the definitions do after that
 //! list, and the log then stands at the list with the step, if it was accepted. That it stands there says of
-//! its core that each quantity is the list's, and of the four words that they were stored as the list tells, one
-//! store after another (`StandsAt`, in `specs/Logs.antt`). A call of a pass,
+//! its core that each quantity is the list's, and of each of the four words which stores it had (`StandsAt`, in
+//! `specs/Logs.antt`). A call of a pass,
 //! [`Log::refresh`] and [`Log::call`], returns that the pass is a stranger, with the slot's stamp, or what
 //! the definitions reply behind the list and what the pass saw without the lock; the pass then has what its
-//! slot has (`Calls`, in `specs/Calls.antt`). Who a pass is, and what its view allows, is `hl_pass`'s, on
+//! slot has, and after a release what it saw (`Calls`, in `specs/Calls.antt`). Who a pass is, and what its view allows, is `hl_pass`'s, on
 //! which the branded keeper stands too.
 //!
 //! A pass that was no stranger is none at its next call, if its slot is still protected. What it saw without
@@ -26,14 +26,15 @@
 //! ([`Pass::region`]).
 //!
 //! The words are a `hl_words::Row`, whose type keeps the rule: all that riders did has one order, in which each
-//! load and each change found what the newest store before it left, and no load of the four words found what
-//! the log's calls hadn't stored.
+//! load and each change found what the newest store before it left, or 0 before any, and each load of one of the
+//! four words found 0 or what a call of the log stored.
 //!
 //! # What isn't
 //!
-//! No call closes the words and says so of exactly these riders, as a log with a brand does: without one, a
-//! rider that comes back can't be shown to be of the same words. So which value another pass's store has when
-//! a load finds it, no clause of one call tells.
+//! No call closes the words and says the rule of exactly these riders, as a log with a brand does: passes and
+//! pages may be dropped, and a log can't tell at run time whether what comes back is of its words. So no clause
+//! of one call tells which store a load found. A pass that was released, and a page whose work ended, may still
+//! touch words in Rattle; the handles of C are empty then.
 #![tactic(auto)]
 
 mod acquire;

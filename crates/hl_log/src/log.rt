@@ -9,7 +9,7 @@ use std::marker::Model;
 use std::sync::Arc;
 
 /// What lies under the caller's lock: the core, which counts its slots by epoch and has bare tags for jobs, the stamp
-/// of each slot, and the right to store the four words.
+/// of each slot, and the right to store the four words and to deal riders out.
 #[derive(Drop)]
 pub struct Log {
     pub(crate) core: Core<CountTable, Tag>,

@@ -11,12 +11,12 @@ use std::alloc::Global;
 use std::sync::Arc;
 
 impl Log {
-    /// Returns a log at the empty list: epoch 1, no slot protected, no action, all offsets and words 0. The
+    /// Returns a log at the empty list: epoch 1, no slot protected, no action, all offsets 0, and the words (by their type). The
     /// stamp tells its passes from those of other logs, if none of these has one near it. None if memory was
     /// refused.
     pub fn open(alloc: Global, sizes: Sizes, stamp: u64) -> Option<Log>
         ensures { IfSome result (λ log. StandsAt log [] × (log.core.sizes ≡ sizes)
-            × (log.stamps.own ≡ stamp) × (log.stamps.given ≡ 0)) }
+            × (log.words.sizes ≡ sizes) × (log.stamps.own ≡ stamp) × (log.stamps.given ≡ 0)) }
     {
         let core = Core::open(alloc, sizes).ok()?;
         let (words, master) = Shared::open(alloc, sizes)?;

@@ -1,5 +1,5 @@
 //! Pages that are taken, and the ends of the work on them.
-ghost use Rattle.std.specs.Prelude.{◌≡◌, IfSome, IfOk, OnErr};
+ghost use Rattle.std.specs.Prelude.{◌≡◌, false, IfSome, IfOk, OnErr};
 ghost use Rattle.hl_model.specs.declared.step.Step.TheVariants.{FlushDone as FLUSH_DONE, CleanDone as CLEAN_DONE};
 ghost use Rattle.hl_model.specs.declared.step.Reply.TheVariants.{Page as PAGE};
 ghost use Rattle.hl_core.specs.Steps.{as_reply};
@@ -14,7 +14,7 @@ use std::sync::Arc;
 
 impl Log {
     /// Returns a page that is to be taken, to be cleaned or else to be flushed, or None if the owners of the
-    /// shared words can't be counted further.
+    /// shared words can't be counted further, or all riders were dealt out.
     pub fn vacant_page(&mut self, cleans: bool) -> Option<Taken>
         ensures page { IfSome result (λ page. IsFresh self.old cleans page) }
         ensures log { self.new ≡ self.old }
@@ -32,11 +32,13 @@ impl Log {
         })
     }
 
-    /// Takes the least closed page that is neither freed nor being cleaned, or the least sealed one that is
-    /// neither flushed nor in flight: its number.
+    /// Takes, for a page that is to be cleaned, the least closed page that is neither freed nor being cleaned; else
+    /// the least sealed one that is neither flushed nor in flight: its number.
     ///
     /// Faults: `NoneClosed`, `NoneSealed`; then nothing is changed.
     pub fn take_page(&mut self, page: &mut Taken) -> Result<u64, Fault>
+        requires there { page.old.words ≡ self.old.words }
+        requires unswept { page.old.swept ≡ false }
         ensures made { Makes self.old (taking page.old.cleans) self.new (as_reply PAGE result) }
         ensures beside { IsBeside self.old self.new }
         ensures page { IfOk result (λ number. page.new ≡ numbered number page.old) }

@@ -8,8 +8,8 @@ use hl_pass::News;
 use hl_words::{Row, RowMaster, RowRider, Which, first_cell};
 use std::alloc::Global;
 
-/// How many passes and pages a log can have had. As many fit no program's time: a pass is refused only once the
-/// owners of the words can't be counted further either.
+/// How many passes and pages a log can have in all, more than any program makes. Past it none is made, as where the
+/// owners of the words can't be counted further.
 const RIDERS: usize = 1 << 62;
 
 /// What a log and its passes share with no lock: the words of the frames, and four words that the log's calls

@@ -12,10 +12,10 @@ use hl_model::{Fault, Reply, Step, Tag};
 use hl_words::{RowMaster, Which};
 
 impl Log {
-    /// Makes a step that is no slot's and not a page's. If it moved an offset or ended an epoch, the words
+    /// Makes a step that is no slot's and no page's. If it moved an offset or ended an epoch, the words
     /// tell passes of it.
     ///
-    /// The faults of the step; a refused one changes nothing.
+    /// Faults: those of the step; a refused one changes nothing.
     #[inline(always)]
     pub fn step(&mut self, step: &Step) -> Result<Reply, Fault>
         requires { IsOwn step.now }

@@ -8,7 +8,8 @@ invariant_of-result c = record {
   stands = ([], record { standing = search rules; stored = ap (λ (m : RowMasterState). m.offsets) c.in_ok-words.ensures.master ∙ sym stores-nil });
   room = search rules;
   there = search rules;
+  shape = search rules;
 }
 
 pub returns : goal.returns
-returns c = (record { standing = search rules; stored = ap (λ (m : RowMasterState). m.offsets) c.in_ok-words.ensures.master ∙ sym stores-nil }, search rules, search rules, search rules)
+returns c = (record { standing = search rules; stored = ap (λ (m : RowMasterState). m.offsets) c.in_ok-words.ensures.master ∙ sym stores-nil }, search rules, search rules, search rules, search rules)
