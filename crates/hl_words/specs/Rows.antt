@@ -1,4 +1,4 @@
--- What contracts see of a row of words without a brand, and what the steps of its table ask of a seat and leave it.
+-- What contracts see of a row of words without a brand, and what the steps of its table ask of a seat and leave in it.
 use Rattle.std.specs.Prelude.{ℕ, ◌≡◌, ◌+◌, ◌^◌, ◌≤◌, []}
 use Rattle.atomic_table.specs.Seated.{TableId}
 use Rattle.atomic_table.specs.Table.{Me}
@@ -19,7 +19,7 @@ IsWide room table = (table.words ≡ room.cells + 27) × (room.cells ≤ 2 ^ 36)
 abbrev pub StandsFor : RiderView → Me (Unit {0}) SeatView → Type 0
 StandsFor r me = me ≡ (rider_seat r, [])
 
--- a rider's seat at this table may step there
+-- a seat of this table that stands for one rider alone
 pub record CanStep (room : Room) (table seat : TableId) (me : Me (Unit {0}) SeatView) : Type 0 where
   pub wide : IsWide room table
   pub there : seat ≡ table

@@ -1,5 +1,5 @@
-//! Words for whoever can't name a brand in a type, as a C interface: the same table under the same rule, where each
-//! rider and the master know at which row they are.
+//! Words for whoever can't name a brand in a type, as a C interface: the same table under the same rule, where contracts
+//! see at which row each rider and the master are.
 ghost use Rattle.std.specs.Prelude.{◌≡◌, ◌+◌, ◌^◌, ◌<◌, ◌≤◌, length, IfOk, IfErr, IfSome};
 ghost use Rattle.hl_model.specs.declared.fault.Fault.TheVariants.{OutOfMemory};
 ghost use Rattle.hl_words.specs.Rows.{acted, first_master, with_word, IsNew};
@@ -14,8 +14,8 @@ use hl_model::Fault;
 use std::alloc::Global;
 use std::marker::Model;
 
-/// The cells and the master's four words, which any thread may load through a `&`. Contracts see how many cells there
-/// are, and which row it is.
+/// The cells and the master's four words, which threads share by a `&`, each with a rider. Contracts see how many cells
+/// there are, and which row it is.
 #[derive(Drop)]
 pub struct Row {
     table: WordTable,
@@ -33,7 +33,8 @@ impl Model for Row {
     ghost invariant = { λ w. (w.table.shared.key ≡ w.room) × IsWide w.room w.table.shared.table_id };
 }
 
-/// The right to store into cells of a row and to load any word. It can go to another thread. Contracts see what it did.
+/// The right to store into cells of a row and to load any word. It can go to another thread. Contracts see what it did,
+/// and at which row.
 #[derive(Drop)]
 pub struct RowRider {
     seat: WordSeat,
@@ -50,7 +51,8 @@ impl Model for RowRider {
     ghost invariant = { λ r. StandsFor (first_rider r.seat.me.0) r.seat.me };
 }
 
-/// The right to store the four words of a row, and to deal riders out. Contracts see its stores.
+/// The right to store the four words of a row, and to deal riders out. Contracts see its stores,
+/// and at which row.
 #[derive(Drop)]
 pub struct RowMaster {
     seat: WordSeat,
@@ -73,7 +75,7 @@ impl Model for RowMaster {
 }
 
 impl Row {
-    /// Makes a row of so many cells, all words 0, and its master, who can deal out so many riders.
+    /// Makes a row of so many cells, all words 0 by its rule, and its master, who can deal out so many riders.
     ///
     /// `OutOfMemory` if memory was refused; then nothing is made.
     pub fn open(alloc: Global, cells: usize, riders: usize) -> Result<(Row, RowMaster), Fault>

@@ -1,4 +1,4 @@
-//! The steps of the table, which words with a brand and without one take: by a rider's seat, or the master's.
+//! The steps of the table that words with a brand and rows share, each by a rider's seat or the master's.
 ghost use Rattle.std.specs.Prelude.{◌≡◌, ◌+◌, ◌<◌, ◌≤◌, length};
 ghost use Rattle.hl_words.specs.Rows.{CanStep, IsWide, StandsFor};
 ghost use Rattle.hl_words.specs.Seats.{with_store};
