@@ -76,7 +76,7 @@ impl<R: Wait> Work<R> for Fills {
                 return Some(true);
             }
         }
-        None
+        Some(false)
     }
 
     fn write_page(&self, _rt: &R, _page: u64, _image: &[u8]) -> bool {
