@@ -20,5 +20,6 @@ loader cell found = loaded cell found (touched (Met 0 1) (fresh 1))
 pub record IsPassed (cells cell value : ℕ) (passed : Passed) : Type 0 where
   pub stores : OffsetWords
   pub called : Extent
-  pub ruled : IsRuledAt cells passed.last.words stores called (storer cell value ∷ loader cell passed.found ∷ [])
+  pub ruled : IsRuledAt cells passed.last.words stores called
+      (storer cell value ∷ loader cell passed.found ∷ [])
   pub found_is : passed.found ≡ value

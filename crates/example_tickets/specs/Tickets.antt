@@ -25,7 +25,8 @@ bumps_once number first last out = IfOk out (Bumped first.pass.rider.calls last.
 -- as many as they are
 pub record AreTickets (count : ℕ) (outs : List (Result (Result ℕ Fault) Fault)) (epoch : ℕ) : Type 0 where
   pub many : length outs + 4 ≡ count
-  pub apart : (i j a b : ℕ) → i < j → slice_get outs i ≡ Some (Ok (Ok a)) → slice_get outs j ≡ Some (Ok (Ok b)) → a ≢ b
+  pub apart : (i j a b : ℕ) → i < j → slice_get outs i ≡ Some (Ok (Ok a))
+      → slice_get outs j ≡ Some (Ok (Ok b)) → a ≢ b
   pub within : (i a : ℕ) → slice_get outs i ≡ Some (Ok (Ok a)) → (1 ≤ a) × (a < epoch)
   pub all : (tickets : List ℕ) → outs ≡ map (λ t. Ok (Ok t)) tickets → epoch ≡ length tickets + 1
       → (k : ℕ) → 1 ≤ k → k ≤ length tickets → Contains tickets k

@@ -1,9 +1,11 @@
 -- The page of an address below the head was flushed by somebody.
-use Rattle.std.proofs.Common.{◌≡◌, ℕ, zero, suc, ◌*◌, ◌/◌, ◌<◌, Bool, true, false, List, [], ◌∷◌, Some, slice_get, map, refl, sym, subst, arith}
+use Rattle.std.proofs.Common.{◌≡◌, ℕ, zero, suc, ◌*◌, ◌/◌, ◌<◌, Bool, true, false, List, [], ◌∷◌, ◌++◌, Some, slice_get, map, refl, sym, ap, ◌∙◌, subst, arith}
 use Rattle.std.specs.Prelude.{◌||◌}
+use Rattle.std.specs.Option.{option_map}
 use Rattle.std.specs.List.{list_any}
 use Rattle.std.proofs.Math.Nat.{div-lt_iff_lt-mul}
 use Rattle.std.proofs.lemmas.Map.Keys.{any_passes_from_place}
+use Rattle.std.proofs.lemmas.Option.{slice_get-map}
 use Rattle.hl_model.specs.declared.step.Step.{Step}
 use Rattle.hl_model.specs.Lists.{greatest}
 use Rattle.hl_model.specs.Pages.{flushes, flushes_below, flushed_run, is_complete, is_flushed}
@@ -11,10 +13,15 @@ use Rattle.hl_model.specs.Sizes.{Sizes}
 use Rattle.hl_laws.proofs.PageFacts.{head-le-flushed}
 use Rattle.hl_laws.proofs.RunLaws.{run_passes}
 use Rattle.hl_history.specs.declared.view.Entry.{Entry}
+use Rattle.hl_words.specs.declared.which.Which.TheVariants.{Head}
 use Rattle.hl_words.specs.States.{RiderState}
+use Rattle.hl_words.specs.Views.{greatest_of, looked}
+use Rattle.hl_pass.proofs.StoreLaws.{newest-head}
+use Rattle.hl_keeper.specs.Endings.{EndingState}
+use Rattle.hl_domain.specs.Domains.{IsEnding}
 use Rattle.hl_crew.specs.Riders.{has_flushed}
 use Rattle.hl_images.proofs.WordLaws.{entered_call, whose_calls}
-use Rattle.hl.specs.Evictions.{EvictedWereFlushed}
+use Rattle.hl.specs.Evictions.{EvictedWereFlushed, LoadedEvictedWereFlushed}
 
 -- the place of an element that passes
 passes_at : {X : Type 0} (p : X → Bool) (xs : List X) → list_any p xs ≡ true → (k : ℕ) × (x : X) × (slice_get xs k ≡ Some x) × (p x ≡ true)
@@ -44,3 +51,11 @@ evicted_were_flushed sizes list riders a accepted one less =
     let inside : list_any (flushes page) call.call.steps ≡ true = any_passes_from_place (flushes page) call.call.steps call.step step.1 call.step_at step.3 in
     let told : has_flushed page call.calls ≡ true = any_passes_from_place (λ (e : Entry). list_any (flushes page) e.steps) call.calls call.number call.call call.call_at inside in
     (call.whose, rider.0, rider.1, subst (λ calls. has_flushed page calls ≡ true) (sym rider.2) told)
+
+-- no load of the head is above it
+pub loaded_evicted_were_flushed : (F : Type 0) → LoadedEvictedWereFlushed F
+loaded_evicted_were_flushed F sizes riders ending j q a end at less =
+    let list : List Step = end.steps_cut ++ ending.journal in
+    let view = slice_get-map (λ (r : RiderState). r.view) riders j ∙ ap (option_map (λ (r : RiderState). r.view)) at in
+    let most = (end.ruled.rule.offset j q.view view).1.0 in
+    evicted_were_flushed sizes list riders a end.accepted end.one_list (omega (arith, less, most, newest-head sizes list end.accepted))

@@ -24,7 +24,8 @@ Finishing Finishes old new out = MatchOption out (new ≡ old) (Finishes old new
 
 -- this rider was in a session of the log, with no crew to wake, and finished; at a full journal its leave may cut. The
 -- log was then closed with it behind the others
-pub record IsFinish {Out : Type 0} (F : Type 0) (log : DomainState) (Finishes : SessionState → SessionState → Out → Type 0)
+pub record IsFinish {Out : Type 0} (F : Type 0) (log : DomainState)
+    (Finishes : SessionState → SessionState → Out → Type 0)
     (riders : List RiderState) (old : RiderState) (finished : Finished Out F) : Type 0 where
   pub last : RiderState
   pub finish : Stood F log false true (Finishing Finishes) old (Ok last) finished.last
@@ -36,7 +37,8 @@ pub record IsNoFinish {Out : Type 0} (F : Type 0) (log : DomainState)
   pub last : RiderState
   pub failed : Failed F log false true (Finishing Finishes) old last fault
 
-module _ {Out : Type 0} (F : Type 0) (o : Opening Sizes) (Returns : ℕ → SessionState → SessionState → Out → Type 0)
+module _ {Out : Type 0} (F : Type 0) (o : Opening Sizes)
+    (Returns : ℕ → SessionState → SessionState → Out → Type 0)
     (Took : ℕ → List ℕ → Type 0) (Finishes : SessionState → SessionState → Out → Type 0) where
   -- each thread, whose leave may cut, has a result, and then the log's last rider finished; the ending is that of a log
   -- with all riders

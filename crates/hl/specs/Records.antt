@@ -106,14 +106,16 @@ pub record Allocated (F : Type 0) (log : DomainState) (n : ℕ) (old new : PassR
 
 -- the store of a word at address a was refused with this fault, and not for want of room for a touch: maybe after a
 -- refresh that made room; or there was no room, and the refresh that was to make it was refused so
-pub record RefusesStore (F : Type 0) (log : DomainState) (a : ℕ) (fault : Fault) (old new : PassRecord) : Type 0 where
+pub record RefusesStore (F : Type 0) (log : DomainState) (a : ℕ) (fault : Fault) (old new : PassRecord)
+    : Type 0 where
   pub last : PassRecord
   pub none : AreStored log.sizes a [] old last
   pub refused : ((new ≡ last) × (store_fault last a ≡ Some fault) × (fault ≢ TouchesFull))
       ⊎ ((store_fault last a ≡ Some TouchesFull) × Refreshed F log last new (Err fault))
 
 -- of these words from address a on, a pass stored some, and the store of the next was refused with this fault
-pub record StopsAt (F : Type 0) (log : DomainState) (a : ℕ) (words : List ℕ) (fault : Fault) (old new : PassRecord)
+pub record StopsAt (F : Type 0) (log : DomainState) (a : ℕ) (words : List ℕ) (fault : Fault)
+    (old new : PassRecord)
     : Type 0 where
   pub count : ℕ
   pub few : count < length words

@@ -40,6 +40,7 @@ pub record IsReport (F : Type 0) (log : DomainState) (text : List ℕ) : Type 0 
   pub text_is : text ≡ report_text now steps cut ++ oldest_text ticket holding
 
 -- a report of a log was written; or a beginning of one, and not all of it, since a write failed
-abbrev pub Reports : (F : Type 0) → DomainState → Result (Unit {0}) Fault → Option (List ℕ) → Option (List ℕ) → Type 0
+abbrev pub Reports : (F : Type 0) → DomainState → Result (Unit {0}) Fault → Option (List ℕ)
+    → Option (List ℕ) → Type 0
 Reports F log result old new = (text : List ℕ) × IsReport F log text
     × MatchResult result (λ _. Appends old new text) (λ fault. (fault ≡ Stream) × BreaksOff old new text)

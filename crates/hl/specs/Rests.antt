@@ -21,7 +21,8 @@ left_rider (Ok resting) = Ok resting.rider
 left_rider (Err refused) = Err refused
 
 -- the session that a rider entered, or the rider
-abbrev pub entered_session : Result SessionState (Refused RestState) → Result SessionState (Refused RiderState)
+abbrev pub entered_session : Result SessionState (Refused RestState)
+    → Result SessionState (Refused RiderState)
 entered_session (Ok session) = Ok session
 entered_session (Err refused) = Err (was_refused refused.fault refused.back.rider)
 

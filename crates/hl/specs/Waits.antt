@@ -66,7 +66,8 @@ module _ (F : Type 0) (log : DomainState) where
       pub last : PassRecord
       pub before : Followed (RoundsNext ticket) rounds old last
       pub ended : MatchResult result
-          (λ safe. (ticket ≤ safe) × LooksAtSafe safe last.rider new.rider × (new ≡ with_rider new.rider last))
+          (λ safe. (ticket ≤ safe) × LooksAtSafe safe last.rider new.rider
+          × (new ≡ with_rider new.rider last))
           (λ fault. RoundOf ticket (Err fault) last new)
 
     -- a session ended the epoch and stored nothing, and waited for its number; or that bump was refused so

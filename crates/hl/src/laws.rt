@@ -1,8 +1,10 @@
 //! What follows for those who wait, for a ticket or for an action, and for those whose page was evicted: each the
 //! contract of a function that does nothing.
-ghost use Rattle.hl.specs.Evictions.{EvictedWereFlushed};
+ghost use Rattle.hl.specs.Evictions.{EvictedWereFlushed, LoadedEvictedWereFlushed};
 ghost use Rattle.hl.specs.Overs.{OverWereDone};
 ghost use Rattle.hl.specs.Waits.{SafeAfterAllMovedOn};
+
+use hl_action::Task;
 
 /// Once the number of a bump is safe, each slot that was protected before the bump has refreshed or left since. So a
 /// session that [`wait`](crate::Session::wait) answered for a ticket of another's knows it of that bump, in the one
@@ -17,6 +19,12 @@ pub fn safe_after_all_moved_on()
 /// `Work::took` says of it that the device took its image.
 pub fn evicted_were_flushed()
     ensures { EvictedWereFlushed }
+{}
+
+/// So was the page of an address below a head that a session's [`look`](crate::Session::look) loaded: no load is above
+/// the head of the one list.
+pub fn loaded_evicted_were_flushed<F: Task>()
+    ensures { LoadedEvictedWereFlushed F }
 {}
 
 /// An action that was stored and is over is done: its done stands in the one list. So a session that

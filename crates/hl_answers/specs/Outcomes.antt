@@ -52,7 +52,8 @@ second_of _ = 0
 
 -- a fault: its number, and what it carries
 abbrev pub fault_outcome : Fault → Outcome
-fault_outcome fault = record { number = number_of fault; a = first_of fault; b = second_of fault; c = 0; d = 0 }
+fault_outcome fault =
+    record { number = number_of fault; a = first_of fault; b = second_of fault; c = 0; d = 0 }
 
 -- an answer: the epoch with the view, the view alone, what a done did with its kind (1 a job, 2 a settle, 3 a
 -- close), or its one number

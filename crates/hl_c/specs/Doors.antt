@@ -31,7 +31,8 @@ pub record Moved (old : DoorRow.Denot) (A : List Step) (step : Step) (new : Door
 abbrev pub Answers : Option DoorRow.Denot → Step → Option DoorRow.Denot → Outcome → Type 0
 Answers None step new outcome = (outcome ≡ no_core) × (new ≡ None)
 Answers (Some old) step new outcome = (core : DoorRow.Denot) × (new ≡ Some core)
-    × ((A : List Step) → StandsAt old A → Moved old A step core (outcome_of (reply_of old.sizes A step)) outcome)
+    × ((A : List Step) → StandsAt old A
+    → Moved old A step core (outcome_of (reply_of old.sizes A step)) outcome)
 
 -- a call, as what it answers and leaves of a core, makes this step
 abbrev pub MakesStep : (DoorRow.Denot → Result Reply Fault → DoorRow.Denot → Type 0) → Step → Type 0

@@ -24,7 +24,7 @@ pub step_answers : (v w : Option LogRow.Denot) (old lent new : LogRow.Denot) (st
     → v ≡ Some old → lent ≡ old → Moves lent step new result → w ≡ Some new → outcome ≡ outcome_of result → Answers v step w outcome
 step_answers v w old lent new step outcome result was same moves is told = subst (λ (u : Option LogRow.Denot). Answers u step w outcome) (sym was)
     (let here = subst (λ (l : LogRow.Denot). Moves l step new result) same moves in
-    (new, is, here.words, here.stamps, λ A stands. let m = here.made A stands in record { told = told ∙ ap outcome_of m.reply; sizes = m.sizes; standing = m.standing }))
+    (new, is, here.shared, here.stamps, λ A stands. let m = here.made A stands in record { told = told ∙ ap outcome_of m.reply; sizes = m.sizes; standing = m.standing }))
 
 -- a log that was taken out, gave its oldest action and was put back
 pub take_answers : (v w : Option LogRow.Denot) (old new : LogRow.Denot) (outcome : Outcome) (result : Result (FiringRecord × Option Tag) Fault)

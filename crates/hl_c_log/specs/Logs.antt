@@ -23,7 +23,7 @@ pub record Moved (old : LogRow.Denot) (A : List Step) (step : Step) (new : LogRo
 -- words were stored as that list with the step tells. Where none was open, none is, and the outcome says so
 abbrev pub Answers : Option LogRow.Denot → Step → Option LogRow.Denot → Outcome → Type 0
 Answers None step new outcome = (outcome ≡ no_core) × (new ≡ None)
-Answers (Some old) step new outcome = (log : LogRow.Denot) × (new ≡ Some log) × (log.words ≡ old.words)
+Answers (Some old) step new outcome = (log : LogRow.Denot) × (new ≡ Some log) × (log.shared ≡ old.shared)
     × (log.stamps ≡ old.stamps) × ((A : List Step) → StandsAt old A
     → Moved old A step log (outcome_of (reply_of old.core.sizes A step)) outcome)
 
@@ -51,7 +51,7 @@ Tells (Some log) answer none new outcome = (new ≡ Some log)
 -- a log of these sizes and this stamp, at the empty list
 pub record IsOpened (sizes : Sizes) (stamp : ℕ) (log : LogRow.Denot) : Type 0 where
   pub sizes_are : log.core.sizes ≡ sizes
-  pub shape : log.words.sizes ≡ sizes
+  pub shape : log.shared.sizes ≡ sizes
   pub stands : StandsAt log []
   pub own : log.stamps.own ≡ stamp
   pub given : log.stamps.given ≡ 0

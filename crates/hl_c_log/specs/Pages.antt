@@ -25,7 +25,8 @@ pub record Given (old : LogRow.Denot) (A : List Step) (cleans : Bool) (new : Log
 abbrev pub Refused : LogRow.Denot → Step → Brief → Type 0
 Refused old step brief = (brief ≡ brief_of (fault_outcome OutOfMemory)) ⊎ ((A : List Step)
     → StandsAt old A
-    → (fault : Fault) × (fault_of old.core.sizes A step ≡ Some fault) × (brief ≡ brief_of (fault_outcome fault)))
+    → (fault : Fault) × (fault_of old.core.sizes A step ≡ Some fault)
+    × (brief ≡ brief_of (fault_outcome fault)))
 
 -- a log gave a page for this work, or refused one and stays
 abbrev pub GivesOf : Bool → LogRow.Denot → LogRow.Denot → Option PageRow.Denot → Brief → Type 0

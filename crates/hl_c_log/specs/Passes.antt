@@ -84,7 +84,7 @@ pub record Acquired (old : LogRow.Denot) (A : List Step) (slot : ℕ) (new : Log
   pub held_is : q.own.held
       ≡ unwrap_or (slot_view old.core.sizes slot (extended old.core.sizes A (Acquire slot))) no_view
   pub view_is : q.own.view ≡ q.own.held
-  pub words : q.words ≡ old.words
+  pub shared : q.shared ≡ old.shared
   pub did_nothing : q.rider.view.touches ≡ []
   pub known : KnownAt new (extended old.core.sizes A (Acquire slot)) q
 

@@ -37,7 +37,7 @@ Does fault act (Some p) a found new brief = let met = fault p.own.view a in
 abbrev pub LoadsRow : Option PassRow.Denot → ℕ → List ℕ → Option PassRow.Denot → List ℕ → Brief → Type 0
 LoadsRow None a places new words brief = (brief ≡ brief_of no_core) × (new ≡ None) × (words ≡ places)
 LoadsRow (Some p) a places new words brief = let met = row_fault p.own.view a (length places) in
-    (new ≡ Some (unless_refused met p (with_act (loaded_row p.words.sizes a words) p)))
+    (new ≡ Some (unless_refused met p (with_act (loaded_row p.shared.sizes a words) p)))
     × (brief ≡ brief_of (outcome_of (unless_fault met Readable)))
     × (length words ≡ length places) × IfSome met (λ _. words ≡ places)
 

@@ -31,7 +31,8 @@ module _ {S X : Type 0} where
   Each One i (Err error) old new = One i (Err error) old new
 
   -- one thing was done, and then another; where the first failed, no more was done, and the whole failed for that reason
-  pub record Then (First Second : Result (Unit {0}) X → S → S → Type 0) (result : Result (Unit {0}) X) (old new : S)
+  pub record Then (First Second : Result (Unit {0}) X → S → S → Type 0) (result : Result (Unit {0}) X)
+      (old new : S)
       : Type 0 where
     pub first : Result (Unit {0}) X
     pub mid : S

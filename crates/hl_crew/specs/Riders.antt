@@ -34,7 +34,8 @@ HasImages has sizes r pages = (p : ℕ) → has_flushed p r.calls ≡ true
     → (words : List ℕ) × has pages p (image p words) × HasFlushed sizes p words r
 
 -- so it is with a crew: each of the writers' riders flushed only such pages, the others none
-pub record AreImaged {L W : Type 0} (has : W → ℕ → List ℕ → Type 0) (sizes : Sizes) (crew : Crew L W) : Type 0 where
+pub record AreImaged {L W : Type 0} (has : W → ℕ → List ℕ → Type 0) (sizes : Sizes) (crew : Crew L W)
+    : Type 0 where
   pub flusher : FlushesNone crew.riders.flusher
   pub first : HasImages has sizes crew.riders.first_writer crew.first
   pub second : HasImages has sizes crew.riders.second_writer crew.second
@@ -68,7 +69,8 @@ pub record WritesOn {L W : Type 0} (has : W → ℕ → List ℕ → Type 0) (se
     (old new : WriterState L W) : Type 0 where
   pub later : IsLater old.rider new.rider
   pub sweeps : StoresSweep sizes old.rider → StoresSweep sizes new.rider
-  pub images : serves ≡ true → HasImages has sizes old.rider old.pages → HasImages has sizes new.rider new.pages
+  pub images : serves ≡ true → HasImages has sizes old.rider old.pages
+      → HasImages has sizes new.rider new.pages
 
 -- the same of all threads of a crew
 pub record AllWorkOn {L W : Type 0} (has : W → ℕ → List ℕ → Type 0) (serves : Bool) (sizes : Sizes)

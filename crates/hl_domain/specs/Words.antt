@@ -11,7 +11,8 @@ module _ {S : Type 0} (put : PassRecord → S) where
   -- a look of a pass that was old and is new
   pub record HasLooked (old new : PassRecord) (after : S) (result : Result View Fault) : Type 0 where
     pub answer : result ≡ unless_fault (touch_fault old) (seen new)
-    pub pass : after ≡ put (unless_refused (touch_fault old) old (with_look (last_read_only new) (last_head new) old))
+    pub pass : after
+        ≡ put (unless_refused (touch_fault old) old (with_look (last_read_only new) (last_head new) old))
     pub rises : OnOk result (LooksOn old new)
     pub raised : IfOk result (λ view. view ≡ record {
       read_only = max (seen old).read_only (last_read_only new);
@@ -21,7 +22,8 @@ module _ {S : Type 0} (put : PassRecord → S) where
 
   module _ (sizes : Sizes) (a : ℕ) where
     -- a store of v at address a
-    pub record HasStored (v : ℕ) (old : PassRecord) (after : S) (result : Result (Unit {0}) Fault) : Type 0 where
+    pub record HasStored (v : ℕ) (old : PassRecord) (after : S) (result : Result (Unit {0}) Fault)
+        : Type 0 where
       pub answer : result ≡ unless_fault (store_fault old a) tt
       pub pass : after ≡ put (unless_refused (store_fault old a) old (with_store sizes a v old))
 
@@ -32,14 +34,18 @@ module _ {S : Type 0} (put : PassRecord → S) where
 
     -- an addition, modulo 2^64, to the word there
     pub record HasAdded (more : ℕ) (old : PassRecord) (after : S) (result : Result ℕ Fault) : Type 0 where
-      pub answer : MatchResult result (λ _. store_fault old a ≡ None) (λ fault. store_fault old a ≡ Some fault)
+      pub answer : MatchResult result (λ _. store_fault old a ≡ None)
+          (λ fault. store_fault old a ≡ Some fault)
       pub pass : MatchResult result
-          (λ found. after ≡ put (with_change sizes a found ((found + more) % 2 ^ 64) old)) (λ _. after ≡ put old)
+          (λ found. after ≡ put (with_change sizes a found ((found + more) % 2 ^ 64) old))
+          (λ _. after ≡ put old)
 
     -- an exchange of one word there for another, if the one stands there
-    pub record HasExchanged (one other : ℕ) (old : PassRecord) (after : S) (result : Result (Result ℕ ℕ) Fault)
+    pub record HasExchanged (one other : ℕ) (old : PassRecord) (after : S)
+        (result : Result (Result ℕ ℕ) Fault)
         : Type 0 where
-      pub answer : MatchResult result (λ _. store_fault old a ≡ None) (λ fault. store_fault old a ≡ Some fault)
+      pub answer : MatchResult result (λ _. store_fault old a ≡ None)
+          (λ fault. store_fault old a ≡ Some fault)
       pub found : IfOk result (λ swap. MatchResult swap (λ found. found ≡ one) (λ found. found ≢ one))
       pub pass : MatchResult result
           (λ swap. MatchResult swap

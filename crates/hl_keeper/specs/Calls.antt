@@ -121,7 +121,8 @@ module _ {F : Type 0} where
 
   -- a keeper that stood at A answered a pass's step as the definitions do after A and the touches, and stands
   -- at the list with both, where it was accepted
-  abbrev pub Called : KeeperState F → List Step → PassRecord → Step → KeeperState F → Result Reply Fault → Type 0
+  abbrev pub Called : KeeperState F → List Step → PassRecord → Step → KeeperState F
+      → Result Reply Fault → Type 0
   Called old A p s new result =
       Replied (touched_fault old A p s) (answer_of old.core.sizes (A ++ p.touches) (touched_list A p s) s)
       (entered (touched_fault old A p s) A p.touches s) new result

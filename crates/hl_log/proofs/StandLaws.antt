@@ -103,24 +103,6 @@ told_rises old core s reply log made =
     subst (λ (o : OffsetWords). IsAbove o (with_told reply old.master.offsets)) (sym at.stored)
     (subst (λ (o : OffsetWords). IsAbove (stores_of A) o) (ap stores_of (sym (extended-none old.core.sizes A s told.0)) ∙ told.1) (stores-rise old.core.sizes A s at.standing.accepted told.0))
 
--- a refused step changes nothing
-pub makes_refused : (old new : LogState) (s : Step) (fault : Fault) → Made (λ t. t.0) old.core s new.core (Err fault) → new ≡ old → Makes old s new (Err fault)
-makes_refused old new s fault made same A at =
-    let stepped : CoreStepped (λ t. t.0) old.core A s new.core (Err fault) = made A at.standing in
-    let is : extended old.core.sizes A s ≡ A = refused (fault_of old.core.sizes A s) refl stepped.reply in record {
-      reply = stepped.reply;
-      sizes = stepped.sizes;
-      standing = subst (λ (B : List Step). StandsAt new B) (sym is) (subst (λ (l : LogState). StandsAt l A) (sym same) at);
-    }
-  where
-    refused : (o : Option Fault) → fault_of old.core.sizes A s ≡ o → Err fault ≡ reply_of old.core.sizes A s → extended old.core.sizes A s ≡ A
-    refused None h e = absurd (not_told (fault_of old.core.sizes A s) h e)
-      where
-        not_told : (o : Option Fault) → o ≡ None → Err fault ≡ unless_fault o (answer_of old.core.sizes A (A ++ s ∷ []) s) → ⊥
-        not_told None h e = cc
-        not_told (Some f) h e = cc
-    refused (Some f) h e = extended-some old.core.sizes A s f h
-
 -- the same of a log, a step and a result that are these
 pub makes_at : (old now new : LogState) (s t : Step) (result told : Result Reply Fault) → old ≡ now → s ≡ t → result ≡ told → Makes old s new result → Makes now t new told
 makes_at old now new s t result told log step is makes =
@@ -137,28 +119,24 @@ pub log_looked : (old new : LogState) (p : PassView) → IsLog old → ((A : Lis
 log_looked old new p log catches sizes beside = record {
   stands = (looked old.core.sizes log.stands.0 p, stands_looked old old new p refl catches beside.master log.stands.0 log.stands.1);
   room = ap (λ (s : Stamps). length s.row.items) beside.stamps ∙ log.room ∙ ap (λ (z : Sizes). z.slots) (sym sizes);
-  there = ap (λ (m : RowMasterState). m.table) beside.master ∙ log.there ∙ ap (λ w. w.words.table) (sym beside.words);
-  shape = ap (λ w. w.sizes) beside.words ∙ log.shape ∙ sym sizes;
+  there = ap (λ (m : RowMasterState). m.table) beside.master ∙ log.there ∙ ap (λ w. w.words.table) (sym beside.shared);
+  shape = ap (λ w. w.sizes) beside.shared ∙ log.shape ∙ sym sizes;
 }
 
 -- so it is a log still
-pub log_after : (old new : LogState) (s : Step) (result : Result Reply Fault) → IsLog old → Makes old s new result → length new.stamps.row.items ≡ length old.stamps.row.items → new.master.table ≡ old.master.table → new.words ≡ old.words → IsLog new
-log_after old new s result log makes row table words =
+pub log_after : (old new : LogState) (s : Step) (result : Result Reply Fault) → IsLog old → Makes old s new result → length new.stamps.row.items ≡ length old.stamps.row.items → new.master.table ≡ old.master.table → new.shared ≡ old.shared → IsLog new
+log_after old new s result log makes row table shared =
     let stepped : Stepped old log.stands.0 s new result = makes log.stands.0 log.stands.1 in record {
       stands = (extended old.core.sizes log.stands.0 s, stepped.standing);
       room = row ∙ log.room ∙ ap (λ (z : Sizes). z.slots) (sym stepped.sizes);
-      there = table ∙ log.there ∙ ap (λ w. w.words.table) (sym words);
-      shape = ap (λ w. w.sizes) words ∙ log.shape ∙ sym stepped.sizes;
+      there = table ∙ log.there ∙ ap (λ w. w.words.table) (sym shared);
+      shape = ap (λ w. w.sizes) shared ∙ log.shape ∙ sym stepped.sizes;
     }
 
 -- the same with all beside the core as it was
 pub log_beside : (old new : LogState) (s : Step) (result : Result Reply Fault) → IsLog old → Makes old s new result → IsBeside old new → IsLog new
 log_beside old new s result log makes beside =
-    log_after old new s result log makes (ap (λ (s : Stamps). length s.row.items) beside.stamps) (ap (λ (m : RowMasterState). m.table) beside.master) beside.words
-
--- all beside is as it was
-pub same_beside : (core : State _) (log : LogState) → IsBeside log (record { core = core; stamps = log.stamps; words = log.words; master = log.master })
-same_beside core log = record { words = refl; master = refl; stamps = refl }
+    log_after old new s result log makes (ap (λ (s : Stamps). length s.row.items) beside.stamps) (ap (λ (m : RowMasterState). m.table) beside.master) beside.shared
 
 -- a page's work was ended, if no fault came before the step
 pub ends_with : (old now new : LogState) (fault : Option Fault) (s t : Step) (result : Result Reply Fault) → old ≡ now → s ≡ t → fault ≡ None → Makes old s new result → IsBeside old new → Ends now fault t new result

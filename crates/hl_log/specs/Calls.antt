@@ -54,8 +54,8 @@ call_pass log A p step =
     else p
 
 -- a log that stood at A answered a pass's step so, and stands at that list
-pub record Called (old : LogState) (A : List Step) (p : PassState) (step : Step) (new : LogState) (q : PassState)
-    (result : Result Reply Fault) : Type 0 where
+pub record Called (old : LogState) (A : List Step) (p : PassState) (step : Step) (new : LogState)
+    (q : PassState) (result : Result Reply Fault) : Type 0 where
   pub reply : result ≡ call_reply old A p step
   pub sizes : new.core.sizes ≡ old.core.sizes
   pub standing : StandsAt new (call_list old A p step)
@@ -64,8 +64,8 @@ pub record Called (old : LogState) (A : List Step) (p : PassState) (step : Step)
 -- so at whatever list it stood; all beside its core is as it was. A pass that was no stranger is none then, if its
 -- slot is still protected, and what it saw was accepted, as a look, if that was nothing below what its slot saw. A pass
 -- that saw nothing below that does so still
-pub record Calls (old : LogState) (p : PassState) (step : Step) (new : LogState) (q : PassState) (result : Result Reply Fault)
-    : Type 0 where
+pub record Calls (old : LogState) (p : PassState) (step : Step) (new : LogState) (q : PassState)
+    (result : Result Reply Fault) : Type 0 where
   pub called : (A : List Step) → StandsAt old A → Called old A p step new q result
   pub beside : IsBeside old new
   pub known : (A : List Step) → StandsAt old A → is_known old A p ≡ true

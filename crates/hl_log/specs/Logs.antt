@@ -20,25 +20,25 @@ pub record StandsAt (log : LogState) (A : List Step) : Type 0 where
 pub record IsLog (log : LogState) : Type 0 where
   pub stands : (A : List Step) × StandsAt log A
   pub room : length log.stamps.row.items ≡ log.core.sizes.slots
-  pub there : log.master.table ≡ log.words.words.table
-  pub shape : log.words.sizes ≡ log.core.sizes
+  pub there : log.master.table ≡ log.shared.words.table
+  pub shape : log.shared.sizes ≡ log.core.sizes
 
 -- all beside the core is as it was: the words, the stores of the four, the stamps
 pub record IsBeside (old new : LogState) : Type 0 where
-  pub words : new.words ≡ old.words
+  pub shared : new.shared ≡ old.shared
   pub master : new.master ≡ old.master
   pub stamps : new.stamps ≡ old.stamps
 
 -- slot t was given the next stamp, and all else beside the core is as it was
 pub record IsStamped (old : LogState) (t : ℕ) (new : LogState) : Type 0 where
-  pub words : new.words ≡ old.words
+  pub shared : new.shared ≡ old.shared
   pub master : new.master ≡ old.master
   pub stamps : IsGiven old.stamps t new.stamps
 
 -- a log that stood at A answered a step as the definitions do, and stands at the list with the step, where it was
 -- accepted
-pub record Stepped (old : LogState) (A : List Step) (step : Step) (new : LogState) (result : Result Reply Fault)
-    : Type 0 where
+pub record Stepped (old : LogState) (A : List Step) (step : Step) (new : LogState)
+    (result : Result Reply Fault) : Type 0 where
   pub reply : result ≡ reply_of old.core.sizes A step
   pub sizes : new.core.sizes ≡ old.core.sizes
   pub standing : StandsAt new (extended old.core.sizes A step)
@@ -64,5 +64,5 @@ IsOwn step = is_own step ≡ true
 -- the log made the step, at whatever list it stood, with the same words and stamps
 pub record Moves (old : LogState) (step : Step) (new : LogState) (result : Result Reply Fault) : Type 0 where
   pub made : Makes old step new result
-  pub words : new.words ≡ old.words
+  pub shared : new.shared ≡ old.shared
   pub stamps : new.stamps ≡ old.stamps

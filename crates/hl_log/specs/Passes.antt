@@ -24,7 +24,7 @@ with_act f p = record (p) { rider = acted f p.rider }
 
 -- the cell of an address of the pass's log
 abbrev pub cell_of : PassState → ℕ → ℕ
-cell_of p a = cell_at p.words.sizes a
+cell_of p a = cell_at p.shared.sizes a
 
 -- the pass that loaded these offsets, and has seen them where they are above its own
 abbrev pub with_look : ℕ → ℕ → PassState → PassState
@@ -50,5 +50,5 @@ pub record IsVacant (log : LogState) (slot : ℕ) (p : PassState) : Type 0 where
   pub stamp_is : p.own.stamp ≡ 0
   pub epoch_is : p.own.epoch ≡ 0
   pub view_is : p.own.view ≡ record { read_only = 0; head = 0; tail = 0 }
-  pub words : p.words ≡ log.words
+  pub shared : p.shared ≡ log.shared
   pub did_nothing : p.rider.view.touches ≡ []

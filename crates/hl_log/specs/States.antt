@@ -11,19 +11,19 @@ use Rattle.hl_log.specs.declared.shared.Shared.{Shared}
 pub record LogState : Type 0 where
   pub core : State Tag
   pub stamps : Stamps
-  pub words : Shared
+  pub shared : Shared
   pub master : RowMasterState
 
 -- a pass: the words of its log, what it keeps of its slot, and what it did to words
 pub record PassState : Type 0 where
-  pub words : Shared
+  pub shared : Shared
   pub own : PassView
   pub rider : RowRiderState
 
 -- a page: the words of its log and the log's stamp, its number, whether it is to be cleaned, whether it was swept, and
 -- what was done to its words
 pub record PageState : Type 0 where
-  pub words : Shared
+  pub shared : Shared
   pub origin : ℕ
   pub page : ℕ
   pub cleans : Bool

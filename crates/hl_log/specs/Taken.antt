@@ -18,29 +18,29 @@ use Rattle.hl_log.specs.States.{LogState, PageState}
 abbrev pub copy_fault : PageState → ℕ → Option Fault
 copy_fault page count =
     if page.cleans then Some NotInFlight
-    else if count == page.words.sizes.page_size then None else Some Size
+    else if count == page.shared.sizes.page_size then None else Some Size
 
 -- the fault of a sweep
 abbrev pub sweep_fault : PageState → Option Fault
 sweep_fault page = if page.cleans then None else Some NotCleaning
 
 -- the page after its rider did this
-abbrev pub page_acted : (RiderView → RiderView) → PageState → PageState
-page_acted f page = record (page) { rider = acted f page.rider }
+abbrev pub page_with_act : (RiderView → RiderView) → PageState → PageState
+page_with_act f page = record (page) { rider = acted f page.rider }
 
 -- the first of its cells
 abbrev pub first_of : PageState → ℕ
-first_of page = first_cell page.words.sizes page.page
+first_of page = first_cell page.shared.sizes page.page
 
 -- the page after a copy that found these words
 abbrev pub copied : List ℕ → PageState → PageState
-copied words page = page_acted (loaded_all (first_of page) words) page
+copied words page = page_with_act (loaded_all (first_of page) words) page
 
 -- the page after a sweep, which stored 0 into each of its cells
 abbrev pub swept : PageState → PageState
 swept page = record (page) {
   swept = true;
-  rider = acted (zeroed (first_of page) page.words.sizes.page_size) page.rider;
+  rider = acted (zeroed (first_of page) page.shared.sizes.page_size) page.rider;
 }
 
 -- the step that takes a page
@@ -53,7 +53,7 @@ numbered number page = record (page) { page = number }
 
 -- a page of this log, for this work, which has not begun
 pub record IsFresh (log : LogState) (cleans : Bool) (page : PageState) : Type 0 where
-  pub words : page.words ≡ log.words
+  pub shared : page.shared ≡ log.shared
   pub origin_is : page.origin ≡ log.stamps.own
   pub cleans_is : page.cleans ≡ cleans
   pub swept_is : page.swept ≡ false
@@ -74,14 +74,14 @@ unless_met None reply = reply
 unless_met (Some fault) reply = Err fault
 
 -- a log that stood at A met this fault, and stays; or made the step as the definitions do
-pub record Ended (old : LogState) (A : List Step) (fault : Option Fault) (step : Step) (new : LogState)
+pub record EndedAt (old : LogState) (A : List Step) (fault : Option Fault) (step : Step) (new : LogState)
     (result : Result Reply Fault) : Type 0 where
   pub reply : result ≡ unless_met fault (reply_of old.core.sizes A step)
   pub sizes : new.core.sizes ≡ old.core.sizes
   pub standing : StandsAt new (if is_none fault then extended old.core.sizes A step else A)
 
 -- so at whatever list it stood; all beside its core is as it was
-pub record Ends (old : LogState) (fault : Option Fault) (step : Step) (new : LogState) (result : Result Reply Fault)
-    : Type 0 where
-  pub ended : (A : List Step) → StandsAt old A → Ended old A fault step new result
+pub record Ends (old : LogState) (fault : Option Fault) (step : Step) (new : LogState)
+    (result : Result Reply Fault) : Type 0 where
+  pub ended : (A : List Step) → StandsAt old A → EndedAt old A fault step new result
   pub beside : IsBeside old new

@@ -42,7 +42,7 @@ impl Log {
     ///
     /// Faults: `NoSlot`, `Occupied`; then nothing is changed.
     pub fn acquire(&mut self, pass: &mut Pass) -> Result<Reply, Fault>
-        requires there { pass.old.words ≡ self.old.words }
+        requires there { pass.old.shared ≡ self.old.shared }
         ensures made { Makes self.old (ACQUIRE pass.old.own.slot) self.new result }
         ensures refused { OnErr result ((self.new ≡ self.old) × (pass.new ≡ pass.old)) }
         ensures stamps { OnOk result (IsStamped self.old pass.old.own.slot self.new) }

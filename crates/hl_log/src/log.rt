@@ -27,14 +27,14 @@ impl Model for Log {
     ghost view = { λ l. record {
       core = l.core;
       stamps = l.stamps;
-      words = l.shared.value;
+      shared = l.shared.value;
       master = l.master;
     } };
 
     ghost invariant = { λ l. IsLog (record {
       core = l.core;
       stamps = l.stamps;
-      words = l.shared.value;
+      shared = l.shared.value;
       master = l.master;
     }) };
 }

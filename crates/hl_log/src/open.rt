@@ -16,7 +16,7 @@ impl Log {
     /// refused.
     pub fn open(alloc: Global, sizes: Sizes, stamp: u64) -> Option<Log>
         ensures { IfSome result (λ log. StandsAt log [] × (log.core.sizes ≡ sizes)
-            × (log.words.sizes ≡ sizes) × (log.stamps.own ≡ stamp) × (log.stamps.given ≡ 0)) }
+            × (log.shared.sizes ≡ sizes) × (log.stamps.own ≡ stamp) × (log.stamps.given ≡ 0)) }
     {
         let core = Core::open(alloc, sizes).ok()?;
         let (words, master) = Shared::open(alloc, sizes)?;

@@ -37,7 +37,7 @@ impl Log {
     ///
     /// Faults: `NoneClosed`, `NoneSealed`; then nothing is changed.
     pub fn take_page(&mut self, page: &mut Taken) -> Result<u64, Fault>
-        requires there { page.old.words ≡ self.old.words }
+        requires there { page.old.shared ≡ self.old.shared }
         requires unswept { page.old.swept ≡ false }
         ensures made { Makes self.old (taking page.old.cleans) self.new (as_reply PAGE result) }
         ensures beside { IsBeside self.old self.new }

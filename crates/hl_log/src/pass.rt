@@ -23,7 +23,7 @@ impl Model for Pass {
 
     ghost Value = { PassState };
 
-    ghost view = { λ p. record { words = p.shared.value; own = p.own; rider = p.rider } };
+    ghost view = { λ p. record { shared = p.shared.value; own = p.own; rider = p.rider } };
 
     ghost invariant = { λ p. p.rider.table ≡ p.shared.value.words.table };
 }

@@ -24,7 +24,7 @@ impl Model for Taken {
     ghost Value = { PageState };
 
     ghost view = { λ t. record {
-      words = t.shared.value;
+      shared = t.shared.value;
       origin = t.origin;
       page = t.page;
       cleans = t.cleans;

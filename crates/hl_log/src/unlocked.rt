@@ -96,7 +96,7 @@ impl Pass {
         ensures kept { IfSome (row_fault self.old.own.view address (length words.old))
             (λ _. words.new ≡ words.old) }
         ensures did { self.new ≡ unless_refused (row_fault self.old.own.view address (length words.old))
-            self.old (with_act (loaded_row self.old.words.sizes address words.new) self.old) }
+            self.old (with_act (loaded_row self.old.shared.sizes address words.new) self.old) }
         ensures own { self.new.own ≡ self.old.own }
         ensures places { length words.new ≡ length words.old }
     {

@@ -28,5 +28,6 @@ pub record IsFast {F : Type 0} (shelf : List (Option (KeptRecord F))) (engine : 
   pub left : AreLeft has A shelf
 
 -- the same at the accepted steps of these lines, of which the first is the config
-abbrev pub FastStands : {F : Type 0} → List (Option (KeptRecord F)) → Whole F → (ℕ → Bool) → List Line → Type 0
+abbrev pub FastStands : {F : Type 0} → List (Option (KeptRecord F)) → Whole F → (ℕ → Bool) → List Line
+    → Type 0
 FastStands shelf engine has before = StandsAt (IsFast shelf engine) has before

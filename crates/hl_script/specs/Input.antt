@@ -23,7 +23,8 @@ budget input = 16384 * (input.most - input.made) + length input.shown
 
 -- these bytes were taken of what was read, in at most so many reads; at the end nothing is left, and the last read gave
 -- nothing
-pub record HasRead (reads : ℕ) (given left : Option (List ℕ)) (input : InputView) (done : List ℕ) : Type 0 where
+pub record HasRead (reads : ℕ) (given left : Option (List ℕ)) (input : InputView) (done : List ℕ)
+    : Type 0 where
   pub consumed : Consumes given left (done ++ input.shown)
   pub few : length done + length input.shown ≤ 16384 * input.made
   pub made : input.made ≤ reads
@@ -32,7 +33,8 @@ pub record HasRead (reads : ℕ) (given left : Option (List ℕ)) (input : Input
       → (input.shown ≡ []) × IsAtEnd left × (length done + 16384 ≤ 16384 * input.made)
 
 -- there is more of the input, or it has ended, or a read failed, which isn't behind its end
-abbrev pub MoreRead : ℕ → Option (List ℕ) → Option (List ℕ) → InputView → InputView → List ℕ → Result Bool Fault
+abbrev pub MoreRead : ℕ → Option (List ℕ) → Option (List ℕ) → InputView → InputView → List ℕ
+    → Result Bool Fault
     → Type 0
 MoreRead reads given left was input done (Ok more) =
     HasRead reads given left input done × (more ≡ false → input.has_ended ≡ true)
@@ -61,7 +63,8 @@ Taken reads given left input done line (Ok taken) =
 Taken reads given left input done line (Err fault) = (fault ≡ Stream) × ReadFailed reads given left done line
 
 -- the bytes of the next line were taken, which is this line, or they are none
-pub record Found (reads : ℕ) (given left : Option (List ℕ)) (input : InputView) (done : List ℕ) (found : Option Line)
+pub record Found (reads : ℕ) (given left : Option (List ℕ)) (input : InputView) (done : List ℕ)
+    (found : Option Line)
     : Type 0 where
   pub raw : List ℕ
   pub spells : line_of raw ≡ found

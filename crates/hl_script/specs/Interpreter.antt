@@ -32,7 +32,8 @@ pub record Answered (stands : (ℕ → Bool) → List Line → Type 0) (has : �
 abbrev pub Answers : ((ℕ → Bool) → List Line → Type 0) → (Line → Bool) → (ℕ → Bool) → List Line → Line
     → Option (List ℕ) → Option (List ℕ) → Result (Option Bool) Fault → Type 0
 Answers stands lacks has before line old new (Ok None) = (is_config line ≡ true) × Keeps old new
-Answers stands lacks has before line old new (Ok (Some counted)) = Answered stands has before line old new counted
+Answers stands lacks has before line old new (Ok (Some counted)) =
+    Answered stands has before line old new counted
 Answers stands lacks has before line old new (Err OutOfMemory) = Appends old new [] × (lacks line ≡ true)
 Answers stands lacks has before line old new (Err Stream) = BreaksOff old new (answered has before line)
 Answers stands lacks has before line old new (Err _) = ⊥

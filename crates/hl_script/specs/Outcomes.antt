@@ -106,13 +106,15 @@ abbrev pub RunStopped : (ℕ → Bool) → ℕ → Option (List ℕ) → Option 
 RunStopped has reads given left before after lacked (BadLineFault n) =
     StoppedAtBadLine has reads given left before after n
 RunStopped has reads given left before after lacked OutOfMemoryFault = StoppedByMemory reads given left lacked
-RunStopped has reads given left before after lacked StreamFault = StoppedByStream has reads given left before after
+RunStopped has reads given left before after lacked StreamFault =
+    StoppedByStream has reads given left before after
 RunStopped has reads given left before after lacked _ = ⊥
 
 -- what a run came to: all was read and answered, and this is left at the end of the lines; or it stopped at a fault
 abbrev pub TextRan : {X : Type 0} → (ℕ → Bool) → ℕ → Option (List ℕ) → Option (List ℕ) → Option (List ℕ)
     → Option (List ℕ) → (List ℕ → Type 0) → (List Line → X → Type 0) → Result X Fault → Type 0
 TextRan has reads given left before after lacked ends (Ok end) =
-    (input : List ℕ) × ReadToEnd reads given left input × WroteAll has before after input × ends (script input) end
+    (input : List ℕ) × ReadToEnd reads given left input × WroteAll has before after input
+    × ends (script input) end
 TextRan has reads given left before after lacked ends (Err fault) =
     RunStopped has reads given left before after lacked fault

@@ -33,7 +33,8 @@ abbrev pub ScriptRan : {S : Type 0} → (S → (ℕ → Bool) → Sizes → List
     → Option (List ℕ) → Option (List ℕ) → Option (List ℕ) → Option (List ℕ) → Result (Option (S × ℕ)) Fault
     → Type 0
 ScriptRan stands may_lack has reads given left from to ended =
-    TextRan has reads given left from to (WroteUpTo has (takes_memory may_lack) from to) (EndsAt stands has) ended
+    TextRan has reads given left from to (WroteUpTo has (takes_memory may_lack) from to)
+    (EndsAt stands has) ended
 
 -- an engine stands at the accepted steps of these lines, which keep the headline
 pub record IsLeft {F : Type 0} (engine : Whole F) (has : ℕ → Bool) (lines : List Line) : Type 0 where

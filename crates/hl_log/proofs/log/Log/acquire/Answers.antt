@@ -21,7 +21,7 @@ returns-clause-made c =
 
 pub returns-clause-known : goal.returns-clause-known
 returns-clause-known c = λ A at some.
-    let old : LogState = record { core = c.self.inside.core; stamps = c.self.inside.stamps; words = c.self.inside.shared.value; master = c.self.inside.master } in
+    let old : LogState = record { core = c.self.inside.core; stamps = c.self.inside.stamps; shared = c.self.inside.shared.value; master = c.self.inside.master } in
     let standing : Stands (λ t. t.0) c.self.inside.core A = subst (λ (l : LogState). Stands (λ t. t.0) l.core A) (sym c.self.view_is) at.standing in
     let stepped = c.in_ok-reply.ensures.made A standing in
     let list : extended c.self.inside.core.sizes A (Acquire c.pass.inside.own.slot) ≡ extended c.args.self.now.core.sizes A (Acquire c.args.pass.now.own.slot)

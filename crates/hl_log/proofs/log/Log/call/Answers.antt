@@ -19,13 +19,13 @@ returns-in_err-begin c =
 pub invariant_of-self : goal.invariant_of-self
 invariant_of-self c =
     let quiet : is_call c.by_slot.result ≡ true = ap is_call c.by_slot.ensures.value ∙ by_slot_call c.pass.inside.own.slot c.args.step.now c.requires in
-    log_beside _ _ c.by_slot.result _ c.self.invariant (makes_quiet _ _ c.by_slot.result _ (call_quiet c.by_slot.result quiet) c.act-reply.ensures.made refl) (record { words = refl; master = refl; stamps = refl })
+    log_beside _ _ c.by_slot.result _ c.self.invariant (makes_quiet _ _ c.by_slot.result _ (call_quiet c.by_slot.result quiet) c.act-reply.ensures.made refl) (record { shared = refl; master = refl; stamps = refl })
 
 pub returns : goal.returns
 returns c =
     let step : Step = by_slot c.pass.inside.own.slot c.args.step.now in
-    let new : LogState = record { core = c.act-reply.new.self; stamps = c.self.inside.stamps; words = c.self.inside.shared.value; master = c.self.inside.master } in
-    let q : PassState = record { words = c.pass.inside.shared.value; own = c.rest_in.new.self; rider = c.pass.inside.rider } in
+    let new : LogState = record { core = c.act-reply.new.self; stamps = c.self.inside.stamps; shared = c.self.inside.shared.value; master = c.self.inside.master } in
+    let q : PassState = record { shared = c.pass.inside.shared.value; own = c.rest_in.new.self; rider = c.pass.inside.rider } in
     subst (λ (p : PassState). Calls c.args.self.now p (by_slot p.own.slot c.args.step.now) new q c.act-reply.result) c.pass.view_is
     (known_calls c.args.self.now new c.self.inside.core _ q step c.in_ok-begin.field-0 c.view.result c.epoch_told-epoch.result c.act-reply.result c.in_ok-begin.ensures.test (record {
       caught_up = λ A at. subst (λ (l : LogState). Stands (λ t. t.0) l.core (looked c.args.self.now.core.sizes A c.pass.inside.own)) (sym c.self.view_is) (c.in_ok-begin.ensures.standing A at).standing;
@@ -34,7 +34,7 @@ returns c =
       epoch_is = c.epoch_told-epoch.ensures;
       pass = search rules;
       beside = record {
-        words = ap (λ (l : LogState). l.words) c.self.view_is ∙ c.begin.ensures.beside.words;
+        shared = ap (λ (l : LogState). l.shared) c.self.view_is ∙ c.begin.ensures.beside.shared;
         master = ap (λ (l : LogState). l.master) c.self.view_is ∙ c.begin.ensures.beside.master;
         stamps = ap (λ (l : LogState). l.stamps) c.self.view_is ∙ c.begin.ensures.beside.stamps;
       };

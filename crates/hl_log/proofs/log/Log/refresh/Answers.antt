@@ -23,14 +23,14 @@ returns-in_err-begin c =
 pub invariant_of-self : goal.invariant_of-self
 invariant_of-self c =
     let s = Refresh c.pass.inside.own.slot in
-    log_beside _ _ s _ c.self.invariant (makes_quiet _ _ s _ (record { raises = refl; shifts = refl; bumps = refl; ends = refl }) c.refresh.ensures.made refl) (record { words = refl; master = refl; stamps = refl })
+    log_beside _ _ s _ c.self.invariant (makes_quiet _ _ s _ (record { raises = refl; shifts = refl; bumps = refl; ends = refl }) c.refresh.ensures.made refl) (record { shared = refl; master = refl; stamps = refl })
 
 pub returns : goal.returns
 returns c =
-    let new : LogState = record { core = c.refresh.new.self; stamps = c.self.inside.stamps; words = c.self.inside.shared.value; master = c.self.inside.master } in
+    let new : LogState = record { core = c.refresh.new.self; stamps = c.self.inside.stamps; shared = c.self.inside.shared.value; master = c.self.inside.master } in
     let caught : (A : List Step) → StandsAt c.args.self.now A → Stands (λ t. t.0) c.self.inside.core (looked c.args.self.now.core.sizes A c.pass.inside.own) = λ A at. subst (λ (l : LogState). Stands (λ t. t.0) l.core (looked c.args.self.now.core.sizes A c.pass.inside.own)) (sym c.self.view_is) (c.in_ok-begin.ensures.standing A at).standing in
     elim c.match-refresh.branch [
-      | in-Ok w ↦ rw (w.pass-is, w.result-is) (subst (λ (p : PassState). Calls c.args.self.now p (Refresh p.own.slot) new (with_own w.rest.new.self (record { words = c.pass.inside.shared.value; own = c.pass.inside.own; rider = c.pass.inside.rider })) (Ok (entered_reply w.in-Ok.slot))) c.pass.view_is
+      | in-Ok w ↦ rw (w.pass-is, w.result-is) (subst (λ (p : PassState). Calls c.args.self.now p (Refresh p.own.slot) new (with_own w.rest.new.self (record { shared = c.pass.inside.shared.value; own = c.pass.inside.own; rider = c.pass.inside.rider })) (Ok (entered_reply w.in-Ok.slot))) c.pass.view_is
           (refresh_calls c.args.self.now new c.self.inside.core _ _ c.in_ok-begin.field-0 w.in-Ok.slot c.in_ok-begin.ensures.test (record {
             caught_up = caught;
             sizes = ap (λ (l : LogState). l.core.sizes) c.self.view_is ∙ c.begin.ensures.sizes;
@@ -38,13 +38,13 @@ returns c =
             epoch_is = refl;
             pass = search rules;
             beside = record {
-              words = ap (λ (l : LogState). l.words) c.self.view_is ∙ c.begin.ensures.beside.words;
+              shared = ap (λ (l : LogState). l.shared) c.self.view_is ∙ c.begin.ensures.beside.shared;
               master = ap (λ (l : LogState). l.master) c.self.view_is ∙ c.begin.ensures.beside.master;
               stamps = ap (λ (l : LogState). l.stamps) c.self.view_is ∙ c.begin.ensures.beside.stamps;
             };
             quiet = refl;
           })))
-      | in-Err w ↦ rw (w.pass-is, w.result-is) (subst (λ (p : PassState). Calls c.args.self.now p (Refresh p.own.slot) new (with_own w.rest_in.new.self (record { words = c.pass.inside.shared.value; own = c.pass.inside.own; rider = c.pass.inside.rider })) (Err w.in-Err.fault)) c.pass.view_is
+      | in-Err w ↦ rw (w.pass-is, w.result-is) (subst (λ (p : PassState). Calls c.args.self.now p (Refresh p.own.slot) new (with_own w.rest_in.new.self (record { shared = c.pass.inside.shared.value; own = c.pass.inside.own; rider = c.pass.inside.rider })) (Err w.in-Err.fault)) c.pass.view_is
           (known_calls c.args.self.now new c.self.inside.core _ _ _ c.in_ok-begin.field-0 w.view.result _ (Err w.in-Err.fault) c.in_ok-begin.ensures.test (record {
             caught_up = caught;
             sizes = ap (λ (l : LogState). l.core.sizes) c.self.view_is ∙ c.begin.ensures.sizes;
@@ -52,7 +52,7 @@ returns c =
             epoch_is = refl;
             pass = search rules;
             beside = record {
-              words = ap (λ (l : LogState). l.words) c.self.view_is ∙ c.begin.ensures.beside.words;
+              shared = ap (λ (l : LogState). l.shared) c.self.view_is ∙ c.begin.ensures.beside.shared;
               master = ap (λ (l : LogState). l.master) c.self.view_is ∙ c.begin.ensures.beside.master;
               stamps = ap (λ (l : LogState). l.stamps) c.self.view_is ∙ c.begin.ensures.beside.stamps;
             };
