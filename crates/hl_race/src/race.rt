@@ -1,5 +1,5 @@
 //! A race: riders beside a crew, and the audit of what they left.
-ghost use Rattle.std.specs.Prelude.{◌≡◌, ◌≤◌, ◌↔◌, IsSome, IfSome};
+ghost use Rattle.std.specs.Prelude.{◌≡◌, ◌≤◌, ◌↔◌, true, false, IsSome, IfSome};
 ghost use Rattle.hl_words.specs.States.{IsSeedOf};
 ghost use Rattle.hl_keeper.specs.Keepers.{steps_most};
 
@@ -10,7 +10,7 @@ use hl_counts::CountTable;
 use hl_crew::{CrewEnd, OpenGate, run_crew};
 use hl_domain::{Domain, Ending};
 use hl_image::MemoryWriter;
-use hl_model::{Fault, Params, Sizes};
+use hl_model::{Fault, Sizes};
 use hl_words::{Realm, Rider, Seed};
 use std::alloc::{AllocError, Global};
 use std::marker::Brand;
@@ -25,6 +25,7 @@ pub struct Race {
     riders: u64,
     rounds: u64,
     cut: bool,
+    wide: bool,
     ghost some_riders: { 1 ≤ riders },
     ghost most_riders: { riders ≤ 8 },
     ghost some_rounds: { 1 ≤ rounds },
@@ -38,7 +39,7 @@ impl Race {
     pub fn checked(riders: u64, rounds: u64, cut: bool) -> Option<Race>
         ensures some { IsSome result ↔ ((1 ≤ riders) × (riders ≤ 8) × (1 ≤ rounds) × (rounds ≤ 1000)) }
         ensures asked { IfSome result (λ race.
-            (race.riders ≡ riders) × (race.rounds ≡ rounds) × (race.cut ≡ cut)) }
+            (race.riders ≡ riders) × (race.rounds ≡ rounds) × (race.cut ≡ cut) × (race.wide ≡ false)) }
     {
         if !(1..=8).contains(&riders) || !(1..=1000).contains(&rounds) {
             return None;
@@ -47,7 +48,22 @@ impl Race {
             riders,
             rounds,
             cut,
+            wide: false,
         })
+    }
+
+    /// The same race without cuts, in a domain of 1,024 slots and 4,096 places for actions. Its riders take the last
+    /// slots. The slow form, which audits what follows a cut, takes no such sizes.
+    pub fn widened(self) -> Race
+        ensures { (result.riders ≡ self.riders) × (result.rounds ≡ self.rounds)
+            × (result.cut ≡ false) × (result.wide ≡ true) }
+    {
+        Race {
+            riders: self.riders,
+            rounds: self.rounds,
+            cut: false,
+            wide: true,
+        }
     }
 
     /// How many riders race.
@@ -62,6 +78,16 @@ impl Race {
         ensures { result ≡ self.rounds }
     {
         self.rounds
+    }
+
+    // How many slots its domain has, and how many places for actions.
+    fn room(self) -> (u64, u64) {
+        if self.wide { (1024, 4096) } else { (8, 16) }
+    }
+
+    // The slot of its first rider: each of the others has the next.
+    fn first_slot(self) -> u64 {
+        if self.wide { 1016 } else { 0 }
     }
 }
 
@@ -130,8 +156,9 @@ pub fn run_race_within<R: Threads + Wait + Sync>(
 ) -> Result<Raced, Fault>
     requires { journal ≤ steps_most }
 {
-    let params = Params::checked(16, 8, 8, 16).ok_or(Fault::Size)?;
-    let seed = Seed::make(alloc, params, race.riders as usize + CREW)?;
+    let (slots, drain) = race.room();
+    let sizes = Sizes::checked(16, 8, slots, drain).ok_or(Fault::Size)?;
+    let seed = Seed::make(alloc, sizes, race.riders as usize + CREW)?;
     race_over::<Brand, R>(rt, alloc, seed, race, journal)
 }
 
@@ -208,7 +235,7 @@ fn run_on<L: Realm + Send + Sync, R: Threads + Wait + Sync>(
     let crew = crew_of(&mut riders)?;
     let (riders, crew) = thread::join(
         rt,
-        || ride_all(rt, alloc, domain, riders, race.rounds, loads),
+        || ride_all(rt, alloc, domain, riders, race, loads),
         || -> CrewBack<L>
             requires { domain.now.sizes.frames ≡ 8 }
         { flush_all(rt, alloc, domain, crew, race) },
@@ -227,14 +254,17 @@ fn ride_all<L: Realm + Send + Sync, R: Threads + Wait + Sync>(
     alloc: Global,
     domain: &Track<L>,
     riders: Vec<Rider<L>>,
-    rounds: u64,
+    race: Race,
     loads: &AtomicU64,
 ) -> Result<Vec<Rider<L>>, AllocError> {
     let jobs = riders.into_iter().enumerate().collect::<Vec<_>>(alloc)?;
     thread::map_vec(
         rt,
         jobs,
-        &|(slot, rider)| ride(rt, domain, rider, slot as u64, rounds, loads),
+        &|(k, rider)| {
+            let slot = race.first_slot().saturating_add(k as u64);
+            ride(rt, domain, rider, slot, race.rounds, loads)
+        },
     )
 }
 

@@ -16,7 +16,9 @@ use std::thread::Threads;
 #[derive(Clone, Copy, Debug, PartialEq, Eq)]
 enum Wanted {
     /// Answer a script; and then flush its sealed pages, where that is wanted.
-    Run { flush: bool },
+    Run {
+        flush: bool,
+    },
     /// Answer a script in the slow form.
     Slow,
     /// Run a script, and report what it left.
@@ -24,7 +26,12 @@ enum Wanted {
     /// Judge a trace.
     Judge,
     /// Run a race.
-    Race { riders: u64, rounds: u64, cut: bool },
+    Race {
+        riders: u64,
+        rounds: u64,
+        cut: bool,
+        wide: bool,
+    },
 }
 
 /// Runs the command that the words name, the program's own name first, and gives the exit status: 0 where it
@@ -59,9 +66,13 @@ pub fn command<T: Threads + Wait + Sync, S: AsStr, R: Read, W: Write, E: Write>(
                 riders,
                 rounds,
                 cut,
+                wide,
             },
         ) => match Race::checked(riders, rounds, cut) {
-            Some(asked) => race(rt, alloc, asked, writer, errors),
+            Some(asked) => {
+                let asked = if wide { asked.widened() } else { asked };
+                race(rt, alloc, asked, writer, errors)
+            }
             // The words were refused.
             None => REFUSED,
         },
@@ -80,6 +91,7 @@ fn read_words<'a, S: AsStr>(alloc: Global, words: &'a [S]) -> Result<Wanted, Err
             riders: race.get_one("riders").unwrap_or(1),
             rounds: race.get_one("rounds").unwrap_or(1),
             cut: race.get_flag("cut"),
+            wide: race.get_flag("wide"),
         },
         Some((_, run)) => Wanted::Run {
             flush: run.get_flag("flush"),
@@ -153,10 +165,15 @@ fn race_words<'a>(alloc: Global) -> Result<Command<'a>, AllocError> {
         .long("cut")
         .action(ArgAction::SetTrue)
         .help("Cuts the journal at the end of each of the crew's turns");
+    let wide = Arg::new(alloc, "wide")
+        .long("wide")
+        .action(ArgAction::SetTrue)
+        .conflicts_with("cut")?
+        .help("Races in a domain of 1,024 slots and 4,096 places for actions");
     Command::new(alloc, "race")
         .about("Runs threads against each other, and checks what they left against their journal")
-        .override_usage("hl_tool race RIDERS ROUNDS [--cut]")
-        .args(vec![in alloc; riders, rounds, cut]?)
+        .override_usage("hl_tool race RIDERS ROUNDS [--cut | --wide]")
+        .args(vec![in alloc; riders, rounds, cut, wide]?)
 }
 
 /// Tells the user why the words gave no command: help was wanted, or they were refused.
