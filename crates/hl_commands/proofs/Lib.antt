@@ -1,1 +1,3 @@
 pub mod ReportLaws
+pub mod JobLaws
+pub mod StatusLaws

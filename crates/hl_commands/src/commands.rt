@@ -1,5 +1,7 @@
-ghost use Rattle.std.specs.Prelude.{◌≡◌, ℕ, ◌+◌, ◌<◌, ◌≤◌, length, Ok, Err, IfOk, IfErr};
+ghost use Rattle.std.specs.Prelude.{◌≡◌, ◌≢◌, ℕ, ◌+◌, ◌<◌, ◌≤◌, false, length, Ok, Err, IfOk, IfErr};
+ghost use Rattle.std.specs.Io.KnownBytes.{Keeps};
 ghost use Rattle.hl_model.specs.declared.fault.Fault.TheVariants.{BadLine, OutOfMemory};
+ghost use Rattle.hl_commands.specs.Commands.{Answered, EndsText, ReportedAs, EndsReport};
 
 use crate::jobs::{AddTicket, TAGS, all_jobs};
 use crate::reports::report_script;
@@ -16,7 +18,8 @@ use std::alloc::Global;
 use std::io::{Read, Write};
 
 /// Answers the script that the reader gives; then, if that is wanted, writes the image of each page that can
-/// be flushed, one a line. Returns the exit status.
+/// be flushed, one a line. Returns the exit status: `DONE` only after the text of the whole script, which is what its
+/// definition says, and `REFUSED` only at a line that is no step.
 pub fn run<R: Read, W: Write, E: Write>(
     alloc: Global,
     flush: bool,
@@ -24,7 +27,9 @@ pub fn run<R: Read, W: Write, E: Write>(
     writer: &mut W,
     errors: &mut E,
 ) -> u8
-    ensures { result ≤ 2 }
+    ensures status { result ≤ 2 }
+    ensures answered { Answered flush (R.remaining reader.old) (R.remaining reader.new)
+        (W.contents writer.old) (W.contents writer.new) result }
 {
     let ended = serve::<CountTable, R, W>(alloc, flush, reader, writer);
     status_of(ended, writer, errors)
@@ -38,7 +43,9 @@ pub fn scan<R: Read, W: Write, E: Write>(
     writer: &mut W,
     errors: &mut E,
 ) -> u8
-    ensures { result ≤ 2 }
+    ensures status { result ≤ 2 }
+    ensures answered { Answered flush (R.remaining reader.old) (R.remaining reader.new)
+        (W.contents writer.old) (W.contents writer.new) result }
 {
     let ended = serve::<ScanTable, R, W>(alloc, flush, reader, writer);
     status_of(ended, writer, errors)
@@ -51,9 +58,11 @@ pub fn slow<R: Read, W: Write, E: Write>(
     writer: &mut W,
     errors: &mut E,
 ) -> u8
-    ensures { result ≤ 2 }
+    ensures status { result ≤ 2 }
+    ensures answered { Answered false (R.remaining reader.old) (R.remaining reader.new)
+        (W.contents writer.old) (W.contents writer.new) result }
 {
-    let ended = slow_text(alloc, reader, writer, TAGS).map(|_| ());
+    let ended = serve_slowly(alloc, reader, writer);
     status_of(ended, writer, errors)
 }
 
@@ -66,7 +75,9 @@ pub fn report<R: Read, W: Write, E: Write>(
     writer: &mut W,
     errors: &mut E,
 ) -> u8
-    ensures { result ≤ 2 }
+    ensures status { result ≤ 2 }
+    ensures reported { ReportedAs (R.remaining reader.old) (R.remaining reader.new)
+        (W.contents writer.old) (W.contents writer.new) result }
 {
     let ended = tell(alloc, reader, writer);
     status_of(ended, writer, errors)
@@ -77,6 +88,7 @@ fn status_of<W: Write, E: Write>(ended: Result<(), Fault>, writer: &mut W, error
     ensures status { result ≤ 2 }
     ensures done { result ≡ 0 → ended ≡ Ok tt }
     ensures refused { result ≡ 2 → (n : ℕ) × (ended ≡ Err (BadLine n)) }
+    ensures kept { Keeps (W.contents writer.old) (W.contents writer.new) }
 {
     let is_out = writer.flush().is_ok();
     match ended {
@@ -93,7 +105,10 @@ fn serve<E: Epochs + Drop, R: Read, W: Write>(
     flush: bool,
     reader: &mut R,
     writer: &mut W,
-) -> Result<(), Fault> {
+) -> Result<(), Fault>
+    ensures { EndsText flush (R.remaining reader.old) (R.remaining reader.new)
+        (W.contents writer.old) (W.contents writer.new) result }
+{
     let shelf = all_jobs(alloc)?;
     let ended: Option<Finished<E, AddTicket>> = run_text(alloc, reader, writer, shelf)?;
     let Some(finished) = ended else {
@@ -106,8 +121,24 @@ fn serve<E: Epochs + Drop, R: Read, W: Write>(
     }
 }
 
+/// Answers the script in the slow form.
+fn serve_slowly<R: Read, W: Write>(
+    alloc: Global,
+    reader: &mut R,
+    writer: &mut W,
+) -> Result<(), Fault>
+    ensures { EndsText false (R.remaining reader.old) (R.remaining reader.new)
+        (W.contents writer.old) (W.contents writer.new) result }
+{
+    slow_text(alloc, reader, writer, TAGS)?;
+    Ok(())
+}
+
 /// Runs the script, and writes its report.
-fn tell<R: Read, W: Write>(alloc: Global, reader: &mut R, writer: &mut W) -> Result<(), Fault> {
+fn tell<R: Read, W: Write>(alloc: Global, reader: &mut R, writer: &mut W) -> Result<(), Fault>
+    ensures { EndsReport (R.remaining reader.old) (R.remaining reader.new)
+        (W.contents writer.old) (W.contents writer.new) result }
+{
     let shelf = all_jobs(alloc)?;
     report_script::<CountTable, AddTicket, R, W>(alloc, reader, writer, shelf)
 }
@@ -117,7 +148,9 @@ fn flush_pages<E: Epochs + Drop, F: Task, W: Write>(
     alloc: Global,
     engine: Engine<E, F, Sum>,
     writer: &mut W,
-) -> Result<(), Fault> {
+) -> Result<(), Fault>
+    ensures { (n : ℕ) → result ≢ Err (BadLine n) }
+{
     let mut engine = engine;
     let params = engine.params();
     let size = 8 + 8 * params.page_size();

@@ -1,4 +1,7 @@
-ghost use Rattle.std.specs.Prelude.{◌≡◌, ◌+◌, ◌<◌, ◌^◌};
+ghost use Rattle.std.specs.Prelude.{◌≡◌, ◌+◌, ◌<◌, ◌^◌, IfOk, IfErr};
+ghost use Rattle.hl_model.specs.declared.fault.Fault.TheVariants.{OutOfMemory};
+ghost use Rattle.hl_script.specs.Text.{tags_on};
+ghost use Rattle.hl_commands.specs.Commands.{AreTheTags};
 
 use hl_action::{Firing, Kept, Shelf, Task};
 use hl_model::Fault;
@@ -27,7 +30,10 @@ impl Task for AddTicket {
 /// Returns a shelf with a job for each tag.
 ///
 /// Fault: `OutOfMemory` if memory is refused.
-pub(crate) fn all_jobs(alloc: Global) -> Result<Shelf<AddTicket, Sum>, Fault> {
+pub(crate) fn all_jobs(alloc: Global) -> Result<Shelf<AddTicket, Sum>, Fault>
+    ensures tags { IfOk result (λ shelf. AreTheTags (tags_on shelf)) }
+    ensures memory { IfErr result (λ fault. fault ≡ OutOfMemory) }
+{
     let mut shelf = Shelf::open(alloc, TAGS)?;
     for tag in 0..TAGS {
         shelf.put(Kept::new(tag, AddTicket { tag }));

@@ -1,5 +1,6 @@
-ghost use Rattle.std.specs.Prelude.{◌≡◌, ◌≤◌, IfOk, OnOk};
+ghost use Rattle.std.specs.Prelude.{◌≡◌, ◌≤◌, ◌⊎◌, IfOk, OnOk};
 ghost use Rattle.std.specs.Io.KnownBytes.{Appends};
+ghost use Rattle.hl_commands.specs.Commands.{JudgedAs};
 ghost use Rattle.hl_commands.specs.Judged.{verdict_text, verdict_status};
 
 use crate::jobs::{AddTicket, all_jobs};
@@ -23,7 +24,9 @@ pub fn judge<R: Read, W: Write, E: Write>(
     writer: &mut W,
     errors: &mut E,
 ) -> u8
-    ensures { result ≤ 2 }
+    ensures status { result ≤ 2 }
+    ensures judged { JudgedAs (R.remaining reader.old) (W.contents writer.old) (W.contents writer.new) result
+        ⊎ (result ≡ FAILED) }
 {
     match judge_and_tell(alloc, reader, writer) {
         Ok(status) => status,
@@ -37,7 +40,8 @@ fn judge_and_tell<R: Read, W: Write>(
     reader: &mut R,
     writer: &mut W,
 ) -> Result<u8, Fault>
-    ensures { IfOk result (λ status. status ≤ 2) }
+    ensures { IfOk result (λ status. (status ≤ 2)
+        × JudgedAs (R.remaining reader.old) (W.contents writer.old) (W.contents writer.new) status) }
 {
     let Ok(mut trace) = BufReader::with_capacity(alloc, CHUNK, reader) else {
         return Err(Fault::OutOfMemory);
