@@ -21,8 +21,9 @@ pub fn evicted_were_flushed()
     ensures { EvictedWereFlushed }
 {}
 
-/// So was the page of an address below a head that a session's [`look`](crate::Session::look) loaded: no load is above
-/// the head of the one list.
+/// Evicted means written also as a session sees it: the page of an address below a head that its
+/// [`look`](crate::Session::look) loaded was answered as flushed by one of the log's riders. No load is above the head of
+/// the one list.
 pub fn loaded_evicted_were_flushed<F: Task>()
     ensures { LoadedEvictedWereFlushed F }
 {}
