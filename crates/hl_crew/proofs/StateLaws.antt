@@ -1,9 +1,10 @@
 -- What a crew's threads keep of what they were given.
-use Rattle.std.proofs.Common.{◌≡◌, ℕ, Bool, true, false, List, sym, ap, ◌∙◌, subst}
+use Rattle.std.proofs.Common.{◌≡◌, ℕ, Bool, true, false, ◌&&◌, List, sym, ap, ◌∙◌, subst}
 use Rattle.std.specs.Prelude.{Result, Ok, Err}
 use Rattle.hl_model.specs.Sizes.{Sizes}
 use Rattle.hl_words.specs.States.{RiderState}
 use Rattle.hl_domain.specs.Domains.{DomainState}
+use Rattle.hl_crew.specs.declared.crew.Crew.{Crew}
 use Rattle.hl_crew.specs.declared.flusher.FlusherState.{FlusherState}
 use Rattle.hl_crew.specs.declared.state.CrewState.{CrewState}
 use Rattle.hl_crew.specs.declared.messages.Over.{Over}
@@ -11,7 +12,7 @@ use Rattle.hl_crew.specs.declared.limits.Limits.{Limits}
 use Rattle.hl_crew.specs.declared.writer.WriterState.{WriterState}
 use Rattle.hl_crew.specs.Goes.{UpTo}
 use Rattle.hl_crew.specs.Riders.{FlushesNone, HasImages, WritesPage, FailsPage, WorksOn, WritesOn, AllWorkOn, IsAsGiven, AreAsGiven, crew_of}
-use Rattle.hl_crew.specs.Rounds.{MakesRound}
+use Rattle.hl_crew.specs.Rounds.{MakesRound, RoundsIf, EndsByRounds}
 use Rattle.hl_crew.proofs.RepeatLaws.{up_to_holds}
 use Rattle.hl_crew.proofs.RiderLaws.{no_more, then, turned_works, cleaner_works}
 use Rattle.hl_crew.proofs.WriterLaws.{writer_same, writer_then, writer_works}
@@ -83,3 +84,14 @@ rounds_work {L} {W} has F domain limits lets wrote failed failures most result o
     }
     round i (Ok false) old new (one, same) = flusher_alone has true domain.sizes old new (turned_works domain.sizes F domain limits true (Ok false) old.flusher new.flusher one) same
     round i (Err over) old new (one, same) = flusher_alone has true domain.sizes old new (turned_works domain.sizes F domain limits true (Err over) old.flusher new.flusher one) same
+
+module _ {L W : Type 0} (F : Type 0) (domain : DomainState) (limits : Limits) (lets : ℕ → Type 0) (wrote failed : W → ℕ → List ℕ → W → Type 0) (failures : W → ℕ) where
+  -- a crew that was whole ends by its rounds
+  pub ended_by_rounds : (whole none serves : Bool) (left last : CrewState L W) (crew : Crew L W) → whole ≡ true → none ≡ serves → RoundsIf F domain limits lets wrote failed failures (whole && none) left last → crew ≡ crew_of last → EndsByRounds F domain limits lets wrote failed failures serves crew
+  ended_by_rounds true none serves left last crew is same rounds ended = record {
+    left = left;
+    last = last;
+    rounds = subst (λ b. RoundsIf F domain limits lets wrote failed failures b left last) same rounds;
+    is = sym ended;
+  }
+  ended_by_rounds false none serves left last crew is same rounds ended = cc

@@ -12,10 +12,14 @@ abbrev pub duty_cuts : Option ℕ → Cuts
 duty_cuts (Some steps) = Above steps
 duty_cuts None = Never
 
--- the limits of a crew that serves by a duty
+-- the limits of a crew that serves by a duty: its turns end by a stop
 abbrev pub duty_limits : Duty → Limits
-duty_limits duty =
-    record { mutable = duty.mutable; resident = duty.resident; cuts = duty_cuts duty.cut_above }
+duty_limits duty = record {
+  mutable = duty.mutable;
+  resident = duty.resident;
+  cuts = duty_cuts duty.cut_above;
+  turns = 2 ^ 64 - 1;
+}
 
 -- when a crew cuts that is told to, or not to, at each turn's end
 abbrev pub run_cuts : Bool → Cuts
@@ -23,15 +27,11 @@ run_cuts true = EachTurn
 run_cuts false = Never
 
 -- the limits of a crew that makes a number of turns
-abbrev pub run_limits : ℕ → ℕ → Bool → Limits
-run_limits mutable resident cut = record { mutable = mutable; resident = resident; cuts = run_cuts cut }
+abbrev pub run_limits : ℕ → ℕ → ℕ → Bool → Limits
+run_limits mutable resident turns cut =
+    record { mutable = mutable; resident = resident; cuts = run_cuts cut; turns = turns }
 
 -- a crew serves until its stop is given, and doesn't make a number of turns
 abbrev pub is_until : Mode → Bool
-is_until (Turns most) = false
+is_until Turns = false
 is_until (Until stop) = true
-
--- how often its cleaner looks for a page at most
-abbrev pub looks_of : Mode → ℕ
-looks_of (Turns most) = most
-looks_of (Until stop) = 2 ^ 64 - 1

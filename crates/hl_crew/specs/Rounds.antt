@@ -1,6 +1,7 @@
 -- The last rounds of a crew whose threads have ended.
 use Rattle.std.specs.Prelude.{◌≡◌, ℕ, ◌-◌, ◌^◌, Bool, true, false, Result, Ok, Err, List}
 use Rattle.hl_domain.specs.Domains.{DomainState}
+use Rattle.hl_crew.specs.declared.crew.Crew.{Crew}
 use Rattle.hl_crew.specs.declared.flusher.FlusherState.{FlusherState}
 use Rattle.hl_crew.specs.declared.state.CrewState.{CrewState}
 use Rattle.hl_crew.specs.declared.messages.Over.{Over}
@@ -8,6 +9,7 @@ use Rattle.hl_crew.specs.declared.limits.Limits.{Limits}
 use Rattle.hl_crew.specs.Goes.{UpTo}
 use Rattle.hl_crew.specs.Looks.{LooksNext}
 use Rattle.hl_crew.specs.Pages.{FindsPage}
+use Rattle.hl_crew.specs.Riders.{crew_of}
 use Rattle.hl_crew.specs.Runs.{Serves}
 use Rattle.hl_crew.specs.Turns.{Finds}
 
@@ -43,3 +45,10 @@ module _ {L W : Type 0} (F : Type 0) (domain : DomainState) (limits : Limits) (l
   abbrev pub RoundsIf : Bool → CrewState L W → CrewState L W → Type 0
   RoundsIf true old new = (result : Result (Unit {0}) Over) × UpTo MakesRound 1000 result old new
   RoundsIf false old new = new ≡ old
+
+  -- what a crew's threads left made the last rounds, if it serves, and this is the crew then
+  pub record EndsByRounds (serves : Bool) (crew : Crew L W) : Type 0 where
+    pub left : CrewState L W
+    pub last : CrewState L W
+    pub rounds : RoundsIf serves left last
+    pub is : crew_of last ≡ crew

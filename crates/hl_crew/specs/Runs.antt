@@ -81,7 +81,7 @@ module _ {L : Type 0} (F : Type 0) (domain : DomainState) where
       pub before : Followed ServesNext turns (serve_of old 0) last
       pub ended : MatchResult result (λ _. new ≡ last.own) (λ over. Serves (Err over) last.own new)
 
-    -- all turns: so many, up to one that failed; or those until a stop was given
+    -- all turns: as many as the limits say, up to one that failed; or those until a stop was given
     abbrev pub TurnsBy : Mode → FlusherState L → FlusherState L → Type 0
-    TurnsBy (Turns most) old new = (result : Result (Unit {0}) Over) × UpTo TurnsNext most result old new
+    TurnsBy Turns old new = (result : Result (Unit {0}) Over) × UpTo TurnsNext limits.turns result old new
     TurnsBy (Until stop) old new = (result : Result Stopped Over) × ServesUntil result old new

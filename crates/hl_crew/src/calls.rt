@@ -1,11 +1,13 @@
-ghost use Rattle.std.specs.Prelude.{◌≡◌, ◌≢◌, ◌<◌, [], ◌∷◌, Err, false, true, is_none, IfOk, IfErr};
+ghost use Rattle.std.specs.Prelude.{◌≡◌, ◌≢◌, ◌<◌, [], ◌∷◌, Err, false, true, is_none, IsOk, IfOk, IfErr};
 ghost use Rattle.hl_crew.specs.Lags.{IsLag};
 ghost use Rattle.hl_crew.specs.Limited.{duty_limits, run_limits, is_until};
-ghost use Rattle.hl_crew.specs.Riders.{AreAsGiven, StoreSweeps, riders_of};
+ghost use Rattle.hl_crew.specs.Riders.{AreAsGiven, StoreSweeps, FailsPage, WritesPage, riders_of};
+ghost use Rattle.hl_crew.specs.Rounds.{EndsByRounds};
 ghost use Rattle.hl_model.specs.declared.fault.Fault.TheVariants.{OutOfMemory, Size};
 
 use crate::crew::{Crew, CrewReport, CrewRiders};
 use crate::duty::Duty;
+use crate::ended::EndFlag;
 use crate::gate::Gate;
 use crate::given::Given;
 use crate::limits::Limits;
@@ -58,7 +60,7 @@ impl<L: Realm, W> CrewEnd<L, W> {
 /// in a thread of its own. Of the riders the first is the flusher's, the next two are the writers',
 /// the last is the cleaner's. About `mutable` pages at the tail may be written and about `resident`
 /// may be read: `1 <= mutable <= resident <= F`. If `cut` is true, the journal is cut at the end of
-/// each of the flusher's turns. The end has these three as the limits that all threads kept to.
+/// each of the flusher's turns. The end has these four as the limits that all threads kept to.
 ///
 /// With as many resident pages as frames, the head never passes the page whose frame the page above
 /// the tail needs, and no frame comes free: [`Duty`] excludes that.
@@ -90,7 +92,7 @@ where
     W: PageWriter + Send,
     G: Gate + Sync,
     requires { IsLag domain.now.sizes.frames mutable resident }
-    ensures limits { IfOk result (λ end. end.limits ≡ run_limits mutable resident cut) }
+    ensures limits { IfOk result (λ end. end.limits ≡ run_limits mutable resident turns cut) }
     ensures sweeps { let sizes = domain.now.sizes
         in StoreSweeps sizes riders → (IfOk result (λ end. StoreSweeps sizes end.riders)
         × IfErr result (λ back. StoreSweeps sizes back.1)) }
@@ -107,8 +109,8 @@ where
         first,
         second,
     };
-    let limits = Limits::of_run(mutable, resident, cut);
-    let mode = Mode::Turns(turns);
+    let limits = Limits::of_run(mutable, resident, turns, cut);
+    let mode = Mode::Turns;
     let (crew, report) = crew.run::<R, E, F, P, G, Brand>(rt, alloc, domain, gate, limits, mode);
     let Crew {
         riders,
@@ -137,8 +139,9 @@ where
 impl<L: Realm, W> Crew<L, W> {
     /// Serves a domain until the stop is given, as [`run_crew`] does for a number of turns: but each writer takes its
     /// pages itself, copies, writes and answers them, so no acknowledgement is a stranger. It sleeps while there is
-    /// nothing to do, and ends once nothing is in flight. If the journal is full, it cuts it where the duty lets it;
-    /// else a full journal ends it before its stop. The crew comes back, whatever it met, and its report has the duty's
+    /// nothing to do. Once all threads have ended, the calling thread makes at most 1,000 rounds, of a turn of the flusher
+    /// and all looks of the others, up to the first in which the flusher got nowhere: so it ends once nothing is in flight.
+    /// If the journal is full, it cuts it where the duty lets it; else a full journal ends it before its stop. The crew comes back, whatever it met, and its report has the duty's
     /// limits. Of what the riders stored the same holds. If they had flushed nothing, then each page that those which
     /// come back flushed is with the writer of that rider, as the image of the words that the rider copied between its
     /// take and its answer: at the domain's end it is an image of the page, by `hl_images`. Of a page whose write
@@ -170,6 +173,8 @@ impl<L: Realm, W> Crew<L, W> {
         ensures memory { duty.frames ≡ domain.now.sizes.frames
             → IfErr result.1 (λ fault. fault ≡ OutOfMemory) }
         ensures limits { IfOk result.1 (λ report. report.limits ≡ duty_limits duty) }
+        ensures rounds { IsOk result.1 → EndsByRounds F domain.now (duty_limits duty) (G.lets gate.now)
+            (WritesPage W.has W.wrote) (FailsPage W.has W.failed) W.failures true result.0 }
         ensures kept { AreAsGiven W.has true domain.now.sizes (riders_of self.riders) result.0 }
     {
         if duty.frames() != domain.params().frames() {
@@ -203,6 +208,8 @@ impl<L: Realm, W> Crew<L, W> {
             × (K.serves ≡ is_until mode) }
         ensures memory { IfErr result.1 (λ fault. fault ≡ OutOfMemory) }
         ensures limits { IfOk result.1 (λ report. report.limits ≡ limits) }
+        ensures rounds { IsOk result.1 → EndsByRounds F domain.now limits (G.lets gate.now)
+            (WritesPage W.has W.wrote) (FailsPage W.has W.failed) W.failures K.serves result.0 }
         ensures kept { AreAsGiven W.has K.serves K.sizes K.riders result.0 }
     {
         let Ok((channels, buffers)) = open_rows(alloc, domain, &mode) else {
@@ -218,11 +225,11 @@ impl<L: Realm, W> Crew<L, W> {
             cleaner: Parker::new(),
             first: Parker::new(),
             second: Parker::new(),
-            has_ended: AtomicBool::new(false),
+            ended: EndFlag::new(),
             has_written: AtomicBool::new(false),
         };
         let seats = Seats::<L, W, K>::of(CrewState::of(self, buffers));
-        let whole = run.run_threads(&seats);
+        let whole = run.run_threads(&seats).ok();
         let mut state = seats.end();
         run.end_rounds(&mut state, whole.is_some());
         let (crew, counts) = state.into_crew();
@@ -242,7 +249,7 @@ fn open_rows<E: Epochs + Drop, F: Task, P: Promise, L: Realm>(
     ensures memory { IfErr result (λ fault. fault ≡ OutOfMemory) }
 {
     let channels = match mode {
-        Mode::Turns(_) => Some(Channels::open(alloc).map_err(|_| Fault::OutOfMemory)?),
+        Mode::Turns => Some(Channels::open(alloc).map_err(|_| Fault::OutOfMemory)?),
         Mode::Until(_) => None,
     };
     let first = Buffers::open(alloc, domain)?;

@@ -31,7 +31,7 @@ impl<R: Wait, E: Epochs + Drop, F: Task, P: Promise, L: Realm, G> Run<'_, R, E, 
         requires { IsGiven K.sizes K.serves self.now.domain.now self.now.channels }
     {
         let mut seat = own.lock(self.rt);
-        let _ = self.clean_all(&mut seat.own, self.mode.looks());
+        let _ = self.clean_all(&mut seat.own, self.limits.turns());
     }
 
     /// Looks for closed pages, and cleans each, by at most this many looks.
@@ -41,7 +41,7 @@ impl<R: Wait, E: Epochs + Drop, F: Task, P: Promise, L: Realm, G> Run<'_, R, E, 
     {
         let looker = Looker {
             rt: self.rt,
-            has_ended: &self.has_ended,
+            ended: &self.ended,
             sleeper: &self.cleaner,
         };
         looker.look_on(self, rider, most)

@@ -7,6 +7,7 @@ ghost use Rattle.hl_crew.specs.Runs.{FlushesIf, MakesTurn, TurnsBy, TurnsNext, S
 ghost use Rattle.hl_crew.specs.Riders.{IsGiven, WorksOn};
 
 use crate::counts::Counts;
+use crate::ended::Raised;
 use crate::given::Given;
 use crate::limits::Cuts;
 use crate::messages::{Channels, Over};
@@ -50,15 +51,15 @@ impl<L: Realm> HasRider for FlusherState<L> {
 impl<R: Wait, E: Epochs + Drop, F: Task, P: Promise, L: Realm, G> Run<'_, R, E, F, P, L, G> {
     /// The flusher's thread: makes its turns until they are over, and then ends the others.
     #[tactic(auto, using(crate::proofs::StateLaws::rider_as_given))]
-    pub(crate) fn run_flusher<K: Given>(&self, own: &Mutex<Seat<FlusherState<L>, K>>)
+    pub(crate) fn run_flusher<K: Given>(&self, own: &Mutex<Seat<FlusherState<L>, K>>) -> Raised
         requires { IsGiven K.sizes K.serves self.now.domain.now self.now.channels }
     {
         let mut seat = own.lock(self.rt);
         self.make_all_turns(&mut seat.own);
-        self.end();
+        self.end()
     }
 
-    // Makes its turns, as many as the mode says. Its rider stores nothing, and if the crew serves, it flushes no page.
+    // Makes its turns, as many as the limits say, or until the stop. Its rider stores nothing, and if the crew serves, it flushes no page.
     fn make_all_turns(&self, own: &mut FlusherState<L>)
         ensures turns { TurnsBy F self.now.domain.now self.now.limits
             (is_none self.now.channels) self.now.mode own.old own.new }
@@ -66,8 +67,8 @@ impl<R: Wait, E: Epochs + Drop, F: Task, P: Promise, L: Realm, G> Run<'_, R, E, 
             own.old.rider own.new.rider }
     {
         match &self.mode {
-            Mode::Turns(most) => {
-                let _ = self.make_turns(own, *most);
+            Mode::Turns => {
+                let _ = self.make_turns(own);
             }
             Mode::Until(stop) => {
                 let _ = self.serve(own, stop);
@@ -75,13 +76,13 @@ impl<R: Wait, E: Epochs + Drop, F: Task, P: Promise, L: Realm, G> Run<'_, R, E, 
         }
     }
 
-    // Makes this many turns, up to the first that failed. After each it wakes the cleaner.
+    // Makes as many turns as the limits say, up to the first that failed. After each it wakes the cleaner.
     #[tactic(auto, using(crate::proofs::GoesLaws::going))]
-    fn make_turns(&self, own: &mut FlusherState<L>, most: u64) -> Result<(), Over>
+    fn make_turns(&self, own: &mut FlusherState<L>) -> Result<(), Over>
         ensures { UpTo (TurnsNext F self.now.domain.now self.now.limits
-            (is_none self.now.channels)) most result own.old own.new }
+            (is_none self.now.channels)) self.now.limits.turns result own.old own.new }
     {
-        for _ in 0..most {
+        for _ in 0..self.limits.turns() {
             let made = self.turn(own);
             self.cleaner.unpark();
             made?;

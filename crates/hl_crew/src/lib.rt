@@ -80,7 +80,8 @@
 //! | `duty`, `stop` | what a crew that serves is given; what ends it |
 //! | `limits`, `mode` | what all its threads keep to; for how long they work |
 //! | `flusher`, and in it `lag`, `asked`, `actions`, `pages`, `acknowledgements` | the flusher's turn, a part each |
-//! | `looks`, `woken`, `ends` | how a thread looks for pages; who is woken; how what was taken is ended |
+//! | `looks`, `ended`, `woken` | how a thread looks for pages; whether the flusher has ended; who is woken |
+//! | `ends` | how what was taken is ended |
 //! | `writer`, and in it `buffers`, `write` and `flush`; `cleaner` | the other threads |
 //! | `pouch` | the pages that wait for their acknowledgement |
 //! | `gate`, `messages`, `counts` | when a page may be written; what the channels carry; what is counted |
@@ -91,6 +92,7 @@ mod cleaner;
 mod counts;
 mod crew;
 mod duty;
+mod ended;
 mod ends;
 mod flusher;
 mod gate;

@@ -15,13 +15,14 @@ pub enum Cuts {
     Above(u64),
 }
 
-/// What a crew keeps to: how many pages at the tail may be written and how many may be read, and when it cuts. Only
-/// what a crew is given makes them.
+/// What a crew keeps to: how many pages at the tail may be written and how many may be read, when it cuts, and how many
+/// turns it makes. Only what a crew is given makes them.
 #[derive(Clone, Copy, Debug, PartialEq, Eq)]
 pub struct Limits {
     mutable: u64,
     resident: u64,
     cuts: Cuts,
+    turns: u64,
 }
 
 impl Limits {
@@ -36,17 +37,19 @@ impl Limits {
                 Some(steps) => Cuts::Above(steps),
                 None => Cuts::Never,
             },
+            turns: u64::MAX,
         }
     }
 
     /// Returns those of a crew that makes a number of turns, and cuts at the end of each, or never.
-    pub(crate) fn of_run(mutable: u64, resident: u64, cut: bool) -> Limits
-        ensures { result ≡ run_limits mutable resident cut }
+    pub(crate) fn of_run(mutable: u64, resident: u64, turns: u64, cut: bool) -> Limits
+        ensures { result ≡ run_limits mutable resident turns cut }
     {
         Limits {
             mutable,
             resident,
             cuts: if cut { Cuts::EachTurn } else { Cuts::Never },
+            turns,
         }
     }
 
@@ -69,6 +72,14 @@ impl Limits {
         ensures { result ≡ self.cuts }
     {
         self.cuts
+    }
+
+    /// Returns how many turns the flusher makes, and how often the cleaner looks for a page at most. It is 2^64 - 1 if the
+    /// crew serves: then the turns end by a stop.
+    pub fn turns(self) -> u64
+        ensures { result ≡ self.turns }
+    {
+        self.turns
     }
 
     /// Returns whether a full journal is cut, so that the turns go on.

@@ -3,9 +3,9 @@ ghost use Rattle.std.specs.Prelude.{◌≡◌, true, false, Ok, IfOk};
 ghost use Rattle.hl_crew.specs.Goes.{UpTo};
 ghost use Rattle.hl_crew.specs.Looks.{LooksNext};
 
+use crate::ended::{EndFlag, Seen};
 use crate::messages::Over;
 use std::sync::Wait;
-use std::sync::atomic::{AtomicBool, Ordering};
 use std::thread::Parker;
 
 /// What looks for a page, with what a thread has of its own.
@@ -24,8 +24,8 @@ pub(crate) trait Look<S> {
 #[derive(Drop)]
 pub(crate) struct Looker<'x, R> {
     pub(crate) rt: &'x R,
-    /// Whether the flusher has made its turns.
-    pub(crate) has_ended: &'x AtomicBool,
+    /// Raised once the flusher has made its turns.
+    pub(crate) ended: &'x EndFlag,
     /// Where it sleeps.
     pub(crate) sleeper: &'x Parker,
 }
@@ -43,8 +43,8 @@ impl<R: Wait> Looker<'_, R> {
         ensures { UpTo (LooksNext (H.finds with.now)) most result own.old own.new }
     {
         for _ in 0..most {
-            let has_ended = self.has_ended.load(Ordering::SeqCst);
-            if !self.look_once(with, own, has_ended)? {
+            let seen = self.ended.seen();
+            if !self.look_once(with, own, seen)? {
                 return Ok(());
             }
         }
@@ -54,13 +54,14 @@ impl<R: Wait> Looker<'_, R> {
     // Looks for a page, once it is known whether the flusher has ended: what it did before such a look is found by
     // the next. If there is none, it sleeps until the flusher has made another turn, unless the flusher had ended.
     // False if the look was in vain, and the flusher had ended before it.
-    fn look_once<S, H: Look<S>>(&self, with: &H, own: &mut S, has_ended: bool) -> Result<bool, Over>
+    fn look_once<S, H: Look<S>>(&self, with: &H, own: &mut S, seen: Seen) -> Result<bool, Over>
         ensures looks { LooksNext (H.finds with.now) 0 result own.old own.new }
-        ensures last { IfOk result (λ next. next ≡ false → has_ended ≡ true) }
-        ensures found { IfOk result (λ next. has_ended ≡ true → next ≡ true
+        ensures last { IfOk result (λ next. next ≡ false → seen.is_raised ≡ true) }
+        ensures found { IfOk result (λ next. seen.is_raised ≡ true → next ≡ true
             → H.finds with.now (Ok true) own.old own.new) }
     {
         let found = with.find(own)?;
+        let has_ended = seen.is_raised();
         if !found && !has_ended {
             self.sleeper.park(self.rt);
         }

@@ -1,9 +1,9 @@
 ghost use Rattle.std.specs.Prelude.{◌≡◌};
 ghost use Rattle.hl_crew.specs.Overs.{over_of};
 
+use crate::pouch::Held;
 use crate::writer::Acknowledgement;
 use crossbeam_channel::{Receiver, Sender, bounded};
-use hl_domain::PageJob;
 use hl_model::Fault;
 use std::alloc::{AllocError, Global};
 
@@ -11,10 +11,10 @@ use std::alloc::{AllocError, Global};
 const CAPACITY: usize = 4;
 
 /// What the flusher sends a writer.
-#[derive(Clone, Copy)]
+#[derive(Drop)]
 pub(crate) enum Message {
     /// To write a page.
-    Write(PageJob),
+    Write(Held),
     /// To end.
     Stop,
 }

@@ -5,7 +5,7 @@ ghost use Rattle.hl_crew.specs.Tries.{EndsFlush};
 ghost use Rattle.hl_crew.specs.Waits.{Waits};
 
 use hl_action::{Promise, Task};
-use hl_domain::{Domain, Load};
+use hl_domain::{Domain, Load, PageJob};
 use hl_epoch::Epochs;
 use hl_model::Fault;
 use hl_words::{Realm, Rider};
@@ -29,6 +29,21 @@ impl Model for Pouch {
     ghost invariant = { λ a. length a.loads ≡ 4 };
 }
 
+/// The job of a page that was put into a pouch. Only [`Pouch::hold`] makes one, so no other page is sent to a writer.
+#[derive(Drop)]
+pub(crate) struct Held {
+    job: PageJob,
+}
+
+impl Held {
+    /// Returns the job.
+    pub(crate) fn job(self) -> PageJob
+        ensures { result ≡ self.job }
+    {
+        self.job
+    }
+}
+
 impl Pouch {
     /// Returns a pouch that holds none.
     pub fn new() -> Pouch
@@ -40,16 +55,28 @@ impl Pouch {
     }
 
     /// Puts a page into the first place that is free. It holds fewer than four.
-    #[tactic(auto, using(crate::proofs::PouchLaws::none_free, crate::proofs::PouchLaws::filled))]
     pub fn put(&mut self, load: Load)
         requires { load_count self.old < 4 }
         ensures held { Puts load self.old self.new }
         ensures more { load_count self.new ≡ load_count self.old + 1 }
     {
+        let _ = self.hold(load);
+    }
+
+    /// The same. Returns the page's job, for a writer.
+    #[tactic(auto, using(crate::proofs::PouchLaws::none_free, crate::proofs::PouchLaws::filled))]
+    pub(crate) fn hold(&mut self, load: Load) -> Held
+        requires { load_count self.old < 4 }
+        ensures held { Puts load self.old self.new }
+        ensures more { load_count self.new ≡ load_count self.old + 1 }
+        ensures job { result.job ≡ load }
+    {
+        let job = load.job();
         match self.free_place() {
             Some(at) => self.set(at, load),
             None => unreachable!(),
         }
+        Held { job }
     }
 
     /// Answers the flush of a page as ended, well or not; returns the flushed offset. The page is

@@ -2,6 +2,7 @@ ghost use Rattle.std.specs.Prelude.{◌≡◌, is_none};
 ghost use Rattle.hl_crew.specs.Cutting.{OrCuts};
 ghost use Rattle.hl_crew.specs.Lags.{IsLag};
 
+use crate::ended::{EndFlag, Raised};
 use crate::limits::Limits;
 use crate::messages::{Channels, Message, Over};
 use crate::mode::Mode;
@@ -11,7 +12,7 @@ use hl_domain::Domain;
 use hl_epoch::Epochs;
 use hl_words::{Realm, Rider};
 use std::sync::Wait;
-use std::sync::atomic::{AtomicBool, Ordering};
+use std::sync::atomic::AtomicBool;
 use std::thread::Parker;
 
 /// A crew's run: what its threads work on and share. The limits stand here alone: all threads keep to the same.
@@ -28,8 +29,8 @@ pub(crate) struct Run<'x, R, E: Epochs, F: Task, P: Promise, L: Realm, G> {
     pub(crate) cleaner: Parker,
     pub(crate) first: Parker,
     pub(crate) second: Parker,
-    /// Whether the flusher has made its turns.
-    pub(crate) has_ended: AtomicBool,
+    /// Raised once the flusher has made its turns.
+    pub(crate) ended: EndFlag,
     /// Whether a writer has written a page that it took itself since the flusher asked.
     pub(crate) has_written: AtomicBool,
     ghost lag: { IsLag domain.now.sizes.frames limits.mutable limits.resident },
@@ -74,13 +75,14 @@ impl<R: Wait, E: Epochs + Drop, F: Task, P: Promise, L: Realm, G> Run<'_, R, E, 
 
     /// The flusher makes no more turns: each writer that waits gets the message to stop, and whoever looks for pages
     /// is woken, and ends once it finds none.
-    pub(crate) fn end(&self) {
+    pub(crate) fn end(&self) -> Raised {
         if let Some(channels) = &self.channels {
             for _ in 0..2 {
                 let _ = channels.jobs.send(self.rt, Message::Stop);
             }
         }
-        self.has_ended.store(true, Ordering::SeqCst);
+        let raised = self.ended.raise();
         self.wake(Woken::all());
+        raised
     }
 }

@@ -1,6 +1,7 @@
 ghost use Rattle.std.specs.Thread.{IsSend, IsSync};
 ghost use Rattle.hl_crew.specs.Riders.{IsGiven};
 
+use crate::ended::Raised;
 use crate::gate::Gate;
 use crate::given::Given;
 use crate::run::Run;
@@ -24,17 +25,17 @@ where
     L: Realm + Send + Sync,
     G: Gate + Sync,
 {
-    /// Runs the threads until all have ended. `None` if a thread couldn't be made: those made are stopped.
+    /// Runs the threads until all have ended. An error if a thread couldn't be made: those made are told to end.
     pub(crate) fn run_threads<'y, W: PageWriter + Send, K: Given + Send>(
         &'y self,
         seats: &'y Seats<L, W, K>,
-    ) -> Option<Whole>
+    ) -> Result<Whole, Raised>
         requires { IsGiven K.sizes K.serves self.now.domain.now self.now.channels }
     {
         thread::scope(
             thread::scope_env(),
             self.rt,
-            move |scope| -> Option<Whole>
+            move |scope| -> Result<Whole, Raised>
                 requires runtime { IsSync R.row }
                 requires epochs { IsSend E.row }
                 requires jobs { IsSend F.row }
@@ -53,7 +54,7 @@ where
         &'y self,
         scope: &'s Scope<'s, &'y ()>,
         seats: &'y Seats<L, W, K>,
-    ) -> Option<Whole>
+    ) -> Result<Whole, Raised>
         requires { IsGiven K.sizes K.serves self.now.domain.now self.now.channels }
     {
         let first = self.start_writer(scope, &seats.first, &self.first);
@@ -76,10 +77,10 @@ where
         } else {
             None
         };
-        if flusher.is_none() {
-            self.end();
+        match Whole::of(first, second, cleaner, flusher) {
+            Some(whole) => Ok(whole),
+            None => Err(self.end()),
         }
-        Whole::of(first, second, cleaner, flusher)
     }
 
     // Makes a writer's thread. `None` if it couldn't be made.

@@ -103,10 +103,10 @@ impl<R: Wait, E: Epochs + Drop, F: Task, P: Promise, L: Realm, G: Gate> Run<'_, 
         ensures { WritesOn W.has false self.now.domain.now.sizes own.old own.new }
     {
         for _ in self.rt.forever() {
-            let Ok(Message::Write(job)) = channels.jobs_sent.recv(self.rt) else {
+            let Ok(Message::Write(held)) = channels.jobs_sent.recv(self.rt) else {
                 return;
             };
-            let acknowledgement = self.write(own, job);
+            let acknowledgement = self.write(own, held.job());
             let sent = channels.acknowledgements.send(self.rt, acknowledgement);
             if sent.is_err() {
                 return;

@@ -61,9 +61,8 @@ impl<R: Wait, E: Epochs + Drop, F: Task, P: Promise, L: Realm, G> Run<'_, R, E, 
             Err(Fault::NoneSealed) => return Ok(false),
             Err(fault) => return Err(Over::of(&fault)),
         };
-        let job = load.job();
-        pouch.put(load);
-        if channels.jobs.send(self.rt, Message::Write(job)).is_err() {
+        let held = pouch.hold(load);
+        if channels.jobs.send(self.rt, Message::Write(held)).is_err() {
             return Err(Over::Lost);
         }
         *sent += 1;

@@ -50,7 +50,7 @@ impl<R: Wait, E: Epochs + Drop, F: Task, P: Promise, L: Realm, G: Gate> Run<'_, 
     {
         let looker = Looker {
             rt: self.rt,
-            has_ended: &self.has_ended,
+            ended: &self.ended,
             sleeper,
         };
         looker.look_on(self, own, u64::MAX)
