@@ -96,8 +96,8 @@ impl Row {
         Ok((Row { table, room }, master))
     }
 
-    /// Deals a rider out that did nothing yet, and the master can deal out one less. Returns None only if all were dealt
-    /// out; then nothing is changed.
+    /// Deals a rider out that did nothing yet; the master then has one less to deal out. Returns None only if it has
+    /// none left, and then changes nothing.
     pub fn deal(&self, master: &mut RowMaster) -> Option<RowRider>
         requires { master.old.table ≡ self.now.table }
         ensures rider { IfSome result (IsNew master.old) }
