@@ -1,14 +1,14 @@
 -- What a call with a page makes of both handles.
-use Rattle.std.specs.Prelude.{◌≡◌, ℕ, ◌==◌, Bool, if◌then◌else◌, is_none, Option, Some, None, IfSome, List, length, ◌⊎◌}
+use Rattle.std.specs.Prelude.{◌≡◌, ℕ, ◌<◌, ◌==◌, Bool, if◌then◌else◌, is_none, Option, Some, None, IfSome, List, length}
 use Rattle.hl_model.specs.declared.fault.Fault.{Fault}
-use Rattle.hl_model.specs.declared.fault.Fault.TheVariants.{OutOfMemory}
 use Rattle.hl_model.specs.declared.step.Reply.TheVariants.{Page}
 use Rattle.hl_model.specs.declared.step.Step.{Step}
-use Rattle.hl_model.specs.Replies.{reply_of, fault_of, extended, unless_fault, unless_refused}
+use Rattle.hl_model.specs.Replies.{reply_of, extended, unless_fault, unless_refused}
 use Rattle.hl_answers.specs.declared.outcome.Brief.{Brief}
 use Rattle.hl_answers.specs.Outcomes.{outcome_of, fault_outcome, brief_of, no_core}
-use Rattle.hl_log.specs.Logs.{StandsAt, IsBeside}
+use Rattle.hl_log.specs.Logs.{StandsAt, IsBeside, one_dealt}
 use Rattle.hl_log.specs.Taken.{taking, unless_met, copied, copy_fault, sweep_fault, swept, IsFresh}
+use Rattle.hl_c_log.specs.Logs.{Refuses}
 use Rattle.hl_c_log.specs.Rows.{LogRow, PageRow}
 
 -- a log that stood at A gave a page, whose number the brief tells
@@ -21,17 +21,12 @@ pub record Given (old : LogRow.Denot) (A : List Step) (cleans : Bool) (new : Log
   pub standing : StandsAt new (extended old.core.sizes A (taking cleans))
   pub page : q.page ≡ brief.a
 
--- a log refused a page: memory was refused, or the definitions refuse it at whatever list it stood
-abbrev pub Refused : LogRow.Denot → Step → Brief → Type 0
-Refused old step brief = (brief ≡ brief_of (fault_outcome OutOfMemory)) ⊎ ((A : List Step)
-    → StandsAt old A
-    → (fault : Fault) × (fault_of old.core.sizes A step ≡ Some fault)
-    × (brief ≡ brief_of (fault_outcome fault)))
-
--- a log gave a page for this work, or refused one and stays
+-- a log gave a page for this work, with one of the riders that were left; or refused it, and the brief has the fault
 abbrev pub GivesOf : Bool → LogRow.Denot → LogRow.Denot → Option PageRow.Denot → Brief → Type 0
-GivesOf cleans old new None brief = (new ≡ old) × Refused old (taking cleans) brief
-GivesOf cleans old new (Some q) brief = IsBeside old new × IsFresh old cleans q
+GivesOf cleans old new None brief =
+    (fault : Fault) × Refuses old (taking cleans) fault new × (brief ≡ brief_of (fault_outcome fault))
+GivesOf cleans old new (Some q) brief =
+    (0 < old.master.left) × IsBeside (one_dealt old) new × IsFresh old cleans q
     × ((A : List Step) → StandsAt old A → Given old A cleans new q brief)
 
 -- a take of a page: where one is there, or no log is open, nothing is changed, and the brief says so

@@ -1,7 +1,6 @@
 -- What a call of a pass, under the lock, makes of both handles.
-use Rattle.std.specs.Prelude.{◌≡◌, ℕ, ◌==◌, true, if◌then◌else◌, Option, Some, None, List, [], unwrap_or, ◌⊎◌}
+use Rattle.std.specs.Prelude.{◌≡◌, ℕ, ◌<◌, ◌==◌, true, if◌then◌else◌, Option, Some, None, List, [], unwrap_or}
 use Rattle.hl_model.specs.declared.fault.Fault.{Fault}
-use Rattle.hl_model.specs.declared.fault.Fault.TheVariants.{OutOfMemory}
 use Rattle.hl_model.specs.declared.step.Step.{Step}
 use Rattle.hl_model.specs.declared.step.Step.TheVariants.{Acquire, Look}
 use Rattle.hl_model.specs.declared.view.View.{View}
@@ -12,8 +11,9 @@ use Rattle.hl_answers.specs.declared.outcome.Outcome.{Outcome}
 use Rattle.hl_answers.specs.Outcomes.{outcome_of, fault_outcome, brief_of, no_core}
 use Rattle.hl_log.specs.Calls.{by_slot, is_known, call_reply, call_list, call_pass, KnownAt}
 use Rattle.hl_pass.specs.Stamps.{next_stamp}
-use Rattle.hl_log.specs.Logs.{StandsAt, IsBeside, IsStamped}
+use Rattle.hl_log.specs.Logs.{StandsAt, IsBeside, IsStamped, one_dealt}
 use Rattle.hl_log.specs.Passes.{epoch_told}
+use Rattle.hl_c_log.specs.Logs.{Refuses}
 use Rattle.hl_c_log.specs.Rows.{LogRow, PassRow}
 
 -- a log that stood at A told this of a pass's step: that the pass is a stranger, or the definitions' reply behind
@@ -69,7 +69,7 @@ abbrev pub no_view : View
 no_view = record { read_only = 0; head = 0; tail = 0 }
 
 -- a log that stood at A protected a slot, and this pass acts for it: it has the slot's view and epoch, and the next
--- stamp; it is no stranger, and did nothing to words yet
+-- stamp; it is no stranger, has one of the riders that were left, and did nothing to words yet
 pub record Acquired (old : LogRow.Denot) (A : List Step) (slot : ℕ) (new : LogRow.Denot) (q : PassRow.Denot)
     (outcome : Outcome)
     : Type 0 where
@@ -77,7 +77,8 @@ pub record Acquired (old : LogRow.Denot) (A : List Step) (slot : ℕ) (new : Log
   pub accepted : fault_of old.core.sizes A (Acquire slot) ≡ None
   pub sizes : new.core.sizes ≡ old.core.sizes
   pub standing : StandsAt new (extended old.core.sizes A (Acquire slot))
-  pub stamps : IsStamped old slot new
+  pub left : 0 < old.master.left
+  pub stamps : IsStamped (one_dealt old) slot new
   pub slot_is : q.own.slot ≡ slot
   pub stamp_is : q.own.stamp ≡ next_stamp old.stamps
   pub epoch_is : q.own.epoch ≡ epoch_told (reply_of old.core.sizes A (Acquire slot)) 0
@@ -88,15 +89,10 @@ pub record Acquired (old : LogRow.Denot) (A : List Step) (slot : ℕ) (new : Log
   pub did_nothing : q.rider.view.touches ≡ []
   pub known : KnownAt new (extended old.core.sizes A (Acquire slot)) q
 
--- a log refused a slot: memory was refused, or the definitions refuse it at whatever list it stood
-abbrev pub Refused : LogRow.Denot → Step → Outcome → Type 0
-Refused old step outcome = (outcome ≡ fault_outcome OutOfMemory) ⊎ ((A : List Step)
-    → StandsAt old A
-    → (fault : Fault) × (fault_of old.core.sizes A step ≡ Some fault) × (outcome ≡ fault_outcome fault))
-
--- a log protected a slot, and its pass is there, or refused it and stays
+-- a log protected a slot, and its pass is there; or refused it, and the outcome has the fault
 abbrev pub AcquiresOf : ℕ → LogRow.Denot → LogRow.Denot → Option PassRow.Denot → Outcome → Type 0
-AcquiresOf slot old new None outcome = (new ≡ old) × Refused old (Acquire slot) outcome
+AcquiresOf slot old new None outcome =
+    (fault : Fault) × Refuses old (Acquire slot) fault new × (outcome ≡ fault_outcome fault)
 AcquiresOf slot old new (Some q) outcome =
     (A : List Step) → StandsAt old A → Acquired old A slot new q outcome
 

@@ -9,7 +9,9 @@
 //! reply after that list, as numbers, and the log then stands at the list with the step, if it was accepted
 //! (`Answers`, in `specs/Logs.antt`). A pass's step returns 26 with the slot's stamp, if the slot isn't the
 //! pass's, and changes nothing; else what the definitions reply behind the list and the pass's look, and the
-//! pass has what its slot has then (`CallsBy`, in `specs/Passes.antt`).
+//! pass has what its slot has then (`CallsBy`, in `specs/Passes.antt`). An acquire and a take of a page return the
+//! definitions' fault if there is one, and 29 only if there is none: memory was refused, and at most a rider is gone
+//! (`Refuses`, in `specs/Logs.antt`).
 //!
 //! Without it: a store, a load and a change are judged by what the pass sees, and are one access of the word
 //! of the address, which the pass's rider records (`Does`, in `specs/Words.antt`); a row of words is loaded one

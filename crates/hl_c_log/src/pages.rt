@@ -1,16 +1,18 @@
 //! Pages that are taken from a log, under the caller's lock.
-ghost use Rattle.std.specs.Prelude.{◌≡◌, true, false, ◌==◌, if◌then◌else◌, IfSome};
+ghost use Rattle.std.specs.Prelude.{◌≡◌, true, false, ◌==◌, if◌then◌else◌, IfSome, MatchOption};
 ghost use Rattle.std.specs.declared.option.Option.TheVariants.{None, Some};
 ghost use Rattle.hl_model.specs.declared.step.Step.TheVariants.{FlushDone as FLUSH_DONE, CleanDone as CLEAN_DONE};
 ghost use Rattle.hl_answers.specs.Outcomes.{brief_of, no_core};
-ghost use Rattle.hl_log.specs.Taken.{origin_fault, unswept_fault, IsFresh};
+ghost use Rattle.hl_log.specs.Logs.{DealsOne};
+ghost use Rattle.hl_log.specs.Taken.{origin_fault, taking, unswept_fault, IsFresh};
+ghost use Rattle.hl_c_log.specs.Logs.{StaysOrDeals};
 ghost use Rattle.hl_c_log.specs.Pages.{Gives, GivesOf, Ends};
 
 use crate::log_handle::LogHandle;
 use crate::page_handle::PageHandle;
 use hl_answers::{Brief, Outcome};
 use hl_log::{Log, Taken};
-use hl_model::{Fault, Reply};
+use hl_model::{Fault, Reply, Step};
 use std::alloc::Global;
 
 /// Takes the least sealed page that is neither flushed nor in flight; returns its number, or 255 if there is
@@ -65,22 +67,39 @@ fn taken(alloc: Global, log: &mut Log, page: &mut PageHandle, cleans: bool) -> B
     requires { page.old.slot.value ≡ None }
     ensures { GivesOf cleans log.old log.new page.new.slot.value result }
 {
-    match vacant(alloc, log, cleans) {
-        Some(mut own) => match log.take_page(&mut own) {
-            Ok(number) => {
-                page.put(own);
-                Outcome::of(Ok(Reply::Page(number))).brief()
-            }
-            Err(fault) => Outcome::of_fault(fault).brief(),
-        },
-        None => Outcome::of_fault(Fault::OutOfMemory).brief(),
+    // Asked first, so that a refused take takes no rider.
+    if let Some(fault) = log.fault_of(&taking(cleans)) {
+        return Outcome::of_fault(fault).brief();
+    }
+    let Some(mut own) = vacant(alloc, log, cleans) else {
+        return Outcome::of_fault(Fault::OutOfMemory).brief();
+    };
+    match log.take_page(&mut own) {
+        Ok(number) => {
+            page.put(own);
+            Outcome::of(Ok(Reply::Page(number))).brief()
+        }
+        // The step has no fault, so this isn't met.
+        Err(fault) => Outcome::of_fault(fault).brief(),
+    }
+}
+
+/// The step that takes a page.
+#[inline(always)]
+fn taking(cleans: bool) -> Step
+    ensures { result ≡ taking cleans }
+{
+    if cleans {
+        Step::CleanTake
+    } else {
+        Step::FlushTake
     }
 }
 
 /// Returns a page on the heap that is to be taken, or None if memory is refused.
 fn vacant(alloc: Global, log: &mut Log, cleans: bool) -> Option<Box<Taken>>
     ensures page { IfSome result (λ page. IsFresh log.old cleans page.value) }
-    ensures log { log.new ≡ log.old }
+    ensures log { MatchOption result (StaysOrDeals log.old log.new) (λ _. DealsOne log.old log.new) }
 {
     let page = log.vacant_page(cleans)?;
     Box::new(alloc, page).ok()

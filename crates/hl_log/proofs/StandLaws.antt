@@ -1,6 +1,6 @@
 -- A log that made a step stands at the list with it, and its words were stored as that list tells.
 use Rattle.std.proofs.Common.{◌≡◌, ℕ, List, Bool, true, false, cond, [], ◌∷◌, ◌++◌, length, refl, sym, ap, ◌∙◌, subst}
-use Rattle.std.specs.Prelude.{Option, Some, None, Result, Ok, Err}
+use Rattle.std.specs.Prelude.{Option, Some, None, Result, Ok}
 use Rattle.hl_model.specs.declared.fault.Fault.{Fault}
 use Rattle.hl_model.specs.declared.step.Reply.{Reply}
 use Rattle.hl_model.specs.declared.step.Step.{Step}
@@ -9,7 +9,7 @@ use Rattle.hl_model.specs.Sizes.{Sizes}
 use Rattle.hl_model.specs.Epochs.{is_bump}
 use Rattle.hl_model.specs.Actions.{is_done}
 use Rattle.hl_model.specs.Offsets.{raised_to, shifted_to}
-use Rattle.hl_model.specs.Replies.{reply_of, fault_of, answer_of, extended, unless_fault}
+use Rattle.hl_model.specs.Replies.{fault_of, answer_of, extended}
 use Rattle.hl_laws.proofs.AcceptedLaws.{extended-none, extended-some}
 use Rattle.hl_laws.proofs.NoFaultLaws.{unless_ok}
 use Rattle.hl_words.specs.declared.view.OffsetWords.{OffsetWords}

@@ -1,10 +1,11 @@
 -- What a log keeps, when it stands at a list of steps, and what stays of it.
-use Rattle.std.specs.Prelude.{◌≡◌, ℕ, Bool, true, false, Result, List, length}
+use Rattle.std.specs.Prelude.{◌≡◌, ℕ, ◌<◌, Bool, true, false, Result, List, length}
 use Rattle.hl_model.specs.declared.step.Step.{Step}
 use Rattle.hl_model.specs.declared.step.Step.TheVariants.{Bump, Settle, Close, Bare, Done, Raise, Shift}
 use Rattle.hl_model.specs.declared.step.Reply.{Reply}
 use Rattle.hl_model.specs.declared.fault.Fault.{Fault}
 use Rattle.hl_model.specs.Replies.{reply_of, extended}
+use Rattle.hl_words.specs.Rows.{dealt}
 use Rattle.hl_core.specs.Standing.{Stands}
 use Rattle.hl_pass.specs.Stamps.{IsGiven}
 use Rattle.hl_pass.specs.Stores.{stores_of}
@@ -28,6 +29,15 @@ pub record IsBeside (old new : LogState) : Type 0 where
   pub shared : new.shared ≡ old.shared
   pub master : new.master ≡ old.master
   pub stamps : new.stamps ≡ old.stamps
+
+-- the log after it dealt one more rider out
+abbrev pub one_dealt : LogState → LogState
+one_dealt log = record (log) { master = dealt log.master }
+
+-- so it did, and had one left
+pub record DealsOne (old new : LogState) : Type 0 where
+  pub left : 0 < old.master.left
+  pub log : new ≡ one_dealt old
 
 -- slot t was given the next stamp, and all else beside the core is as it was
 pub record IsStamped (old : LogState) (t : ℕ) (new : LogState) : Type 0 where
@@ -61,8 +71,9 @@ is_own _ = false
 abbrev pub IsOwn : Step → Type 0
 IsOwn step = is_own step ≡ true
 
--- the log made the step, at whatever list it stood, with the same words and stamps
+-- the log made the step, at whatever list it stood, with the same words, stamps and number of riders left
 pub record Moves (old : LogState) (step : Step) (new : LogState) (result : Result Reply Fault) : Type 0 where
   pub made : Makes old step new result
   pub shared : new.shared ≡ old.shared
   pub stamps : new.stamps ≡ old.stamps
+  pub left : new.master.left ≡ old.master.left

@@ -7,7 +7,8 @@ use Rattle.hl_pass.specs.declared.pass_view.PassView.{PassView}
 use Rattle.hl_pass.specs.declared.stamps.Stamps.{Stamps}
 use Rattle.hl_log.specs.declared.shared.Shared.{Shared}
 
--- what a log keeps: a core, the stamp of each slot, the words, and the master's stores of four of them
+-- what a log keeps: a core, the stamp of each slot, the words, and the master: its stores of four of them, and how many
+-- riders are left
 pub record LogState : Type 0 where
   pub core : State Tag
   pub stamps : Stamps

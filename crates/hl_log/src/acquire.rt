@@ -1,5 +1,5 @@
 //! A pass for a slot.
-ghost use Rattle.std.specs.Prelude.{◌≡◌, List, IfSome, OnOk, OnErr};
+ghost use Rattle.std.specs.Prelude.{◌≡◌, List, IfSome, MatchOption, OnOk, OnErr};
 ghost use Rattle.hl_model.specs.declared.step.Step.{Step as STEP};
 ghost use Rattle.hl_model.specs.declared.step.Step.TheVariants.{Acquire as ACQUIRE};
 ghost use Rattle.hl_model.specs.Views.{slot_view};
@@ -7,7 +7,7 @@ ghost use Rattle.hl_model.specs.Replies.{extended};
 ghost use Rattle.hl_pass.specs.Passes.{rested_in, stamped};
 ghost use Rattle.hl_pass.specs.Stamps.{next_stamp};
 ghost use Rattle.hl_log.specs.Calls.{KnownAt};
-ghost use Rattle.hl_log.specs.Logs.{StandsAt, Makes, IsStamped};
+ghost use Rattle.hl_log.specs.Logs.{StandsAt, Makes, DealsOne, IsStamped};
 ghost use Rattle.hl_log.specs.Passes.{with_own, epoch_told, IsRisen, IsVacant};
 
 use crate::call::epoch_told;
@@ -19,11 +19,11 @@ use hl_pass::PassView;
 use std::sync::Arc;
 
 impl Log {
-    /// Returns a pass that acts for no slot yet, or None if the owners of the shared words can't be counted
-    /// further, or all riders were dealt out.
+    /// Returns a pass that acts for no slot yet, with one of the riders that are left. None if the owners of the shared
+    /// words can't be counted further, or no rider is left; then nothing is changed.
     pub fn vacant(&mut self, slot: u64) -> Option<Pass>
         ensures pass { IfSome result (λ pass. IsVacant self.old slot pass) }
-        ensures log { self.new ≡ self.old }
+        ensures log { MatchOption result (self.new ≡ self.old) (λ _. DealsOne self.old self.new) }
     {
         let shared = Arc::try_clone(&self.shared).ok()?;
         let words: &Shared = &self.shared;

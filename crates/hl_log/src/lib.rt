@@ -21,6 +21,7 @@
 //! A store is judged by what the pass sees, and is one store of one word; so are the load and the two changes
 //! in place. Each pass has a rider of the words (`hl_words::RowRider`), which records all this in proofs alone:
 //! which cell was stored, loaded or changed, and with what. So does each page, whose words are copied or swept.
+//! A new log has 2^62 riders left. A pass or a page that is made takes one; if none is made, none is taken.
 //! A look brings the offsets that it loaded, and the next call of the pass enters it into the list. The region
 //! of an address is told by what the pass sees and the safe read-only offset that it loads, which it tells too
 //! ([`Pass::region`]).

@@ -1,9 +1,9 @@
 //! Pages that are taken, and the ends of the work on them.
-ghost use Rattle.std.specs.Prelude.{◌≡◌, false, IfSome, IfOk, OnErr};
+ghost use Rattle.std.specs.Prelude.{◌≡◌, false, IfSome, MatchOption, IfOk, OnErr};
 ghost use Rattle.hl_model.specs.declared.step.Step.TheVariants.{FlushDone as FLUSH_DONE, CleanDone as CLEAN_DONE};
 ghost use Rattle.hl_model.specs.declared.step.Reply.TheVariants.{Page as PAGE};
 ghost use Rattle.hl_core.specs.Steps.{as_reply};
-ghost use Rattle.hl_log.specs.Logs.{Makes, IsBeside};
+ghost use Rattle.hl_log.specs.Logs.{Makes, DealsOne, IsBeside};
 ghost use Rattle.hl_log.specs.Taken.{taking, numbered, origin_fault, unswept_fault, Ends, IsFresh};
 
 use crate::log::Log;
@@ -13,11 +13,11 @@ use hl_model::{Fault, Reply, Step};
 use std::sync::Arc;
 
 impl Log {
-    /// Returns a page that is to be taken, to be cleaned or else to be flushed, or None if the owners of the
-    /// shared words can't be counted further, or all riders were dealt out.
+    /// Returns a page that is to be taken, to be cleaned or else to be flushed, with one of the riders that are left.
+    /// None if the owners of the shared words can't be counted further, or no rider is left; then nothing is changed.
     pub fn vacant_page(&mut self, cleans: bool) -> Option<Taken>
         ensures page { IfSome result (λ page. IsFresh self.old cleans page) }
-        ensures log { self.new ≡ self.old }
+        ensures log { MatchOption result (self.new ≡ self.old) (λ _. DealsOne self.old self.new) }
     {
         let shared = Arc::try_clone(&self.shared).ok()?;
         let words: &Shared = &self.shared;

@@ -22,10 +22,10 @@ pub struct Shared {
 }
 
 impl Shared {
-    /// Returns words that are all 0, and their master, or None if memory is refused.
+    /// Returns words that are all 0, and their master, who dealt out no rider yet, or None if memory is refused.
     pub(crate) fn open(alloc: Global, sizes: Sizes) -> Option<(Shared, RowMaster)>
         ensures sizes { IfSome result (λ opened. opened.0.sizes ≡ sizes) }
-        ensures master { IfSome result (λ opened. opened.1 ≡ first_master opened.0.words.table) }
+        ensures master { IfSome result (λ opened. opened.1 ≡ first_master (2 ^ 62) opened.0.words.table) }
     {
         let cells = sizes.frames() * sizes.page_size();
         let (words, master) = Row::open(alloc, cells as usize, RIDERS).ok()?;

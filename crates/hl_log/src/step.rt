@@ -49,7 +49,7 @@ fn tell(shared: &Shared, master: &mut RowMaster, reply: Reply)
     requires there { master.old.table ≡ shared.now.words.table }
     requires rises { IsAbove master.old.offsets (with_told reply master.old.offsets) }
     ensures { let old = master.old
-        in master.new ≡ record { offsets = with_told reply old.offsets; table = old.table } }
+        in master.new ≡ record (old) { offsets = with_told reply old.offsets } }
 {
     let words = &shared.words;
     match reply {

@@ -1,5 +1,5 @@
 -- What contracts see of a row of words without a brand, and what the steps of its table ask of a seat and leave in it.
-use Rattle.std.specs.Prelude.{ℕ, ◌≡◌, ◌+◌, ◌^◌, ◌≤◌, []}
+use Rattle.std.specs.Prelude.{ℕ, ◌≡◌, ◌+◌, ◌-◌, ◌^◌, ◌<◌, ◌≤◌, []}
 use Rattle.atomic_table.specs.Seated.{TableId}
 use Rattle.atomic_table.specs.Table.{Me}
 use Rattle.hl_words.specs.declared.view.OffsetWords.{OffsetWords}
@@ -35,18 +35,23 @@ pub record RowRiderState : Type 0 where
   pub view : RiderView
   pub table : TableId
 
--- the master's stores of its words, and at which row it is
+-- the master's stores of its words, at which row it is, and how many riders it can still deal out
 pub record RowMasterState : Type 0 where
   pub offsets : OffsetWords
   pub table : TableId
+  pub left : ℕ
 
--- the master of a row before its first store
-abbrev pub first_master : TableId → RowMasterState
-first_master table = record { offsets = no_offsets; table = table }
+-- the master of a row before its first store, with so many riders to deal out
+abbrev pub first_master : ℕ → TableId → RowMasterState
+first_master riders table = record { offsets = no_offsets; table = table; left = riders }
 
 -- the master after one more store of a word
 abbrev pub with_word : Which → ℕ → RowMasterState → RowMasterState
-with_word which x m = record { offsets = with_offset which x m.offsets; table = m.table }
+with_word which x m = record (m) { offsets = with_offset which x m.offsets }
+
+-- the master after it dealt one more rider out
+abbrev pub dealt : RowMasterState → RowMasterState
+dealt m = record (m) { left = m.left - 1 }
 
 -- a rider of this master's row that did nothing yet
 abbrev pub IsNew : RowMasterState → RowRiderState → Type 0

@@ -1,8 +1,8 @@
 //! Words for whoever can't name a brand in a type, as a C interface: the same table under the same rule, where contracts
 //! see at which row each rider and the master are.
-ghost use Rattle.std.specs.Prelude.{◌≡◌, ◌+◌, ◌^◌, ◌<◌, ◌≤◌, length, IfOk, IfErr, IfSome};
+ghost use Rattle.std.specs.Prelude.{◌≡◌, ◌+◌, ◌^◌, ◌<◌, ◌≤◌, length, IfOk, IfErr, IfSome, MatchOption};
 ghost use Rattle.hl_model.specs.declared.fault.Fault.TheVariants.{OutOfMemory};
-ghost use Rattle.hl_words.specs.Rows.{acted, first_master, with_word, IsNew};
+ghost use Rattle.hl_words.specs.Rows.{acted, dealt, first_master, with_word, IsNew};
 ghost use Rattle.hl_words.specs.Views.{offset_of, greatest_of, stored, loaded, added, exchanged, with_loaded, looked, zeroed, loaded_all};
 
 use crate::rule::Deal;
@@ -51,8 +51,8 @@ impl Model for RowRider {
     ghost invariant = { λ r. StandsFor (first_rider r.seat.me.0) r.seat.me };
 }
 
-/// The right to store the four words of a row, and to deal riders out. Contracts see its stores,
-/// and at which row.
+/// The right to store the four words of a row, and to deal riders out. Contracts see its stores, at which row, and how
+/// many riders it can still deal out.
 #[derive(Drop)]
 pub struct RowMaster {
     seat: WordSeat,
@@ -68,7 +68,7 @@ impl Model for RowMaster {
 
     ghost Value = { RowMasterState };
 
-    ghost view = { λ m. record { offsets = m.seat.me.0.offsets; table = m.seat.table_id } };
+    ghost view = { λ m. record { offsets = m.seat.me.0.offsets; table = m.seat.table_id; left = m.left } };
 
     ghost invariant = { λ m. IsMasterSeat no_extent m.seat.me.0.offsets (fresh_from m.next m.left) m.seat.id m.seat.me
         × (m.next + m.left < 2 ^ 64) };
@@ -81,7 +81,7 @@ impl Row {
     pub fn open(alloc: Global, cells: usize, riders: usize) -> Result<(Row, RowMaster), Fault>
         requires { cells ≤ 2 ^ 36 }
         ensures row { IfOk result (λ opened. opened.0.cells ≡ cells) }
-        ensures master { IfOk result (λ opened. opened.1 ≡ first_master opened.0.table) }
+        ensures master { IfOk result (λ opened. opened.1 ≡ first_master riders opened.0.table) }
         ensures memory { IfErr result (λ fault. fault ≡ OutOfMemory) }
     {
         let room = Room { cells, riders };
@@ -96,11 +96,14 @@ impl Row {
         Ok((Row { table, room }, master))
     }
 
-    /// Deals a rider out that did nothing yet, or none if all were dealt out.
+    /// Deals a rider out that did nothing yet; the master then has one less to deal out. Returns None only if it has
+    /// none left, and then changes nothing.
     pub fn deal(&self, master: &mut RowMaster) -> Option<RowRider>
         requires { master.old.table ≡ self.now.table }
         ensures rider { IfSome result (IsNew master.old) }
-        ensures master { master.new ≡ master.old }
+        ensures master { let old = master.old
+            in MatchOption result ((old.left ≡ 0) × (master.new ≡ old))
+            (λ _. (0 < old.left) × (master.new ≡ dealt old)) }
     {
         if master.left == 0 {
             return None;

@@ -12,4 +12,4 @@ invariant_of-result c = record {
 }
 
 pub returns : goal.returns
-returns c = (record { standing = search rules; stored = ap (λ (m : RowMasterState). m.offsets) c.in_ok-words.ensures.master ∙ sym stores-nil }, search rules, search rules, search rules, search rules)
+returns c = (record { standing = search rules; stored = ap (λ (m : RowMasterState). m.offsets) c.in_ok-words.ensures.master ∙ sym stores-nil }, search rules, search rules, search rules, search rules, ap (λ (m : RowMasterState). m.left) c.in_ok-words.ensures.master)

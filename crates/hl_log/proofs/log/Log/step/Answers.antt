@@ -1,4 +1,4 @@
-use Rattle.std.proofs.Common.{refl, ap}
+use Rattle.std.proofs.Common.{refl, ap, ◌∙◌}
 use Rattle.hl_words.specs.Rows.{RowMasterState}
 use Rattle.hl_log.specs.States.{LogState}
 use Rattle.hl_log.proofs.StandLaws.{makes_told, makes_at, told_rises, log_after}
@@ -16,4 +16,5 @@ returns-clause-made c = record {
   made = makes_at _ _ _ c.args.step.now _ _ _ c.self.view_is refl refl (makes_told _ _ c.args.step.now c.in_ok-reply.reply c.in_ok-reply.ensures.made (ap (λ (m : RowMasterState). m.offsets) c.tell.ensures));
   shared = ap (λ (l : LogState). l.shared) c.self.view_is;
   stamps = ap (λ (l : LogState). l.stamps) c.self.view_is;
+  left = ap (λ (m : RowMasterState). m.left) c.tell.ensures ∙ ap (λ (l : LogState). l.master.left) c.self.view_is;
 }
