@@ -72,7 +72,8 @@ uint64_t hl_log_free(hl_log *log);
  * stamp: the slot isn't the pass's; nothing is changed. ---- */
 
 /* The slot becomes protected, and the pass acts for it: a its epoch, b to d its view (read-only offset, head, tail).
- * HL_NO_CORE where the handle has a pass already. HL_OUT_OF_MEMORY, HL_NO_SLOT, HL_OCCUPIED: the handle stays empty. */
+ * HL_NO_CORE where the handle has a pass already. HL_NO_SLOT, HL_OCCUPIED, and where neither holds HL_OUT_OF_MEMORY: the
+ * handle stays empty. */
 hl_outcome hl_log_acquire(hl_log *log, hl_pass *pass, uint64_t slot);
 
 /* The slot moves on: a its epoch, b to d its view. */
@@ -114,16 +115,16 @@ hl_outcome hl_log_done(hl_log *log, uint64_t ticket);
 /* ---- Under the lock: pages. HL_NO_CORE where the page's handle has none; for a take, where it has one already.
  * ---- */
 
-/* Takes the least sealed page that is neither flushed nor in flight: a the page. HL_NONE_SEALED, HL_OUT_OF_MEMORY: the
- * handle stays empty. */
+/* Takes the least sealed page that is neither flushed nor in flight: a the page. HL_NONE_SEALED where there is none, else
+ * HL_OUT_OF_MEMORY: the handle stays empty. */
 hl_brief hl_log_flush_take(hl_log *log, hl_page *page);
 
 /* The flush of a page ended, well or not: a the flushed offset, and the page is given back. HL_STRANGER, a the log's
  * stamp: the page is of another log. HL_NOT_IN_FLIGHT: it was taken to be cleaned. */
 hl_brief hl_log_flush_done(hl_log *log, hl_page *page, bool ok);
 
-/* Takes the least closed page that is neither freed nor being cleaned: a the page. HL_NONE_CLOSED, HL_OUT_OF_MEMORY:
- * the handle stays empty. */
+/* Takes the least closed page that is neither freed nor being cleaned: a the page. HL_NONE_CLOSED where there is none,
+ * else HL_OUT_OF_MEMORY: the handle stays empty. */
 hl_brief hl_log_clean_take(hl_log *log, hl_page *page);
 
 /* The words of a page are zeroed, and its frame is free: a the page, which is given back. HL_STRANGER, a the log's

@@ -54,7 +54,7 @@
 //! rider that comes back stored only 0s of pages that a call of its own had just taken to clean, if that held of all
 //! riders before: a crew that took no page to clean changed no word. And under [`Crew::serve`] each page that a rider
 //! flushed is with that rider's page writer, as the image of the words that it copied between its take and its
-//! answer; by `hl_images` they are the page's at the end.
+//! answer; by `hl_images` they are the page's at the end. Once its threads have ended, it made its last rounds.
 //!
 //! Inside, of each function that does a step: what it made under the domain's lock, in what order, and what it
 //! counted. A flusher's turn makes those of the lag's steps that it wants, in their order up to the first that is
