@@ -1,5 +1,5 @@
 -- The images of the pages that a script left, as they are written one after another.
-use Rattle.std.proofs.Common.{◌≡◌, ◌≢◌, ℕ, ◌+◌, ◌*◌, ◌<◌, ◌≤◌, Bool, true, false, List, [], ◌∷◌, ◌++◌, length, refl, sym, ap, ◌∙◌, subst, arith, append_assoc, append-nil}
+use Rattle.std.proofs.Common.{◌≡◌, ℕ, ◌+◌, ◌<◌, ◌≤◌, true, List, [], ◌∷◌, ◌++◌, length, refl, sym, ap, ◌∙◌, subst, arith, append_assoc, append-nil}
 use Rattle.std.specs.Prelude.{Option, Some, None, option_map, Result, Ok, Err, OnOk}
 use Rattle.std.specs.Io.KnownBytes.{Appends}
 use Rattle.std.proofs.KnownBytes.{Appends-nil, Appends-trans}
@@ -18,7 +18,7 @@ use Rattle.hl_cells.specs.Engines.{Whole, EngineStands}
 use Rattle.hl_flush.specs.Flush.{EndsFlush}
 use Rattle.hl_flush.specs.Unflushed.{unflushed, image_lines}
 use Rattle.hl_flush.proofs.FlushLaws.{take-named, take-unnamed}
-use Rattle.hl_flush.proofs.UnflushedLaws.{unflushed-next, unflushed-none, unflushed-few, unflushed-nil, image_lines-next, image_lines-none}
+use Rattle.hl_flush.proofs.UnflushedLaws.{unflushed-next, unflushed-none, unflushed-few, image_lines-next, image_lines-none}
 
 -- an engine stood at A so many flushes ago. It stands at a list now whose images are yet to be written, and those before
 -- them were written

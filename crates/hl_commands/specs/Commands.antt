@@ -21,7 +21,8 @@ AreTheTags has = (tag : ℕ) → has tag ≡ below 1000 tag
 -- the pages that its accepted steps left sealed, and neither flushed nor in flight
 abbrev pub written : (ℕ → Bool) → Bool → List ℕ → List ℕ
 written has images input =
-    text has input ++ (if images then image_lines (sizes_of (script input)) (accepted has (script input)) else [])
+    text has input
+    ++ (if images then image_lines (sizes_of (script input)) (accepted has (script input)) else [])
 
 -- the script was read to its end, each of its lines is good, and all of this was written
 pub record Answers (has : ℕ → Bool) (images : Bool) (given left before after : Option (List ℕ)) : Type 0 where

@@ -16,15 +16,15 @@ use std::alloc::Global;
 use std::io;
 use std::io::Write;
 
-/// A writer that is lent to what owns its writer.
+/// A borrowed writer, for what takes a writer of its own.
 #[derive(Drop)]
 struct Lent<'a, W> {
     writer: &'a mut W,
 }
 
 impl<W: Write> Write for Lent<'_, W> {
-    // The reference's name stands before the bytes. So whoever is told what was appended can tell that the reference is
-    // the same as before.
+    // The reference's name stands before the bytes. So who is told what was appended can tell that the reference is the
+    // same as before.
     ghost contents = { λ lent. option_map (λ bytes. lent.writer.ghost_name ∷ bytes)
         (W.contents lent.writer.now) };
 
@@ -38,6 +38,8 @@ impl<W: Write> Write for Lent<'_, W> {
 }
 
 /// Writes the image of each page that can be flushed, one a line.
+///
+/// Faults: `OutOfMemory` if memory was refused; `Device` if a write failed.
 pub(crate) fn write_images<E: Epochs + Drop, F: Task, W: Write>(
     alloc: Global,
     engine: Engine<E, F, Sum>,
@@ -45,7 +47,7 @@ pub(crate) fn write_images<E: Epochs + Drop, F: Task, W: Write>(
 ) -> Result<(), Fault>
     ensures images { (A : List STEP) → EngineStands engine A → OnOk result
         (Appends (W.contents writer.old) (W.contents writer.new) (image_lines engine.core.sizes A)) }
-    ensures good { (n : ℕ) → result ≢ Err (BadLine n) }
+    ensures no_bad_line { (n : ℕ) → result ≢ Err (BadLine n) }
 {
     let mut pages = HexWriter::new(Lent { writer });
     let ended = flush_pages(alloc, engine, &mut pages);
@@ -55,7 +57,7 @@ pub(crate) fn write_images<E: Epochs + Drop, F: Task, W: Write>(
     ended
 }
 
-/// Flushes each page that can be.
+/// Flushes each page that can be flushed. Faults: as for `write_images`.
 fn flush_pages<E: Epochs + Drop, F: Task, W: Write>(
     alloc: Global,
     engine: Engine<E, F, Sum>,
@@ -64,7 +66,7 @@ fn flush_pages<E: Epochs + Drop, F: Task, W: Write>(
     ensures images { (A : List STEP) → EngineStands engine A → OnOk result
         (Appends (W.contents pages.old.writer) (W.contents pages.new.writer)
         (image_lines engine.core.sizes A)) }
-    ensures good { (n : ℕ) → result ≢ Err (BadLine n) }
+    ensures no_bad_line { (n : ℕ) → result ≢ Err (BadLine n) }
 {
     let mut engine = engine;
     let params = engine.params();

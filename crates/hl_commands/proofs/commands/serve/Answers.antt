@@ -1,4 +1,4 @@
-use Rattle.std.proofs.Common.{◌∙◌, ap, refl}
+use Rattle.std.proofs.Common.{◌∙◌, ap}
 use Rattle.std.specs.Prelude.{Err}
 use Rattle.std.proofs.lemmas.Result.{err_from_is_err_and}
 use Rattle.hl_script.specs.Answers.{accepted}
@@ -29,7 +29,7 @@ returns-then-flush g c =
     let left = rw c.in-Some.is at ran.3.1 in
     let A = accepted (tags_on c.in_ok-shelf.shelf) (script ran.0) in
     text_read _ _ _ _ _ _ _ ran.0 _ _ c.in_ok-shelf.ensures.tags ran.1 ran.2 (c.write_images.ensures.images A left.standing)
-    (its_images _ _ ran.0 _ c.if-flush.true left.sizes) c.write_images.ensures.good
+    (its_images _ _ ran.0 _ c.if-flush.true left.sizes) c.write_images.ensures.no_bad_line
 
 pub returns-else-flush : goal.returns-else-flush
 returns-else-flush g c =

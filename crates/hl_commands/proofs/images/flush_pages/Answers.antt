@@ -1,4 +1,4 @@
-use Rattle.std.proofs.Common.{◌≡◌, ◌≤◌, rules, arith, refl, sym, ap, ◌∙◌, subst, length}
+use Rattle.std.proofs.Common.{◌≡◌, arith, refl, sym, ap, ◌∙◌, subst}
 use Rattle.std.specs.Io.KnownBytes.{Appends}
 use Rattle.std.proofs.lemmas.Grind.{common_steps}
 use Rattle.hl_model.specs.Sizes.{Sizes}
@@ -18,7 +18,7 @@ returns-in-Err-NoneSealed-clause-images g c A stands =
     (flushing_none _ _ _ _ _ _ so_far (e.flushes so_far.steps so_far.standing))
 
 pub returns-in-Err : goal.returns-in-Err
-returns-in-Err g c = record { images = λ A stands. tt; good = λ n bad. no_bad_flush c.in-Err.fault n c.in-Err.ensures.faults cc }
+returns-in-Err g c = record { images = λ A stands. tt; no_bad_line = λ n bad. no_bad_flush c.in-Err.fault n c.in-Err.ensures.faults cc }
 
 pub loop-turn-preserved : goal.loop-turn-preserved
 loop-turn-preserved g c = (
