@@ -1,10 +1,10 @@
 -- The pages that wait to be flushed: a flush takes the first of them, and leaves the others.
-use Rattle.std.proofs.Common.{◌≡◌, ℕ, zero, suc, ◌+◌, ◌*◌, ◌<◌, ◌≤◌, ◌⊎◌, inl, inr, Bool, true, false, cond, not, ◌&&◌, ◌||◌, List, [], ◌∷◌, ◌++◌, length, refl, sym, ap, ap₂, ◌∙◌, subst, arith}
-use Rattle.std.specs.Prelude.{◌==◌, Option, Some, None, filter, find, flat_map}
+use Rattle.std.proofs.Common.{◌≡◌, ℕ, zero, suc, ◌+◌, ◌<◌, ◌≤◌, ◌⊎◌, inl, inr, Bool, true, false, cond, not, ◌&&◌, ◌||◌, List, [], ◌∷◌, ◌++◌, length, refl, sym, ap, ap₂, ◌∙◌, arith}
+use Rattle.std.specs.Prelude.{Option, Some, None, filter, find, flat_map}
 use Rattle.std.specs.List.{range_with_len}
 use Rattle.std.proofs.Math.Bool.{or-false}
 use Rattle.std.proofs.Math.Nat.{zero-div}
-use Rattle.std.proofs.lemmas.Bool.{eq-eqb, ne_eqb, not-true, or_parts, both_ways, false_from_ne_true, cases_lt}
+use Rattle.std.proofs.lemmas.Bool.{eq-eqb, ne_eqb, both_ways, false_from_ne_true, cases_lt}
 use Rattle.std.proofs.lemmas.List.Filters.{length-filter_both}
 use Rattle.std.proofs.lemmas.List.FromFn.{length-range_with_len}
 use Rattle.hl_model.specs.declared.step.Step.{Step}
@@ -23,12 +23,12 @@ use Rattle.hl_laws.proofs.WorkLaws.{next_page-parts}
 use Rattle.hl_image.specs.Image.{image}
 use Rattle.hl_image.specs.Lines.{line_of}
 use Rattle.hl_flush.specs.Unflushed.{unflushed, image_lines}
-use Rattle.hl_flush.proofs.FlushLaws.{with_flush, with_flush-is, with_flush-flushed, with_flush-page, with_flush-other, with_flush-settled, take-words}
+use Rattle.hl_flush.proofs.FlushLaws.{with_flush, with_flush-is, with_flush-flushed, with_flush-other, with_flush-settled, take-words}
 
--- two tests that agree from a on pass the same of n numbers from a on
 same_first : (a : ℕ) (b c : Bool) (xs ys : List ℕ) → b ≡ c → xs ≡ ys → cond b (a ∷ xs) xs ≡ cond c (a ∷ ys) ys
 same_first a b c xs ys e f = rw (e, f) refl
 
+-- two tests that agree from a on pass the same of n numbers from a on
 filter-same_from : (f g : ℕ → Bool) (a n : ℕ) → ((p : ℕ) → a ≤ p → f p ≡ g p) → filter f (range_with_len a n) ≡ filter g (range_with_len a n)
 filter-same_from f g a zero same = refl
 filter-same_from f g a (suc n) same =
@@ -112,7 +112,8 @@ pub unflushed-none : (sizes : Sizes) (A : List Step) → next_to_flush sizes A �
 unfolding next_page unflushed
 unflushed-none sizes A next = filter-none (waits sizes A) (range_with_len 0 (pages_below sizes (safe_read_only A))) next
 
--- no more pages wait than there are frames: the first is in its frame still, so that no page so far above it is entered
+-- no more pages wait than there are frames: the first still lies in its frame, so the next page of that frame isn't
+-- entered, nor is any above it
 pub unflushed-few : (sizes : Sizes) (A : List Step) → 0 < sizes.page_size → IsAccepted sizes A → length (unflushed sizes A) ≤ sizes.frames
 unfolding next_page unflushed
 unflushed-few sizes A some a = by_next (next_to_flush sizes A) refl

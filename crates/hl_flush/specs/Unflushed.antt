@@ -1,5 +1,5 @@
 -- The pages that wait to be flushed, and the lines of their images.
-use Rattle.std.specs.Prelude.{ℕ, Bool, ◌||◌, not, List, filter, flat_map}
+use Rattle.std.specs.Prelude.{ℕ, ◌||◌, not, List, filter, flat_map}
 use Rattle.std.specs.List.{range_with_len}
 use Rattle.hl_model.specs.declared.step.Step.{Step}
 use Rattle.hl_model.specs.Sizes.{Sizes}
