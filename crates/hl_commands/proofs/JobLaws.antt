@@ -1,10 +1,10 @@
 -- The shelf of a script's jobs as it is filled.
-use Rattle.std.proofs.Common.{◌≡◌, ◌≢◌, ◌⊎◌, ℕ, suc, ◌<◌, ◌≤◌, Bool, true, false, cond, eqb, is_some, is_none, inl, inr, List, length, set, get_or-set_same, get_or-set_other, length-set, refl, sym, ap, ◌∙◌, subst, arith}
-use Rattle.std.specs.Prelude.{◌&&◌, Option, Some, None, replicate}
-use Rattle.std.proofs.lemmas.Bool.{eqb-true, eqb-false, lt-ltb, le-ltb, cases_lt}
+use Rattle.std.proofs.Common.{◌≡◌, ◌⊎◌, ℕ, ◌<◌, ◌≤◌, is_some, inl, inr, List, length, sym, ap, ◌∙◌, arith}
+use Rattle.std.specs.Prelude.{Option, None, replicate}
+use Rattle.std.proofs.lemmas.Bool.{le-ltb, cases_lt}
 use Rattle.std.proofs.lemmas.List.{get_or_past, get_or-replicate, length-replicate}
 use Rattle.hl_action.specs.Jobs.{KeptRecord}
-use Rattle.hl_action.specs.Shelves.{job_of, has_place}
+use Rattle.hl_action.specs.Shelves.{job_of}
 use Rattle.hl_script.specs.Text.{tags_on, below}
 
 -- a shelf of so many places has a job under each tag below a number

@@ -1,3 +1,4 @@
+pub mod ImageLaws
 pub mod ReportLaws
 pub mod JobLaws
 pub mod StatusLaws

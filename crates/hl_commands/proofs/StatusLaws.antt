@@ -1,12 +1,19 @@
 -- What a run came to, and what its status tells once the writer was flushed.
-use Rattle.std.proofs.Common.{◌≡◌, ◌≢◌, ◌⊎◌, inl, inr, ℕ, ◌^◌, Bool, true, List, ◌++◌, ◌∙◌, refl, subst}
+use Rattle.std.proofs.Common.{◌≡◌, ◌≢◌, ◌⊎◌, inl, inr, ℕ, ◌^◌, Bool, true, false, cond, List, [], ◌∷◌, ◌++◌, ◌∙◌, refl, sym, ap, subst}
 use Rattle.std.specs.Prelude.{Option, Some, None, Result, Ok, Err, OnOk}
 use Rattle.std.specs.Io.KnownBytes.{Appends, Keeps}
+use Rattle.std.proofs.KnownBytes.{Appends-nil, Appends-trans}
 use Rattle.hl_model.specs.declared.fault.Fault.{Fault}
 use Rattle.hl_model.specs.declared.fault.Fault.TheVariants.{BadLine, OutOfMemory, NoneSealed, Device}
-use Rattle.hl_script.specs.Outcomes.{WroteBad, StoppedAtBadLine, RunStopped}
-use Rattle.hl_script.specs.Text.{below, bad_text}
-use Rattle.hl_commands.specs.Commands.{AreTheTags, Answers, EndsText, Answered, EndsReport, ReportedAs}
+use Rattle.hl_model.specs.Sizes.{Sizes}
+use Rattle.hl_line.specs.declared.line.Line.{Line}
+use Rattle.hl_flush.specs.Unflushed.{image_lines}
+use Rattle.hl_flush.proofs.UnflushedLaws.{unflushed-nil, image_lines-none}
+use Rattle.hl_script.specs.Answers.{sizes_of, accepted_after, accepted}
+use Rattle.hl_script.specs.Lines.{script}
+use Rattle.hl_script.specs.Outcomes.{ReadToEnd, WroteAll, WroteBad, StoppedAtBadLine, RunStopped}
+use Rattle.hl_script.specs.Text.{below, bad_text, count_of, text}
+use Rattle.hl_commands.specs.Commands.{AreTheTags, written, EndsText, Answered, EndsReport, ReportedAs}
 use Rattle.hl_commands.specs.Reported.{Reports}
 
 appends_kept : (a b c : Option (List ℕ)) (bytes : List ℕ) → Appends a b bytes → Keeps b c → Appends a c bytes
@@ -39,7 +46,7 @@ pub lacked_text : (images : Bool) (given left before after : Option (List ℕ)) 
 lacked_text images given left before after fault ended is end = record {
   has = below 1000;
   tags = λ tag. refl;
-  done = λ ok none. cc;
+  done = λ ok. cc;
   refused = λ n bad. cc;
 }
 
@@ -49,29 +56,55 @@ pub text_stopped : (has : ℕ → Bool) (images : Bool) (given left before after
 text_stopped has images given left before after lacked fault ended tags stopped end = record {
   has = has;
   tags = tags;
-  done = λ ok none. cc;
+  done = λ ok. cc;
   refused = λ n bad. let same : fault ≡ BadLine n = cc in subst (λ f. RunStopped has (2 ^ 32) given left before after lacked f) same stopped;
 }
 
--- all was read and written
-pub text_read : (has : ℕ → Bool) (images : Bool) (given left before after : Option (List ℕ)) (ended : Result (Unit {0}) Fault)
-    → AreTheTags has → Answers has given left before after → ended ≡ Ok tt → EndsText images given left before after ended
-text_read has images given left before after ended tags answers end = record {
+-- all was read, its text was written, and then what is wanted behind it, if that went well
+pub text_read : (has : ℕ → Bool) (images : Bool) (given left before between after : Option (List ℕ)) (input behind : List ℕ) (ended : Result (Unit {0}) Fault)
+    → AreTheTags has → ReadToEnd (2 ^ 32) given left input → WroteAll has before between input → OnOk ended (Appends between after behind)
+    → text has input ++ behind ≡ written has images input → ((n : ℕ) → ended ≢ Err (BadLine n)) → EndsText images given left before after ended
+text_read has images given left before between after input behind ended tags read wrote more is good = record {
   has = has;
   tags = tags;
-  done = λ ok none. answers;
-  refused = λ n bad. cc;
-}
-
--- and images followed
-pub text_imaged : (has : ℕ → Bool) (images : Bool) (given left before after : Option (List ℕ)) (ended : Result (Unit {0}) Fault)
-    → AreTheTags has → images ≡ true → ((n : ℕ) → ended ≢ Err (BadLine n)) → EndsText images given left before after ended
-text_imaged has images given left before after ended tags wanted good = record {
-  has = has;
-  tags = tags;
-  done = λ ok none. cc;
+  done = λ ok.
+      record {
+        input = input;
+        read = read;
+        good = wrote.good;
+        wrote = subst (Appends before after) is (Appends-trans before between after (text has input) behind wrote.wrote (subst (λ r. OnOk r (Appends between after behind)) ok more));
+      };
   refused = λ n bad. absurd (good n bad);
 }
+
+-- and nothing more was wanted
+pub text_alone : (has : ℕ → Bool) (images : Bool) (given left before after : Option (List ℕ)) (input : List ℕ)
+    → AreTheTags has → ReadToEnd (2 ^ 32) given left input → WroteAll has before after input
+    → text has input ++ [] ≡ written has images input → EndsText images given left before after (Ok tt)
+text_alone has images given left before after input tags read wrote is =
+    text_read has images given left before after after input [] (Ok tt) tags read wrote (Appends-nil after) is (λ n bad. cc)
+
+-- no image is wanted
+pub no_images : (has : ℕ → Bool) (images : Bool) (input : List ℕ) → images ≡ false → text has input ++ [] ≡ written has images input
+no_images has images input unwanted = rw unwanted refl
+
+no_lines : (has : ℕ → Bool) (lines : List Line) → None ≡ count_of has lines → image_lines (sizes_of lines) (accepted has lines) ≡ []
+unfolding accepted accepted_after
+no_lines has [] none = image_lines-none (sizes_of []) [] (unflushed-nil (sizes_of []))
+no_lines has (line ∷ lines) none = cc
+
+-- a script without a line has none
+pub no_pages : (has : ℕ → Bool) (images : Bool) (input : List ℕ) → None ≡ count_of has (script input) → text has input ++ [] ≡ written has images input
+no_pages has images input counted = ap (λ ls. text has input ++ ls) (by_flag images)
+  where
+    by_flag : (b : Bool) → [] ≡ cond b (image_lines (sizes_of (script input)) (accepted has (script input))) []
+    by_flag true = sym (no_lines has (script input) counted)
+    by_flag false = refl
+
+-- the images are those of the engine at the script's end
+pub its_images : (has : ℕ → Bool) (images : Bool) (input : List ℕ) (sizes : Sizes) → images ≡ true → sizes ≡ sizes_of (script input)
+    → text has input ++ image_lines sizes (accepted has (script input)) ≡ written has images input
+its_images has images input sizes wanted same = rw (wanted, same) refl
 
 -- so the status tells what was read and written
 pub answered : (images : Bool) (given left before between after : Option (List ℕ)) (ended : Result (Unit {0}) Fault) (status : ℕ)
@@ -80,7 +113,7 @@ pub answered : (images : Bool) (given left before between after : Option (List �
 answered images given left before between after ended status did kept done refused = record {
   has = did.has;
   tags = did.tags;
-  done = λ is none. let a = did.done (done is) none in (a.0, a.1, record { wrote = appends_kept before between after _ a.2.wrote kept; good = a.2.good });
+  done = λ is. let a = did.done (done is) in record { input = a.input; read = a.read; good = a.good; wrote = appends_kept before between after _ a.wrote kept };
   refused = λ is. let bad = refused is in (bad.0, stopped_kept did.has (2 ^ 32) given left before between after bad.0 kept (did.refused bad.0 bad.1));
 }
 

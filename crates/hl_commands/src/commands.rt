@@ -1,25 +1,23 @@
-ghost use Rattle.std.specs.Prelude.{◌≡◌, ◌≢◌, ℕ, ◌+◌, ◌<◌, ◌≤◌, false, length, Ok, Err, IfOk, IfErr};
+ghost use Rattle.std.specs.Prelude.{◌≡◌, ℕ, ◌≤◌, false, Ok, Err};
 ghost use Rattle.std.specs.Io.KnownBytes.{Keeps};
-ghost use Rattle.hl_model.specs.declared.fault.Fault.TheVariants.{BadLine, OutOfMemory};
+ghost use Rattle.hl_model.specs.declared.fault.Fault.TheVariants.{BadLine};
 ghost use Rattle.hl_commands.specs.Commands.{Answered, EndsText, ReportedAs, EndsReport};
 
+use crate::images::write_images;
 use crate::jobs::{AddTicket, TAGS, all_jobs};
 use crate::reports::report_script;
 use crate::status::{DONE, REFUSED, failed};
-use hl_action::Task;
-use hl_cells::Engine;
 use hl_counts::CountTable;
 use hl_epoch::{Epochs, ScanTable};
-use hl_flush::flush_one;
-use hl_image::HexWriter;
 use hl_model::Fault;
-use hl_script::{Finished, Sum, run_text, slow_text};
+use hl_script::{Finished, run_text, slow_text};
 use std::alloc::Global;
 use std::io::{Read, Write};
 
 /// Answers the script that the reader gives; then, if that is wanted, writes the image of each page that can
 /// be flushed, one a line. Returns the exit status: `DONE` only after the text of the whole script, which is what its
-/// definition says, and `REFUSED` only at a line that is no step.
+/// definition says, with the images of all these pages behind it if they are wanted; and `REFUSED` only at a line that
+/// is no step.
 pub fn run<R: Read, W: Write, E: Write>(
     alloc: Global,
     flush: bool,
@@ -115,7 +113,7 @@ fn serve<E: Epochs + Drop, R: Read, W: Write>(
         return Ok(());
     };
     if flush {
-        flush_pages(alloc, finished.engine, writer)
+        write_images(alloc, finished.engine, writer)
     } else {
         Ok(())
     }
@@ -141,36 +139,4 @@ fn tell<R: Read, W: Write>(alloc: Global, reader: &mut R, writer: &mut W) -> Res
 {
     let shelf = all_jobs(alloc)?;
     report_script::<CountTable, AddTicket, R, W>(alloc, reader, writer, shelf)
-}
-
-/// Writes the image of each page that can be flushed.
-fn flush_pages<E: Epochs + Drop, F: Task, W: Write>(
-    alloc: Global,
-    engine: Engine<E, F, Sum>,
-    writer: &mut W,
-) -> Result<(), Fault>
-    ensures { (n : ℕ) → result ≢ Err (BadLine n) }
-{
-    let mut engine = engine;
-    let params = engine.params();
-    let size = 8 + 8 * params.page_size();
-    let mut image = zeros(alloc, size as usize)?;
-    let mut pages = HexWriter::new(writer);
-    // No frame holds more than one page that isn't flushed.
-    for _ in 0..params.frames() {
-        match flush_one(&mut engine, &mut pages, &mut image) {
-            Ok(_) => {}
-            Err(Fault::NoneSealed) => return Ok(()),
-            Err(fault) => return Err(fault),
-        }
-    }
-    Ok(())
-}
-
-/// Returns so many bytes, all 0.
-fn zeros(alloc: Global, size: usize) -> Result<Vec<u8>, Fault>
-    ensures made { IfOk result (λ made. length made.items ≡ size) }
-    ensures refused { IfErr result (λ fault. fault ≡ OutOfMemory) }
-{
-    vec![in alloc; 0; size].map_err(|_| Fault::OutOfMemory)
 }

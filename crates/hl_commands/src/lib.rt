@@ -18,6 +18,7 @@
 //! | Module | What it does |
 //! |---|---|
 //! | `commands` | the commands |
+//! | `images` | the images of the pages that a script left |
 //! | `reports` | a script and its report |
 //! | `judges` | a trace and what it shows |
 //! | `jobs` | the jobs of a script |
@@ -25,6 +26,7 @@
 #![tactic(auto)]
 
 mod commands;
+mod images;
 mod jobs;
 mod judges;
 mod reports;

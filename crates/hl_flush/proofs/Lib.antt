@@ -1,2 +1,3 @@
 pub mod EngineLaws
 pub mod FlushLaws
+pub mod UnflushedLaws

@@ -1,4 +1,5 @@
 pub mod Flush
+pub mod Unflushed
 pub use Rattle.hl_model.specs.Snapshots
 pub use Rattle.hl_lag.specs.Lag
 pub use Rattle.hl_image.specs.Failures

@@ -15,6 +15,9 @@
 //! words the page was written is a matter of the definitions (`Flushes` in `specs/Flush.antt`). What a device
 //! keeps is the writer's to say.
 //!
+//! Which pages wait to be flushed is a matter of the definitions too (`unflushed` in `specs/Unflushed.antt`). No
+//! more of them wait than there are frames, and a flush takes the first and leaves the others.
+//!
 //! It is handed no allocator, and is refused no memory: the image is made in the caller's buffer. What a
 //! writer takes is its own.
 #![tactic(auto)]

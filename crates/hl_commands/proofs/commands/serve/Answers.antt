@@ -1,7 +1,10 @@
-use Rattle.std.proofs.Common.{◌∙◌, ap, refl}
+use Rattle.std.proofs.Common.{◌∙◌, ap}
 use Rattle.std.specs.Prelude.{Err}
 use Rattle.std.proofs.lemmas.Result.{err_from_is_err_and}
-use Rattle.hl_commands.proofs.StatusLaws.{lacked_text, text_stopped, text_read, text_imaged}
+use Rattle.hl_script.specs.Answers.{accepted}
+use Rattle.hl_script.specs.Lines.{script}
+use Rattle.hl_script.specs.Text.{tags_on}
+use Rattle.hl_commands.proofs.StatusLaws.{lacked_text, text_stopped, text_alone, text_read, no_pages, no_images, its_images}
 use Rattle.hl_commands.proofs.commands.serve.Goals as goal
 
 pub returns-in_err-shelf : goal.returns-in_err-shelf
@@ -18,12 +21,17 @@ returns-in_err-ended g c =
 pub returns-in_default : goal.returns-in_default
 returns-in_default g c =
     let ran = c.in_ok-ended.ensures in
-    text_read _ _ _ _ _ _ _ c.in_ok-shelf.ensures.tags (ran.0, ran.1, ran.2) refl
+    text_alone _ _ _ _ _ _ ran.0 c.in_ok-shelf.ensures.tags ran.1 ran.2 (no_pages _ _ _ (rw c.in_default.is at ran.3.0))
 
 pub returns-then-flush : goal.returns-then-flush
-returns-then-flush g c = text_imaged _ _ _ _ _ _ _ c.in_ok-shelf.ensures.tags c.if-flush.true c.flush_pages.ensures
+returns-then-flush g c =
+    let ran = c.in_ok-ended.ensures in
+    let left = rw c.in-Some.is at ran.3.1 in
+    let A = accepted (tags_on c.in_ok-shelf.shelf) (script ran.0) in
+    text_read _ _ _ _ _ _ _ ran.0 _ _ c.in_ok-shelf.ensures.tags ran.1 ran.2 (c.write_images.ensures.images A left.standing)
+    (its_images _ _ ran.0 _ c.if-flush.true left.sizes) c.write_images.ensures.no_bad_line
 
 pub returns-else-flush : goal.returns-else-flush
 returns-else-flush g c =
     let ran = c.in_ok-ended.ensures in
-    text_read _ _ _ _ _ _ _ c.in_ok-shelf.ensures.tags (ran.0, ran.1, ran.2) refl
+    text_alone _ _ _ _ _ _ ran.0 c.in_ok-shelf.ensures.tags ran.1 ran.2 (no_images _ _ _ c.if-flush.false)
