@@ -7,7 +7,7 @@ use Rattle.hl.specs.declared.session.tries.Cure.{Cure}
 use Rattle.hl.specs.Attempts.{Attempts, TriesNext}
 
 module _ {O S T X : Type 0} (Tries : O → S → Result T X → O → S → Type 0)
-    (Cures : X → Option Cure → Type 0) (Helps : S → Result Bool Fault → S → Type 0) where
+    (Cures : X → Option Cure → Type 0) (Helps : S → Cure → Result Bool Fault → S → Type 0) where
   -- whatever an answer is, all tries were made
   pub if_all : (r : Result T X) {n again : ℕ} → n ≡ again → IfErr r (λ error. Cures error None ⊎ (n ≡ again))
   if_all (Ok out) all = tt

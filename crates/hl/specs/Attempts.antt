@@ -20,8 +20,9 @@ cure_of WindowFull = Some Others
 cure_of _ = None
 
 module _ {O S T X : Type 0} (Tries : O → S → Result T X → O → S → Type 0)
-    (Cures : X → Option Cure → Type 0) (Helps : S → Result Bool Fault → S → Type 0) where
-  -- a try was refused for a reason that has a cure, and a round of help came after it, however that was answered
+    (Cures : X → Option Cure → Type 0) (Helps : S → Cure → Result Bool Fault → S → Type 0) where
+  -- a try was refused for a reason that has a cure, and a round of help for that cure came after it, however that was
+  -- answered
   pub record TriesInVain (o : O) (old : S) (p : O) (new : S) : Type 0 where
     pub error : X
     pub cure : Cure
@@ -29,7 +30,7 @@ module _ {O S T X : Type 0} (Tries : O → S → Result T X → O → S → Type
     pub refused : S
     pub tries : Tries o old (Err error) p refused
     pub help : Result Bool Fault
-    pub helps : Helps refused help new
+    pub helps : Helps refused cure help new
 
   -- the same of an operation and its session together: another try follows
   abbrev pub TriesNext : ℕ → Result Bool X → O × S → O × S → Type 0
@@ -49,6 +50,6 @@ module _ {O S T X : Type 0} (Tries : O → S → Result T X → O → S → Type
 
 -- a round of help of a session, which stays one of its log and crew
 abbrev pub SessionHelps : {F : Type 0} → (F → FiringRecord → ℕ → Type 0) → (ℕ → FiringRecord → ℕ → Type 0)
-    → SessionState → Result Bool Fault → SessionState → Type 0
-SessionHelps {F} gives keeps old help new =
+    → SessionState → Cure → Result Bool Fault → SessionState → Type 0
+SessionHelps {F} gives keeps old _ help new =
     Helps F old.log gives keeps help old.pass new.pass × (new.log ≡ old.log) × (new.rings ≡ old.rings)

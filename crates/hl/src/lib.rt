@@ -39,6 +39,7 @@ mod reports;
 mod session;
 mod sink;
 mod threads;
+mod told;
 mod work;
 
 pub use config::{Config, Number};

@@ -6,6 +6,7 @@ ghost use Rattle.hl_domain.specs.Domains.{with_held, after_news, stays_current, 
 ghost use Rattle.hl_domain.specs.Riders.{Allocates};
 ghost use Rattle.hl.specs.Sessions.{with_pass, Asked, Entered, Left};
 
+mod bell;
 mod help;
 mod leave;
 mod over;
@@ -233,15 +234,6 @@ impl<'a, R: Wait, L: Realm, F: Task, P: Promise, E: Epochs + Drop> Session<'a, R
             bell: _,
         } = self;
         pass.abandon()
-    }
-
-    /// Wakes the crew of [`with_threads`](crate::with_threads) if it sleeps, and takes no lock: for a thread whose
-    /// allocation was `Busy`. It does nothing in a session that was entered otherwise, whose crew has a
-    /// [`Stop`](Stop::ring) at hand.
-    pub fn ring(&self) {
-        if let Some(bell) = self.bell {
-            bell.ring();
-        }
     }
 
     /// Its log: for what needs no slot, as a snapshot, or who holds up the oldest action.

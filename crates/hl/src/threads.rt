@@ -15,6 +15,7 @@ use crate::opening::Opening;
 use crate::refused::Refused;
 use crate::session::Session;
 use crate::sink::{Named, Sink};
+use crate::told::Told;
 use crate::work::Work;
 use hl_crew::{Crew, CrewReport, CrewRiders, Duty, OpenGate, Stop};
 use hl_model::{Fault, HasSizes, Sizes};
@@ -169,23 +170,22 @@ pub(crate) fn run_all<L: Realm + Send + Sync, R: Threads + Wait + Sync, P: Work<
     };
     let stop = Stop::new();
     // If the first one's thread can't be made, it runs after the second: a crew that ran first would wait for its stop.
-    let ((crew, device, served), worked) = thread::join(
+    let ((crew, device, served), told) = thread::join(
         rt,
         || -> Served<L>
             requires { duty.frames ≡ log.now.sizes.frames }
             ensures { HasServed log.entry.now.sizes (device_has (P.took work.entry.now) result.1)
                 (riders_of crew) (riders_of result.0) result.2 × (is_some result.1 ≡ is_some device) }
         { serve_behind(rt, alloc, log, crew, duty, work, device, &stop) },
-        || -> Result<Vec<Worked<L, P::Out>>, AllocError>
-            ensures { IfOk result (λ worked. HaveWorked P.Job log.entry.now (is_some duty.cut_above)
+        || -> Told<Result<Vec<Worked<L, P::Out>>, AllocError>>
+            ensures { IfOk result.left (λ worked. HaveWorked P.Job log.entry.now (is_some duty.cut_above)
                 (P.returns work.entry.now) riders.items worked.items) }
         {
             let worked = work_all(rt, alloc, log, riders, duty, work, &stop);
-            stop.give();
-            worked
+            Told::of(worked, &stop)
         },
     );
-    let Ok(worked) = worked else {
+    let Ok(worked) = told.into_left() else {
         return ((Err(Fault::OutOfMemory), device), Vec::new(alloc));
     };
     match gather_all(alloc, worked, crew, served) {

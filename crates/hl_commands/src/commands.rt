@@ -6,7 +6,7 @@ ghost use Rattle.hl_commands.specs.Commands.{Answered, EndsText, ReportedAs, End
 use crate::images::write_images;
 use crate::jobs::{AddTicket, TAGS, all_jobs};
 use crate::reports::report_script;
-use crate::status::{DONE, REFUSED, failed};
+use crate::status::{DONE, Flushed, REFUSED, failed};
 use hl_counts::CountTable;
 use hl_epoch::{Epochs, ScanTable};
 use hl_model::Fault;
@@ -88,12 +88,12 @@ fn status_of<W: Write, E: Write>(ended: Result<(), Fault>, writer: &mut W, error
     ensures refused { result ≡ 2 → (n : ℕ) × (ended ≡ Err (BadLine n)) }
     ensures kept { Keeps (W.contents writer.old) (W.contents writer.new) }
 {
-    let is_out = writer.flush().is_ok();
-    match ended {
-        Ok(()) if is_out => DONE,
-        Err(Fault::BadLine { .. }) if is_out => REFUSED,
-        Ok(()) | Err(Fault::BadLine { .. }) => failed(Fault::Stream, errors),
-        Err(fault) => failed(fault, errors),
+    let flushed = Flushed::of(writer);
+    match (ended, flushed) {
+        (Ok(()), Some(_)) => DONE,
+        (Err(Fault::BadLine { .. }), Some(_)) => REFUSED,
+        (Ok(()) | Err(Fault::BadLine { .. }), None) => failed(Fault::Stream, errors),
+        (Err(fault), _) => failed(fault, errors),
     }
 }
 

@@ -1,4 +1,5 @@
 ghost use Rattle.std.specs.Prelude.{◌≡◌};
+ghost use Rattle.std.specs.Io.KnownBytes.{Keeps};
 
 use hl_line::print_fault;
 use hl_model::Fault;
@@ -20,4 +21,22 @@ pub fn failed<E: Write>(fault: Fault, errors: &mut E) -> u8
     let _ = errors.write_all(print_fault(&fault).as_bytes());
     let _ = errors.write_all(b"\n");
     FAILED
+}
+
+/// That what was written to a stream went out. Only [`Flushed::of`] makes one.
+#[derive(Drop)]
+pub(crate) struct Flushed {
+    _made: (),
+}
+
+impl Flushed {
+    /// Flushes the stream. `None` if that failed.
+    pub(crate) fn of<W: Write>(writer: &mut W) -> Option<Flushed>
+        ensures kept { Keeps (W.contents writer.old) (W.contents writer.new) }
+    {
+        match writer.flush() {
+            Ok(()) => Some(Flushed { _made: () }),
+            Err(_) => None,
+        }
+    }
 }

@@ -15,6 +15,7 @@ use crate::messages::Channels;
 use crate::mode::Mode;
 use crate::run::Run;
 use crate::seats::Seats;
+use crate::sleepers::Sleepers;
 use crate::state::CrewState;
 use crate::stop::Stop;
 use crate::writer::Buffers;
@@ -28,7 +29,7 @@ use std::alloc::Global;
 use std::marker::Brand;
 use std::sync::Wait;
 use std::sync::atomic::AtomicBool;
-use std::thread::{Parker, Threads};
+use std::thread::Threads;
 
 /// What [`run_crew`] returns.
 #[derive(Drop)]
@@ -139,13 +140,14 @@ where
 impl<L: Realm, W> Crew<L, W> {
     /// Serves a domain until the stop is given, as [`run_crew`] does for a number of turns: but each writer takes its
     /// pages itself, copies, writes and answers them, so no acknowledgement is a stranger. It sleeps while there is
-    /// nothing to do. Once all threads have ended, the calling thread makes at most 1,000 rounds, of a turn of the flusher
-    /// and all looks of the others, up to the first in which the flusher got nowhere: so it ends once nothing is in flight.
-    /// If the journal is full, it cuts it where the duty lets it; else a full journal ends it before its stop. The crew comes back, whatever it met, and its report has the duty's
-    /// limits. Of what the riders stored the same holds. If they had flushed nothing, then each page that those which
-    /// come back flushed is with the writer of that rider, as the image of the words that the rider copied between its
-    /// take and its answer: at the domain's end it is an image of the page, by `hl_images`. Of a page whose write
-    /// failed, or whose answer was refused, nothing is said.
+    /// nothing to do. Once all threads have ended, the calling thread makes at most 1,000 rounds, of a turn of the
+    /// flusher and all looks of the others, up to the first in which the flusher got nowhere or failed: so it ends once
+    /// nothing is in flight. If the journal is full, it cuts it where the duty lets it; else a full journal ends it
+    /// before its stop. The crew comes back, whatever it met, and its report has the duty's limits. Of what the riders
+    /// stored the same holds. If they had flushed nothing, then each page that those which come back flushed is with
+    /// the writer of that rider, as the image of the words that the rider copied between its take and its answer: at
+    /// the domain's end it is an image of the page, by `hl_images`. Of a page whose write failed, or whose answer was
+    /// refused, nothing is said.
     ///
     /// A thread that has entered a page may wake it by [`Stop::ring`]; a crew that nobody wakes looks at least
     /// every 160 milliseconds, and sooner after it had something to do.
@@ -222,16 +224,14 @@ impl<L: Realm, W> Crew<L, W> {
             mode,
             limits,
             channels,
-            cleaner: Parker::new(),
-            first: Parker::new(),
-            second: Parker::new(),
+            sleepers: Sleepers::new(),
             ended: EndFlag::new(),
             has_written: AtomicBool::new(false),
         };
         let seats = Seats::<L, W, K>::of(CrewState::of(self, buffers));
         let whole = run.run_threads(&seats).ok();
         let mut state = seats.end();
-        run.end_rounds(&mut state, whole.is_some());
+        run.end_rounds(&mut state, &whole);
         let (crew, counts) = state.into_crew();
         (crew, CrewReport::of(whole, counts, limits))
     }

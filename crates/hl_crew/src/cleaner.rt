@@ -42,7 +42,7 @@ impl<R: Wait, E: Epochs + Drop, F: Task, P: Promise, L: Realm, G> Run<'_, R, E, 
         let looker = Looker {
             rt: self.rt,
             ended: &self.ended,
-            sleeper: &self.cleaner,
+            sleeper: &self.sleepers.cleaner,
         };
         looker.look_on(self, rider, most)
     }

@@ -7,7 +7,6 @@ ghost use Rattle.hl_crew.specs.Runs.{FlushesIf, MakesTurn, TurnsBy, TurnsNext, S
 ghost use Rattle.hl_crew.specs.Riders.{IsGiven, WorksOn};
 
 use crate::counts::Counts;
-use crate::ended::Raised;
 use crate::given::Given;
 use crate::limits::Cuts;
 use crate::messages::{Channels, Over};
@@ -15,6 +14,7 @@ use crate::mode::Mode;
 use crate::pouch::Pouch;
 use crate::run::Run;
 use crate::seats::{HasRider, Seat};
+use crate::sleepers::AllTold;
 use crate::stop::{Stop, Stopped};
 use hl_action::{Promise, Task};
 use hl_epoch::Epochs;
@@ -51,7 +51,7 @@ impl<L: Realm> HasRider for FlusherState<L> {
 impl<R: Wait, E: Epochs + Drop, F: Task, P: Promise, L: Realm, G> Run<'_, R, E, F, P, L, G> {
     /// The flusher's thread: makes its turns until they are over, and then ends the others.
     #[tactic(auto, using(crate::proofs::StateLaws::rider_as_given))]
-    pub(crate) fn run_flusher<K: Given>(&self, own: &Mutex<Seat<FlusherState<L>, K>>) -> Raised
+    pub(crate) fn run_flusher<K: Given>(&self, own: &Mutex<Seat<FlusherState<L>, K>>) -> AllTold
         requires { IsGiven K.sizes K.serves self.now.domain.now self.now.channels }
     {
         let mut seat = own.lock(self.rt);
@@ -84,7 +84,7 @@ impl<R: Wait, E: Epochs + Drop, F: Task, P: Promise, L: Realm, G> Run<'_, R, E, 
     {
         for _ in 0..self.limits.turns() {
             let made = self.turn(own);
-            self.cleaner.unpark();
+            self.sleepers.cleaner.wake();
             made?;
         }
         Ok(())

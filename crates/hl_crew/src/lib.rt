@@ -42,10 +42,10 @@
 //! The flusher ends once its turns are over or its stop is given, or earlier if the journal is full, unless it serves
 //! by a duty that cuts, or if a channel fails; the others end once they find no page. A crew that serves then makes
 //! at most 1,000 rounds in the thread that called it, of a turn of the flusher and all looks of the others, up to the
-//! first in which the flusher got nowhere. At the end no page that it took is in flight, and no action that it took
-//! is still taken. What was taken and can't be answered is forsaken: such a page stays in flight or in cleaning, and
-//! such an action stays taken. Riders and page writers come back by value, even if a thread couldn't be made: each
-//! lies under a lock that its thread takes once.
+//! first in which the flusher got nowhere or failed. At the end no page that it took is in flight, and no action that
+//! it took is still taken. What was taken and can't be answered is forsaken: such a page stays in flight or in
+//! cleaning, and such an action stays taken. Riders and page writers come back by value, even if a thread couldn't be
+//! made: each lies under a lock that its thread takes once.
 //!
 //! # What is proved of it
 //!
@@ -80,7 +80,8 @@
 //! | `duty`, `stop` | what a crew that serves is given; what ends it |
 //! | `limits`, `mode` | what all its threads keep to; for how long they work |
 //! | `flusher`, and in it `lag`, `asked`, `actions`, `pages`, `acknowledgements` | the flusher's turn, a part each |
-//! | `looks`, `ended`, `woken` | how a thread looks for pages; whether the flusher has ended; who is woken |
+//! | `looks`, `ended` | how a thread looks for pages; whether the flusher has ended |
+//! | `sleepers`, `woken` | where a thread sleeps; who is woken |
 //! | `ends` | how what was taken is ended |
 //! | `writer`, and in it `buffers`, `write` and `flush`; `cleaner` | the other threads |
 //! | `pouch` | the pages that wait for their acknowledgement |
@@ -105,6 +106,7 @@ mod pouch;
 mod rounds;
 mod run;
 mod seats;
+mod sleepers;
 mod state;
 mod stop;
 mod threads;

@@ -5,8 +5,8 @@ ghost use Rattle.hl_crew.specs.Looks.{LooksNext};
 
 use crate::ended::{EndFlag, Seen};
 use crate::messages::Over;
+use crate::sleepers::Sleeper;
 use std::sync::Wait;
-use std::thread::Parker;
 
 /// What looks for a page, with what a thread has of its own.
 pub(crate) trait Look<S> {
@@ -27,7 +27,7 @@ pub(crate) struct Looker<'x, R> {
     /// Raised once the flusher has made its turns.
     pub(crate) ended: &'x EndFlag,
     /// Where it sleeps.
-    pub(crate) sleeper: &'x Parker,
+    pub(crate) sleeper: &'x Sleeper,
 }
 
 impl<R: Wait> Looker<'_, R> {
@@ -63,7 +63,7 @@ impl<R: Wait> Looker<'_, R> {
         let found = with.find(own)?;
         let has_ended = seen.is_raised();
         if !found && !has_ended {
-            self.sleeper.park(self.rt);
+            self.sleeper.sleep(self.rt, seen);
         }
         Ok(found || !has_ended)
     }

@@ -2,18 +2,17 @@ ghost use Rattle.std.specs.Prelude.{◌≡◌, is_none};
 ghost use Rattle.hl_crew.specs.Cutting.{OrCuts};
 ghost use Rattle.hl_crew.specs.Lags.{IsLag};
 
-use crate::ended::{EndFlag, Raised};
+use crate::ended::EndFlag;
 use crate::limits::Limits;
 use crate::messages::{Channels, Message, Over};
 use crate::mode::Mode;
-use crate::woken::Woken;
+use crate::sleepers::{AllTold, Sleepers};
 use hl_action::{Promise, Task};
 use hl_domain::Domain;
 use hl_epoch::Epochs;
 use hl_words::{Realm, Rider};
 use std::sync::Wait;
 use std::sync::atomic::AtomicBool;
-use std::thread::Parker;
 
 /// A crew's run: what its threads work on and share. The limits stand here alone: all threads keep to the same.
 #[derive(Drop)]
@@ -25,10 +24,7 @@ pub(crate) struct Run<'x, R, E: Epochs, F: Task, P: Promise, L: Realm, G> {
     pub(crate) limits: Limits,
     /// Between the flusher and the writers, unless these take their pages themselves.
     pub(crate) channels: Option<Channels>,
-    /// Where the cleaner sleeps, and where the writers do if they take their pages themselves.
-    pub(crate) cleaner: Parker,
-    pub(crate) first: Parker,
-    pub(crate) second: Parker,
+    pub(crate) sleepers: Sleepers,
     /// Raised once the flusher has made its turns.
     pub(crate) ended: EndFlag,
     /// Whether a writer has written a page that it took itself since the flusher asked.
@@ -62,27 +58,14 @@ impl<R: Wait, E: Epochs + Drop, F: Task, P: Promise, L: Realm, G> Run<'_, R, E, 
         }
     }
 
-    /// Wakes these of those that look for pages.
-    pub(crate) fn wake(&self, woken: Woken) {
-        if woken.writers {
-            self.first.unpark();
-            self.second.unpark();
-        }
-        if woken.cleaner {
-            self.cleaner.unpark();
-        }
-    }
-
     /// The flusher makes no more turns: each writer that waits gets the message to stop, and whoever looks for pages
     /// is woken, and ends once it finds none.
-    pub(crate) fn end(&self) -> Raised {
+    pub(crate) fn end(&self) -> AllTold {
         if let Some(channels) = &self.channels {
             for _ in 0..2 {
                 let _ = channels.jobs.send(self.rt, Message::Stop);
             }
         }
-        let raised = self.ended.raise();
-        self.wake(Woken::all());
-        raised
+        self.sleepers.wake_last(self.ended.raise())
     }
 }

@@ -1,11 +1,11 @@
 ghost use Rattle.std.specs.Thread.{IsSend, IsSync};
 ghost use Rattle.hl_crew.specs.Riders.{IsGiven};
 
-use crate::ended::Raised;
 use crate::gate::Gate;
 use crate::given::Given;
 use crate::run::Run;
 use crate::seats::{Seat, Seats};
+use crate::sleepers::{AllTold, Sleeper};
 use crate::whole::Whole;
 use crate::writer::WriterState;
 use hl_action::{Promise, Task};
@@ -14,7 +14,7 @@ use hl_image::PageWriter;
 use hl_words::Realm;
 use std::sync::{Mutex, Wait};
 use std::thread;
-use std::thread::{JoinHandle, Parker, Scope, Threads};
+use std::thread::{JoinHandle, Scope, Threads};
 
 impl<R, E, F, P, L, G> Run<'_, R, E, F, P, L, G>
 where
@@ -29,13 +29,13 @@ where
     pub(crate) fn run_threads<'y, W: PageWriter + Send, K: Given + Send>(
         &'y self,
         seats: &'y Seats<L, W, K>,
-    ) -> Result<Whole, Raised>
+    ) -> Result<Whole, AllTold>
         requires { IsGiven K.sizes K.serves self.now.domain.now self.now.channels }
     {
         thread::scope(
             thread::scope_env(),
             self.rt,
-            move |scope| -> Result<Whole, Raised>
+            move |scope| -> Result<Whole, AllTold>
                 requires runtime { IsSync R.row }
                 requires epochs { IsSend E.row }
                 requires jobs { IsSend F.row }
@@ -54,11 +54,11 @@ where
         &'y self,
         scope: &'s Scope<'s, &'y ()>,
         seats: &'y Seats<L, W, K>,
-    ) -> Result<Whole, Raised>
+    ) -> Result<Whole, AllTold>
         requires { IsGiven K.sizes K.serves self.now.domain.now self.now.channels }
     {
-        let first = self.start_writer(scope, &seats.first, &self.first);
-        let second = self.start_writer(scope, &seats.second, &self.second);
+        let first = self.start_writer(scope, &seats.first, &self.sleepers.first);
+        let second = self.start_writer(scope, &seats.second, &self.sleepers.second);
         let cleaner = scope
             .spawn(
                 move ||
@@ -88,7 +88,7 @@ where
         &'y self,
         scope: &'s Scope<'s, &'y ()>,
         own: &'y Mutex<Seat<WriterState<L, W>, K>>,
-        sleeper: &'y Parker,
+        sleeper: &'y Sleeper,
     ) -> Option<JoinHandle<()>>
         requires { IsGiven K.sizes K.serves self.now.domain.now self.now.channels }
     {

@@ -1,6 +1,6 @@
 ghost use Rattle.std.specs.Prelude.{◌≡◌, false, ◌&&◌, IsSome, IfNone, is_some};
 
-use crate::ended::Raised;
+use crate::sleepers::AllTold;
 use std::thread::JoinHandle;
 
 /// That each thread of a crew was made. Only what came of making them shows it.
@@ -16,7 +16,7 @@ impl Whole {
         first: Option<JoinHandle<()>>,
         second: Option<JoinHandle<()>>,
         cleaner: Option<JoinHandle<()>>,
-        flusher: Option<JoinHandle<Raised>>,
+        flusher: Option<JoinHandle<AllTold>>,
     ) -> Option<Whole>
         ensures made { IsSome result → IsSome first × IsSome second × IsSome cleaner × IsSome flusher }
         ensures missing { IfNone result

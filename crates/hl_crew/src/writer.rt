@@ -10,12 +10,12 @@ use crate::given::Given;
 use crate::messages::{Channels, Message};
 use crate::run::Run;
 use crate::seats::{HasRider, Seat};
+use crate::sleepers::Sleeper;
 use hl_action::{Promise, Task};
 use hl_epoch::Epochs;
 use hl_image::PageWriter;
 use hl_words::{Realm, Rider};
 use std::sync::{Mutex, Wait};
-use std::thread::Parker;
 
 mod buffers;
 mod flush;
@@ -74,7 +74,7 @@ impl<R: Wait, E: Epochs + Drop, F: Task, P: Promise, L: Realm, G: Gate> Run<'_, 
     pub(crate) fn run_writer<W: PageWriter, K: Given>(
         &self,
         own: &Mutex<Seat<WriterState<L, W>, K>>,
-        sleeper: &Parker,
+        sleeper: &Sleeper,
     )
         requires { IsGiven K.sizes K.serves self.now.domain.now self.now.channels }
     {
@@ -83,7 +83,7 @@ impl<R: Wait, E: Epochs + Drop, F: Task, P: Promise, L: Realm, G: Gate> Run<'_, 
     }
 
     // Writes its pages, which are sent or which it takes.
-    fn write_all<W: PageWriter>(&self, own: &mut WriterState<L, W>, sleeper: &Parker)
+    fn write_all<W: PageWriter>(&self, own: &mut WriterState<L, W>, sleeper: &Sleeper)
         ensures looks { is_none self.now.channels ≡ true → LooksOn (FindsPage F self.now.domain.now
             self.now.limits.cuts (G.lets self.now.gate.now) (WritesPage W.has W.wrote)
             (FailsPage W.has W.failed) W.failures) own.old own.new }

@@ -105,7 +105,7 @@ pub(crate) struct Seat<'a, 'b, R: Wait, L: Realm> {
 }
 
 impl<'a, 'b, R: Wait, L: Realm> Helping for Seat<'a, 'b, R, L> {
-    ghost helps = { λ _ _ _. Unit {0} };
+    ghost helps = { λ _ _ _ _. Unit {0} };
 
     fn help_by(&mut self, cure: Cure) -> Result<bool, Fault> {
         self.session.help_by(cure)

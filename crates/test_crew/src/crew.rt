@@ -279,13 +279,15 @@ fn gated_crew(rt: HostRuntime) -> Result<(), Fail> {
 
 #[test]
 fn gate_never_opens(rt: HostRuntime) -> Result<(), Fail> {
+    let gate = &KeepsFirst::new();
     let left = crew_left::<_, CountTable, Brand, _>(
         &rt,
         rt.alloc(),
         seed(rt.alloc())?,
-        &KeepsFirst,
+        gate,
         ONE_TURN,
     )?;
+    assert_eq!(rt; gate.asks(), 1_000_000);
     assert!(rt; left.written == 1 && left.failed == 1 && left.strangers == 0);
     let six = Six {
         closed: 0,

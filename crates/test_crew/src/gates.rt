@@ -1,5 +1,5 @@
 use hl_crew::Gate;
-use std::sync::atomic::{AtomicBool, Ordering};
+use std::sync::atomic::{AtomicBool, AtomicU64, Ordering};
 
 /// Holds page 0 until page 1 has begun.
 #[derive(Drop)]
@@ -27,13 +27,31 @@ impl Gate for HoldsFirst {
     }
 }
 
-/// Never lets page 0 be written.
-pub(crate) struct KeepsFirst;
+/// Never lets page 0 be written, and counts how often it was asked for it.
+#[derive(Drop)]
+pub(crate) struct KeepsFirst {
+    asks: AtomicU64,
+}
+
+impl KeepsFirst {
+    pub(crate) fn new() -> KeepsFirst {
+        KeepsFirst {
+            asks: AtomicU64::new(0),
+        }
+    }
+
+    pub(crate) fn asks(&self) -> u64 {
+        self.asks.load(Ordering::SeqCst)
+    }
+}
 
 impl Gate for KeepsFirst {
     fn begun(&self, _page: u64) {}
 
     fn may_write(&self, page: u64) -> bool {
+        if page == 0 {
+            self.asks.fetch_add(1, Ordering::SeqCst);
+        }
         page != 0
     }
 }

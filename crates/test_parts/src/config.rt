@@ -1,5 +1,5 @@
 //! A log of `hl` by its configuration: when a work finishes, and what a number out of its range is called.
-use hl::{Config, Fault, NoJob, Realm, Session, Work, run_threads};
+use hl::{Config, Fault, NoJob, Number, Realm, Session, Work, run_threads};
 use std::sync::Wait;
 use std::sync::atomic::AtomicU64;
 use std::sync::atomic::Ordering::SeqCst;
@@ -99,9 +99,21 @@ fn a_session_that_filled_the_journal_is_left(rt: HostRuntime) -> Result<(), Fail
 
 #[test]
 fn a_number_out_of_its_range_is_displayed_with_it(rt: HostRuntime) -> Result<(), Fail> {
-    let config = Config::for_threads(4).with_frames(1);
-    let number = config.out_of_range().ok_or(Fault::Size)?;
-    let text = format!(in rt.alloc(); "{number}")?;
-    assert_eq!(rt; text.as_str(), "frames: 2 to 65,536");
+    let number = Config::for_threads(4).with_frames(1).out_of_range();
+    assert_eq!(rt; number, Some(Number::Frames));
+    let texts = [
+        (Number::Threads, "threads: 1 to 1,024"),
+        (Number::PageSize, "page_size: a power of two, 4 to 2^20"),
+        (Number::Frames, "frames: 2 to 65,536"),
+        (Number::Actions, "actions: 1 to 4,096"),
+        (Number::Mutable, "mutable: 1 to resident"),
+        (Number::Resident, "resident: less than frames"),
+        (Number::Journal, "journal: at most 2^62"),
+        (Number::Stamp, "stamp: at most 2^62"),
+    ];
+    for (number, text) in texts {
+        let shown = format!(in rt.alloc(); "{number}")?;
+        assert_eq!(rt; shown.as_str(), text);
+    }
     Ok(())
 }

@@ -172,8 +172,19 @@ impl Day {
         second: &mut Session<R, L, Counting>,
     ) -> Result<bool, Fault> {
         let waits = self.hold(second)?;
-        let runs = first.rest(|| second.help())??;
-        Ok(waits && runs && self.runs() == 1 && first.slot() == 0 && first.allocate(1)? == 0)
+        let runs = first.rest(|| self.run_two(second))??;
+        Ok(waits && runs && self.runs() == 2 && first.slot() == 0 && first.allocate(1)? == 0)
+    }
+
+    // Whether the action that waits is run, and then one that is stored now: so it is only while no other session is in
+    // the log.
+    fn run_two<R: Wait, L: Realm>(
+        &self,
+        session: &mut Session<R, L, Counting>,
+    ) -> Result<bool, Fault> {
+        session.bump(self.job()?)?;
+        session.refresh()?;
+        Ok(session.help()? && session.help()?)
     }
 
     // Whether an action waits for another session.

@@ -7,6 +7,7 @@ ghost use Rattle.hl.specs.Helps.{Enters, Helps, RunsOldest};
 ghost use Rattle.hl.specs.Sessions.{KeepsAllButRider};
 
 use super::Session;
+use super::bell::Rung;
 use hl_action::{Promise, Ran, Task};
 use hl_crew::end_by_tries;
 use hl_epoch::Epochs;
@@ -31,14 +32,13 @@ impl<'a, R: Wait, L: Realm, F: Task, P: Promise, E: Epochs + Drop> Session<'a, R
         ensures log { self.new.log ≡ self.old.log }
         ensures rings { self.new.rings ≡ self.old.rings }
     {
-        self.ring();
-        let did = self.run_oldest()?;
+        let did = self.run_oldest(self.rung())?;
         self.refresh()?;
         Ok(did)
     }
 
     // Takes the oldest action, runs it and answers it done. False if none is ready.
-    fn run_oldest(&mut self) -> Result<bool, Fault>
+    fn run_oldest(&mut self, _rung: Rung) -> Result<bool, Fault>
         ensures ran { RunsOldest F self.old.log F.gives P.keeps result
             self.old.pass.rider self.new.pass.rider }
         ensures kept { KeepsAllButRider self.old self.new }

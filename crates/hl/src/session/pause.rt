@@ -68,9 +68,11 @@ fn enter_again<R: Wait, L: Realm, F: Task, P: Promise, E: Epochs + Drop>(
     for _ in rt.forever() {
         match log.enter(rt, rider) {
             Ok(pass) => return pass,
-            Err((_, back)) => rider = back,
+            Err((fault, back)) => {
+                rider = back;
+                nap(rt, &Err(fault));
+            }
         }
-        nap(rt);
     }
     unreachable!()
 }

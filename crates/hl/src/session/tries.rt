@@ -1,5 +1,5 @@
 //! Operations that are tried again.
-ghost use Rattle.std.specs.Prelude.{◌≡◌};
+ghost use Rattle.std.specs.Prelude.{◌≡◌, true};
 ghost use Rattle.std.specs.Fn.{CalledAtMut};
 ghost use Rattle.hl.specs.Attempts.{cure_of, Attempts, SessionHelps};
 ghost use Rattle.hl.specs.Helps.{in_vain, Helps};
@@ -61,13 +61,14 @@ impl Curable for Fault {
 pub trait Helping {
     ghost use Rattle.std.specs.Prelude.{Bool, Result};
     ghost use Rattle.hl_model.specs.declared.fault.Fault.{Fault};
+    ghost use Rattle.hl.specs.declared.session.tries.Cure.{Cure as CURE};
 
-    /// What a round of help makes.
-    ghost helps: { Self → Result Bool Fault → Self → Type 0 };
+    /// What a round of help for a cure makes.
+    ghost helps: { Self → CURE → Result Bool Fault → Self → Type 0 };
 
     /// A round of help, and a short nap if others have to act and it ran no action.
     fn help_by(&mut self, cure: Cure) -> Result<bool, Fault>
-        ensures { helps self.old result self.new };
+        ensures { helps self.old cure result self.new };
 }
 
 /// Runs an operation of a session, and again, at most `again` times, while it is refused for a reason that has a cure:
@@ -125,7 +126,7 @@ impl<'a, R: Wait, L: Realm, F: Task, P: Promise, E: Epochs + Drop> Session<'a, R
     {
         let helped = self.help();
         if is_in_vain(&helped) {
-            nap(self.rt);
+            nap(self.rt, &helped);
         }
         helped
     }
@@ -138,7 +139,9 @@ fn is_in_vain(helped: &Result<bool, Fault>) -> bool
     !matches!(helped, Ok(true))
 }
 
-// A short nap, so that others go on.
-pub(super) fn nap(rt: &impl Wait) {
+// A short nap, so that others go on: after what was in vain alone.
+pub(super) fn nap(rt: &impl Wait, helped: &Result<bool, Fault>)
+    requires { in_vain helped.now ≡ true }
+{
     Parker::new().park_timeout(rt, Duration::from_micros(NAP));
 }

@@ -29,7 +29,7 @@ impl<R: Wait, E: Epochs + Drop, F: Task, P: Promise, L: Realm, G> Run<'_, R, E, 
             limits.mutable limits.resident result own.old own.new }
     {
         let (now, _, _) = self.domain.snapshot(self.rt);
-        self.wake(Woken::by(now.frames));
+        self.sleepers.wake(Woken::by(now.frames));
         let limits = self.limits;
         let lag = lag_steps(
             self.domain.params(),

@@ -11,6 +11,7 @@ use crate::looks::{Look, Looker};
 use crate::messages::Over;
 use crate::mode::Mode;
 use crate::run::Run;
+use crate::sleepers::Sleeper;
 use crate::writer::WriterState;
 use hl_action::{Promise, Task};
 use hl_epoch::Epochs;
@@ -19,7 +20,6 @@ use hl_model::Fault;
 use hl_words::Realm;
 use std::sync::Wait;
 use std::sync::atomic::Ordering;
-use std::thread::Parker;
 
 /// How many pages behind one that wasn't written are tried at most before that one is answered.
 const BEHIND: u64 = 3;
@@ -42,7 +42,7 @@ impl<R: Wait, E: Epochs + Drop, F: Task, P: Promise, L: Realm, G: Gate> Run<'_, 
     pub(crate) fn flush_all<W: PageWriter>(
         &self,
         own: &mut WriterState<L, W>,
-        sleeper: &Parker,
+        sleeper: &Sleeper,
     ) -> Result<(), Over>
         ensures { UpTo (LooksNext (FindsPage F self.now.domain.now self.now.limits.cuts
             (G.lets self.now.gate.now) (WritesPage W.has W.wrote) (FailsPage W.has W.failed) W.failures))

@@ -9,4 +9,4 @@ returns-in-Ok g c =
 pub loop-preserved : goal.loop-preserved
 loop-preserved g c =
     let before = c.loop.invariant.2 in
-    (tt, tt, (suc before.0, (c.loop.rider, before.1, (c.in-Err.field-0-0, c.in-Err.ensures.met))))
+    (tt, tt, (suc before.0, (c.loop.rider, before.1, (c.in-Err.fault, c.in-Err.ensures.met))))

@@ -1,4 +1,5 @@
 use Rattle.std.proofs.Common.{◌≡◌, true, sym, ◌∙◌, subst₂, rules}
+use Rattle.std.specs.Prelude.{is_some}
 use Rattle.hl_crew.specs.Riders.{AllWorkOn, WritesPage, FailsPage}
 use Rattle.hl_crew.proofs.StateLaws.{all_as_given, ended_by_rounds}
 use Rattle.hl_crew.proofs.crew.Crew.run.Goals as goal
@@ -14,5 +15,5 @@ returns-clause-kept g c =
 pub returns-clause-rounds : goal.returns-clause-rounds
 returns-clause-rounds g c ok =
     let serving = c.in-Ok.ensures.channels ∙ sym c.requires.given.2 in
-    let whole : c.is_some.result ≡ true = search rules in
-    ended_by_rounds g.row.F.Denot c.args.domain.now c.args.limits (g.G.Gate.lets c.args.gate.now) (WritesPage g.W.PageWriter.has g.W.PageWriter.wrote) (FailsPage g.W.PageWriter.has g.W.PageWriter.failed) g.W.PageWriter.failures c.is_some.result _ g.K.Given.serves c.end-state.result c.end_rounds.new.state _ whole serving c.end_rounds.ensures.rounds c.into_crew-crew.ensures.crew
+    let whole : is_some c.ok-whole.result ≡ true = search rules in
+    ended_by_rounds g.row.F.Denot c.args.domain.now c.args.limits (g.G.Gate.lets c.args.gate.now) (WritesPage g.W.PageWriter.has g.W.PageWriter.wrote) (FailsPage g.W.PageWriter.has g.W.PageWriter.failed) g.W.PageWriter.failures (is_some c.ok-whole.result) _ g.K.Given.serves c.end-state.result c.end_rounds.new.state _ whole serving c.end_rounds.ensures.rounds c.into_crew-crew.ensures.crew
