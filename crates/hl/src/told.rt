@@ -3,8 +3,8 @@ ghost use Rattle.std.specs.Prelude.{◌≡◌};
 
 use hl_crew::Stop;
 
-/// What threads left, once their crew was given its stop. Only [`Told::of`] makes one, so a crew's stop is given, and
-/// not before the threads have ended.
+/// What threads left, once their crew was given its stop. Only [`Told::of`] makes one, so that the threads have ended
+/// can't go untold.
 #[derive(Drop)]
 pub(crate) struct Told<T> {
     left: T,
