@@ -13,12 +13,8 @@ use Rattle.hl_model.specs.Sizes.{Sizes}
 use Rattle.hl_laws.proofs.PageFacts.{head-le-flushed}
 use Rattle.hl_laws.proofs.RunLaws.{run_passes}
 use Rattle.hl_history.specs.declared.view.Entry.{Entry}
-use Rattle.hl_words.specs.declared.which.Which.TheVariants.{Head}
 use Rattle.hl_words.specs.States.{RiderState}
-use Rattle.hl_words.specs.Views.{greatest_of, looked}
 use Rattle.hl_pass.proofs.StoreLaws.{newest-head}
-use Rattle.hl_keeper.specs.Endings.{EndingState}
-use Rattle.hl_domain.specs.Domains.{IsEnding}
 use Rattle.hl_crew.specs.Riders.{has_flushed}
 use Rattle.hl_images.proofs.WordLaws.{entered_call, whose_calls}
 use Rattle.hl.specs.Evictions.{EvictedWereFlushed, LoadedEvictedWereFlushed}

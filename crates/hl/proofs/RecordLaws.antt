@@ -1,5 +1,5 @@
 -- What a session stores and loads of a record, word for word.
-use Rattle.std.proofs.Common.{◌≡◌, ◌≢◌, ℕ, zero, suc, ◌+◌, ◌<◌, ◌≤◌, Bool, true, false, cond, List, [], ◌∷◌, ◌++◌, length, take, set, get_or, refl, ap, sym, ◌∙◌, subst, arith, append_assoc, append-nil, inl, inr, Some, Ok, Err}
+use Rattle.std.proofs.Common.{◌≡◌, ◌≢◌, ℕ, suc, ◌+◌, ◌<◌, ◌≤◌, Bool, true, false, cond, List, [], ◌∷◌, ◌++◌, length, take, set, get_or, refl, ap, sym, ◌∙◌, subst, arith, append_assoc, append-nil, inl, inr, Some, Ok, Err}
 use Rattle.std.specs.Prelude.{◌-◌, ◌==◌, ◌⊎◌, ◌||◌, if◌then◌else◌, nat_le, nat_lt, Option, None, Result, MatchResult}
 use Rattle.std.proofs.lemmas.Bool.{eqb-true, le-ltb, lt-leb}
 use Rattle.std.specs.List.{list_any, AllByRecursion as Every}

@@ -12,7 +12,7 @@ use crate::log::Log;
 use crate::opening::Opening;
 use crate::refused::Refused;
 use crate::session::Session;
-use crate::threads::{Outs, run_all};
+use crate::shared::{Outs, Shared};
 use crate::work::Work;
 use hl_action::{AnyAnswer, NoJob, Task};
 use hl_crew::Duty;
@@ -63,31 +63,36 @@ pub fn run_threads<R: Threads + Wait + Sync, P: Work<R> + Sync>(
         Ok(seed) => seed,
         Err(fault) => return Err(fault),
     };
-    run_over::<Brand, R, P>(rt, alloc, seed, opening, duty, work)
+    let shared = Shared {
+        rt,
+        alloc,
+        duty,
+        work,
+    };
+    run_over::<Brand, R, P>(&shared, seed, opening)
 }
 
 // The same over the words of a seed.
 fn run_over<L: Realm + Send + Sync, R: Threads + Wait + Sync, P: Work<R> + Sync>(
-    rt: &R,
-    alloc: Global,
+    shared: &Shared<'_, R, P>,
     seed: Seed,
     opening: Opening<Sizes>,
-    duty: Duty,
-    work: &P,
 ) -> Result<Finished<P::Out, P::Job>, Fault>
     requires seed { IsSeedOf L.name L.parts L.table seed }
     requires sizes { (seed.sizes ≡ opening.params) × (seed.riders ≡ opening.riders) }
     requires named { (seed.sizes ≡ L.sizes) × (opening.stamp ≡ L.stamp) × (opening.journal ≡ L.limit) }
     requires range { IsInRange opening }
     requires five { 5 ≤ opening.riders }
-    requires duty { duty.frames ≡ opening.params.frames }
-    requires cuts { is_some duty.cut_above ≡ true }
+    requires duty { shared.now.duty.frames ≡ opening.params.frames }
+    requires cuts { is_some shared.now.duty.cut_above ≡ true }
     ensures finished { MatchResult result
-        (AreFinished P.Job opening (P.returns work.now) (P.took work.now) (P.finishes work.now))
-        (IsUnfinished P.Job opening (P.returns work.now) (P.took work.now) (P.finishes work.now)) }
+        (AreFinished P.Job opening (P.returns shared.now.work.now) (P.took shared.now.work.now)
+        (P.finishes shared.now.work.now))
+        (IsUnfinished P.Job opening (P.returns shared.now.work.now) (P.took shared.now.work.now)
+        (P.finishes shared.now.work.now)) }
 {
     let (log, mut riders) = match Log::<L, P::Job>::open(
-        alloc,
+        shared.alloc,
         seed,
         opening.journal,
         opening.stamp,
@@ -98,12 +103,12 @@ fn run_over<L: Realm + Send + Sync, R: Threads + Wait + Sync, P: Work<R> + Sync>
     let Some(last) = riders.pop() else {
         unreachable!()
     };
-    let ((outs, _device), mut riders) = run_all(rt, alloc, &log, riders, duty, work, None);
+    let ((outs, _device), mut riders) = shared.run_all(&log, riders, None);
     let outs = match outs {
         Ok(outs) => outs,
         Err(fault) => return Err(fault),
     };
-    let room = match with_room(alloc, outs.len() as u64) {
+    let room = match with_room(shared.alloc, outs.len() as u64) {
         Ok(room) => room,
         Err(fault) => return Err(fault),
     };
@@ -114,7 +119,7 @@ fn run_over<L: Realm + Send + Sync, R: Threads + Wait + Sync, P: Work<R> + Sync>
     if riders.reserve(1).is_err() {
         return Err(Fault::OutOfMemory);
     }
-    finish_log(rt, log, riders, last, work, outs)
+    finish_log(shared, log, riders, last, outs)
 }
 
 // What all threads returned, put into an empty row with room for it; or the first fault among their results.
@@ -133,21 +138,20 @@ fn all_of<T: Drop>(room: Vec<T>, outs: Outs<T>) -> Result<Vec<T>, Fault>
 
 // Calls `Work::finish` in a session of this rider, and closes the log with it behind the others, where there is room.
 fn finish_log<L: Realm + Send + Sync, R: Wait, P: Work<R>>(
-    rt: &R,
+    shared: &Shared<'_, R, P>,
     log: Log<L, P::Job>,
     mut riders: Vec<Rider<L>>,
     last: Rider<L>,
-    work: &P,
     outs: Vec<P::Out>,
 ) -> Result<Finished<P::Out, P::Job>, Fault>
     requires all { length riders.items + 1 ≡ log.riders }
     requires room { vec_len riders < vec_capacity riders }
     ensures closed { MatchResult result
         (λ finished. (finished.outs ≡ outs)
-        × IsFinish P.Job log (P.finishes work.now) riders.items last finished)
-        (IsNoFinish P.Job log (P.finishes work.now) last) }
+        × IsFinish P.Job log (P.finishes shared.now.work.now) riders.items last finished)
+        (IsNoFinish P.Job log (P.finishes shared.now.work.now) last) }
 {
-    let (done, rider) = finish_one(rt, &log, last, work);
+    let (done, rider) = finish_one(shared.rt, &log, last, shared.work);
     riders.push_reserved(rider);
     let last = match done {
         Ok(last) => last,

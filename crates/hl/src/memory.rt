@@ -9,7 +9,7 @@ ghost use Rattle.hl.specs.Openings.{of_sizes, opened_as};
 
 use crate::open::Closed;
 use crate::opening::Opening;
-use crate::threads::{Outs, threads_of_sizes};
+use crate::shared::{Outs, Shared};
 use crate::work::Work;
 use hl_crew::Duty;
 use hl_image::MemoryWriter;
@@ -110,7 +110,13 @@ pub fn with_memory<R: Threads + Wait + Sync, P: Work<R> + Sync, S: HasSizes>(
         in IfOk result (IsClosed o
         (AreWritten P.Job (opened_as o) (is_some duty.cut_above) (P.returns work.now))) }
 {
-    let closed = threads_of_sizes(rt, alloc, opening.of_sizes(), duty, work, Some(device))?;
+    let shared = Shared {
+        rt,
+        alloc,
+        duty,
+        work,
+    };
+    let closed = shared.run(opening.of_sizes(), Some(device))?;
     let Closed { out, ending } = closed;
     let device = out.1.unwrap();
     Ok(Closed {

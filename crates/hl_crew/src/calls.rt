@@ -237,7 +237,8 @@ impl<L: Realm, W> Crew<L, W> {
     }
 }
 
-// Returns all memory that a crew takes itself: the channels, if the flusher sends the pages, and for each writer its buffers.
+// Returns all memory that a crew takes itself: the channels, if the flusher sends the pages, and for each writer its
+// buffers.
 //
 // `OutOfMemory` if memory was refused.
 fn open_rows<E: Epochs + Drop, F: Task, P: Promise, L: Realm>(

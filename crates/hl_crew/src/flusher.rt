@@ -59,7 +59,8 @@ impl<R: Wait, E: Epochs + Drop, F: Task, P: Promise, L: Realm, G> Run<'_, R, E, 
         self.end()
     }
 
-    // Makes its turns, as many as the limits say, or until the stop. Its rider stores nothing, and if the crew serves, it flushes no page.
+    // Makes its turns, as many as the limits say, or until the stop. Its rider stores nothing, and if the crew serves, it
+    // flushes no page.
     fn make_all_turns(&self, own: &mut FlusherState<L>)
         ensures turns { TurnsBy F self.now.domain.now self.now.limits
             (is_none self.now.channels) self.now.mode own.old own.new }

@@ -19,8 +19,8 @@
 //! Under [`run_crew`] the flusher and the writers talk by two channels. No clause says what a channel delivers, so
 //! nothing rests on it: the flusher keeps the load of each page that it sent in a [`Pouch`], and
 //! answers a flush only through it. A page whose load isn't there is refused, and neither pouch nor
-//! share changes: a clause of [`Pouch::answer`]. Under [`Crew::serve`] one rider takes and answers a page, and none goes by a
-//! channel.
+//! share changes: a clause of [`Pouch::answer`]. Under [`Crew::serve`] one rider takes and answers a page,
+//! and none goes by a channel.
 //!
 //! # When a page may be written
 //!
@@ -49,28 +49,33 @@
 //!
 //! # What is proved of it
 //!
-//! Of a crew as a whole: that riders and page writers come back is in its types. That no refusal is other than
-//! `OutOfMemory` is a clause, and so is that all its threads kept to the limits that [`CrewReport::limits`] has. So is that a
-//! rider that comes back stored only 0s of pages that a call of its own had just taken to clean, if that held of all
-//! riders before: a crew that took no page to clean changed no word. And under [`Crew::serve`] each page that a rider
-//! flushed is with that rider's page writer, as the image of the words that it copied between its take and its
-//! answer; by `hl_images` they are the page's at the end. Once its threads have ended, it made its last rounds.
+//! Of a crew as a whole:
 //!
-//! Inside, of each function that does a step: what it made under the domain's lock, in what order, and what it
-//! counted. A flusher's turn makes those of the lag's steps that it wants, in their order up to the first that is
-//! refused, and ends if the journal is full; if its actions end well, it ran each that it took and answered it done,
-//! up to four. Of a page that a writer takes itself: its rider took the page, loaded its words once the gate let it
-//! through, and answered it, and if it was answered as written, the image of exactly these words was written; if as
-//! failed, nothing was written, or the write failed and was counted so. Of pages that are sent: the flusher takes
-//! them up to four a turn, or to the first take that finds none; as many acknowledgements as it sent pages are
-//! answered and counted once each, as each says, and each page that none of them named once as failed. A turn that
-//! ended well ended by the cut that its limits say; where a part failed, the turn failed for the same reason. Turns
-//! are made as many as were asked for, or until the stop was given, if none fails. How long a nap is follows from how
-//! many turns in a row got nowhere. A full journal is cut only if the limits say so, and what ends something is then
-//! tried again, up to a thousand times. A page reported as clean was swept. Whoever looks for pages looks until a look
-//! fails, or one is in vain that was begun once the flusher had ended. No clause says that a thread gets on or sleeps,
-//! what a channel delivers, or what [`CrewEnd`] counts in all: what lies under a lock or comes from a channel is known
-//! by its type alone.
+//! - Riders and page writers come back: that is in its types. A refusal is `OutOfMemory`, or the `Size` of a duty.
+//! - All its threads kept to the limits that [`CrewReport::limits`] has.
+//! - A rider that comes back stored only 0s of pages that a call of its own had just taken to clean, if that held of
+//!   all riders before. So a crew that took no page to clean changed no word.
+//! - Under [`Crew::serve`] each page that a rider flushed is with that rider's page writer, as the image of the words
+//!   that it copied between its take and its answer. By `hl_images` they are the page's at the end.
+//! - A crew that served made its last rounds once its threads had ended.
+//!
+//! Inside, of each function that does a step, what it made under the domain's lock, in what order, and what it counted:
+//!
+//! | What | Is proved to |
+//! |---|---|
+//! | a flusher's turn | make those of the lag's steps that it wants, in their order, up to the first that is refused, and end if the journal is full; run each action that it took, up to four, and answer it done, if the actions end well; end by the cut that its limits say, if all ends well; fail for the reason of the part that failed |
+//! | all turns | be as many as were asked for, or go on until the stop was given, if none fails |
+//! | a nap | be as long as the number of turns in a row that got nowhere says |
+//! | a page that a writer takes itself | be taken by its rider, have its words loaded once the gate let it through, and be answered: as written, if the image of exactly these words was; as failed, if nothing was written, or the write failed and was counted so |
+//! | pages that are sent | be taken up to four a turn, or up to the first take that finds none; be answered and counted once each: as many acknowledgements as were sent, as each says, and each page that none of them named as failed |
+//! | a full journal | be cut only if the limits say so; what ends something is then tried again, up to a thousand times |
+//! | a page reported as clean | have been swept |
+//! | who looks for pages | look until a look fails, or one is in vain that was begun once the flusher had ended |
+//!
+//! No clause says that a thread gets on or sleeps, what a channel delivers, or what [`CrewEnd`] counts in all: what lies
+//! under a lock or comes from a channel is known by its type alone.
+//!
+//! # Modules
 //!
 //! | Module | What it has |
 //! |---|---|

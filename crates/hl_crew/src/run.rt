@@ -40,8 +40,9 @@ impl<R: Wait, E: Epochs + Drop, F: Task, P: Promise, L: Realm, G> Run<'_, R, E, 
         self.channels.is_none()
     }
 
-    /// Returns how something ended. If it failed because the journal is full, and the limits make room, the journal is cut, and that
-    /// counts as something done: what is left is done the next time. If the cut finds nothing, another thread has cut before.
+    /// Returns how something ended. If it failed because the journal is full, and the limits make room, the journal is
+    /// cut, and that counts as something done: what is left is done the next time. If the cut finds nothing, another
+    /// thread has cut before.
     pub(crate) fn cut_if_full(
         &self,
         rider: &mut Rider<L>,

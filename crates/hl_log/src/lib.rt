@@ -12,8 +12,8 @@
 //! `specs/Logs.antt`). A call of a pass,
 //! [`Log::refresh`] and [`Log::call`], returns that the pass is a stranger, with the slot's stamp, or what
 //! the definitions reply behind the list and what the pass saw without the lock; the pass then has what its
-//! slot has, and after a release what it saw (`Calls`, in `specs/Calls.antt`). Who a pass is, and what its view allows, is `hl_pass`'s, on
-//! which the branded keeper stands too.
+//! slot has, and after a release what it saw (`Calls`, in `specs/Calls.antt`). Who a pass is, and what its view
+//! allows, is `hl_pass`'s, on which the branded keeper stands too.
 //!
 //! A pass that was no stranger is none at its next call, if its slot is still protected. What it saw without
 //! the lock is accepted, as a look.

@@ -13,9 +13,9 @@ use std::alloc::Global;
 use std::sync::Arc;
 
 impl Log {
-    /// Returns a log at the empty list: epoch 1, no slot protected, no action, all offsets 0, and the words (by their type). The
-    /// stamp tells its passes from those of other logs, if none of these has one near it. It can deal out 2^62 riders.
-    /// None if memory was refused.
+    /// Returns a log at the empty list: epoch 1, no slot protected, no action, all offsets 0, and the words (by their
+    /// type). The stamp tells its passes from those of other logs, if none of these has one near it. It can deal out
+    /// 2^62 riders. None if memory was refused.
     pub fn open(alloc: Global, sizes: Sizes, stamp: u64) -> Option<Log>
         ensures { IfSome result (λ log. StandsAt log [] × (log.core.sizes ≡ sizes)
             × (log.shared.sizes ≡ sizes) × (log.stamps.own ≡ stamp) × (log.stamps.given ≡ 0)

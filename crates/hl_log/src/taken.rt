@@ -4,8 +4,8 @@ use std::alloc::Global;
 use std::marker::Model;
 use std::sync::Arc;
 
-/// A page that is to be taken, or was, to be flushed or to be cleaned. Its words are copied or swept without the lock, and its rider
-/// records it.
+/// A page that is to be taken, or was, to be flushed or to be cleaned. Its words are copied or swept without the lock,
+/// and its rider records it.
 #[derive(Drop)]
 pub struct Taken {
     pub(crate) shared: Arc<Shared, Global>,

@@ -186,7 +186,8 @@ impl<R: Wait, E: Epochs + Drop, F: Task, P: Promise, L: Realm> Caller<'_, R, E, 
             match seat.lease.take(1) {
                 Some(record) => seat.sum = seat.sum.wrapping_add(record),
                 None => {
-                    // A log has no words for so many records: a locked call, as an allocation is, and the log's first piece again.
+                    // A log has no words for so many records: a locked call, as an allocation is, and the log's first
+                    // piece again.
                     self.refresh(seat, 1)?;
                     seat.lease = Lease::of(0, PIECE);
                 }

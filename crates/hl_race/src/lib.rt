@@ -9,6 +9,7 @@
 #![tactic(auto)]
 
 mod audit;
+mod course;
 mod race;
 mod riders;
 

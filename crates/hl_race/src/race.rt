@@ -1,30 +1,26 @@
-//! A race: riders beside a crew, and the audit of what they left.
+//! A race: how it is run, and what is told of what it left.
 ghost use Rattle.std.specs.Prelude.{◌≡◌, ◌≤◌, ◌↔◌, true, false, IsSome, IfSome};
 ghost use Rattle.hl_words.specs.States.{IsSeedOf};
 ghost use Rattle.hl_keeper.specs.Keepers.{steps_most};
 
 use crate::audit::{agrees_from_the_base, agrees_from_the_start, has_images};
-use crate::riders::ride;
+use crate::course::{CREW, Course, CrewBack, Track};
 use hl_action::{AnyAnswer, NoJob};
-use hl_counts::CountTable;
-use hl_crew::{CrewEnd, OpenGate, run_crew};
-use hl_domain::{Domain, Ending};
-use hl_image::MemoryWriter;
+use hl_domain::Ending;
 use hl_model::{Fault, Sizes};
-use hl_words::{Realm, Rider, Seed};
-use std::alloc::{AllocError, Global};
+use hl_words::{Realm, Seed};
+use std::alloc::Global;
 use std::marker::Brand;
 use std::sync::Wait;
 use std::sync::atomic::AtomicU64;
 use std::thread::Threads;
-use std::{array, thread};
 
 /// How a race is run. Each number is in range: that is in its type.
 #[derive(Clone, Copy, Debug, PartialEq, Eq)]
 pub struct Race {
     riders: u64,
     rounds: u64,
-    cut: bool,
+    pub(crate) cut: bool,
     wide: bool,
     ghost some_riders: { 1 ≤ riders },
     ghost most_riders: { riders ≤ 8 },
@@ -85,40 +81,17 @@ impl Race {
         if self.wide { (1024, 4096) } else { (8, 16) }
     }
 
-    // The slot of its first rider: each of the others has the next.
-    fn first_slot(self) -> u64 {
+    /// The slot of its first rider: each of the others has the next.
+    pub(crate) fn first_slot(self) -> u64 {
         if self.wide { 1016 } else { 0 }
     }
 }
-
-/// How many riders a crew has.
-const CREW: usize = 4;
 
 /// How many steps the journal of a race may have.
 const JOURNAL: u64 = 131_072;
 
 /// The stamp of a race's domain.
 const STAMP: u64 = 1000;
-
-/// How many pages may be written, and how many may be read, behind which the crew keeps the offsets.
-const MUTABLE: u64 = 2;
-
-const RESIDENT: u64 = 4;
-
-/// How many pages a writer of the crew keeps.
-const PAGES: u64 = 8192;
-
-/// The domain of a race.
-type Track<L> = Domain<CountTable, NoJob, AnyAnswer, L>;
-
-/// What comes back from a crew, and whether it was refused. It has no page writers if memory for
-/// these was refused.
-#[derive(Drop)]
-struct CrewBack<L: Realm> {
-    riders: [Rider<L>; CREW],
-    writers: Option<[MemoryWriter; 2]>,
-    ended: Result<(), Fault>,
-}
 
 /// How a race ended.
 #[derive(Clone, Copy, Debug, PartialEq, Eq)]
@@ -178,7 +151,14 @@ fn race_over<L: Realm + Send + Sync, R: Threads + Wait + Sync>(
     let params = seed.params();
     let (domain, riders) = Track::<L>::open(alloc, seed, journal, STAMP)?;
     let loads = AtomicU64::new(0);
-    let (mut riders, crew) = run_on(rt, alloc, &domain, riders, race, &loads)?;
+    let course = Course {
+        rt,
+        alloc,
+        domain: &domain,
+        race,
+        loads: &loads,
+    };
+    let (mut riders, crew) = course.run(riders)?;
     let CrewBack {
         riders: its_riders,
         writers,
@@ -217,108 +197,4 @@ fn agrees(
     } else {
         agrees_from_the_start(alloc, params, ending, shares)
     }
-}
-
-// Runs the crew with the last four riders and the others round by round beside it; all come back.
-//
-// `OutOfMemory` if memory for the others' threads was refused.
-fn run_on<L: Realm + Send + Sync, R: Threads + Wait + Sync>(
-    rt: &R,
-    alloc: Global,
-    domain: &Track<L>,
-    mut riders: Vec<Rider<L>>,
-    race: Race,
-    loads: &AtomicU64,
-) -> Result<(Vec<Rider<L>>, CrewBack<L>), Fault>
-    requires { domain.now.sizes.frames ≡ 8 }
-{
-    let crew = crew_of(&mut riders)?;
-    let (riders, crew) = thread::join(
-        rt,
-        || ride_all(rt, alloc, domain, riders, race, loads),
-        || -> CrewBack<L>
-            requires { domain.now.sizes.frames ≡ 8 }
-        { flush_all(rt, alloc, domain, crew, race) },
-    );
-    Ok((riders.map_err(|_| Fault::OutOfMemory)?, crew))
-}
-
-// The last four riders, for the crew.
-fn crew_of<L: Realm>(riders: &mut Vec<Rider<L>>) -> Result<[Rider<L>; CREW], Fault> {
-    array::try_from_fn(|_| riders.pop().ok_or(Fault::Size))
-}
-
-// Riders make their rounds, each in a thread and on a slot of its own.
-fn ride_all<L: Realm + Send + Sync, R: Threads + Wait + Sync>(
-    rt: &R,
-    alloc: Global,
-    domain: &Track<L>,
-    riders: Vec<Rider<L>>,
-    race: Race,
-    loads: &AtomicU64,
-) -> Result<Vec<Rider<L>>, AllocError> {
-    let jobs = riders.into_iter().enumerate().collect::<Vec<_>>(alloc)?;
-    thread::map_vec(
-        rt,
-        jobs,
-        &|(k, rider)| {
-            let slot = race.first_slot().saturating_add(k as u64);
-            ride(rt, domain, rider, slot, race.rounds, loads)
-        },
-    )
-}
-
-// The crew makes its turns. Its riders and page writers come back even if it was refused.
-fn flush_all<L: Realm + Send + Sync, R: Threads + Wait + Sync>(
-    rt: &R,
-    alloc: Global,
-    domain: &Track<L>,
-    riders: [Rider<L>; CREW],
-    race: Race,
-) -> CrewBack<L>
-    requires { domain.now.sizes.frames ≡ 8 }
-{
-    let (one, other) = match open_writers(alloc) {
-        Ok(writers) => writers,
-        Err(fault) => {
-            return CrewBack {
-                riders,
-                writers: None,
-                ended: Err(fault),
-            };
-        }
-    };
-    let Race { rounds, cut, .. } = race;
-    match run_crew(
-        rt, alloc, domain, riders, one, other, &OpenGate, MUTABLE, RESIDENT, rounds, cut,
-    ) {
-        Ok(end) => {
-            let CrewEnd {
-                riders,
-                writers,
-                ..
-            } = end;
-            CrewBack {
-                riders,
-                writers: Some(writers),
-                ended: Ok(()),
-            }
-        }
-        Err(handed_back) => {
-            let (fault, riders, one, other) = handed_back;
-            let writers = [one, other];
-            CrewBack {
-                riders,
-                writers: Some(writers),
-                ended: Err(fault),
-            }
-        }
-    }
-}
-
-// Two writers of images of 16 words with the page's number before them.
-fn open_writers(alloc: Global) -> Result<(MemoryWriter, MemoryWriter), Fault> {
-    let one = MemoryWriter::open(alloc, PAGES, 136)?;
-    let other = MemoryWriter::open(alloc, PAGES, 136)?;
-    Ok((one, other))
 }

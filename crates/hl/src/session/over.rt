@@ -11,9 +11,9 @@ use hl_words::Realm;
 use std::sync::Wait;
 
 impl<'a, R: Wait, L: Realm, F: Task, P: Promise, E: Epochs + Drop> Session<'a, R, L, F, P, E> {
-    /// Whether the action of this ticket is over: it was taken, and is done ([`over_were_done`](crate::laws::over_were_done)).
-    /// So it is of a ticket under which no action was stored, once all before it were taken. It takes the lock, and is
-    /// never refused.
+    /// Whether the action of this ticket is over: it was taken, and is done
+    /// ([`over_were_done`](crate::laws::over_were_done)). So it is of a ticket under which no action was stored, once
+    /// all before it were taken. It takes the lock, and is never refused.
     pub fn is_over(&mut self, ticket: u64) -> bool
         ensures met { LooksAtOver F self.old.log ticket result self.old.pass.rider self.new.pass.rider }
         ensures kept { KeepsAllButRider self.old self.new }

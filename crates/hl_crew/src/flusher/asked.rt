@@ -60,8 +60,8 @@ impl Asked {
         }
     }
 
-    /// Returns whether a step of the lag waits, at these offsets: a raise and a settle for the flusher's last settle, a shift and a
-    /// close for its last close.
+    /// Returns whether a step of the lag waits, at these offsets: a raise and a settle for the flusher's last settle, a
+    /// shift and a close for its last close.
     pub(crate) fn waits_for(self, six: Six, step: Step) -> bool
         ensures { result ≡ is_waiting six self step }
     {

@@ -22,17 +22,17 @@ run_all-outs-requires-clause-four g c κs within =
 pub returns-in-Err-all_of : goal.returns-in-Err-all_of
 returns-in-Err-all_of g c =
     let new = c.in-Ok.ensures.riders ∙ ap new_riders c.requires.sizes.1 in
-    let left = threads_left g.row.P-Job.Denot c.args.opening (g.P.Work.returns c.args.work.now) (g.P.Work.took c.args.work.now) c.run_all-outs.result.0.1 (search rules) (sym new ∙ c.in-Some.ensures.items) c.run_all-outs.ensures.kind (rw c.requires.cuts at c.run_all-outs.ensures.left) in
-    record { finished = refused_thread left c.in-Ok-outs.is (g.P.Work.finishes c.args.work.now) c.in-Err-all_of.fault c.in-Err-all_of.ensures }
+    let left = threads_left g.row.P-Job.Denot c.args.opening (g.P.Work.returns c.args.shared.now.work.now) (g.P.Work.took c.args.shared.now.work.now) c.run_all-outs.result.0.1 (search rules) (sym new ∙ c.in-Some.ensures.items) c.run_all-outs.ensures.kind (rw c.requires.cuts at c.run_all-outs.ensures.left) in
+    record { finished = refused_thread left c.in-Ok-outs.is (g.P.Work.finishes c.args.shared.now.work.now) c.in-Err-all_of.fault c.in-Err-all_of.ensures }
 
 pub finish_log-requires-clause-all : goal.finish_log-requires-clause-all
 finish_log-requires-clause-all g c κs within =
     let new = c.in-Ok.ensures.riders ∙ ap new_riders c.requires.sizes.1 in
-    let left = threads_left g.row.P-Job.Denot c.args.opening (g.P.Work.returns c.args.work.now) (g.P.Work.took c.args.work.now) c.run_all-outs.result.0.1 (search rules) (sym new ∙ c.in-Some.ensures.items) c.run_all-outs.ensures.kind (rw c.requires.cuts at c.run_all-outs.ensures.left) in
+    let left = threads_left g.row.P-Job.Denot c.args.opening (g.P.Work.returns c.args.shared.now.work.now) (g.P.Work.took c.args.shared.now.work.now) c.run_all-outs.result.0.1 (search rules) (sym new ∙ c.in-Some.ensures.items) c.run_all-outs.ensures.kind (rw c.requires.cuts at c.run_all-outs.ensures.left) in
     ap (λ l. length l + 1) c.reserve.ensures.items ∙ all_there left c.in-Ok-outs.is
 
 pub returns : goal.returns
 returns g c =
     let new = c.in-Ok.ensures.riders ∙ ap new_riders c.requires.sizes.1 in
-    let left = threads_left g.row.P-Job.Denot c.args.opening (g.P.Work.returns c.args.work.now) (g.P.Work.took c.args.work.now) c.run_all-outs.result.0.1 (search rules) (sym new ∙ c.in-Some.ensures.items) c.run_all-outs.ensures.kind (rw c.requires.cuts at c.run_all-outs.ensures.left) in
-    record { finished = finished_or left c.in-Ok-outs.is (g.P.Work.finishes c.args.work.now) c.in-Ok-all_of.outs c.finish_log.result c.in-Ok-all_of.ensures (rw c.reserve.ensures.items at c.finish_log.ensures.closed) }
+    let left = threads_left g.row.P-Job.Denot c.args.opening (g.P.Work.returns c.args.shared.now.work.now) (g.P.Work.took c.args.shared.now.work.now) c.run_all-outs.result.0.1 (search rules) (sym new ∙ c.in-Some.ensures.items) c.run_all-outs.ensures.kind (rw c.requires.cuts at c.run_all-outs.ensures.left) in
+    record { finished = finished_or left c.in-Ok-outs.is (g.P.Work.finishes c.args.shared.now.work.now) c.in-Ok-all_of.outs c.finish_log.result c.in-Ok-all_of.ensures (rw c.reserve.ensures.items at c.finish_log.ensures.closed) }

@@ -7,7 +7,7 @@ use Rattle.hl_crew.specs.Riders.{FlushesNone, StoreSweeps, riders_of}
 use Rattle.hl.specs.Devices.{device_has}
 use Rattle.hl.specs.Closings.{rider_at, AreReturned, CountReturned, FlushesTaken}
 use Rattle.hl.proofs.OutLaws.{crew_given, new_sweeps, new_flushes, with_crew, gathered}
-use Rattle.hl.proofs.threads.run_all.Goals as goal
+use Rattle.hl.proofs.shared.Shared.run_all.Goals as goal
 
 -- a log with four riders has those of a crew
 pub returns-in_default-clause-left : goal.returns-in_default-clause-left
@@ -17,16 +17,16 @@ returns-in_default-clause-left g c =
 
 pub returns-in-Ok-gather_all-clause-left : goal.returns-in-Ok-gather_all-clause-left
 returns-in-Ok-gather_all-clause-left g c =
-    let Returns = g.P.Work.returns c.args.work.now in
+    let Returns = g.P.Work.returns c.args.self.now.work.now in
     let log = c.args.log.now in
-    let may_cut = is_some c.args.duty.cut_above in
+    let may_cut = is_some c.args.self.now.duty.cut_above in
     let total = length c.args.riders.items in
     let worked = c.in-Ok.worked.items in
     let olds = c.take_from.new.riders.items in
     let joined = c.join-crew.result.0 in
     let crew = joined.0 in
     let back = riders_of crew in
-    let Took = device_has (g.P.Work.took c.args.work.now) joined.1 in
+    let Took = device_has (g.P.Work.took c.args.self.now.work.now) joined.1 in
     let known : (length worked ≡ length olds) × AreReturned g.row.P-Job.Denot log may_cut Returns (rider_at olds) (map (λ one. one.0) worked) (map (λ one. one.1) worked) = search rules in
     let riders : c.in-Ok-gather_all.all.1.items ≡ map (λ one. one.1) worked ++ back = search rules in
     let sweep_given : StoreSweeps log.sizes (riders_of c.in-Some.crew) = crew_given (StoresSweep log.sizes) (new_sweeps log.sizes) total c.args.riders.items olds (riders_of c.in-Some.crew) c.requires.new c.in-Some.ensures.taken in

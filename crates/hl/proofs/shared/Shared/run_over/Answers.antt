@@ -3,8 +3,8 @@ use Rattle.hl_words.specs.States.{new_riders}
 use Rattle.hl.specs.Devices.{device_has}
 use Rattle.hl.specs.Openings.{opened_as}
 use Rattle.hl.proofs.OutLaws.{all_new, all_of_same}
-use Rattle.hl.proofs.threads.threads_over.Goals.{in-Ok, in-Err}
-use Rattle.hl.proofs.threads.threads_over.Goals as goal
+use Rattle.hl.proofs.shared.Shared.run_over.Goals.{in-Ok, in-Err}
+use Rattle.hl.proofs.shared.Shared.run_over.Goals as goal
 
 pub run_all-out-requires-clause-new : goal.run_all-out-requires-clause-new
 run_all-out-requires-clause-new g c κs within = (all_new c.args.opening.riders c.in_ok-log.riders.items (c.in_ok-log.ensures.riders ∙ ap new_riders c.requires.sizes.1)).1
@@ -18,7 +18,7 @@ pub returns-clause-closed : goal.returns-clause-closed
 returns-clause-closed g c =
     let same : c.in_ok-log.log ≡ opened_as c.args.opening = search rules in
     let long = (all_new c.args.opening.riders c.in_ok-log.riders.items (c.in_ok-log.ensures.riders ∙ ap new_riders c.requires.sizes.1)).0 in
-    let left = all_of_same _ _ _ _ _ (device_has (g.P.Work.took c.args.work.now) c.run_all-out.result.0.1) _ c.args.opening.riders c.run_all-out.result.0.0 c.run_all-out.result.1.items same long c.run_all-out.ensures.left in
+    let left = all_of_same _ _ _ _ _ (device_has (g.P.Work.took c.args.self.now.work.now) c.run_all-out.result.0.1) _ c.args.opening.riders c.run_all-out.result.0.0 c.run_all-out.result.1.items same long c.run_all-out.ensures.left in
     elim c.match-close.branch [
       | in-Ok w ↦ record { riders = c.run_all-out.result.1.items; left = left; ending = search rules }
       | in-Err w ↦ record { riders = c.run_all-out.result.1.items; left = left; ending = search rules }

@@ -1,5 +1,5 @@
 use Rattle.std.proofs.Common.{rules, inr}
-use Rattle.hl.proofs.threads.work_one.Goals as goal
+use Rattle.hl.proofs.shared.Shared.work_one.Goals as goal
 
 -- it entered and ran, and its leave was refused
 pub returns-in-Err-leave_by_tries : goal.returns-in-Err-leave_by_tries

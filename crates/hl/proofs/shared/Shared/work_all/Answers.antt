@@ -2,7 +2,7 @@ use Rattle.std.proofs.Common.{rules, arith, ◌≡◌, ◌<◌, map, length, sli
 use Rattle.std.specs.Prelude.{is_some}
 use Rattle.std.specs.Vec.Iter.{into_iter_items}
 use Rattle.hl.proofs.OutLaws.{work_returned, read_at}
-use Rattle.hl.proofs.threads.work_all.Goals as goal
+use Rattle.hl.proofs.shared.Shared.work_all.Goals as goal
 
 pub returns : goal.returns
 returns g c =
@@ -14,7 +14,7 @@ returns g c =
     let all = (c.into_iter.ensures.runs source.0 source.0.seen).4 whole in
     let same : c.args.riders.items ≡ map (λ job. job.1) c.in_ok-jobs.jobs.items =
     sym from ∙ sym all ∙ source.2.0.1 ∙ ap (map (λ job. job.1)) (sym run.3.0) in
-    work_returned _ c.args.log.now (is_some c.args.duty.cut_above) (g.P.Work.returns c.args.work.now) _ _ c.in_ok-jobs.jobs c.args.riders.items c.map_vec.result
+    work_returned _ c.args.log.now (is_some c.args.self.now.duty.cut_above) (g.P.Work.returns c.args.self.now.work.now) _ _ c.in_ok-jobs.jobs c.args.riders.items c.map_vec.result
     same
     (λ i job within.
     let inside : i < run.0.len = omega (arith, within, run.0.long, ap length run.3.0) in

@@ -2,7 +2,7 @@ use Rattle.std.proofs.Common.{◌++◌, map, ap, ◌∙◌}
 use Rattle.std.specs.Vec.Iter.{into_iter_items}
 use Rattle.hl_crew.specs.Riders.{riders_of}
 use Rattle.hl.proofs.OutLaws.{row_by_items}
-use Rattle.hl.proofs.threads.gather_all.Goals as goal
+use Rattle.hl.proofs.shared.gather_all.Goals as goal
 
 pub returns-in-Ok-served-clause-outs : goal.returns-in-Ok-served-clause-outs
 returns-in-Ok-served-clause-outs g c =

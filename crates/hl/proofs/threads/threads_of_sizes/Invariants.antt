@@ -1,8 +1,0 @@
-use Rattle.hl.proofs.threads.threads_of_sizes.Given as goal
-
--- the words, the ledger and the sizes of the seed that was just made, and the log's stamp
-abbrev pub ghosts-threads_over-L-Realm : goal.ghosts-threads_over-L-Realm
-ghosts-threads_over-L-Realm g a = record { table = a.seed.table; sizes = a.seed.sizes; stamp = a.opening.stamp; limit = a.opening.journal }
-
-abbrev pub ghosts-threads_over-L-Ledger : goal.ghosts-threads_over-L-Ledger
-ghosts-threads_over-L-Ledger g a = record { name = a.seed.name; parts = a.seed.riders }
