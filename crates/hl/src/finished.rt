@@ -15,7 +15,6 @@ use crate::session::Session;
 use crate::shared::{Outs, Shared};
 use crate::work::Work;
 use hl_action::{AnyAnswer, NoJob, Task};
-use hl_crew::Duty;
 use hl_domain::Ending;
 use hl_model::{Fault, Sizes, with_room};
 use hl_words::{Realm, Rider, Seed};

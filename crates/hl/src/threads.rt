@@ -31,8 +31,8 @@ use std::thread::Threads;
 /// a thread's calls met and did is tied to the one list of the ending.
 ///
 /// By a duty that cuts, a leave that finds the journal full is tried again, up to 1,000 times, each after a cut
-/// ([`leave_by_tries`](Session::leave_by_tries)): a thread loses its result only if the last try finds no room either, as
-/// where others fill the journal each time. By another duty a leave is tried once, and cuts nothing.
+/// ([`leave_by_tries`](crate::Session::leave_by_tries)): a thread loses its result only if the last try finds no room
+/// either, as where others fill the journal each time. By another duty a leave is tried once, and cuts nothing.
 ///
 /// The crew's riders stored into cells only to sweep pages that their calls took to clean: if no page was closed, the
 /// threads alone changed words. Of each page that they flushed `Work::took` says that the device took its image, and the
