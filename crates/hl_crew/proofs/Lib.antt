@@ -2,6 +2,7 @@ pub mod PageLaws
 pub mod PouchLaws
 pub mod Steps
 pub mod LagLaws
+pub mod LookLaws
 pub mod GoesLaws
 pub mod TryLaws
 pub mod RepeatLaws

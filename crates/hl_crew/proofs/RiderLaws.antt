@@ -34,7 +34,7 @@ use Rattle.hl_crew.specs.declared.limits.Cuts.TheVariants.{Never, EachTurn, Abov
 use Rattle.hl_crew.specs.declared.flusher.FlusherState.{FlusherState}
 use Rattle.hl_crew.specs.declared.limits.Limits.{Limits}
 use Rattle.hl_crew.specs.declared.stop.Stopped.{Stopped}
-use Rattle.hl_crew.specs.Cutting.{EndsTurn, OrCuts}
+use Rattle.hl_crew.specs.Cutting.{CutsJournal, EndsTurn, OrCuts}
 use Rattle.hl_crew.specs.Flushes.{HoldState, AnswersPage, Tells}
 use Rattle.hl_crew.specs.Goes.{Followed, UpTo}
 use Rattle.hl_crew.specs.Lags.{is_lag_step, MakesIf, MakesNext, KeepsLag}
@@ -45,7 +45,7 @@ use Rattle.hl_crew.specs.Runs.{FlushesIf, Acts, Ends, MakesTurn, TurnsNext, Serv
 use Rattle.hl_crew.specs.Tries.{TriesAgain, Tries}
 use Rattle.hl_crew.specs.Turns.{SendState, swept, swept_by, Brooms, SendsPage, RunsAction, Cleans, Frees, Finds}
 use Rattle.hl_crew.proofs.LagLaws.{lag_kinds}
-use Rattle.hl_crew.proofs.RepeatLaws.{each_hold, followed_holds, looks_hold, then_holds, up_to_holds}
+use Rattle.hl_crew.proofs.RepeatLaws.{each_hold, finds_hold, followed_holds, looks_hold, then_holds, up_to_holds}
 
 -- the page that an accepted take names
 pub named : {J : Type 0} (none : Fault) (told : ℕ → J) (page : J → ℕ) → ((p : ℕ) → page (told p) ≡ p) → (room : Option Fault) (next : Option ℕ) (job : J)
@@ -138,7 +138,7 @@ module _ (serves : Bool) (sizes : Sizes) where
   module _ (F : Type 0) (domain : DomainState) (cuts : Cuts) where
     pub or_cuts_work : (done result : Result Bool Over) (old new : RiderState) → OrCuts F domain cuts done result old new → WorksOn serves sizes old new
     or_cuts_work done result old new (inl (is, same, room)) = no_more old new same
-    or_cuts_work done result old new (inr (full, room, is, cut)) = none_works old new cut
+    or_cuts_work done result old new (inr (full, room, dropped, is, cut)) = none_works old new cut
 
     turn_end_works : (cuts : Cuts) (old new : RiderState) → EndsTurn F domain cuts old new → WorksOn serves sizes old new
     turn_end_works Never old new same = no_more old new same
@@ -305,7 +305,7 @@ module _ (serves : Bool) (F : Type 0) (domain : DomainState) (cuts : Cuts) where
   clean_works (Err over) old new (inr (broom, taker, taken, inr frees)) = then serves domain.sizes old (swept_by domain broom taker) new (sweep_works broom old taker taken) (free_works (swept domain broom) _ _ new frees)
 
   find_works : (result : Result Bool Over) (old new : RiderState) → Finds F domain cuts result old new → WorksOn serves domain.sizes old new
-  find_works result old new (done, mid, cleans, or) = then serves domain.sizes old mid new (clean_works done old mid cleans) (or_cuts_work serves domain.sizes F domain cuts done result mid new or)
+  find_works = finds_hold (WorksOn serves domain.sizes) (no_more serves domain.sizes) (then serves domain.sizes) (Cleans F domain cuts) (CutsJournal F domain) cuts clean_works (none_works serves domain.sizes)
 
   -- all looks of a cleaner
   pub cleaner_works : (most : ℕ) (result : Result (Unit {0}) Over) (old new : RiderState) → UpTo (LooksNext (Finds F domain cuts)) most result old new → WorksOn serves domain.sizes old new

@@ -30,13 +30,13 @@ use Rattle.hl_crew.specs.declared.writer.WriterState.{WriterState}
 use Rattle.hl_crew.specs.Goes.{UpTo}
 use Rattle.hl_crew.specs.Looks.{LooksNext}
 use Rattle.hl_crew.specs.Overs.{makes_room}
-use Rattle.hl_crew.specs.Pages.{Copies, FlushesPage, FlushesOne, Passes, FindsPage}
+use Rattle.hl_crew.specs.Pages.{Copies, CutsByRider, FlushesPage, Flushes, FlushesOne, Passes, FindsPage}
 use Rattle.hl_crew.specs.Riders.{has_flushed, HasImages, KeepsOthers, WritesPage, FailsPage, WorksOn, WritesOn}
 use Rattle.hl_crew.specs.Tries.{EndsFlush, TriesFor}
 use Rattle.hl_crew.specs.Turns.{Loads}
 use Rattle.hl_crew.specs.Writes.{IsWritten, IsNotWritten}
-use Rattle.hl_crew.proofs.RepeatLaws.{looks_hold}
-use Rattle.hl_crew.proofs.RiderLaws.{failed_quiet, named, no_more, then, step_works, none_works, loads_work, again_work, tries_work, or_cuts_work}
+use Rattle.hl_crew.proofs.RepeatLaws.{finds_hold, looks_hold}
+use Rattle.hl_crew.proofs.RiderLaws.{failed_quiet, named, no_more, then, step_works, none_works, loads_work, again_work, tries_work}
 
 -- what holds of none of a list holds of none of a part
 part_none : (f : Step → Bool) (xs ys zs : List Step) → list_any f ((xs ++ ys) ++ zs) ≡ false → list_any f ys ≡ false
@@ -203,9 +203,11 @@ module _ {L W : Type 0} (has : W → ℕ → List ℕ → Type 0) (serves : Bool
   passes_work (suc n) passed old new one = flushes_one (Passes F domain cuts lets (WritesPage has wrote) (FailsPage has failed) failures n) (passes_work n) passed old new one
 
   finds_page : (result : Result Bool Over) (old new : WriterState L W) → FindsPage F domain cuts lets (WritesPage has wrote) (FailsPage has failed) failures result old new → Works old new
-  finds_page result old new (done, mid, flushes, or, pages, counts) =
-      writer_then has serves domain.sizes old mid new (flushes_one (Passes F domain cuts lets (WritesPage has wrote) (FailsPage has failed) failures 3) (passes_work 3) done old mid flushes)
-      (rider_writes has serves domain.sizes mid new (or_cuts_work serves domain.sizes F domain cuts done result mid.rider new.rider or) pages)
+  finds_page = finds_hold Works (writer_same has serves domain.sizes) (writer_then has serves domain.sizes) (Flushes F domain cuts lets (WritesPage has wrote) (FailsPage has failed) failures 3) (CutsByRider F domain) cuts
+      (flushes_one (Passes F domain cuts lets (WritesPage has wrote) (FailsPage has failed) failures 3) (passes_work 3)) cut_works
+    where
+      cut_works : (old new : WriterState L W) → CutsByRider F domain old new → Works old new
+      cut_works old new (cut, same) = rider_writes has serves domain.sizes old new (none_works serves domain.sizes old.rider new.rider cut) (ap (λ (s : WriterState L W). s.pages) same)
 
   -- all its looks
   pub writer_works : (most : ℕ) (result : Result (Unit {0}) Over) (old new : WriterState L W) → UpTo (LooksNext (FindsPage F domain cuts lets (WritesPage has wrote) (FailsPage has failed) failures)) most result old new → Works old new

@@ -1,7 +1,8 @@
 -- How a rider cuts the journal.
-use Rattle.std.specs.Prelude.{◌≡◌, ◌⊎◌, ◌+◌, Bool, true, false, Result, Ok, Err, [], length, nat_lt}
+use Rattle.std.specs.Prelude.{◌≡◌, ◌⊎◌, ℕ, ◌+◌, Bool, true, false, Result, Ok, Err, [], length, nat_lt}
 use Rattle.hl_words.specs.States.{RiderState}
 use Rattle.hl_domain.specs.Domains.{DomainState, LeavesUnderLock, no_step}
+use Rattle.hl_domain.specs.Riders.{Cuts as Drops}
 use Rattle.hl_crew.specs.declared.messages.Over.{Over}
 use Rattle.hl_crew.specs.declared.messages.Over.TheVariants.{Full}
 use Rattle.hl_crew.specs.declared.limits.Cuts.{Cuts}
@@ -32,8 +33,9 @@ module _ (F : Type 0) (domain : DomainState) where
       × MakesRoom is_cut mid new
 
   -- something ended so; or it failed since the journal was full, the limits make room, and the journal was cut,
-  -- which counts as something done
+  -- which got somewhere if a step was dropped
   abbrev pub OrCuts : Cuts → Result Bool Over → Result Bool Over → RiderState → RiderState → Type 0
   OrCuts cuts done result old new =
       ((result ≡ done) × (new ≡ old) × (done ≡ Err Full → makes_room cuts ≡ false))
-      ⊎ ((done ≡ Err Full) × (makes_room cuts ≡ true) × (result ≡ Ok true) × CutsJournal old new)
+      ⊎ ((done ≡ Err Full) × (makes_room cuts ≡ true)
+      × (dropped : ℕ) × (result ≡ Ok (nat_lt 0 dropped)) × Drops F domain dropped old new)

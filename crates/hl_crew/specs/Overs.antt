@@ -27,6 +27,11 @@ abbrev pub is_full : Fault → Bool
 is_full JournalFull = true
 is_full _ = false
 
+-- whether something failed since the journal is full
+abbrev pub is_over_full : {X : Type 0} → Result X Over → Bool
+is_over_full (Err Full) = true
+is_over_full _ = false
+
 -- whether a take was refused since no action is ready
 abbrev pub is_none_ready : Fault → Bool
 is_none_ready Empty = true

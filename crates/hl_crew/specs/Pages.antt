@@ -12,7 +12,8 @@ use Rattle.hl_crew.specs.declared.messages.Over.{Over}
 use Rattle.hl_crew.specs.declared.limits.Cuts.{Cuts}
 use Rattle.hl_crew.specs.declared.writer.WriterState.{WriterState}
 use Rattle.hl_crew.specs.Counting.{counted}
-use Rattle.hl_crew.specs.Cutting.{OrCuts}
+use Rattle.hl_crew.specs.Cutting.{CutsJournal}
+use Rattle.hl_crew.specs.Looks.{FindsBy}
 use Rattle.hl_crew.specs.Overs.{over_of, makes_room}
 use Rattle.hl_crew.specs.Tries.{EndsFlush, TriesFor}
 use Rattle.hl_crew.specs.Turns.{Loads}
@@ -27,6 +28,11 @@ Copies lets wrote failed failures sizes true job old new before after =
     lets job.page × IsWritten wrote sizes job old new before after
 Copies lets wrote failed failures sizes false job old new before after =
     IsNotWritten failed failures sizes job old new before after
+
+-- a writer's rider cut the journal
+abbrev pub CutsByRider : {L W : Type 0} → (F : Type 0) → DomainState → WriterState L W → WriterState L W → Type 0
+CutsByRider F domain old new =
+    CutsJournal F domain old.rider new.rider × (new ≡ record old { rider = new.rider })
 
 module _ {L W : Type 0} (F : Type 0) (domain : DomainState) (cuts : Cuts) (lets : ℕ → Type 0)
     (wrote failed : W → ℕ → List ℕ → W → Type 0) (failures : W → ℕ) where
@@ -79,9 +85,6 @@ module _ {L W : Type 0} (F : Type 0) (domain : DomainState) (cuts : Cuts) (lets 
   abbrev pub Flushes : ℕ → Result Bool Over → WriterState L W → WriterState L W → Type 0
   Flushes n = FlushesOne (Passes n)
 
-  -- pages were flushed, the first and up to three behind it; or in place of the last call the journal was cut
+  -- a look for pages to be flushed, the first and up to three behind it
   abbrev pub FindsPage : Result Bool Over → WriterState L W → WriterState L W → Type 0
-  FindsPage result old new =
-      (done : Result Bool Over) × (mid : WriterState L W) × Flushes 3 done old mid
-      × OrCuts F domain cuts done result mid.rider new.rider
-      × (new.pages ≡ mid.pages) × (new.counts ≡ mid.counts)
+  FindsPage = FindsBy (Flushes 3) (CutsByRider F domain) cuts

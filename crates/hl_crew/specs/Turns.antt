@@ -14,7 +14,8 @@ use Rattle.hl_crew.specs.declared.ends.Accepted.{Accepted}
 use Rattle.hl_crew.specs.declared.messages.Over.{Over}
 use Rattle.hl_crew.specs.declared.messages.Over.TheVariants.{Lost}
 use Rattle.hl_crew.specs.declared.limits.Cuts.{Cuts}
-use Rattle.hl_crew.specs.Cutting.{OrCuts}
+use Rattle.hl_crew.specs.Cutting.{CutsJournal}
+use Rattle.hl_crew.specs.Looks.{FindsBy}
 use Rattle.hl_crew.specs.Overs.{over_of, accepted, is_none_ready, makes_room}
 use Rattle.hl_crew.specs.Pouches.{Puts}
 use Rattle.hl_crew.specs.Tries.{EndsAction, EndsClean, TriesFor}
@@ -138,8 +139,6 @@ module _ (F : Type 0) (domain : DomainState) (cuts : Cuts) where
   Cleans (Ok false) old new = Brooms F domain (Err NoneClosed) old new
   Cleans (Err over) old new = FailsClean over old new
 
-  -- the same; or in place of it the journal was cut
+  -- a look for a page to be cleaned
   abbrev pub Finds : Result Bool Over → RiderState → RiderState → Type 0
-  Finds result old new =
-      (done : Result Bool Over) × (mid : RiderState) × Cleans done old mid
-      × OrCuts F domain cuts done result mid new
+  Finds = FindsBy Cleans (CutsJournal F domain) cuts

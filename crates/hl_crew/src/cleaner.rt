@@ -4,7 +4,7 @@ ghost use Rattle.hl_crew.specs.Riders.{IsGiven};
 ghost use Rattle.hl_crew.specs.Turns.{Cleans, Finds};
 
 use crate::given::Given;
-use crate::looks::{Look, Looker};
+use crate::looks::{Look, Looker, or_nowhere};
 use crate::messages::Over;
 use crate::run::Run;
 use crate::seats::Seat;
@@ -18,10 +18,14 @@ impl<R: Wait, E: Epochs + Drop, F: Task, P: Promise, L: Realm, G> Look<Rider<L>>
     for Run<'_, R, E, F, P, L, G> {
     ghost finds = { λ run. Finds F run.domain.now run.limits.cuts };
 
-    /// Cleans a page. If the journal is full and may be cut, it is cut, and that counts as a page.
+    /// Cleans a page. If the journal is full and may be cut, it is cut, and a page is looked for once more.
     fn find(&self, rider: &mut Rider<L>) -> Result<bool, Over> {
         let cleaned = self.clean(rider);
-        self.cut_if_full(rider, cleaned)
+        if self.has_made_room(rider, &cleaned) {
+            or_nowhere(self.clean(rider))
+        } else {
+            cleaned
+        }
     }
 }
 

@@ -1,10 +1,10 @@
 //! What a crew ends by a call of the domain.
-ghost use Rattle.std.specs.Prelude.{◌≡◌, ◌&&◌, IfErr};
+ghost use Rattle.std.specs.Prelude.{◌≡◌, IfErr};
 ghost use Rattle.hl_keeper.specs.Calls.{without_back};
-ghost use Rattle.hl_crew.specs.Cutting.{MakesRoom};
-ghost use Rattle.hl_crew.specs.Overs.{is_full, makes_room};
+ghost use Rattle.hl_crew.specs.Overs.{makes_room};
 ghost use Rattle.hl_crew.specs.Tries.{EndsAction, EndsClean, EndsFlush, Tries, TriesFor};
 
+use crate::cutting::make_room;
 use crate::messages::Over;
 use crate::run::Run;
 use hl_action::{Promise, Ran, Task};
@@ -152,24 +152,6 @@ pub fn end_by_tries<R: Wait, E: Epochs + Drop, F: Task, P: Promise, L: Realm, X:
         }
     }
     what.end(rt, domain, rider)
-}
-
-/// Whether what met this fault is to be tried again: the journal was full, and was cut, as it may be. Nothing else is cut.
-pub fn make_room<R: Wait, E: Epochs + Drop, F: Task, P: Promise, L: Realm>(
-    rt: &R,
-    domain: &Domain<E, F, P, L>,
-    rider: &mut Rider<L>,
-    may_cut: bool,
-    fault: &Fault,
-) -> bool
-    ensures room { MakesRoom F domain.now result rider.old rider.new }
-    ensures answer { result ≡ (may_cut && is_full fault.now) }
-{
-    let is_cut = may_cut && matches!(fault, Fault::JournalFull);
-    if is_cut {
-        domain.cut(rt, rider);
-    }
-    is_cut
 }
 
 impl<R: Wait, E: Epochs + Drop, F: Task, P: Promise, L: Realm, G> Run<'_, R, E, F, P, L, G> {

@@ -1,5 +1,4 @@
 ghost use Rattle.std.specs.Prelude.{◌≡◌, None, OnOk, is_none, replicate};
-ghost use Rattle.hl_crew.specs.Cutting.{EndsTurn};
 ghost use Rattle.hl_crew.specs.Flushes.{AreFlushed};
 ghost use Rattle.hl_crew.specs.Goes.{UpTo};
 ghost use Rattle.hl_crew.specs.Pouches.{load_count};
@@ -7,8 +6,8 @@ ghost use Rattle.hl_crew.specs.Runs.{FlushesIf, MakesTurn, TurnsBy, TurnsNext, S
 ghost use Rattle.hl_crew.specs.Riders.{IsGiven, WorksOn};
 
 use crate::counts::Counts;
+use crate::cutting::cut_if_due;
 use crate::given::Given;
-use crate::limits::Cuts;
 use crate::messages::{Channels, Over};
 use crate::mode::Mode;
 use crate::pouch::Pouch;
@@ -142,7 +141,7 @@ impl<R: Wait, E: Epochs + Drop, F: Task, P: Promise, L: Realm, G> Run<'_, R, E, 
         self.keep_lag(own)?;
         self.run_actions(&mut own.rider)?;
         self.flush_sent(own)?;
-        self.end_turn(&mut own.rider);
+        cut_if_due(self.rt, self.domain, &mut own.rider, self.limits.cuts());
         Ok(())
     }
 
@@ -177,19 +176,5 @@ impl<R: Wait, E: Epochs + Drop, F: Task, P: Promise, L: Realm, G> Run<'_, R, E, 
         let received = self.answer_acknowledged(channels, own, pouch, sent);
         let answered = self.answer_others(own, pouch);
         all_sent.and(received).and(answered)
-    }
-
-    // Cuts the journal, if the limits say so for this turn's end.
-    fn end_turn(&self, rider: &mut Rider<L>)
-        ensures { EndsTurn F self.now.domain.now self.now.limits.cuts rider.old rider.new }
-    {
-        let is_due = match self.limits.cuts() {
-            Cuts::Never => false,
-            Cuts::EachTurn => true,
-            Cuts::Above(steps) => self.domain.snapshot_by(self.rt, rider).1 > steps,
-        };
-        if is_due {
-            self.domain.cut(self.rt, rider);
-        }
     }
 }

@@ -31,7 +31,8 @@
 //! # How it waits
 //!
 //! Whoever looks for pages and finds none, or meets a write that failed, sleeps until the flusher has made another
-//! turn. A flusher that serves sleeps after a turn that entered no step, until a page was written or somebody calls
+//! turn; so does whoever meets a journal that is full again once it was cut. A flusher that serves sleeps after a turn
+//! that entered no step and cut none, until a page was written or somebody calls
 //! [`Stop::ring`], and at most a millisecond. Each such turn more in a row doubles that, up to 160 milliseconds. It
 //! makes the lag's steps whether or not other actions wait: a raise and a settle once its last settle has taken
 //! effect, a shift and a close once its last close has. A flusher that makes a number of turns makes them if no
@@ -68,7 +69,7 @@
 //! | a nap | be as long as the number of turns in a row that got nowhere says |
 //! | a page that a writer takes itself | be taken by its rider, have its words loaded once the gate let it through, and be answered: as written, if the image of exactly these words was; as failed, if nothing was written, or the write failed and was counted so |
 //! | pages that are sent | be taken up to four a turn, or up to the first take that finds none; be answered and counted once each: as many acknowledgements as were sent, as each says, and each page that none of them named as failed |
-//! | a full journal | be cut only if the limits say so; what ends something is then tried again, up to a thousand times |
+//! | a full journal | be cut only if the limits say so; what ends something is then tried again, up to a thousand times, and a page is looked for once more |
 //! | a page reported as clean | have been swept |
 //! | who looks for pages | look until a look fails, or one is in vain that was begun once the flusher had ended |
 //!
@@ -87,7 +88,7 @@
 //! | `flusher`, and in it `lag`, `asked`, `actions`, `pages`, `acknowledgements` | the flusher's turn, a part each |
 //! | `looks`, `ended` | how a thread looks for pages; whether the flusher has ended |
 //! | `sleepers`, `woken` | where a thread sleeps; who is woken |
-//! | `ends` | how what was taken is ended |
+//! | `ends`, `cutting` | how what was taken is ended; how the journal is cut |
 //! | `writer`, and in it `buffers`, `write` and `flush`; `cleaner` | the other threads |
 //! | `pouch` | the pages that wait for their acknowledgement |
 //! | `gate`, `messages`, `counts` | when a page may be written; what the channels carry; what is counted |
@@ -97,6 +98,7 @@ mod calls;
 mod cleaner;
 mod counts;
 mod crew;
+mod cutting;
 mod duty;
 mod ended;
 mod ends;
@@ -121,8 +123,9 @@ mod writer;
 
 pub use calls::{CrewEnd, run_crew};
 pub use crew::{Crew, CrewReport, CrewRiders};
+pub use cutting::{cut_if_due, make_room};
 pub use duty::Duty;
-pub use ends::{ATTEMPTS, Ends, end_by_tries, make_room};
+pub use ends::{ATTEMPTS, Ends, end_by_tries};
 pub use gate::{Gate, OpenGate};
 pub use limits::{Cuts, Limits};
 pub use pouch::Pouch;

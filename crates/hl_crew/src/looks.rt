@@ -1,7 +1,7 @@
 //! How the cleaner, and a writer that takes its pages itself, look for pages, and sleep.
 ghost use Rattle.std.specs.Prelude.{◌≡◌, true, false, Ok, IfOk};
 ghost use Rattle.hl_crew.specs.Goes.{UpTo};
-ghost use Rattle.hl_crew.specs.Looks.{LooksNext};
+ghost use Rattle.hl_crew.specs.Looks.{LooksNext, or_nowhere};
 
 use crate::ended::{EndFlag, Seen};
 use crate::messages::Over;
@@ -66,5 +66,15 @@ impl<R: Wait> Looker<'_, R> {
             self.sleeper.sleep(self.rt, seen);
         }
         Ok(found || !has_ended)
+    }
+}
+
+/// What a look came to that was made once more, after a cut: if the journal is full again, it got nowhere.
+pub(crate) fn or_nowhere(found: Result<bool, Over>) -> Result<bool, Over>
+    ensures { result ≡ or_nowhere found }
+{
+    match found {
+        Err(Over::Full) => Ok(false),
+        found => found,
     }
 }

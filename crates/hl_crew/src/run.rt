@@ -1,16 +1,15 @@
 ghost use Rattle.std.specs.Prelude.{◌≡◌, is_none};
-ghost use Rattle.hl_crew.specs.Cutting.{OrCuts};
 ghost use Rattle.hl_crew.specs.Lags.{IsLag};
 
 use crate::ended::EndFlag;
 use crate::limits::Limits;
-use crate::messages::{Channels, Message, Over};
+use crate::messages::{Channels, Message};
 use crate::mode::Mode;
 use crate::sleepers::{AllTold, Sleepers};
 use hl_action::{Promise, Task};
 use hl_domain::Domain;
 use hl_epoch::Epochs;
-use hl_words::{Realm, Rider};
+use hl_words::Realm;
 use std::sync::Wait;
 use std::sync::atomic::AtomicBool;
 
@@ -38,25 +37,6 @@ impl<R: Wait, E: Epochs + Drop, F: Task, P: Promise, L: Realm, G> Run<'_, R, E, 
         ensures { result ≡ is_none self.now.channels }
     {
         self.channels.is_none()
-    }
-
-    /// Returns how something ended. If it failed because the journal is full, and the limits make room, the journal is
-    /// cut, and that counts as something done: what is left is done the next time. If the cut finds nothing, another
-    /// thread has cut before.
-    pub(crate) fn cut_if_full(
-        &self,
-        rider: &mut Rider<L>,
-        done: Result<bool, Over>,
-    ) -> Result<bool, Over>
-        ensures { OrCuts F self.now.domain.now self.now.limits.cuts done result rider.old rider.new }
-    {
-        match done {
-            Err(Over::Full) if self.limits.makes_room() => {
-                self.domain.cut(self.rt, rider);
-                Ok(true)
-            }
-            done => done,
-        }
     }
 
     /// The flusher makes no more turns: each writer that waits gets the message to stop, and whoever looks for pages

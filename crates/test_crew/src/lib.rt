@@ -1,5 +1,5 @@
 //! The tests of the crew and of what runs above it, of what no clause says: that its threads run beside one another,
-//! what they count, and what comes back; when a crew that serves cuts; that jobs are called by a crew alone; how a race
+//! what they count, and what comes back; when a crew that serves cuts, and that it ends; that jobs are called by a crew alone; how a race
 //! ends at a full journal, and what its audit sees.
 //!
 //! This crate has no code beside its tests: a crate with tests is proved twice.
@@ -21,6 +21,8 @@ mod pouch;
 mod races;
 #[cfg(test)]
 mod serves;
+#[cfg(test)]
+mod short;
 #[cfg(test)]
 mod waits;
 #[cfg(test)]

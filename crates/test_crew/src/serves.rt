@@ -50,8 +50,8 @@ fn cutting(duty: Duty, above: Option<u64>) -> Duty {
     }
 }
 
-// A crew that has its stop already serves.
-fn serve_out<R, L>(
+/// A crew that has its stop already serves.
+pub(crate) fn serve_out<R, L>(
     rt: &R,
     alloc: Global,
     domain: &Pages<CountTable, L>,

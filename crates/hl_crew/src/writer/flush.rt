@@ -7,7 +7,7 @@ ghost use Rattle.hl_crew.specs.Riders.{WritesPage, FailsPage};
 
 use crate::ends::{Accepted, Flush};
 use crate::gate::Gate;
-use crate::looks::{Look, Looker};
+use crate::looks::{Look, Looker, or_nowhere};
 use crate::messages::Over;
 use crate::mode::Mode;
 use crate::run::Run;
@@ -30,10 +30,14 @@ impl<R: Wait, E: Epochs + Drop, F: Task, P: Promise, L: Realm, G: Gate, W: PageW
     ghost finds = { λ run. FindsPage F run.domain.now run.limits.cuts (G.lets run.gate.now)
         (WritesPage W.has W.wrote) (FailsPage W.has W.failed) W.failures };
 
-    /// Flushes a page. If the journal is full and may be cut, it is cut, and that counts as a page.
+    /// Flushes a page. If the journal is full and may be cut, it is cut, and a page is looked for once more.
     fn find(&self, own: &mut WriterState<L, W>) -> Result<bool, Over> {
         let flushed = self.flush(own, BEHIND);
-        self.cut_if_full(&mut own.rider, flushed)
+        if self.has_made_room(&mut own.rider, &flushed) {
+            or_nowhere(self.flush(own, BEHIND))
+        } else {
+            flushed
+        }
     }
 }
 
