@@ -171,14 +171,10 @@ fn race_over<L: Realm + Send + Sync, R: Threads + Wait + Sync>(
     let ending = domain.close(riders).map_err(|(fault, _, _)| fault)?;
     let steps = ending.cut.saturating_add(ending.journal.len() as u64);
     let flushed = ending.snapshot.six.flushed / params.page_size();
-    let has_images = has_images(&writers, flushed);
-    // A refused crew has the image of each page that it told as written, or else it is none that agrees.
-    if has_images {
-        ended?;
-    }
+    ended?;
     Ok(Raced {
-        agrees: ended.is_ok() && agrees(alloc, params, race, &ending, shares)?,
-        has_images,
+        agrees: agrees(alloc, params, race, &ending, shares)?,
+        has_images: has_images(&writers, flushed),
         steps,
         loads: loads.into_inner(),
     })
