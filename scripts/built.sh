@@ -1,4 +1,9 @@
-# Whether what is built of a crate is as new as its sources: hl, scripts/install and scripts/archive source this.
+# Whether a crate was proved, and whether what is built of it is as new as its sources: hl and its scripts source this.
+
+# Whether a check of this crate has ended well here: it leaves a stamp at its end. One that was cut off leaves the folder.
+is_proved() {
+    [ -e "$top/crates/$1/out/rlib/stamp" ]
+}
 
 # Whether a source of this crate, or of one below it, is newer than a file: is_older FILE CRATE.
 is_older() {
@@ -6,6 +11,6 @@ is_older() {
     for crate in $("$top/scripts/below" "$2"); do
         folders+=("$top/crates/$crate")
     done
-    [ -n "$(find "$top/crates.txt" "${folders[@]}" \( -name out -o -name must-fail \) -prune -o \
+    [ -n "$(find "$top/crates.txt" "${folders[@]}" \( -name out -o -name must-fail -o -name edits \) -prune -o \
         -type f -newer "$1" -print -quit)" ]
 }

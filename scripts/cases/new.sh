@@ -26,6 +26,15 @@ has_what_it_names() {
     done < <(grep -o '](crates/[^)]*)' "$project/README.md" | tr -d '()]')
 }
 
+# What a check that was cut off leaves of a crate, a folder without a stamp, is no proof.
+counts_what_was_cut_off() {
+    local tree="$room/tree"
+    mkdir -p "$tree"
+    (cd "$top" && find hl HANDLES crates.txt .gitignore scripts packaging crates -name out -prune -o -type f -print0 |
+        xargs -0 cp --parents -t "$tree") && mkdir -p "$tree/crates/hl_model/out/rlib" || return
+    "$tree/hl" new "$room/unproved" 2>&1 | grep -E '^hl: ([0-9]+) of the \1 crates that hl is'
+}
+
 leaves_what_is_there() {
     local status=0
     mkdir -p "$room/full" && echo mine > "$room/full/file"
@@ -37,5 +46,6 @@ if has_all 'a project of one'"'"'s own' rt; then
     check 'a new project runs' makes_a_project
     check 'the edit of a new project fits' edit_fits
     check 'a new project has what its page names' has_what_it_names
+    check 'a check that was cut off is no proof' counts_what_was_cut_off
     check 'a folder that is not empty is no project' leaves_what_is_there
 fi
