@@ -1,13 +1,11 @@
 # How far a proof of many crates is, and about how many minutes are left: scripts/prove and scripts/check source this. Each crate has a
-# weight, the seconds that its proof took one core of one machine. What was proved so far tells how long this machine
+# weight (scripts/weights), the seconds that its proof took one core of one machine. What was proved so far tells how long this machine
 # takes for such a second; what is left takes as long as its work by all jobs, or as its longest chain of crates.
 
-declare -A weights=(
-    [hl_model]=110 [hl_laws]=65 [hl_plain]=232 [hl_epoch]=53 [hl_counts]=58 [hl_drain]=66 [hl_action]=51
-    [hl_offsets]=28 [hl_frames]=53 [hl_words]=80 [hl_image]=65 [hl_line]=115 [hl_core]=331 [hl_cells]=145
-    [hl_keeper]=290 [hl_domain]=220 [hl_flush]=35 [hl_monitor]=26 [hl_crew]=330 [hl_race]=130 [hl_script]=175
-    [hl]=200 [hl_history]=60 [hl_commands]=65 [hl_first]=30 [hl_tool]=150 [hl_c]=140
-)
+declare -A weights=()
+while read -r name seconds; do
+    weights["$name"]="$seconds"
+done < <(grep -v '^#' "$top/scripts/weights")
 declare -A uses=() proved=() left=() behind=() is_begun=()
 order=()
 all=0
