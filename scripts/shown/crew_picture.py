@@ -24,7 +24,7 @@ ROWS = [
     Row("your threads", "enter a new page, or meet Busy", "open", "flusher", "ring"),
     Row("flusher", "makes the lag's steps: raise, settle, shift, close", "track"),
     Row("flusher", "takes up to four safe actions, runs and answers each", "track"),
-    Row("flusher", "cuts the journal, if its orders say so", "track", "page writers (two)", "a turn is over"),
+    Row("flusher", "cuts the journal, if its limits say so", "track", "page writers (two)", "a turn is over"),
     Row("page writers (two)", "each takes a sealed page, asks the gate, copies the words without the lock", "sealed"),
     Row("page writers (two)", "and writes the image, and answers its page; a failed one is taken again", "flushed", "flusher",
         "a page is written"),

@@ -128,7 +128,7 @@ fn run_words<'a>(alloc: Global) -> Result<Command<'a>, AllocError> {
 fn slow_words<'a>(alloc: Global) -> Command<'a> {
     Command::new(alloc, "slow")
         .about(
-            "The same text, computed from the list of steps: its time grows as the square of the lines",
+            "The same text, computed from the list of steps: a line takes some forty times as long",
         )
         .override_usage("hl_tool slow < SCRIPT")
 }
