@@ -9,6 +9,8 @@ pub(crate) enum Call {
     Step(Step),
     /// `abandon t`: the pass of slot t is given up, and its rider comes back.
     Abandon(u64),
+    /// `claim t`: slot t is asked for by the rider that makes what needs no slot.
+    Claim(u64),
     /// `stamp t`: the stamp of slot t's pass.
     Stamp(u64),
     /// `forsake p`: page p, which is in flight, is given up.
@@ -32,6 +34,7 @@ pub(crate) fn read_call(text: &str) -> Option<Call> {
             head: 0,
         })),
         ("abandon", Ok(t)) => Some(Call::Abandon(t)),
+        ("claim", Ok(t)) => Some(Call::Claim(t)),
         ("stamp", Ok(t)) => Some(Call::Stamp(t)),
         ("forsake", Ok(page)) => Some(Call::Forsake(page)),
         _ => read_step(text),

@@ -167,7 +167,7 @@ flush done 0 ok
 ",
 };
 
-// A settle waits for a slot that nobody will release.
+// A settle waits for a slot that nobody will release. The other rider isn't given the slot.
 const ABANDONED_PASS: Example = Example {
     riders: 2,
     journal: 100,
@@ -178,7 +178,7 @@ abandon 0 -> left
 raise 4 -> read_only 4
 settle -> ticket 1
 take -> fault 8 NotReady front 1 safe 0
-acquire 0 -> fault 2 Occupied",
+claim 0 -> fault 2 Occupied",
     end: "shares 2 2
 cut 0
 base 1 0 0 0 0 0 0 0 0, slot, slot, frame, frame

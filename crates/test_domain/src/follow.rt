@@ -24,7 +24,8 @@ use std::test::Fail;
 /// A line is a call as in a script, ` -> ` and its answer there. The differences are: an acquire and a refresh tell
 /// the view; `look t` is told no offsets; `done c` of a job tells its tag, as a core does; a page that is taken to be
 /// cleaned is swept. What a domain has beside: `abandon t -> left`, `forsake p -> page p`, `cut -> answer n`, and
-/// `stamp t -> answer n` of slot t's pass. Before a line, `n times ` makes it so often.
+/// `stamp t -> answer n` of slot t's pass; `claim t` is an acquire by the rider without a slot. Before a line, `n times `
+/// makes it so often.
 pub(crate) struct Example {
     pub(crate) riders: usize,
     pub(crate) journal: u32,

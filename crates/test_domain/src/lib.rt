@@ -7,7 +7,7 @@
 //! | `crowd` | many threads on one domain, and on two |
 //! | `images` | pages that threads copy while others store, and the words of the journal |
 //! | `strangers` | what is of another domain |
-//! | `refusals` | riders that are missing |
+//! | `refusals` | riders that are missing, and a bump without room |
 //! | `journals` | how many steps a journal holds |
 //! | `protected` | a thread that settles and cuts with a pass in its hands, and asks who holds it up |
 //! | `keeps_up` | when a pass that is kept up refreshes, and when it doesn't |

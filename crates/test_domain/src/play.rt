@@ -8,6 +8,7 @@ use hl_epoch::Epochs;
 use hl_model::{Fault, Reply, Step, Tagged};
 use hl_words::{Realm, Rider};
 use std::alloc::{AllocError, Global};
+use std::mem::swap;
 use std::sync::Wait;
 use std::test::Fail;
 
@@ -58,6 +59,7 @@ impl<E: Epochs + Drop, L: Realm> Play<E, L> {
         match call {
             Call::Step(step) => self.make(rt, step),
             Call::Abandon(t) => self.abandon(t),
+            Call::Claim(t) => self.claim(rt, t),
             Call::Stamp(t) => match self.passes.get(t as usize) {
                 Some(Some(pass)) => Ok(Reply::Answer(pass.stamp())),
                 _ => Err(NO_CALL),
@@ -74,6 +76,19 @@ impl<E: Epochs + Drop, L: Realm> Play<E, L> {
         let pass = self.leave(t).ok_or(NO_CALL)?;
         keep(&mut self.idle, pass.abandon())?;
         Ok(Reply::Left)
+    }
+
+    // The rider without a slot asks for one, in the place of an idle one; a refusal leaves each where it was.
+    fn claim(&mut self, rt: &impl Wait, t: u64) -> Result<Reply, Fault> {
+        let Some(idle) = self.idle.last_mut() else {
+            return Err(NO_CALL);
+        };
+        swap(idle, &mut self.rider);
+        let answer = self.acquire(rt, t);
+        if let Some(idle) = self.idle.last_mut() {
+            swap(idle, &mut self.rider);
+        }
+        answer
     }
 
     // Makes the step of a line.

@@ -1,12 +1,13 @@
-//! A domain whose riders aren't all there.
+//! A domain whose riders aren't all there, and one whose journal is full.
 ghost use Rattle.std.specs.Prelude.{◌≡◌};
 ghost use Rattle.hl_words.specs.States.{IsSeedOf};
 
-use crate::jobs::{Pages, passed, released, small_seed, view};
+use crate::jobs::{Pages, job, passed, released, small_seed, ticket_of, view};
 use hl_counts::CountTable;
 use hl_domain::Pass;
+use hl_drain::Ask;
 use hl_epoch::{Epochs, ScanTable};
-use hl_model::Fault;
+use hl_model::{Fault, Tagged};
 use hl_words::{Realm, Rider, Seed};
 use std::alloc::Global;
 use std::marker::Brand;
@@ -74,4 +75,43 @@ fn go_on<E: Epochs + Drop, L: Realm>(
 fn close_with_a_rider_missing(rt: HostRuntime) -> Result<(), Fail> {
     held_pass::<ScanTable, Brand>(&rt, rt.alloc(), small_seed(rt.alloc(), 2)?)?;
     held_pass::<CountTable, Brand>(&rt, rt.alloc(), small_seed(rt.alloc(), 2)?)
+}
+
+fn full_journal<E: Epochs + Drop, L: Realm>(
+    rt: &(impl Wait + Abort),
+    alloc: Global,
+    seed: Seed,
+) -> Result<(), Fail>
+    requires seed { IsSeedOf L.name L.parts L.table seed }
+    requires named { (seed.sizes ≡ L.sizes) × (2000 ≡ L.stamp) × (1 ≡ L.limit) }
+{
+    let (domain, mut riders) = Pages::<E, L>::open(alloc, seed, 1, 2000)?;
+    let rider = riders.last_mut().ok_or("a rider")?;
+    bump_again(rt, &domain, rider);
+    assert!(rt; domain.close(riders).is_ok());
+    Ok(())
+}
+
+// There is no room behind the first step. What comes back is stored once the journal is cut.
+fn bump_again<E: Epochs + Drop, L: Realm>(
+    rt: &(impl Wait + Abort),
+    domain: &Pages<E, L>,
+    rider: &mut Rider<L>,
+) {
+    assert_eq!(rt; domain.bare(rt, rider), Ok(1));
+    let before = domain.snapshot(rt);
+    let Err((fault, back)) = domain.bump(rt, rider, job(7, 10)) else {
+        panic!(rt; "the journal is full")
+    };
+    assert!(rt; fault == Fault::JournalFull && domain.snapshot(rt) == before);
+    assert!(rt; matches!(&back, Ask::User(kept) if kept.tag() == 7));
+    assert_eq!(rt; domain.cut(rt, rider), 1);
+    assert_eq!(rt; ticket_of(domain.bump(rt, rider, back)), Ok(2));
+}
+
+/// A bump without room hands its job back.
+#[test]
+fn a_bump_without_room(rt: HostRuntime) -> Result<(), Fail> {
+    full_journal::<ScanTable, Brand>(&rt, rt.alloc(), small_seed(rt.alloc(), 2)?)?;
+    full_journal::<CountTable, Brand>(&rt, rt.alloc(), small_seed(rt.alloc(), 2)?)
 }
