@@ -40,6 +40,7 @@ use Rattle.hl.specs.declared.opening.Opening.{Opening}
 use Rattle.hl.specs.Openings.{opened_as}
 use Rattle.hl.specs.Closings.{rider_at, FlushesTaken, Stood, Tells, AllReturned}
 use Rattle.hl.specs.Devices.{on_memory}
+use Rattle.hl.specs.Sessions.{beside_crew}
 use Rattle.hl.proofs.LeaveLaws.{at_last}
 use Rattle.example_sums.proofs.SumLaws.{call_adds_nothing}
 use Rattle.example_counters.specs.declared.Counted.{Counted}
@@ -95,7 +96,7 @@ room sizes range =
     omega (arith, range.page_size_least, more)
 
 -- what a thread's rider added to a counter
-stood_adds : {J : Type 0} (counter : ℕ) → counter < 4 → (log : DomainState) (may_cut : Bool) (number : ℕ) (new : RiderState) (sums : List ℕ) → 4 ≤ log.sizes.page_size → Stood J log true may_cut (returns_sums number) (new_rider number) (Ok new) sums
+stood_adds : {J : Type 0} (counter : ℕ) → counter < 4 → (log : DomainState) (may_cut : Bool) (number : ℕ) (new : RiderState) (sums : List ℕ) → 4 ≤ log.sizes.page_size → Stood J log beside_crew may_cut (returns_sums number) (new_rider number) (Ok new) sums
     → (t : ℕ) × (slice_index sums counter ≡ t % 2 ^ 64) × AddsUp counter t new.view.touches
 stood_adds {J} counter few log may_cut number new sums room s =
     let entered = call_adds_nothing s.entered.before.cut s.entered.after.cut s.entered.list _ (new_rider number) s.first.pass.rider s.entered.entered counter 0 refl in
@@ -123,11 +124,11 @@ module _ {Took : ℕ → List ℕ → Type 0} (o : Opening Sizes) (may_cut : Boo
   threads_long = length-map all Ok
 
   -- a thread's rider was in its session
-  thread_stood : (i : ℕ) → i < length all → Stood NoJob (opened_as o) true may_cut (returns_sums i) (new_rider i) (Ok (rider_at riders i)) (slice_index_or all i [])
+  thread_stood : (i : ℕ) → i < length all → Stood NoJob (opened_as o) beside_crew may_cut (returns_sums i) (new_rider i) (Ok (rider_at riders i)) (slice_index_or all i [])
   thread_stood i within =
       let told = returned.each i (Ok []) (omega (arith, within, threads_long)) in
       let is : slice_index_or (map Ok all) i (Ok []) ≡ Ok (slice_index_or all i []) = get_or-map Ok all i [] (Ok []) within in
-      subst (λ (x : Result (List ℕ) Fault). Tells NoJob (opened_as o) true may_cut (returns_sums i) (new_rider i) (rider_at riders i) x) is told
+      subst (λ (x : Result (List ℕ) Fault). Tells NoJob (opened_as o) beside_crew may_cut (returns_sums i) (new_rider i) (rider_at riders i) x) is told
 
   -- of a crew's rider holds what holds of all of them
   crew_has : (P : RiderState → Type 0) → Every P (drop (length (map {B = Result (List ℕ) Fault} Ok all)) riders) → (i : ℕ) → length all ≤ i → i < length riders → P (rider_at riders i)

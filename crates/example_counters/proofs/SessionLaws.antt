@@ -23,7 +23,7 @@ use Rattle.hl_keeper.specs.Touches.{is_call}
 use Rattle.hl_domain.specs.Domains.{DomainState, pass_call, with_entry, with_held, after_news, stays_current, MakesUnderLock, Refreshed}
 use Rattle.hl_images.specs.Kept.{RiderEnters, RidersStayEntered, PassesStayEntered}
 use Rattle.hl.specs.Closings.{Stood}
-use Rattle.hl.specs.Sessions.{SessionState, with_pass}
+use Rattle.hl.specs.Sessions.{SessionState, beside_crew, with_pass}
 use Rattle.hl.proofs.LeaveLaws.{at_last}
 use Rattle.example_counters.specs.Counters.{IsOfCounters, AreOfCounters, IsCounting, CountsOn, returns_sums}
 
@@ -112,7 +112,7 @@ module _ {F : Type 0} (log : DomainState) (law : PassesStayEntered log.sizes) (s
       refused law some met.before.cut met.after.cut met.list first.pass last.pass (subst (λ (z : Sizes). IsAccepted z met.list) met.met.sizes_are met.met.stands.core_stands.accepted) met.rises met.entered (ap (λ (s : SessionState). s.pass) is) h
 
   -- a thread's rider, once it left: its stores are writes of its calls, and these are of counters alone
-  pub stood : (may_cut : Bool) → RidersStayEntered log.sizes → (number : ℕ) (new : RiderState) (sums : List ℕ) → 4 ≤ log.sizes.page_size → Stood F log true may_cut (returns_sums number) (new_rider number) (Ok new) sums → RiderEnters log.sizes None new × AreOfCounters new.calls
+  pub stood : (may_cut : Bool) → RidersStayEntered log.sizes → (number : ℕ) (new : RiderState) (sums : List ℕ) → 4 ≤ log.sizes.page_size → Stood F log beside_crew may_cut (returns_sums number) (new_rider number) (Ok new) sums → RiderEnters log.sizes None new × AreOfCounters new.calls
   stood may_cut riders number new sums room s =
       let met = s.entered in
       let keeper = met.before in

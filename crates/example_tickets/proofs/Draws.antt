@@ -24,6 +24,7 @@ use Rattle.hl.specs.declared.open.Closed.{Closed}
 use Rattle.hl.specs.declared.opening.Opening.{Opening}
 use Rattle.hl.specs.Openings.{opened_as}
 use Rattle.hl.specs.Closings.{rider_at, IsClosed, Stood, Tells, AllReturned, AreAllReturned}
+use Rattle.hl.specs.Sessions.{beside_crew}
 use Rattle.hl.proofs.LeaveLaws.{left_calls}
 use Rattle.example_tickets.specs.Tickets.{bumps_once, AreTickets}
 use Rattle.example_tickets.proofs.Numbers.{all_there}
@@ -126,7 +127,7 @@ module _ (A : List Step) (records : List (List Entry)) (one : IsOneList A record
       by_test false false p q = unlike (omega (arith, ltb-false (length d.list) (length e.list) p, ltb-false (length e.list) (length d.list) q))
 
 -- a thread's rider drew its ticket
-drawn_of : {J : Type 0} (log : DomainState) (may_cut : Bool) (number : ℕ) (old new : RiderState) (ticket : ℕ) → Stood J log true may_cut (bumps_once number) old (Ok new) (Ok ticket) → Drawn new.calls ticket
+drawn_of : {J : Type 0} (log : DomainState) (may_cut : Bool) (number : ℕ) (old new : RiderState) (ticket : ℕ) → Stood J log beside_crew may_cut (bumps_once number) old (Ok new) (Ok ticket) → Drawn new.calls ticket
 drawn_of log may_cut number old new ticket s =
     let left = left_calls may_cut s.last new s.met in
     let leave = entry left.0 (s.last.pass.touches ++ Release s.last.pass.slot ∷ []) in
@@ -150,7 +151,7 @@ module _ {F J : Type 0} (may_cut : Bool) (Took : ℕ → List ℕ → Type 0) (o
       let within = slice_get_within outs n (Ok (Ok t)) at in
       let told = all.each n (Ok (Ok 0)) within in
       let is : slice_index_or outs n (Ok (Ok 0)) ≡ Ok (Ok t) = get_or_from_slice_get outs n (Ok (Ok t)) (Ok (Ok 0)) at in
-      let mine = drawn_of (opened_as o) may_cut n (new_rider n) (rider_at riders n) t (subst (λ (x : Result (Result ℕ Fault) Fault). Tells J (opened_as o) true may_cut (bumps_once n) (new_rider n) (rider_at riders n) x) is told) in
+      let mine = drawn_of (opened_as o) may_cut n (new_rider n) (rider_at riders n) t (subst (λ (x : Result (Result ℕ Fault) Fault). Tells J (opened_as o) beside_crew may_cut (bumps_once n) (new_rider n) (rider_at riders n) x) is told) in
       subst (λ d. Drawn d t) (sym (get_or-map (λ r. r.calls) riders n (new_rider n) [] (omega (arith, within, all.threads, all.back)))) mine
 
   apart : (i j a b : ℕ) → i < j → slice_get outs i ≡ Some (Ok (Ok a)) → slice_get outs j ≡ Some (Ok (Ok b)) → a ≢ b

@@ -19,6 +19,7 @@ use Rattle.hl.specs.declared.opening.Opening.{Opening}
 use Rattle.hl.specs.Openings.{opened_as}
 use Rattle.hl.specs.Closings.{rider_at, IsClosed, Stood, Tells, AllReturned, AreAllReturned}
 use Rattle.hl.specs.declared.open.Closed.{Closed}
+use Rattle.hl.specs.Sessions.{beside_crew}
 use Rattle.hl.proofs.LeaveLaws.{left_calls}
 use Rattle.example_tickets.specs.declared.in_turn.Answer.{Answer}
 use Rattle.example_tickets.specs.InTurn.{DrewFirst, DrewSecond, Drew, answers, AreInTurn}
@@ -83,7 +84,7 @@ module _ {F : Type 0} (sizes : Sizes) (riders : List RiderState) (ending : Endin
 
 -- a thread's rider drew its ticket
 drew_of : {J : Type 0} (Draws : ℕ → ℕ → List Entry → List Entry → Type 0) (log : DomainState) (may_cut : Bool) (number : ℕ) (old new : RiderState) (answer : Answer) (at : Option RiderState)
-    → (s : Stood J log true may_cut (answers number) old (Ok new) (Some answer)) → Draws answer.ticket answer.steps s.first.pass.rider.calls s.last.pass.rider.calls → at ≡ Some new → Drew Draws answer.ticket answer.steps at
+    → (s : Stood J log beside_crew may_cut (answers number) old (Ok new) (Some answer)) → Draws answer.ticket answer.steps s.first.pass.rider.calls s.last.pass.rider.calls → at ≡ Some new → Drew Draws answer.ticket answer.steps at
 drew_of Draws log may_cut number old new answer at s draws is =
     let left = left_calls may_cut s.last new s.met in
     record {
@@ -100,10 +101,10 @@ drew_of Draws log may_cut number old new answer at s draws is =
 
 -- what the threads' log left, where both drew
 module _ {J : Type 0} (may_cut : Bool) (Took : ℕ → List ℕ → Type 0) (o : Opening Sizes) (outs : List (Result (Option Answer) Fault)) (riders : List RiderState) (all : AllReturned J (opened_as o) may_cut answers Took outs riders) where
-  stood_at : (number : ℕ) (answer : Answer) → slice_get outs number ≡ Some (Ok (Some answer)) → Stood J (opened_as o) true may_cut (answers number) (new_rider number) (Ok (rider_at riders number)) (Some answer)
+  stood_at : (number : ℕ) (answer : Answer) → slice_get outs number ≡ Some (Ok (Some answer)) → Stood J (opened_as o) beside_crew may_cut (answers number) (new_rider number) (Ok (rider_at riders number)) (Some answer)
   stood_at number answer at =
       let told = all.each number (Ok (Some answer)) (slice_get_within outs number (Ok (Some answer)) at) in
-      subst (λ (x : Result (Option Answer) Fault). Tells J (opened_as o) true may_cut (answers number) (new_rider number) (rider_at riders number) x) (get_or_from_slice_get outs number (Ok (Some answer)) (Ok (Some answer)) at) told
+      subst (λ (x : Result (Option Answer) Fault). Tells J (opened_as o) beside_crew may_cut (answers number) (new_rider number) (rider_at riders number) x) (get_or_from_slice_get outs number (Ok (Some answer)) (Ok (Some answer)) at) told
 
   rider_of : (number : ℕ) (answer : Answer) → slice_get outs number ≡ Some (Ok (Some answer)) → slice_get riders number ≡ Some (rider_at riders number)
   rider_of number answer at = slice_get-get_or riders number (new_rider number) (omega (arith, slice_get_within outs number (Ok (Some answer)) at, all.threads, all.back))

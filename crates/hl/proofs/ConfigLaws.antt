@@ -62,7 +62,7 @@ serves_of_run o duty run = search rules
 
 in_range_of_open : (o : Opening Sizes) → can_open o ≡ true → IsInRange o
 unfolding can_open
-in_range_of_open o opens = record { some_riders = search rules; few_riders = search rules; journal_within = search rules; stamp_within = search rules }
+in_range_of_open o opens = record { some_riders = search rules; few_riders = search rules; journal_enough = search rules; journal_within = search rules; stamp_within = search rules }
 
 pub in_range_of_run : (o : Opening Sizes) (duty : Duty) → can_run o duty ≡ true → IsInRange o
 in_range_of_run o duty run = in_range_of_open o (opens_of_run o duty run)

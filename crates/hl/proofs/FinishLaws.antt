@@ -6,6 +6,7 @@ use Rattle.hl_model.specs.Sizes.{Sizes}
 use Rattle.hl_words.specs.States.{RiderState, new_rider, new_riders}
 use Rattle.hl_words.proofs.Dealing.{new_long}
 use Rattle.hl_domain.specs.Domains.{DomainState}
+use Rattle.hl_crew.specs.declared.limits.Cuts.{Cuts}
 use Rattle.hl.specs.declared.finished.Finished.{Finished}
 use Rattle.hl.specs.declared.memory.MemoryDevice.{MemoryDevice}
 use Rattle.hl.specs.declared.opening.Opening.{Opening}
@@ -57,24 +58,24 @@ module _ {Out : Type 0} {F : Type 0} {o : Opening Sizes} {Returns : ℕ → Sess
   pub all_there : length riders + 1 ≡ log.riders
   all_there = ap (λ n. n + 1) returned.back ∙ t.others ∙ sym (ap (λ (l : DomainState). l.riders) t.same)
 
-  pub refused_thread : (Finishes : SessionState → SessionState → Out → Type 0) (fault : Fault) → IsFirstFault v.items fault → IsUnfinished F o Returns Took Finishes fault
-  refused_thread Finishes fault first = inr (inl (record { count = length rest; others = t.others; outs = v.items; riders = riders; returned = returned; first = first }))
+  pub refused_thread : (cuts : Cuts) (Finishes : SessionState → SessionState → Out → Type 0) (fault : Fault) → IsFirstFault v.items fault → IsUnfinished F o cuts Returns Took Finishes fault
+  refused_thread cuts Finishes fault first = inr (inl (record { count = length rest; others = t.others; outs = v.items; riders = riders; returned = returned; first = first }))
 
-  pub finished_or : (Finishes : SessionState → SessionState → Out → Type 0) (all : Vec Out Global) (result : Result (Finished Out F) Fault) → v.items ≡ map (λ out. Ok out) all.items
-      → MatchResult result (λ finished. (finished.outs ≡ all) × IsFinish F log Finishes riders last finished) (IsNoFinish F log Finishes last)
-      → MatchResult result (AreFinished F o Returns Took Finishes) (IsUnfinished F o Returns Took Finishes)
-  finished_or Finishes all (Ok finished) are (outs, finish) = record {
+  pub finished_or : (cuts : Cuts) (Finishes : SessionState → SessionState → Out → Type 0) (all : Vec Out Global) (result : Result (Finished Out F) Fault) → v.items ≡ map (λ out. Ok out) all.items
+      → MatchResult result (λ finished. (finished.outs ≡ all) × IsFinish F log cuts Finishes riders last finished) (IsNoFinish F log cuts Finishes last)
+      → MatchResult result (AreFinished F o cuts Returns Took Finishes) (IsUnfinished F o cuts Returns Took Finishes)
+  finished_or cuts Finishes all (Ok finished) are (outs, finish) = record {
     count = length rest;
     others = t.others;
     riders = riders;
     returned = subst (λ l. CountReturned F (opened_as o) true Returns Took (length rest) l riders) (are ∙ ap (λ (w : Vec Out Global). map (λ out. Ok out) w.items) (sym outs)) returned;
-    finish = subst₂ (λ (l : DomainState) (r : RiderState). IsFinish F l Finishes riders r finished) t.same t.last_is finish;
+    finish = subst₂ (λ (l : DomainState) (r : RiderState). IsFinish F l cuts Finishes riders r finished) t.same t.last_is finish;
   }
-  finished_or Finishes all (Err fault) are failed = inr (inr (record {
+  finished_or cuts Finishes all (Err fault) are failed = inr (inr (record {
     count = length rest;
     others = t.others;
     outs = all.items;
     riders = riders;
     returned = subst (λ l. CountReturned F (opened_as o) true Returns Took (length rest) l riders) are returned;
-    failed = subst₂ (λ (l : DomainState) (r : RiderState). IsNoFinish F l Finishes r fault) t.same t.last_is failed;
+    failed = subst₂ (λ (l : DomainState) (r : RiderState). IsNoFinish F l cuts Finishes r fault) t.same t.last_is failed;
   }))

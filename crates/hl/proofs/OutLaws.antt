@@ -23,7 +23,7 @@ use Rattle.hl_crew.specs.declared.crew.Crew.{Crew}
 use Rattle.hl_crew.specs.Riders.{AreImaged, FlushesNone, StoreSweeps, riders_of}
 use Rattle.hl.specs.declared.memory.MemoryDevice.{MemoryDevice}
 use Rattle.hl.specs.Devices.{device_has, has_page, on_memory}
-use Rattle.hl.specs.Sessions.{SessionState}
+use Rattle.hl.specs.Sessions.{SessionState, beside_crew}
 use Rattle.hl.specs.Closings.{rider_at, Tells, AreReturned, FlushesTaken, CountReturned, AreCountReturned, AreAllReturned, AreLeft}
 
 -- how long a row is that one was put behind
@@ -91,17 +91,17 @@ crew_taken has Took sizes crew first second are = (
 module _ {Out : Type 0} (F : Type 0) (log : DomainState) (may_cut : Bool) (Returns : ℕ → SessionState → SessionState → Out → Type 0) where
   -- results and riders are taken by their places from pairs of both
   returned_of : (olds : ℕ → RiderState) (pairs : List (Result Out Fault × RiderState))
-      → ((i : ℕ) (pair : Result Out Fault × RiderState) → i < length pairs → Tells F log true may_cut (Returns i) (olds i) (slice_index_or pairs i pair).1 (slice_index_or pairs i pair).0)
+      → ((i : ℕ) (pair : Result Out Fault × RiderState) → i < length pairs → Tells F log beside_crew may_cut (Returns i) (olds i) (slice_index_or pairs i pair).1 (slice_index_or pairs i pair).0)
       → AreReturned F log may_cut Returns olds (map (λ one. one.0) pairs) (map (λ one. one.1) pairs)
   returned_of olds pairs each i d within =
       let inside : i < length pairs = subst (λ n. i < n) (length-map pairs (λ x. x.0)) within in
-      subst₂ (λ (x : Result Out Fault) (r : RiderState). Tells F log true may_cut (Returns i) (olds i) r x)
+      subst₂ (λ (x : Result Out Fault) (r : RiderState). Tells F log beside_crew may_cut (Returns i) (olds i) r x)
       (sym (get_or-map (λ x. x.0) pairs i (d, new_rider i) d inside)) (sym (get_or-map (λ x. x.1) pairs i (d, new_rider i) (new_rider i) inside)) (each i (d, new_rider i) inside)
 
   -- what is left of jobs that carry their own places and riders, where each call returns what is said of its job's
   pub work_returned : {C : Type 0} (g : Shared C ((ℕ × RiderState) × Unit {0}) (Result Out Fault × RiderState)) (f : C) (jobs : Vec (ℕ × RiderState) Global) (olds : List RiderState) (result : Result (Vec (Result Out Fault × RiderState) Global) AllocError)
       → olds ≡ map (λ job. job.1) jobs.items → ((i : ℕ) (job : ℕ × RiderState) → i < length jobs.items → (slice_index_or jobs.items i job).0 ≡ i)
-      → ((job : ℕ × RiderState) (one : Result Out Fault × RiderState) → FnReturns g f (job, tt) one → Tells F log true may_cut (Returns job.0) job.1 one.1 one.0)
+      → ((job : ℕ × RiderState) (one : Result Out Fault × RiderState) → FnReturns g f (job, tt) one → Tells F log beside_crew may_cut (Returns job.0) job.1 one.1 one.0)
       → IfOk result (λ v. vec_len v ≡ vec_len jobs) → IfOk result (λ v. GivesJobs g f jobs.items v.items)
       → IfOk result (λ worked. (length worked.items ≡ length olds) × AreReturned F log may_cut Returns (rider_at olds) (map (λ one. one.0) worked.items) (map (λ one. one.1) worked.items))
   work_returned g f jobs olds (Ok worked) same numbered calls len each =
@@ -112,7 +112,7 @@ module _ {Out : Type 0} (F : Type 0) (log : DomainState) (may_cut : Bool) (Retur
             let gives = (each i pair inside).1 in
             let place : gives.job.0 ≡ i = sym (ap (λ job. job.0) (gives.job_is gives.job)) ∙ numbered i gives.job inside in
             let rider : gives.job.1 ≡ rider_at olds i = sym (ap (λ job. job.1) (gives.job_is gives.job)) ∙ sym (get_or-map (λ job. job.1) jobs.items i gives.job (new_rider i) inside) ∙ ap (λ l. rider_at l i) (sym same) in
-            subst₂ (λ (n : ℕ) (r : RiderState). Tells F log true may_cut (Returns n) r (slice_index_or worked.items i pair).1 (slice_index_or worked.items i pair).0) place rider (calls gives.job _ gives.call)),
+            subst₂ (λ (n : ℕ) (r : RiderState). Tells F log beside_crew may_cut (Returns n) r (slice_index_or worked.items i pair).1 (slice_index_or worked.items i pair).0) place rider (calls gives.job _ gives.call)),
       )
   work_returned g f jobs olds (Err error) same numbered calls len each = tt
 
@@ -130,7 +130,7 @@ module _ {Out : Type 0} (F : Type 0) (log : DomainState) (may_cut : Bool) (Retur
             let here : number < length olds = omega (arith, within, long) in
             let old : rider_at olds number ≡ new_rider number = sym (get_or_append_left olds crew (new_rider number) number here) ∙ ap (λ l. rider_at l number) (sym parts ∙ new) ∙ new_at total number (new_rider number) (omega (arith, here, count)) in
             let now : rider_at news number ≡ rider_at (news ++ back) number = sym (get_or_append_left news back (new_rider number) number (omega (arith, here, many))) in
-            subst₂ (λ (r s : RiderState). Tells F log true may_cut (Returns number) r s (slice_index_or outs number other)) old now (each number other within);
+            subst₂ (λ (r s : RiderState). Tells F log beside_crew may_cut (Returns number) r s (slice_index_or outs number other)) old now (each number other within);
         sweeps = subst (StoreSweeps log.sizes) (sym crews) sweeps;
         images = subst (AllByRecursion (FlushesTaken Took log.sizes)) (sym crews) taken;
       }

@@ -48,8 +48,9 @@ module _ {O S T X : Type 0} (Tries : O → S → Result T X → O → S → Type
     pub answer : Tries operation last result left new
     pub all_tried : IfErr result (λ error. Cures error None ⊎ (vain ≡ again))
 
--- a round of help of a session, which stays one of its log and crew
+-- a round of help of a session, which stays one of its log, beside whom it was
 abbrev pub SessionHelps : {F : Type 0} → (F → FiringRecord → ℕ → Type 0) → (ℕ → FiringRecord → ℕ → Type 0)
     → SessionState → Cure → Result Bool Fault → SessionState → Type 0
 SessionHelps {F} gives keeps old _ help new =
-    Helps F old.log gives keeps help old.pass new.pass × (new.log ≡ old.log) × (new.rings ≡ old.rings)
+    Helps F old.log old.beside.cuts gives keeps help old.pass new.pass
+    × (new.log ≡ old.log) × (new.beside ≡ old.beside)

@@ -18,7 +18,7 @@ use Rattle.hl.specs.declared.refused.Refused.{Refused}
 use Rattle.hl.specs.Devices.{device_has, on_memory}
 use Rattle.hl.specs.Openings.{was_refused}
 use Rattle.hl.specs.Leaves.{LeftByTries}
-use Rattle.hl.specs.Sessions.{SessionState, Entered}
+use Rattle.hl.specs.Sessions.{Beside, SessionState, beside_crew, Entered}
 
 -- the part handed out its result and these riders; where they are all, the ending is that of a log with them,
 -- and otherwise it was refused
@@ -30,36 +30,36 @@ pub record IsClosed {Out F : Type 0} (o : Opening Sizes) (Leaves : Out → List 
       (λ ending. (length riders ≡ o.riders) × IsEnding o.params riders ending)
       (λ fault. (fault ≡ Stranger o.stamp) × (length riders ≢ o.riders))
 
--- a rider entered a session of the log, with a crew to wake or without, a thread ran in it and returned a value of which
--- so much holds, and its leave was answered so, by as many tries as that takes where a full journal may be cut; the
+-- a rider entered a session of the log, beside whom it was to be, a thread ran in it and returned a value of which so
+-- much holds, and its leave was answered so, by as many tries as that takes where a full journal may be cut; the
 -- session that it left is of the same log
-pub record Stood {Out : Type 0} (F : Type 0) (log : DomainState) (rings may_cut : Bool)
+pub record Stood {Out : Type 0} (F : Type 0) (log : DomainState) (beside : Beside) (may_cut : Bool)
     (Returns : SessionState → SessionState → Out → Type 0) (old : RiderState)
     (left : Result RiderState (Refused SessionState)) (out : Out) : Type 0 where
   pub first : SessionState
   pub last : SessionState
   pub entered : Entered F log old (Ok first)
   pub log_is : first.log ≡ log
-  pub rings_is : first.rings ≡ rings
+  pub beside_is : first.beside ≡ beside
   pub ran : Returns first last out
   pub log_stays : last.log ≡ log
   pub met : LeftByTries F may_cut last left
 
 -- why a thread has no result: its rider was refused a session, and is the one handed back; or it ran, and couldn't
 -- leave its session, which was abandoned
-abbrev pub Failed : {Out : Type 0} → (F : Type 0) → DomainState → Bool → Bool
+abbrev pub Failed : {Out : Type 0} → (F : Type 0) → DomainState → Beside → Bool
     → (SessionState → SessionState → Out → Type 0) → RiderState → RiderState → Fault → Type 0
-Failed {Out} F log rings may_cut Returns old new fault =
+Failed {Out} F log beside may_cut Returns old new fault =
     Entered F log old (Err (was_refused fault new))
     ⊎ ((out : Out) × (back : SessionState) × (new ≡ back.pass.rider)
-    × Stood F log rings may_cut Returns old (Err (was_refused fault back)) out)
+    × Stood F log beside may_cut Returns old (Err (was_refused fault back)) out)
 
 -- the result of a thread with this rider, before and after it, is a value that it returned and left its session with,
 -- or why it has none
-abbrev pub Tells : {Out : Type 0} → (F : Type 0) → DomainState → Bool → Bool
+abbrev pub Tells : {Out : Type 0} → (F : Type 0) → DomainState → Beside → Bool
     → (SessionState → SessionState → Out → Type 0) → RiderState → RiderState → Result Out Fault → Type 0
-Tells F log rings may_cut Returns old new result = MatchResult result
-    (Stood F log rings may_cut Returns old (Ok new)) (Failed F log rings may_cut Returns old new)
+Tells F log beside may_cut Returns old new result = MatchResult result
+    (Stood F log beside may_cut Returns old (Ok new)) (Failed F log beside may_cut Returns old new)
 
 -- the rider at a place; a new one where there is none
 abbrev pub rider_at : List RiderState → ℕ → RiderState
@@ -71,7 +71,7 @@ abbrev pub AreReturned : {Out : Type 0} → (F : Type 0) → DomainState → Boo
     → List (Result Out Fault) → List RiderState → Type 0
 AreReturned {Out} F log may_cut Returns olds outs riders =
     (number : ℕ) (other : Result Out Fault) → number < length outs
-    → Tells F log true may_cut (Returns number) (olds number) (rider_at riders number)
+    → Tells F log beside_crew may_cut (Returns number) (olds number) (rider_at riders number)
     (slice_index_or outs number other)
 
 -- so it is of these, of which each has its rider beside it; those riders were these

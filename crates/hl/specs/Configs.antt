@@ -3,6 +3,8 @@ use Rattle.std.specs.Prelude.{◌≡◌, ◌+◌, ◌-◌, ◌/◌, ◌^◌, ℕ
 use Rattle.std.specs.Int.{is_power_of_two}
 use Rattle.hl_model.specs.Sizes.{Sizes}
 use Rattle.hl_crew.specs.declared.duty.Duty.{Duty}
+use Rattle.hl_crew.specs.declared.limits.Cuts.{Cuts}
+use Rattle.hl_crew.specs.declared.limits.Cuts.TheVariants.{Above}
 use Rattle.hl.specs.declared.config.Config.{Config}
 use Rattle.hl.specs.declared.config.Number.{Number}
 use Rattle.hl.specs.declared.config.Number.TheVariants.{Threads, PageSize, Frames, Actions, Mutable, Resident, Journal, Stamp}
@@ -16,7 +18,7 @@ fits c Frames = nat_le 2 c.frames && nat_le c.frames (2 ^ 16)
 fits c Actions = nat_le 1 c.actions && nat_le c.actions 4096
 fits c Mutable = nat_le 1 c.mutable && nat_le c.mutable c.resident
 fits c Resident = nat_lt c.resident c.frames
-fits c Journal = nat_le c.journal (2 ^ 62)
+fits c Journal = nat_le 33 c.journal && nat_le c.journal (2 ^ 62)
 fits c Stamp = nat_le c.stamp (2 ^ 62)
 
 -- whether all are
@@ -54,7 +56,16 @@ abbrev pub opening_of : Config → Opening Sizes
 opening_of c =
     record { params = sizes_of_config c; riders = c.threads + 5; journal = c.journal; stamp = c.stamp }
 
--- this is the duty of its crew, which cuts a journal that is half full
+-- how many steps its journal may have at the end of a crew's turn: half of it, and so few that there is room for 33, which
+-- a locked call of a session with 32 touches enters
+abbrev pub most_steps : Config → ℕ
+most_steps c = min (c.journal / 2) (c.journal - 33)
+
+-- how the session of finish cuts it
+abbrev pub cuts_of : Config → Cuts
+cuts_of c = Above (most_steps c)
+
+-- this is the duty of its crew
 abbrev pub IsDutyOf : Config → Duty → Type 0
 IsDutyOf c duty = (duty.frames ≡ c.frames) × (duty.mutable ≡ c.mutable) × (duty.resident ≡ c.resident)
-    × (duty.cut_above ≡ Some (c.journal / 2))
+    × (duty.cut_above ≡ Some (most_steps c))

@@ -1,4 +1,4 @@
--- One round of help: the oldest action is run if it is ready, and then the session refreshes.
+-- One round of help: the journal is cut as is due, the oldest action run if it is ready, and the session refreshes.
 use Rattle.std.specs.Prelude.{◌≡◌, ◌⊎◌, ℕ, Bool, true, false, not, is_some, IfSome, IsSomeAnd, Result, Ok, Err, List, [], ◌∷◌, ◌++◌}
 use Rattle.hl_model.specs.declared.fault.Fault.{Fault}
 use Rattle.hl_model.specs.declared.step.Reply.{Reply}
@@ -12,6 +12,8 @@ use Rattle.hl_words.specs.States.{RiderState}
 use Rattle.hl_keeper.specs.Passes.{PassRecord, with_rider}
 use Rattle.hl_domain.specs.Domains.{DomainState, Refreshed}
 pub use Rattle.hl_domain.specs.Riders.{Takes}
+use Rattle.hl_crew.specs.declared.limits.Cuts.{Cuts}
+use Rattle.hl_crew.specs.Cutting.{EndsTurn}
 use Rattle.hl_crew.specs.Overs.{is_none_ready}
 use Rattle.hl_crew.specs.Tries.{EndsAction, Tries}
 use Rattle.hl.specs.Records.{entered_steps}
@@ -46,16 +48,22 @@ module _ (F : Type 0) (log : DomainState) where
     RunsOldest (Ok false) old new = (fault : Fault) × TakesNone fault true old new
     RunsOldest (Err fault) old new = TakesNone fault false old new ⊎ TakesAndEnds (Err fault) old new
 
-    -- a round of help: then the session refreshed, and it is told whether an action was run; or a call was refused so,
-    -- and no more was done
-    abbrev pub Helps : Result Bool Fault → PassRecord → PassRecord → Type 0
-    Helps (Ok did) old new =
+    -- then the session refreshed, and it is told whether an action was run; or a call was refused so, and no more was
+    -- done
+    abbrev pub RunsAndRefreshes : Result Bool Fault → PassRecord → PassRecord → Type 0
+    RunsAndRefreshes (Ok did) old new =
         (mid : RiderState) × (view : View) × RunsOldest (Ok did) old.rider mid
         × Refreshed F log (with_rider mid old) new (Ok view)
-    Helps (Err fault) old new =
+    RunsAndRefreshes (Err fault) old new =
         (RunsOldest (Err fault) old.rider new.rider × (new ≡ with_rider new.rider old))
         ⊎ ((did : Bool) × (mid : RiderState) × RunsOldest (Ok did) old.rider mid
         × Refreshed F log (with_rider mid old) new (Err fault))
+
+  -- a round of help: that, once the journal was cut as is due
+  abbrev pub Helps : Cuts → (F → FiringRecord → ℕ → Type 0) → (ℕ → FiringRecord → ℕ → Type 0)
+      → Result Bool Fault → PassRecord → PassRecord → Type 0
+  Helps cuts gives keeps result old new = (cutter : RiderState) × EndsTurn F log cuts old.rider cutter
+      × RunsAndRefreshes gives keeps result (with_rider cutter old) new
 
 -- whether a round of help was in vain: it found no action to run, or was refused
 abbrev pub in_vain : Result Bool Fault → Bool

@@ -5,11 +5,12 @@ use Rattle.hl_model.specs.declared.fault.Fault.TheVariants.{OutOfMemory}
 use Rattle.hl_model.specs.Sizes.{Sizes}
 use Rattle.hl_words.specs.States.{RiderState, new_rider}
 use Rattle.hl_domain.specs.Domains.{DomainState, IsEnding}
+use Rattle.hl_crew.specs.declared.limits.Cuts.{Cuts}
 use Rattle.hl.specs.declared.finished.Finished.{Finished}
 use Rattle.hl.specs.declared.opening.Opening.{Opening}
 use Rattle.hl.specs.Closings.{CountReturned, Failed, Stood}
 use Rattle.hl.specs.Openings.{opened_as}
-use Rattle.hl.specs.Sessions.{SessionState}
+use Rattle.hl.specs.Sessions.{SessionState, without_crew}
 
 -- the first fault among these results is this one
 pub record IsFirstFault {Out : Type 0} (outs : List (Result Out Fault)) (fault : Fault) : Type 0 where
@@ -22,22 +23,22 @@ abbrev pub Finishing : {Out : Type 0} → (SessionState → SessionState → Out
     → SessionState → SessionState → Option Out → Type 0
 Finishing Finishes old new out = MatchOption out (new ≡ old) (Finishes old new)
 
--- this rider was in a session of the log, with no crew to wake, and finished; at a full journal its leave may cut. The
--- log was then closed with it behind the others
-pub record IsFinish {Out : Type 0} (F : Type 0) (log : DomainState)
+-- this rider was in a session of the log, with no crew to wake, which cuts so, and finished; at a full journal its
+-- leave may cut. The log was then closed with it behind the others
+pub record IsFinish {Out : Type 0} (F : Type 0) (log : DomainState) (cuts : Cuts)
     (Finishes : SessionState → SessionState → Out → Type 0)
     (riders : List RiderState) (old : RiderState) (finished : Finished Out F) : Type 0 where
   pub last : RiderState
-  pub finish : Stood F log false true (Finishing Finishes) old (Ok last) finished.last
+  pub finish : Stood F log (without_crew cuts) true (Finishing Finishes) old (Ok last) finished.last
   pub ending : IsEnding log.sizes (riders ++ last ∷ []) finished.ending
 
 -- this rider was refused a session of the log to finish in, or couldn't leave it
-pub record IsNoFinish {Out : Type 0} (F : Type 0) (log : DomainState)
+pub record IsNoFinish {Out : Type 0} (F : Type 0) (log : DomainState) (cuts : Cuts)
     (Finishes : SessionState → SessionState → Out → Type 0) (old : RiderState) (fault : Fault) : Type 0 where
   pub last : RiderState
-  pub failed : Failed F log false true (Finishing Finishes) old last fault
+  pub failed : Failed F log (without_crew cuts) true (Finishing Finishes) old last fault
 
-module _ {Out : Type 0} (F : Type 0) (o : Opening Sizes)
+module _ {Out : Type 0} (F : Type 0) (o : Opening Sizes) (cuts : Cuts)
     (Returns : ℕ → SessionState → SessionState → Out → Type 0)
     (Took : ℕ → List ℕ → Type 0) (Finishes : SessionState → SessionState → Out → Type 0) where
   -- each thread, whose leave may cut, has a result, and then the log's last rider finished; the ending is that of a log
@@ -48,7 +49,7 @@ module _ {Out : Type 0} (F : Type 0) (o : Opening Sizes)
     pub riders : List RiderState
     pub returned : CountReturned F (opened_as o) true Returns Took count
         (map (λ out. Ok out) finished.outs.items) riders
-    pub finish : IsFinish F (opened_as o) Finishes riders (new_rider count) finished
+    pub finish : IsFinish F (opened_as o) cuts Finishes riders (new_rider count) finished
 
   -- of the threads' results the first that is a fault is this one
   pub record ThreadFailed (fault : Fault) : Type 0 where
@@ -66,7 +67,7 @@ module _ {Out : Type 0} (F : Type 0) (o : Opening Sizes)
     pub outs : List Out
     pub riders : List RiderState
     pub returned : CountReturned F (opened_as o) true Returns Took count (map (λ out. Ok out) outs) riders
-    pub failed : IsNoFinish F (opened_as o) Finishes (new_rider count) fault
+    pub failed : IsNoFinish F (opened_as o) cuts Finishes (new_rider count) fault
 
   -- why a log whose threads ran has no result: memory or a thread was refused; or one of these
   abbrev pub IsUnfinished : Fault → Type 0

@@ -6,15 +6,18 @@ use Rattle.hl_domain.specs.Domains.{DomainState}
 use Rattle.hl.specs.declared.opening.Opening.{Opening}
 use Rattle.hl.specs.declared.refused.Refused.{Refused}
 
--- 1 to 2,048 riders, and a journal and a stamp of at most 2^62
+-- 1 to 2,048 riders, a journal of 33 to 2^62 steps, since a locked call of a session with 32 touches enters 33, and a
+-- stamp of at most 2^62
 unfoldable pub can_open : {S : Type 0} → Opening S → Bool
 can_open o =
-    nat_le 1 o.riders && (nat_le o.riders 2048 && (nat_le o.journal (2 ^ 62) && nat_le o.stamp (2 ^ 62)))
+    nat_le 1 o.riders && (nat_le o.riders 2048
+    && (nat_le 33 o.journal && (nat_le o.journal (2 ^ 62) && nat_le o.stamp (2 ^ 62))))
 
 -- so it is
 pub record IsInRange {S : Type 0} (o : Opening S) : Type 0 where
   pub some_riders : 1 ≤ o.riders
   pub few_riders : o.riders ≤ 2048
+  pub journal_enough : 33 ≤ o.journal
   pub journal_within : o.journal ≤ 2 ^ 62
   pub stamp_within : o.stamp ≤ 2 ^ 62
 

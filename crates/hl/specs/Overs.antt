@@ -10,16 +10,17 @@ use Rattle.hl_words.specs.States.{RiderState}
 use Rattle.hl_keeper.specs.Passes.{PassRecord, with_rider}
 use Rattle.hl_domain.specs.Domains.{DomainState}
 pub use Rattle.hl_domain.specs.Riders.{LooksAtOver}
+use Rattle.hl_crew.specs.declared.limits.Cuts.{Cuts}
 use Rattle.hl_crew.specs.Goes.{Followed}
 use Rattle.hl.specs.Helps.{Helps}
 
-module _ (F : Type 0) (log : DomainState)
+module _ (F : Type 0) (log : DomainState) (cuts : Cuts)
     (gives : F → FiringRecord → ℕ → Type 0) (keeps : ℕ → FiringRecord → ℕ → Type 0) where
   -- a session was told that it isn't over, and made a round of help, which was answered so
   pub record HelpsOn (ticket : ℕ) (help : Result Bool Fault) (old new : PassRecord) : Type 0 where
     pub looked : RiderState
     pub looks : LooksAtOver F log ticket false old.rider looked
-    pub helps : Helps F log gives keeps help (with_rider looked old) new
+    pub helps : Helps F log cuts gives keeps help (with_rider looked old) new
 
   -- such a round that wasn't refused: another may follow
   abbrev pub HelpsNext : ℕ → ℕ → Result Bool Fault → PassRecord → PassRecord → Type 0

@@ -1,19 +1,21 @@
 -- A rider between two sessions of its log.
-use Rattle.std.specs.Prelude.{◌≡◌, ℕ, Bool, false, Result, Ok, Err}
+use Rattle.std.specs.Prelude.{◌≡◌, ℕ, Bool, Result, Ok, Err}
 use Rattle.hl_model.specs.declared.fault.Fault.{Fault}
 use Rattle.hl_words.specs.States.{RiderState}
 use Rattle.hl_keeper.specs.Passes.{PassRecord, with_rider}
 use Rattle.hl_domain.specs.Domains.{DomainState}
+use Rattle.hl_crew.specs.declared.limits.Cuts.{Cuts}
+use Rattle.hl_crew.specs.Cutting.{EndsTurn}
 use Rattle.hl_crew.specs.Goes.{Followed}
 use Rattle.hl.specs.declared.refused.Refused.{Refused}
 use Rattle.hl.specs.Openings.{was_refused}
-use Rattle.hl.specs.Sessions.{SessionState, Entered, Left}
+use Rattle.hl.specs.Sessions.{Beside, SessionState, alone, Entered, Left}
 
--- a rider that rests, the log that it left, and whether it has a crew that it wakes
+-- a rider that rests, the log that it left, and who serves that beside it
 pub record RestState : Type 0 where
   pub log : DomainState
   pub rider : RiderState
-  pub rings : Bool
+  pub beside : Beside
 
 -- the rider that a session left, or the session
 abbrev pub left_rider : Result RestState (Refused SessionState) → Result RiderState (Refused SessionState)
@@ -34,14 +36,15 @@ Suspended F session result = Left F session (left_rider result)
 abbrev pub Resumed : (F : Type 0) → RestState → Result SessionState (Refused RestState) → Type 0
 Resumed F rest result = Entered F rest.log rest.rider (entered_session result)
 
--- a session of this log by a pass alone: it has no crew that it wakes
+-- a session of this log by a pass alone
 abbrev pub by_pass : DomainState → PassRecord → SessionState
-by_pass log pass = record { log = log; pass = pass; rings = false }
+by_pass log pass = record { log = log; pass = pass; beside = alone }
 
-module _ (F : Type 0) (log : DomainState) where
-  -- a rider was to enter, and was refused: another try may follow
+module _ (F : Type 0) (log : DomainState) (cuts : Cuts) where
+  -- a rider was to enter, and was refused, and then the journal was cut as is due: another try may follow
   abbrev pub EntersNext : ℕ → Result Bool Fault → RiderState → RiderState → Type 0
-  EntersNext i next old new = (fault : Fault) × Entered F log old (Err (was_refused fault new))
+  EntersNext i next old new = (fault : Fault) × (refused : RiderState)
+      × Entered F log old (Err (was_refused fault refused)) × EndsTurn F log cuts refused new
 
   -- a rider entered, after so many tries that were refused
   pub record Reenters (rider : RiderState) (pass : PassRecord) : Type 0 where
@@ -51,14 +54,19 @@ module _ (F : Type 0) (log : DomainState) where
     pub entered : Entered F log last (Ok (by_pass log pass))
 
   -- a pass left its slot, a call returned this, and the rider entered again; or the pass couldn't leave, and has its rider
-  abbrev pub RestsOf : {X : Type 0} → (X → Type 0) → Result X Fault → PassRecord → PassRecord → Type 0
-  RestsOf Gives (Ok x) old new =
+  abbrev pub LeavesFor : {X : Type 0} → (X → Type 0) → Result X Fault → PassRecord → PassRecord → Type 0
+  LeavesFor Gives (Ok x) old new =
       Gives x × (left : RiderState) × Left F (by_pass log old) (Ok left) × Reenters left new
-  RestsOf Gives (Err fault) old new =
+  LeavesFor Gives (Err fault) old new =
       Left F (by_pass log old) (Err (was_refused fault (by_pass log new)))
       × (new ≡ with_rider new.rider old)
+
+  -- so a pass did once the journal was cut as is due
+  abbrev pub RestsOf : {X : Type 0} → (X → Type 0) → Result X Fault → PassRecord → PassRecord → Type 0
+  RestsOf Gives result old new = (cutter : RiderState) × EndsTurn F log cuts old.rider cutter
+      × LeavesFor Gives result (with_rider cutter old) new
 
 -- likewise a session
 abbrev pub Rests : (F : Type 0) {X : Type 0} → (X → Type 0) → Result X Fault → SessionState → SessionState
     → Type 0
-Rests F Gives result old new = RestsOf F old.log Gives result old.pass new.pass
+Rests F Gives result old new = RestsOf F old.log old.beside.cuts Gives result old.pass new.pass

@@ -1,5 +1,5 @@
 -- A session, and how its slot was found.
-use Rattle.std.specs.Prelude.{◌≡◌, ℕ, Bool, Ok, Err, Result}
+use Rattle.std.specs.Prelude.{◌≡◌, ℕ, Bool, true, false, is_some, Option, Ok, Err, Result}
 use Rattle.hl_model.specs.declared.fault.Fault.{Fault}
 use Rattle.hl_model.specs.declared.step.Step.TheVariants.{Acquire, Release}
 use Rattle.hl_words.specs.States.{RiderState}
@@ -7,13 +7,37 @@ use Rattle.hl_keeper.specs.Passes.{PassRecord, with_rider}
 use Rattle.hl_core.specs.Holding.{least_free}
 use Rattle.hl_keeper.specs.Calls.{call_fault, Makes, MakesAt, MakesTouched, pass_after}
 use Rattle.hl_domain.specs.Domains.{DomainState, call_of, pass_call, enter_call, MakesUnderLock}
+use Rattle.hl_crew.specs.declared.limits.Cuts.{Cuts}
+use Rattle.hl_crew.specs.declared.limits.Cuts.TheVariants.{Never}
 use Rattle.hl.specs.declared.refused.Refused.{Refused}
 
--- a session: its log, its pass there, and whether it has a crew that it wakes
+-- who serves the log beside a session: whether a crew that it wakes, and how the session cuts the journal itself, where
+-- none does
+pub record Beside : Type 0 where
+  pub rings : Bool
+  pub cuts : Cuts
+
+-- so it is where there is such a bell, or none
+abbrev pub beside_of : {B : Type 0} → Option B → Cuts → Beside
+beside_of bell cuts = record { rings = is_some bell; cuts = cuts }
+
+-- no crew, and the session never cuts
+abbrev pub alone : Beside
+alone = record { rings = false; cuts = Never }
+
+-- a crew, and the session never cuts
+abbrev pub beside_crew : Beside
+beside_crew = record { rings = true; cuts = Never }
+
+-- no crew, and the session cuts so
+abbrev pub without_crew : Cuts → Beside
+without_crew cuts = record { rings = false; cuts = cuts }
+
+-- a session: its log, its pass there, and who serves the log beside it
 pub record SessionState : Type 0 where
   pub log : DomainState
   pub pass : PassRecord
-  pub rings : Bool
+  pub beside : Beside
 
 -- the same session with another pass
 abbrev pub with_pass : PassRecord → SessionState → SessionState

@@ -17,6 +17,7 @@ use Rattle.hl_keeper.specs.Keepers.{KeeperStands}
 use Rattle.hl_keeper.specs.Passes.{PassRecord, with_rider}
 use Rattle.hl_domain.specs.Domains.{DomainState, no_step, LeavesUnderLock}
 use Rattle.hl_domain.specs.Riders.{Bares}
+use Rattle.hl_crew.specs.declared.limits.Cuts.{Cuts}
 use Rattle.hl_crew.specs.Goes.{Followed}
 use Rattle.hl.specs.Helps.{Helps}
 
@@ -47,14 +48,14 @@ module _ (F : Type 0) (log : DomainState) where
       LeavesUnderLock F log (no_step old new) (λ before after. (after ≡ before)
       × ((A : List Step) → KeeperStands before A → safe ≡ safe_epoch before.core.sizes.slots A))
 
-  module _ (gives : F → FiringRecord → ℕ → Type 0) (keeps : ℕ → FiringRecord → ℕ → Type 0) where
+  module _ (cuts : Cuts) (gives : F → FiringRecord → ℕ → Type 0) (keeps : ℕ → FiringRecord → ℕ → Type 0) where
     -- a session found this ticket above the safe epoch, and made a round of help, which was answered so
     pub record RoundOf (ticket : ℕ) (help : Result Bool Fault) (old new : PassRecord) : Type 0 where
       pub safe : ℕ
       pub above : safe < ticket
       pub looked : RiderState
       pub looks : LooksAtSafe safe old.rider looked
-      pub helps : Helps F log gives keeps help (with_rider looked old) new
+      pub helps : Helps F log cuts gives keeps help (with_rider looked old) new
 
     -- a round that wasn't refused: another may follow
     abbrev pub RoundsNext : ℕ → ℕ → Result Bool Fault → PassRecord → PassRecord → Type 0

@@ -1,16 +1,13 @@
 //! What a log with threads and a crew is opened with, in few words.
 ghost use Rattle.std.specs.Prelude.{◌≡◌, true, false, Err, IfNone, IfOk, IfSome, IsOk};
 ghost use Rattle.hl_model.specs.declared.fault.Fault.TheVariants.{Size};
-ghost use Rattle.hl.specs.Configs.{all_fit, fits, for_threads, with_frames, opening_of, IsDutyOf};
+ghost use Rattle.hl.specs.Configs.{all_fit, fits, for_threads, most_steps, with_frames, opening_of, IsDutyOf};
 ghost use Rattle.hl.specs.Crews.{can_run};
 
-use crate::opening::Opening;
+use crate::opening::{Opening, STEPS_LEAST, STEPS_MOST};
 use hl_crew::Duty;
 use hl_model::{Fault, Sizes};
 use std::fmt;
-
-/// The greatest length of a journal, and the greatest stamp.
-const STEPS_MOST: u64 = 1 << 62;
 
 /// The numbers of a log with threads and a crew, for [`run_threads`](crate::run_threads). Begin with
 /// [`for_threads`](Config::for_threads), and name what is to differ: `Config { page_size: 64,
@@ -30,7 +27,8 @@ pub struct Config {
     pub mutable: u64,
     /// About how many pages at the tail may be read, less than `frames`.
     pub resident: u64,
-    /// How many steps the journal may keep, at most 2^62. The crew cuts it once it is half full.
+    /// How many steps the journal may keep, 33 to 2^62. The crew cuts it at the end of a turn that leaves it more than
+    /// half full, or with less room than the 33 steps of a session that has 32 touches.
     pub journal: u64,
     /// Tells this log from the program's other logs; at most 2^62.
     pub stamp: u64,
@@ -122,7 +120,7 @@ impl Config {
             Number::Actions => 1 <= self.actions && self.actions <= 4096,
             Number::Mutable => 1 <= self.mutable && self.mutable <= self.resident,
             Number::Resident => self.resident < self.frames,
-            Number::Journal => self.journal <= STEPS_MOST,
+            Number::Journal => STEPS_LEAST <= self.journal && self.journal <= STEPS_MOST,
             Number::Stamp => self.stamp <= STEPS_MOST,
         }
     }
@@ -151,7 +149,15 @@ impl Config {
             journal: self.journal,
             stamp: self.stamp,
         };
-        Ok((opening, duty.cutting_above(self.journal / 2)))
+        Ok((opening, duty.cutting_above(self.most_steps())))
+    }
+
+    // How many steps the crew leaves in the journal at a turn's end. A session with 32 touches needs room for 33: if
+    // it is refused, the journal has more than `journal - 33` steps, so the crew's next turn cuts.
+    fn most_steps(&self) -> u64
+        ensures { result ≡ most_steps self.now }
+    {
+        (self.journal / 2).min(self.journal.saturating_sub(STEPS_LEAST))
     }
 }
 
@@ -164,7 +170,7 @@ impl fmt::Display for Number {
             Number::Actions => "actions: 1 to 4,096",
             Number::Mutable => "mutable: 1 to resident",
             Number::Resident => "resident: less than frames",
-            Number::Journal => "journal: at most 2^62",
+            Number::Journal => "journal: 33 to 2^62",
             Number::Stamp => "stamp: at most 2^62",
         };
         write!(f, "{text}")

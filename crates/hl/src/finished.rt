@@ -2,16 +2,18 @@
 ghost use Rattle.std.specs.Prelude.{◌≡◌, ◌+◌, ◌<◌, ◌≤◌, [], length, map, vec_len, vec_capacity, true, false, Ok, Err, is_some, MatchResult};
 ghost use Rattle.hl_model.specs.declared.fault.Fault.TheVariants.{Size};
 ghost use Rattle.hl_words.specs.States.{IsSeedOf};
+ghost use Rattle.hl_crew.specs.Limited.{duty_cuts};
 ghost use Rattle.hl.specs.Closings.{Tells};
-ghost use Rattle.hl.specs.Configs.{all_fit, opening_of};
+ghost use Rattle.hl.specs.Configs.{all_fit, cuts_of, opening_of};
 ghost use Rattle.hl.specs.LastSession.{AreFinished, Finishing, IsFinish, IsFirstFault, IsNoFinish, IsUnfinished};
 ghost use Rattle.hl.specs.Openings.{IsInRange};
+ghost use Rattle.hl.specs.Sessions.{without_crew};
 
 use crate::config::Config;
 use crate::log::Log;
 use crate::opening::Opening;
 use crate::refused::Refused;
-use crate::session::Session;
+use crate::session::{Beside, Session};
 use crate::shared::{Outs, Shared};
 use crate::work::Work;
 use hl_action::{AnyAnswer, NoJob, Task};
@@ -50,8 +52,9 @@ pub fn run_threads<R: Threads + Wait + Sync, P: Work<R> + Sync>(
 ) -> Result<Finished<P::Out, P::Job>, Fault>
     ensures size { all_fit config ≡ false → result ≡ Err Size }
     ensures finished { all_fit config ≡ true → MatchResult result
-        (AreFinished P.Job (opening_of config) (P.returns work.now) (P.took work.now) (P.finishes work.now))
-        (IsUnfinished P.Job (opening_of config) (P.returns work.now) (P.took work.now)
+        (AreFinished P.Job (opening_of config) (cuts_of config) (P.returns work.now) (P.took work.now)
+        (P.finishes work.now))
+        (IsUnfinished P.Job (opening_of config) (cuts_of config) (P.returns work.now) (P.took work.now)
         (P.finishes work.now)) }
 {
     let (opening, duty) = match config.checked() {
@@ -85,10 +88,10 @@ fn run_over<L: Realm + Send + Sync, R: Threads + Wait + Sync, P: Work<R> + Sync>
     requires duty { shared.now.duty.frames ≡ opening.params.frames }
     requires cuts { is_some shared.now.duty.cut_above ≡ true }
     ensures finished { MatchResult result
-        (AreFinished P.Job opening (P.returns shared.now.work.now) (P.took shared.now.work.now)
-        (P.finishes shared.now.work.now))
-        (IsUnfinished P.Job opening (P.returns shared.now.work.now) (P.took shared.now.work.now)
-        (P.finishes shared.now.work.now)) }
+        (AreFinished P.Job opening (duty_cuts shared.now.duty.cut_above) (P.returns shared.now.work.now)
+        (P.took shared.now.work.now) (P.finishes shared.now.work.now))
+        (IsUnfinished P.Job opening (duty_cuts shared.now.duty.cut_above) (P.returns shared.now.work.now)
+        (P.took shared.now.work.now) (P.finishes shared.now.work.now)) }
 {
     let (log, mut riders) = match Log::<L, P::Job>::open(
         shared.alloc,
@@ -147,10 +150,11 @@ fn finish_log<L: Realm + Send + Sync, R: Wait, P: Work<R>>(
     requires room { vec_len riders < vec_capacity riders }
     ensures closed { MatchResult result
         (λ finished. (finished.outs ≡ outs)
-        × IsFinish P.Job log (P.finishes shared.now.work.now) riders.items last finished)
-        (IsNoFinish P.Job log (P.finishes shared.now.work.now) last) }
+        × IsFinish P.Job log (duty_cuts shared.now.duty.cut_above) (P.finishes shared.now.work.now)
+        riders.items last finished)
+        (IsNoFinish P.Job log (duty_cuts shared.now.duty.cut_above) (P.finishes shared.now.work.now) last) }
 {
-    let (done, rider) = finish_one(shared.rt, &log, last, shared.work);
+    let (done, rider) = finish_one(shared, &log, last);
     riders.push_reserved(rider);
     let last = match done {
         Ok(last) => last,
@@ -162,20 +166,22 @@ fn finish_log<L: Realm + Send + Sync, R: Wait, P: Work<R>>(
     Ok(Finished { outs, last, ending })
 }
 
-// The session that finishes, and is left by tries: the duty of such a log cuts.
+// The session that finishes: it cuts the journal as the crew did, and is left by tries, since the duty of such a log
+// cuts.
 fn finish_one<L: Realm + Send + Sync, R: Wait, P: Work<R>>(
-    rt: &R,
+    shared: &Shared<'_, R, P>,
     log: &Log<L, P::Job>,
     rider: Rider<L>,
-    work: &P,
 ) -> (Result<Option<P::Out>, Fault>, Rider<L>)
-    ensures { Tells P.Job log.now false true (Finishing (P.finishes work.now)) rider result.1 result.0 }
+    ensures { Tells P.Job log.now (without_crew (duty_cuts shared.now.duty.cut_above)) true
+        (Finishing (P.finishes shared.now.work.now)) rider result.1 result.0 }
 {
-    let mut session = match Session::enter(rt, log, rider) {
+    let beside = Beside::no_crew(shared.duty);
+    let mut session = match Session::enter_beside(shared.rt, log, rider, beside) {
         Ok(session) => session,
         Err(Refused { fault, back }) => return (Err(fault), back),
     };
-    let out = work.finish(rt, &mut session);
+    let out = shared.work.finish(shared.rt, &mut session);
     // Of the session that `finish` left no more is known than its type, and that says which log it is of.
     session.log().known();
     log.known();

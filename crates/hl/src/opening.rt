@@ -6,8 +6,11 @@ use hl_model::{HasSizes, Sizes};
 /// How many riders a log has at most.
 const RIDERS_MOST: u64 = 2048;
 
+/// The least length of a journal: a locked call of a session enters up to 32 touches and its own step.
+pub(crate) const STEPS_LEAST: u64 = 33;
+
 /// The greatest length of a journal, and the greatest stamp.
-const STEPS_MOST: u64 = 1 << 62;
+pub(crate) const STEPS_MOST: u64 = 1 << 62;
 
 /// What a log is opened with. `S` is [`Params`](hl_model::Params) or [`Sizes`].
 #[derive(Clone, Copy, Debug, PartialEq, Eq)]
@@ -16,7 +19,8 @@ pub struct Opening<S = Sizes> {
     pub params: S,
     /// How many riders, 1 to 2,048: one for each thread that is to act at a time, and four for a crew.
     pub riders: u64,
-    /// How many steps the journal may keep between two cuts, at most 2^62. Its memory is taken at the opening.
+    /// How many steps the journal may keep between two cuts, 33 to 2^62: a session's locked call enters up to 32
+    /// touches and its own step. Its memory is taken at the opening.
     pub journal: u64,
     /// Tells this log from the program's other logs; at most 2^62.
     pub stamp: u64,
@@ -31,6 +35,7 @@ impl<S> Opening<S> {
     {
         1 <= self.riders
             && self.riders <= RIDERS_MOST
+            && STEPS_LEAST <= self.journal
             && self.journal <= STEPS_MOST
             && self.stamp <= STEPS_MOST
     }

@@ -1,12 +1,13 @@
 //! A thread's time in a slot of a log.
-ghost use Rattle.std.specs.Prelude.{◌≡◌, ◌+◌, ◌-◌, ◌/◌, ◌^◌, ◌≤◌, Ok, true, false, is_some, IfOk, IfErr, MatchResult};
+ghost use Rattle.std.specs.Prelude.{◌≡◌, ◌+◌, ◌-◌, ◌/◌, ◌^◌, ◌≤◌, Ok, true, false, IfOk, IfErr, MatchResult};
 ghost use Rattle.hl_keeper.specs.Passes.{seen, with_rider, with_tail};
 ghost use Rattle.hl_keeper.specs.Leases.{placed};
 ghost use Rattle.hl_domain.specs.Domains.{with_held, after_news, stays_current, Refreshed};
 ghost use Rattle.hl_domain.specs.Riders.{Allocates};
-ghost use Rattle.hl.specs.Sessions.{with_pass, Asked, Entered, Left};
+ghost use Rattle.hl.specs.Sessions.{alone, beside_of, with_pass, Asked, Entered, Left};
 
 mod bell;
+mod beside;
 mod help;
 mod leave;
 mod over;
@@ -23,9 +24,9 @@ mod words;
 
 use crate::log::Log;
 use crate::refused::Refused;
+pub(crate) use beside::Beside;
 use hl_action::{AnyAnswer, NoJob, Promise, Task};
 use hl_counts::CountTable;
-use hl_crew::Stop;
 use hl_domain::{Lease, Pass};
 use hl_epoch::Epochs;
 use hl_model::{Fault, View};
@@ -51,17 +52,19 @@ pub struct Session<
     rt: &'a R,
     log: &'a Log<L, F, P, E>,
     pass: Pass<L>,
-    // What wakes the crew of a log that `with_threads` opened.
-    bell: Option<&'a Stop>,
+    beside: Beside<'a>,
 }
 
 impl<'a, R: Wait, L: Realm, F: Task, P: Promise, E: Epochs> Model for Session<'a, R, L, F, P, E> {
-    ghost use Rattle.std.specs.Prelude.{is_some};
-    ghost use Rattle.hl.specs.Sessions.{SessionState};
+    ghost use Rattle.hl.specs.Sessions.{beside_of, SessionState};
 
     ghost Value = { SessionState };
 
-    ghost view = { λ s. record { log = s.log.now; pass = s.pass; rings = is_some s.bell } };
+    ghost view = { λ s. record {
+      log = s.log.now;
+      pass = s.pass;
+      beside = beside_of s.beside.bell s.beside.cuts;
+    } };
 }
 
 impl<'a, R: Wait, L: Realm, F: Task, P: Promise, E: Epochs + Drop> Session<'a, R, L, F, P, E> {
@@ -75,28 +78,28 @@ impl<'a, R: Wait, L: Realm, F: Task, P: Promise, E: Epochs + Drop> Session<'a, R
     ) -> Result<Session<'a, R, L, F, P, E>, Refused<Rider<L>>>
         ensures met { Entered F log.now rider result }
         ensures log { IfOk result (λ session. session.log ≡ log.now) }
-        ensures rings { IfOk result (λ session. session.rings ≡ false) }
+        ensures beside { IfOk result (λ session. session.beside ≡ alone) }
     {
-        Session::enter_with(rt, log, rider, None)
+        Session::enter_beside(rt, log, rider, Beside::alone())
     }
 
-    // The same, with a crew to wake, if there is one.
-    pub(crate) fn enter_with(
+    // The same, where somebody serves the log beside the session.
+    pub(crate) fn enter_beside(
         rt: &'a R,
         log: &'a Log<L, F, P, E>,
         rider: Rider<L>,
-        bell: Option<&'a Stop>,
+        beside: Beside<'a>,
     ) -> Result<Session<'a, R, L, F, P, E>, Refused<Rider<L>>>
         ensures met { Entered F log.now rider result }
         ensures log { IfOk result (λ session. session.log ≡ log.now) }
-        ensures rings { IfOk result (λ session. session.rings ≡ is_some bell.entry) }
+        ensures beside { IfOk result (λ session. session.beside ≡ beside_of beside.entry.bell beside.entry.cuts) }
     {
         match log.enter(rt, rider) {
             Ok(pass) => Ok(Session {
                 rt,
                 log,
                 pass,
-                bell,
+                beside,
             }),
             Err((fault, back)) => Err(Refused { fault, back }),
         }
@@ -113,14 +116,14 @@ impl<'a, R: Wait, L: Realm, F: Task, P: Promise, E: Epochs + Drop> Session<'a, R
     ) -> Result<Session<'a, R, L, F, P, E>, Refused<Rider<L>>>
         ensures met { Asked F log.now rider slot result }
         ensures log { IfOk result (λ session. session.log ≡ log.now) }
-        ensures rings { IfOk result (λ session. session.rings ≡ false) }
+        ensures beside { IfOk result (λ session. session.beside ≡ alone) }
     {
         match log.acquire(rt, slot, rider) {
             Ok(pass) => Ok(Session {
                 rt,
                 log,
                 pass,
-                bell: None,
+                beside: Beside::alone(),
             }),
             Err((fault, back)) => Err(Refused { fault, back }),
         }
@@ -132,7 +135,7 @@ impl<'a, R: Wait, L: Realm, F: Task, P: Promise, E: Epochs + Drop> Session<'a, R
     pub fn refresh(&mut self) -> Result<View, Fault>
         ensures refreshed { Refreshed F self.old.log self.old.pass self.new.pass result }
         ensures log { self.new.log ≡ self.old.log }
-        ensures rings { self.new.rings ≡ self.old.rings }
+        ensures beside { self.new.beside ≡ self.old.beside }
     {
         self.log.refresh(self.rt, &mut self.pass)
     }
@@ -151,7 +154,7 @@ impl<'a, R: Wait, L: Realm, F: Task, P: Promise, E: Epochs + Drop> Session<'a, R
             in let old = self.old.pass
             in stays_current old new ≡ false → Refreshed F self.old.log (after_news old new) new result }
         ensures log { self.new.log ≡ self.old.log }
-        ensures rings { self.new.rings ≡ self.old.rings }
+        ensures beside { self.new.beside ≡ self.old.beside }
     {
         self.log.keep_up(self.rt, &mut self.pass)
     }
@@ -206,7 +209,7 @@ impl<'a, R: Wait, L: Realm, F: Task, P: Promise, E: Epochs + Drop> Session<'a, R
             rt,
             log,
             pass,
-            bell,
+            beside,
         } = self;
         match log.release(rt, pass) {
             Ok(rider) => Ok(rider),
@@ -216,7 +219,7 @@ impl<'a, R: Wait, L: Realm, F: Task, P: Promise, E: Epochs + Drop> Session<'a, R
                     rt,
                     log,
                     pass,
-                    bell,
+                    beside,
                 },
             }),
         }
@@ -231,7 +234,7 @@ impl<'a, R: Wait, L: Realm, F: Task, P: Promise, E: Epochs + Drop> Session<'a, R
             rt: _,
             log: _,
             pass,
-            bell: _,
+            beside: _,
         } = self;
         pass.abandon()
     }

@@ -5,11 +5,12 @@ ghost use Rattle.hl_words.specs.States.{new_riders};
 ghost use Rattle.hl_crew.specs.Riders.{riders_of};
 ghost use Rattle.hl.specs.Closings.{AreLeft, HasServed, HaveWorked, Tells};
 ghost use Rattle.hl.specs.Devices.{device_has};
+ghost use Rattle.hl.specs.Sessions.{beside_crew};
 
 use crate::log::Log;
 use crate::memory::MemoryDevice;
 use crate::refused::Refused;
-use crate::session::Session;
+use crate::session::{Beside, Session};
 use crate::sink::{Named, Sink};
 use crate::told::Told;
 use crate::work::Work;
@@ -109,7 +110,7 @@ impl<R: Threads + Wait + Sync, P: Work<R> + Sync> Shared<'_, R, P> {
             self.rt,
             jobs,
             &|job: (usize, Rider<L>)| -> Worked<L, P::Out>
-                ensures { Tells P.Job log.entry.now true (is_some self.entry.now.duty.cut_above)
+                ensures { Tells P.Job log.entry.now beside_crew (is_some self.entry.now.duty.cut_above)
                     (P.returns self.entry.now.work.now job.0) job.1 result.1 result.0 }
             { self.work_one(log, job.1, job.0 as u64, stop) },
         )
@@ -123,10 +124,10 @@ impl<R: Threads + Wait + Sync, P: Work<R> + Sync> Shared<'_, R, P> {
         number: u64,
         stop: &Stop,
     ) -> Worked<L, P::Out>
-        ensures { Tells P.Job log.now true (is_some self.now.duty.cut_above)
+        ensures { Tells P.Job log.now beside_crew (is_some self.now.duty.cut_above)
             (P.returns self.now.work.now number) rider result.1 result.0 }
     {
-        let mut session = match Session::enter_with(self.rt, log, rider, Some(stop)) {
+        let mut session = match Session::enter_beside(self.rt, log, rider, Beside::crew(stop)) {
             Ok(session) => session,
             Err(Refused { fault, back }) => return (Err(fault), back),
         };

@@ -43,7 +43,11 @@ pub trait Work<R: Wait> {
 
     /// What is done once, in a session of its own, when all threads of [`run_threads`](crate::run_threads) have ended
     /// and before the log is closed: nothing, and `None`, unless a program says so. With `None` the session is left
-    /// as it was. No crew serves by then, so a page that is `Busy` stays so.
+    /// as it was.
+    ///
+    /// No crew serves by then. So a page that is `Busy` stays so, and the session cuts the journal itself, where it is
+    /// longer than the crew's duty lets it be: in each round of [`help`](Session::help), and so in
+    /// [`attempt`](crate::attempt) and the waits, and in [`rest`](Session::rest).
     fn finish<L: Realm + Send + Sync>(
         &self,
         _rt: &R,

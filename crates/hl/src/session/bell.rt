@@ -17,7 +17,7 @@ impl<'a, R: Wait, L: Realm, F: Task, P: Promise, E: Epochs + Drop> Session<'a, R
     /// allocation was `Busy`. It does nothing in a session that was entered otherwise, whose crew has a
     /// [`Stop`](hl_crew::Stop::ring) at hand.
     pub fn ring(&self) {
-        if let Some(bell) = self.bell {
+        if let Some(bell) = self.beside.bell {
             bell.ring();
         }
     }

@@ -27,11 +27,11 @@ impl<'a, R: Wait, L: Realm, F: Task, P: Promise, E: Epochs + Drop> Session<'a, R
     /// It waits for good if somebody never refreshes, or takes the action and never answers it done. Faults: those of
     /// `help`.
     pub fn wait_until_over(&mut self, ticket: u64) -> Result<(), Fault>
-        ensures waits { WaitsUntilOver F self.old.log F.gives P.keeps ticket result
+        ensures waits { WaitsUntilOver F self.old.log self.old.beside.cuts F.gives P.keeps ticket result
             self.old.pass self.new.pass }
         ensures slot { self.new.pass.slot ≡ self.old.pass.slot }
         ensures log { self.new.log ≡ self.old.log }
-        ensures rings { self.new.rings ≡ self.old.rings }
+        ensures beside { self.new.beside ≡ self.old.beside }
     {
         let rt = self.rt;
         for _ in rt.forever() {

@@ -7,6 +7,7 @@ use super::tries::nap;
 use crate::log::Log;
 use core::mem::replace_with;
 use hl_action::{Promise, Task};
+use hl_crew::{Cuts, cut_if_due};
 use hl_domain::Pass;
 use hl_epoch::Epochs;
 use hl_model::Fault;
@@ -21,48 +22,56 @@ impl<'a, R: Wait, L: Realm, F: Task, P: Promise, E: Epochs + Drop> Session<'a, R
     /// Returns what the closure returned. If an entry is refused, it is tried again after a short nap: so this waits for
     /// good if the journal stays full, or each slot protected.
     ///
+    /// In [`Work::finish`](crate::Work::finish), where no crew serves any more, the journal is cut before the release
+    /// and after each refused entry, if it is longer than the crew's duty lets it be. In another session this cuts
+    /// nothing.
+    ///
     /// `JournalFull` of the release: then the closure isn't called, and the session stays in its slot.
     pub fn rest<X, C: FnOnce() -> X>(&mut self, idle: C) -> Result<X, Fault>
         requires { C.IsAlwaysCallable idle }
         ensures rests { Rests F (C.post idle) result self.old self.new }
         ensures log { self.new.log ≡ self.old.log }
-        ensures rings { self.new.rings ≡ self.old.rings }
+        ensures beside { self.new.beside ≡ self.old.beside }
     {
-        let (rt, log) = (self.rt, self.log);
+        let (rt, log, cuts) = (self.rt, self.log, self.beside.cuts);
         replace_with(
             &mut self.pass,
             idle,
-            |pass: Pass<L>, idle: C| rest_of(rt, log, pass, idle),
+            |pass: Pass<L>, idle: C| rest_of(rt, log, cuts, pass, idle),
         )
     }
 }
 
-// Leaves a pass's slot for the time of a closure, and enters again.
+// Leaves a pass's slot for the time of a closure, and enters again. The journal is cut as is due before.
 fn rest_of<R: Wait, L: Realm, F: Task, P: Promise, E: Epochs + Drop, X, C: FnOnce() -> X>(
     rt: &R,
     log: &Log<L, F, P, E>,
+    cuts: Cuts,
     pass: Pass<L>,
     idle: C,
 ) -> (Pass<L>, Result<X, Fault>)
     requires { C.IsAlwaysCallable idle }
-    ensures { RestsOf F log.now (C.post idle) result.1 pass result.0 }
+    ensures { RestsOf F log.now cuts (C.post idle) result.1 pass result.0 }
 {
+    let mut pass = pass;
+    cut_if_due(rt, log, pass.rider_mut(), cuts);
     match log.release(rt, pass) {
         Ok(rider) => {
             let answer = idle();
-            (enter_again(rt, log, rider), Ok(answer))
+            (enter_again(rt, log, cuts, rider), Ok(answer))
         }
         Err((fault, pass)) => (pass, Err(fault)),
     }
 }
 
-// Enters the log, by as many tries as that takes.
+// Enters the log, by as many tries as that takes, and after each that is refused cuts the journal as is due.
 fn enter_again<R: Wait, L: Realm, F: Task, P: Promise, E: Epochs + Drop>(
     rt: &R,
     log: &Log<L, F, P, E>,
+    cuts: Cuts,
     rider: Rider<L>,
 ) -> Pass<L>
-    ensures { Reenters F log.now rider result }
+    ensures { Reenters F log.now cuts rider result }
 {
     let mut rider = rider;
     for _ in rt.forever() {
@@ -70,6 +79,7 @@ fn enter_again<R: Wait, L: Realm, F: Task, P: Promise, E: Epochs + Drop>(
             Ok(pass) => return pass,
             Err((fault, back)) => {
                 rider = back;
+                cut_if_due(rt, log, &mut rider, cuts);
                 nap(rt, &Err(fault));
             }
         }

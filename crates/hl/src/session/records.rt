@@ -33,7 +33,7 @@ impl<'a, R: Wait, L: Realm, F: Task, P: Promise, E: Epochs + Drop> Session<'a, R
         ensures one_page { let page_size = self.old.log.sizes.page_size
             in IfOk result (λ a. a / page_size ≡ (a + length words.now - 1) / page_size) }
         ensures log { self.new.log ≡ self.old.log }
-        ensures rings { self.new.rings ≡ self.old.rings }
+        ensures beside { self.new.beside ≡ self.old.beside }
     {
         for _ in 0..PLACES_ANEW {
             match self.place(words) {
@@ -51,7 +51,7 @@ impl<'a, R: Wait, L: Realm, F: Task, P: Promise, E: Epochs + Drop> Session<'a, R
         ensures one_page { let page_size = self.old.log.sizes.page_size
             in IfOk result (λ a. a / page_size ≡ (a + length words.now - 1) / page_size) }
         ensures log { self.new.log ≡ self.old.log }
-        ensures rings { self.new.rings ≡ self.old.rings }
+        ensures beside { self.new.beside ≡ self.old.beside }
     {
         let address = match self.allocate(words.len() as u64) {
             Ok(address) => address,
@@ -70,7 +70,7 @@ impl<'a, R: Wait, L: Realm, F: Task, P: Promise, E: Epochs + Drop> Session<'a, R
             (λ _. AreStored self.old.log.sizes address words.now self.old.pass self.new.pass)
             (λ fault. StopsAt F self.old.log address words.now fault self.old.pass self.new.pass) }
         ensures log { self.new.log ≡ self.old.log }
-        ensures rings { self.new.rings ≡ self.old.rings }
+        ensures beside { self.new.beside ≡ self.old.beside }
     {
         for k in 0..words.len() {
             match self.store_one(address + k as u64, words[k]) {
@@ -90,7 +90,7 @@ impl<'a, R: Wait, L: Realm, F: Task, P: Promise, E: Epochs + Drop> Session<'a, R
             (λ _. AreStored self.old.log.sizes address (word ∷ []) self.old.pass self.new.pass)
             (λ fault. RefusesStore F self.old.log address fault self.old.pass self.new.pass) }
         ensures log { self.new.log ≡ self.old.log }
-        ensures rings { self.new.rings ≡ self.old.rings }
+        ensures beside { self.new.beside ≡ self.old.beside }
     {
         match self.store(address, word) {
             Ok(()) => Ok(()),
@@ -108,7 +108,7 @@ impl<'a, R: Wait, L: Realm, F: Task, P: Promise, E: Epochs + Drop> Session<'a, R
             (λ _. AreStored self.old.log.sizes address (word ∷ []) self.old.pass self.new.pass)
             (λ fault. RefusesStore F self.old.log address fault self.old.pass self.new.pass) }
         ensures log { self.new.log ≡ self.old.log }
-        ensures rings { self.new.rings ≡ self.old.rings }
+        ensures beside { self.new.beside ≡ self.old.beside }
     {
         match self.refresh() {
             Ok(_) => self.store(address, word),

@@ -25,7 +25,7 @@ impl<'a, R: Wait, L: Realm, F: Task, P: Promise, E: Epochs + Drop> Session<'a, R
             in IfErr result (λ fault. (fault ≡ BEYOND saw.tail) × (saw.head ≤ a) × (saw.tail ≤ a)
             × (self.new ≡ self.old)) }
         ensures log { self.new.log ≡ self.old.log }
-        ensures rings { self.new.rings ≡ self.old.rings }
+        ensures beside { self.new.beside ≡ self.old.beside }
     {
         self.log.region(&mut self.pass, a)
     }

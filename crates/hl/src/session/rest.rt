@@ -4,12 +4,11 @@ ghost use Rattle.hl_keeper.specs.Passes.{with_rider};
 ghost use Rattle.hl.specs.Rests.{Resumed, Suspended};
 ghost use Rattle.hl.specs.Sessions.{with_pass};
 
-use super::Session;
+use super::{Beside, Session};
 use crate::log::Log;
 use crate::refused::Refused;
 use hl_action::{AnyAnswer, NoJob, Promise, Task};
 use hl_counts::CountTable;
-use hl_crew::Stop;
 use hl_epoch::Epochs;
 use hl_words::{Realm, Rider};
 use std::marker::Model;
@@ -28,16 +27,20 @@ pub struct Resting<
     rt: &'a R,
     log: &'a Log<L, F, P, E>,
     rider: Rider<L>,
-    bell: Option<&'a Stop>,
+    beside: Beside<'a>,
 }
 
 impl<'a, R: Wait, L: Realm, F: Task, P: Promise, E: Epochs> Model for Resting<'a, R, L, F, P, E> {
-    ghost use Rattle.std.specs.Prelude.{is_some};
     ghost use Rattle.hl.specs.Rests.{RestState};
+    ghost use Rattle.hl.specs.Sessions.{beside_of};
 
     ghost Value = { RestState };
 
-    ghost view = { λ r. record { log = r.log.now; rider = r.rider; rings = is_some r.bell } };
+    ghost view = { λ r. record {
+      log = r.log.now;
+      rider = r.rider;
+      beside = beside_of r.beside.bell r.beside.cuts;
+    } };
 }
 
 impl<'a, R: Wait, L: Realm, F: Task, P: Promise, E: Epochs + Drop> Session<'a, R, L, F, P, E> {
@@ -50,15 +53,15 @@ impl<'a, R: Wait, L: Realm, F: Task, P: Promise, E: Epochs + Drop> Session<'a, R
         ensures back { IfErr result (λ refused. refused.back
             ≡ with_pass (with_rider refused.back.pass.rider self.entry.pass) self.entry) }
         ensures log { IfOk result (λ resting. resting.log ≡ self.entry.log) }
-        ensures rings { IfOk result (λ resting. resting.rings ≡ self.entry.rings) }
+        ensures beside { IfOk result (λ resting. resting.beside ≡ self.entry.beside) }
     {
-        let (rt, log, bell) = (self.rt, self.log, self.bell);
+        let (rt, log, beside) = (self.rt, self.log, self.beside);
         match self.leave() {
             Ok(rider) => Ok(Resting {
                 rt,
                 log,
                 rider,
-                bell,
+                beside,
             }),
             Err(refused) => Err(refused),
         }
@@ -73,7 +76,7 @@ impl<'a, R: Wait, L: Realm, F: Task, P: Promise, E: Epochs + Drop> Resting<'a, R
     pub fn resume(self) -> Result<Session<'a, R, L, F, P, E>, Refused<Resting<'a, R, L, F, P, E>>>
         ensures met { Resumed F self.entry result }
         ensures log { IfOk result (λ session. session.log ≡ self.entry.log) }
-        ensures rings { IfOk result (λ session. session.rings ≡ self.entry.rings) }
+        ensures beside { IfOk result (λ session. session.beside ≡ self.entry.beside) }
         ensures back { IfErr result (λ refused. refused.back
             ≡ record self.entry { rider = refused.back.rider }) }
     {
@@ -81,9 +84,9 @@ impl<'a, R: Wait, L: Realm, F: Task, P: Promise, E: Epochs + Drop> Resting<'a, R
             rt,
             log,
             rider,
-            bell,
+            beside,
         } = self;
-        match Session::enter_with(rt, log, rider, bell) {
+        match Session::enter_beside(rt, log, rider, beside) {
             Ok(session) => Ok(session),
             Err(Refused { fault, back }) => Err(Refused {
                 fault,
@@ -91,7 +94,7 @@ impl<'a, R: Wait, L: Realm, F: Task, P: Promise, E: Epochs + Drop> Resting<'a, R
                     rt,
                     log,
                     rider: back,
-                    bell,
+                    beside,
                 },
             }),
         }
@@ -105,7 +108,7 @@ impl<'a, R: Wait, L: Realm, F: Task, P: Promise, E: Epochs + Drop> Resting<'a, R
             rt: _,
             log: _,
             rider,
-            bell: _,
+            beside: _,
         } = self;
         rider
     }

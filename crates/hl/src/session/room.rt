@@ -26,7 +26,7 @@ impl<'a, R: Wait, L: Realm, F: Task, P: Promise, E: Epochs + Drop> Session<'a, R
         ensures refreshed { 1 < n → n ≤ 32 → Refreshed F self.old.log self.old.pass self.new.pass result }
         ensures room { IfOk result (λ _. length self.new.pass.touches + n ≤ 32) }
         ensures log { self.new.log ≡ self.old.log }
-        ensures rings { self.new.rings ≡ self.old.rings }
+        ensures beside { self.new.beside ≡ self.old.beside }
     {
         if TOUCHES < n {
             return Err(Fault::Size);

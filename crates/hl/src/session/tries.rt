@@ -119,10 +119,11 @@ impl<'a, R: Wait, L: Realm, F: Task, P: Promise, E: Epochs + Drop> Helping
 impl<'a, R: Wait, L: Realm, F: Task, P: Promise, E: Epochs + Drop> Session<'a, R, L, F, P, E> {
     // A round of help; then a nap, unless it ran an action.
     pub(crate) fn help_or_nap(&mut self) -> Result<bool, Fault>
-        ensures helped { Helps F self.old.log F.gives P.keeps result self.old.pass self.new.pass }
+        ensures helped { Helps F self.old.log self.old.beside.cuts F.gives P.keeps result
+            self.old.pass self.new.pass }
         ensures slot { self.new.pass.slot ≡ self.old.pass.slot }
         ensures log { self.new.log ≡ self.old.log }
-        ensures rings { self.new.rings ≡ self.old.rings }
+        ensures beside { self.new.beside ≡ self.old.beside }
     {
         let helped = self.help();
         if is_in_vain(&helped) {

@@ -28,10 +28,11 @@ impl<'a, R: Wait, L: Realm, F: Task, P: Promise, E: Epochs + Drop> Session<'a, R
     ///
     /// It waits for good if somebody never refreshes, or nobody ever bumps so often. Faults: those of `help`.
     pub fn wait(&mut self, ticket: u64) -> Result<u64, Fault>
-        ensures waits { Waits F self.old.log F.gives P.keeps ticket result self.old.pass self.new.pass }
+        ensures waits { Waits F self.old.log self.old.beside.cuts F.gives P.keeps ticket result
+            self.old.pass self.new.pass }
         ensures slot { self.new.pass.slot ≡ self.old.pass.slot }
         ensures log { self.new.log ≡ self.old.log }
-        ensures rings { self.new.rings ≡ self.old.rings }
+        ensures beside { self.new.beside ≡ self.old.beside }
     {
         let rt = self.rt;
         for _ in rt.forever() {
@@ -53,11 +54,12 @@ impl<'a, R: Wait, L: Realm, F: Task, P: Promise, E: Epochs + Drop> Session<'a, R
     /// It waits for good if somebody never refreshes. Faults: `JournalFull`, `EpochsSpent`, `WindowFull` of the bump;
     /// those of [`help`](Session::help).
     pub fn wait_for_all(&mut self) -> Result<u64, Fault>
-        ensures waits { WaitsForAll F self.old.log F.gives P.keeps result self.old.pass self.new.pass }
+        ensures waits { WaitsForAll F self.old.log self.old.beside.cuts F.gives P.keeps result
+            self.old.pass self.new.pass }
         ensures all { IfOk result (λ _. ForAll self.old.pass.rider self.new.pass.rider) }
         ensures slot { self.new.pass.slot ≡ self.old.pass.slot }
         ensures log { self.new.log ≡ self.old.log }
-        ensures rings { self.new.rings ≡ self.old.rings }
+        ensures beside { self.new.beside ≡ self.old.beside }
     {
         match self.bare() {
             Ok(ticket) => self.wait(ticket),

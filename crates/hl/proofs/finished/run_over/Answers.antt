@@ -1,5 +1,6 @@
 use Rattle.std.proofs.Common.{rules, arith, ◌≡◌, ◌+◌, false, true, length, ap, sym, ◌∙◌}
 use Rattle.hl_words.specs.States.{new_riders}
+use Rattle.hl_crew.specs.Limited.{duty_cuts}
 use Rattle.hl.proofs.OutLaws.{all_new}
 use Rattle.hl.proofs.FinishLaws.{last_new, threads_left, all_there, refused_thread, finished_or}
 use Rattle.hl.proofs.finished.run_over.Goals as goal
@@ -23,7 +24,7 @@ pub returns-in-Err-all_of : goal.returns-in-Err-all_of
 returns-in-Err-all_of g c =
     let new = c.in-Ok.ensures.riders ∙ ap new_riders c.requires.sizes.1 in
     let left = threads_left g.row.P-Job.Denot c.args.opening (g.P.Work.returns c.args.shared.now.work.now) (g.P.Work.took c.args.shared.now.work.now) c.run_all-outs.result.0.1 (search rules) (sym new ∙ c.in-Some.ensures.items) c.run_all-outs.ensures.kind (rw c.requires.cuts at c.run_all-outs.ensures.left) in
-    record { finished = refused_thread left c.in-Ok-outs.is (g.P.Work.finishes c.args.shared.now.work.now) c.in-Err-all_of.fault c.in-Err-all_of.ensures }
+    record { finished = refused_thread left c.in-Ok-outs.is (duty_cuts c.args.shared.now.duty.cut_above) (g.P.Work.finishes c.args.shared.now.work.now) c.in-Err-all_of.fault c.in-Err-all_of.ensures }
 
 pub finish_log-requires-clause-all : goal.finish_log-requires-clause-all
 finish_log-requires-clause-all g c κs within =
@@ -35,4 +36,4 @@ pub returns : goal.returns
 returns g c =
     let new = c.in-Ok.ensures.riders ∙ ap new_riders c.requires.sizes.1 in
     let left = threads_left g.row.P-Job.Denot c.args.opening (g.P.Work.returns c.args.shared.now.work.now) (g.P.Work.took c.args.shared.now.work.now) c.run_all-outs.result.0.1 (search rules) (sym new ∙ c.in-Some.ensures.items) c.run_all-outs.ensures.kind (rw c.requires.cuts at c.run_all-outs.ensures.left) in
-    record { finished = finished_or left c.in-Ok-outs.is (g.P.Work.finishes c.args.shared.now.work.now) c.in-Ok-all_of.outs c.finish_log.result c.in-Ok-all_of.ensures (rw c.reserve.ensures.items at c.finish_log.ensures.closed) }
+    record { finished = finished_or left c.in-Ok-outs.is (duty_cuts c.args.shared.now.duty.cut_above) (g.P.Work.finishes c.args.shared.now.work.now) c.in-Ok-all_of.outs c.finish_log.result c.in-Ok-all_of.ensures (rw c.reserve.ensures.items at c.finish_log.ensures.closed) }

@@ -11,7 +11,7 @@ loop-preserved g c =
     let q = c.place.new.self.pass in
     let met = c.loop.invariant in (
       c.place.ensures.log ∙ met.0,
-      c.place.ensures.rings ∙ met.1,
+      c.place.ensures.beside ∙ met.1,
       followed_more (PlacesNext F c.args.self.now.log words) c.loop.counter c.args.self.now.pass m q met.2 (
         c.in-Err-Below.field-0-0,
         subst₂ (λ l r. Places F l words m q r) met.0 (c.in-Err-Below.is ∙ ap Err c.in-Err-Below.field-0-is) c.place.ensures.places,

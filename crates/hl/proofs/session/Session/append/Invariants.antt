@@ -6,5 +6,5 @@ use Rattle.hl.proofs.session.Session.append.Given as goal
 -- as many places were in vain as there were turns
 abbrev pub invariant-loop : goal.invariant-loop
 invariant-loop g l =
-    (l.self.log ≡ l.fn.self.log) × (l.self.rings ≡ l.fn.self.rings)
+    (l.self.log ≡ l.fn.self.log) × (l.self.beside ≡ l.fn.self.beside)
     × Followed (PlacesNext g.row.F.Denot l.fn.self.log l.words) l.counter l.fn.self.pass l.self.pass

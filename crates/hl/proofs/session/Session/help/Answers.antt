@@ -1,17 +1,18 @@
-use Rattle.std.proofs.Common.{ap}
-use Rattle.hl.specs.Sessions.{SessionState}
-use Rattle.hl.proofs.HelpLaws.{helped, helps_enter}
+use Rattle.std.proofs.Common.{rules, ◌≡◌, refl, Err}
+use Rattle.hl.proofs.HelpLaws.{helped, helps_enter, refused_run}
 use Rattle.hl.proofs.session.Session.help.Goals as goal
+
+pub returns-in_err-did-clause-helped : goal.returns-in_err-did-clause-helped
+returns-in_err-did-clause-helped g c =
+    let was = c.args.self.now in
+    let cut = c.cut_as_is_due.ensures in
+    let is : c.from_residual.result ≡ Err c.in_err-did.field-0.0 = search rules in
+    rw is (refused_run g.row.F.Denot was.log g.F.Task.gives g.P.Promise.keeps was.beside.cuts was c.cut_as_is_due.new.self c.run_oldest.new.self refl cut.cut cut.kept c.in_err-did.ensures.kept c.in_err-did.field-0.0 c.in_err-did.ensures.ran)
 
 pub returns-clause-steps : goal.returns-clause-steps
 returns-clause-steps g c =
     let F = g.row.F.Denot in
-    let log = c.args.self.now.log in
-    let gives = g.F.Task.gives in
-    let keeps = g.P.Promise.keeps in
-    let old = c.args.self.now.pass in
-    let new = c.refresh.new.self.pass in
-    let same = ap (λ (s : SessionState). s.log) c.in_ok-did.ensures.kept in
-    let pass = ap (λ (s : SessionState). s.pass) c.in_ok-did.ensures.kept in
-    helps_enter F log gives keeps c.in_ok-did.did old new
-    (helped F log gives keeps c.in_ok-did.did old c.run_oldest.new.self.pass new c.in_ok-refresh.field-0 c.in_ok-did.ensures.ran pass (rw same at c.in_ok-refresh.ensures.refreshed))
+    let was = c.args.self.now in
+    let cut = c.cut_as_is_due.ensures in
+    helps_enter F was.log g.F.Task.gives g.P.Promise.keeps was.beside.cuts c.in_ok-did.did was.pass c.refresh.new.self.pass
+    (helped F was.log g.F.Task.gives g.P.Promise.keeps was.beside.cuts was c.cut_as_is_due.new.self c.run_oldest.new.self refl cut.cut cut.kept c.in_ok-did.ensures.kept c.in_ok-did.did c.in_ok-refresh.field-0 c.refresh.new.self.pass c.in_ok-did.ensures.ran c.in_ok-refresh.ensures.refreshed)

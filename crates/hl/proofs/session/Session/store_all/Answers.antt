@@ -17,7 +17,7 @@ loop-k-preserved g c =
     let q = c.store_one.new.self.pass in
     let met = c.loop-k.invariant in (
       c.store_one.ensures.log ∙ met.0,
-      c.store_one.ensures.rings ∙ met.1,
+      c.store_one.ensures.beside ∙ met.1,
       stored_next log.sizes a k 0 words c.args.self.now.pass m q c.loop-k-test.true met.2
           (subst (λ (l : DomainState). AreStored l.sizes (a + k) (get_or words k 0 ∷ []) m q) met.0 c.in-Ok.ensures.stored),
     )

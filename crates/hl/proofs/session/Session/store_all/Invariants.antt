@@ -4,5 +4,5 @@ use Rattle.hl.proofs.session.Session.store_all.Given as goal
 
 abbrev pub invariant-loop-k : goal.invariant-loop-k
 invariant-loop-k g l =
-    (l.self.log ≡ l.fn.self.log) × (l.self.rings ≡ l.fn.self.rings)
+    (l.self.log ≡ l.fn.self.log) × (l.self.beside ≡ l.fn.self.beside)
     × AreStored l.fn.self.log.sizes l.address (take l.k l.words) l.fn.self.pass l.self.pass

@@ -11,13 +11,13 @@ loop-preserved g c =
       tt,
       c.in-Ok.ensures.log ∙ ap (λ (s : SessionState). s.log) kept ∙ before.2,
       c.in-Ok.ensures.slot ∙ ap (λ (s : SessionState). s.pass.slot) kept ∙ before.3,
-      c.in-Ok.ensures.rings ∙ ap (λ (s : SessionState). s.rings) kept ∙ before.4,
+      c.in-Ok.ensures.beside ∙ ap (λ (s : SessionState). s.beside) kept ∙ before.4,
       (
         suc before.5.0,
         (
           c.loop.self.pass,
           before.5.1,
-          (c.in-Ok.field-0, round_made g.row.F.Denot c.args.self.now.log g.F.Task.gives g.P.Promise.keeps c.args.ticket c.loop.self c.safe-safe.new.self c.help_or_nap.new.self _ before.2 c.safe-safe.ensures.kept c.in-Ok.ensures.helped c.safe-safe.result c.if-ticket-safe.false c.safe-safe.ensures.met),
+          (c.in-Ok.field-0, round_made g.row.F.Denot c.args.self.now g.F.Task.gives g.P.Promise.keeps c.args.ticket c.loop.self c.safe-safe.new.self c.help_or_nap.new.self _ before.2 before.4 c.safe-safe.ensures.kept c.in-Ok.ensures.helped c.safe-safe.result c.if-ticket-safe.false c.safe-safe.ensures.met),
         ),
       ),
     )
@@ -29,5 +29,5 @@ returns-in-Err-clause-waits g c =
       rounds = before.5.0;
       last = c.loop.self.pass;
       before = before.5.1;
-      ended = round_made g.row.F.Denot c.args.self.now.log g.F.Task.gives g.P.Promise.keeps c.args.ticket c.loop.self c.safe-safe.new.self c.help_or_nap.new.self _ before.2 c.safe-safe.ensures.kept c.in-Err.ensures.helped c.safe-safe.result c.if-ticket-safe.false c.safe-safe.ensures.met;
+      ended = round_made g.row.F.Denot c.args.self.now g.F.Task.gives g.P.Promise.keeps c.args.ticket c.loop.self c.safe-safe.new.self c.help_or_nap.new.self _ before.2 before.4 c.safe-safe.ensures.kept c.in-Err.ensures.helped c.safe-safe.result c.if-ticket-safe.false c.safe-safe.ensures.met;
     }

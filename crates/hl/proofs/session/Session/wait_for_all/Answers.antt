@@ -7,5 +7,6 @@ pub returns-in-Ok-clause-all : goal.returns-in-Ok-clause-all
 returns-in-Ok-clause-all g c =
     let log = ap (λ (s : SessionState). s.log) c.in-Ok.ensures.kept in
     let pass = ap (λ (s : SessionState). s.pass) c.in-Ok.ensures.kept in
-    for_all_if g.row.F.Denot c.args.self.now.log g.F.Task.gives g.P.Promise.keeps c.in-Ok.ticket c.bare.new.self.pass.rider c.args.self.now.pass c.wait.new.self.pass c.wait.result
-    c.in-Ok.ensures.met (rw (log, pass) at c.wait.ensures.waits)
+    let cuts = ap (λ (s : SessionState). s.beside.cuts) c.in-Ok.ensures.kept in
+    for_all_if g.row.F.Denot c.args.self.now.log c.args.self.now.beside.cuts g.F.Task.gives g.P.Promise.keeps c.in-Ok.ticket c.bare.new.self.pass.rider c.args.self.now.pass c.wait.new.self.pass c.wait.result
+    c.in-Ok.ensures.met (rw (log, cuts, pass) at c.wait.ensures.waits)

@@ -9,4 +9,4 @@ returns-in-Ok g c =
 pub loop-preserved : goal.loop-preserved
 loop-preserved g c =
     let before = c.loop.invariant.2 in
-    (tt, tt, (suc before.0, (c.loop.rider, before.1, (c.in-Err.fault, c.in-Err.ensures.met))))
+    (tt, tt, (suc before.0, (c.loop.rider, before.1, (c.in-Err.fault, c.in-Err.back, c.in-Err.ensures.met, c.cut_if_due.ensures))))
