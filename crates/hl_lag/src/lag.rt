@@ -4,7 +4,7 @@ ghost use Rattle.hl_model.specs.Snapshots.{AreInOrder};
 ghost use Rattle.hl_lag.specs.Lag.{step_if, lag_of, fault_at};
 
 use arrayvec::ArrayVec;
-use hl_model::{Six, Sizes, Step};
+use hl_model::{HasSizes, Six, Step};
 
 /// A flusher's next steps at these offsets, in order, for whoever wants about `mutable` pages at the tail to
 /// be written and about `resident` to be read. Both are numbers of pages, `1 <= mutable <= resident <= F`. It
@@ -27,15 +27,15 @@ use hl_model::{Six, Sizes, Step};
 ///
 /// At these offsets neither the raise nor the shift meets a fault, if the six are in order. The settle and
 /// the close may meet `DrainFull`, `EpochsSpent` or `WindowFull`.
-pub fn lag_steps(params: Sizes, six: Six, mutable: u64, resident: u64) -> ArrayVec<Step, 4>
+pub fn lag_steps<S: HasSizes>(params: S, six: Six, mutable: u64, resident: u64) -> ArrayVec<Step, 4>
     requires mutable_least { 1 ≤ mutable }
     requires mutable_most { mutable ≤ resident }
-    requires resident_most { resident ≤ params.frames }
-    ensures steps { result.items ≡ lag_of params.page_size six mutable resident }
-    ensures lawful { AreInOrder params.page_size six
-        → All (λ step. fault_at params.page_size six step ≡ None) result.items }
+    requires resident_most { resident ≤ (S.sizes_of params).frames }
+    ensures steps { result.items ≡ lag_of (S.sizes_of params).page_size six mutable resident }
+    ensures lawful { let page_size = (S.sizes_of params).page_size in AreInOrder page_size six
+        → All (λ step. fault_at page_size six step ≡ None) result.items }
 {
-    let page_size = params.page_size();
+    let page_size = params.sizes().page_size();
     let pages = six.tail.div_ceil(page_size);
     let writable_from = page_size * pages.saturating_sub(mutable);
     let resident_from = page_size * pages.saturating_sub(resident);
