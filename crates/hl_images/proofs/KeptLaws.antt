@@ -1,6 +1,6 @@
 -- The stores of riders stay writes of their calls, or 0s of their sweeps.
 use Rattle.std.proofs.Common.{◌≡◌, ◌≢◌, ℕ, zero, suc, ◌+◌, ◌<◌, ◌≤◌, true, false, List, [], ◌∷◌, ◌++◌, Some, None, refl, ap, sym, ◌∙◌, inl, inr, ⊎_elim, subst, arith}
-use Rattle.std.specs.Prelude.{Option, Bool, if◌then◌else◌, nat_lt, ◌||◌, max}
+use Rattle.std.specs.Prelude.{Bool, if◌then◌else◌, nat_lt, ◌||◌, max}
 use Rattle.std.specs.List.{AllByRecursion as Every}
 use Rattle.std.proofs.lemmas.Bool.{cases_eq}
 use Rattle.std.proofs.lemmas.List.{append-nil}
@@ -25,47 +25,31 @@ use Rattle.hl_keeper.proofs.TouchLaws.{touches_more, touches_rise}
 use Rattle.hl_domain.specs.Domains.{with_entry}
 use Rattle.hl_laws.proofs.BoundLaws.{tail-append}
 use Rattle.hl_laws.proofs.LawProofs.{beginnings_are_accepted}
-use Rattle.hl_images.specs.Entered.{is_touch, IsOneCall, newest_writes, swept_by, IsWriteOf, AreEntered, HasZero, IsSwept, FreesSwept}
+use Rattle.hl_images.specs.Entered.{is_touch, IsOneCall, newest_writes, IsWriteOf, AreEntered, HasZero, IsSwept, FreesSwept}
 use Rattle.hl_images.specs.Kept.{RiderEnters, PassEnters, RidersStayEntered, PassesStayEntered}
 use Rattle.hl_images.proofs.PlaceLaws.{every_place}
 use Rattle.hl_images.proofs.SealedLaws.{pending_stays_above}
-use Rattle.hl_images.proofs.WalkLaws.{newest_every}
-use Rattle.hl_images.proofs.WriterLaws.{writes_both}
+use Rattle.hl_images.proofs.WriterLaws.{newest_every, writes_both}
 
 -- a step that is no touch writes nothing
-no_write : (s : Step) (older : List Step) → is_touch s ≡ false → newest_writes (s ∷ []) older ≡ older
+pub no_write : (s : Step) (older : List Step) → is_touch s ≡ false → newest_writes (s ∷ []) older ≡ older
 no_write (Write t a v) older h = absurd cc
 no_write _ older h = refl
 
--- a step that frees no page ended no sweep
-no_sweep : (s : Step) → clean_of s ≡ None → swept_by (s ∷ []) None ≡ None
-no_sweep (CleanDone p) h = absurd cc
-no_sweep _ h = refl
-
 -- a pass's own step is no touch, and frees no page
-call_is : (s : Step) → is_call s ≡ true → (is_touch s ≡ false) × (clean_of s ≡ None)
+pub call_is : (s : Step) → is_call s ≡ true → (is_touch s ≡ false) × (clean_of s ≡ None)
 call_is (Refresh t) h = (refl, refl)
 call_is (Release t) h = (refl, refl)
 call_is (Allocate t n) h = (refl, refl)
 call_is _ h = absurd cc
 
 -- touches are touches
-are_touches : (t : ℕ) (v : View) (ts : List Step) → AreTouches t v ts → Every (λ (s : Step). is_touch s ≡ true) ts
+pub are_touches : (t : ℕ) (v : View) (ts : List Step) → AreTouches t v ts → Every (λ (s : Step). is_touch s ≡ true) ts
 unfolding AreTouches
 are_touches t v [] h = tt
 are_touches t v (Look u r d ∷ ts) h = (refl, are_touches t (record { read_only = r; head = d; tail = v.tail }) ts h.1)
 are_touches t v (Write u a x ∷ ts) h = (refl, are_touches t v ts h.1)
 are_touches t v (_ ∷ ts) h = absurd h.0
-
--- no call of a pass ended a sweep
-touched_sweep : (ts : List Step) (s : Step) → Every (λ (t : Step). is_touch t ≡ true) ts → clean_of s ≡ None → swept_by (ts ++ s ∷ []) None ≡ None
-touched_sweep [] s h c = no_sweep s c
-touched_sweep (Look t r d ∷ ts) s h c = refl
-touched_sweep (Write t a v ∷ ts) s h c = refl
-touched_sweep (_ ∷ ts) s h c = absurd (touch_only h.0)
-  where
-    touch_only : false ≡ true → ⊥
-    touch_only e = cc
 
 -- a step that frees no page is no clean done
 frees_none : (s : Step) (p : ℕ) → clean_of s ≡ None → s ∷ [] ≡ CleanDone p ∷ [] → ⊥
@@ -81,27 +65,22 @@ call_frees_none (t ∷ []) s p own is = absurd cc
 call_frees_none (t ∷ (u ∷ ts)) s p own is = absurd cc
 
 module _ (sizes : Sizes) where
-  loads : (swept : Option ℕ) (waiting : List Step) (calls : List Entry) (cell : ℕ) (words : List ℕ) (view : RiderView) → AreEntered sizes view.touches calls waiting swept → AreEntered sizes (loaded_all cell words view).touches calls waiting swept
+  loads : (waiting : List Step) (calls : List Entry) (cell : ℕ) (words : List ℕ) (view : RiderView) → AreEntered sizes view.touches calls waiting → AreEntered sizes (loaded_all cell words view).touches calls waiting
   unfolding loaded_all
-  loads swept waiting calls cell [] view h = h
-  loads swept waiting calls cell (w ∷ words) view h = loads swept waiting calls (cell + 1) words (loaded cell w view) h
+  loads waiting calls cell [] view h = h
+  loads waiting calls cell (w ∷ words) view h = loads waiting calls (cell + 1) words (loaded cell w view) h
 
-  zeros : (list : List Step) (older : List Entry) (page n : ℕ) (view : RiderView) → next_to_clean sizes list ≡ Some page → n ≤ sizes.page_size → AreEntered sizes view.touches (entry list (CleanTake ∷ []) ∷ older) [] (Some page)
-      → AreEntered sizes (zeroed (first_cell sizes page) n view).touches (entry list (CleanTake ∷ []) ∷ older) [] (Some page)
+  zeros : (list : List Step) (older : List Entry) (page n : ℕ) (view : RiderView) → next_to_clean sizes list ≡ Some page → n ≤ sizes.page_size → AreEntered sizes view.touches (entry list (CleanTake ∷ []) ∷ older) []
+      → AreEntered sizes (zeroed (first_cell sizes page) n view).touches (entry list (CleanTake ∷ []) ∷ older) []
   unfolding zeroed
   zeros list older page zero view next le h = h
   zeros list older page (suc n) view next le h =
-      inr (((refl, page, list, older, refl, next, omega arith, omega (arith, le)), refl), zeros list older page n view next (omega (arith, le)) h)
+      inr ((refl, page, list, older, refl, next, omega arith, omega (arith, le)), zeros list older page n view next (omega (arith, le)) h)
 
   loads_free : (calls : List Entry) (cell : ℕ) (words : List ℕ) (view : RiderView) → FreesSwept sizes view.touches calls → FreesSwept sizes (loaded_all cell words view).touches calls
   unfolding loaded_all
   loads_free calls cell [] view h = h
   loads_free calls cell (w ∷ words) view h = loads_free calls (cell + 1) words (loaded cell w view) h
-
-  loads_zero : (calls : List Entry) (p d cell : ℕ) (words : List ℕ) (view : RiderView) → HasZero sizes p d view.touches calls → HasZero sizes p d (loaded_all cell words view).touches calls
-  unfolding loaded_all
-  loads_zero calls p d cell [] view h = h
-  loads_zero calls p d cell (w ∷ words) view h = loads_zero calls p d (cell + 1) words (loaded cell w view) h
 
   zeros_free : (calls : List Entry) (cell n : ℕ) (view : RiderView) → FreesSwept sizes view.touches calls → FreesSwept sizes (zeroed cell n view).touches calls
   unfolding zeroed
@@ -121,39 +100,34 @@ module _ (sizes : Sizes) where
 
   pub riders_stay_entered : RidersStayEntered sizes
   riders_stay_entered = record {
-    new = λ name. record { entered = refl; frees = tt; sweep = λ p e. absurd (cc e); calls = tt };
-    loads = λ swept cell words r h. record {
-      entered = loads swept [] r.calls cell words r.view h.entered;
+    new = λ name. record { entered = refl; frees = tt; calls = tt };
+    loads = λ cell words r h. record {
+      entered = loads [] r.calls cell words r.view h.entered;
       frees = loads_free r.calls cell words r.view h.frees;
-      sweep = λ p e d low high. loads_zero r.calls p d cell words r.view (h.sweep p e d low high);
       calls = h.calls;
     };
-    told = λ swept past r h. record { entered = h.entered; frees = h.frees; sweep = h.sweep; calls = h.calls };
+    told = λ past r h. record { entered = h.entered; frees = h.frees; calls = h.calls };
     call = λ was now list s r touch free h. record {
-      entered = subst (λ (l : List Step). AreEntered sizes r.view.touches r.calls l (swept_by (s ∷ []) None)) (sym (no_write s [] touch)) (subst (λ (o : Option ℕ). AreEntered sizes r.view.touches r.calls [] o) (sym (no_sweep s free)) h.entered);
+      entered = subst (λ (l : List Step). AreEntered sizes r.view.touches r.calls l) (sym (no_write s [] touch)) h.entered;
       frees = ((λ p is. absurd (frees_none s p free is)), h.frees);
-      sweep = λ p e. absurd (cc e);
       calls = (inr ([], s, refl, tt, inl refl), h.calls);
     };
-    refused = λ swept was now list r h. record { entered = h.entered; frees = ((λ p is. absurd (cc is)), h.frees); sweep = h.sweep; calls = (inl refl, h.calls) };
+    refused = λ was now list r h. record { entered = h.entered; frees = ((λ p is. absurd (cc is)), h.frees); calls = (inl refl, h.calls) };
     sweeps = λ was now list page r next h.
         let taken = with_entry was now list (CleanTake ∷ []) r in
         let none : FreesSwept sizes taken.view.touches taken.calls = ((λ p is. absurd (cc is)), h.frees) in
         record {
           entered = zeros list r.calls page sizes.page_size taken.view next (omega arith) h.entered;
           frees = zeros_free taken.calls (first_cell sizes page) sizes.page_size taken.view none;
-          sweep = λ p e.
-              let same : page ≡ p = cc e in
-              subst (λ (q : ℕ). IsSwept sizes q (zeroed (first_cell sizes page) sizes.page_size taken.view).touches taken.calls) same (λ d low high. zero_at list r.calls page sizes.page_size taken.view next (omega arith) d low high);
           calls = (inr ([], CleanTake, refl, tt, inl refl), h.calls);
         };
-    frees = λ was now list page r h. record {
+    swept = λ was now list page r next d low high. zero_at list r.calls page sizes.page_size (with_entry was now list (CleanTake ∷ []) r).view next (omega arith) d low high;
+    frees = λ was now list page r swept h. record {
       entered = h.entered;
-      frees = ((λ p is. let same : page ≡ p = cc is in subst (λ (q : ℕ). IsSwept sizes q r.view.touches r.calls) same (h.sweep page refl)), h.frees);
-      sweep = λ p e. absurd (cc e);
+      frees = ((λ p is. let same : page ≡ p = cc is in subst (λ (q : ℕ). IsSwept sizes q r.view.touches r.calls) same swept), h.frees);
       calls = (inr ([], CleanDone page, refl, tt, inl refl), h.calls);
     };
-    ends = λ whole r h. record { waiting = []; swept = None; entered = h.entered; frees = h.frees; calls = h.calls; above = tt; unfreed = λ p e. absurd (cc e) };
+    ends = λ whole r h. record { waiting = []; entered = h.entered; frees = h.frees; calls = h.calls; above = tt };
   }
 
   -- a store at an address, among touches that wait
@@ -215,7 +189,7 @@ module _ (sizes : Sizes) where
         rider = (with_look read_only head p).rider;
       })
       by true = record {
-        entered = subst (λ (l : List Step). AreEntered sizes p.rider.view.touches p.rider.calls l None) (sym (writes_both p.touches (look ∷ []) [])) h.entered;
+        entered = subst (λ (l : List Step). AreEntered sizes p.rider.view.touches p.rider.calls l) (sym (writes_both p.touches (look ∷ []) [])) h.entered;
         frees = h.frees;
         calls = h.calls;
         touches = (touches_more p.slot p.held p.touches look h.touches (refl, omega arith, omega arith)).0;
@@ -225,7 +199,7 @@ module _ (sizes : Sizes) where
         sees = h.sees;
       }
       by false = record {
-        entered = subst (λ (l : List Step). AreEntered sizes p.rider.view.touches p.rider.calls (newest_writes l []) None) (sym (append-nil p.touches)) h.entered;
+        entered = subst (λ (l : List Step). AreEntered sizes p.rider.view.touches p.rider.calls (newest_writes l [])) (sym (append-nil p.touches)) h.entered;
         frees = h.frees;
         calls = h.calls;
         touches = subst (AreTouches p.slot p.held) (sym (append-nil p.touches)) h.touches;
@@ -236,16 +210,14 @@ module _ (sizes : Sizes) where
       }
 
   -- the touches of a pass and its step enter
-  all_enter : (was now : ℕ) (list : List Step) (s : Step) (p : PassRecord) → is_call s ≡ true → PassEnters sizes p → RiderEnters sizes None (with_entry was now list (p.touches ++ s ∷ []) p.rider)
+  all_enter : (was now : ℕ) (list : List Step) (s : Step) (p : PassRecord) → is_call s ≡ true → PassEnters sizes p → RiderEnters sizes (with_entry was now list (p.touches ++ s ∷ []) p.rider)
   all_enter was now list s p own h =
       let kind = call_is s own in
       let all = are_touches p.slot p.held p.touches h.touches in
       let waits : newest_writes (p.touches ++ s ∷ []) [] ≡ newest_writes p.touches [] = writes_both p.touches (s ∷ []) [] ∙ no_write s (newest_writes p.touches []) kind.0 in
       record {
-        entered = subst (λ (l : List Step). AreEntered sizes p.rider.view.touches p.rider.calls l (swept_by (p.touches ++ s ∷ []) None)) (sym waits)
-            (subst (λ (o : Option ℕ). AreEntered sizes p.rider.view.touches p.rider.calls (newest_writes p.touches []) o) (sym (touched_sweep p.touches s all kind.1)) h.entered);
+        entered = subst (λ (l : List Step). AreEntered sizes p.rider.view.touches p.rider.calls l) (sym waits) h.entered;
         frees = ((λ q is. absurd (call_frees_none p.touches s q own is)), h.frees);
-        sweep = λ q e. absurd (cc e);
         calls = (inr (p.touches, s, refl, all, inr own), h.calls);
       }
 
@@ -257,7 +229,7 @@ module _ (sizes : Sizes) where
       subst (λ (l : List Step). p.held.tail ≤ tail sizes l) (sym b.1) (omega (arith, h.sees, more))
 
   -- a pass with another rider
-  with_newest : (list steps : List Step) (p : PassRecord) (r : RiderState) (older : List Entry) → AreEntered sizes r.view.touches r.calls (newest_writes p.touches []) None → FreesSwept sizes r.view.touches r.calls → Every (λ (e : Entry). IsOneCall e.steps) r.calls → r.calls ≡ entry list steps ∷ older
+  with_newest : (list steps : List Step) (p : PassRecord) (r : RiderState) (older : List Entry) → AreEntered sizes r.view.touches r.calls (newest_writes p.touches []) → FreesSwept sizes r.view.touches r.calls → Every (λ (e : Entry). IsOneCall e.steps) r.calls → r.calls ≡ entry list steps ∷ older
       → AreTouches p.slot p.held p.touches → p.held.tail ≤ tail sizes (list ++ steps) → PassEnters sizes (with_rider r p)
   with_newest list steps p r older entered frees calls is touches sees = record {
     entered = entered;
@@ -288,22 +260,20 @@ module _ (sizes : Sizes) where
         let waits : newest_writes p.touches [] ++ newest_writes (s ∷ []) [] ≡ newest_writes p.touches [] = ap (λ (l : List Step). newest_writes p.touches [] ++ l) (no_write s [] touch) ∙ append-nil (newest_writes p.touches []) in
         let good = beginnings_are_accepted sizes list (s ∷ []) ok in
         with_newest list (s ∷ []) p (with_entry was now list (s ∷ []) p.rider) p.rider.calls
-        (subst (λ (l : List Step). AreEntered sizes p.rider.view.touches p.rider.calls l (swept_by (s ∷ []) None)) (sym waits) (subst (λ (o : Option ℕ). AreEntered sizes p.rider.view.touches p.rider.calls (newest_writes p.touches []) o) (sym (no_sweep s free)) h.entered))
+        (subst (λ (l : List Step). AreEntered sizes p.rider.view.touches p.rider.calls l) (sym waits) h.entered)
         ((λ q is. absurd (frees_none s q free is)), h.frees) (inr ([], s, refl, tt, inl refl), h.calls) refl h.touches (omega (arith, sees_on list p some good of h, tail-append sizes list (s ∷ []) some ok));
     refused = λ was now list p some ok of h.
         with_newest list [] p (with_entry was now list [] p.rider) p.rider.calls
-        (subst (λ (l : List Step). AreEntered sizes p.rider.view.touches p.rider.calls l None) (sym (append-nil (newest_writes p.touches []))) h.entered)
+        (subst (λ (l : List Step). AreEntered sizes p.rider.view.touches p.rider.calls l) (sym (append-nil (newest_writes p.touches []))) h.entered)
         ((λ q is. absurd (cc is)), h.frees) (inl refl, h.calls) refl h.touches (subst (λ (l : List Step). p.held.tail ≤ tail sizes l) (sym (append-nil list)) (sees_on list p some ok of h));
     releases = λ was now list p h. all_enter was now list (Release p.slot) p refl h;
     abandons = λ whole p some ok view h. record {
       waiting = newest_writes p.touches [];
-      swept = None;
       entered = h.entered;
       frees = h.frees;
       calls = h.calls;
       above = newest_every (λ (w : Step). (t a v : ℕ) → w ≡ Write t a v → safe_read_only whole ≤ a) p.touches []
           (every_place (λ (w : Step). (t a v : ℕ) → w ≡ Write t a v → safe_read_only whole ≤ a) [] p.touches
           (λ f x r is t a v same. pending_stays_above sizes whole p.slot p.held f r t a v some ok view (subst (AreTouches p.slot p.held) (is ∙ ap (λ (z : Step). f ++ z ∷ r) same) h.touches))) tt;
-      unfreed = λ q e. absurd (cc e);
     };
   }

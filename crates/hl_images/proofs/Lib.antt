@@ -5,14 +5,10 @@ pub mod PairLaws
 pub mod SealedLaws
 pub mod WordLaws
 pub mod PlaceLaws
-pub mod WalkLaws
+pub mod CellLaws
 pub mod WriterLaws
-pub mod AcceptedLaws
+pub mod TakenLaws
 pub mod KeptLaws
-pub mod SomeLaws
 pub mod AddLaws
 pub mod SumLaws
 pub mod StoreLaws
-pub mod ZeroLaws
-pub mod HoldLaws
-pub mod AnywhereLaws

@@ -1,24 +1,22 @@
 -- Where a page's steps stand in the one list, and those of the pages that have its frame before and after it.
 use Rattle.std.proofs.Common.{◌≡◌, ℕ, ◌+◌, ◌-◌, ◌*◌, ◌/◌, ◌%◌, ◌<◌, ◌≤◌, ◌||◌, ◌⊎◌, Bool, true, false, List, [], ◌∷◌, ◌++◌, length, Some, refl, ap, sym, ◌∙◌, inl, inr, ⊎_elim, subst, arith, append_assoc, length-append, append-nil}
 use Rattle.std.specs.List.{AllByRecursion as Every, list_any}
-use Rattle.std.proofs.lemmas.Bool.{lt-ltb, both_ways, cases_lt}
+use Rattle.std.proofs.lemmas.Bool.{both_ways, cases_lt}
 use Rattle.std.proofs.lemmas.List.Folds.{list_any-append}
-use Rattle.std.proofs.Math.Nat.{div-add-mod, lt-div-mul-add, div-mul-le_self, mul-le-mul_right, mul-le-mul_left}
+use Rattle.std.proofs.Math.Nat.{div-add-mod, mul-le-mul_right, mul-le-mul_left}
 use Rattle.hl_model.specs.declared.step.Step.{Step}
-use Rattle.hl_model.specs.declared.step.Step.TheVariants.{Write, FlushDone, Allocate, CleanDone}
-use Rattle.hl_model.specs.Offsets.{tail, tail_past, is_entered}
-use Rattle.hl_model.specs.Pages.{is_complete, is_flushed, is_freed, cleaning, frees, flushes, clean_of, marks, next_to_clean}
+use Rattle.hl_model.specs.declared.step.Step.TheVariants.{Write, FlushDone}
+use Rattle.hl_model.specs.Offsets.{is_entered}
+use Rattle.hl_model.specs.Pages.{is_complete, is_flushed, is_freed, cleaning, frees, flushes, marks, next_to_clean}
 use Rattle.hl_model.specs.Replies.{IsAccepted}
 use Rattle.hl_model.specs.Settled.{safe_read_only, closed}
 use Rattle.hl_model.specs.Sizes.{Sizes}
 use Rattle.hl_history.specs.declared.view.Entry.{Entry}
 use Rattle.hl_history.specs.Lists.{Begins, left_by}
 use Rattle.hl_keeper.specs.Touches.{is_call}
-use Rattle.hl_laws.proofs.BoundLaws.{closed-le-head}
-use Rattle.hl_laws.proofs.FrameLaws.{entered_below, is_entered-stay}
-use Rattle.hl_laws.proofs.HeadlineLaws.{headline}
+use Rattle.hl_laws.proofs.FrameLaws.{entered_below}
 use Rattle.hl_laws.proofs.LawProofs.{beginnings_are_accepted, accepted_meets_no_fault}
-use Rattle.hl_laws.proofs.PageFacts.{ends_below, flush_was_out, clean_was_out, frees_clean_of, in_flight_unflushed, freed_closed, cleaning_unfreed, flushed-le-safe_read_only, head-le-flushed, closed_flushed, round_freed}
+use Rattle.hl_laws.proofs.PageFacts.{ends_below, flush_was_out, in_flight_unflushed, closed_flushed, round_freed}
 use Rattle.hl_laws.proofs.WorkLaws.{next_page-parts}
 use Rattle.hl_images.specs.Entered.{is_touch, IsOneCall}
 use Rattle.hl_images.proofs.SealedLaws.{later_stays_above}
@@ -39,18 +37,15 @@ module _ {X : Type 0} where
   same_end [] ys zs e = e
   same_end (x ∷ xs) ys zs e = let tail : xs ++ ys ≡ xs ++ zs = cc e in same_end xs ys zs tail
 
-  -- a beginning of some elements and one behind them
-  front_cases : (f r ts : List X) (s : X) → f ++ r ≡ ts ++ s ∷ [] → ((rest : List X) × (ts ≡ f ++ rest)) ⊎ (f ≡ ts ++ s ∷ [])
-  front_cases [] r ts s e = inl (ts, refl)
-  front_cases (x ∷ []) r [] s e = let head : x ≡ s = cc e in inr (ap (λ z. z ∷ []) head)
-  front_cases (x ∷ (y ∷ f)) r [] s e = absurd cc
-  front_cases (x ∷ f) r (t ∷ ts) s e =
-      let head : x ≡ t = cc e in
-      let tail : f ++ r ≡ ts ++ s ∷ [] = cc e in
-      ⊎_elim
-      (λ (h : (rest : List X) × (ts ≡ f ++ rest)). inl (h.0, ap (λ z. z ∷ ts) (sym head) ∙ ap (λ l. x ∷ l) h.1))
-      (λ (h : f ≡ ts ++ s ∷ []). inr (ap (λ z. z ∷ f) head ∙ ap (λ l. t ∷ l) h))
-      (front_cases f r ts s tail)
+  -- the same beginning before the same end
+  pub same_begin : (xs ys zs : List X) → xs ++ zs ≡ ys ++ zs → xs ≡ ys
+  same_begin [] [] zs e = refl
+  same_begin [] (y ∷ ys) zs e = absurd (omega (arith, ap length e, length-append ys zs))
+  same_begin (x ∷ xs) [] zs e = absurd (omega (arith, ap length e, length-append xs zs))
+  same_begin (x ∷ xs) (y ∷ ys) zs e =
+      let head : x ≡ y = cc e in
+      let tail : xs ++ zs ≡ ys ++ zs = cc e in
+      ap (λ z. z ∷ xs) head ∙ ap (λ l. y ∷ l) (same_begin xs ys zs tail)
 
   -- an element of these: one of the first, or the one behind them
   pub place_cases : (f : List X) (x : X) (r ts : List X) (s : X) → f ++ x ∷ r ≡ ts ++ s ∷ [] → ((rest : List X) × (ts ≡ f ++ x ∷ rest)) ⊎ ((f ≡ ts) × (x ≡ s))
@@ -75,16 +70,13 @@ module _ {X : Type 0} where
   every_place P front [] h = tt
   every_place P front (x ∷ xs) h = (h front x xs refl, every_place P (front ++ x ∷ []) xs (λ f y r e. h f y r (sym (append_assoc front (x ∷ []) xs) ∙ e)))
 
-  pub every_first : (P : X → Type 0) (xs ys : List X) → Every P (xs ++ ys) → Every P xs
-  every_first P [] ys h = tt
-  every_first P (x ∷ xs) ys h = (h.0, every_first P xs ys h.1)
+  -- two facts of each
+  pub every_both : (P Q : X → Type 0) (xs : List X) → Every P xs → Every Q xs → Every (λ x. P x × Q x) xs
+  every_both P Q [] p q = tt
+  every_both P Q (x ∷ xs) p q = ((p.0, q.0), every_both P Q xs p.1 q.1)
 
 or_left : (a b : Bool) → a ≡ true → (a || b) ≡ true
 or_left a b h = ap (λ x. x || b) h
-
-or_none : (a b : Bool) → b ≡ false → (a || b) ≡ true → a ≡ true
-or_none true b n h = refl
-or_none false b n h = absurd (both_ways b n h)
 
 -- what was complete stays so
 pub freed_more : (sizes : Sizes) (p : ℕ) (A B : List Step) → is_freed sizes p A ≡ true → is_freed sizes p (A ++ B) ≡ true
@@ -95,26 +87,8 @@ pub flushed_more : (sizes : Sizes) (p : ℕ) (A B : List Step) → is_flushed si
 unfolding is_complete
 flushed_more sizes p A B h = list_any-append (flushes p) A B ∙ or_left (list_any (flushes p) A) (list_any (flushes p) B) h
 
--- touches free no page
-touch_frees_none : (p : ℕ) (s : Step) → is_touch s ≡ true → frees p s ≡ false
-touch_frees_none p (CleanDone q) h = absurd cc
-touch_frees_none p _ h = refl
-
-none_freed : (p : ℕ) (ts : List Step) → Every (λ (t : Step). is_touch t ≡ true) ts → list_any (frees p) ts ≡ false
-none_freed p [] h = refl
-none_freed p (t ∷ ts) h = ap (λ b. b || list_any (frees p) ts) (touch_frees_none p t h.0) ∙ none_freed p ts h.1
-
-freed_before : (sizes : Sizes) (p : ℕ) (A ts : List Step) → list_any (frees p) ts ≡ false → is_freed sizes p (A ++ ts) ≡ true → is_freed sizes p A ≡ true
-unfolding is_complete
-freed_before sizes p A ts none h = or_none (list_any (frees p) A) (list_any (frees p) ts) none (sym (list_any-append (frees p) A ts) ∙ h)
-
--- a step that frees a page places no record
-freeing_tail : (page_size tail p : ℕ) (s : Step) → clean_of s ≡ Some p → tail_past page_size tail s ≡ tail
-freeing_tail page_size tail p (Allocate t n) h = absurd cc
-freeing_tail page_size tail p _ h = refl
-
 -- of two pages of a frame the later one is a round ahead at least
-round_ahead : (frames p q : ℕ) → 0 < frames → q < p → q % frames ≡ p % frames → q + frames ≤ p
+pub round_ahead : (frames p q : ℕ) → 0 < frames → q < p → q % frames ≡ p % frames → q + frames ≤ p
 round_ahead frames p q some less same =
     ⊎_elim
     (λ (lt : q / frames < p / frames).
@@ -219,76 +193,6 @@ module _ (sizes : Sizes) (whole : List Step) (page_some : 0 < sizes.page_size) (
         let back : (q + sizes.frames) - sizes.frames ≡ q = omega arith in
         ap (λ z. is_freed sizes z A) (sym back) ∙ round_freed sizes (q + sizes.frames) page_some (omega arith) A (begun A b) (entered_below sizes p (q + sizes.frames) A e ahead)
 
-    -- Where the page is entered, an earlier page of its frame is freed, and before any call that left no shorter list
-    pub frees_before : (q : ℕ) (Ln before steps : List Step) → q < p → q % sizes.frames ≡ p % sizes.frames → Begins Ln whole → is_entered sizes p Ln ≡ true → Begins (before ++ steps) whole → IsOneCall steps → length Ln ≤ length (before ++ steps)
-        → is_freed sizes q before ≡ true
-    frees_before q Ln before steps less same bn entered be one le =
-        ⊎_elim
-        (λ (lt : length before < length Ln).
-        let a = both before Ln (shorter before steps be) bn (omega (arith, lt)) in
-        let b = both Ln (before ++ steps) bn be le in
-        let parts : before ++ steps ≡ before ++ (a.0 ++ b.0) = b.1 ∙ ap (λ (l : List Step). l ++ b.0) a.1 ∙ append_assoc before a.0 b.0 in
-        inside a.0 b.0 (same_end before steps (a.0 ++ b.0) parts) (subst (λ (l : List Step). is_freed sizes q l ≡ true) a.1 freed) one a.1)
-        (λ (ge : length Ln ≤ length before).
-        let a = both Ln before bn (shorter before steps be) ge in
-        subst (λ (l : List Step). is_freed sizes q l ≡ true) (sym a.1) (freed_more sizes q Ln a.0 freed))
-        (cases_lt (length before) (length Ln))
-      where
-        freed : is_freed sizes q Ln ≡ true
-        freed = freed_in q less same Ln bn entered
-
-        inside : (f r : List Step) → steps ≡ f ++ r → is_freed sizes q (before ++ f) ≡ true → IsOneCall steps → Ln ≡ before ++ f → is_freed sizes q before ≡ true
-        inside f r is h (inl none) own =
-            let empty : f ++ r ≡ [] = sym is ∙ none in
-            let first : f ≡ [] = nothing f r empty in
-            subst (λ (l : List Step). is_freed sizes q l ≡ true) (ap (λ (l : List Step). before ++ l) first ∙ append-nil before) h
-          where
-            nothing : (xs ys : List Step) → xs ++ ys ≡ [] → xs ≡ []
-            nothing [] ys e = refl
-            nothing (x ∷ xs) ys e = absurd cc
-        inside f r is h (inr c) own =
-            ⊎_elim
-            (λ (k : (rest : List Step) × (c.0 ≡ f ++ rest)). freed_before sizes q before f (none_freed q f (every_first (λ (t : Step). is_touch t ≡ true) f k.0 (subst (Every (λ (t : Step). is_touch t ≡ true)) k.1 c.3))) h)
-            (λ (k : f ≡ c.0 ++ c.1 ∷ []).
-            let y : List Step = before ++ c.0 in
-            let all : before ++ f ≡ y ++ c.1 ∷ [] = ap (λ (l : List Step). before ++ l) k ∙ sym (append_assoc before c.0 (c.1 ∷ [])) in
-            let by : Begins (y ++ c.1 ∷ []) whole = subst (λ (l : List Step). Begins l whole) (own ∙ all) bn in
-            let last : is_freed sizes q (y ++ c.1 ∷ []) ≡ true = subst (λ (l : List Step). is_freed sizes q l ≡ true) all h in
-            freed_before sizes q before c.0 (none_freed q c.0 c.3) (at_last y c.1 by last (subst (λ (l : List Step). is_entered sizes p l ≡ true) (own ∙ all) entered) (frees q c.1) refl))
-            (front_cases f r c.0 c.1 (sym is ∙ c.2))
-          where
-            at_last : (y : List Step) (s : Step) → Begins (y ++ s ∷ []) whole → is_freed sizes q (y ++ s ∷ []) ≡ true → is_entered sizes p (y ++ s ∷ []) ≡ true → (b : Bool) → frees q s ≡ b → is_freed sizes q y ≡ true
-            at_last y s b h e false test = freed_before sizes q y (s ∷ []) (ap (λ x. x || false) test) h
-            at_last y s b h e true test = freed_in q less same y (shorter y (s ∷ []) b) (sym (is_entered-stay sizes p y s (freeing_tail sizes.page_size (tail sizes y) q s (frees_clean_of s q test))) ∙ e)
-
-    -- No call wrote in an earlier page of the frame that was freed before it
-    pub writes_here : (a t v : ℕ) (before steps f r : List Step) → (a / sizes.page_size < p → is_freed sizes (a / sizes.page_size) before ≡ true) → Begins (before ++ steps) whole → steps ≡ f ++ Write t a v ∷ r → p ≤ a / sizes.page_size
-    writes_here a t v before steps f r before_freed be is =
-        ⊎_elim
-        (λ (less : a / sizes.page_size < p).
-        let x : List Step = before ++ f in
-        let freed : is_freed sizes (a / sizes.page_size) x ≡ true = freed_more sizes (a / sizes.page_size) before f (before_freed less) in
-        let parts : whole ≡ x ++ Write t a v ∷ (r ++ be.0) =
-        be.1 ∙ ap (λ (l : List Step). (before ++ l) ++ be.0) is ∙ ap (λ (l : List Step). l ++ be.0) (sym (append_assoc before f (Write t a v ∷ r))) ∙ append_assoc x (Write t a v ∷ r) be.0 in
-        let bx : Begins x whole = (Write t a v ∷ (r ++ be.0), parts) in
-        let ok = begun x bx in
-        let above : safe_read_only x ≤ a = (headline sizes whole page_some accepted).written_above_safe_read_only x t a v (r ++ be.0) parts in
-        let end : (a / sizes.page_size + 1) * sizes.page_size ≡ a / sizes.page_size * sizes.page_size + sizes.page_size = omega arith in
-        absurd (omega (arith, above, end, freed_closed sizes x (a / sizes.page_size) page_some ok freed, closed-le-head sizes x ok, head-le-flushed sizes x ok, flushed-le-safe_read_only sizes x page_some ok, lt-div-mul-add {a = a} page_some)))
-        (λ (ge : p ≤ a / sizes.page_size). ge)
-        (cases_lt (a / sizes.page_size) p)
-
-    -- nor did one free it
-    pub frees_here : (q : ℕ) (before steps : List Step) → (q < p → is_freed sizes q before ≡ true) → Begins (before ++ steps) whole → steps ≡ CleanDone q ∷ [] → p ≤ q
-    frees_here q before steps before_freed be is =
-        ⊎_elim
-        (λ (less : q < p).
-        let parts : whole ≡ before ++ CleanDone q ∷ be.0 = be.1 ∙ ap (λ (l : List Step). (before ++ l) ++ be.0) is ∙ append_assoc before (CleanDone q ∷ []) be.0 in
-        let out = clean_was_out sizes before (CleanDone q) q (accepted_meets_no_fault sizes before (CleanDone q) be.0 (subst (IsAccepted sizes) parts accepted)) refl in
-        absurd (both_ways (is_freed sizes q before) (cleaning_unfreed sizes before q page_some (begun before (CleanDone q ∷ be.0, parts)) out) (before_freed less)))
-        (λ (ge : p ≤ q). ge)
-        (cases_lt q p)
-
     module _ (later : List Step) (done : Begins (later ++ FlushDone p true ∷ []) whole) where
       pub ends : whole ≡ later ++ FlushDone p true ∷ done.0
       ends = done.1 ∙ append_assoc later (FlushDone p true ∷ []) done.0
@@ -316,34 +220,3 @@ module _ (sizes : Sizes) (whole : List Step) (page_some : 0 < sizes.page_size) (
       cleans_later q list b next le =
           let due = (next_page-parts (cleaning sizes) list (marks (cleaning sizes) list) q next).0 in
           flushed_later list b (reached list p q b le (ends_below sizes.page_size (closed list) q due))
-
-      -- where a later page of the frame is entered, this one is flushed
-      round_flushed : (q : ℕ) (A : List Step) → Begins A whole → p < q → p % sizes.frames ≡ q % sizes.frames → is_entered sizes q A ≡ true → is_flushed sizes p A ≡ true
-      round_flushed q A b less same e =
-          let ahead = round_ahead sizes.frames q p frames_some less same in
-          let freed = round_freed sizes q page_some (omega (arith, ahead)) A (begun A b) e in
-          reached A p (q - sizes.frames) b (omega (arith, ahead)) (freed_closed sizes A (q - sizes.frames) page_some (begun A b) freed)
-
-      -- a call that left a list with a later page of the frame in it met a longer one
-      pub writes_later : (a : ℕ) (before steps : List Step) → Begins (before ++ steps) whole → IsOneCall steps → a < tail sizes (before ++ steps) → p < a / sizes.page_size → p % sizes.frames ≡ a / sizes.page_size % sizes.frames → length later < length before
-      writes_later a before steps be one below less same =
-          ⊎_elim
-          (λ (lt : length later < length before). lt)
-          (λ (le : length before ≤ length later). absurd (by_call one le))
-          (cases_lt (length later) (length before))
-        where
-          q : ℕ
-          q = a / sizes.page_size
-
-          entered : is_entered sizes q (before ++ steps) ≡ true
-          entered = lt-ltb (q * sizes.page_size) (tail sizes (before ++ steps)) (omega (arith, below, div-mul-le_self a sizes.page_size))
-
-          longer : length later < length (before ++ steps)
-          longer = flushed_later (before ++ steps) be (round_flushed q (before ++ steps) be less same entered)
-
-          by_call : IsOneCall steps → length before ≤ length later → ⊥
-          by_call one le =
-              let own = own_call later (FlushDone p true) refl refl done (record { before = before; steps = steps }) be one le longer in
-              let all : before ++ steps ≡ later ++ FlushDone p true ∷ [] = ap (λ (l : List Step). before ++ l) own.0 ∙ ap (λ (l : List Step). l ++ FlushDone p true ∷ []) (sym own.1) in
-              let was : is_entered sizes q later ≡ true = sym (is_entered-stay sizes q later (FlushDone p true) refl) ∙ subst (λ (l : List Step). is_entered sizes q l ≡ true) all entered in
-              both_ways (is_flushed sizes p later) not_yet (round_flushed q later at_later less same was)

@@ -1,8 +1,6 @@
 -- Where a rider's store stands among its touches: the call that it was made after, and the one that entered it.
-use Rattle.std.proofs.Common.{◌≡◌, ℕ, zero, suc, ◌⊎◌, List, [], ◌∷◌, ◌++◌, length, Some, slice_get, refl, ap, sym, ◌∙◌, inl, inr, subst, append_assoc, length-append}
-use Rattle.std.specs.Prelude.{Option}
+use Rattle.std.proofs.Common.{◌≡◌, ℕ, zero, suc, List, [], ◌∷◌, ◌++◌, length, Some, slice_get, refl, ap, sym, ◌∙◌, inl, inr, length-append}
 use Rattle.std.specs.List.{AllByRecursion as Every}
-use Rattle.hl_model.specs.declared.step.Step.{Step}
 use Rattle.hl_model.specs.declared.step.Step.TheVariants.{CleanDone}
 use Rattle.hl_model.specs.Sizes.{Sizes}
 use Rattle.hl_history.specs.declared.view.Entry.{Entry}
@@ -11,10 +9,7 @@ use Rattle.hl_words.specs.declared.view.Extent.{Extent}
 use Rattle.hl_words.specs.declared.view.Touch.{Touch}
 use Rattle.hl_words.specs.declared.view.Touch.TheVariants.{Stored, Loaded, Changed, Called, Looked, Met}
 use Rattle.hl_words.specs.States.{AreTied}
-use Rattle.hl_words.proofs.Cut.{every_append}
-use Rattle.hl_images.specs.Entered.{newest_writes, swept_by, IsSweepOf, AreEntered, HasZero, IsSwept, FreesSwept}
-use Rattle.hl_images.proofs.PlaceLaws.{every_place}
-use Rattle.hl_images.proofs.WalkLaws.{newest_every}
+use Rattle.hl_images.specs.Entered.{IsSweepOf, HasZero, IsSwept, FreesSwept}
 
 -- A call of a rider among the touches, with what stands before it
 pub record CallAt (sizes : Sizes) (Q : Entry → Type 0) (ts : List Touch) (e : Entry) : Type 0 where
@@ -79,7 +74,7 @@ pub record ZeroAt (sizes : Sizes) (Q : Entry → Type 0) (p d : ℕ) (ts : List 
   pub before : List Touch
   pub calls : List Entry
   pub all : ts ≡ late ++ Stored d value ∷ before
-  pub sweep : IsSweepOf sizes d value calls (Some p)
+  pub sweep : IsSweepOf sizes p d value calls
   pub tied : AreTied before calls
   pub holds : Every Q calls
 
@@ -97,64 +92,3 @@ find_zero sizes Q p d (Called met left ∷ before) [] h tied holds = absurd h
 find_zero sizes Q p d (Called met left ∷ before) (call ∷ calls) h tied holds = push_zero sizes Q p d (Called met left) before (find_zero sizes Q p d before calls h tied.2 holds.1)
 find_zero sizes Q p d (Looked w x ∷ before) calls h tied holds = push_zero sizes Q p d (Looked w x) before (find_zero sizes Q p d before calls h tied holds)
 find_zero sizes Q p d (Met m x ∷ before) calls h tied holds = push_zero sizes Q p d (Met m x) before (find_zero sizes Q p d before calls h tied holds)
-
--- One touch of a rider, with all that stands before it. P holds of what waits at the end, Q of each call
-module _ (sizes : Sizes) (all : List Touch) (t : Touch) (ys : List Touch) (P : Step → Type 0) (Q : Entry → Type 0) where
-  -- a call behind the touch entered the write
-  pub record IsEntering (w : Step) : Type 0 where
-    pub late : List Touch
-    pub met : Extent
-    pub left : Extent
-    pub between : List Touch
-    pub call : Entry
-    pub first : List Step
-    pub rest : List Step
-    pub all_are : all ≡ late ++ Called met left ∷ (between ++ t ∷ ys)
-    pub left_is : left.steps ≡ length (left_by call)
-    pub steps : call.steps ≡ first ++ w ∷ rest
-    pub holds : Q call
-
-  -- what waits at the touch, and the calls before it
-  pub record Found : Type 0 where
-    pub calls : List Entry
-    pub waiting : List Step
-    pub swept : Option ℕ
-    pub entered : AreEntered sizes (t ∷ ys) calls waiting swept
-    pub tied : AreTied (t ∷ ys) calls
-    pub holds : Every Q calls
-    pub origins : Every (λ w. P w ⊎ IsEntering w) waiting
-
-  further : (pre xs : List Touch) (s : Touch) → all ≡ pre ++ (s ∷ (xs ++ t ∷ ys)) → all ≡ (pre ++ s ∷ []) ++ (xs ++ t ∷ ys)
-  further pre xs s is = is ∙ sym (append_assoc pre (s ∷ []) (xs ++ t ∷ ys))
-
-  pub find_store : (pre xs : List Touch) (calls : List Entry) (waiting : List Step) (swept : Option ℕ) → all ≡ pre ++ (xs ++ t ∷ ys) → AreEntered sizes (xs ++ t ∷ ys) calls waiting swept → AreTied (xs ++ t ∷ ys) calls → Every Q calls
-      → Every (λ w. P w ⊎ IsEntering w) waiting → Found
-  find_store pre [] calls waiting swept is h tied holds origins = record { calls = calls; waiting = waiting; swept = swept; entered = h; tied = tied; holds = holds; origins = origins }
-  find_store pre (Stored x v ∷ xs) calls waiting swept is (inl w) tied holds origins =
-      find_store (pre ++ Stored x v ∷ []) xs calls w.1 swept (further pre xs (Stored x v) is) w.4 tied holds (subst (Every (λ u. P u ⊎ IsEntering u)) w.2 origins).1
-  find_store pre (Stored x v ∷ xs) calls waiting swept is (inr s) tied holds origins = find_store (pre ++ Stored x v ∷ []) xs calls waiting swept (further pre xs (Stored x v) is) s.1 tied holds origins
-  find_store pre (Loaded x v ∷ xs) calls waiting swept is h tied holds origins = find_store (pre ++ Loaded x v ∷ []) xs calls waiting swept (further pre xs (Loaded x v) is) h tied holds origins
-  find_store pre (Changed x f v ∷ xs) calls waiting swept is w tied holds origins =
-      find_store (pre ++ Changed x f v ∷ []) xs calls w.1 swept (further pre xs (Changed x f v) is) w.4 tied holds (subst (Every (λ u. P u ⊎ IsEntering u)) w.2 origins).1
-  find_store pre (Called met left ∷ xs) [] waiting swept is h tied holds origins = absurd tied
-  find_store pre (Called met left ∷ xs) (call ∷ calls) waiting swept is h tied holds origins =
-      let mine : Every (λ u. P u ⊎ IsEntering u) call.steps =
-      every_place (λ u. P u ⊎ IsEntering u) [] call.steps
-      (λ f u r e.
-      inr (record {
-        late = pre;
-        met = met;
-        left = left;
-        between = xs;
-        call = call;
-        first = f;
-        rest = r;
-        all_are = is;
-        left_is = tied.1 ∙ sym (length-append call.before call.steps);
-        steps = e;
-        holds = holds.0;
-      })) in
-      find_store (pre ++ Called met left ∷ []) xs calls (waiting ++ newest_writes call.steps []) (swept_by call.steps swept) (further pre xs (Called met left) is) h tied.2 holds.1
-      (every_append (λ u. P u ⊎ IsEntering u) waiting (newest_writes call.steps []) origins (newest_every (λ u. P u ⊎ IsEntering u) call.steps [] mine tt))
-  find_store pre (Looked w x ∷ xs) calls waiting swept is h tied holds origins = find_store (pre ++ Looked w x ∷ []) xs calls waiting swept (further pre xs (Looked w x) is) h tied holds origins
-  find_store pre (Met m x ∷ xs) calls waiting swept is h tied holds origins = find_store (pre ++ Met m x ∷ []) xs calls waiting swept (further pre xs (Met m x) is) h tied holds origins

@@ -1,13 +1,13 @@
 -- A word of an image is the sum of all adds at its address.
-use Rattle.std.proofs.Common.{◌≡◌, ◌≢◌, ℕ, ◌+◌, ◌*◌, ◌%◌, ◌^◌, ◌<◌, ◌≤◌, ◌==◌, ◌⊎◌, Bool, true, List, [], ◌∷◌, ◌++◌, length, map, Some, None, slice_get, refl, ap, sym, ◌∙◌, inl, inr, ⊎_elim, subst, arith, append_assoc, length-append}
+use Rattle.std.proofs.Common.{◌≡◌, ◌≢◌, ℕ, ◌+◌, ◌-◌, ◌*◌, ◌%◌, ◌^◌, ◌<◌, ◌≤◌, Bool, true, List, [], ◌∷◌, ◌++◌, length, map, Some, None, slice_get, refl, ap, sym, ◌∙◌, inl, inr, ⊎_elim, subst, arith, append_assoc, length-append}
 use Rattle.std.specs.Prelude.{Option, if◌then◌else◌}
 use Rattle.std.specs.List.{AllByRecursion as Every}
-use Rattle.std.proofs.lemmas.Bool.{eq-eqb, cases_lt}
+use Rattle.std.proofs.lemmas.Bool.{eq-eqb}
 use Rattle.std.proofs.lemmas.List.{append-nil, length-map}
 use Rattle.std.proofs.Math.Nat.{mod-le, mod-eq_of_lt}
 use Rattle.hl_model.specs.declared.step.Step.{Step}
-use Rattle.hl_model.specs.declared.step.Step.TheVariants.{Write, FlushTake, FlushDone}
-use Rattle.hl_model.specs.Pages.{is_freed, next_to_flush}
+use Rattle.hl_model.specs.declared.step.Step.TheVariants.{Write, FlushTake, FlushDone, CleanTake}
+use Rattle.hl_model.specs.Pages.{next_to_flush}
 use Rattle.hl_model.specs.Replies.{IsAccepted}
 use Rattle.hl_model.specs.Sizes.{Sizes}
 use Rattle.hl_model.specs.Words.{written_at}
@@ -18,25 +18,26 @@ use Rattle.hl_words.specs.declared.view.Touch.{Touch}
 use Rattle.hl_words.specs.declared.view.Touch.TheVariants.{Stored, Loaded, Changed, Called, Looked, Met}
 use Rattle.hl_words.specs.declared.view.Extent.{Extent}
 use Rattle.hl_words.specs.Laws.{AddsUp}
-use Rattle.hl_words.specs.Past.{HasCalls, HasNoCalls, BeginsAfter, EndsBefore}
+use Rattle.hl_words.specs.Past.{HasCalls, EndsBefore}
 use Rattle.hl_words.specs.Rule.{last_store, TouchBy, by_rider, held, IsSerial, touches_of}
 use Rattle.hl_words.specs.States.{RiderState, AreTied}
 use Rattle.hl_words.proofs.Cut.{every_at, every_append, every_back, every_weaker}
 use Rattle.hl_words.proofs.LawProofs.{adds_since}
-use Rattle.hl_words.proofs.OneProofs.{none_end, same_front, only_before}
+use Rattle.hl_words.proofs.OneProofs.{same_front}
 use Rattle.hl_words.proofs.Orders.{there}
 use Rattle.hl_words.proofs.PastProofs.{serial_end, touches_both}
 use Rattle.hl_keeper.specs.Passes.{cell_at}
 use Rattle.hl_keeper.specs.Pages.{first_cell}
-use Rattle.hl_images.specs.Entered.{IsOneCall, newest_writes, swept_by, IsSweepOf, AreEntered}
-use Rattle.hl_images.specs.ImageWords.{WritesNothing}
+use Rattle.hl_images.specs.Entered.{IsOneCall, newest_writes, AreEntered}
+use Rattle.hl_images.specs.Writes.{WritesNothing}
 use Rattle.hl_images.specs.Sums.{WritesAlone, AddsAt, ImagesAreSums}
-use Rattle.hl_images.specs.Sweeps.{AreSweeps, StoresSweep}
-use Rattle.hl_images.proofs.AcceptedLaws.{low_call}
-use Rattle.hl_images.proofs.AddLaws.{passes, adds_behind, adds_nothing}
-use Rattle.hl_images.proofs.WalkLaws.{Walked, push_other, push_call, Kept, stored, sweep_is_late, newest_every, cell_of_place}
+use Rattle.hl_images.specs.Sweeps.{IsSweep, AreSweeps, StoresSweep}
+use Rattle.hl_images.proofs.TakenLaws.{low_call}
+use Rattle.hl_images.proofs.AddLaws.{passes, adds_behind}
+use Rattle.hl_images.proofs.CellLaws.{cell_of_place, parts_of}
+use Rattle.hl_images.proofs.PlaceLaws.{every_both, shorter, cleans_later}
 use Rattle.hl_images.proofs.WordLaws.{within, calls_at, view_at}
-use Rattle.hl_images.proofs.WriterLaws.{newest_step}
+use Rattle.hl_images.proofs.WriterLaws.{newest_step, newest_every, early, early_calls}
 
 -- these touches store nothing into the cell since a call that left fewer steps than n, if any
 pub record IsQuietSince (c n : ℕ) (ts : List Touch) : Type 0 where
@@ -70,12 +71,16 @@ module _ (riders : List RiderView) (order front before : List TouchBy) (j c : �
           let all = calls j o.0 o.1 r q.quiet o.2 at is o.4 in
           (all.0, same_front q.quiet (touches_of j front ++ all.0) (Called o.0 o.1 ∷ o.2) (sym is ∙ split ∙ ap (λ (l : List Touch). touches_of j front ++ l) all.1 ∙ sym (append_assoc (touches_of j front) all.0 (Called o.0 o.1 ∷ o.2))))
 
-  -- nothing, if it stored nothing there but after calls that met more
-  sweeper_before : (done : ℕ) (late quiet old : List Touch) → HasNoCalls riders done before → r.touches ≡ late ++ (quiet ++ old) → old ≡ [] → BeginsAfter done late → last_store c quiet ≡ None → AddsUp c 0 (touches_of j before)
-  sweeper_before done late quiet old calls is nothing after none =
-      let rest : quiet ++ old ≡ quiet = ap (λ (l : List Touch). quiet ++ l) nothing ∙ append-nil quiet in
-      let only = only_before riders done j r late (quiet ++ old) before (touches_of j front) calls at is after split in
-      adds_nothing c (touches_of j before) (none_end c only.0 (touches_of j before) (sym (ap (last_store c) (sym rest ∙ only.1)) ∙ none))
+-- touches that only sweep do so at their end
+sweeps_end : (sizes : Sizes) (P : Entry → Type 0) (xs ys : List Touch) (calls : List Entry) → AreSweeps sizes (xs ++ ys) calls → AreTied (xs ++ ys) calls → Every P calls → (older : List Entry) × AreSweeps sizes ys older × AreTied ys older × Every P older
+sweeps_end sizes P [] ys calls h tied holds = (calls, h, tied, holds)
+sweeps_end sizes P (Stored x v ∷ xs) ys calls h tied holds = sweeps_end sizes P xs ys calls h.1 tied holds
+sweeps_end sizes P (Loaded x v ∷ xs) ys calls h tied holds = sweeps_end sizes P xs ys calls h tied holds
+sweeps_end sizes P (Changed x f v ∷ xs) ys calls h tied holds = absurd h
+sweeps_end sizes P (Called met left ∷ xs) ys [] h tied holds = absurd tied
+sweeps_end sizes P (Called met left ∷ xs) ys (call ∷ calls) h tied holds = sweeps_end sizes P xs ys calls h tied.2 holds.1
+sweeps_end sizes P (Looked w x ∷ xs) ys calls h tied holds = sweeps_end sizes P xs ys calls h tied holds
+sweeps_end sizes P (Met m x ∷ xs) ys calls h tied holds = sweeps_end sizes P xs ys calls h tied holds
 
 module _ (sizes : Sizes) (whole : List Step) (page_some : 0 < sizes.page_size) (frames_some : 0 < sizes.frames) (accepted : IsAccepted sizes whole) (p k : ℕ) (inside : k < sizes.page_size) (list later : List Step)
     (taken : next_to_flush sizes list ≡ Some p) (take : Begins (list ++ FlushTake ∷ []) whole) (done : Begins (later ++ FlushDone p true ∷ []) whole) where
@@ -102,69 +107,66 @@ module _ (sizes : Sizes) (whole : List Step) (page_some : 0 < sizes.page_size) (
           absurd (cc no)
 
   -- an adder stores nothing in the cell after its newest call that wrote there
-  pub adder_is_quiet : (total : ℕ) (ts : List Touch) (calls : List Entry) (waiting : List Step) (swept : Option ℕ) → AreEntered sizes ts calls waiting swept → AreTied ts calls → Every (λ (e : Entry). Begins (left_by e) whole) calls → Every (λ (e : Entry). IsOneCall e.steps) calls
+  pub adder_is_quiet : (total : ℕ) (ts : List Touch) (calls : List Entry) (waiting : List Step) → AreEntered sizes ts calls waiting → AreTied ts calls → Every (λ (e : Entry). Begins (left_by e) whole) calls → Every (λ (e : Entry). IsOneCall e.steps) calls
       → WritesAlone sizes place calls → Every IsOther waiting → AddsUp cell total ts → IsQuietSince cell (length list + 1) ts
-  adder_is_quiet total [] calls waiting swept h tied begins ones alone far adds = record { quiet = []; old = []; all = refl; before = inl refl; none = refl }
-  adder_is_quiet total (Stored x v ∷ before) calls waiting swept (inl w) tied begins ones alone far adds =
-      push_quiet cell (length list + 1) (Stored x v) before (λ l e. passes cell x v (last_store cell l) adds.0 e) (adder_is_quiet total before calls w.1 swept w.4 tied begins ones alone (subst (Every IsOther) w.2 far).1 adds.1)
-  adder_is_quiet total (Stored x v ∷ before) calls waiting swept (inr s) tied begins ones alone far adds =
-      push_quiet cell (length list + 1) (Stored x v) before (λ l e. passes cell x v (last_store cell l) adds.0 e) (adder_is_quiet total before calls waiting swept s.1 tied begins ones alone far adds.1)
-  adder_is_quiet total (Loaded x v ∷ before) calls waiting swept h tied begins ones alone far adds =
-      push_quiet cell (length list + 1) (Loaded x v) before (λ l e. e) (adder_is_quiet total before calls waiting swept h tied begins ones alone far adds)
-  adder_is_quiet total (Changed x found v ∷ before) calls waiting swept w tied begins ones alone far adds =
+  adder_is_quiet total [] calls waiting h tied begins ones alone far adds = record { quiet = []; old = []; all = refl; before = inl refl; none = refl }
+  adder_is_quiet total (Stored x v ∷ before) calls waiting (inl w) tied begins ones alone far adds =
+      push_quiet cell (length list + 1) (Stored x v) before (λ l e. passes cell x v (last_store cell l) adds.0 e) (adder_is_quiet total before calls w.1 w.4 tied begins ones alone (subst (Every IsOther) w.2 far).1 adds.1)
+  adder_is_quiet total (Stored x v ∷ before) calls waiting (inr s) tied begins ones alone far adds =
+      push_quiet cell (length list + 1) (Stored x v) before (λ l e. passes cell x v (last_store cell l) adds.0 e) (adder_is_quiet total before calls waiting s.1 tied begins ones alone far adds.1)
+  adder_is_quiet total (Loaded x v ∷ before) calls waiting h tied begins ones alone far adds =
+      push_quiet cell (length list + 1) (Loaded x v) before (λ l e. e) (adder_is_quiet total before calls waiting h tied begins ones alone far adds)
+  adder_is_quiet total (Changed x found v ∷ before) calls waiting w tied begins ones alone far adds =
       let rest = subst (Every IsOther) w.2 far in
       let apart : x ≢ cell = λ same. rest.0 w.3.0 w.3.1 v w.3.2 (w.3.3 ∙ same) in
       push_quiet cell (length list + 1) (Changed x found v) before (λ l e. passes cell x v (last_store cell l) apart e)
       (⊎_elim
-      (λ (a : (x ≢ cell) × AddsUp cell total before). adder_is_quiet total before calls w.1 swept w.4 tied begins ones alone rest.1 a.1)
+      (λ (a : (x ≢ cell) × AddsUp cell total before). adder_is_quiet total before calls w.1 w.4 tied begins ones alone rest.1 a.1)
       (λ (a : (x ≡ cell) × ((more : ℕ) × (less : ℕ) × (total ≡ less + more) × (v ≡ (found + more) % 2 ^ 64) × AddsUp cell less before)). absurd (apart a.0))
       adds)
-  adder_is_quiet total (Called met left ∷ before) [] waiting swept h tied begins ones alone far adds = absurd tied
-  adder_is_quiet total (Called met left ∷ before) (call ∷ calls) waiting swept h tied begins ones alone far adds =
+  adder_is_quiet total (Called met left ∷ before) [] waiting h tied begins ones alone far adds = absurd tied
+  adder_is_quiet total (Called met left ∷ before) (call ∷ calls) waiting h tied begins ones alone far adds =
       ⊎_elim
       (λ (none : WritesNothing place call.steps).
       push_quiet cell (length list + 1) (Called met left) before (λ l e. e)
-      (adder_is_quiet total before calls (waiting ++ newest_writes call.steps []) (swept_by call.steps swept) h tied.2 begins.1 ones.1 alone.1
+      (adder_is_quiet total before calls (waiting ++ newest_writes call.steps []) h tied.2 begins.1 ones.1 alone.1
       (every_append IsOther waiting (newest_writes call.steps []) far (newest_every IsOther call.steps [] (others call.steps alone.0 none) tt)) adds))
       (λ (w : (slot v : ℕ) × (first rest : List Step) × (call.steps ≡ first ++ Write slot place v ∷ rest) × WritesNothing place rest).
       let low = low_call sizes whole page_some frames_some accepted p k inside list later taken take done call w.0 w.1 w.2 w.3 begins.0 ones.0 w.4 in
       record { quiet = []; old = Called met left ∷ before; all = refl; before = inr (met, left, before, refl, omega (arith, low, tied.1, length-append call.before call.steps)); none = refl })
       (newest_step place call.steps)
-  adder_is_quiet total (Looked which x ∷ before) calls waiting swept h tied begins ones alone far adds =
-      push_quiet cell (length list + 1) (Looked which x) before (λ l e. e) (adder_is_quiet total before calls waiting swept h tied begins ones alone far adds)
-  adder_is_quiet total (Met name count ∷ before) calls waiting swept h tied begins ones alone far adds =
-      push_quiet cell (length list + 1) (Met name count) before (λ l e. e) (adder_is_quiet total before calls waiting swept h tied begins ones alone far adds)
+  adder_is_quiet total (Looked which x ∷ before) calls waiting h tied begins ones alone far adds =
+      push_quiet cell (length list + 1) (Looked which x) before (λ l e. e) (adder_is_quiet total before calls waiting h tied begins ones alone far adds)
+  adder_is_quiet total (Met name count ∷ before) calls waiting h tied begins ones alone far adds =
+      push_quiet cell (length list + 1) (Met name count) before (λ l e. e) (adder_is_quiet total before calls waiting h tied begins ones alone far adds)
 
+  -- touches of a sweeper none of whose calls met more than the flush
   module _ (few : p < sizes.frames) where
-    -- no page has the frame before the first
-    first_of_frame : (q : ℕ) → q % sizes.frames ≡ p % sizes.frames → p ≤ q
-    first_of_frame q same = omega (arith, mod-le q sizes.frames, same, mod-eq_of_lt few)
+    abbrev IsEarly : Entry → Type 0
+    IsEarly e = Begins (left_by e) whole × (length e.before ≤ length later)
 
-    none_before : (q : ℕ) (before steps : List Step) → q < p → q % sizes.frames ≡ p % sizes.frames → Begins (before ++ steps) whole → IsOneCall steps → 0 ≤ length (before ++ steps) → is_freed sizes q before ≡ true
-    none_before q before steps less same b one le = absurd (omega (arith, less, first_of_frame q same))
+    -- no page has the frame before the first, so each that has it was taken to be cleaned after the flush
+    sweeps_elsewhere : (x v : ℕ) (calls : List Entry) → IsSweep sizes x v calls → Every IsEarly calls → x ≢ cell
+    sweeps_elsewhere x v calls s early here =
+        let q = s.1 in
+        let list = s.2 in
+        let e = (subst (Every IsEarly) s.4 early).0 in
+        let rest : cell ≡ q % sizes.frames * sizes.page_size + (cell - first_cell sizes q) = omega (arith, here, s.6) in
+        let frame = parts_of sizes.page_size (p % sizes.frames) k (q % sizes.frames) (cell - first_cell sizes q) inside (omega (arith, here, s.6, s.7)) (sym rest) in
+        let first : p ≤ q = omega (arith, mod-le q sizes.frames, frame.0, mod-eq_of_lt few) in
+        let far = cleans_later sizes whole page_some frames_some accepted p later done q list (shorter sizes whole page_some frames_some accepted list (CleanTake ∷ []) e.0) s.5 first in
+        omega (arith, e.1, far)
 
-    -- a sweeper stores nothing in the cell before the page is flushed
-    sweeps_are_late : (ts : List Touch) (calls : List Entry) → AreSweeps sizes ts calls → AreTied ts calls → Every (λ (e : Entry). Begins (left_by e) whole) calls → Walked cell (λ old. old ≡ []) (length later) ts calls
-    sweeps_are_late [] [] h tied begins = record { late = []; quiet = []; old = []; all = refl; after = inl refl; before = refl; none = refl; some = λ e older is less. absurd (cc is) }
-    sweeps_are_late [] (call ∷ calls) h tied begins = absurd tied
-    sweeps_are_late (Stored x v ∷ before) calls h tied begins =
-        let further = sweeps_are_late before calls h.1 tied begins in
-        let swept : IsSweepOf sizes x v calls (Some h.0.1) = (h.0, refl) in
-        let kept : Kept sizes whole page_some frames_some accepted p k inside later done 0 (omega arith) none_before (Some h.0.1) = λ q is same. first_of_frame q same in
-        stored sizes whole page_some frames_some accepted p k inside later done 0 (omega arith) none_before (λ old. old ≡ []) x v (Stored x v) before calls (λ l. refl) further
-        (λ is. sweep_is_late sizes whole page_some frames_some accepted p k inside later done 0 (omega arith) none_before v calls (Some h.0.1) (subst (λ (z : ℕ). IsSweepOf sizes z v calls (Some h.0.1)) is swept) kept begins) (x == cell) refl
-    sweeps_are_late (Loaded x v ∷ before) calls h tied begins = push_other cell (λ old. old ≡ []) (length later) (Loaded x v) before calls calls (λ l e. e) (λ late f. f) (sweeps_are_late before calls h tied begins)
-    sweeps_are_late (Changed x found v ∷ before) calls h tied begins = absurd h
-    sweeps_are_late (Called met left ∷ before) [] h tied begins = absurd tied
-    sweeps_are_late (Called met left ∷ before) (call ∷ calls) h tied begins = by (sweeps_are_late before calls h tied.2 begins.1) (cases_lt (length later) met.steps)
-      where
-        by : Walked cell (λ old. old ≡ []) (length later) before calls → ((length later < met.steps) ⊎ (met.steps ≤ length later)) → Walked cell (λ old. old ≡ []) (length later) (Called met left ∷ before) (call ∷ calls)
-        by further (inl less) = push_call cell (λ old. old ≡ []) (length later) met left before calls (call ∷ calls) less further
-        by further (inr most) =
-            push_other cell (λ old. old ≡ []) (length later) (Called met left) before calls (call ∷ calls) (λ l e. e)
-            (λ late f e older is more. let same : call ≡ e = cc is in absurd (omega (arith, more, most, tied.0, ap (λ (x : Entry). length x.before) same))) further
-    sweeps_are_late (Looked which x ∷ before) calls h tied begins = push_other cell (λ old. old ≡ []) (length later) (Looked which x) before calls calls (λ l e. e) (λ late f. f) (sweeps_are_late before calls h tied begins)
-    sweeps_are_late (Met name count ∷ before) calls h tied begins = push_other cell (λ old. old ≡ []) (length later) (Met name count) before calls calls (λ l e. e) (λ late f. f) (sweeps_are_late before calls h tied begins)
+    -- they add nothing in the cell
+    sweeps_add_nothing : (ts : List Touch) (calls : List Entry) → AreSweeps sizes ts calls → AreTied ts calls → Every IsEarly calls → AddsUp cell 0 ts
+    sweeps_add_nothing [] calls h tied early = refl
+    sweeps_add_nothing (Stored x v ∷ ts) calls h tied early = (sweeps_elsewhere x v calls h.0 early, sweeps_add_nothing ts calls h.1 tied early)
+    sweeps_add_nothing (Loaded x v ∷ ts) calls h tied early = sweeps_add_nothing ts calls h tied early
+    sweeps_add_nothing (Changed x f v ∷ ts) calls h tied early = absurd h
+    sweeps_add_nothing (Called met left ∷ ts) [] h tied early = absurd tied
+    sweeps_add_nothing (Called met left ∷ ts) (call ∷ calls) h tied early = sweeps_add_nothing ts calls h tied.2 early.1
+    sweeps_add_nothing (Looked w x ∷ ts) calls h tied early = sweeps_add_nothing ts calls h tied early
+    sweeps_add_nothing (Met m x ∷ ts) calls h tied early = sweeps_add_nothing ts calls h tied early
 
 pub images_are_sums : (F : Type 0) → ImagesAreSums F
 images_are_sums F sizes riders ending page k v image totals i page_some few there_is long each =
@@ -196,11 +198,15 @@ images_are_sums F sizes riders ending page k v image totals i page_some few ther
     ⊎_elim
     (λ (a : AddsAt sizes (page * sizes.page_size + k) s q).
     let adds : AddsUp cell s q.view.touches = subst (λ (d : ℕ). AddsUp d s q.view.touches) (cell_of_place sizes page k inside) a.adds in
-    let quiet = adder_is_quiet sizes whole page_some frames_some i.ends.accepted page k inside i.list i.later i.taken i.take i.done s q.view.touches q.calls [] None a.enters.entered tied begins a.enters.calls a.alone tt adds in
+    let quiet = adder_is_quiet sizes whole page_some frames_some i.ends.accepted page k inside i.list i.later i.taken i.take i.done s q.view.touches q.calls [] a.enters.entered tied begins a.enters.calls a.alone tt adds in
     adder_before views order.0 front before j cell q.view place_at its parts (length i.list + 1) s m.2 quiet adds)
     (λ (a : StoresSweep sizes q × (s ≡ 0)).
-    let w = sweeps_are_late sizes whole page_some frames_some i.ends.accepted page k inside i.list i.later i.taken i.take i.done few q.view.touches q.calls a.0 tied begins in
-    subst (λ (n : ℕ). AddsUp cell n (touches_of j before)) (sym a.1) (sweeper_before views order.0 front before j cell q.view place_at its parts (length i.later) w.late w.quiet w.old m.3 w.all w.before w.after w.none))
+    let parts_of_q : q.view.touches ≡ touches_of j front ++ touches_of j before = split views order.0 front before j cell q.view place_at its parts in
+    let end = sweeps_end sizes (λ (e : Entry). Begins (left_by e) whole) (touches_of j front) (touches_of j before) q.calls (subst (λ (l : List Touch). AreSweeps sizes l q.calls) parts_of_q a.0) (subst (λ (l : List Touch). AreTied l q.calls) parts_of_q tied) begins in
+    let early_all = early_calls (length i.later) (touches_of j before) end.0 (early views before (length i.later) j q.view (touches_of j front) (touches_of j before) m.3 place_at parts_of_q refl) end.2 in
+    let all_early = every_both (λ (e : Entry). Begins (left_by e) whole) (λ (e : Entry). length e.before ≤ length i.later) end.0 end.3 early_all in
+    subst (λ (n : ℕ). AddsUp cell n (touches_of j before)) (sym a.1)
+    (sweeps_add_nothing sizes whole page_some frames_some i.ends.accepted page k inside i.list i.later i.taken i.take i.done few (touches_of j before) end.0 end.1 end.2 all_early))
     (each j s q r.1 at) in
     m.1.finds ∙ sym (ap (held cell) all)
     ∙ adds_since cell before [] totals (subst IsSerial (sym all) serial) refl (every_weaker (λ (t : TouchBy). t.rider < length views) (λ (t : TouchBy). t.rider < length totals) before (λ t l. omega (arith, l, long, as_many)) theirs) added

@@ -1,10 +1,9 @@
 -- When each store of a rider is a write of its calls, or of those that still wait to be entered, or a 0 of a sweep.
-use Rattle.std.specs.Prelude.{ℕ, ◌≡◌, ◌<◌, ◌≤◌, ◌+◌, ◌⊎◌, Bool, true, false, Option, Some, None, List, [], ◌∷◌, ◌++◌}
+use Rattle.std.specs.Prelude.{ℕ, ◌≡◌, ◌<◌, ◌≤◌, ◌+◌, ◌⊎◌, Bool, true, false, List, [], ◌∷◌, ◌++◌}
 use Rattle.std.specs.List.{AllByRecursion}
 use Rattle.hl_model.specs.declared.step.Step.{Step}
 use Rattle.hl_model.specs.declared.step.Step.TheVariants.{Look, Write, CleanDone}
 use Rattle.hl_model.specs.Offsets.{tail}
-use Rattle.hl_model.specs.Pages.{is_freed}
 use Rattle.hl_model.specs.Settled.{safe_read_only}
 use Rattle.hl_model.specs.Sizes.{Sizes}
 use Rattle.hl_history.specs.declared.view.Entry.{Entry}
@@ -35,45 +34,38 @@ newest_writes [] older = older
 newest_writes (Write t a v ∷ steps) older = newest_writes steps (Write t a v ∷ older)
 newest_writes (_ ∷ steps) older = newest_writes steps older
 
--- the page whose sweep a call ended; where it entered nothing, that of before
-abbrev pub swept_by : List Step → Option ℕ → Option ℕ
-swept_by [] swept = swept
-swept_by (CleanDone p ∷ []) swept = Some p
-swept_by _ swept = None
-
 -- the store of the value into the cell is this write; the newest call so far left a list whose tail is above its address
 abbrev pub IsWriteOf : Sizes → ℕ → ℕ → List Entry → Step → Type 0
 IsWriteOf sizes d v calls w = (t a : ℕ) × (w ≡ Write t a v) × (cell_at sizes a ≡ d)
     × (e : Entry) × (older : List Entry) × (calls ≡ e ∷ older) × (a < tail sizes (left_by e))
 
 -- the store of the value into the cell is a 0 of the sweep of this page
-abbrev pub IsSweepOf : Sizes → ℕ → ℕ → List Entry → Option ℕ → Type 0
-IsSweepOf sizes d v calls swept = (sweep : IsSweep sizes d v calls) × (swept ≡ Some sweep.1)
+abbrev pub IsSweepOf : Sizes → ℕ → ℕ → ℕ → List Entry → Type 0
+IsSweepOf sizes p d v calls = (sweep : IsSweep sizes d v calls) × (sweep.1 ≡ p)
 
 -- Each of these stores is a write that a later call of these entered, or one that still waits, in their order; or it is a
--- 0 of the sweep of a page that the rider itself took to clean, and freed by its next call that entered a step, or hasn't
--- freed yet. All lists stand newest first
-abbrev pub AreEntered : Sizes → List Touch → List Entry → List Step → Option ℕ → Type 0
-AreEntered sizes [] calls waiting swept = waiting ≡ []
-AreEntered sizes (Stored d v ∷ before) calls waiting swept =
+-- 0 of the sweep of a page that the rider's newest call so far took to clean. All lists stand newest first
+abbrev pub AreEntered : Sizes → List Touch → List Entry → List Step → Type 0
+AreEntered sizes [] calls waiting = waiting ≡ []
+AreEntered sizes (Stored d v ∷ before) calls waiting =
     ((w : Step) × (older : List Step) × (waiting ≡ w ∷ older) × IsWriteOf sizes d v calls w
-    × AreEntered sizes before calls older swept)
-    ⊎ (IsSweepOf sizes d v calls swept × AreEntered sizes before calls waiting swept)
-AreEntered sizes (Loaded d v ∷ before) calls waiting swept = AreEntered sizes before calls waiting swept
-AreEntered sizes (Changed d found v ∷ before) calls waiting swept =
+    × AreEntered sizes before calls older)
+    ⊎ (IsSweep sizes d v calls × AreEntered sizes before calls waiting)
+AreEntered sizes (Loaded d v ∷ before) calls waiting = AreEntered sizes before calls waiting
+AreEntered sizes (Changed d found v ∷ before) calls waiting =
     (w : Step) × (older : List Step) × (waiting ≡ w ∷ older) × IsWriteOf sizes d v calls w
-    × AreEntered sizes before calls older swept
-AreEntered sizes (Called met left ∷ before) [] waiting swept = ⊥
-AreEntered sizes (Called met left ∷ before) (call ∷ calls) waiting swept =
-    AreEntered sizes before calls (waiting ++ newest_writes call.steps []) (swept_by call.steps swept)
-AreEntered sizes (Looked which x ∷ before) calls waiting swept = AreEntered sizes before calls waiting swept
-AreEntered sizes (Met name count ∷ before) calls waiting swept = AreEntered sizes before calls waiting swept
+    × AreEntered sizes before calls older
+AreEntered sizes (Called met left ∷ before) [] waiting = ⊥
+AreEntered sizes (Called met left ∷ before) (call ∷ calls) waiting =
+    AreEntered sizes before calls (waiting ++ newest_writes call.steps [])
+AreEntered sizes (Looked which x ∷ before) calls waiting = AreEntered sizes before calls waiting
+AreEntered sizes (Met name count ∷ before) calls waiting = AreEntered sizes before calls waiting
 
 -- the 0 of the sweep of a page into the cell is among these touches
 abbrev pub HasZero : Sizes → ℕ → ℕ → List Touch → List Entry → Type 0
 HasZero sizes p d [] calls = ⊥
 HasZero sizes p d (Stored x v ∷ before) calls =
-    ((x ≡ d) × IsSweepOf sizes d v calls (Some p)) ⊎ HasZero sizes p d before calls
+    ((x ≡ d) × IsSweepOf sizes p d v calls) ⊎ HasZero sizes p d before calls
 HasZero sizes p d (Loaded x v ∷ before) calls = HasZero sizes p d before calls
 HasZero sizes p d (Changed x found v ∷ before) calls = HasZero sizes p d before calls
 HasZero sizes p d (Called met left ∷ before) [] = ⊥
@@ -99,12 +91,10 @@ FreesSwept sizes (Looked which x ∷ before) calls = FreesSwept sizes before cal
 FreesSwept sizes (Met name count ∷ before) calls = FreesSwept sizes before calls
 
 -- So it is with each store of a rider, where the one list is this: what still waits was of a pass that was abandoned, and
--- lies above what is sealed; a page that it freed, it swept; and one that it swept and didn't free isn't free
+-- lies above what is sealed; and a page that it freed, it swept
 pub record StoresEnter (sizes : Sizes) (whole : List Step) (r : RiderState) : Type 0 where
   pub waiting : List Step
-  pub swept : Option ℕ
-  pub entered : AreEntered sizes r.view.touches r.calls waiting swept
+  pub entered : AreEntered sizes r.view.touches r.calls waiting
   pub frees : FreesSwept sizes r.view.touches r.calls
   pub calls : AllByRecursion (λ e. IsOneCall e.steps) r.calls
   pub above : AllByRecursion (λ w. (t a v : ℕ) → w ≡ Write t a v → safe_read_only whole ≤ a) waiting
-  pub unfreed : (p : ℕ) → swept ≡ Some p → is_freed sizes p whole ≡ false

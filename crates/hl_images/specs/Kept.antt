@@ -1,5 +1,5 @@
 -- That the stores of riders stay writes of their calls, or 0s of their sweeps, by each call of a domain.
-use Rattle.std.specs.Prelude.{ℕ, ◌≡◌, ◌<◌, ◌≤◌, false, true, Option, Some, None, List, [], ◌∷◌, ◌++◌}
+use Rattle.std.specs.Prelude.{ℕ, ◌≡◌, ◌<◌, ◌≤◌, false, true, Some, None, List, [], ◌∷◌, ◌++◌}
 use Rattle.std.specs.List.{AllByRecursion}
 use Rattle.hl_model.specs.declared.slot.Slot.{Slot}
 use Rattle.hl_model.specs.declared.step.Step.{Step}
@@ -21,17 +21,16 @@ use Rattle.hl_keeper.specs.Touches.{AreTouches, is_call}
 use Rattle.hl_domain.specs.Domains.{with_entry, with_held}
 use Rattle.hl_images.specs.Entered.{is_touch, IsOneCall, newest_writes, AreEntered, IsSwept, FreesSwept, StoresEnter}
 
--- the stores of a rider that has no pass, and swept this page if any and didn't free it yet
-pub record RiderEnters (sizes : Sizes) (swept : Option ℕ) (r : RiderState) : Type 0 where
-  pub entered : AreEntered sizes r.view.touches r.calls [] swept
+-- the stores of a rider that has no pass
+pub record RiderEnters (sizes : Sizes) (r : RiderState) : Type 0 where
+  pub entered : AreEntered sizes r.view.touches r.calls []
   pub frees : FreesSwept sizes r.view.touches r.calls
-  pub sweep : (p : ℕ) → swept ≡ Some p → IsSwept sizes p r.view.touches r.calls
   pub calls : AllByRecursion (λ e. IsOneCall e.steps) r.calls
 
 -- the stores of a pass's rider, where those of the pass's touches wait; the pass sees no tail above that of the list that
 -- the newest call of its rider left
 pub record PassEnters (sizes : Sizes) (p : PassRecord) : Type 0 where
-  pub entered : AreEntered sizes p.rider.view.touches p.rider.calls (newest_writes p.touches []) None
+  pub entered : AreEntered sizes p.rider.view.touches p.rider.calls (newest_writes p.touches [])
   pub frees : FreesSwept sizes p.rider.view.touches p.rider.calls
   pub calls : AllByRecursion (λ e. IsOneCall e.steps) p.rider.calls
   pub touches : AreTouches p.slot p.held p.touches
@@ -42,33 +41,39 @@ pub record PassEnters (sizes : Sizes) (p : PassRecord) : Type 0 where
 
 -- it stays so by what a rider does, and at the end of all
 pub record RidersStayEntered (sizes : Sizes) : Type 0 where
-  pub new : (name : ℕ) → RiderEnters sizes None (new_rider name)
-  pub loads : (swept : Option ℕ) (cell : ℕ) (words : List ℕ) (r : RiderState) → RiderEnters sizes swept r
-      → RiderEnters sizes swept (with_view (loaded_all cell words r.view) r)
-  pub told : (swept : Option ℕ) (past : Known) (r : RiderState) → RiderEnters sizes swept r
-      → RiderEnters sizes swept (with_view (told past r.view) r)
+  pub new : (name : ℕ) → RiderEnters sizes (new_rider name)
+  pub loads : (cell : ℕ) (words : List ℕ) (r : RiderState) → RiderEnters sizes r
+      → RiderEnters sizes (with_view (loaded_all cell words r.view) r)
+  pub told : (past : Known) (r : RiderState) → RiderEnters sizes r
+      → RiderEnters sizes (with_view (told past r.view) r)
   -- a call that makes one step, which frees no page
   pub call : (was now : ℕ) (list : List Step) (s : Step) (r : RiderState) → is_touch s ≡ false
-      → clean_of s ≡ None → RiderEnters sizes None r
-      → RiderEnters sizes None (with_entry was now list (s ∷ []) r)
+      → clean_of s ≡ None → RiderEnters sizes r → RiderEnters sizes (with_entry was now list (s ∷ []) r)
   -- one that makes none
-  pub refused : (swept : Option ℕ) (was now : ℕ) (list : List Step) (r : RiderState)
-      → RiderEnters sizes swept r → RiderEnters sizes swept (with_entry was now list [] r)
+  pub refused : (was now : ℕ) (list : List Step) (r : RiderState) → RiderEnters sizes r
+      → RiderEnters sizes (with_entry was now list [] r)
   -- one that takes a page to clean, and then its sweep
   pub sweeps : (was now : ℕ) (list : List Step) (page : ℕ) (r : RiderState)
-      → next_to_clean sizes list ≡ Some page → RiderEnters sizes None r
+      → next_to_clean sizes list ≡ Some page → RiderEnters sizes r
       → let taken = with_entry was now list (CleanTake ∷ []) r
-      in RiderEnters sizes (Some page)
-      (with_view (zeroed (first_cell sizes page) sizes.page_size taken.view) taken)
-  -- one that frees the page that was swept
-  pub frees : (was now : ℕ) (list : List Step) (page : ℕ) (r : RiderState) → RiderEnters sizes (Some page) r
-      → RiderEnters sizes None (with_entry was now list (CleanDone page ∷ []) r)
-  pub ends : (whole : List Step) (r : RiderState) → RiderEnters sizes None r → StoresEnter sizes whole r
+      in let swept = with_view (zeroed (first_cell sizes page) sizes.page_size taken.view) taken
+      in RiderEnters sizes swept
+  -- the page is swept then
+  pub swept : (was now : ℕ) (list : List Step) (page : ℕ) (r : RiderState)
+      → next_to_clean sizes list ≡ Some page
+      → let taken = with_entry was now list (CleanTake ∷ []) r
+      in let swept = with_view (zeroed (first_cell sizes page) sizes.page_size taken.view) taken
+      in IsSwept sizes page swept.view.touches swept.calls
+  -- a call that frees a page that was swept
+  pub frees : (was now : ℕ) (list : List Step) (page : ℕ) (r : RiderState)
+      → IsSwept sizes page r.view.touches r.calls → RiderEnters sizes r
+      → RiderEnters sizes (with_entry was now list (CleanDone page ∷ []) r)
+  pub ends : (whole : List Step) (r : RiderState) → RiderEnters sizes r → StoresEnter sizes whole r
 
 -- it stays so by what a pass does, from its acquire to its release
 pub record PassesStayEntered (sizes : Sizes) : Type 0 where
   pub acquires : (was now : ℕ) (list : List Step) (t stamp : ℕ) (slot : Slot) (r : RiderState)
-      → slot.view.tail ≤ tail sizes (list ++ Acquire t ∷ []) → RiderEnters sizes None r
+      → slot.view.tail ≤ tail sizes (list ++ Acquire t ∷ []) → RiderEnters sizes r
       → PassEnters sizes (new_pass t stamp slot (with_entry was now list (Acquire t ∷ []) r))
   pub stores : (a v : ℕ) (p : PassRecord) → store_fault p a ≡ None → PassEnters sizes p
       → PassEnters sizes (with_store sizes a v p)
@@ -94,7 +99,7 @@ pub record PassesStayEntered (sizes : Sizes) : Type 0 where
       → IsAccepted sizes list → IsOf list p.rider.calls → PassEnters sizes p
       → PassEnters sizes (with_rider (with_entry was now list [] p.rider) p)
   pub releases : (was now : ℕ) (list : List Step) (p : PassRecord) → PassEnters sizes p
-      → RiderEnters sizes None (with_entry was now list (p.touches ++ Release p.slot ∷ []) p.rider)
+      → RiderEnters sizes (with_entry was now list (p.touches ++ Release p.slot ∷ []) p.rider)
   -- a pass that was abandoned: its slot has the view that it held
   pub abandons : (whole : List Step) (p : PassRecord) → 0 < sizes.page_size → IsAccepted sizes whole
       → slot_view sizes p.slot whole ≡ Some p.held → PassEnters sizes p → StoresEnter sizes whole p.rider

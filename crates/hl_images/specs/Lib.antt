@@ -2,11 +2,10 @@ pub mod Later
 pub mod Images
 pub mod Flushes
 pub mod Pairs
-pub mod ImageWords
+pub mod Writes
 pub mod Sealed
 pub mod Sweeps
 pub mod Entered
-pub mod Accepted
 pub mod Kept
 pub mod Sums
 pub mod Calls

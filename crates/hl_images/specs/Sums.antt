@@ -1,5 +1,5 @@
 -- That an image holds the sum of all that was added.
-use Rattle.std.specs.Prelude.{ℕ, ◌≡◌, ◌+◌, ◌*◌, ◌%◌, ◌^◌, ◌<◌, ◌⊎◌, List, ◌++◌, length, Some, None, slice_get}
+use Rattle.std.specs.Prelude.{ℕ, ◌≡◌, ◌+◌, ◌*◌, ◌%◌, ◌^◌, ◌<◌, ◌⊎◌, List, length, Some, None, slice_get}
 use Rattle.std.specs.List.{AllByRecursion, sum}
 use Rattle.hl_model.specs.declared.step.Step.TheVariants.{Write}
 use Rattle.hl_model.specs.Sizes.{Sizes}
@@ -8,8 +8,6 @@ use Rattle.hl_words.specs.Laws.{AddsUp}
 use Rattle.hl_words.specs.States.{RiderState}
 use Rattle.hl_keeper.specs.Endings.{EndingState}
 use Rattle.hl_keeper.specs.Passes.{cell_at}
-use Rattle.hl_images.specs.Entered.{StoresEnter}
-use Rattle.hl_images.specs.ImageWords.{CallsWriteNothing}
 use Rattle.hl_images.specs.Images.{IsImaged}
 use Rattle.hl_images.specs.Kept.{RiderEnters}
 use Rattle.hl_images.specs.Sweeps.{StoresSweep}
@@ -21,7 +19,7 @@ WritesAlone sizes a calls = AllByRecursion (λ e. AllByRecursion (λ s. (t b x :
 
 -- a rider without a pass touched the cell of the address by loads and by adds at the address, which make this total
 pub record AddsAt (sizes : Sizes) (a total : ℕ) (r : RiderState) : Type 0 where
-  pub enters : RiderEnters sizes None r
+  pub enters : RiderEnters sizes r
   pub adds : AddsUp (cell_at sizes a) total r.view.touches
   pub alone : WritesAlone sizes a r.calls
 
@@ -33,16 +31,4 @@ ImagesAreSums F = (sizes : Sizes) (riders : List RiderState) (ending : EndingSta
     → 0 < sizes.page_size → page < sizes.frames → slice_get image k ≡ Some v → length totals ≡ length riders
     → ((i total : ℕ) (r : RiderState) → slice_get riders i ≡ Some r → slice_get totals i ≡ Some total
     → AddsAt sizes (page * sizes.page_size + k) total r ⊎ (StoresSweep sizes r × (total ≡ 0)))
-    → v ≡ sum totals % 2 ^ 64
-
--- So it is on each page, where the stores of the other riders are writes that their calls entered elsewhere, or 0s of their
--- sweeps
-abbrev pub ImagesAreSumsAnywhere : Type 0 → Type 0
-ImagesAreSumsAnywhere F = (sizes : Sizes) (riders : List RiderState) (ending : EndingState F) (page k v : ℕ)
-    (image totals : List ℕ) (imaged : IsImaged sizes riders ending page image)
-    → let whole = imaged.ends.steps_cut ++ ending.journal
-    in let a = page * sizes.page_size + k
-    in 0 < sizes.page_size → 0 < sizes.frames → slice_get image k ≡ Some v → length totals ≡ length riders
-    → ((i total : ℕ) (r : RiderState) → slice_get riders i ≡ Some r → slice_get totals i ≡ Some total
-    → AddsAt sizes a total r ⊎ (StoresEnter sizes whole r × CallsWriteNothing a r.calls × (total ≡ 0)))
     → v ≡ sum totals % 2 ^ 64

@@ -1,13 +1,11 @@
 //! What follows from a page's flush and from a domain's ending: each law the contract of a function that does
 //! nothing.
 ghost use Rattle.hl_model.specs.Sizes.{Sizes as SIZES};
-ghost use Rattle.hl_images.specs.Accepted.{ImagesAreWords, ImagesAreWrites, ImagesAreZero};
 ghost use Rattle.hl_images.specs.Flushes.{LaterStates, TakenIsCopied, AnsweredIsFlushed, CopiedStays, FlushedStays, FlushedIsImaged};
-ghost use Rattle.hl_images.specs.ImageWords.{ImagesHoldWords};
 ghost use Rattle.hl_images.specs.Kept.{RidersStayEntered, PassesStayEntered};
 ghost use Rattle.hl_images.specs.Pairs.{FlushedByTwoStays, FlushedByTwoIsImaged};
 ghost use Rattle.hl_images.specs.Sealed.{PendingStaysAbove, LaterStaysAbove};
-ghost use Rattle.hl_images.specs.Sums.{ImagesAreSums, ImagesAreSumsAnywhere};
+ghost use Rattle.hl_images.specs.Sums.{ImagesAreSums};
 
 use hl_action::Task;
 
@@ -51,12 +49,6 @@ pub fn flushed_by_two_is_imaged<F: Task>()
     ensures { FlushedByTwoIsImaged F }
 {}
 
-/// A word of an image is that of the one list, if one rider alone writes at its address and stores into its
-/// cell, as the lists of all riders tell.
-pub fn images_hold_words()
-    ensures { ImagesHoldWords }
-{}
-
 /// No touch that has not entered writes in a sealed page, if its slot has the view that its pass holds.
 pub fn pending_stays_above()
     ensures { PendingStaysAbove }
@@ -67,32 +59,10 @@ pub fn later_stays_above()
     ensures { LaterStaysAbove }
 {}
 
-/// A word of an image is that of the one list, if no rider but one wrote at its address, and each store of
-/// any rider is a write that its calls entered, or a 0 of its sweeps.
-pub fn images_are_words<F: Task>()
-    ensures { ImagesAreWords F }
-{}
-
-/// If more than one rider wrote at its address, a word of an image is what one of them wrote there last.
-pub fn images_are_writes<F: Task>()
-    ensures { ImagesAreWrites F }
-{}
-
-/// If nobody wrote at its address, a word of an image is 0.
-pub fn images_are_zero<F: Task>()
-    ensures { ImagesAreZero F }
-{}
-
 /// If each rider only added at its address, or only sweeps pages, a word of an image of the first page of a
 /// frame is the sum of all that was added, modulo 2^64.
 pub fn images_are_sums<F: Task>()
     ensures { ImagesAreSums F }
-{}
-
-/// So it is on each page, if the stores of the other riders are writes that their calls entered elsewhere, or
-/// 0s of their sweeps.
-pub fn images_are_sums_anywhere<F: Task>()
-    ensures { ImagesAreSumsAnywhere F }
 {}
 
 /// Each store of a rider without a pass stays a write that its calls entered, or a 0 of its sweeps, by all

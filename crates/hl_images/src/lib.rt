@@ -17,12 +17,10 @@
 //!
 //! What the words are: each store of a rider is a write that its calls entered, one that still waits in its
 //! pass, or a 0 of its sweep of a page (`StoresEnter`), which each call of a domain keeps
-//! (`riders_stay_entered`, `passes_stay_entered`). Then a word of an image is the one list's word of its
-//! address, if no rider but one wrote there (`images_are_words`), so 0 if none did (`images_are_zero`); if
-//! more did, it is what one of them wrote there last (`images_are_writes`). If they all added, and nothing
-//! else in the word's cell, it is the sum of what they added (`images_are_sums_anywhere`). On the first page
-//! of each frame the other riders need only be known to sweep (`images_are_sums`, `StoresSweep`). All are in
-//! [`laws`].
+//! (`riders_stay_entered`, `passes_stay_entered`). By that a log is one memory by address, of which
+//! `hl_memory` tells, and what each word of an image is. Here only so much is said: on the first page of each
+//! frame a word is the sum of what riders added, if the others are known to sweep (`images_are_sums`,
+//! `StoresSweep`). All are in [`laws`].
 #![tactic(auto)]
 
 mod copying;

@@ -1,0 +1,27 @@
+-- The cell of an address.
+use Rattle.std.proofs.Common.{◌≡◌, ℕ, ◌+◌, ◌*◌, ◌/◌, ◌%◌, ◌<◌, ap, sym, ◌∙◌, arith}
+use Rattle.std.proofs.lemmas.Nat.{div-mul-add, mod-mul-add}
+use Rattle.std.proofs.Math.Nat.{div-add-mod}
+use Rattle.hl_model.specs.Sizes.{Sizes}
+use Rattle.hl_keeper.specs.Passes.{cell_at}
+use Rattle.hl_keeper.specs.Pages.{first_cell}
+
+-- the page and the offset of a cell
+pub parts_of : (page_size frame k other rest : ℕ) → k < page_size → rest < page_size → other * page_size + rest ≡ frame * page_size + k → (other ≡ frame) × (rest ≡ k)
+parts_of page_size frame k other rest lk lr e = (
+  sym (div-mul-add other page_size rest lr) ∙ ap (λ (x : ℕ). x / page_size) e ∙ div-mul-add frame page_size k lk,
+  sym (mod-mul-add other page_size rest lr) ∙ ap (λ (x : ℕ). x % page_size) e ∙ mod-mul-add frame page_size k lk,
+)
+
+-- an address of a page
+pub is_address : (page_size p k a : ℕ) → a / page_size ≡ p → a % page_size ≡ k → a ≡ p * page_size + k
+is_address page_size p k a page rest =
+    let swap : page_size * (a / page_size) ≡ a / page_size * page_size = omega arith in
+    let own : a / page_size * page_size ≡ p * page_size = ap (λ (x : ℕ). x * page_size) page in
+    omega (arith, div-add-mod a page_size, swap, own, rest)
+
+-- the cell of an address of a page
+pub cell_of_place : (sizes : Sizes) (p k : ℕ) → k < sizes.page_size → cell_at sizes (p * sizes.page_size + k) ≡ first_cell sizes p + k
+cell_of_place sizes p k within =
+    let place = p * sizes.page_size + k in
+    ap (λ (x : ℕ). x % sizes.frames * sizes.page_size + place % sizes.page_size) (div-mul-add p sizes.page_size k within) ∙ ap (λ (x : ℕ). p % sizes.frames * sizes.page_size + x) (mod-mul-add p sizes.page_size k within)

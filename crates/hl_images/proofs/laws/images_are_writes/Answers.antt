@@ -1,6 +1,0 @@
--- the law
-use Rattle.hl_images.proofs.HoldLaws.{images_are_writes}
-use Rattle.hl_images.proofs.laws.images_are_writes.Goals as goal
-
-pub returns : goal.returns
-returns g c = images_are_writes _

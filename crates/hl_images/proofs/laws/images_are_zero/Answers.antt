@@ -1,6 +1,0 @@
--- the law
-use Rattle.hl_images.proofs.HoldLaws.{images_are_zero}
-use Rattle.hl_images.proofs.laws.images_are_zero.Goals as goal
-
-pub returns : goal.returns
-returns g c = images_are_zero _

@@ -1,0 +1,120 @@
+-- What words and images hold at the end is in that memory.
+use Rattle.std.proofs.Common.{◌≡◌, ℕ, ◌+◌, ◌*◌, ◌/◌, ◌%◌, ◌<◌, ◌≤◌, true, List, [], ◌∷◌, ◌++◌, length, map, refl, ap, sym, ◌∙◌, ⊎_elim, subst, arith, append_assoc, length-append}
+use Rattle.std.proofs.lemmas.Bool.{both_ways, cases_lt}
+use Rattle.std.proofs.lemmas.List.{append-nil}
+use Rattle.std.proofs.Math.Nat.{div-add-mod, div-mul-le_self, mod-lt, mul-le-mul_right}
+use Rattle.hl_model.specs.declared.step.Step.{Step}
+use Rattle.hl_model.specs.declared.step.Step.TheVariants.{FlushTake, FlushDone}
+use Rattle.hl_model.specs.declared.view.Six.{Six}
+use Rattle.hl_model.specs.Offsets.{tail}
+use Rattle.hl_model.specs.Replies.{IsAccepted}
+use Rattle.hl_model.specs.Settled.{closed}
+use Rattle.hl_model.specs.Sizes.{Sizes}
+use Rattle.hl_history.specs.declared.view.Entry.{Entry}
+use Rattle.hl_history.specs.Lists.{Begins, left_by, IsOf}
+use Rattle.hl_laws.proofs.BoundLaws.{closed-whole, read_only-le-tail, safe_read_only-le-read_only}
+use Rattle.hl_laws.proofs.FollowLaws.{offsets_follow}
+use Rattle.hl_laws.proofs.PageFacts.{closed_flushed}
+use Rattle.hl_words.specs.declared.view.RiderView.{RiderView}
+use Rattle.hl_words.specs.declared.view.Touch.{Touch}
+use Rattle.hl_words.specs.declared.view.Touch.TheVariants.{Loaded, Called}
+use Rattle.hl_words.specs.Rule.{TouchBy, by_rider, held, touches_of}
+use Rattle.hl_words.specs.Past.{HasCalls, HasNoCalls}
+use Rattle.hl_words.specs.States.{RiderState, AreTied}
+use Rattle.hl_words.proofs.Cut.{every_at}
+use Rattle.hl_keeper.specs.Passes.{cell_at}
+use Rattle.hl_keeper.specs.Pages.{first_cell}
+use Rattle.hl_images.specs.Entered.{IsOneCall}
+use Rattle.hl_images.proofs.CellLaws.{cell_of_place}
+use Rattle.hl_images.proofs.PlaceLaws.{every_both, begun, shorter, low_last, at_later, not_yet}
+use Rattle.hl_images.proofs.TakenLaws.{sealed}
+use Rattle.hl_images.proofs.WordLaws.{calls_at, whose_view, within}
+use Rattle.hl_memory.specs.Acts.{in_cells}
+use Rattle.hl_memory.specs.Images.{ImagesAreMemory}
+use Rattle.hl_memory.specs.Memory.{HasNoneLeft, WordsAreMemory}
+use Rattle.hl_memory.proofs.ActLaws.{call_at}
+use Rattle.hl_memory.proofs.LoadLaws.{cells_are_memory}
+use Rattle.hl_memory.proofs.OpenLaws.{none_at_end}
+
+-- a cell is one of all
+cell_low : (sizes : Sizes) (a : ℕ) → 0 < sizes.page_size → 0 < sizes.frames → cell_at sizes a < sizes.frames * sizes.page_size
+cell_low sizes a page_some frames_some =
+    let frame = a / sizes.page_size % sizes.frames in
+    let more : (frame + 1) * sizes.page_size ≤ sizes.frames * sizes.page_size = mul-le-mul_right sizes.page_size (omega (arith, mod-lt (a / sizes.page_size) frames_some)) in
+    let end : (frame + 1) * sizes.page_size ≡ frame * sizes.page_size + sizes.page_size = omega arith in
+    omega (arith, more, end, mod-lt a page_some)
+
+pub words_are_memory : (F : Type 0) → WordsAreMemory F
+words_are_memory F sizes riders ending ends page_some frames_some history its a below open_there =
+    let whole = ends.steps_cut ++ ending.journal in
+    let order = ends.ruled.rule.order in
+    let all : Begins whole whole = ([], sym (append-nil whole)) in
+    let less : cell_at sizes a < ending.words.cells = omega (arith, cell_low sizes a page_some frames_some, ends.cells_are) in
+    order.1.last (cell_at sizes a) less ∙ ap (held (cell_at sizes a)) (sym its.cells)
+    ∙ cells_are_memory F sizes riders ending ends page_some frames_some history [] history its refl a whole whole all all below open_there
+    (λ j met left q later past at is grew few. (later, ap (touches_of j) its.cells ∙ sym (order.1.each j q at) ∙ is)) (none_at_end F sizes riders ending ends (in_cells sizes history))
+
+-- acts cut where their touches are
+cells_cut : (sizes : Sizes) (xs ys history : List TouchBy) → in_cells sizes history ≡ xs ++ ys → (front : List TouchBy) × (back : List TouchBy) × (history ≡ front ++ back) × (in_cells sizes back ≡ ys)
+cells_cut sizes [] ys history e = ([], history, refl, e)
+cells_cut sizes (x ∷ xs) ys [] e = absurd (cc e)
+cells_cut sizes (x ∷ xs) ys (t ∷ history) e =
+    let rest : in_cells sizes history ≡ xs ++ ys = cc e in
+    let r = cells_cut sizes xs ys history rest in
+    (t ∷ r.0, r.1, ap (λ (l : List TouchBy). t ∷ l) r.2, r.3)
+
+-- a page that isn't flushed is not closed
+not_closed : (sizes : Sizes) (A : List Step) (p : ℕ) → 0 < sizes.page_size → IsAccepted sizes A → (((p + 1) * sizes.page_size ≤ closed A) → ⊥) → closed A ≤ p * sizes.page_size
+not_closed sizes A p page_some ok unflushed =
+    let swap : sizes.page_size * (closed A / sizes.page_size) ≡ closed A / sizes.page_size * sizes.page_size = omega arith in
+    ⊎_elim
+    (λ (lt : p < closed A / sizes.page_size).
+    let more : (p + 1) * sizes.page_size ≤ closed A / sizes.page_size * sizes.page_size = mul-le-mul_right sizes.page_size (omega (arith, lt)) in
+    absurd (unflushed (omega (arith, more, div-mul-le_self (closed A) sizes.page_size))))
+    (λ (ge : closed A / sizes.page_size ≤ p).
+    let more : closed A / sizes.page_size * sizes.page_size ≤ p * sizes.page_size = mul-le-mul_right sizes.page_size ge in
+    omega (arith, more, swap, div-add-mod (closed A) sizes.page_size, closed-whole sizes A ok))
+    (cases_lt p (closed A / sizes.page_size))
+
+pub images_are_memory : (F : Type 0) → ImagesAreMemory F
+images_are_memory F sizes riders ending page k v image i page_some frames_some history its there_is =
+    let whole = i.ends.steps_cut ++ ending.journal in
+    let views = map (λ (q : RiderState). q.view) riders in
+    let inside : k < sizes.page_size = omega (arith, within image k v there_is, i.places) in
+    let a = page * sizes.page_size + k in
+    let cell = first_cell sizes page + k in
+    let accepted = i.ends.accepted in
+    let m = i.words k v there_is in
+    let load = by_rider i.copier (Loaded cell v) in
+    let parts = its.cells ∙ m.1.whole ∙ sym (append_assoc m.1.newer (load ∷ []) m.0) in
+    let s = cells_cut sizes (m.1.newer ++ load ∷ []) m.0 history parts in
+    let calls = subst (HasCalls views (length i.list + 1)) (sym s.3) m.2 in
+    let no_calls = subst (HasNoCalls views (length i.later)) (sym s.3) m.3 in
+    let bA : Begins i.list whole = shorter sizes whole page_some frames_some accepted i.list (FlushTake ∷ []) i.take in
+    let okA = begun sizes whole page_some frames_some accepted i.list bA in
+    let at_take = sealed sizes whole page_some frames_some accepted page k inside i.list i.later i.taken i.take i.done in
+    let end : (page + 1) * sizes.page_size ≡ page * sizes.page_size + sizes.page_size = omega arith in
+    let below : a < tail sizes i.list = omega (arith, at_take, end, inside, safe_read_only-le-read_only sizes i.list okA, read_only-le-tail sizes i.list page_some okA) in
+    let bl = at_later sizes whole page_some frames_some accepted page i.later i.done in
+    let ok_later = begun sizes whole page_some frames_some accepted i.later bl in
+    let later2 = i.later ++ FlushDone page true ∷ [] in
+    let same : closed later2 ≡ closed i.later = ap (λ (x : Six). x.closed) ((offsets_follow sizes i.later ok_later).flush_done page true) in
+    let low = not_closed sizes i.later page page_some ok_later
+    (λ e. both_ways _ (not_yet sizes whole page_some frames_some accepted page i.later i.done) (closed_flushed sizes i.later page page_some ok_later e)) in
+    let open_there : closed later2 ≤ a = omega (arith, same, low) in
+    let none : HasNoneLeft views (length later2) (in_cells sizes s.1) =
+    λ j met left q newer past at is more.
+    let w = whose_view riders j q at in
+    let of : IsOf whole w.0.calls = every_at (IsOf whole) (map (λ (z : RiderState). z.calls) riders) i.ends.one_list.each j w.0.calls (calls_at riders j w.0 w.1) in
+    let tied : AreTied (newer ++ Called met left ∷ past) w.0.calls = subst (λ (l : List Touch). AreTied l w.0.calls) (ap (λ (z : RiderView). z.touches) w.2 ∙ is) (every_at (λ (z : RiderState). AreTied z.view.touches z.calls) riders i.ends.tied j w.0 w.1) in
+    let c = call_at (λ (e : Entry). Begins (left_by e) whole × IsOneCall e.steps) newer met left past w.0.calls tied (every_both (λ (e : Entry). Begins (left_by e) whole) (λ (e : Entry). IsOneCall e.steps) w.0.calls of.begins (its.each j w.0 w.1).calls) in
+    no_calls j met left q newer past at is
+    (⊎_elim
+    (λ (lt : length i.later < length c.0.before). omega (arith, lt, c.1))
+    (λ (ge : length c.0.before ≤ length i.later).
+    let short = low_last sizes whole page_some frames_some accepted i.later (FlushDone page true) refl refl i.done c.0 c.3.0 c.3.1 ge in
+    absurd (omega (arith, short, more, c.2, length-append i.later (FlushDone page true ∷ []))))
+    (cases_lt (length i.later) (length c.0.before))) in
+    let found = cells_are_memory F sizes riders ending i.ends page_some frames_some history s.0 s.1 its s.2 a i.list later2 bA i.done below open_there
+    (λ j met left q newer past at is grew few. calls j met left q newer past at is (omega (arith, few))) none in
+    (s.0, s.1, s.2, m.1.finds ∙ ap (held cell) (sym s.3) ∙ ap (λ (d : ℕ). held d (in_cells sizes s.1)) (sym (cell_of_place sizes page k inside)) ∙ found, calls, no_calls)

@@ -1,0 +1,15 @@
+pub mod ActLaws
+pub mod FindLaws
+pub mod CutLaws
+pub mod PageLaws
+pub mod TakeLaws
+pub mod FateLaws
+pub mod MemoryLaws
+pub mod LoadLaws
+pub mod OpenLaws
+pub mod KeepLaws
+pub mod EndLaws
+pub mod WrittenLaws
+pub mod WordLaws
+pub mod ImageLaws
+pub mod SumLaws

@@ -1,0 +1,119 @@
+-- What loads find, between two calls of their rider.
+use Rattle.std.proofs.Common.{◌≡◌, ℕ, ◌⊎◌, List, [], ◌∷◌, ◌++◌, map, ap, sym, ◌∙◌, ⊎_elim, subst, arith, append_assoc}
+use Rattle.std.specs.List.{AllByRecursion as Every}
+use Rattle.hl_model.specs.declared.view.View.{View}
+use Rattle.hl_model.specs.Sizes.{Sizes}
+use Rattle.hl_laws.proofs.BoundLaws.{views_are_bounded}
+use Rattle.hl_laws.proofs.WordLaws.{seen_tail-le}
+use Rattle.hl_pass.proofs.LookLaws.{viewed}
+use Rattle.hl_words.specs.declared.view.Extent.{Extent}
+use Rattle.hl_words.specs.declared.view.RiderView.{RiderView}
+use Rattle.hl_words.specs.declared.view.Touch.{Touch}
+use Rattle.hl_words.specs.declared.view.Touch.TheVariants.{Loaded, Called}
+use Rattle.hl_words.specs.Rule.{TouchBy, by_rider, RisesTo, IsSerial, touches_of, HasOneOrder}
+use Rattle.hl_words.proofs.CallOrder.{IsUpTo, met_all}
+use Rattle.hl_words.proofs.Cut.{every_back}
+use Rattle.hl_words.proofs.Orders.{own_more}
+use Rattle.hl_words.proofs.PastProofs.{compared, cut_at, has_more, joined, serial_end, touches_both}
+use Rattle.hl_words.specs.States.{RiderState}
+use Rattle.hl_memory.specs.Acts.{in_cell, in_cells}
+use Rattle.hl_memory.specs.Memory.{HasGrown, HasNoneLeft, CellsAreMemory, LoadsFindMemory, SeenIsOpen}
+use Rattle.hl_memory.proofs.ActLaws.{cells_both}
+use Rattle.hl_memory.proofs.MemoryLaws.{cell_is_memory}
+
+pub seen_is_open : SeenIsOpen
+seen_is_open sizes A later t a first last some ok was is low high =
+    let v = viewed sizes t A first was in
+    let w = viewed sizes t later last is in
+    (omega (arith, high, ap (λ (z : View). z.tail) v.1, seen_tail-le sizes t A some), omega (arith, low, ap (λ (z : View). z.head) w.1, (views_are_bounded sizes later t ok w.0).1))
+
+pub cells_are_memory : (F : Type 0) → CellsAreMemory F
+cells_are_memory F sizes riders ending ends page_some frames_some history newer before its parts a A later bA bl below open_there grown none_left =
+    cell_is_memory sizes _ page_some frames_some ends.accepted riders ends.one_list ends.tied _ _ ends.ruled.rule.order history newer before its parts a A later bA bl below open_there grown none_left
+
+module _ (cells : ℕ) (words : List ℕ) (riders : List RiderView) (h : HasOneOrder cells words riders) where
+  -- where a call stands, all stands that riders did before calls that entered a step and left no more
+  grown_before : (k : ℕ) (first n : Extent) (front before : List TouchBy) → h.0 ≡ front ++ by_rider k (Called first n) ∷ before → HasGrown riders n.steps (by_rider k (Called first n) ∷ before)
+  grown_before k first n front before whole j m left q later past at is grew few =
+      let its = by_rider k (Called first n) in
+      let own_call = by_rider j (Called m left) in
+      let c = cut_at j h.0 later (Called m left) past (sym (h.1.each j q at) ∙ is) in
+      let serial : IsSerial (c.front ++ own_call ∷ c.before) = subst IsSerial c.whole h.1.serial in
+      let found = serial_end c.front (own_call ∷ c.before) serial in
+      let own : touches_of j (own_call ∷ c.before) ≡ Called m left ∷ past = own_more j (Called m left) c.before ∙ ap (λ (l : List Touch). Called m left ∷ l) c.own in
+      ⊎_elim
+      (λ (here : (mid : List TouchBy) × (before ≡ mid ++ own_call ∷ c.before)).
+      let all : its ∷ before ≡ (its ∷ here.0) ++ own_call ∷ c.before = ap (λ (l : List TouchBy). its ∷ l) here.1 in
+      (touches_of j (its ∷ here.0), ap (touches_of j) all ∙ touches_both j (its ∷ here.0) (own_call ∷ c.before) ∙ ap (λ (l : List Touch). touches_of j (its ∷ here.0) ++ l) own))
+      (λ (other : ((its ≡ own_call) × (before ≡ c.before)) ⊎ ((mid : List TouchBy) × (c.before ≡ mid ++ its ∷ before))).
+      ⊎_elim
+      (λ (same : (its ≡ own_call) × (before ≡ c.before)).
+      ([], ap (λ (t : TouchBy). touches_of j (t ∷ before)) same.0 ∙ ap (λ (l : List TouchBy). touches_of j (own_call ∷ l)) same.1 ∙ own))
+      (λ (there : (mid : List TouchBy) × (c.before ≡ mid ++ its ∷ before)).
+      let at_most : RisesTo n m = (every_back (λ (t : TouchBy). IsUpTo m t.touch) there.0 (its ∷ before) (subst (Every (λ (t : TouchBy). IsUpTo m t.touch)) there.1 (met_all j m left c.before found))).0 in
+      absurd (omega (arith, at_most.0, grew, few)))
+      other)
+      (compared front its before c.front own_call c.before (sym whole ∙ c.whole))
+
+  -- and nothing stands before a call that riders did after calls which left more than it met
+  none_before : (k : ℕ) (n last : Extent) (front rest between before : List TouchBy) → h.0 ≡ front ++ by_rider k (Called n last) ∷ rest → rest ≡ between ++ before → HasNoneLeft riders n.steps before
+  none_before k n last front rest between before whole has j m left q later past at is more =
+      let its = by_rider k (Called n last) in
+      let own_call = by_rider j (Called m left) in
+      let c = cut_at j h.0 later (Called m left) past (sym (h.1.each j q at) ∙ is) in
+      let most : Every (λ (t : TouchBy). IsUpTo n t.touch) rest = met_all k n last rest (serial_end front (its ∷ rest) (subst IsSerial whole h.1.serial)) in
+      ⊎_elim
+      (λ (here : (mid : List TouchBy) × (rest ≡ mid ++ own_call ∷ c.before)).
+      let at_most : RisesTo left n = (every_back (λ (t : TouchBy). IsUpTo n t.touch) here.0 (own_call ∷ c.before) (subst (Every (λ (t : TouchBy). IsUpTo n t.touch)) here.1 most)).0 in
+      absurd (omega (arith, at_most.0, more)))
+      (λ (other : ((its ≡ own_call) × (rest ≡ c.before)) ⊎ ((mid : List TouchBy) × (c.before ≡ mid ++ its ∷ rest))).
+      ⊎_elim
+      (λ (same : (its ≡ own_call) × (rest ≡ c.before)).
+      let all : c.before ≡ between ++ before = sym same.1 ∙ has in
+      (touches_of j between, sym c.own ∙ ap (touches_of j) all ∙ touches_both j between before))
+      (λ (there : (mid : List TouchBy) × (c.before ≡ mid ++ its ∷ rest)).
+      let front2 : List TouchBy = there.0 ++ its ∷ between in
+      let parts : c.before ≡ front2 ++ before = there.1 ∙ ap (λ (l : List TouchBy). there.0 ++ its ∷ l) has ∙ sym (append_assoc there.0 (its ∷ between) before) in
+      (touches_of j front2, sym c.own ∙ ap (touches_of j) parts ∙ touches_both j front2 before))
+      other)
+      (compared front its rest c.front own_call c.before (sym whole ∙ c.whole))
+
+-- Both hold at an act of a rider between two of its calls
+module _ (sizes : Sizes) (cells : ℕ) (words : List ℕ) (riders : List RiderView) (h : HasOneOrder cells words riders) (history newer before : List TouchBy) (in_order : in_cells sizes history ≡ h.0) (i : ℕ) (act : Touch) (parts : history ≡ newer ++ by_rider i act ∷ before)
+    (met begun : Extent) (between earlier : List Touch) (ahead : touches_of i before ≡ between ++ Called met begun ∷ earlier) where
+  pub grown_here : HasGrown riders begun.steps (in_cells sizes before)
+  grown_here j m l q later past at is grew few =
+      let cut = cut_at i before between (Called met begun) earlier ahead in
+      let call = by_rider i (Called met begun) in
+      let down = joined newer cut.front (by_rider i act) call before cut.before history parts cut.whole in
+      let front = in_cells sizes (newer ++ by_rider i act ∷ cut.front) in
+      let whole : h.0 ≡ front ++ call ∷ in_cells sizes cut.before = sym in_order ∙ ap (in_cells sizes) down ∙ cells_both sizes (newer ++ by_rider i act ∷ cut.front) (call ∷ cut.before) in
+      let here : in_cells sizes before ≡ in_cells sizes cut.front ++ call ∷ in_cells sizes cut.before = ap (in_cells sizes) cut.whole ∙ cells_both sizes cut.front (call ∷ cut.before) in
+      let all = grown_before cells words riders h i met begun front (in_cells sizes cut.before) whole j m l q later past at is grew few in
+      let more = has_more j (Called m l ∷ past) (in_cells sizes cut.front) (call ∷ in_cells sizes cut.before) all in
+      (more.0, ap (touches_of j) here ∙ more.1)
+
+module _ (sizes : Sizes) (cells : ℕ) (words : List ℕ) (riders : List RiderView) (h : HasOneOrder cells words riders) (history newer before : List TouchBy) (in_order : in_cells sizes history ≡ h.0) (i : ℕ) (act : Touch) (parts : history ≡ newer ++ by_rider i act ∷ before)
+    (done left : Extent) (last middle : List Touch) (behind : touches_of i newer ≡ last ++ Called done left ∷ middle) where
+  pub none_here : HasNoneLeft riders done.steps (in_cells sizes before)
+  none_here j m l q later past at is more =
+      let cut = cut_at i newer last (Called done left) middle behind in
+      let call = by_rider i (Called done left) in
+      let rest = in_cells sizes (cut.before ++ by_rider i act ∷ before) in
+      let all : history ≡ cut.front ++ call ∷ (cut.before ++ by_rider i act ∷ before) = parts ∙ ap (λ (l : List TouchBy). l ++ by_rider i act ∷ before) cut.whole ∙ append_assoc cut.front (call ∷ cut.before) (by_rider i act ∷ before) in
+      let whole : h.0 ≡ in_cells sizes cut.front ++ call ∷ rest = sym in_order ∙ ap (in_cells sizes) all ∙ cells_both sizes cut.front (call ∷ (cut.before ++ by_rider i act ∷ before)) in
+      let has : rest ≡ in_cells sizes (cut.before ++ by_rider i act ∷ []) ++ in_cells sizes before =
+      ap (in_cells sizes) (sym (append_assoc cut.before (by_rider i act ∷ []) before)) ∙ cells_both sizes (cut.before ++ by_rider i act ∷ []) before in
+      none_before cells words riders h i done left (in_cells sizes cut.front) rest (in_cells sizes (cut.before ++ by_rider i act ∷ [])) (in_cells sizes before) whole has j m l q later past at is more
+
+pub loads_find_memory : (F : Type 0) → LoadsFindMemory F
+loads_find_memory F sizes riders ending ends page_some frames_some history newer before its i a v met begun done left last middle between earlier parts behind ahead A later bA bl from to below open_there =
+    let views = map (λ (r : RiderState). r.view) riders in
+    let order = ends.ruled.rule.order in
+    let act = Loaded a v in
+    let split : history ≡ (newer ++ by_rider i act ∷ []) ++ before = parts ∙ sym (append_assoc newer (by_rider i act ∷ []) before) in
+    let grown = subst (λ (n : ℕ). HasGrown views n (in_cells sizes before)) (sym from) (grown_here sizes _ _ views order history newer before its.cells i act parts met begun between earlier ahead) in
+    let none = subst (λ (n : ℕ). HasNoneLeft views n (in_cells sizes before)) (sym to) (none_here sizes _ _ views order history newer before its.cells i act parts done left last middle behind) in
+    let whole = sym its.cells ∙ ap (in_cells sizes) parts ∙ cells_both sizes newer (by_rider i act ∷ before) in
+    (serial_end (in_cells sizes newer) (by_rider i (in_cell sizes act) ∷ in_cells sizes before) (subst IsSerial whole order.1.serial)).0
+    ∙ cells_are_memory F sizes riders ending ends page_some frames_some history (newer ++ by_rider i act ∷ []) before its split a A later bA bl below open_there grown none

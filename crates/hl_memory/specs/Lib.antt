@@ -1,0 +1,4 @@
+pub mod Acts
+pub mod Memory
+pub mod Images
+pub mod Keeping
