@@ -1,14 +1,15 @@
--- What a crew's calls do leaves it so that its riders store only to sweep, and flush only what they imaged.
+-- What a crew's calls do leaves it so that its riders store only to sweep, that each store is entered, that they make a
+-- crew's steps alone, and flush only what they imaged.
 use Rattle.std.proofs.Common.{◌≡◌, ℕ, zero, suc, ◌+◌, ◌≤◌, Bool, true, false, List, [], ◌∷◌, Some, None, slice_get, refl, sym, ap, ◌∙◌, subst, inl, inr, arith}
 use Rattle.std.specs.Prelude.{Result, Ok, Err, MatchResult, Option, unwrap_or, ◌⊎◌, ◌&&◌, ◌||◌, ◌==◌, All}
-use Rattle.std.specs.List.{list_any}
+use Rattle.std.specs.List.{AllByRecursion, list_any}
 use Rattle.std.proofs.lemmas.Option.{get_or_from_slice_get, slice_get_within}
 use Rattle.hl_model.specs.declared.step.Step.{Step}
 use Rattle.hl_model.specs.declared.step.Step.TheVariants.{Raise, Settle, Shift, Close, Take, Done, FlushTake, FlushDone, CleanTake, CleanDone}
 use Rattle.hl_model.specs.declared.snapshot.Snapshot.{Snapshot}
 use Rattle.hl_model.specs.declared.fault.Fault.{Fault}
 use Rattle.hl_model.specs.declared.fault.Fault.TheVariants.{JournalFull, NoneClosed, NoneSealed}
-use Rattle.hl_model.specs.Pages.{flushes, next_to_clean}
+use Rattle.hl_model.specs.Pages.{flushes, clean_of, next_to_clean}
 use Rattle.hl_model.specs.Replies.{or_fault, unless_fault, unless_page}
 use Rattle.hl_model.specs.Sizes.{Sizes}
 use Rattle.hl_action.specs.Jobs.{ReadyRecord}
@@ -23,8 +24,11 @@ use Rattle.hl_keeper.specs.Pages.{BroomRecord, first_cell, loaded_all, zeroed}
 use Rattle.hl_keeper.specs.declared.load.PageJob.{PageJob}
 use Rattle.hl_domain.specs.Domains.{DomainState, Call, LeavesUnderLock, answered, call_of, no_step, steps_if, with_entry}
 use Rattle.hl_lag.specs.Lag.{lag_of}
+use Rattle.hl_images.specs.Entered.{is_touch, IsSwept}
+use Rattle.hl_images.specs.Kept.{RiderEnters}
 use Rattle.hl_images.specs.Later.{IsLater}
-use Rattle.hl_images.specs.Sweeps.{AreSweeps}
+use Rattle.hl_images.specs.Sweeps.{AreSweeps, StoresSweep}
+use Rattle.hl_images.proofs.KeptLaws.{riders_stay_entered}
 use Rattle.hl_images.proofs.LaterLaws.{same as is_same, still, touch as later_touch, loads as later_loads, call as later_call}
 use Rattle.hl_crew.specs.declared.ends.Accepted.{Accepted}
 use Rattle.hl_crew.specs.declared.messages.Over.{Over}
@@ -40,9 +44,9 @@ use Rattle.hl_crew.specs.Goes.{Followed, UpTo}
 use Rattle.hl_crew.specs.Lags.{is_lag_step, MakesIf, MakesNext, KeepsLag}
 use Rattle.hl_crew.specs.Looks.{LooksNext}
 use Rattle.hl_crew.specs.Overs.{makes_room}
-use Rattle.hl_crew.specs.Riders.{has_flushed, WorksOn}
+use Rattle.hl_crew.specs.Riders.{is_crew_step, MakesCrewSteps, has_flushed, WorksOn}
 use Rattle.hl_crew.specs.Runs.{FlushesIf, Acts, Ends, MakesTurn, TurnsNext, Serves, ServeState, serve_of, ServesOnce, ServesNext, ServesUntil}
-use Rattle.hl_crew.specs.Tries.{TriesAgain, Tries}
+use Rattle.hl_crew.specs.Tries.{TriesAgain, Tries, EndsClean}
 use Rattle.hl_crew.specs.Turns.{SendState, swept, swept_by, Brooms, SendsPage, RunsAction, Cleans, Frees, Finds}
 use Rattle.hl_crew.proofs.LagLaws.{lag_kinds}
 use Rattle.hl_crew.proofs.RepeatLaws.{each_hold, finds_hold, followed_holds, looks_hold, then_holds, up_to_holds}
@@ -58,6 +62,23 @@ named none told page is (Some f) next job e = absurd cc
 quiet : {X : Type 0} (result : Result X Fault) (s : Step) → ((p : ℕ) → flushes p s ≡ false) → (p : ℕ) → list_any (flushes p) (steps_if result (s ∷ [])) ≡ false
 quiet (Ok x) s none p = ap (λ b. b || false) (none p)
 quiet (Err fault) s none p = refl
+
+-- a step of a crew that is no touch, and frees no page
+abbrev pub IsPlain : Step → Type 0
+IsPlain s = (is_crew_step s ≡ true) × (is_touch s ≡ false) × (clean_of s ≡ None)
+
+-- each of the lag's is one
+lag_plain : (s : Step) → is_lag_step s ≡ true → IsPlain s
+lag_plain (Raise x) is = (refl, refl, refl)
+lag_plain Settle is = (refl, refl, refl)
+lag_plain (Shift x) is = (refl, refl, refl)
+lag_plain Close is = (refl, refl, refl)
+lag_plain _ is = absurd cc
+
+-- a call whose one step is a crew's
+made_by : {X : Type 0} (result : Result X Fault) (s : Step) → is_crew_step s ≡ true → AllByRecursion (λ (t : Step). is_crew_step t ≡ true) (steps_if result (s ∷ []))
+made_by (Ok x) s is = (is, tt)
+made_by (Err fault) s is = tt
 
 -- a step of the lag flushes none
 lag_quiet : (s : Step) → is_lag_step s ≡ true → (p : ℕ) → flushes p s ≡ false
@@ -85,38 +106,52 @@ loads_sweep sizes cell (w ∷ words) view calls is = loads_sweep sizes (cell + 1
 module _ (serves : Bool) (sizes : Sizes) where
   -- a rider that did nothing
   pub no_more : (old new : RiderState) → new ≡ old → WorksOn serves sizes old new
-  no_more old new same = subst (λ r. WorksOn serves sizes old r) (sym same) (record { later = is_same old; sweeps = λ s. s; flushes = λ serving p. refl })
+  no_more old new same = subst (λ r. WorksOn serves sizes old r) (sym same) (record { later = is_same old; sweeps = λ s. s; enters = λ h. h; makes = λ m. m; flushes = λ serving p. refl })
 
   -- one thing after another
   pub then : (old mid new : RiderState) → WorksOn serves sizes old mid → WorksOn serves sizes mid new → WorksOn serves sizes old new
   then old mid new a b = record {
     later = still old mid new a.later b.later;
     sweeps = λ s. b.sweeps (a.sweeps s);
+    enters = λ h. b.enters (a.enters h);
+    makes = λ m. b.makes (a.makes m);
     flushes = λ serving p. b.flushes serving p ∙ a.flushes serving p;
   }
 
-  -- a call that flushes no page, if the crew serves
-  call_works : {F : Type 0} {domain : DomainState} {call : Call} {H : KeeperState F → KeeperState F → Type 0} → LeavesUnderLock F domain call H
-      → (serves ≡ true → (p : ℕ) (list : List Step) → list_any (flushes p) (call.steps list) ≡ false) → WorksOn serves sizes call.old call.new
-  call_works {call = call} left none = subst (λ r. WorksOn serves sizes call.old r) (sym left.entered) (record {
-    later = later_call left.before.cut left.after.cut left.list (call.steps left.list) call.old;
-    sweeps = λ s. s;
-    flushes = λ serving p. ap (λ b. b || has_flushed p call.old.calls) (none serving p left.list);
-  })
+  -- a call of a crew's steps that flushes no page, if the crew serves
+  pub call_works : {F : Type 0} {domain : DomainState} {call : Call} {H : KeeperState F → KeeperState F → Type 0} → LeavesUnderLock F domain call H → ((list : List Step) → AllByRecursion (λ s. is_crew_step s ≡ true) (call.steps list))
+      → (serves ≡ true → (p : ℕ) (list : List Step) → list_any (flushes p) (call.steps list) ≡ false) → (RiderEnters sizes call.old → RiderEnters sizes call.new) → WorksOn serves sizes call.old call.new
+  call_works {call = call} left made none enters = record {
+    later = subst (IsLater call.old) (sym left.entered) (later_call left.before.cut left.after.cut left.list (call.steps left.list) call.old);
+    sweeps = λ s. subst (StoresSweep sizes) (sym left.entered) s;
+    enters = enters;
+    makes = λ m. subst MakesCrewSteps (sym left.entered) (made left.list, m);
+    flushes = λ serving p. ap (λ (r : RiderState). has_flushed p r.calls) left.entered ∙ ap (λ b. b || has_flushed p call.old.calls) (none serving p left.list);
+  }
 
-  pub step_works : {F X : Type 0} {domain : DomainState} {H : KeeperState F → KeeperState F → Type 0} (s : Step) (result : Result X Fault) (old new : RiderState) → LeavesUnderLock F domain (answered result (call_of s old new)) H
+  -- a call that made no step keeps what is entered
+  none_enters : {F : Type 0} {domain : DomainState} {H : KeeperState F → KeeperState F → Type 0} (old new : RiderState) → LeavesUnderLock F domain (no_step old new) H → RiderEnters sizes old → RiderEnters sizes new
+  none_enters old new left h = subst (RiderEnters sizes) (sym left.entered) ((riders_stay_entered sizes).refused left.before.cut left.after.cut left.list old h)
+
+  pub step_works : {F X : Type 0} {domain : DomainState} {H : KeeperState F → KeeperState F → Type 0} (s : Step) (result : Result X Fault) (old new : RiderState) → LeavesUnderLock F domain (answered result (call_of s old new)) H → IsPlain s
       → (serves ≡ true → (p : ℕ) → flushes p s ≡ false) → WorksOn serves sizes old new
-  step_works s result old new left none = call_works left (λ serving p list. quiet result s (none serving) p)
+  step_works {F = F} {X = X} {domain = domain} {H = H} s result old new left plain none = call_works left (λ list. made_by result s plain.0) (λ serving p list. quiet result s (none serving) p) (by result left)
+    where
+      by : (result : Result X Fault) → LeavesUnderLock F domain (answered result (call_of s old new)) H → RiderEnters sizes old → RiderEnters sizes new
+      by (Ok x) left h = subst (RiderEnters sizes) (sym left.entered) ((riders_stay_entered sizes).call left.before.cut left.after.cut left.list s old plain.1 plain.2 h)
+      by (Err fault) left h = none_enters old new left h
 
   -- a call that made no step
   pub none_works : {F : Type 0} {domain : DomainState} {H : KeeperState F → KeeperState F → Type 0} (old new : RiderState) → LeavesUnderLock F domain (no_step old new) H → WorksOn serves sizes old new
-  none_works old new left = call_works left (λ serving p list. refl)
+  none_works old new left = call_works left (λ list. tt) (λ serving p list. refl) (none_enters old new left)
 
   -- loads of some words
   pub loads_work : (cell : ℕ) (words : List ℕ) (old new : RiderState) → new ≡ with_view (loaded_all cell words old.view) old → WorksOn serves sizes old new
   loads_work cell words old new is = subst (λ r. WorksOn serves sizes old r) (sym is) (record {
     later = later_loads cell words old;
     sweeps = λ s. loads_sweep sizes cell words old.view old.calls s;
+    enters = λ h. (riders_stay_entered sizes).loads cell words old h;
+    makes = λ m. m;
     flushes = λ serving p. refl;
   })
 
@@ -148,14 +183,14 @@ module _ (serves : Bool) (sizes : Sizes) where
 
     action_works : (i : ℕ) (result : Result Bool Over) (old new : RiderState) → RunsAction F domain cuts i result old new → WorksOn serves sizes old new
     action_works i (Ok true) old new one =
-        then old one.mid new (step_works Take (Ok one.ready) old one.mid one.taken (λ serving p. refl)) (tries_work F domain (makes_room cuts) _ (λ answer a b done. step_works (Done one.ready.firing.ticket) answer a b done (λ serving p. refl)) _ one.mid new one.done.2)
-    action_works i (Ok false) old new (fault, none, taken) = step_works {F = F} {X = ReadyRecord F} Take (Err fault) old new taken (λ serving p. refl)
-    action_works i (Err over) old new (inl (fault, other, is, taken)) = step_works {F = F} {X = ReadyRecord F} Take (Err fault) old new taken (λ serving p. refl)
+        then old one.mid new (step_works Take (Ok one.ready) old one.mid one.taken (refl, refl, refl) (λ serving p. refl)) (tries_work F domain (makes_room cuts) _ (λ answer a b done. step_works (Done one.ready.firing.ticket) answer a b done (refl, refl, refl) (λ serving p. refl)) _ one.mid new one.done.2)
+    action_works i (Ok false) old new (fault, none, taken) = step_works {F = F} {X = ReadyRecord F} Take (Err fault) old new taken (refl, refl, refl) (λ serving p. refl)
+    action_works i (Err over) old new (inl (fault, other, is, taken)) = step_works {F = F} {X = ReadyRecord F} Take (Err fault) old new taken (refl, refl, refl) (λ serving p. refl)
     action_works i (Err over) old new (inr (ready, mid, taken, done)) =
-        then old mid new (step_works Take (Ok ready) old mid taken (λ serving p. refl)) (tries_work F domain (makes_room cuts) _ (λ answer a b done. step_works (Done ready.firing.ticket) answer a b done (λ serving p. refl)) _ mid new done.2)
+        then old mid new (step_works Take (Ok ready) old mid taken (refl, refl, refl) (λ serving p. refl)) (tries_work F domain (makes_room cuts) _ (λ answer a b done. step_works (Done ready.firing.ticket) answer a b done (refl, refl, refl) (λ serving p. refl)) _ mid new done.2)
 
     load_works : (answer : Result PageJob Fault) (old new : RiderState) {H : KeeperState F → KeeperState F → Type 0} → LeavesUnderLock F domain (answered answer (call_of FlushTake old new)) H → WorksOn serves sizes old new
-    load_works answer old new taken = step_works FlushTake answer old new taken (λ serving p. refl)
+    load_works answer old new taken = step_works FlushTake answer old new taken (refl, refl, refl) (λ serving p. refl)
 
     -- a page that is sent
     send_works : (i : ℕ) (result : Result Bool Over) (old new : SendState) → SendsPage F domain i result old new → WorksOn serves sizes old.rider new.rider
@@ -182,8 +217,8 @@ module _ {L : Type 0} (sizes : Sizes) (F : Type 0) (domain : DomainState) where
 
   make_works : (serves wanted : Bool) (step : Step) (result : Result (Unit {0}) Fault) (old new : FlusherState L) → is_lag_step step ≡ true → MakesIf F domain wanted step result old new → FlusherWorks serves old new
   make_works serves false step result old new lag (is, same) = flusher_same serves old new same
-  make_works serves true step (Ok done) old new lag (answer, made, is) = step_works serves sizes step (Ok answer) old.rider new.rider made (λ serving. lag_quiet step lag)
-  make_works serves true step (Err fault) old new lag (made, is) = step_works serves sizes {F = F} {X = ℕ} step (Err fault) old.rider new.rider made (λ serving. lag_quiet step lag)
+  make_works serves true step (Ok done) old new lag (answer, made, is) = step_works serves sizes step (Ok answer) old.rider new.rider made (lag_plain step lag) (λ serving. lag_quiet step lag)
+  make_works serves true step (Err fault) old new lag (made, is) = step_works serves sizes {F = F} {X = ℕ} step (Err fault) old.rider new.rider made (lag_plain step lag) (λ serving. lag_quiet step lag)
 
   lag_step_works : (serves : Bool) (now : Snapshot) (steps : List Step) → All (λ step. is_lag_step step ≡ true) steps → (i : ℕ) (result : Result Bool Fault) (old new : FlusherState L) → MakesNext F domain serves now steps i result old new → FlusherWorks serves old new
   lag_step_works serves now steps kinds i (Ok true) old new (step, at, made) = make_works serves _ step _ old new (kind_at steps kinds i step at) made
@@ -206,7 +241,7 @@ module _ {L : Type 0} (sizes : Sizes) (F : Type 0) (domain : DomainState) where
   hold_then old mid new = then false sizes old.own.rider mid.own.rider new.own.rider
 
   answer_works : (page : ℕ) (ok : Bool) (result : Result (Unit {0}) Over) (old new : HoldState L) → AnswersPage F domain page ok result old new → HoldWorks old new
-  answer_works page ok result old new one = step_works false sizes (FlushDone page ok) one.answer old.own.rider new.own.rider one.answers.met (λ serving. absurd cc)
+  answer_works page ok result old new one = step_works false sizes (FlushDone page ok) one.answer old.own.rider new.own.rider one.answers.met (refl, refl, refl) (λ serving. absurd cc)
 
   tell_works : (i : ℕ) (result : Result (Unit {0}) Over) (old new : HoldState L) → ((result ≡ Err Lost) × (new ≡ old)) ⊎ ((page : ℕ) × (ok : Bool) × Tells F domain page ok result old new) → HoldWorks old new
   tell_works i result old new (inl (lost, same)) = hold_same old new same
@@ -277,32 +312,64 @@ zeros_later cell (suc n) r =
 -- a cleaner's looks
 module _ (serves : Bool) (F : Type 0) (domain : DomainState) (cuts : Cuts) where
   broom_works : (answer : Result BroomRecord Fault) (old new : RiderState) → Brooms F domain answer old new → WorksOn serves domain.sizes old new
-  broom_works answer old new taken = step_works serves domain.sizes CleanTake answer old new taken (λ serving p. refl)
+  broom_works answer old new taken = step_works serves domain.sizes CleanTake answer old new taken (refl, refl, refl) (λ serving p. refl)
+
+  -- the cells of a broom's page are swept
+  abbrev IsSweptBy : BroomRecord → RiderState → Type 0
+  IsSweptBy broom r = IsSwept domain.sizes broom.page r.view.touches r.calls
 
   -- the sweep of a page that was taken
-  sweep_works : (broom : BroomRecord) (old taker : RiderState) → Brooms F domain (Ok broom) old taker → WorksOn serves domain.sizes old (swept_by domain broom taker)
+  sweep_works : (broom : BroomRecord) (old taker : RiderState) → Brooms F domain (Ok broom) old taker → WorksOn serves domain.sizes old (swept_by domain broom taker) × IsSweptBy broom (swept_by domain broom taker)
   unfolding step_fault
   sweep_works broom old taker t =
       let next = named NoneClosed (λ p. record { stamp = t.before.stamp; page = p; swept = 0 }) (λ (b : BroomRecord). b.page) (λ p. refl) (room_fault t.before 1) (next_to_clean t.before.core.sizes t.list) broom (t.holds.0 t.list t.met.stands).reply in
       let names : next_to_clean domain.sizes t.list ≡ Some broom.page = subst (λ (z : Sizes). next_to_clean z t.list ≡ Some broom.page) t.met.sizes_are next in
       let took : RiderState = with_entry t.before.cut t.after.cut t.list (CleanTake ∷ []) old in
       let entered : taker ≡ took = t.entered in
-      let swept : WorksOn serves domain.sizes old (swept_by domain broom took) = record {
+      let works : WorksOn serves domain.sizes old (swept_by domain broom took) = record {
         later = still old took (swept_by domain broom took) (later_call t.before.cut t.after.cut t.list (CleanTake ∷ []) old) (zeros_later (first_cell domain.sizes broom.page) domain.sizes.page_size took);
         sweeps = λ s. zeros_sweep domain.sizes broom.page domain.sizes.page_size t.list old.calls took.view names (omega arith) s;
+        enters = λ h. (riders_stay_entered domain.sizes).sweeps t.before.cut t.after.cut t.list broom.page old names h;
+        makes = λ m. ((refl, tt), m);
         flushes = λ serving p. refl;
       } in
-      subst (λ (r : RiderState). WorksOn serves domain.sizes old (swept_by domain broom r)) (sym entered) swept
+      subst (λ (r : RiderState). WorksOn serves domain.sizes old (swept_by domain broom r) × IsSweptBy broom (swept_by domain broom r)) (sym entered) (works, (riders_stay_entered domain.sizes).swept t.before.cut t.after.cut t.list broom.page old names)
 
-  free_works : (broom : BroomRecord) (result : Result Accepted Over) (old new : RiderState) → Frees F domain cuts broom result old new → WorksOn serves domain.sizes old new
-  free_works broom result old new frees = tries_work serves domain.sizes F domain (makes_room cuts) _ (λ answer a b done. step_works serves domain.sizes (CleanDone broom.page) answer a b done (λ serving p. refl)) _ old new frees.2
+  -- a call that made no step leaves a page swept
+  none_sweeps : (broom : BroomRecord) {H : KeeperState F → KeeperState F → Type 0} (old new : RiderState) → LeavesUnderLock F domain (no_step old new) H → WorksOn serves domain.sizes old new × (IsSweptBy broom old → IsSweptBy broom new)
+  none_sweeps broom old new left = (none_works serves domain.sizes old new left, λ swept. subst (IsSweptBy broom) (sym left.entered) swept)
+
+  -- the tries of a done that frees a swept page
+  free_works : (broom : BroomRecord) (result : Result Accepted Over) (old new : RiderState) → IsSweptBy broom old → Frees F domain cuts broom result old new → WorksOn serves domain.sizes old new
+  free_works broom result old new swept (answer, told, tries) = then serves domain.sizes old tries.last new again.0 (by answer tries.answered)
+    where
+      Keeps : RiderState → RiderState → Type 0
+      Keeps a b = WorksOn serves domain.sizes a b × (IsSweptBy broom a → IsSweptBy broom b)
+
+      keeps_same : (a b : RiderState) → b ≡ a → Keeps a b
+      keeps_same a b same = (no_more serves domain.sizes a b same, λ h. subst (IsSweptBy broom) (sym same) h)
+
+      keeps_then : (a b c : RiderState) → Keeps a b → Keeps b c → Keeps a c
+      keeps_then a b c one two = (then serves domain.sizes a b c one.0 two.0, λ h. two.1 (one.1 h))
+
+      again : Keeps old tries.last
+      again = followed_holds Keeps keeps_same keeps_then (TriesAgain F domain (makes_room cuts) (EndsClean F domain broom)) (λ i next a b (refused, answered, room, cut). keeps_then a refused b (none_sweeps broom a refused answered) (none_sweeps broom refused b cut)) tries.before old tries.last tries.again
+
+      by : (answer : Result ℕ Fault) → EndsClean F domain broom answer tries.last new → WorksOn serves domain.sizes tries.last new
+      by (Err fault) done = none_works serves domain.sizes tries.last new done
+      by (Ok x) done = call_works serves domain.sizes done (λ list. (refl, tt)) (λ serving p list. refl)
+          (λ h. subst (RiderEnters domain.sizes) (sym done.entered) ((riders_stay_entered domain.sizes).frees done.before.cut done.after.cut done.list broom.page tries.last (again.1 swept) h))
 
   clean_works : (result : Result Bool Over) (old new : RiderState) → Cleans F domain cuts result old new → WorksOn serves domain.sizes old new
-  clean_works (Ok true) old new one = then serves domain.sizes old (swept_by domain one.broom one.taker) new (sweep_works one.broom old one.taker one.taken) (free_works (swept domain one.broom) _ _ new one.done)
+  clean_works (Ok true) old new one =
+      let swept_page = sweep_works one.broom old one.taker one.taken in
+      then serves domain.sizes old (swept_by domain one.broom one.taker) new swept_page.0 (free_works (swept domain one.broom) _ _ new swept_page.1 one.done)
   clean_works (Ok false) old new taken = broom_works _ old new taken
   clean_works (Err over) old new (inl (fault, other, is, taken)) = broom_works (Err fault) old new taken
   clean_works (Err over) old new (inr (broom, taker, taken, inl (strange, is, same))) = then serves domain.sizes old taker new (broom_works (Ok broom) old taker taken) (no_more serves domain.sizes taker new same)
-  clean_works (Err over) old new (inr (broom, taker, taken, inr frees)) = then serves domain.sizes old (swept_by domain broom taker) new (sweep_works broom old taker taken) (free_works (swept domain broom) _ _ new frees)
+  clean_works (Err over) old new (inr (broom, taker, taken, inr frees)) =
+      let swept_page = sweep_works broom old taker taken in
+      then serves domain.sizes old (swept_by domain broom taker) new swept_page.0 (free_works (swept domain broom) _ _ new swept_page.1 frees)
 
   find_works : (result : Result Bool Over) (old new : RiderState) → Finds F domain cuts result old new → WorksOn serves domain.sizes old new
   find_works = finds_hold (WorksOn serves domain.sizes) (no_more serves domain.sizes) (then serves domain.sizes) (Cleans F domain cuts) (CutsJournal F domain) cuts clean_works (none_works serves domain.sizes)

@@ -21,6 +21,8 @@ use Rattle.hl_crew.proofs.WriterLaws.{writer_same, writer_then, writer_works}
 pub rider_as_given : (serves : Bool) (sizes : Sizes) (given : List RiderState) (old new : RiderState) → WorksOn serves sizes old new → IsAsGiven given serves sizes old (FlushesNone old) → IsAsGiven given serves sizes new (FlushesNone new)
 rider_as_given serves sizes given old new works was = record {
   sweeps = λ all. works.sweeps (was.sweeps all);
+  enters = λ all. works.enters (was.enters all);
+  makes = λ all. works.makes (was.makes all);
   images = λ serving none p. works.flushes serving p ∙ was.images serving none p;
 }
 
@@ -52,13 +54,19 @@ module _ {L W : Type 0} (has : W → ℕ → List ℕ → Type 0) (serves : Bool
     pub writer_as_given : (old new : WriterState L W) → WritesOn has serves sizes old new → IsAsGiven given serves sizes old.rider (HasImages has sizes old.rider old.pages) → IsAsGiven given serves sizes new.rider (HasImages has sizes new.rider new.pages)
     writer_as_given old new works was = record {
       sweeps = λ all. works.sweeps (was.sweeps all);
+      enters = λ all. works.enters (was.enters all);
+      makes = λ all. works.makes (was.makes all);
       images = λ serving none. works.images serving (was.images serving none);
     }
 
     -- all of them
     pub all_as_given : (old new : CrewState L W) → AllWorkOn has serves sizes old new → AreAsGiven has serves sizes given (crew_of old) → AreAsGiven has serves sizes given (crew_of new)
     all_as_given old new works was = record {
-      sweeps = λ all. let s = was.sweeps all in (works.flusher.sweeps s.0, (works.first.sweeps s.1.0, (works.second.sweeps s.1.1.0, (works.cleaner.sweeps s.1.1.1.0, tt))));
+      stay = record {
+        sweeps = λ all. let s = was.stay.sweeps all in (works.flusher.sweeps s.0, (works.first.sweeps s.1.0, (works.second.sweeps s.1.1.0, (works.cleaner.sweeps s.1.1.1.0, tt))));
+        enters = λ all. let h = was.stay.enters all in (works.flusher.enters h.0, (works.first.enters h.1.0, (works.second.enters h.1.1.0, (works.cleaner.enters h.1.1.1.0, tt))));
+        makes = λ all. let m = was.stay.makes all in (works.flusher.makes m.0, (works.first.makes m.1.0, (works.second.makes m.1.1.0, (works.cleaner.makes m.1.1.1.0, tt))));
+      };
       images = λ serving none.
           let i = was.images serving none in
           record {

@@ -77,12 +77,14 @@ more_images has sizes page had now words list later mid new pages was copy there
 
 module _ {L W : Type 0} (has : W → ℕ → List ℕ → Type 0) (serves : Bool) (sizes : Sizes) where
   pub writer_same : (old new : WriterState L W) → new ≡ old → WritesOn has serves sizes old new
-  writer_same old new same = subst (λ (s : WriterState L W). WritesOn has serves sizes old s) (sym same) (record { later = is_same old.rider; sweeps = λ s. s; images = λ serving is. is })
+  writer_same old new same = subst (λ (s : WriterState L W). WritesOn has serves sizes old s) (sym same) (record { later = is_same old.rider; sweeps = λ s. s; enters = λ h. h; makes = λ m. m; images = λ serving is. is })
 
   pub writer_then : (old mid new : WriterState L W) → WritesOn has serves sizes old mid → WritesOn has serves sizes mid new → WritesOn has serves sizes old new
   writer_then old mid new a b = record {
     later = still old.rider mid.rider new.rider a.later b.later;
     sweeps = λ s. b.sweeps (a.sweeps s);
+    enters = λ h. b.enters (a.enters h);
+    makes = λ m. b.makes (a.makes m);
     images = λ serving is. b.images serving (a.images serving is);
   }
 
@@ -91,6 +93,8 @@ module _ {L W : Type 0} (has : W → ℕ → List ℕ → Type 0) (serves : Bool
   others_write q old new fresh works others = record {
     later = works.later;
     sweeps = works.sweeps;
+    enters = works.enters;
+    makes = works.makes;
     images = λ serving is p flushed.
         let before : has_flushed p old.rider.calls ≡ true = sym (works.flushes serving p) ∙ flushed in
         let one = is p before in
@@ -106,6 +110,8 @@ module _ {L W : Type 0} (has : W → ℕ → List ℕ → Type 0) (serves : Bool
   rider_writes old new works pages = record {
     later = works.later;
     sweeps = works.sweeps;
+    enters = works.enters;
+    makes = works.makes;
     images = λ serving is p flushed.
         let one = is p (sym (works.flushes serving p) ∙ flushed) in (
           one.0,
@@ -134,7 +140,7 @@ pub told_page_writes : {L W : Type 0} (has : W → ℕ → List ℕ → Type 0) 
     → WritesOn has false sizes old mid → Copies lets (WritesPage has wrote) (FailsPage has failed) failures sizes ok job mid.rider new.rider mid.pages new.pages → WritesOn has false sizes old new
 told_page_writes has wrote failed failures lets sizes job ok old mid new before copies =
     let works = (copies_work has false sizes wrote failed failures lets ok job mid.rider new.rider mid.pages new.pages copies).0 in
-    writer_then has false sizes old mid new before (record { later = works.later; sweeps = works.sweeps; images = λ serving. absurd cc })
+    writer_then has false sizes old mid new before (record { later = works.later; sweeps = works.sweeps; enters = works.enters; makes = works.makes; images = λ serving. absurd cc })
 
 -- a writer that takes its pages itself
 module _ {L W : Type 0} (has : W → ℕ → List ℕ → Type 0) (serves : Bool) (F : Type 0) (domain : DomainState) (cuts : Cuts) (lets : ℕ → Type 0)
@@ -155,13 +161,15 @@ module _ {L W : Type 0} (has : W → ℕ → List ℕ → Type 0) (serves : Bool
       again = again_work serves domain.sizes F domain (makes_room cuts) (EndsFlush F domain page true stamp) (λ (a b : RiderState) refused. none_works serves domain.sizes a b refused) tries.before old.rider tries.last tries.again
 
       ends : (answer : Result ℕ Fault) → EndsFlush F domain page true stamp answer tries.last new.rider → WorksOn false domain.sizes tries.last new.rider
-      ends answer done = step_works false domain.sizes (FlushDone page true) answer tries.last new.rider done (λ serving. absurd cc)
+      ends answer done = step_works false domain.sizes (FlushDone page true) answer tries.last new.rider done (refl, refl, refl) (λ serving. absurd cc)
 
       by : (answer : Result ℕ Fault) → EndsFlush F domain page true stamp answer tries.last new.rider → Works mid new
       by (Err fault) done = rider_writes has serves domain.sizes mid new (none_works serves domain.sizes tries.last new.rider done) pages
       by (Ok x) done = record {
         later = (ends (Ok x) done).later;
         sweeps = (ends (Ok x) done).sweeps;
+        enters = (ends (Ok x) done).enters;
+        makes = (ends (Ok x) done).makes;
         images = λ serving is. subst (HasImages has domain.sizes new.rider) (sym pages)
             (more_images has domain.sizes page done.before.cut done.after.cut words list done.list tries.last new.rider old.pages is (copied_stays domain.sizes page words list old.rider tries.last copy again.later) there done.entered);
       }
@@ -169,7 +177,7 @@ module _ {L W : Type 0} (has : W → ℕ → List ℕ → Type 0) (serves : Bool
   -- a page that was taken and copied
   copy_works : (load : PageJob) (taker : RiderState) (ok : Bool) (old copier : WriterState L W) → Loads F domain (Ok load) old.rider taker → Copies lets (WritesPage has wrote) (FailsPage has failed) failures domain.sizes ok load taker copier.rider old.pages copier.pages → Works old copier
   copy_works load taker ok old copier taken copies =
-      let takes = step_works serves domain.sizes FlushTake (Ok load) old.rider taker taken (λ serving p. refl) in
+      let takes = step_works serves domain.sizes FlushTake (Ok load) old.rider taker taken (refl, refl, refl) (λ serving p. refl) in
       let did = copies_work has serves domain.sizes wrote failed failures lets ok load taker copier.rider old.pages copier.pages copies in
       others_write has serves domain.sizes load.page old copier (fresh_page load old.rider taker taken) (then serves domain.sizes old.rider taker copier.rider takes did.0) did.1
 
@@ -185,12 +193,12 @@ module _ {L W : Type 0} (has : W → ℕ → List ℕ → Type 0) (serves : Bool
       (subst (λ (s : WriterState L W). TriesFor F domain (makes_room cuts) (EndsFlush F domain page true one.load.stamp) result s.rider new.rider) same one.done))
   flushes_page Behind behind false passed result old new one =
       let page = one.load.page in
-      let done = tries_work serves domain.sizes F domain (makes_room cuts) (EndsFlush F domain page false one.load.stamp) (λ answer a b done. step_works serves domain.sizes (FlushDone page false) answer a b done (λ serving p. failed_quiet page p)) _ one.last.rider new.rider one.done.2 in
+      let done = tries_work serves domain.sizes F domain (makes_room cuts) (EndsFlush F domain page false one.load.stamp) (λ answer a b done. step_works serves domain.sizes (FlushDone page false) answer a b done (refl, refl, refl) (λ serving p. failed_quiet page p)) _ one.last.rider new.rider one.done.2 in
       writer_then has serves domain.sizes old one.copier new (copy_works one.load one.taker false old one.copier one.taken one.copies)
       (writer_then has serves domain.sizes one.copier one.last new (behind passed one.copier one.last one.passes) (rider_writes has serves domain.sizes one.last new done one.pages))
 
   refuses_works : (fault : Fault) (old new : WriterState L W) → Loads F domain (Err fault) old.rider new.rider → new ≡ record old { rider = new.rider } → Works old new
-  refuses_works fault old new taken same = rider_writes has serves domain.sizes old new (step_works serves domain.sizes {F = F} {X = PageJob} FlushTake (Err fault) old.rider new.rider taken (λ serving p. refl)) (ap (λ (s : WriterState L W). s.pages) same)
+  refuses_works fault old new taken same = rider_writes has serves domain.sizes old new (step_works serves domain.sizes {F = F} {X = PageJob} FlushTake (Err fault) old.rider new.rider taken (refl, refl, refl) (λ serving p. refl)) (ap (λ (s : WriterState L W). s.pages) same)
 
   flushes_one : (Behind : Result Bool Over → WriterState L W → WriterState L W → Type 0) → ((passed : Result Bool Over) (old new : WriterState L W) → Behind passed old new → Works old new)
       → (result : Result Bool Over) (old new : WriterState L W) → FlushesOne F domain cuts lets (WritesPage has wrote) (FailsPage has failed) failures Behind result old new → Works old new

@@ -1,6 +1,8 @@
--- What the riders of a crew store and flush.
+-- What the riders of a crew do: which steps their calls make, what they store, and what they flush.
 use Rattle.std.specs.Prelude.{ℕ, ◌≡◌, ◌≢◌, Bool, true, false, Option, is_none, List, [], ◌∷◌}
 use Rattle.std.specs.List.{AllByRecursion, list_any}
+use Rattle.hl_model.specs.declared.step.Step.{Step}
+use Rattle.hl_model.specs.declared.step.Step.TheVariants.{Raise, Settle, Shift, Close, Take, Done, FlushTake, FlushDone, CleanTake, CleanDone}
 use Rattle.hl_model.specs.Pages.{flushes}
 use Rattle.hl_model.specs.Sizes.{Sizes}
 use Rattle.hl_history.specs.declared.view.Entry.{Entry}
@@ -8,6 +10,7 @@ use Rattle.hl_words.specs.States.{RiderState}
 use Rattle.hl_image.specs.Image.{image}
 use Rattle.hl_domain.specs.Domains.{DomainState}
 use Rattle.hl_images.specs.Flushes.{HasFlushed}
+use Rattle.hl_images.specs.Kept.{RiderEnters}
 use Rattle.hl_images.specs.Later.{IsLater}
 use Rattle.hl_images.specs.Sweeps.{StoresSweep}
 use Rattle.hl_crew.specs.declared.crew.Crew.{Crew}
@@ -16,9 +19,31 @@ use Rattle.hl_crew.specs.declared.messages.Channels.{Channels}
 use Rattle.hl_crew.specs.declared.state.CrewState.{CrewState}
 use Rattle.hl_crew.specs.declared.writer.WriterState.{WriterState}
 
--- each of these riders stores only to sweep pages
-abbrev pub StoreSweeps : Sizes → List RiderState → Type 0
-StoreSweeps sizes riders = AllByRecursion (StoresSweep sizes) riders
+-- a step of a crew: a take or a done, of an action or a page; a raise or a shift; or a bump that settles or closes. So it
+-- takes and leaves no slot, and neither allocates nor writes
+abbrev pub is_crew_step : Step → Bool
+is_crew_step (Raise x) = true
+is_crew_step Settle = true
+is_crew_step (Shift x) = true
+is_crew_step Close = true
+is_crew_step Take = true
+is_crew_step (Done ticket) = true
+is_crew_step FlushTake = true
+is_crew_step (FlushDone page ok) = true
+is_crew_step CleanTake = true
+is_crew_step (CleanDone page) = true
+is_crew_step _ = false
+
+-- the rider's calls made such steps alone
+abbrev pub MakesCrewSteps : RiderState → Type 0
+MakesCrewSteps r = AllByRecursion (λ e. AllByRecursion (λ s. is_crew_step s ≡ true) e.steps) r.calls
+
+-- Whatever all riders of a crew did before, those that it hands back do: they store only to sweep pages, each store of them
+-- is entered, and their calls made steps of a crew alone
+pub record RidersStay (sizes : Sizes) (given riders : List RiderState) : Type 0 where
+  pub sweeps : AllByRecursion (StoresSweep sizes) given → AllByRecursion (StoresSweep sizes) riders
+  pub enters : AllByRecursion (RiderEnters sizes) given → AllByRecursion (RiderEnters sizes) riders
+  pub makes : AllByRecursion MakesCrewSteps given → AllByRecursion MakesCrewSteps riders
 
 -- some call of these answered page p as flushed
 abbrev pub has_flushed : ℕ → List Entry → Bool
@@ -58,10 +83,13 @@ abbrev pub FailsPage : {W : Type 0} → (W → ℕ → List ℕ → Type 0) → 
 FailsPage has failed before page bytes after =
     failed before page bytes after × KeepsOthers has page before after
 
--- between the two a rider did more: it stored only to sweep, and if the crew serves, it flushed no page
+-- between the two a rider did more, by steps of a crew: it stored only to sweep, each store is entered, and if the crew
+-- serves, it flushed no page
 pub record WorksOn (serves : Bool) (sizes : Sizes) (old new : RiderState) : Type 0 where
   pub later : IsLater old new
   pub sweeps : StoresSweep sizes old → StoresSweep sizes new
+  pub enters : RiderEnters sizes old → RiderEnters sizes new
+  pub makes : MakesCrewSteps old → MakesCrewSteps new
   pub flushes : serves ≡ true → (p : ℕ) → has_flushed p new.calls ≡ has_flushed p old.calls
 
 -- the same of a writer: if the crew serves, its rider flushed only pages whose images it wrote
@@ -69,6 +97,8 @@ pub record WritesOn {L W : Type 0} (has : W → ℕ → List ℕ → Type 0) (se
     (old new : WriterState L W) : Type 0 where
   pub later : IsLater old.rider new.rider
   pub sweeps : StoresSweep sizes old.rider → StoresSweep sizes new.rider
+  pub enters : RiderEnters sizes old.rider → RiderEnters sizes new.rider
+  pub makes : MakesCrewSteps old.rider → MakesCrewSteps new.rider
   pub images : serves ≡ true → HasImages has sizes old.rider old.pages
       → HasImages has sizes new.rider new.pages
 
@@ -97,17 +127,19 @@ crew_of state = record {
   second = state.second.pages;
 }
 
--- the rider of a crew stores only to sweep, if all riders did that it was given; and if the crew serves, this holds of what
--- it flushed, if those had flushed nothing
+-- the rider of a crew stores only to sweep, each store of it is entered, and its calls made steps of a crew alone, if all
+-- riders did so that it was given; and if the crew serves, this holds of what it flushed, if those had flushed nothing
 pub record IsAsGiven (given : List RiderState) (serves : Bool) (sizes : Sizes) (r : RiderState)
     (Flushed : Type 0) : Type 0 where
-  pub sweeps : StoreSweeps sizes given → StoresSweep sizes r
+  pub sweeps : AllByRecursion (StoresSweep sizes) given → StoresSweep sizes r
+  pub enters : AllByRecursion (RiderEnters sizes) given → RiderEnters sizes r
+  pub makes : AllByRecursion MakesCrewSteps given → MakesCrewSteps r
   pub images : serves ≡ true → AllByRecursion FlushesNone given → Flushed
 
 -- so it is with all riders of a crew, by the page writers that it has
 pub record AreAsGiven {L W : Type 0} (has : W → ℕ → List ℕ → Type 0) (serves : Bool) (sizes : Sizes)
     (given : List RiderState) (crew : Crew L W) : Type 0 where
-  pub sweeps : StoreSweeps sizes given → StoreSweeps sizes (riders_of crew.riders)
+  pub stay : RidersStay sizes given (riders_of crew.riders)
   pub images : serves ≡ true → AllByRecursion FlushesNone given → AreImaged has sizes crew
 
 -- a crew works on a domain of these sizes, and serves or not, as it was given

@@ -1,7 +1,7 @@
 ghost use Rattle.std.specs.Prelude.{◌≡◌, ◌≢◌, ◌<◌, [], ◌∷◌, Err, false, true, is_none, IsOk, IfOk, IfErr};
 ghost use Rattle.hl_crew.specs.Lags.{IsLag};
 ghost use Rattle.hl_crew.specs.Limited.{duty_limits, run_limits, is_until};
-ghost use Rattle.hl_crew.specs.Riders.{AreAsGiven, StoreSweeps, FailsPage, WritesPage, riders_of};
+ghost use Rattle.hl_crew.specs.Riders.{AreAsGiven, RidersStay, FailsPage, WritesPage, riders_of};
 ghost use Rattle.hl_crew.specs.Rounds.{EndsByRounds};
 ghost use Rattle.hl_model.specs.declared.fault.Fault.TheVariants.{OutOfMemory, Size};
 
@@ -67,7 +67,9 @@ impl<L: Realm, W> CrewEnd<L, W> {
 /// the tail needs, and no frame comes free: [`Duty`] excludes that.
 ///
 /// If the riders had stored into cells only to sweep pages that they had taken to clean, so it is with those that
-/// come back: where the crew took no page to clean, they stored nothing.
+/// come back: where the crew took no page to clean, they stored nothing. If each of their stores was entered, so each is;
+/// and if their calls had made takes and dones, raises and shifts, settles and closes alone, so they have: a crew takes no
+/// slot, allocates no page and writes no word.
 ///
 /// `OutOfMemory` if memory or a thread was refused; then riders and page writers are handed back.
 /// Steps that were made until then stay in the journal.
@@ -94,9 +96,8 @@ where
     G: Gate + Sync,
     requires { IsLag domain.now.sizes.frames mutable resident }
     ensures limits { IfOk result (λ end. end.limits ≡ run_limits mutable resident turns cut) }
-    ensures sweeps { let sizes = domain.now.sizes
-        in StoreSweeps sizes riders → (IfOk result (λ end. StoreSweeps sizes end.riders)
-        × IfErr result (λ back. StoreSweeps sizes back.1)) }
+    ensures stay { IfOk result (λ end. RidersStay domain.now.sizes riders end.riders)
+        × IfErr result (λ back. RidersStay domain.now.sizes riders back.1) }
     ensures err { IfErr result (λ back. back.0 ≡ OutOfMemory) }
 {
     let [flusher, first_writer, second_writer, cleaner] = riders;
@@ -144,7 +145,7 @@ impl<L: Realm, W> Crew<L, W> {
     /// flusher and all looks of the others, up to the first in which the flusher got nowhere or failed: so it ends once
     /// nothing is in flight. If the journal is full, it cuts it where the duty lets it; else a full journal ends it
     /// before its stop. The crew comes back, whatever it met, and its report has the duty's limits. Of what the riders
-    /// stored the same holds. If they had flushed nothing, then each page that those which come back flushed is with
+    /// stored, and of the steps of their calls, the same holds. If they had flushed nothing, then each page that those which come back flushed is with
     /// the writer of that rider, as the image of the words that the rider copied between its take and its answer: at
     /// the domain's end it is an image of the page, by `hl_images`. Of a page whose write failed, or whose answer was
     /// refused, nothing is said.
