@@ -1,6 +1,6 @@
 -- What a run came to, and what its status tells once the writer was flushed.
 use Rattle.std.proofs.Common.{◌≡◌, ◌≢◌, ◌⊎◌, inl, inr, ℕ, ◌^◌, Bool, true, false, cond, List, [], ◌∷◌, ◌++◌, ◌∙◌, refl, sym, ap, subst}
-use Rattle.std.specs.Prelude.{Option, Some, None, Result, Ok, Err, OnOk}
+use Rattle.std.specs.Prelude.{Option, Some, None, Result, Ok, Err, OnOk, IfOk, ◌≤◌}
 use Rattle.std.specs.Io.KnownBytes.{Appends, Keeps}
 use Rattle.std.proofs.KnownBytes.{Appends-nil, Appends-trans}
 use Rattle.hl_model.specs.declared.fault.Fault.{Fault}
@@ -9,11 +9,14 @@ use Rattle.hl_model.specs.Sizes.{Sizes}
 use Rattle.hl_line.specs.declared.line.Line.{Line}
 use Rattle.hl_flush.specs.Unflushed.{image_lines}
 use Rattle.hl_flush.proofs.UnflushedLaws.{unflushed-nil, image_lines-none}
+use Rattle.hl_judge.specs.declared.verdict.Verdict.{Verdict}
+use Rattle.hl_judge.specs.Judging.{Judges}
 use Rattle.hl_script.specs.Answers.{sizes_of, accepted_after, accepted}
 use Rattle.hl_script.specs.Lines.{script}
 use Rattle.hl_script.specs.Outcomes.{ReadToEnd, WroteAll, WroteBad, StoppedAtBadLine, RunStopped}
 use Rattle.hl_script.specs.Text.{below, bad_text, count_of, text}
-use Rattle.hl_commands.specs.Commands.{AreTheTags, written, EndsText, Answered, EndsReport, ReportedAs}
+use Rattle.hl_commands.specs.Commands.{AreTheTags, written, EndsText, Answered, EndsReport, ReportedAs, JudgedAs}
+use Rattle.hl_commands.specs.Judged.{verdict_text, verdict_status}
 use Rattle.hl_commands.specs.Reported.{Reports}
 
 appends_kept : (a b c : Option (List ℕ)) (bytes : List ℕ) → Appends a b bytes → Keeps b c → Appends a c bytes
@@ -148,3 +151,9 @@ reported_as given left before between after ended status did kept done refused =
   done = λ is. let a = did.done (done is) in (a.0, a.1, appends_kept before between after _ a.2 kept);
   refused = λ is. let bad = refused is in let told = did.refused bad.0 bad.1 in (bad.0, told.0, appends_kept before between after _ told.1 kept);
 }
+
+-- a trace that was judged, and what it shows was told
+pub judged_as : (has : ℕ → Bool) (given left before after : Option (List ℕ)) (verdict : Verdict) (result : Result ℕ Fault) → AreTheTags has → Judges has given left (Ok verdict)
+    → OnOk result (Appends before after (verdict_text verdict)) → IfOk result (λ status. (status ≤ 2) × (status ≡ verdict_status verdict)) → IfOk result (λ status. (status ≤ 2) × JudgedAs given before after status)
+judged_as has given left before after verdict (Ok status) tags judges told is = (is.0, record { has = has; tags = tags; left = left; verdict = verdict; judges = judges; told = told; status_is = is.1 })
+judged_as has given left before after verdict (Err fault) tags judges told is = tt

@@ -1,3 +1,4 @@
 pub mod Reported
 pub mod Judged
 pub mod Commands
+pub mod Jobs

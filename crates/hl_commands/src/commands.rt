@@ -1,12 +1,14 @@
-ghost use Rattle.std.specs.Prelude.{◌≡◌, ℕ, ◌≤◌, false, Ok, Err};
+ghost use Rattle.std.specs.Prelude.{◌≡◌, ℕ, ◌<◌, ◌≤◌, false, Ok, Err};
 ghost use Rattle.std.specs.Io.KnownBytes.{Keeps};
 ghost use Rattle.hl_model.specs.declared.fault.Fault.TheVariants.{BadLine};
 ghost use Rattle.hl_commands.specs.Commands.{Answered, EndsText, ReportedAs, EndsReport};
+ghost use Rattle.hl_commands.specs.Jobs.{MakesSums};
 
 use crate::images::write_images;
-use crate::jobs::{AddTicket, TAGS, all_jobs};
+use crate::jobs::{TAGS, adds_ticket, all_jobs};
 use crate::reports::report_script;
 use crate::status::{DONE, Flushed, REFUSED, failed};
+use hl_action::Task;
 use hl_counts::CountTable;
 use hl_epoch::{Epochs, ScanTable};
 use hl_model::Fault;
@@ -29,7 +31,7 @@ pub fn run<R: Read, W: Write, E: Write>(
     ensures answered { Answered flush (R.remaining reader.old) (R.remaining reader.new)
         (W.contents writer.old) (W.contents writer.new) result }
 {
-    let ended = serve::<CountTable, R, W>(alloc, flush, reader, writer);
+    let ended = serve::<CountTable, _, _, R, W>(alloc, flush, reader, writer, adds_ticket!());
     status_of(ended, writer, errors)
 }
 
@@ -45,7 +47,7 @@ pub fn scan<R: Read, W: Write, E: Write>(
     ensures answered { Answered flush (R.remaining reader.old) (R.remaining reader.new)
         (W.contents writer.old) (W.contents writer.new) result }
 {
-    let ended = serve::<ScanTable, R, W>(alloc, flush, reader, writer);
+    let ended = serve::<ScanTable, _, _, R, W>(alloc, flush, reader, writer, adds_ticket!());
     status_of(ended, writer, errors)
 }
 
@@ -77,7 +79,7 @@ pub fn report<R: Read, W: Write, E: Write>(
     ensures reported { ReportedAs (R.remaining reader.old) (R.remaining reader.new)
         (W.contents writer.old) (W.contents writer.new) result }
 {
-    let ended = tell(alloc, reader, writer);
+    let ended = tell(alloc, reader, writer, adds_ticket!());
     status_of(ended, writer, errors)
 }
 
@@ -97,18 +99,22 @@ fn status_of<W: Write, E: Write>(ended: Result<(), Fault>, writer: &mut W, error
     }
 }
 
-/// Runs the script over a table of epochs, and flushes the pages that it left sealed if that is wanted.
-fn serve<E: Epochs + Drop, R: Read, W: Write>(
+/// Runs the script over a table of epochs, with the jobs that `make` makes, and flushes the pages that it left sealed if
+/// that is wanted.
+fn serve<E: Epochs + Drop, F: Task, M: Fn(u64) -> F, R: Read, W: Write>(
     alloc: Global,
     flush: bool,
     reader: &mut R,
     writer: &mut W,
+    make: M,
 ) -> Result<(), Fault>
+    requires callable { (tag : ℕ) → tag < 1000 → M.pre make tag }
+    requires made { MakesSums F.can F.gives (λ tag job. M.post make tag job) }
     ensures { EndsText flush (R.remaining reader.old) (R.remaining reader.new)
         (W.contents writer.old) (W.contents writer.new) result }
 {
-    let shelf = all_jobs(alloc)?;
-    let ended: Option<Finished<E, AddTicket>> = run_text(alloc, reader, writer, shelf)?;
+    let shelf = all_jobs(alloc, make)?;
+    let ended: Option<Finished<E, F>> = run_text(alloc, reader, writer, shelf)?;
     let Some(finished) = ended else {
         return Ok(());
     };
@@ -132,11 +138,18 @@ fn serve_slowly<R: Read, W: Write>(
     Ok(())
 }
 
-/// Runs the script, and writes its report.
-fn tell<R: Read, W: Write>(alloc: Global, reader: &mut R, writer: &mut W) -> Result<(), Fault>
+/// Runs the script, with the jobs that `make` makes, and writes its report.
+fn tell<F: Task, M: Fn(u64) -> F, R: Read, W: Write>(
+    alloc: Global,
+    reader: &mut R,
+    writer: &mut W,
+    make: M,
+) -> Result<(), Fault>
+    requires callable { (tag : ℕ) → tag < 1000 → M.pre make tag }
+    requires made { MakesSums F.can F.gives (λ tag job. M.post make tag job) }
     ensures { EndsReport (R.remaining reader.old) (R.remaining reader.new)
         (W.contents writer.old) (W.contents writer.new) result }
 {
-    let shelf = all_jobs(alloc)?;
-    report_script::<CountTable, AddTicket, R, W>(alloc, reader, writer, shelf)
+    let shelf = all_jobs(alloc, make)?;
+    report_script::<CountTable, F, R, W>(alloc, reader, writer, shelf)
 }
