@@ -18,8 +18,6 @@ out_of_range() {
     [ ! -s "$room/text" ] && grep -qF "$range" "$room/errors"
 }
 
-check "a race" raced "race 2 10 ok" 2 10
-check "a race with cuts" raced "race 2 10 ok" 2 10 --cut
 check "a race in a wide domain" raced "race 8 100 ok" 8 100 --wide
 check "a wide race with cuts" out_of_range "cannot be used with" 2 10 --wide --cut
 check "the greatest race" raced "race 8 1000 ok" 8 1000

@@ -4,9 +4,7 @@
 //! `hl_tool race` runs threads against each other, and audits what they left.
 #![tactic(auto)]
 
-mod command;
-mod race;
-
+use hl_command_line::command;
 use hl_commands::{REFUSED, failed};
 use hl_model::Fault;
 use std::io::{BufWriter, ErrorKind, Write};
@@ -27,7 +25,7 @@ fn main(rt: HostRuntime) -> io::Result<ExitCode> {
         let status = failed(Fault::OutOfMemory, &mut rt.stderr());
         return Ok(ExitCode::from(status));
     };
-    let status = command::command(
+    let status = command(
         &rt,
         rt.alloc(),
         &words,
