@@ -112,7 +112,7 @@ module _ {F : Type 0} (log : DomainState) (law : PassesStayEntered log.sizes) (s
       refused law some met.before.cut met.after.cut met.list first.pass last.pass (subst (λ (z : Sizes). IsAccepted z met.list) met.met.sizes_are met.met.stands.core_stands.accepted) met.rises met.entered (ap (λ (s : SessionState). s.pass) is) h
 
   -- a thread's rider, once it left: its stores are writes of its calls, and these are of counters alone
-  pub stood : (may_cut : Bool) → RidersStayEntered log.sizes → (number : ℕ) (new : RiderState) (sums : List ℕ) → 4 ≤ log.sizes.page_size → Stood F log beside_crew may_cut (returns_sums number) (new_rider number) (Ok new) sums → RiderEnters log.sizes None new × AreOfCounters new.calls
+  pub stood : (may_cut : Bool) → RidersStayEntered log.sizes → (number : ℕ) (new : RiderState) (sums : List ℕ) → 4 ≤ log.sizes.page_size → Stood F log beside_crew may_cut (returns_sums number) (new_rider number) (Ok new) sums → RiderEnters log.sizes new × AreOfCounters new.calls
   stood may_cut riders number new sums room s =
       let met = s.entered in
       let keeper = met.before in
@@ -138,4 +138,4 @@ module _ {F : Type 0} (log : DomainState) (law : PassesStayEntered log.sizes) (s
       let left = s.met.answered in
       let all = every_append IsOfCounters s.last.pass.touches (own ∷ []) last.touches (tt, tt) in
       let ends : new ≡ with_entry left.before.cut left.after.cut left.list (s.last.pass.touches ++ own ∷ []) s.met.last = left.entered in
-      subst (λ (r : RiderState). RiderEnters log.sizes None r × AreOfCounters r.calls) (sym ends) (law.releases left.before.cut left.after.cut left.list (with_rider s.met.last s.last.pass) last.enters, (all, last.calls))
+      subst (λ (r : RiderState). RiderEnters log.sizes r × AreOfCounters r.calls) (sym ends) (law.releases left.before.cut left.after.cut left.list (with_rider s.met.last s.last.pass) last.enters, (all, last.calls))

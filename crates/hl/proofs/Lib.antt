@@ -1,5 +1,6 @@
 pub mod ConfigLaws
 pub mod DoneLaws
+pub mod EnterLaws
 pub mod EvictedLaws
 pub mod FinishLaws
 pub mod HelpLaws

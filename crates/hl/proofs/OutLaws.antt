@@ -12,15 +12,16 @@ use denote.Param.Members.{Shared}
 use Rattle.hl_model.specs.declared.fault.Fault.{Fault}
 use Rattle.hl_model.specs.declared.fault.Fault.TheVariants.{OutOfMemory}
 use Rattle.hl_model.proofs.ListLaws.{all-append}
-use Rattle.hl_history.proofs.Calls.{every_back}
+use Rattle.hl_history.proofs.Calls.{every_back, every_front}
 use Rattle.hl_words.specs.States.{RiderState, new_rider, new_riders}
 use Rattle.hl_words.proofs.Dealing.{new_long}
 use Rattle.hl_domain.specs.Domains.{DomainState}
 use Rattle.hl_model.specs.Sizes.{Sizes}
 use Rattle.hl_image.specs.Pages.{Pages, image_at}
+use Rattle.hl_images.specs.Kept.{RiderEnters}
 use Rattle.hl_images.specs.Sweeps.{StoresSweep}
 use Rattle.hl_crew.specs.declared.crew.Crew.{Crew}
-use Rattle.hl_crew.specs.Riders.{AreImaged, FlushesNone, StoreSweeps, riders_of}
+use Rattle.hl_crew.specs.Riders.{AreImaged, FlushesNone, MakesCrewSteps, riders_of}
 use Rattle.hl.specs.declared.memory.MemoryDevice.{MemoryDevice}
 use Rattle.hl.specs.Devices.{device_has, has_page, on_memory}
 use Rattle.hl.specs.Sessions.{SessionState, beside_crew}
@@ -58,13 +59,31 @@ pub all_new : (n : ℕ) (all : List RiderState) → all ≡ new_riders n → (le
 all_new n all new = let long : length all ≡ n = ap length new ∙ new_long n in (long, new ∙ ap new_riders (sym long))
 
 -- what holds of each new rider holds of all
-news_all : (P : RiderState → Type 0) → ((name : ℕ) → P (new_rider name)) → (n : ℕ) → AllByRecursion P (new_riders n)
+pub news_all : (P : RiderState → Type 0) → ((name : ℕ) → P (new_rider name)) → (n : ℕ) → AllByRecursion P (new_riders n)
 news_all P each zero = tt
 news_all P each (suc n) = all-append P (new_riders n) (new_rider n ∷ []) (news_all P each n) (each n, tt)
 
 -- what holds of new riders holds of those of a crew that were taken out of new ones
 pub crew_given : (P : RiderState → Type 0) → ((name : ℕ) → P (new_rider name)) → (n : ℕ) (all olds crew : List RiderState) → all ≡ new_riders n → all ≡ olds ++ crew → AllByRecursion P crew
 crew_given P each n all olds crew new parts = every_back P olds crew (subst (AllByRecursion P) (sym new ∙ parts) (news_all P each n))
+
+-- and those of the threads
+pub threads_given : (P : RiderState → Type 0) → ((name : ℕ) → P (new_rider name)) → (n : ℕ) (all olds crew : List RiderState) → all ≡ new_riders n → all ≡ olds ++ crew → AllByRecursion P olds
+threads_given P each n all olds crew new parts = every_front P olds crew (subst (AllByRecursion P) (sym new ∙ parts) (news_all P each n))
+
+-- what holds of all holds of the one at a place
+pub at_place : {X : Type 0} (P : X → Type 0) (xs : List X) (i : ℕ) (none : X) → AllByRecursion P xs → i < length xs → P (slice_index_or xs i none)
+at_place P [] i none all within = absurd (omega (arith, within))
+at_place P (x ∷ xs) zero none all within = all.0
+at_place P (x ∷ xs) (suc i) none all within = at_place P xs i none all.1 (omega (arith, within))
+
+all_mapped : (P : RiderState → Type 0) (jobs : List (ℕ × RiderState)) → AllByRecursion P (map (λ job. job.1) jobs) → AllByRecursion (λ job. P job.1) jobs
+all_mapped P [] all = tt
+all_mapped P (job ∷ jobs) all = (all.0, all_mapped P jobs all.1)
+
+-- and so of the rider of each job
+pub job_holds : (P : RiderState → Type 0) (jobs : List (ℕ × RiderState)) (olds : List RiderState) → olds ≡ map (λ job. job.1) jobs → AllByRecursion P olds → (i : ℕ) (job : ℕ × RiderState) → i < length jobs → job ≡ slice_index_or jobs i job → P job.1
+job_holds P jobs olds same all i job within is = subst (λ (j : ℕ × RiderState). P j.1) (sym is) (at_place (λ (j : ℕ × RiderState). P j.1) jobs i job (all_mapped P jobs (subst (AllByRecursion P) same all)) within)
 
 -- a new rider stored nothing, and flushed nothing
 pub new_sweeps : (sizes : Sizes) (name : ℕ) → StoresSweep sizes (new_rider name)
@@ -119,8 +138,8 @@ module _ {Out : Type 0} (F : Type 0) (log : DomainState) (may_cut : Bool) (Retur
   -- results and riders of threads whose riders were new, with a crew's riders behind
   pub with_crew : (Took : ℕ → List ℕ → Type 0) (total : ℕ) (all olds crew : List RiderState) (outs : List (Result Out Fault)) (news back : List RiderState)
       → all ≡ new_riders total → all ≡ olds ++ crew → length outs ≡ length olds → length news ≡ length olds → length crew ≡ 4 → length back ≡ 4
-      → StoreSweeps log.sizes back → AllByRecursion (FlushesTaken Took log.sizes) back → AreReturned F log may_cut Returns (rider_at olds) outs news → CountReturned F log may_cut Returns Took total outs (news ++ back)
-  with_crew Took total all olds crew outs news back new parts long many four others sweeps taken each =
+      → AllByRecursion (StoresSweep log.sizes) back → AllByRecursion (RiderEnters log.sizes) back → AllByRecursion MakesCrewSteps back → AllByRecursion (FlushesTaken Took log.sizes) back → AreReturned F log may_cut Returns (rider_at olds) outs news → CountReturned F log may_cut Returns Took total outs (news ++ back)
+  with_crew Took total all olds crew outs news back new parts long many four others sweeps enters makes taken each =
       let count : length olds + 4 ≡ total = omega (arith, ap length parts, length-append olds crew, four, ap length new, new_long total) in
       let crews : drop (length outs) (news ++ back) ≡ back = drop_at news back (length outs) (many ∙ sym long) in
       record {
@@ -131,7 +150,9 @@ module _ {Out : Type 0} (F : Type 0) (log : DomainState) (may_cut : Bool) (Retur
             let old : rider_at olds number ≡ new_rider number = sym (get_or_append_left olds crew (new_rider number) number here) ∙ ap (λ l. rider_at l number) (sym parts ∙ new) ∙ new_at total number (new_rider number) (omega (arith, here, count)) in
             let now : rider_at news number ≡ rider_at (news ++ back) number = sym (get_or_append_left news back (new_rider number) number (omega (arith, here, many))) in
             subst₂ (λ (r s : RiderState). Tells F log beside_crew may_cut (Returns number) r s (slice_index_or outs number other)) old now (each number other within);
-        sweeps = subst (StoreSweeps log.sizes) (sym crews) sweeps;
+        sweeps = subst (AllByRecursion (StoresSweep log.sizes)) (sym crews) sweeps;
+        enters = subst (AllByRecursion (RiderEnters log.sizes)) (sym crews) enters;
+        makes = subst (AllByRecursion MakesCrewSteps) (sym crews) makes;
         images = subst (AllByRecursion (FlushesTaken Took log.sizes)) (sym crews) taken;
       }
 

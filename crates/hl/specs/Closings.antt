@@ -1,5 +1,5 @@
 -- What is left of a log that was opened and closed by one call.
-use Rattle.std.specs.Prelude.{◌≡◌, ◌≢◌, ◌<◌, ◌+◌, ◌⊎◌, ℕ, Bool, true, Option, Result, Ok, Err, IfErr, MatchResult, List, length, map, drop, slice_index_or, Vec}
+use Rattle.std.specs.Prelude.{◌≡◌, ◌≢◌, ◌<◌, ◌+◌, ◌⊎◌, ℕ, Bool, true, Option, None, Result, Ok, Err, IfErr, MatchResult, List, length, map, drop, slice_index_or, Vec}
 use Rattle.std.specs.List.{AllByRecursion}
 use Rattle.std.specs.declared.alloc.Global.{Global}
 use Rattle.hl_model.specs.declared.fault.Fault.{Fault}
@@ -9,7 +9,9 @@ use Rattle.hl_words.specs.States.{RiderState, new_rider}
 use Rattle.hl_domain.specs.Domains.{DomainState, IsEnding}
 use Rattle.hl_image.specs.Image.{image}
 use Rattle.hl_images.specs.Flushes.{HasFlushed}
-use Rattle.hl_crew.specs.Riders.{has_flushed, FlushesNone, StoreSweeps}
+use Rattle.hl_images.specs.Kept.{RiderEnters, PassEnters}
+use Rattle.hl_images.specs.Sweeps.{StoresSweep}
+use Rattle.hl_crew.specs.Riders.{has_flushed, FlushesNone, MakesCrewSteps, RidersStay}
 use Rattle.hl.specs.declared.open.Closed.{Closed}
 use Rattle.hl.specs.declared.opening.Opening.{Opening}
 use Rattle.hl.specs.declared.memory.MemoryDevice.{MemoryDevice}
@@ -32,7 +34,8 @@ pub record IsClosed {Out F : Type 0} (o : Opening Sizes) (Leaves : Out → List 
 
 -- a rider entered a session of the log, beside whom it was to be, a thread ran in it and returned a value of which so
 -- much holds, and its leave was answered so, by as many tries as that takes where a full journal may be cut; the
--- session that it left is of the same log
+-- session that it left is of the same log. Each store of the rider is a write that its calls entered; or, where the session
+-- couldn't be left, one that waits
 pub record Stood {Out : Type 0} (F : Type 0) (log : DomainState) (beside : Beside) (may_cut : Bool)
     (Returns : SessionState → SessionState → Out → Type 0) (old : RiderState)
     (left : Result RiderState (Refused SessionState)) (out : Out) : Type 0 where
@@ -44,6 +47,8 @@ pub record Stood {Out : Type 0} (F : Type 0) (log : DomainState) (beside : Besid
   pub ran : Returns first last out
   pub log_stays : last.log ≡ log
   pub met : LeftByTries F may_cut last left
+  pub enters : MatchResult left (RiderEnters log.sizes)
+      (λ refused. PassEnters log.sizes refused.back.pass)
 
 -- why a thread has no result: its rider was refused a session, and is the one handed back; or it ran, and couldn't
 -- leave its session, which was abandoned
@@ -87,24 +92,27 @@ abbrev pub FlushesTaken : (ℕ → List ℕ → Type 0) → Sizes → RiderState
 FlushesTaken Took sizes r = (page : ℕ) → has_flushed page r.calls ≡ true
     → (words : List ℕ) × Took page (image page words) × HasFlushed sizes page words r
 
--- a crew served, or was refused since memory was: its riders, which were these and are these, still store into cells only
--- to sweep pages, if they did; and if they had flushed none, this holds of the image of each page that they flushed
+-- a crew served, or was refused since memory was: its riders, which were these and are these, stayed a crew's; and if they
+-- had flushed none, this holds of the image of each page that they flushed
 pub record HasServed {X : Type 0} (sizes : Sizes) (Took : ℕ → List ℕ → Type 0) (olds riders : List RiderState)
     (result : Result X Fault) : Type 0 where
   pub memory : IfErr result (λ fault. fault ≡ OutOfMemory)
-  pub sweeps : StoreSweeps sizes olds → StoreSweeps sizes riders
+  pub stay : RidersStay sizes olds riders
   pub images : AllByRecursion FlushesNone olds → AllByRecursion (FlushesTaken Took sizes) riders
 
 -- a thread for each of so many riders, but the crew's four, has such a result, and its rider was the new one of its
 -- number; all riders came back, those of the threads in their order before the crew's. Each of these stored into cells only
--- to sweep pages, and of the image of each page that it flushed this holds
+-- to sweep pages, each store of it is entered, its calls made steps of a crew alone, and of the image of each page that it
+-- flushed this holds
 pub record CountReturned {Out : Type 0} (F : Type 0) (log : DomainState) (may_cut : Bool)
     (Returns : ℕ → SessionState → SessionState → Out → Type 0) (Took : ℕ → List ℕ → Type 0) (count : ℕ)
     (outs : List (Result Out Fault)) (riders : List RiderState) : Type 0 where
   pub back : length riders ≡ count
   pub threads : length outs + 4 ≡ count
   pub each : AreReturned F log may_cut Returns new_rider outs riders
-  pub sweeps : StoreSweeps log.sizes (drop (length outs) riders)
+  pub sweeps : AllByRecursion (StoresSweep log.sizes) (drop (length outs) riders)
+  pub enters : AllByRecursion (RiderEnters log.sizes) (drop (length outs) riders)
+  pub makes : AllByRecursion MakesCrewSteps (drop (length outs) riders)
   pub images : AllByRecursion (FlushesTaken Took log.sizes) (drop (length outs) riders)
 
 -- so it is of all riders of the log

@@ -1,9 +1,10 @@
 //! A thread's time in a slot of a log.
-ghost use Rattle.std.specs.Prelude.{◌≡◌, ◌+◌, ◌-◌, ◌/◌, ◌^◌, ◌≤◌, Ok, true, false, IfOk, IfErr, MatchResult};
+ghost use Rattle.std.specs.Prelude.{◌≡◌, ◌+◌, ◌-◌, ◌/◌, ◌^◌, ◌≤◌, Ok, None, true, false, IfOk, IfErr, MatchResult};
 ghost use Rattle.hl_keeper.specs.Passes.{seen, with_rider, with_tail};
 ghost use Rattle.hl_keeper.specs.Leases.{placed};
 ghost use Rattle.hl_domain.specs.Domains.{with_held, after_news, stays_current, Refreshed};
 ghost use Rattle.hl_domain.specs.Riders.{Allocates};
+ghost use Rattle.hl_images.specs.Kept.{PassEnters, RiderEnters};
 ghost use Rattle.hl.specs.Sessions.{alone, beside_of, with_pass, Asked, Entered, Left};
 
 mod bell;
@@ -56,6 +57,7 @@ pub struct Session<
 }
 
 impl<'a, R: Wait, L: Realm, F: Task, P: Promise, E: Epochs> Model for Session<'a, R, L, F, P, E> {
+    ghost use Rattle.hl_images.specs.Kept.{PassEnters};
     ghost use Rattle.hl.specs.Sessions.{beside_of, SessionState};
 
     ghost Value = { SessionState };
@@ -65,6 +67,9 @@ impl<'a, R: Wait, L: Realm, F: Task, P: Promise, E: Epochs> Model for Session<'a
       pass = s.pass;
       beside = beside_of s.beside.bell s.beside.cuts;
     } };
+
+    // Each store of its rider is a write that the rider's calls entered, or one that waits, or a 0 of its sweeps.
+    ghost invariant = { λ s. PassEnters s.log.now.sizes s.pass };
 }
 
 impl<'a, R: Wait, L: Realm, F: Task, P: Promise, E: Epochs + Drop> Session<'a, R, L, F, P, E> {
@@ -76,9 +81,11 @@ impl<'a, R: Wait, L: Realm, F: Task, P: Promise, E: Epochs + Drop> Session<'a, R
         log: &'a Log<L, F, P, E>,
         rider: Rider<L>,
     ) -> Result<Session<'a, R, L, F, P, E>, Refused<Rider<L>>>
+        requires { RiderEnters log.now.sizes rider }
         ensures met { Entered F log.now rider result }
         ensures log { IfOk result (λ session. session.log ≡ log.now) }
         ensures beside { IfOk result (λ session. session.beside ≡ alone) }
+        ensures back { IfErr result (λ refused. RiderEnters log.now.sizes refused.back) }
     {
         Session::enter_beside(rt, log, rider, Beside::alone())
     }
@@ -90,9 +97,11 @@ impl<'a, R: Wait, L: Realm, F: Task, P: Promise, E: Epochs + Drop> Session<'a, R
         rider: Rider<L>,
         beside: Beside<'a>,
     ) -> Result<Session<'a, R, L, F, P, E>, Refused<Rider<L>>>
+        requires { RiderEnters log.now.sizes rider }
         ensures met { Entered F log.now rider result }
         ensures log { IfOk result (λ session. session.log ≡ log.now) }
         ensures beside { IfOk result (λ session. session.beside ≡ beside_of beside.entry.bell beside.entry.cuts) }
+        ensures back { IfErr result (λ refused. RiderEnters log.now.sizes refused.back) }
     {
         match log.enter(rt, rider) {
             Ok(pass) => Ok(Session {
@@ -114,9 +123,11 @@ impl<'a, R: Wait, L: Realm, F: Task, P: Promise, E: Epochs + Drop> Session<'a, R
         slot: u64,
         rider: Rider<L>,
     ) -> Result<Session<'a, R, L, F, P, E>, Refused<Rider<L>>>
+        requires { RiderEnters log.now.sizes rider }
         ensures met { Asked F log.now rider slot result }
         ensures log { IfOk result (λ session. session.log ≡ log.now) }
         ensures beside { IfOk result (λ session. session.beside ≡ alone) }
+        ensures back { IfErr result (λ refused. RiderEnters log.now.sizes refused.back) }
     {
         match log.acquire(rt, slot, rider) {
             Ok(pass) => Ok(Session {
@@ -202,6 +213,7 @@ impl<'a, R: Wait, L: Realm, F: Task, P: Promise, E: Epochs + Drop> Session<'a, R
     /// Faults, with the session handed back: `JournalFull`.
     pub fn leave(self) -> Result<Rider<L>, Refused<Session<'a, R, L, F, P, E>>>
         ensures met { Left F self.entry result }
+        ensures enters { IfOk result (RiderEnters self.entry.log.sizes) }
         ensures back { IfErr result (λ refused. refused.back
             ≡ with_pass (with_rider refused.back.pass.rider self.entry.pass) self.entry) }
     {
@@ -228,7 +240,8 @@ impl<'a, R: Wait, L: Realm, F: Task, P: Promise, E: Epochs + Drop> Session<'a, R
     /// Ends the session without a release, and returns its rider: the slot stays protected for
     /// good, and the session's touches never enter the journal.
     pub fn abandon(self) -> Rider<L>
-        ensures { result ≡ self.entry.pass.rider }
+        ensures rider { result ≡ self.entry.pass.rider }
+        ensures enters { PassEnters self.entry.log.sizes self.entry.pass }
     {
         let Session {
             rt: _,
@@ -237,6 +250,13 @@ impl<'a, R: Wait, L: Realm, F: Task, P: Promise, E: Epochs + Drop> Session<'a, R
             beside: _,
         } = self;
         pass.abandon()
+    }
+
+    /// What its type says of it: each store of its rider is a write that the rider's calls entered, or one that waits.
+    pub fn known(&self)
+        ensures { PassEnters self.now.log.sizes self.now.pass }
+    {
+        let _ = &self.pass;
     }
 
     /// Its log: for what needs no slot, as a snapshot, or who holds up the oldest action.

@@ -1,6 +1,7 @@
 //! A session leaves its slot where others fill the journal.
-ghost use Rattle.std.specs.Prelude.{◌≡◌, ◌&&◌, IfErr};
+ghost use Rattle.std.specs.Prelude.{◌≡◌, ◌&&◌, None, IfOk, IfErr};
 ghost use Rattle.hl_keeper.specs.Passes.{with_rider};
+ghost use Rattle.hl_images.specs.Kept.{RiderEnters};
 ghost use Rattle.hl_crew.specs.Cutting.{MakesRoom};
 ghost use Rattle.hl_crew.specs.Overs.{is_full};
 ghost use Rattle.hl.specs.Leaves.{LeftByTries};
@@ -25,6 +26,7 @@ impl<'a, R: Wait, L: Realm, F: Task, P: Promise, E: Epochs + Drop> Session<'a, R
         may_cut: bool,
     ) -> Result<Rider<L>, Refused<Session<'a, R, L, F, P, E>>>
         ensures met { LeftByTries F may_cut self.entry result }
+        ensures enters { IfOk result (RiderEnters self.entry.log.sizes) }
         ensures back { IfErr result (λ refused. refused.back
             ≡ with_pass (with_rider refused.back.pass.rider self.entry.pass) self.entry) }
     {

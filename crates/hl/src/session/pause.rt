@@ -1,5 +1,6 @@
 //! A session's rest: its slot is left for a time.
-ghost use Rattle.std.specs.Prelude.{◌≡◌};
+ghost use Rattle.std.specs.Prelude.{◌≡◌, None};
+ghost use Rattle.hl_images.specs.Kept.{PassEnters, RiderEnters};
 ghost use Rattle.hl.specs.Rests.{Reenters, Rests, RestsOf};
 
 use super::Session;
@@ -37,7 +38,11 @@ impl<'a, R: Wait, L: Realm, F: Task, P: Promise, E: Epochs + Drop> Session<'a, R
         replace_with(
             &mut self.pass,
             idle,
-            |pass: Pass<L>, idle: C| rest_of(rt, log, cuts, pass, idle),
+            |pass: Pass<L>, idle: C| -> (Pass<L>, Result<X, Fault>)
+                requires { C.IsAlwaysCallable idle }
+                ensures { RestsOf F log.entry.now cuts (C.post idle) result.1 pass result.0
+                    × (PassEnters log.entry.now.sizes pass → PassEnters log.entry.now.sizes result.0) }
+            { rest_of(rt, log, cuts, pass, idle) },
         )
     }
 }
@@ -51,7 +56,8 @@ fn rest_of<R: Wait, L: Realm, F: Task, P: Promise, E: Epochs + Drop, X, C: FnOnc
     idle: C,
 ) -> (Pass<L>, Result<X, Fault>)
     requires { C.IsAlwaysCallable idle }
-    ensures { RestsOf F log.now cuts (C.post idle) result.1 pass result.0 }
+    ensures rests { RestsOf F log.now cuts (C.post idle) result.1 pass result.0 }
+    ensures enters { PassEnters log.now.sizes pass → PassEnters log.now.sizes result.0 }
 {
     let mut pass = pass;
     cut_if_due(rt, log, pass.rider_mut(), cuts);
@@ -71,7 +77,8 @@ fn enter_again<R: Wait, L: Realm, F: Task, P: Promise, E: Epochs + Drop>(
     cuts: Cuts,
     rider: Rider<L>,
 ) -> Pass<L>
-    ensures { Reenters F log.now cuts rider result }
+    ensures again { Reenters F log.now cuts rider result }
+    ensures enters { RiderEnters log.now.sizes rider → PassEnters log.now.sizes result }
 {
     let mut rider = rider;
     for _ in rt.forever() {

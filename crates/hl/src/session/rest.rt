@@ -1,6 +1,7 @@
 //! A rider's time between two sessions (FASTER's `Suspend` and `Resume`).
-ghost use Rattle.std.specs.Prelude.{◌≡◌, IfOk, IfErr};
+ghost use Rattle.std.specs.Prelude.{◌≡◌, None, IfOk, IfErr};
 ghost use Rattle.hl_keeper.specs.Passes.{with_rider};
+ghost use Rattle.hl_images.specs.Kept.{RiderEnters};
 ghost use Rattle.hl.specs.Rests.{Resumed, Suspended};
 ghost use Rattle.hl.specs.Sessions.{with_pass};
 
@@ -31,6 +32,8 @@ pub struct Resting<
 }
 
 impl<'a, R: Wait, L: Realm, F: Task, P: Promise, E: Epochs> Model for Resting<'a, R, L, F, P, E> {
+    ghost use Rattle.std.specs.Prelude.{None};
+    ghost use Rattle.hl_images.specs.Kept.{RiderEnters};
     ghost use Rattle.hl.specs.Rests.{RestState};
     ghost use Rattle.hl.specs.Sessions.{beside_of};
 
@@ -41,6 +44,9 @@ impl<'a, R: Wait, L: Realm, F: Task, P: Promise, E: Epochs> Model for Resting<'a
       rider = r.rider;
       beside = beside_of r.beside.bell r.beside.cuts;
     } };
+
+    // Each store of it is a write that its calls entered, or a 0 of its sweeps.
+    ghost invariant = { λ r. RiderEnters r.log.now.sizes r.rider };
 }
 
 impl<'a, R: Wait, L: Realm, F: Task, P: Promise, E: Epochs + Drop> Session<'a, R, L, F, P, E> {
@@ -102,7 +108,8 @@ impl<'a, R: Wait, L: Realm, F: Task, P: Promise, E: Epochs + Drop> Resting<'a, R
 
     /// Ends the rest without a session. Returns the rider.
     pub fn into_rider(self) -> Rider<L>
-        ensures { result ≡ self.entry.rider }
+        ensures rider { result ≡ self.entry.rider }
+        ensures enters { RiderEnters self.entry.log.sizes result }
     {
         let Resting {
             rt: _,

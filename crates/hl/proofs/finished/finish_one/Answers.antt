@@ -1,12 +1,34 @@
-use Rattle.std.proofs.Common.{rules, inr}
+use Rattle.std.proofs.Common.{rules, ◌≡◌, ◌∙◌, None, ap, inr, subst}
+use Rattle.hl_domain.specs.Domains.{DomainState}
+use Rattle.hl_images.specs.Kept.{PassEnters, RiderEnters}
+use Rattle.hl.specs.Sessions.{SessionState}
 use Rattle.hl.proofs.finished.finish_one.Goals as goal
 
--- it entered and finished, and its leave was refused
+-- it entered and ran, and left
+pub returns-in-Ok-leave_by_tries : goal.returns-in-Ok-leave_by_tries
+returns-in-Ok-leave_by_tries g c =
+    let same : c.finish-out.new.session.log ≡ c.args.log.now = search rules in
+    record {
+      first = c.in-Ok.session;
+      last = c.finish-out.new.session;
+      entered = search rules;
+      log_is = search rules;
+      beside_is = search rules;
+      ran = search rules;
+      log_stays = same;
+      met = search rules;
+      enters = subst (λ (l : DomainState). RiderEnters l.sizes c.in-Ok-leave_by_tries.rider) same c.in-Ok-leave_by_tries.ensures.enters;
+    }
+
+-- it entered and ran, and its leave was refused
 pub returns-in-Err-leave_by_tries : goal.returns-in-Err-leave_by_tries
 returns-in-Err-leave_by_tries g c =
+    let same : c.finish-out.new.session.log ≡ c.args.log.now = search rules in
+    let back = c.in-Err-leave_by_tries.field-0.back in
+    let at = ap (λ (s : SessionState). s.log) c.in-Err-leave_by_tries.ensures.back ∙ same in
     inr (
       c.finish-out.result,
-      c.in-Err-leave_by_tries.field-0.back,
+      back,
       search rules,
       record {
         first = c.in-Ok.session;
@@ -15,7 +37,8 @@ returns-in-Err-leave_by_tries g c =
         log_is = search rules;
         beside_is = search rules;
         ran = search rules;
-        log_stays = search rules;
+        log_stays = same;
         met = search rules;
+        enters = subst (λ (l : DomainState). PassEnters l.sizes back.pass) at c.abandon.ensures.enters;
       },
     )

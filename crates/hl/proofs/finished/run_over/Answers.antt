@@ -1,4 +1,6 @@
-use Rattle.std.proofs.Common.{rules, arith, ◌≡◌, ◌+◌, false, true, length, ap, sym, ◌∙◌}
+use Rattle.std.proofs.Common.{rules, arith, ◌≡◌, ◌+◌, false, true, None, length, ap, sym, ◌∙◌, subst}
+use Rattle.hl_images.specs.Kept.{RiderEnters}
+use Rattle.hl_images.proofs.KeptLaws.{riders_stay_entered}
 use Rattle.hl_words.specs.States.{new_riders}
 use Rattle.hl_crew.specs.Limited.{duty_cuts}
 use Rattle.hl.proofs.OutLaws.{all_new}
@@ -31,6 +33,12 @@ finish_log-requires-clause-all g c κs within =
     let new = c.in-Ok.ensures.riders ∙ ap new_riders c.requires.sizes.1 in
     let left = threads_left g.row.P-Job.Denot c.args.opening (g.P.Work.returns c.args.shared.now.work.now) (g.P.Work.took c.args.shared.now.work.now) c.run_all-outs.result.0.1 (search rules) (sym new ∙ c.in-Some.ensures.items) c.run_all-outs.ensures.kind (rw c.requires.cuts at c.run_all-outs.ensures.left) in
     ap (λ l. length l + 1) c.reserve.ensures.items ∙ all_there left c.in-Ok-outs.is
+
+pub finish_log-requires-clause-enters : goal.finish_log-requires-clause-enters
+finish_log-requires-clause-enters g c κs within =
+    let sizes = c.in-Ok.opened.0.sizes in
+    let last = (last_new c.args.opening.riders c.pop.new.self.items c.in-Some.last (sym (c.in-Ok.ensures.riders ∙ ap new_riders c.requires.sizes.1) ∙ c.in-Some.ensures.items)).2 in
+    subst (RiderEnters sizes) (sym last) ((riders_stay_entered sizes).new _)
 
 pub returns : goal.returns
 returns g c =

@@ -9,7 +9,7 @@ returns g c =
     let other = c.into_memory.ensures in (
       record {
         memory = search rules;
-        sweeps = c.serve-crew.ensures.kept.sweeps;
+        stay = c.serve-crew.ensures.kept.stay;
         images = λ none.
             sinks_taken g.P.Work.took c.args.self.now.work.now g.T.Named.work (λ sink. sink.memory) c.args.log.now.sizes c.serve-crew.result.0 c.of_parts-device.result c.requires.work
             (ap is_some (sym one.memory) ∙ one.kind ∙ sym other.kind ∙ ap is_some other.memory)

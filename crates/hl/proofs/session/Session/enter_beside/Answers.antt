@@ -1,0 +1,6 @@
+use Rattle.hl.proofs.EnterLaws.{entered}
+use Rattle.hl.proofs.session.Session.enter_beside.Goals as goal
+
+-- each store stays a write of the calls, or one that waits
+pub invariant_of-result : goal.invariant_of-result
+invariant_of-result g c = entered g.row.F.Denot c.args.log.now c.args.rider c.in-Ok.pass c.in-Ok.ensures.met c.requires
