@@ -2,7 +2,7 @@
 //! status. The program hands it the process's own; a test hands it words and streams in memory.
 #![tactic(auto)]
 
-mod command;
 mod race;
+mod words;
 
-pub use command::command;
+pub use words::command;
