@@ -1,5 +1,9 @@
 //! The program as one function: words, a script and streams in memory, and a status.
 use hl_command_line::command;
+use std::alloc::Global;
+use std::process::Abort;
+use std::sync::Wait;
+use std::thread::Threads;
 
 /// The words of a command, the script that it reads, its status, and the text that it writes.
 #[derive(Clone, Copy)]
@@ -11,17 +15,13 @@ struct Case<'a> {
 }
 
 // A command that was done writes nothing on the errors; one whose words are refused says there why.
-fn answers(rt: &HostRuntime, case: Case<'_>) {
-    let (mut text, mut errors) = (Vec::new(rt.alloc()), Vec::new(rt.alloc()));
+fn answers<R>(rt: &R, alloc: Global, case: Case<'_>)
+where
+    R: Threads + Wait + Abort + Sync,
+{
+    let (mut text, mut errors) = (Vec::new(alloc), Vec::new(alloc));
     let mut script = case.script.as_bytes();
-    let status = command(
-        rt,
-        rt.alloc(),
-        case.words,
-        &mut script,
-        &mut text,
-        &mut errors,
-    );
+    let status = command(rt, alloc, case.words, &mut script, &mut text, &mut errors);
     assert_eq!(rt; status, case.status);
     assert_eq!(rt; text.as_slice(), case.text.as_bytes());
     assert_eq!(rt; errors.is_empty(), status == 0);
@@ -47,7 +47,7 @@ fn races_by_words(rt: HostRuntime) {
             status,
             text,
         };
-        answers(&rt, case);
+        answers(&rt, rt.alloc(), case);
     }
 }
 
@@ -83,5 +83,5 @@ fn a_report_by_words(rt: HostRuntime) {
         status: 0,
         text: FIRST_ACTION_REPORT,
     };
-    answers(&rt, case);
+    answers(&rt, rt.alloc(), case);
 }
