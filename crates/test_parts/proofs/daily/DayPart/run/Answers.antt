@@ -9,8 +9,8 @@ enter-requires g c =
     let one = All-pop Enters c.args.riders.items c.pop.new.self.items c.pop.result c.pop.ensures.items (All-from_recursion Enters c.args.riders.items c.requires.enter) in
     rw c.in-Some-Some.is-0 at one.1
 
-pub enter-2-requires : goal.enter-2-requires
-enter-2-requires g c =
+pub enter-requires-2 : goal.enter-requires-2
+enter-requires-2 g c =
     let Enters = RiderEnters c.args.log.now.sizes in
     let one = All-pop Enters c.args.riders.items c.pop.new.self.items c.pop.result c.pop.ensures.items (All-from_recursion Enters c.args.riders.items c.requires.enter) in
     let two = All-pop Enters c.pop.new.self.items c.pop-2.new.self.items c.pop-2.result c.pop-2.ensures.items one.0 in
