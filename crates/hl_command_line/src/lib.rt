@@ -3,6 +3,8 @@
 #![tactic(auto)]
 
 mod race;
+mod wanted;
 mod words;
 
+pub use wanted::Wanted;
 pub use words::command;

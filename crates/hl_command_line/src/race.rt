@@ -1,8 +1,12 @@
-ghost use Rattle.std.specs.Prelude.{◌≤◌};
+ghost use Rattle.std.specs.Prelude.{◌≡◌, OnOk, IfOk};
+ghost use Rattle.std.specs.Io.KnownBytes.{Appends};
+ghost use Rattle.hl_command_line.specs.Obeyed.{race_status, race_text, RacedAs};
 
 use hl_commands::{DONE, FAILED, failed};
+use hl_line::put;
 use hl_model::Fault;
 use hl_race::{Race, run_race};
+use itoa::Buffer;
 use std::alloc::Global;
 use std::io::Write;
 use std::sync::Wait;
@@ -17,17 +21,33 @@ pub(crate) fn race<T: Threads + Wait + Sync, W: Write, E: Write>(
     writer: &mut W,
     errors: &mut E,
 ) -> u8
-    ensures { result ≤ 2 }
+    ensures { RacedAs race.riders race.rounds (W.contents writer.old) (W.contents writer.new) result }
 {
-    let (end, status) = match run_race(rt, alloc, race) {
-        Ok(true) => ("ok", DONE),
-        Ok(false) => ("differs", FAILED),
-        Err(fault) => return failed(fault, errors),
+    let ended = match run_race(rt, alloc, race) {
+        Ok(agrees) => tell(race, agrees, writer),
+        Err(fault) => Err(fault),
     };
-    let (riders, rounds) = (race.riders(), race.rounds());
-    let line = writeln!(writer, "race {riders} {rounds} {end}");
-    if line.is_err() || writer.flush().is_err() {
-        return failed(Fault::Stream, errors);
+    match ended {
+        Ok(status) => status,
+        Err(fault) => failed(fault, errors),
     }
-    status
+}
+
+/// Writes the line of a race, so that it goes out, and returns its status.
+///
+/// Fault: `Stream` if a write failed.
+fn tell<W: Write>(race: Race, agrees: bool, writer: &mut W) -> Result<u8, Fault>
+    ensures text { OnOk result
+        (Appends (W.contents writer.old) (W.contents writer.new) (race_text race.riders race.rounds agrees)) }
+    ensures status { IfOk result (λ status. status ≡ race_status agrees) }
+{
+    put(writer, b"race ")?;
+    put(writer, Buffer::new().format(race.riders()).as_bytes())?;
+    put(writer, b" ")?;
+    put(writer, Buffer::new().format(race.rounds()).as_bytes())?;
+    put(writer, if agrees { b" ok\n" } else { b" differs\n" })?;
+    match writer.flush() {
+        Ok(()) => Ok(if agrees { DONE } else { FAILED }),
+        Err(_) => Err(Fault::Stream),
+    }
 }

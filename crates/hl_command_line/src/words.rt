@@ -1,6 +1,9 @@
-ghost use Rattle.std.specs.Prelude.{◌≡◌, ◌≤◌};
+ghost use Rattle.std.specs.Prelude.{◌≡◌, ◌≤◌, ◌⊎◌};
+ghost use Rattle.hl_command_line.specs.Obeyed.{Obeys};
+ghost use Rattle.hl_command_line.specs.declared.wanted.Wanted.{Wanted};
 
 use crate::race::race;
+use crate::wanted::Wanted;
 use clap::error::ErrorKind;
 use clap::{Arg, ArgAction, Command, Error, value_parser};
 use hl_commands::{DONE, REFUSED, failed, judge, report, run, slow};
@@ -11,28 +14,6 @@ use std::convert::AsStr;
 use std::io::{Read, Write};
 use std::sync::Wait;
 use std::thread::Threads;
-
-/// What the words ask for.
-#[derive(Clone, Copy, Debug, PartialEq, Eq)]
-enum Wanted {
-    /// Answer a script; and then flush its sealed pages, where that is wanted.
-    Run {
-        flush: bool,
-    },
-    /// Answer a script in the slow form.
-    Slow,
-    /// Run a script, and report what it left.
-    Report,
-    /// Judge a trace.
-    Judge,
-    /// Run a race.
-    Race {
-        riders: u64,
-        rounds: u64,
-        cut: bool,
-        wide: bool,
-    },
-}
 
 /// Runs the command that the words name, the program's own name first, and gives the exit status: 0 where it
 /// was done, or help was wanted; 1 where memory was refused, or a stream or a device failed, with the fault's line on
@@ -46,6 +27,9 @@ enum Wanted {
 /// reply, how many lines agree with the definitions (0), or which is the first that deviates (1), or the first that is
 /// no line of a trace (2). `race` runs riders beside a crew, each in a thread, and writes whether what they left is what
 /// their steps say; where it isn't, the status is 1.
+///
+/// So much the clause `told` says of the status, for what the words were read as; which words mean what is tested. Where
+/// help was wanted, or the words were refused, nothing is read.
 pub fn command<T: Threads + Wait + Sync, S: AsStr, R: Read, W: Write, E: Write>(
     rt: &T,
     alloc: Global,
@@ -54,21 +38,41 @@ pub fn command<T: Threads + Wait + Sync, S: AsStr, R: Read, W: Write, E: Write>(
     writer: &mut W,
     errors: &mut E,
 ) -> u8
-    ensures { result ≤ 2 }
+    ensures status { result ≤ 2 }
+    ensures told { ((wanted : Wanted) × Obeys wanted (R.remaining reader.old) (R.remaining reader.new)
+        (W.contents writer.old) (W.contents writer.new) result)
+        ⊎ (R.remaining reader.new ≡ R.remaining reader.old) }
 {
     match read_words(alloc, words) {
-        Ok(Wanted::Run { flush }) => run(alloc, flush, reader, writer, errors),
-        Ok(Wanted::Slow) => slow(alloc, reader, writer, errors),
-        Ok(Wanted::Report) => report(alloc, reader, writer, errors),
-        Ok(Wanted::Judge) => judge(alloc, reader, writer, errors),
-        Ok(
-            Wanted::Race {
-                riders,
-                rounds,
-                cut,
-                wide,
-            },
-        ) => match Race::checked(riders, rounds, cut) {
+        Ok(wanted) => obey(rt, alloc, wanted, reader, writer, errors),
+        Err(error) => answer(&error, writer, errors),
+    }
+}
+
+/// Does what is wanted, and returns the exit status.
+fn obey<T: Threads + Wait + Sync, R: Read, W: Write, E: Write>(
+    rt: &T,
+    alloc: Global,
+    wanted: Wanted,
+    reader: &mut R,
+    writer: &mut W,
+    errors: &mut E,
+) -> u8
+    ensures status { result ≤ 2 }
+    ensures obeyed { Obeys wanted (R.remaining reader.old) (R.remaining reader.new)
+        (W.contents writer.old) (W.contents writer.new) result }
+{
+    match wanted {
+        Wanted::Run { flush } => run(alloc, flush, reader, writer, errors),
+        Wanted::Slow => slow(alloc, reader, writer, errors),
+        Wanted::Report => report(alloc, reader, writer, errors),
+        Wanted::Judge => judge(alloc, reader, writer, errors),
+        Wanted::Race {
+            riders,
+            rounds,
+            cut,
+            wide,
+        } => match Race::checked(riders, rounds, cut) {
             Some(asked) => {
                 let asked = if wide { asked.widened() } else { asked };
                 race(rt, alloc, asked, writer, errors)
@@ -76,7 +80,6 @@ pub fn command<T: Threads + Wait + Sync, S: AsStr, R: Read, W: Write, E: Write>(
             // The words were refused.
             None => REFUSED,
         },
-        Err(error) => answer(&error, writer, errors),
     }
 }
 
